@@ -153,11 +153,6 @@ line_marked list told t own any old mid new own_is any_is before first second x 
     ∙ sym (list_any-append (λ (s : PlainTold). accepts s.words (entry_with x)) told (t ∷ []))
     )
 
--- without a list nothing is known
-pub none_known : (told : List PlainTold) (list : List PlainEntry) (es : List (Vec ℕ × Bool)) (others : List PlainTold) → list ≡ [] → ((x : List ℕ) → found es x ≡ mark list told x)
-    → (x : List ℕ) → found es x ≡ mark list others x
-none_known told list es others none before x = before x ∙ ap (λ (l : List PlainEntry). mark l told x) none ∙ ap (λ (l : List PlainEntry). mark l others x) (sym none)
-
 any_either : (a b : List ℕ) (list : List PlainEntry) → (list_any (is_text a) list || list_any (is_text b) list) ≡ list_any (λ (e : PlainEntry). bytes_eq a e.counted || bytes_eq b e.counted) list
 any_either a b [] = refl
 any_either a b (e ∷ list) =

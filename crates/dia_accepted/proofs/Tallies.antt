@@ -353,24 +353,6 @@ forgotten old new told before command visits none firsts counts no_own are =
       others = none;
     }
 
--- or none is
-pub all_there : (causes : Causes) (told : List PlainTold) (before command visits : ℕ) → AreCauses false causes told before visits → AreCauses false causes told command (visits + 1)
-all_there causes told before command visits are =
-    record {
-      done = are.done;
-      own = are.own;
-      told_are = are.told_are;
-      none_forgotten = are.none_forgotten;
-      come = record {
-        firsts_are = are.come.firsts_are;
-        known_are = are.come.known_are;
-        counts_are = are.come.counts_are;
-        own_are = are.come.own_are;
-        bounded = λ x. few (list_any (is_of before x) are.own) (tally causes.counts.entries x) visits (are.come.bounded x) (list_any (is_of command x) are.own);
-      };
-      others = ap (list_any (is_command command)) (are.none_forgotten refl);
-    }
-
 -- ---- the lines that are told
 
 -- the line of a cause, by what was counted

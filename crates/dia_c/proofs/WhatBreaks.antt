@@ -96,14 +96,6 @@ module _ (asked : Asked) (input : Input) (a b : Dictionary) (text : List ℕ) (e
   no_list bad p has told (no_commands list is_list none refuses what) = absurd (let e : found.NoList bad ≡ found.NoCommands = sym has ∙ what in cc)
   no_list bad p has told (no_command list name is_list some first refuses what) = absurd (let e : found.NoList bad ≡ found.NoCommand = sym has ∙ what in cc)
 
-  pub empty : (p : Problem) → is ≡ found.NoCommands → IsListed asked input a b text exit is → a.commands ≡ []
-  empty p has (nothing list apart can breaks differs is_text is_exit) = absurd (let t = can.tells in let e : found.NoCommands ≡ found.Listed t.stale t.lines t.causes t.meanings = sym has ∙ t.is_listed in cc)
-  empty p has (nothing_else list told' apart can left some breaks is_text is_exit) = absurd (let t = can.tells in let e : found.NoCommands ≡ found.Listed t.stale t.lines t.causes t.meanings = sym has ∙ t.is_listed in cc)
-  empty p has (told_lines list told' apart can left is_text is_exit) = absurd (let t = can.tells in let e : found.NoCommands ≡ found.Listed t.stale t.lines t.causes t.meanings = sym has ∙ t.is_listed in cc)
-  empty p has (bad_list bad none refuses what) = absurd (let e : found.NoCommands ≡ found.NoList bad = sym has ∙ what in cc)
-  empty p has (no_commands list is_list none refuses what) = none
-  empty p has (no_command list name is_list some first refuses what) = absurd (let e : found.NoCommands ≡ found.NoCommand = sym has ∙ what in cc)
-
   pub unnamed : is ≡ found.NoCommand → IsListed asked input a b text exit is → (name : List ℕ) × IsFirstUnknown a (names_of asked) name
   unnamed has (nothing list apart can breaks differs is_text is_exit) = absurd (let t = can.tells in let e : found.NoCommand ≡ found.Listed t.stale t.lines t.causes t.meanings = sym has ∙ t.is_listed in cc)
   unnamed has (nothing_else list told' apart can left some breaks is_text is_exit) = absurd (let t = can.tells in let e : found.NoCommand ≡ found.Listed t.stale t.lines t.causes t.meanings = sym has ∙ t.is_listed in cc)

@@ -15,7 +15,6 @@ use Rattle.dia_io.specs.Writing.{AppendsFront}
 use Rattle.dia_report.specs.declared.bad_input.BadInput.{BadInput}
 use Rattle.dia_report.specs.declared.reporting.BothBooks.{BothBooks}
 use Rattle.dia_report.specs.declared.refusing.Refused.{Refused}
-use Rattle.dia_report.specs.declared.refusing.Refused.TheVariants as refusals
 use Rattle.dia_report.specs.Refusals.{TellsOf, bad_input_text, dictionary_line}
 use Rattle.dia_run.specs.Outcome.{ended, no_first, no_second}
 use Rattle.dia_run.specs.Report.{AreReadFrom}
@@ -30,17 +29,6 @@ use Rattle.dia_upgrades.specs.Outcome.{AreRefused, IsBreakingOutcome, IsSafeUpgr
 use Rattle.dia_upgrades.specs.Report.{IsRefusedText, IsReport}
 use Rattle.dia_upgrades.specs.UnderWay.{Answers, Reports}
 use Rattle.dia_upgrades.proofs.Outcomes.{bad_is_refused, no_is_unsafe, yes_is_safe}
-
--- ---- dictionaries
-
-pub first_refused : (inputs : Inputs) (r : Refused) → TellsOf (λ told. (why : List ℕ) × IsNoDictionaryText inputs.first why × (told ≡ dictionary_line 1 why)) r → TellsOf (IsRefusedText inputs) r
-first_refused inputs (refusals.Bad bad) h = inl h
-first_refused inputs refusals.NoMemory h = tt
-
-pub second_refused : (inputs : Inputs) (a : Dictionary) (r : Refused) → IsDictionaryText inputs.first a → TellsOf (λ told. (why : List ℕ) × IsNoDictionaryText inputs.second why × (told ≡ dictionary_line 2 why)) r
-    → TellsOf (IsRefusedText inputs) r
-second_refused inputs a (refusals.Bad bad) is_a h = inr (a, is_a, h)
-second_refused inputs a refusals.NoMemory is_a h = tt
 
 -- ---- what is reported
 
@@ -104,10 +92,6 @@ module _ (meaning : IndexedBook → Dictionary) (asked : Asked) (inputs : Inputs
 
   pub fault_of : (r : Result Reported RunFault) (fault : RunFault) → Reports meaning asked inputs old new r → r ≡ Err fault → Reports meaning asked inputs old new (Err fault)
   fault_of r fault has is = subst (Reports meaning asked inputs old new) is has
-
--- memory is refused before anything is written
-pub none_reported : (meaning : IndexedBook → Dictionary) (asked : Asked) (inputs : Inputs) (put : Option (List ℕ)) → Reports meaning asked inputs put put (Err NoMemory)
-none_reported meaning asked inputs put = ([], nothing refl, Appends-nil put)
 
 -- ---- over two dictionaries
 

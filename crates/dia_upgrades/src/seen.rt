@@ -12,7 +12,7 @@ pub(crate) struct Seen<'l> {
     pub accepting: Accepting<'l>,
     /// The causes of the lines that the list doesn't accept.
     pub causes: Causes,
-    /// Those of the meanings that aren't asked for.
+    /// The causes of meanings that aren't asked for, and that the list doesn't accept.
     pub meanings: Causes,
     /// How many lines the list doesn't accept.
     pub lines: usize,

@@ -10,7 +10,8 @@ use dia_io::Input;
 use dia_report::{BadInput, BadTable, Refused};
 use std::alloc::Global;
 
-/// The table that an input's text spells.
+/// The table that an input's text spells. A text that spells none is refused as standard output tells it: too long, no UTF-8,
+/// a line that is no pair, or a line past the most pairs.
 pub fn read_table(alloc: Global, input: &Input) -> Result<Table, Refused>
     ensures table { IfOk result (λ table. IsTableText input.now (plain_table table)) }
     ensures told { IfErr result (TellsOf (IsNoTableText input.now)) }
