@@ -3,17 +3,18 @@ ghost use Rattle.std.specs.List.{list_any};
 ghost use Rattle.std.specs.Option.{option_or};
 ghost use Rattle.dia_book.specs.Dictionary.{is_command};
 ghost use Rattle.dia_book.specs.Opened.{opened};
-ghost use Rattle.dia_dict.specs.Indexed.{AreSlotTables, row_keys};
+ghost use Rattle.dia_dict.specs.Indexed.{AreCommandTables, AreSlotTables, row_keys};
 ghost use Rattle.dia_dict.specs.KeyTables.{IsIndexOf, place_among};
-ghost use Rattle.dia_dict.specs.Selectors.{selector_of, service_of, same_service};
+ghost use Rattle.dia_dict.specs.Selectors.{service_of, same_service};
 ghost use Rattle.dia_dict.specs.declared.selectors.Service.{Service as AnyService};
 
 mod commands;
 mod tables;
 
+use crate::indexed_book::commands::CommandTables;
 use crate::key_table::KeyTable;
 use crate::plain_book::PlainBook;
-use crate::selectors::{Selector, Service};
+use crate::selectors::Service;
 use dia_book::{Book, Class, DefId, Definition, Entry, MRule, Slot};
 use dia_data::Format;
 use dia_wire::Key;
@@ -26,12 +27,12 @@ pub struct IndexedBook {
     book: PlainBook,
     avps: KeyTable,
     slots: Vec<KeyTable>,
-    selectors: IndexSet<Selector>,
+    commands: CommandTables,
     services: IndexSet<Service>,
     ghost placed: { IsIndexOf avps.rows.items (place_among (row_keys book.entries.rows.items)) },
     ghost slotted: { ∥ AreSlotTables slots.items
         (book.entries.groups.items ++ book.commands.items) ∥₁ },
-    ghost selected: { ∥ selectors.keys ≡ map (λ d. selector_of d.head) book.commands.items ∥₁ },
+    ghost selected: { ∥ AreCommandTables commands book.commands.items ∥₁ },
     ghost served: { (s : AnyService)
         → list_any (same_service s) services.keys ≡ list_any (same_service s)
         (map (λ d. service_of d.head) book.commands.items) },
@@ -54,18 +55,19 @@ impl IndexedBook {
     {
         let avps = tables::avp_table(alloc, &book.entries.rows)?;
         let slots = tables::slot_tables(alloc, &book.entries.groups, &book.commands)?;
-        let selectors = commands::selectors_of(alloc, &book.commands)?;
+        let commands = CommandTables::new(alloc, &book.commands)?;
         let services = commands::services_of(alloc, &book.commands)?;
         Ok(IndexedBook {
             book,
             avps,
             slots,
-            selectors,
+            commands,
             services,
         })
     }
 
     /// The place of the command for this application, else of the one without.
+    #[inline(always)]
     fn place_of_selected(&self, code: u32, class: Class, app: u32) -> Option<usize>
         ensures { result ≡ option_or
             (position (λ d. is_command code class (Some app) d.head) self.now.book.commands.items)
@@ -78,12 +80,12 @@ impl IndexedBook {
     }
 
     /// The place of the command of this code and class, and of this application or of none.
+    #[inline(always)]
     fn place_of_command(&self, code: u32, class: Class, app: Option<u32>) -> Option<usize>
         ensures { result ≡ position
             (λ d. is_command code class app d.head) self.now.book.commands.items }
     {
-        self.selectors
-            .get_index_of(&Selector::new(code, class, app))
+        self.commands.place(code, class, app)
     }
 }
 
@@ -118,6 +120,7 @@ impl Book for IndexedBook {
         self.book.group(entry)
     }
 
+    #[inline(always)]
     fn select(&self, code: u32, class: Class, app: u32) -> Option<DefId> {
         let place = self.place_of_selected(code, class, app)?;
         Some(self.book.command_at(place))

@@ -1,5 +1,8 @@
-//! The keys by which commands are looked up.
-use dia_book::{Class, DefHead};
+//! What commands are told apart by, and the keys by which they are looked up.
+ghost use Rattle.std.specs.Prelude.{◌≡◌};
+ghost use Rattle.dia_dict.specs.Selectors.{app_key, general_key, general_selector};
+
+use dia_book::{Class, DefHead, Key};
 
 /// Which messages a command is for.
 #[derive(Clone, Copy, Debug, PartialEq, Eq, Hash)]
@@ -98,4 +101,60 @@ impl Service {
             DefHead::Error { .. } => Service::Error,
         }
     }
+}
+
+/// The key of a command of this class that is for an application.
+pub(crate) fn app_key(class: Class, head: DefHead) -> Option<Key>
+    ensures { result ≡ app_key class head }
+{
+    match head {
+        DefHead::Group(_) => None,
+        DefHead::Command {
+            code,
+            class: own,
+            app,
+            ..
+        } => match app {
+            Some(app) => {
+                if class == own {
+                    Some(Key { code, vendor: app })
+                } else {
+                    None
+                }
+            }
+            None => None,
+        },
+        DefHead::Error { .. } => None,
+    }
+}
+
+/// The key of a command that is for all applications.
+pub(crate) fn general_key(head: DefHead) -> Option<Key>
+    ensures { result ≡ general_key head }
+{
+    match head {
+        DefHead::Group(_) => None,
+        DefHead::Command {
+            code,
+            class,
+            app,
+            ..
+        } => match app {
+            Some(_) => None,
+            None => Some(general_selector(code, class)),
+        },
+        DefHead::Error { .. } => None,
+    }
+}
+
+/// The key for messages of a code and a class, of whatever application.
+pub(crate) fn general_selector(code: u32, class: Class) -> Key
+    ensures { result ≡ general_selector code class }
+{
+    let vendor = match class {
+        Class::Request => 1,
+        Class::Answer => 0,
+        Class::Error => 2,
+    };
+    Key { code, vendor }
 }

@@ -2,9 +2,9 @@ use Rattle.std.proofs.Common.{List, ◌++◌, map, ap, sym, ◌∙◌, subst}
 use Rattle.std.specs.Prelude.{All}
 use Rattle.std.specs.List.{list_any}
 use Rattle.dia_book.specs.Dictionary.{IsCommandHead, AreRules}
-use Rattle.dia_dict.specs.Indexed.{row_keys, AreSlotTables, HaveDistinctSelectors}
+use Rattle.dia_dict.specs.Indexed.{row_keys, AreCommandTables, AreSlotTables, HaveDistinctSelectors}
 use Rattle.dia_dict.specs.KeyTables.{AreDistinct, IsIndexOf, place_among}
-use Rattle.dia_dict.specs.Selectors.{selector_of, service_of, same_service}
+use Rattle.dia_dict.specs.Selectors.{service_of, same_service}
 use Rattle.dia_book.specs.declared.Definition.{Definition}
 use Rattle.dia_dict.specs.declared.entry_list.Row.{Row}
 use Rattle.dia_dict.proofs.Indexing.Premises.{distinct_keys-held, distinct_selectors-held, command_heads-held, rules_of_groups-held, rules_of_commands-held}
@@ -39,17 +39,8 @@ slot_tables-requires-clause-commands c =
     let sound = opened (held rows groups commands) b.sound in
     subst (λ (ds : List Definition). All (λ (d : Definition). AreRules d.rules.items) ds) (sym c.deref-3.ensures.value) (rules_of_commands-held rows groups commands sound b.entries.numbered)
 
-pub selectors_of-requires-clause-headed : goal.selectors_of-requires-clause-headed
-selectors_of-requires-clause-headed c =
-    let b = c.args.book in
-    let rows = b.entries.rows.items in
-    let groups = b.entries.groups.items in
-    let commands = b.commands.items in
-    let sound = opened (held rows groups commands) b.sound in
-    subst (λ (ds : List Definition). All (λ (d : Definition). IsCommandHead d.head) ds) (sym c.deref-4.ensures.value) (command_heads-held rows groups commands sound)
-
-pub selectors_of-requires-clause-distinct : goal.selectors_of-requires-clause-distinct
-selectors_of-requires-clause-distinct c =
+pub new-requires-clause-distinct : goal.new-requires-clause-distinct
+new-requires-clause-distinct c =
     let b = c.args.book in
     let rows = b.entries.rows.items in
     let groups = b.entries.groups.items in
@@ -70,6 +61,6 @@ pub invariant_of-result : goal.invariant_of-result
 invariant_of-result c = record {
   placed = subst (λ (es : List Row). IsIndexOf c.in_ok-avps.avps.rows.items (place_among (row_keys es))) c.deref.ensures.value c.in_ok-avps.ensures;
   slotted = ∣ subst (AreSlotTables c.in_ok-slots.slots.items) (λ i. c.deref-2.ensures.value i ++ c.deref-3.ensures.value i) c.in_ok-slots.ensures ∣₁;
-  selected = ∣ c.in_ok-selectors.ensures ∙ ap (map (λ (d : Definition). selector_of d.head)) c.deref-4.ensures.value ∣₁;
+  selected = ∣ subst (AreCommandTables c.in_ok-commands.commands) c.deref-4.ensures.value c.in_ok-commands.ensures ∣₁;
   served = λ s. c.in_ok-services.ensures s ∙ ap (λ (ds : List Definition). list_any (same_service s) (map (λ (d : Definition). service_of d.head) ds)) c.deref-5.ensures.value;
 }

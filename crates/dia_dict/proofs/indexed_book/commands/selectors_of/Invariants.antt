@@ -1,6 +1,0 @@
-use Rattle.std.proofs.Common.{◌≡◌, map, take}
-use Rattle.dia_dict.specs.Selectors.{selector_of}
-use Rattle.dia_dict.proofs.indexed_book.commands.selectors_of.Given as goal
-
-abbrev pub invariant-loop-command : goal.invariant-loop-command
-invariant-loop-command l = l.selectors.keys ≡ map (λ d. selector_of d.head) (take l.command-index l.commands)
