@@ -20,7 +20,7 @@ use Rattle.dia_check.specs.declared.fault.Reason.{Reason}
 use Rattle.dia_check.specs.declared.fault.Subject.{Subject}
 use Rattle.dia_check.specs.Valid.{class_of, known, IsLevel, Fits, FitsBy, AllFit, MHolds, IsAccepted, IsValidOf}
 use Rattle.dia_check.specs.Levels.{MayOpen}
-use Rattle.dia_check.specs.Faults.{met, loose_start, run_end, keys_to, Spot, IsFirstMissing, IsWrong, Stands, HasGoodHeader}
+use Rattle.dia_check.specs.Faults.{keys_to, Spot, IsWrong, Stands, HasGoodHeader}
 use Rattle.dia_check.specs.Faults as faults
 use Rattle.dia_check.proofs.FaultlessFronts.{Says, placed_says, not_missing_at, allowed_at, few_at, may_be_allowed}
 use Rattle.dia_check.specs.Walks.{Found, Rest, behind, inside, whole, group_at, IsFine, Walks, ended, leaf, group}

@@ -19,7 +19,7 @@ use Rattle.dia_check.specs.declared.fault.Subject.TheVariants.{Nothing}
 use Rattle.dia_check.specs.Valid.{HasR, HasE, HasT, class_of, AllowsP}
 use Rattle.dia_check.specs.Levels.{Level, IsMember, IsOpen, IsCommandOf, MayOpen, between}
 use Rattle.dia_check.specs.Levels as levels
-use Rattle.dia_check.specs.Faults.{Row, End, At, Sooner, Spot, spot, row_of, IsBefore, runs, met, subject_of, keys_to, IsFirstShort, IsFirstMissing, IsWrong, Stands, HasGoodHeader, HasHeader}
+use Rattle.dia_check.specs.Faults.{End, Spot, spot, row_of, IsBefore, subject_of, IsFirstMissing, IsWrong, Stands, HasGoodHeader, HasHeader}
 use Rattle.dia_check.specs.Faults as faults
 use Rattle.dia_check.specs.Walks.{Found, Rest, behind, inside, whole, group_at, Walks, ended, missing, broken, wrong, leaf, group, bad_group}
 use Rattle.dia_check.specs.UnderWay.{Lies}

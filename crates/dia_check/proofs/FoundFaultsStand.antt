@@ -10,7 +10,7 @@ use Rattle.dia_book.specs.Dictionary.{Dictionary, IsDictionary, PlainDefinition}
 use Rattle.dia_check.proofs.FaultlessLevels.{opens}
 use Rattle.dia_policy.specs.declared.Unknown.{Unknown}
 use Rattle.dia_policy.specs.declared.Levels.{Levels}
-use Rattle.dia_check.specs.Levels.{Level, IsMember, IsOpen, MayOpen, between}
+use Rattle.dia_check.specs.Levels.{IsMember, MayOpen, between}
 use Rattle.dia_check.specs.Levels as levels
 use Rattle.dia_check.specs.Faults.{Stands, Looks, HasGoodHeader, avp_length as bad_length, avp as at_avp, missing_at_end}
 use Rattle.dia_check.specs.UnderWay.{Lies}

@@ -23,7 +23,7 @@ use Rattle.dia_check.specs.declared.fault.Selected.{Selected}
 use Rattle.dia_check.specs.declared.fault.Refusal.{Refusal}
 use Rattle.dia_check.specs.declared.fault.Refusal.TheVariants as refusal
 use Rattle.dia_check.specs.Valid.{known, IsValidOf}
-use Rattle.dia_check.specs.Faults.{Row, End, At, Spot, spot, row_of, code_of, IsBefore, IsFirstMissing, IsWrong, Stands, HasGoodHeader, HasLength, IsFirst, IsTold, IsAnswer, simple}
+use Rattle.dia_check.specs.Faults.{Row, At, Spot, spot, row_of, code_of, IsBefore, IsWrong, Stands, HasGoodHeader, HasLength, IsFirst, IsTold, IsAnswer, simple}
 use Rattle.dia_check.specs.Faults as faults
 use Rattle.dia_check.specs.Walks.{Found, Rest, behind, inside, whole, group_at, IsFine, IsFirstWrong, Walks, ended, missing, broken, wrong, leaf, group, bad_group}
 use Rattle.dia_check.proofs.FoundFaultsStand.{walks_stands}

@@ -1,6 +1,6 @@
 //! One AVP of an open level: its flags, its place, and its data.
 
-ghost use Rattle.std.specs.Prelude.{◌≡◌, ◌<◌, ◌↔◌, [], IfOk, Some};
+ghost use Rattle.std.specs.Prelude.{◌≡◌, ◌<◌, ◌↔◌, [], IfOk, OnOk, Some};
 ghost use Rattle.std.specs.Prelude.{length, slice_get, MatchOption, MatchResult, IsTrue};
 ghost use Rattle.dia_wire.specs.Wire.{plain_avp};
 ghost use Rattle.dia_book.specs.Dictionary.{DictEntry};
@@ -73,6 +73,23 @@ pub(crate) fn open_body<B: Book>(
         (B.meaning book.now) open_levels [] (begun definition.rules end)) }
 {
     OpenLevels::new(alloc, def, &book.def(def).rules, end)
+}
+
+/// The same, in the memory of other levels.
+#[inline(always)]
+pub(crate) fn reopen_body<B: Book>(
+    book: &B,
+    open_levels: &mut OpenLevels,
+    def: DefId,
+    end: usize,
+) -> Result<(), AllocError>
+    requires { def < length (definitions (B.meaning book.now)) }
+    ensures { (definition : PlainDefinition)
+        → slice_get (definitions (B.meaning book.now)) def ≡ Some definition
+        → OnOk result (AreOpenUnder
+        (B.meaning book.now) open_levels.new [] (begun definition.rules end)) }
+{
+    open_levels.begin(def, &book.def(def).rules, end)
 }
 
 /// Opens the data of a group, which ends at a place. This alone takes memory.

@@ -49,7 +49,7 @@ pub(crate) fn read_piece<B: Book>(
 ///
 /// The levels that are open wait in a list, so the depth of a message costs memory and no stack.
 #[inline(never)]
-fn read_avps<B: Book>(
+pub(crate) fn read_avps<B: Book>(
     basis: &Basis<'_, B>,
     open_levels: &mut OpenLevels,
     from: usize,

@@ -9,11 +9,13 @@ ghost use Rattle.dia_check.specs.declared.fault.Refusal.{Refusal as AnyRefusal};
 ghost use Rattle.dia_check.specs.Valid.{IsValid, IsValidOf};
 ghost use Rattle.dia_check.specs.Faults.{IsAnswer, HasGoodHeader, HasLength, Stands, Spot};
 
-use crate::admission::open_body;
+use crate::admission::reopen_body;
 use crate::basis::Basis;
-use crate::body::read_piece;
+use crate::body::read_avps;
 use crate::fault::{Refusal, Selected};
 use crate::header::{good_command, whole_header};
+use crate::open_levels::OpenLevels;
+use crate::room::Room;
 use dia_book::{Book, DefId};
 use dia_policy::{Levels, Unknown};
 use dia_wire::HEADER_LENGTH;
@@ -44,6 +46,27 @@ pub fn check<B: Book>(
     ensures no_memory { result ≡ Err Refusal.NoMemory → HasLength bytes.now (length bytes.now)
         × HasGoodHeader (B.meaning book.now) bytes.now }
 {
+    let mut room = Room::new(alloc);
+    check_in(&mut room, book, unknown, levels, bytes)
+}
+
+/// The same, with memory that is kept for the next message.
+#[inline(always)]
+pub fn check_in<B: Book>(
+    room: &mut Room,
+    book: &B,
+    unknown: Unknown,
+    levels: Levels,
+    bytes: &[u8],
+) -> Result<Selected, Refusal>
+    ensures answer { IsAnswer (B.meaning book.now) unknown levels bytes.now result }
+    // A valid message is found to be one, unless memory runs out.
+    ensures valid { (c : ℕ) → IsValidOf (B.meaning book.now) unknown levels bytes.now c
+        → MatchResult result (λ found. found.def ≡ c) (λ e. e ≡ Refusal.NoMemory) }
+    // Memory is taken only for a whole message with a good header.
+    ensures no_memory { result ≡ Err Refusal.NoMemory → HasLength bytes.now (length bytes.now)
+        × HasGoodHeader (B.meaning book.now) bytes.now }
+{
     let header = whole_header(bytes)?;
     let def = good_command(book, &header)?;
     let basis = Basis {
@@ -51,13 +74,16 @@ pub fn check<B: Book>(
         unknown,
         levels,
     };
-    check_body(alloc, &basis, def, bytes)
+    let answer = check_body(&basis, &mut room.open_levels, def, bytes);
+    room.give_back();
+    answer
 }
 
 /// Checks the body of a whole message with a good header, as a message of this command.
+#[inline(always)]
 fn check_body<B: Book>(
-    alloc: Global,
     basis: &Basis<'_, B>,
+    open_levels: &mut OpenLevels,
     def: DefId,
     bytes: &[u8],
 ) -> Result<Selected, Refusal>
@@ -67,9 +93,9 @@ fn check_body<B: Book>(
         → HasLength bytes.now (length bytes.now) → IsAnswer
         (B.meaning basis.now.book.now) basis.now.unknown basis.now.levels bytes.now result }
 {
-    let mut open_levels = open_body(alloc, basis.book, def, bytes.len())?;
+    reopen_body(basis.book, open_levels, def, bytes.len())?;
     let body = &bytes[HEADER_LENGTH..];
-    match read_piece(basis, &mut open_levels, HEADER_LENGTH, body)? {
+    match read_avps(basis, open_levels, HEADER_LENGTH, body)? {
         None => Ok(Selected { def }),
         Some(_) => unreachable!(),
     }

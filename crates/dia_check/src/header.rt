@@ -14,6 +14,7 @@ use dia_book::{Book, Class, DefHead, DefId, Pxy};
 use dia_wire::{Header, MessageFault, split_message};
 
 /// The header of a message that is all of the bytes.
+#[inline(always)]
 pub(crate) fn whole_header(bytes: &[u8]) -> Result<Header, Refusal>
     ensures answer { (d : Dictionary) (u : AnyPolicy) (most : AnyLevels)
         → MatchResult result (λ header. HasHeader bytes.now header
@@ -32,6 +33,7 @@ pub(crate) fn whole_header(bytes: &[u8]) -> Result<Header, Refusal>
 }
 
 /// The command of a message with this header, where nothing is wrong with the header.
+#[inline(always)]
 pub(crate) fn good_command<B: Book>(book: &B, header: &Header) -> Result<DefId, Refusal>
     ensures answer { (u : AnyPolicy) (most : AnyLevels) (bytes : List ℕ) → HasLength bytes (length bytes)
         → HasHeader bytes header.now

@@ -9,10 +9,12 @@ mod fault;
 mod group;
 mod header;
 mod open_levels;
+mod room;
 mod stream;
 mod telling;
 
-pub use checking::{check, one_answer, validity};
+pub use checking::{check, check_in, one_answer, validity};
 pub use dia_policy::{Levels, Unknown};
 pub use fault::{Fault, Reason, Refusal, Selected, Subject};
+pub use room::Room;
 pub use stream::{Paused, Progress, Stream, StreamFault};

@@ -33,6 +33,9 @@ const LAID_OUT_OF_GROUP: usize = 8;
 /// memory for theirs.
 const ROOM_FOR_GROUPS: usize = 32;
 
+/// How many levels, and how many rules in tallies, are kept in memory behind a message: 64 KB and 16 KB at most.
+const MOST_KEPT: usize = 2048;
+
 /// An open level.
 #[derive(Clone, Copy)]
 pub(crate) struct OpenLevel {
@@ -149,13 +152,47 @@ impl OpenLevels {
             → slice_get defs def ≡ Some definition → definition.rules ≡ rules.now
             → IfOk result (λ levels. AreOpen defs levels [] (begun rules.now end)) }
     {
-        let mut tallies = Vec::with_capacity(alloc, rules.len() + ROOM_FOR_GROUPS)?;
-        lay_out(&mut tallies, rules.len().min(LAID_OUT_OF_BODY));
-        Ok(OpenLevels {
-            innermost: OpenLevel::new(def, end, 0),
+        let mut levels = OpenLevels::empty(alloc);
+        levels.begin(def, rules, end)?;
+        Ok(levels)
+    }
+
+    /// Levels of no message, which have no memory yet.
+    pub(crate) fn empty(alloc: Global) -> Self {
+        OpenLevels {
+            innermost: OpenLevel::new(DefId::new(0), 0, 0),
             outer: Vec::new(alloc),
-            tallies,
-        })
+            tallies: Vec::new(alloc),
+        }
+    }
+
+    /// The levels of a message of which nothing was read yet, in the memory that is there: its body alone, which ends at a
+    /// place.
+    #[inline(always)]
+    pub(crate) fn begin(
+        &mut self,
+        def: DefId,
+        rules: &[DRule],
+        end: usize,
+    ) -> Result<(), AllocError>
+        ensures { (defs : List PlainDefinition) (definition : PlainDefinition)
+            → slice_get defs def ≡ Some definition → definition.rules ≡ rules.now
+            → OnOk result (AreOpen defs self.new [] (begun rules.now end)) }
+    {
+        self.outer.clear();
+        self.tallies.clear();
+        self.tallies.reserve(rules.len() + ROOM_FOR_GROUPS)?;
+        lay_out(&mut self.tallies, rules.len().min(LAID_OUT_OF_BODY));
+        self.innermost = OpenLevel::new(def, end, 0);
+        Ok(())
+    }
+
+    /// Gives memory back where it is more than most messages want.
+    #[inline(always)]
+    pub(crate) fn give_back(&mut self, alloc: Global) {
+        if self.outer.capacity() > MOST_KEPT || self.tallies.capacity() > MOST_KEPT {
+            *self = OpenLevels::empty(alloc);
+        }
     }
 
     /// Opens a level in the innermost one. This alone takes memory.

@@ -1,7 +1,7 @@
 -- Places in lists.
 use Rattle.std.proofs.Common.{◌≡◌, ℕ, zero, suc, ◌+◌, ◌<◌, Bool, true, false, cond, List, [], ◌∷◌, ◌++◌, length, map, take, position, Option, Some, None, refl, sym, ap, ◌∙◌, arith}
-use Rattle.std.specs.Prelude.{slice_get, ◌||◌}
-use Rattle.std.specs.List.{position_from, list_any}
+use Rattle.std.specs.Prelude.{slice_get}
+use Rattle.std.specs.List.{position_from}
 use Rattle.std.specs.Option.{option_map, option_or}
 use Rattle.std.proofs.lemmas.Iterator.Adapters.{position_from-zero}
 use Rattle.std.proofs.lemmas.Option.{slice_get-map, none-some, same_Some}
@@ -40,8 +40,3 @@ image_at f (Some x) y e = (x, refl, same_Some (f x) y e)
 -- what a member's image at a place is the image of
 pub place_of_image : {X Y : Type 0} (f : X → Y) (xs : List X) (i : ℕ) (y : Y) → slice_get (map f xs) i ≡ Some y → (x : X) × (slice_get xs i ≡ Some x) × (f x ≡ y)
 place_of_image f xs i y at = image_at f (slice_get xs i) y (sym (slice_get-map f xs i) ∙ at)
-
--- no member passes
-pub list_any-nowhere : {X : Type 0} (p : X → Bool) (xs : List X) → ((j : ℕ) (x : X) → slice_get xs j ≡ Some x → p x ≡ false) → list_any p xs ≡ false
-list_any-nowhere p [] none = refl
-list_any-nowhere p (x ∷ xs) none = λ i. none zero x refl i || list_any-nowhere p xs (λ j y at. none (suc j) y at) i

@@ -1,12 +1,4 @@
-use Rattle.std.proofs.Common.{List, ◌++◌, ap, ◌∙◌, arith}
-use Rattle.dia_check.specs.declared.open_levels.OpenLevels.{OpenLevels}
-use Rattle.dia_check.specs.declared.open_levels.tally.Met.{Met}
-use Rattle.dia_check.specs.Tallies.{unmet}
-use Rattle.dia_check.proofs.KeptLevels.{body_opened}
 use Rattle.dia_check.proofs.open_levels.OpenLevels.new.Goals as goal
 
 pub returns : goal.returns
-returns c defs definition is_definition is_rules =
-    let after : OpenLevels = record { innermost = c.new.result; outer = c.new-2.result; tallies = c.lay_out.new.tallies } in
-    body_opened defs definition after c.args.rules.now c.args.def c.args.end c.min.result is_definition is_rules (omega (arith, c.min.ensures)) c.new.ensures c.new-2.ensures.items
-    (c.lay_out.ensures.items ∙ ap (λ (t : List Met). t ++ unmet 0 c.min.result) c.in_ok-tallies.ensures.items) (omega (arith, c.in_ok-tallies.ensures.capacity, c.lay_out.ensures.capacity))
+returns c defs definition is_definition is_rules = c.in_ok-begin.ensures defs definition is_definition is_rules

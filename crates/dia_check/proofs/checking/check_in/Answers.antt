@@ -1,7 +1,7 @@
 use Rattle.std.proofs.lemmas.Result.{err_from_is_err_and}
 use Rattle.dia_check.specs.Faults.{IsAnswer}
 use Rattle.dia_check.proofs.CheckAnswers.{valid_answer}
-use Rattle.dia_check.proofs.checking.check.Goals as goal
+use Rattle.dia_check.proofs.checking.check_in.Goals as goal
 
 pub returns-in_err-header-clause-answer : goal.returns-in_err-header-clause-answer
 returns-in_err-header-clause-answer g c =
@@ -31,8 +31,8 @@ returns-in_err-def-clause-valid g c n valid =
     rw (p.1, p.2) (c.in_err-def.ensures.answer c.args.unknown c.args.levels c.args.bytes.now whole.1 whole.0) in
     valid_answer d (g.met.B.Book.sound c.args.book.now) c.args.unknown c.args.levels c.args.bytes.now c.from_residual-in_err-def.result n answer valid
 
-pub check_body-requires : goal.check_body-requires
-check_body-requires g c =
+pub check_body-answer-requires : goal.check_body-answer-requires
+check_body-answer-requires g c =
     let whole = c.in_ok-header.ensures.answer (g.B.Book.meaning c.args.book.now) c.args.unknown c.args.levels in
     let (good, is) = c.in_ok-def.ensures.answer c.args.unknown c.args.levels c.args.bytes.now whole.1 whole.0 in
     ∣ (good, is, whole.1, whole.2) ∣₁
@@ -41,14 +41,14 @@ pub returns-clause-answer : goal.returns-clause-answer
 returns-clause-answer g c =
     let whole = c.in_ok-header.ensures.answer (g.B.Book.meaning c.args.book.now) c.args.unknown c.args.levels in
     let (good, is) = c.in_ok-def.ensures.answer c.args.unknown c.args.levels c.args.bytes.now whole.1 whole.0 in
-    c.check_body.ensures good is whole.1
+    c.check_body-answer.ensures good is whole.1
 
 pub returns-clause-valid : goal.returns-clause-valid
 returns-clause-valid g c n valid =
     let d = g.B.Book.meaning c.args.book.now in
     let whole = c.in_ok-header.ensures.answer d c.args.unknown c.args.levels in
     let (good, is) = c.in_ok-def.ensures.answer c.args.unknown c.args.levels c.args.bytes.now whole.1 whole.0 in
-    valid_answer d (g.met.B.Book.sound c.args.book.now) c.args.unknown c.args.levels c.args.bytes.now c.check_body.result n (c.check_body.ensures good is whole.1) valid
+    valid_answer d (g.met.B.Book.sound c.args.book.now) c.args.unknown c.args.levels c.args.bytes.now c.check_body-answer.result n (c.check_body-answer.ensures good is whole.1) valid
 
 pub returns-clause-no_memory : goal.returns-clause-no_memory
 returns-clause-no_memory g c refused =
