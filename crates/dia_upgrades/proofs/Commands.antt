@@ -11,11 +11,11 @@ use Rattle.dia_io.specs.Writing.{AppendsFront}
 use Rattle.dia_accepted.specs.Accepted.{PlainEntry, PlainTold, left_of}
 use Rattle.dia_accepted.specs.Seen.{is_command}
 use Rattle.dia_breaking.specs.Confirmed.{most_checked_together}
+use Rattle.dia_breaking.specs.Messages.{Stock}
 use Rattle.dia_breaking.specs.Sides.{Sides}
 use Rattle.dia_upgrades.specs.declared.asked.Asked.{Asked}
 use Rattle.dia_upgrades.specs.declared.lines.Listing.{Listing}
 use Rattle.dia_upgrades.specs.declared.pending.Pending.{Pending}
-use Rattle.dia_upgrades.specs.declared.seen.Seen.{Seen}
 use Rattle.dia_upgrades.specs.Places.{IsEachNew}
 use Rattle.dia_upgrades.specs.Told.{AreBothParts, AreShortest, IsToldOf}
 use Rattle.dia_upgrades.specs.UnderWay.{AreAllPut, AreFirstLines, AreSeen, AreUnderWay, GoesOn, IsPut, IsUnderWay, Stands, StandsBehind, StandsPut, StopsIn, among, before, text_shown}
@@ -24,16 +24,16 @@ use Rattle.dia_upgrades.proofs.LinesToTell.{left_both, nothing_shown}
 use Rattle.dia_upgrades.proofs.Parts.{both_more}
 use Rattle.dia_upgrades.proofs.Puts.{none_put}
 
-module _ (s : Sides) (asked : Asked) (lengths : List ℕ) (forgets : Bool) (list : List PlainEntry) (begun : Option (List ℕ)) where
+module _ (s : Sides) (k : Stock) (asked : Asked) (lengths : List ℕ) (forgets : Bool) (list : List PlainEntry) (begun : Option (List ℕ)) where
   abbrev Tells : ℕ → ℕ → ℕ → List PlainTold → List PlainTold → Type 0
-  Tells = IsToldOf s asked.messages asked.meaning lengths
+  Tells = IsToldOf s k asked.messages asked.meaning lengths
 
   -- the lines of the first commands are known, and put or pending
   pub record AreSome (places : List ℕ) (put : Option (List ℕ)) (listing : Listing) : Type 0 where
     pub told : List PlainTold
     pub apart : List PlainTold
     pub place : ℕ
-    pub are_both : AreBothParts (IsToldOf s asked.messages asked.meaning lengths) places most_checked_together listing.budget told apart
+    pub are_both : AreBothParts (IsToldOf s k asked.messages asked.meaning lengths) places most_checked_together listing.budget told apart
     pub under_way : IsUnderWay asked forgets list place (length places) begun put listing told apart
 
   pub none_yet : (put : Option (List ℕ)) (listing : Listing) (place : ℕ) → listing.budget ≡ most_checked_together → IsUnderWay asked forgets list place 0 begun put listing [] [] → AreSome [] put listing
@@ -53,7 +53,7 @@ module _ (s : Sides) (asked : Asked) (lengths : List ℕ) (forgets : Bool) (list
       begins : IsUnderWay asked forgets list (get_or places i d) visits begun a begin some.told some.apart
       begins =
           record {
-            seen = next some.told some.apart (λ e. none_of_place s asked.messages asked.meaning lengths (get_or places i d) (take i places) most_checked_together old.budget some.told some.apart some.are_both (new_ones e i d less))
+            seen = next some.told some.apart (λ e. none_of_place s k asked.messages asked.meaning lengths (get_or places i d) (take i places) most_checked_together old.budget some.told some.apart some.are_both (new_ones e i d less))
                 some.under_way.seen;
             is_put = subst (λ p. IsPut begun a p (text_shown asked.once (left_of list some.told))) (sym pending) some.under_way.is_put;
           }
@@ -70,7 +70,7 @@ module _ (s : Sides) (asked : Asked) (lengths : List ℕ) (forgets : Bool) (list
       }
 
       -- or it stops there
-      pub stops_there : AreShortest s.sender s.sends lengths → (fault : RunFault) → StopsIn s asked lengths (get_or places i d) fault a c begin new
+      pub stops_there : AreShortest s.sender s.sends lengths → (fault : RunFault) → StopsIn s k asked lengths (get_or places i d) fault a c begin new
           → (first : List PlainTold) × AreFirstLines s asked list places first × Stands fault begun c new.pending (text_shown asked.once first)
       stops_there shortest fault (before stops) = (
         left_of list some.told,
@@ -81,7 +81,7 @@ module _ (s : Sides) (asked : Asked) (lengths : List ℕ) (forgets : Bool) (list
           apart = some.apart;
           more = [];
           parts = sym (take-append-drop i places);
-          are_told = record { lengths = lengths; behind = old.budget; are_shortest = shortest; each = some.are_both };
+          are_told = record { lengths = lengths; stock = k; behind = old.budget; are_shortest = shortest; each = some.are_both };
           left_are = sym (append-nil (left_of list some.told));
         },
         subst (λ (xs : List PlainTold). Stands fault begun c new.pending (text_shown asked.once (left_of list xs))) (append-nil some.told)
@@ -98,6 +98,7 @@ module _ (s : Sides) (asked : Asked) (lengths : List ℕ) (forgets : Bool) (list
           parts = sym (take-append-drop (i + 1) places);
           are_told = record {
             lengths = lengths;
+            stock = k;
             behind = behind;
             are_shortest = shortest;
             each = both_more Tells places i d most_checked_together old.budget behind some.told some.apart (more ++ rest) others less some.are_both
@@ -115,7 +116,7 @@ module _ (s : Sides) (asked : Asked) (lengths : List ℕ) (forgets : Bool) (list
     told = some.told;
     apart = some.apart;
     place = some.place;
-    are_told = record { lengths = lengths; behind = listing.budget; are_shortest = shortest; each = some.are_both };
+    are_told = record { lengths = lengths; stock = k; behind = listing.budget; are_shortest = shortest; each = some.are_both };
     under_way = some.under_way;
   }
 
@@ -171,9 +172,9 @@ start asked forgets list put listing seen nothing =
     record { seen = seen; is_put = subst (IsPut put put listing.pending) (sym (nothing_shown asked.once)) (none_put put listing.pending nothing) }
 
 -- nothing was written of any line
-pub none_first : (s : Sides) (asked : Asked) (list : List PlainEntry) (lengths places : List ℕ) (put : Option (List ℕ)) → AreShortest s.sender s.sends lengths
+pub none_first : (s : Sides) (k : Stock) (asked : Asked) (list : List PlainEntry) (lengths places : List ℕ) (put : Option (List ℕ)) → AreShortest s.sender s.sends lengths
     → (first : List PlainTold) × AreFirstLines s asked list places first × StandsPut NoMemory put put (text_shown asked.once first)
-none_first s asked list lengths places put shortest = (
+none_first s k asked list lengths places put shortest = (
   [],
   record {
     front = [];
@@ -182,7 +183,7 @@ none_first s asked list lengths places put shortest = (
     apart = [];
     more = [];
     parts = refl;
-    are_told = record { lengths = lengths; behind = most_checked_together; are_shortest = shortest; each = (refl, refl, refl) };
+    are_told = record { lengths = lengths; stock = k; behind = most_checked_together; are_shortest = shortest; each = (refl, refl, refl) };
     left_are = refl;
   },
   subst (Appends put put) (sym (nothing_shown asked.once)) (Appends-nil put),

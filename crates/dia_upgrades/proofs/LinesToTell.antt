@@ -1,11 +1,10 @@
 -- Lines that are known one after another, and their texts.
 use Rattle.std.proofs.Common.{◌≡◌, ℕ, ◌+◌, ◌<◌, ◌^◌, Bool, true, false, cond, List, [], ◌∷◌, ◌++◌, Option, drop, get_or, length, map, take, refl, sym, ap, subst, ◌∙◌, append_assoc, string_bytes, arith}
-use Rattle.std.specs.Prelude.{◌||◌, codes, not}
+use Rattle.std.specs.Prelude.{◌||◌, not}
 use Rattle.std.specs.List.{list_any}
 use Rattle.std.proofs.lemmas.Grind.{flat_map-append}
 use Rattle.std.proofs.lemmas.List.{append-nil, length-append, map-append, take-append-drop, take_more}
 use Rattle.std.proofs.lemmas.List.Elements.{filter-append}
-use Rattle.hex.specs.Hex.{encode_lower}
 use Rattle.dia_accepted.specs.declared.counting.Causes.{Causes}
 use Rattle.dia_accepted.specs.declared.told.Told.{Told}
 use Rattle.dia_accepted.specs.Accepted.{PlainEntry, PlainTold, accepts, is_accepted, kept, left_of, plain_told}
@@ -18,7 +17,7 @@ use Rattle.dia_run.specs.Texts.{line}
 use Rattle.dia_upgrades.specs.declared.asked.Asked.{Asked}
 use Rattle.dia_upgrades.specs.declared.seen.Seen.{Seen}
 use Rattle.dia_upgrades.specs.Outcome.{counted}
-use Rattle.dia_upgrades.specs.Told.{IsBehind, has_message, told_text}
+use Rattle.dia_upgrades.specs.Told.{IsBehind, has_message, message_line, told_text}
 use Rattle.dia_upgrades.specs.UnderWay.{AreJudged, Sees, SeesApart, is_any, lines_after, text_shown}
 use Rattle.dia_upgrades.proofs.Puts.{front_of_more}
 
@@ -59,19 +58,19 @@ pub shown_more : (is_once : Bool) (xs ys : List PlainTold) → text_shown is_onc
 shown_more true xs ys = refl
 shown_more false xs ys = flat_map-append (λ (t : PlainTold). line t.words ++ t.message) xs ys
 
--- a line without message, or with no message at all
-abbrev pub any_message : Standing → Bool → List ℕ
-any_message s m = cond (has_message m s) (line (codes "  " ++ encode_lower [])) []
+-- what stands behind a line whose message has these bytes, if anything does
+abbrev pub message_behind : Bool → List ℕ → List ℕ
+message_behind has bytes = cond has (message_line bytes) []
 
-pub any_behind : (b : Bool) → IsBehind b (cond b (line (codes "  " ++ encode_lower [])) [])
-any_behind true = ([], (λ i. omega arith), refl)
-any_behind false = refl
+pub stands_behind : (are : List ℕ → Type 0) (has : Bool) (bytes : List ℕ) → are bytes → IsBehind are has (message_behind has bytes)
+stands_behind are true bytes is = (bytes, is, refl)
+stands_behind are false bytes is = refl
 
 -- a line whose messages aren't asked for has none
-pub no_message : (s : Standing) → IsBehind (has_message false s) []
-no_message Confirmed = refl
-no_message Unchecked = refl
-no_message Undecided = refl
+pub no_message : (are : List ℕ → Type 0) (s : Standing) → IsBehind are (has_message false s) []
+no_message are Confirmed = refl
+no_message are Unchecked = refl
+no_message are Undecided = refl
 
 -- ---- lines that are left
 

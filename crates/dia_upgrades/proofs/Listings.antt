@@ -10,13 +10,14 @@ use Rattle.dia_io.specs.Writing.{AppendsFront}
 use Rattle.dia_accepted.specs.Accepted.{PlainEntry, PlainTold, left_of}
 use Rattle.dia_accepted.specs.Seen.{is_command}
 use Rattle.dia_breaking.specs.declared.line.Line.{Line}
+use Rattle.dia_breaking.specs.Messages.{Stock}
 use Rattle.dia_breaking.specs.Sides.{Sides}
 use Rattle.dia_upgrades.specs.declared.asked.Asked.{Asked}
 use Rattle.dia_upgrades.specs.declared.lines.Listing.{Listing}
 use Rattle.dia_upgrades.specs.declared.seen.Seen.{Seen}
-use Rattle.dia_upgrades.specs.Told.{AreBothParts, AreParts, IsLineTold, IsToldOf, told_as}
+use Rattle.dia_upgrades.specs.Told.{AreBothParts, AreParts, IsLineTold, IsToldOf, has_message, told_as}
 use Rattle.dia_upgrades.specs.UnderWay.{AreSeen, GoesOn, IsPut, IsUnderWay, Sees, SeesApart, Stands, StopsAmong, StopsBehind, text_shown}
-use Rattle.dia_upgrades.proofs.LinesToTell.{any_behind, any_message, left_both, shown_more}
+use Rattle.dia_upgrades.proofs.LinesToTell.{left_both, message_behind, shown_more, stands_behind}
 use Rattle.dia_upgrades.proofs.Parts.{all_parts, both_ends}
 use Rattle.dia_upgrades.proofs.Puts.{same_put}
 
@@ -110,43 +111,50 @@ module _ (asked : Asked) (place : ℕ) where
 -- ---- among lines
 
 -- each line could be told
-pub could_be : (place : ℕ) (messages : Bool) (words : Line → List ℕ) (x : Line) → IsLineTold place messages words x (told_as place (words x) (any_message x.standing messages) ∷ [])
-could_be place messages words x = (any_message x.standing messages, any_behind _, refl)
+pub could_be : (place : ℕ) (messages : Bool) (words : Line → List ℕ) (are : Line → List ℕ → Type 0) (x : Line) (bytes : List ℕ) → are x bytes
+    → IsLineTold place messages words are x (told_as place (words x) (message_behind (has_message messages x.standing) bytes) ∷ [])
+could_be place messages words are x bytes is = (message_behind (has_message messages x.standing) bytes, stands_behind (are x) _ bytes is, refl)
 
-pub any_told : (place : ℕ) (messages : Bool) (words : Line → List ℕ) (lines : List Line) → (told : List PlainTold) × AreParts (IsLineTold place messages words) lines told
-any_told place messages words lines =
-    all_parts (IsLineTold place messages words) (λ x. told_as place (words x) (any_message x.standing messages) ∷ []) (could_be place messages words) lines
+pub any_told : (place : ℕ) (messages : Bool) (words : Line → List ℕ) (are : Line → List ℕ → Type 0) → ((x : Line) → (bytes : List ℕ) × are x bytes) → (lines : List Line)
+    → (told : List PlainTold) × AreParts (IsLineTold place messages words are) lines told
+any_told place messages words are some lines =
+    all_parts (IsLineTold place messages words are) (λ x. told_as place (words x) (message_behind (has_message messages x.standing) (some x).0) ∷ [])
+    (λ x. could_be place messages words are x (some x).0 (some x).1) lines
 
 from_here : {X : Type 0} (xs : List X) (i : ℕ) (d : X) → i < length xs → take i xs ++ (get_or xs i d ∷ drop (i + 1) xs) ≡ xs
 from_here xs i d less =
     sym (append_assoc (take i xs) (get_or xs i d ∷ []) (drop (i + 1) xs)) ∙ ap (λ ys. ys ++ drop (i + 1) xs) (sym (take_more xs i d less)) ∙ take-append-drop (i + 1) xs
 
-module _ (asked : Asked) (place : ℕ) (messages : Bool) (words : Line → List ℕ) where
+module _ (asked : Asked) (place : ℕ) (messages : Bool) (words : Line → List ℕ) (are : Line → List ℕ → Type 0) (some : (x : Line) → (bytes : List ℕ) × are x bytes) where
   -- it stops in the line at i
   pub stops_at : (fault : RunFault) (a b c : Option (List ℕ)) (old mid new : Listing) (lines : List Line) (i : ℕ) (x : Line) (told : List PlainTold) → i < length lines → x ≡ get_or lines i x
-      → AreParts (IsLineTold place messages words) (take i lines) told → GoesOn asked place a b old mid told [] → StopsAmong asked place fault b c mid new (IsLineTold place messages words) (x ∷ [])
-      → StopsAmong asked place fault a c old new (IsLineTold place messages words) lines
-  stops_at fault a b c old mid new lines i x told less is_x are goes stops =
-      let rest = any_told place messages words (drop (i + 1) lines) in
+      → AreParts (IsLineTold place messages words are) (take i lines) told → GoesOn asked place a b old mid told [] → StopsAmong asked place fault b c mid new (IsLineTold place messages words are) (x ∷ [])
+      → StopsAmong asked place fault a c old new (IsLineTold place messages words are) lines
+  stops_at fault a b c old mid new lines i x told less is_x parts_are goes stops =
+      let rest = any_told place messages words are some (drop (i + 1) lines) in
       let here : take i lines ++ (x ∷ drop (i + 1) lines) ≡ lines = ap (λ (y : Line). take i lines ++ (y ∷ drop (i + 1) lines)) is_x ∙ from_here lines i x less in
-      let parts = both_ends (IsLineTold place messages words) (take i lines) (x ∷ drop (i + 1) lines) told ((stops.more ++ stops.rest) ++ rest.0) are
-      (both_ends (IsLineTold place messages words) (x ∷ []) (drop (i + 1) lines) (stops.more ++ stops.rest) rest.0 stops.are_parts rest.1) in
+      let parts = both_ends (IsLineTold place messages words are) (take i lines) (x ∷ drop (i + 1) lines) told ((stops.more ++ stops.rest) ++ rest.0) parts_are
+      (both_ends (IsLineTold place messages words are) (x ∷ []) (drop (i + 1) lines) (stops.more ++ stops.rest) rest.0 stops.are_parts rest.1) in
       let regrouped : told ++ ((stops.more ++ stops.rest) ++ rest.0) ≡ (told ++ stops.more) ++ (stops.rest ++ rest.0) =
       ap (λ (xs : List PlainTold). told ++ xs) (append_assoc stops.more stops.rest rest.0) ∙ sym (append_assoc told stops.more (stops.rest ++ rest.0)) in record {
         more = told ++ stops.more;
         rest = stops.rest ++ rest.0;
-        are_parts = subst (AreParts (IsLineTold place messages words) lines) regrouped (subst (λ (xs : List Line). AreParts (IsLineTold place messages words) xs (told ++ ((stops.more ++ stops.rest) ++ rest.0))) here parts);
+        are_parts = subst (AreParts (IsLineTold place messages words are) lines) regrouped (subst (λ (xs : List Line). AreParts (IsLineTold place messages words are) xs (told ++ ((stops.more ++ stops.rest) ++ rest.0))) here parts);
         stops = stops_later asked place fault a b c old mid new told stops.more [] goes stops.stops;
       }
 
   -- it stops before a line
-  pub stops_before_line : (put : Option (List ℕ)) (old new : Listing) (x : Line) → new.pending ≡ old.pending → StopsAmong asked place NoMemory put put old new (IsLineTold place messages words) (x ∷ [])
+  pub stops_before_line : (put : Option (List ℕ)) (old new : Listing) (x : Line) → new.pending ≡ old.pending → StopsAmong asked place NoMemory put put old new (IsLineTold place messages words are) (x ∷ [])
   stops_before_line put old new x same =
-      let one = told_as place (words x) (any_message x.standing messages) ∷ [] in
-      record { more = []; rest = one; are_parts = (one, [], could_be place messages words x, refl, sym (append-nil one)); stops = stops_here asked place put old new same }
+      let one = told_as place (words x) (message_behind (has_message messages x.standing) (some x).0) ∷ [] in record {
+        more = [];
+        rest = one;
+        are_parts = (one, [], could_be place messages words are x (some x).0 (some x).1, refl, sym (append-nil one));
+        stops = stops_here asked place put old new same;
+      }
 
-  pub stops_in_line : (put_old put : Option (List ℕ)) (old new : Listing) (x : Line) (t : PlainTold) → IsLineTold place messages words x (t ∷ []) → StopsBehind asked place Device put_old put old new (t ∷ [])
-      → StopsAmong asked place Device put_old put old new (IsLineTold place messages words) (x ∷ [])
+  pub stops_in_line : (put_old put : Option (List ℕ)) (old new : Listing) (x : Line) (t : PlainTold) → IsLineTold place messages words are x (t ∷ []) → StopsBehind asked place Device put_old put old new (t ∷ [])
+      → StopsAmong asked place Device put_old put old new (IsLineTold place messages words are) (x ∷ [])
   stops_in_line put_old put old new x t is_t stops =
       record { more = t ∷ []; rest = []; are_parts = (t ∷ [], [], is_t, refl, refl); stops = stops }
 
@@ -174,19 +182,19 @@ or_none false b e = (refl, e)
 both_none : (p : PlainTold → Bool) (xs ys : List PlainTold) → list_any p xs ≡ false → list_any p ys ≡ false → list_any p (xs ++ ys) ≡ false
 both_none p xs ys e f = list_any-append p xs ys ∙ (λ i. (e i || f i))
 
-lines_of_place : (k place : ℕ) (messages : Bool) (words : Line → List ℕ) (lines : List Line) (told : List PlainTold) → nat_eq k place ≡ false → AreParts (IsLineTold place messages words) lines told
-    → list_any (is_command k) told ≡ false
-lines_of_place k place messages words [] told other none = ap (list_any (is_command k)) none
-lines_of_place k place messages words (x ∷ lines) told other (front, rest, is_x, are, e) =
-    ap (list_any (is_command k)) e
-    ∙ both_none (is_command k) front rest (ap (list_any (is_command k)) is_x.2 ∙ ap (λ (b : Bool). b || false) other) (lines_of_place k place messages words lines rest other are)
+lines_of_place : (n place : ℕ) (messages : Bool) (words : Line → List ℕ) (are : Line → List ℕ → Type 0) (lines : List Line) (told : List PlainTold) → nat_eq n place ≡ false
+    → AreParts (IsLineTold place messages words are) lines told → list_any (is_command n) told ≡ false
+lines_of_place n place messages words are [] told other none = ap (list_any (is_command n)) none
+lines_of_place n place messages words are (x ∷ lines) told other (front, rest, is_x, parts, e) =
+    ap (list_any (is_command n)) e
+    ∙ both_none (is_command n) front rest (ap (list_any (is_command n)) is_x.2 ∙ ap (λ (b : Bool). b || false) other) (lines_of_place n place messages words are lines rest other parts)
 
 -- no line is of a command at another place
-pub none_of_place : (s : Sides) (messages meaning : Bool) (lengths : List ℕ) (k : ℕ) (places : List ℕ) (budget behind : ℕ) (told apart : List PlainTold)
-    → AreBothParts (IsToldOf s messages meaning lengths) places budget behind told apart → list_any (nat_eq k) places ≡ false → (list_any (is_command k) told ≡ false) × (list_any (is_command k) apart ≡ false)
-none_of_place s messages meaning lengths k [] budget behind told apart (same, none, no_other) other = (ap (list_any (is_command k)) none, ap (list_any (is_command k)) no_other)
-none_of_place s messages meaning lengths k (place ∷ places) budget behind told apart (next, front, first, rest, others, is_told, are, e, f) other =
-    let parts = or_none (nat_eq k place) (list_any (nat_eq k) places) other in let more = none_of_place s messages meaning lengths k places next behind rest others are parts.1 in (
-      ap (list_any (is_command k)) e ∙ both_none (is_command k) front rest (lines_of_place k place messages _ is_told.shown front parts.0 is_told.told_are) more.0,
-      ap (list_any (is_command k)) f ∙ both_none (is_command k) first others (lines_of_place k place false _ _ first parts.0 is_told.apart_are) more.1,
+pub none_of_place : (s : Sides) (k : Stock) (messages meaning : Bool) (lengths : List ℕ) (n : ℕ) (places : List ℕ) (budget behind : ℕ) (told apart : List PlainTold)
+    → AreBothParts (IsToldOf s k messages meaning lengths) places budget behind told apart → list_any (nat_eq n) places ≡ false → (list_any (is_command n) told ≡ false) × (list_any (is_command n) apart ≡ false)
+none_of_place s k messages meaning lengths n [] budget behind told apart (same, none, no_other) other = (ap (list_any (is_command n)) none, ap (list_any (is_command n)) no_other)
+none_of_place s k messages meaning lengths n (place ∷ places) budget behind told apart (next, front, first, rest, others, is_told, are, e, f) other =
+    let parts = or_none (nat_eq n place) (list_any (nat_eq n) places) other in let more = none_of_place s k messages meaning lengths n places next behind rest others are parts.1 in (
+      ap (list_any (is_command n)) e ∙ both_none (is_command n) front rest (lines_of_place n place messages _ _ is_told.shown front parts.0 is_told.told_are) more.0,
+      ap (list_any (is_command n)) f ∙ both_none (is_command n) first others (lines_of_place n place false _ _ _ first parts.0 is_told.apart_are) more.1,
     )

@@ -3,20 +3,22 @@ use Rattle.std.proofs.Common.{◌≡◌, ℕ, Bool, false, List, [], subst}
 use Rattle.dia_accepted.specs.Accepted.{PlainTold}
 use Rattle.dia_breaking.specs.declared.line.Breaks.{Breaks}
 use Rattle.dia_breaking.specs.declared.line.Line.{Line}
-use Rattle.dia_breaking.specs.Confirmed.{EachConfirmedBreaks, HaveStandings, left_after}
+use Rattle.dia_breaking.specs.Confirmed.{HaveStandings, left_after}
 use Rattle.dia_breaking.specs.Free.{AreValidWhereFree}
 use Rattle.dia_breaking.specs.Listing.{AreUnchecked}
+use Rattle.dia_breaking.specs.Messages.{IsLineMessage, Stock}
 use Rattle.dia_breaking.specs.OwnBreaks.{TellData}
 use Rattle.dia_breaking.specs.Sides.{Sides, answer}
 use Rattle.dia_breaking.specs.TheLines.{AreLinesOrUnproved}
 use Rattle.dia_breaking.specs.TheMeanings.{AreMeaningsOf, AreMeant, HoldsOfLevels, IsReadAsSent}
+use Rattle.dia_breaking.specs.ToldMessages.{AreConfirmedWhere}
 use Rattle.dia_upgrades.specs.Told.{AreParts, AreShown, IsLineTold, IsToldOf, apart_of, number_at, words_at}
 
 -- what was found of a command, by its number
-pub record IsFound (s : Sides) (meaning : Bool) (number budget behind : ℕ) (breaks : Breaks) (shown : List Line) : Type 0 where
+pub record IsFound (s : Sides) (k : Stock) (meaning : Bool) (number budget behind : ℕ) (breaks : Breaks) (shown : List Line) : Type 0 where
   pub are_lines : AreLinesOrUnproved s (answer number breaks.sites.items breaks.lines.items)
   pub free : ∥ AreValidWhereFree s (answer number breaks.sites.items breaks.lines.items) ∥₁
-  pub confirmed : EachConfirmedBreaks s number breaks.lines.items
+  pub confirmed : AreConfirmedWhere s k number breaks.sites.items budget breaks.lines.items
   pub standings : HaveStandings budget breaks.lines.items
   pub behind_is : behind ≡ left_after budget breaks.lines.items
   pub formats : ∥ TellData s breaks.lines.items ∥₁
@@ -26,11 +28,13 @@ pub record IsFound (s : Sides) (meaning : Bool) (number budget behind : ℕ) (br
   pub read_alike : breaks.meanings.items ≡ [] → ∥ HoldsOfLevels s (answer number breaks.sites.items breaks.lines.items) (IsReadAsSent s) ∥₁
   pub are_shown : AreShown meaning breaks.lines.items breaks.meanings.items shown
 
-pub told_so : (s : Sides) (messages meaning : Bool) (lengths : List ℕ) (place number budget behind : ℕ) (breaks : Breaks) (shown : List Line) (told apart : List PlainTold) → number ≡ number_at s.sender place
-    → IsFound s meaning number budget behind breaks shown → AreParts (IsLineTold place messages (words_at s lengths number breaks.sites.items)) shown told
-    → AreParts (IsLineTold place false (words_at s lengths number breaks.sites.items)) (apart_of meaning breaks.meanings.items) apart → IsToldOf s messages meaning lengths place budget behind told apart
-told_so s messages meaning lengths place number budget behind breaks shown told apart is found told_are apart_are =
-    let here = subst (λ (n : ℕ). IsFound s meaning n budget behind breaks shown) is found in record {
+pub told_so : (s : Sides) (k : Stock) (messages meaning : Bool) (lengths : List ℕ) (place number budget behind : ℕ) (breaks : Breaks) (shown : List Line) (told apart : List PlainTold)
+    → number ≡ number_at s.sender place → IsFound s k meaning number budget behind breaks shown
+    → AreParts (IsLineTold place messages (words_at s lengths number breaks.sites.items) (IsLineMessage s k number breaks.sites.items)) shown told
+    → AreParts (IsLineTold place false (words_at s lengths number breaks.sites.items) (IsLineMessage s k number breaks.sites.items)) (apart_of meaning breaks.meanings.items) apart
+    → IsToldOf s k messages meaning lengths place budget behind told apart
+told_so s k messages meaning lengths place number budget behind breaks shown told apart is found told_are apart_are =
+    let here = subst (λ (n : ℕ). IsFound s k meaning n budget behind breaks shown) is found in record {
       sites = breaks.sites.items;
       lines = breaks.lines.items;
       meanings = breaks.meanings.items;
@@ -46,6 +50,7 @@ told_so s messages meaning lengths place number budget behind breaks shown told 
       all_meant = here.all_meant;
       read_alike = here.read_alike;
       are_shown = here.are_shown;
-      told_are = subst (λ (n : ℕ). AreParts (IsLineTold place messages (words_at s lengths n breaks.sites.items)) shown told) is told_are;
-      apart_are = subst (λ (n : ℕ). AreParts (IsLineTold place false (words_at s lengths n breaks.sites.items)) (apart_of meaning breaks.meanings.items) apart) is apart_are;
+      told_are = subst (λ (n : ℕ). AreParts (IsLineTold place messages (words_at s lengths n breaks.sites.items) (IsLineMessage s k n breaks.sites.items)) shown told) is told_are;
+      apart_are = subst (λ (n : ℕ). AreParts (IsLineTold place false (words_at s lengths n breaks.sites.items) (IsLineMessage s k n breaks.sites.items))
+          (apart_of meaning breaks.meanings.items) apart) is apart_are;
     }

@@ -17,6 +17,7 @@ use Rattle.dia_breaking.proofs.FreeOfLines.{nothing_told}
 use Rattle.dia_breaking.proofs.Lists.{all_in, contains_at}
 use Rattle.dia_breaking.specs.Confirmed.{most_checked_together}
 use Rattle.dia_breaking.specs.Listing.{tells}
+use Rattle.dia_breaking.specs.Messages.{IsLineMessage, Stock}
 use Rattle.dia_breaking.specs.Orders.{IsInOrderOf}
 use Rattle.dia_breaking.specs.Sides.{Sides, sides}
 use Rattle.dia_breaking.specs.TheMeanings.{AreTheMeanings}
@@ -64,27 +65,28 @@ module _ (a b : Dictionary) (who : Sends) (u : Unknown) (messages meaning : Bool
   s = sides a b who u
 
   -- of a command of which nothing is told no line is shown
-  none_shown : (lengths : List ℕ) (place budget behind : ℕ) (told apart : List PlainTold) (is : IsToldOf s messages meaning lengths place budget behind told apart) → AllByRecursion (λ t. ⊥) told
+  none_shown : (k : Stock) (lengths : List ℕ) (place budget behind : ℕ) (told apart : List PlainTold) (is : IsToldOf s k messages meaning lengths place budget behind told apart) → AllByRecursion (λ t. ⊥) told
       → AllByRecursion (λ x. ⊥) is.lines × (meaning ≡ true → AllByRecursion (λ x. ⊥) is.meanings)
-  none_shown lengths place budget behind told apart is none =
+  none_shown k lengths place budget behind told apart is none =
       let words = words_at s lengths (number_at a place) is.sites in
-      let line_never = λ (x : Line) (ys : List PlainTold) (made : IsLineTold place messages words x ys) (all : AllByRecursion (λ (t : PlainTold). ⊥) ys).
+      let are = IsLineMessage s k (number_at a place) is.sites in
+      let line_never = λ (x : Line) (ys : List PlainTold) (made : IsLineTold place messages words are x ys) (all : AllByRecursion (λ (t : PlainTold). ⊥) ys).
       (subst (AllByRecursion (λ (t : PlainTold). ⊥)) made.2 all).0 in
-      let never = of_parts (IsLineTold place messages words) (λ t. ⊥) (λ x. ⊥) line_never is.shown told is.told_are none in
+      let never = of_parts (IsLineTold place messages words are) (λ t. ⊥) (λ x. ⊥) line_never is.shown told is.told_are none in
       shown_all (λ x. ⊥) meaning is.lines is.meanings is.shown is.are_shown never
 
   -- each message that A's side sends is valid under B
-  command_valid : (lengths : List ℕ) (place budget behind : ℕ) (told apart : List PlainTold) → IsToldOf s messages meaning lengths place budget behind told apart → AllByRecursion (λ t. ⊥) told
+  command_valid : (k : Stock) (lengths : List ℕ) (place budget behind : ℕ) (told apart : List PlainTold) → IsToldOf s k messages meaning lengths place budget behind told apart → AllByRecursion (λ t. ⊥) told
       → ∥ AreValid a b who u (number_at a place) ∥₁
-  command_valid lengths place budget behind told apart is none =
-      let never = (none_shown lengths place budget behind told apart is none).0 in
+  command_valid k lengths place budget behind told apart is none =
+      let never = (none_shown k lengths place budget behind told apart is none).0 in
       ∥∥₁_map is.free (λ valid. nothing_told a b who u is.sites is.lines (number_at a place) valid (no_members is.lines never))
 
   -- and with `--meaning` no AVP is read as another format
-  command_alike : meaning ≡ true → (lengths : List ℕ) (place budget behind : ℕ) (told apart : List PlainTold) → IsToldOf s messages meaning lengths place budget behind told apart
+  command_alike : meaning ≡ true → (k : Stock) (lengths : List ℕ) (place budget behind : ℕ) (told apart : List PlainTold) → IsToldOf s k messages meaning lengths place budget behind told apart
       → AllByRecursion (λ t. ⊥) told → IsReadAlike s (number_at a place)
-  command_alike wanted lengths place budget behind told apart is none =
-      let never = none_shown lengths place budget behind told apart is none in
+  command_alike wanted k lengths place budget behind told apart is none =
+      let never = none_shown k lengths place budget behind told apart is none in
       let no_meanings = no_members is.meanings (never.1 wanted) in
       record {
         sites = is.sites;
@@ -95,14 +97,14 @@ module _ (a b : Dictionary) (who : Sends) (u : Unknown) (messages meaning : Bool
   pub told_valid : (places : List ℕ) (told apart : List PlainTold) → AreTold s messages meaning places told apart → told ≡ []
       → AllByRecursion (λ place. ∥ AreValid a b who u (number_at a place) ∥₁) places
   told_valid places told apart is none =
-      of_both_parts (IsToldOf s messages meaning is.lengths) (λ t. ⊥) (λ place. ∥ AreValid a b who u (number_at a place) ∥₁) (command_valid is.lengths)
+      of_both_parts (IsToldOf s is.stock messages meaning is.lengths) (λ t. ⊥) (λ place. ∥ AreValid a b who u (number_at a place) ∥₁) (command_valid is.stock is.lengths)
       places most_checked_together is.behind told apart is.each
       (subst (AllByRecursion (λ (t : PlainTold). ⊥)) (sym none) tt)
 
   pub told_alike : (places : List ℕ) (told apart : List PlainTold) → AreTold s messages meaning places told apart → told ≡ [] → meaning ≡ true
       → AllByRecursion (λ place. IsReadAlike s (number_at a place)) places
   told_alike places told apart is none wanted =
-      of_both_parts (IsToldOf s messages meaning is.lengths) (λ t. ⊥) (λ place. IsReadAlike s (number_at a place)) (command_alike wanted is.lengths)
+      of_both_parts (IsToldOf s is.stock messages meaning is.lengths) (λ t. ⊥) (λ place. IsReadAlike s (number_at a place)) (command_alike wanted is.stock is.lengths)
       places most_checked_together is.behind told apart is.each
       (subst (AllByRecursion (λ (t : PlainTold). ⊥)) (sym none) tt)
 
@@ -110,17 +112,18 @@ module _ (a b : Dictionary) (who : Sends) (u : Unknown) (messages meaning : Bool
   pub told_accepted : (list : List PlainEntry) (places : List ℕ) (told apart : List PlainTold) → AreTold s messages meaning places told apart → left_of list told ≡ []
       → AllByRecursion (λ place. IsAcceptedWhole s meaning list (number_at a place)) places
   told_accepted list places told apart is none =
-      of_both_parts (IsToldOf s messages meaning is.lengths) (λ t. is_accepted list t ≡ true) (λ place. IsAcceptedWhole s meaning list (number_at a place)) each
+      of_both_parts (IsToldOf s is.stock messages meaning is.lengths) (λ t. is_accepted list t ≡ true) (λ place. IsAcceptedWhole s meaning list (number_at a place)) each
       places most_checked_together is.behind told apart is.each
       (all_accepted list told none)
     where
-      each : (place budget behind : ℕ) (told apart : List PlainTold) → IsToldOf s messages meaning is.lengths place budget behind told apart → AllByRecursion (λ t. is_accepted list t ≡ true) told
+      each : (place budget behind : ℕ) (told apart : List PlainTold) → IsToldOf s is.stock messages meaning is.lengths place budget behind told apart → AllByRecursion (λ t. is_accepted list t ≡ true) told
           → IsAcceptedWhole s meaning list (number_at a place)
       each place budget behind told apart made all =
           let words = words_at s is.lengths (number_at a place) made.sites in
-          let line_accepted = λ (x : Line) (ys : List PlainTold) (l : IsLineTold place messages words x ys) (accepted : AllByRecursion (λ (t : PlainTold). is_accepted list t ≡ true) ys).
+          let are = IsLineMessage s is.stock (number_at a place) made.sites in
+          let line_accepted = λ (x : Line) (ys : List PlainTold) (l : IsLineTold place messages words are x ys) (accepted : AllByRecursion (λ (t : PlainTold). is_accepted list t ≡ true) ys).
           (subst (AllByRecursion (λ (t : PlainTold). is_accepted list t ≡ true)) l.2 accepted).0 in
-          let shown = of_parts (IsLineTold place messages words) (λ t. is_accepted list t ≡ true) (IsAcceptedBy list words) line_accepted made.shown told made.told_are all in
+          let shown = of_parts (IsLineTold place messages words are) (λ t. is_accepted list t ≡ true) (IsAcceptedBy list words) line_accepted made.shown told made.told_are all in
           let both = shown_all (IsAcceptedBy list words) meaning made.lines made.meanings made.shown made.are_shown shown in
           record {
             lengths = is.lengths;

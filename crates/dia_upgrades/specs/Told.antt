@@ -1,7 +1,7 @@
 -- What is told of the commands that are asked for: the lines of each, in their order.
 use Rattle.std.specs.Prelude.{◌≡◌, ℕ, ◌+◌, Bool, true, false, if◌then◌else◌, List, [], ◌∷◌, ◌++◌, length, codes}
 use Rattle.std.specs.List.{flat_map}
-use Rattle.hex.specs.Hex.{IsBytes, encode_lower}
+use Rattle.hex.specs.Hex.{encode_lower}
 use Rattle.dia_accepted.specs.Accepted.{PlainTold}
 use Rattle.dia_policy.specs.declared.sends.Sends.{Sends}
 use Rattle.dia_book.specs.Dictionary.{Dictionary, groups}
@@ -12,14 +12,16 @@ use Rattle.dia_breaking.specs.declared.line.Line.{Line}
 use Rattle.dia_breaking.specs.declared.line.Site.{Site}
 use Rattle.dia_breaking.specs.declared.line.Standing.{Standing}
 use Rattle.dia_breaking.specs.declared.line.Standing.TheVariants.{Confirmed, Unchecked, Undecided}
-use Rattle.dia_breaking.specs.Confirmed.{EachConfirmedBreaks, HaveStandings, left_after, most_checked_together}
+use Rattle.dia_breaking.specs.Confirmed.{HaveStandings, left_after, most_checked_together}
 use Rattle.dia_breaking.specs.Free.{AreValidWhereFree}
 use Rattle.dia_breaking.specs.Lengths.{AreEntryLengths, other_length}
 use Rattle.dia_breaking.specs.Listing.{AreUnchecked}
+use Rattle.dia_breaking.specs.Messages.{IsLineMessage, Stock}
 use Rattle.dia_breaking.specs.Orders.{IsInOrderOf}
 use Rattle.dia_breaking.specs.OwnBreaks.{TellData}
 use Rattle.dia_breaking.specs.TheLines.{AreLinesOrUnproved}
 use Rattle.dia_breaking.specs.TheMeanings.{AreMeaningsOf, AreMeant, HoldsOfLevels, IsReadAsSent}
+use Rattle.dia_breaking.specs.ToldMessages.{AreConfirmedWhere, BreaksAsTold, IsConfirmedWhere}
 use Rattle.dia_breaking.specs.Words.{words_of}
 use Rattle.dia_breaking.specs.Sides.{Sides, answer}
 use Rattle.dia_run.specs.Texts.{line}
@@ -37,9 +39,13 @@ AreBothParts {X} {Y} is (x ∷ xs) budget behind ys zs = (next : ℕ) × (front 
 
 -- ---- a line
 
--- a message on a line of its own: two spaces, and its bytes in hexadecimal
-abbrev pub IsMessageLine : List ℕ → Type 0
-IsMessageLine text = (bytes : List ℕ) × IsBytes bytes × (text ≡ line (codes "  " ++ encode_lower bytes))
+-- these bytes on a line of their own: two spaces, and hexadecimal digits
+abbrev pub message_line : List ℕ → List ℕ
+message_line bytes = line (codes "  " ++ encode_lower bytes)
+
+-- the line of a message, of which these are the bytes
+abbrev pub IsMessageLine : (List ℕ → Type 0) → List ℕ → Type 0
+IsMessageLine are text = (bytes : List ℕ) × are bytes × (text ≡ message_line bytes)
 
 -- whether a line has its message behind it: where messages are asked for, each but the undecided ones
 abbrev pub has_message : Bool → Standing → Bool
@@ -47,17 +53,17 @@ has_message messages Confirmed = messages
 has_message messages Unchecked = messages
 has_message messages Undecided = false
 
-abbrev pub IsBehind : Bool → List ℕ → Type 0
-IsBehind true text = IsMessageLine text
-IsBehind false text = text ≡ []
+abbrev pub IsBehind : (List ℕ → Type 0) → Bool → List ℕ → Type 0
+IsBehind are true text = IsMessageLine are text
+IsBehind are false text = text ≡ []
 
 -- a line of the command at this place: its words, and its message if it has one behind it
 abbrev pub told_as : ℕ → List ℕ → List ℕ → PlainTold
 told_as place words message = record { command = place; words = words; message = message }
 
-abbrev pub IsLineTold : ℕ → Bool → (Line → List ℕ) → Line → List PlainTold → Type 0
-IsLineTold place messages words line told =
-    (message : List ℕ) × IsBehind (has_message messages line.standing) message × (told ≡ told_as place (words line) message ∷ [])
+abbrev pub IsLineTold : ℕ → Bool → (Line → List ℕ) → (Line → List ℕ → Type 0) → Line → List PlainTold → Type 0
+IsLineTold place messages words are line told =
+    (message : List ℕ) × IsBehind (are line) (has_message messages line.standing) message × (told ≡ told_as place (words line) message ∷ [])
 
 -- the text of lines: each ends a line, and its message stands behind it
 abbrev pub told_text : List PlainTold → List ℕ
@@ -95,19 +101,19 @@ abbrev pub apart_of : Bool → List Line → List Line
 apart_of meaning meanings = if meaning then [] else meanings
 
 -- these are told of the command at this place: the lines that its dictionaries have, unless one tells that not all is shown. A message
--- that A's side sends, and that breaks in none of their ways, is valid under B. A line that is confirmed has a message that breaks; which
--- messages are checked follows from the lines' causes and lengths, and from how many bytes may be checked, of which some are left behind; and
--- a line about a format has data that B refuses, if it names some.
+-- that A's side sends, and that breaks in none of their ways, is valid under B. A line is confirmed exactly where its message is checked and
+-- breaks as the line tells; which messages are checked follows from the lines' causes and lengths, and from how many bytes may be checked, of
+-- which some are left behind; and a line about a format has data that B refuses, if it names some. Behind a line stand the bytes of its message.
 -- The meanings are those that its dictionaries have, and none of their messages is checked; they are all AVPs that B reads as another
 -- format. Those that aren't shown are told apart
-pub record IsToldOf (s : Sides) (messages meaning : Bool) (lengths : List ℕ) (place budget behind : ℕ) (told apart : List PlainTold) : Type 0 where
+pub record IsToldOf (s : Sides) (k : Stock) (messages meaning : Bool) (lengths : List ℕ) (place budget behind : ℕ) (told apart : List PlainTold) : Type 0 where
   pub sites : List Site
   pub lines : List Line
   pub meanings : List Line
   pub shown : List Line
   pub are_lines : AreLinesOrUnproved s (answer (number_at s.sender place) sites lines)
   pub free : ∥ AreValidWhereFree s (answer (number_at s.sender place) sites lines) ∥₁
-  pub confirmed : EachConfirmedBreaks s (number_at s.sender place) lines
+  pub confirmed : AreConfirmedWhere s k (number_at s.sender place) sites budget lines
   pub standings : HaveStandings budget lines
   pub behind_is : behind ≡ left_after budget lines
   pub formats : ∥ TellData s lines ∥₁
@@ -116,14 +122,23 @@ pub record IsToldOf (s : Sides) (messages meaning : Bool) (lengths : List ℕ) (
   pub all_meant : ∥ HoldsOfLevels s (answer (number_at s.sender place) sites lines) (AreMeant s meanings) ∥₁
   pub read_alike : meanings ≡ [] → ∥ HoldsOfLevels s (answer (number_at s.sender place) sites lines) (IsReadAsSent s) ∥₁
   pub are_shown : AreShown meaning lines meanings shown
-  pub told_are : AreParts (IsLineTold place messages (words_at s lengths (number_at s.sender place) sites)) shown told
-  pub apart_are : AreParts (IsLineTold place false (words_at s lengths (number_at s.sender place) sites)) (apart_of meaning meanings) apart
+  pub told_are : AreParts (IsLineTold place messages (words_at s lengths (number_at s.sender place) sites) (IsLineMessage s k (number_at s.sender place) sites)) shown told
+  pub apart_are : AreParts (IsLineTold place false (words_at s lengths (number_at s.sender place) sites) (IsLineMessage s k (number_at s.sender place) sites))
+      (apart_of meaning meanings) apart
 
 -- ---- all of them
 
--- these are told of A's commands at these places, and these apart, where so many bytes may be checked for all of them
+-- these are told of A's commands at these places, and these apart, where so many bytes may be checked for all of them. Their messages are made of one stock
 pub record AreTold (s : Sides) (messages meaning : Bool) (places : List ℕ) (told apart : List PlainTold) : Type 0 where
   pub lengths : List ℕ
+  pub stock : Stock
   pub behind : ℕ
   pub are_shortest : AreShortest s.sender s.sends lengths
-  pub each : AreBothParts (IsToldOf s messages meaning lengths) places most_checked_together behind told apart
+  pub each : AreBothParts (IsToldOf s stock messages meaning lengths) places most_checked_together behind told apart
+
+-- ---- behind a confirmed line
+
+-- the text that stands there is that of bytes that break as the line tells
+abbrev pub ConfirmedTextsBreak : Type 0
+ConfirmedTextsBreak = (s : Sides) (k : Stock) (c : ℕ) (sites : List Site) (left : ℕ) (line : Line) (text : List ℕ) → IsConfirmedWhere s k c sites left line line.standing
+    → line.standing ≡ Confirmed → IsMessageLine (IsLineMessage s k c sites line) text → (bytes : List ℕ) × BreaksAsTold s k c sites line bytes × (text ≡ message_line bytes)

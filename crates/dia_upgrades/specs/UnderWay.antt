@@ -5,6 +5,7 @@ use Rattle.std.specs.declared.string.String.{String}
 use Rattle.std.specs.List.{list_any}
 use Rattle.std.specs.Io.KnownBytes.{Appends}
 use Rattle.dia_book.specs.Dictionary.{Dictionary}
+use Rattle.dia_book.specs.declared.book.Book.{Ghosts as Reads}
 use Rattle.dia_io.specs.declared.Exit.{Exit}
 use Rattle.dia_io.specs.declared.Exit.TheVariants.{Yes, No}
 use Rattle.dia_io.specs.declared.Input.{Input}
@@ -20,8 +21,13 @@ use Rattle.dia_accepted.specs.declared.counting.Causes.{Causes}
 use Rattle.dia_accepted.specs.Causes.{has_cause, once_of}
 use Rattle.dia_accepted.specs.Words.{cause_text}
 use Rattle.dia_accepted.specs.Seen.{AreCauses, HasSeen}
+use Rattle.dia_breaking.specs.declared.line.Breaks.{Breaks}
 use Rattle.dia_breaking.specs.declared.line.Line.{Line}
+use Rattle.dia_breaking.specs.declared.upgrade.Upgrade.{Upgrade}
+use Rattle.dia_breaking.specs.Messages.{IsLineMessage, Stock}
 use Rattle.dia_breaking.specs.Sides.{Sides}
+use Rattle.dia_breaking.specs.Upgrades.{other_length_of, sides_of, stock_of}
+use Rattle.dia_breaking.specs.Words.{words_of}
 use Rattle.dia_upgrades.specs.declared.asked.Asked.{Asked}
 use Rattle.dia_upgrades.specs.declared.pending.Pending.{Pending}
 use Rattle.dia_upgrades.specs.declared.reporting.Found.{Found}
@@ -34,7 +40,7 @@ use Rattle.dia_upgrades.specs.declared.lines.Listing.{Listing}
 use Rattle.dia_upgrades.specs.Begun.{IsBegun, IsBegunOrWhole, IsOutcomeBegun, IsOutcomeBegunOrWhole}
 use Rattle.dia_upgrades.specs.Outcome.{IsBreakingOutcome, IsListed, counted, nothing_for}
 use Rattle.dia_upgrades.specs.Report.{IsReport}
-use Rattle.dia_upgrades.specs.Told.{AreParts, AreTold, IsBehind, IsToldOf, told_text}
+use Rattle.dia_upgrades.specs.Told.{AreParts, AreTold, IsBehind, IsLineTold, IsToldOf, told_text}
 
 -- ---- what is put
 
@@ -109,10 +115,20 @@ abbrev pub SeesApart : Asked → ℕ → Seen → Seen → List PlainTold → Ty
 SeesApart asked place old new more = (forgets : Bool) (list : List PlainEntry) (visits : ℕ) (told apart : List PlainTold) → visits < 2 ^ 63
     → AreSeen asked forgets list place visits old told apart → AreSeen asked forgets list place visits new told (apart ++ more)
 
+module _ {A B : Type 0} {a : Reads A} {b : Reads B} where
+  -- the bytes are the message of a line of what was found of a command
+  abbrev pub IsMessageIn : Upgrade A B a b → Breaks → Line → List ℕ → Type 0
+  IsMessageIn up breaks = IsLineMessage (sides_of up) (stock_of up) breaks.command breaks.sites.items
+
+  -- such a line is told so
+  abbrev pub IsToldIn : Upgrade A B a b → Breaks → ℕ → Bool → Line → List PlainTold → Type 0
+  IsToldIn up breaks place messages =
+      IsLineTold place messages (words_of (sides_of up) (other_length_of up) breaks.command breaks.sites.items) (IsMessageIn up breaks)
+
 -- the message that is kept with the cause of these words, of a line that has one behind it or not: nothing, if the cause is known
-pub record IsMessageFor (causes : Causes) (words : List ℕ) (has : Bool) (text : List ℕ) : Type 0 where
+pub record IsMessageFor (causes : Causes) (words : List ℕ) (are : List ℕ → Type 0) (has : Bool) (text : List ℕ) : Type 0 where
   pub message : List ℕ
-  pub is_behind : IsBehind has message
+  pub is_behind : IsBehind are has message
   pub is_kept : (forgets : Bool) (told : List PlainTold) (command visits : ℕ) → AreCauses forgets causes told command visits
       → (message ≡ text) ⊎ (list_any (has_cause (cause_text words)) told ≡ true)
 
@@ -141,10 +157,10 @@ pub record StopsAmong (asked : Asked) (place : ℕ) (fault : RunFault) (put_old 
   pub stops : StopsBehind asked place fault put_old put old new more
 
 -- before the lines of a command, or among them
-pub data StopsIn (s : Sides) (asked : Asked) (lengths : List ℕ) (place : ℕ) (fault : RunFault) (put_old put : Option (List ℕ)) (old new : Listing) : Type 0 where
-  before : StopsBehind asked place fault put_old put old new [] → StopsIn s asked lengths place fault put_old put old new
-  among : (behind : ℕ) (more rest others : List PlainTold) → IsToldOf s asked.messages asked.meaning lengths place old.budget behind (more ++ rest) others
-      → StopsBehind asked place fault put_old put old new more → StopsIn s asked lengths place fault put_old put old new
+pub data StopsIn (s : Sides) (k : Stock) (asked : Asked) (lengths : List ℕ) (place : ℕ) (fault : RunFault) (put_old put : Option (List ℕ)) (old new : Listing) : Type 0 where
+  before : StopsBehind asked place fault put_old put old new [] → StopsIn s k asked lengths place fault put_old put old new
+  among : (behind : ℕ) (more rest others : List PlainTold) → IsToldOf s k asked.messages asked.meaning lengths place old.budget behind (more ++ rest) others
+      → StopsBehind asked place fault put_old put old new more → StopsIn s k asked lengths place fault put_old put old new
 
 -- among the lines of commands, of which these are left
 pub record AreFirstLines (s : Sides) (asked : Asked) (list : List PlainEntry) (places : List ℕ) (first : List PlainTold) : Type 0 where

@@ -1,24 +1,23 @@
 //! The lines of the commands, as they are found.
 
 ghost use Rattle.std.specs.Prelude.{◌≡◌, ◌<◌, ◌↔◌, ◌∷◌, All, Err, IfErr, IfOk, IsOk, IsTrue, OnOk, List, ℕ, Option, [], length, map, true, false};
-ghost use Rattle.dia_breaking.specs.Upgrades.{facts_of, other_length_of, sides_of};
-ghost use Rattle.dia_breaking.specs.Words.{words_of};
+ghost use Rattle.dia_breaking.specs.Upgrades.{facts_of, sides_of, stock_of};
 ghost use Rattle.dia_breaking.specs.Confirmed.{most_checked_together};
 ghost use Rattle.std.specs.Io.KnownBytes.{Appends};
 ghost use Rattle.dia_io.specs.declared.RunFault.TheVariants.{Device};
 ghost use Rattle.dia_accepted.specs.Accepted.{PlainEntry, PlainTold, plain_entry};
 ghost use Rattle.dia_upgrades.specs.declared.asked.Asked.{Asked as AnyAsked};
-ghost use Rattle.dia_upgrades.specs.UnderWay.{AreAllPut, AreFirstLines, AreUnderWay, GoesOn, IsPut, IsUnderWay};
+ghost use Rattle.dia_upgrades.specs.UnderWay.{AreAllPut, AreFirstLines, AreUnderWay, GoesOn, IsPut, IsToldIn, IsUnderWay};
 ghost use Rattle.dia_upgrades.specs.UnderWay.{SeesApart, Stands, StandsBehind, StandsPut, StopsAmong, StopsIn, text_shown};
 ghost use Rattle.dia_upgrades.specs.Places.{IsEachNew};
-ghost use Rattle.dia_upgrades.specs.Told.{AreParts, IsLineTold, IsToldOf};
+ghost use Rattle.dia_upgrades.specs.Told.{AreParts, IsToldOf};
 
 use crate::asked::Asked;
 use crate::naming::are_distinct;
 use crate::pending::Pending;
 use crate::seen::Seen;
 use crate::showing::{apart_of, see_line, shown_of};
-use crate::shown::{Shown, add_shown};
+use crate::shown::add_shown;
 use dia_accepted::Entry;
 use dia_breaking::{Breaks, Line, MOST_CHECKED_TOGETHER, Upgrade};
 use dia_dict::Book;
@@ -133,11 +132,11 @@ fn put_command<A: Book, B: Book, S: Sink>(
     requires sound { ¬ IsTrue (S.has_failed sink.old) }
     requires place { place < length (sides_of upgrade.now).sender.commands }
     ensures all { OnOk result ((told apart : List PlainTold)
-        × IsToldOf (sides_of upgrade.now) asked.entry.messages asked.entry.meaning (facts_of upgrade.now).lengths place
-        listing.old.budget listing.new.budget told apart
+        × IsToldOf (sides_of upgrade.now) (stock_of upgrade.now) asked.entry.messages asked.entry.meaning
+        (facts_of upgrade.now).lengths place listing.old.budget listing.new.budget told apart
         × GoesOn asked.entry place (S.written sink.old) (S.written sink.new) listing.old listing.new told apart) }
-    ensures stops { IfErr result (λ fault. StopsIn (sides_of upgrade.now) asked.entry (facts_of upgrade.now).lengths place fault
-        (S.written sink.old) (S.written sink.new) listing.old listing.new) }
+    ensures stops { IfErr result (λ fault. StopsIn (sides_of upgrade.now) (stock_of upgrade.now) asked.entry
+        (facts_of upgrade.now).lengths place fault (S.written sink.old) (S.written sink.new) listing.old listing.new) }
     ensures device { (result ≡ Err Device) ↔ IsTrue (S.has_failed sink.new) }
 {
     let command = upgrade.sender().command_at(place);
@@ -163,12 +162,10 @@ fn put_each<A: Book, B: Book, S: Sink>(
 ) -> Result<(), RunFault>
     requires { ¬ IsTrue (S.has_failed sink.old) }
     ensures all { OnOk result ((told : List PlainTold)
-        × AreParts (IsLineTold place asked.entry.messages (words_of (sides_of upgrade.now) (other_length_of upgrade.now)
-        breaks.now.command breaks.now.sites.items)) lines.now told
+        × AreParts (IsToldIn upgrade.now breaks.now place asked.entry.messages) lines.now told
         × GoesOn asked.entry place (S.written sink.old) (S.written sink.new) listing.old listing.new told []) }
     ensures stops { IfErr result (λ fault. StopsAmong asked.entry place fault (S.written sink.old) (S.written sink.new)
-        listing.old listing.new (IsLineTold place asked.entry.messages (words_of (sides_of upgrade.now)
-        (other_length_of upgrade.now) breaks.now.command breaks.now.sites.items)) lines.now) }
+        listing.old listing.new (IsToldIn upgrade.now breaks.now place asked.entry.messages) lines.now) }
     ensures budget { listing.new.budget ≡ listing.old.budget }
     ensures device { (result ≡ Err Device) ↔ IsTrue (S.has_failed sink.new) }
 {
@@ -191,12 +188,10 @@ fn put_line<A: Book, B: Book, S: Sink>(
 ) -> Result<(), RunFault>
     requires { ¬ IsTrue (S.has_failed sink.old) }
     ensures all { OnOk result ((t : PlainTold)
-        × IsLineTold place asked.entry.messages (words_of (sides_of upgrade.now) (other_length_of upgrade.now)
-        breaks.now.command breaks.now.sites.items) line.now (t ∷ [])
+        × IsToldIn upgrade.now breaks.now place asked.entry.messages line.now (t ∷ [])
         × GoesOn asked.entry place (S.written sink.old) (S.written sink.new) listing.old listing.new (t ∷ []) []) }
     ensures stops { IfErr result (λ fault. StopsAmong asked.entry place fault (S.written sink.old) (S.written sink.new)
-        listing.old listing.new (IsLineTold place asked.entry.messages (words_of (sides_of upgrade.now)
-        (other_length_of upgrade.now) breaks.now.command breaks.now.sites.items)) (line.now ∷ [])) }
+        listing.old listing.new (IsToldIn upgrade.now breaks.now place asked.entry.messages) (line.now ∷ [])) }
     ensures budget { listing.new.budget ≡ listing.old.budget }
     ensures device { (result ≡ Err Device) ↔ IsTrue (S.has_failed sink.new) }
 {
@@ -223,8 +218,7 @@ fn see_each_apart<A: Book, B: Book>(
     place: usize,
 ) -> Result<(), AllocError>
     ensures { OnOk result ((others : List PlainTold)
-        × AreParts (IsLineTold place false (words_of (sides_of upgrade.now) (other_length_of upgrade.now)
-        breaks.now.command breaks.now.sites.items)) lines.now others
+        × AreParts (IsToldIn upgrade.now breaks.now place false) lines.now others
         × ((asked : AnyAsked) → SeesApart asked place seen.old seen.new others)) }
 {
     for line in lines {
@@ -243,8 +237,7 @@ fn see_apart<A: Book, B: Book>(
     place: usize,
 ) -> Result<(), AllocError>
     ensures { OnOk result ((others : List PlainTold)
-        × IsLineTold place false (words_of (sides_of upgrade.now) (other_length_of upgrade.now)
-        breaks.now.command breaks.now.sites.items) line.now others
+        × IsToldIn upgrade.now breaks.now place false line.now others
         × ((asked : AnyAsked) → SeesApart asked place seen.old seen.new others)) }
 {
     let mut words = String::new(alloc);

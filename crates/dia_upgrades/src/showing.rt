@@ -2,11 +2,9 @@
 
 ghost use Rattle.std.specs.Prelude.{◌≡◌, ◌∷◌, IfOk, OnOk, Some, [], string_bytes};
 ghost use Rattle.dia_breaking.specs.Orders.{IsInOrderOf};
-ghost use Rattle.dia_breaking.specs.Upgrades.{other_length_of, sides_of};
-ghost use Rattle.dia_breaking.specs.Words.{words_of};
 ghost use Rattle.dia_accepted.specs.Accepted.{PlainTold};
-ghost use Rattle.dia_upgrades.specs.Told.{AreShown, IsBehind, IsLineTold, IsMessageLine, apart_of, has_message, place_of};
-ghost use Rattle.dia_upgrades.specs.UnderWay.{IsMessageFor, Sees, digits_text, shown_text};
+ghost use Rattle.dia_upgrades.specs.Told.{AreShown, IsBehind, apart_of, has_message, message_line, place_of};
+ghost use Rattle.dia_upgrades.specs.UnderWay.{IsMessageFor, IsMessageIn, IsToldIn, Sees, digits_text, shown_text};
 
 use crate::asked::Asked;
 use crate::seen::Seen;
@@ -28,8 +26,7 @@ pub(crate) fn see_line<A: Book, B: Book>(
     asked: Asked<'_>,
 ) -> Result<Option<Shown>, AllocError>
     ensures { IfOk result (λ shown. (t : PlainTold)
-        × IsLineTold place asked.entry.messages (words_of (sides_of upgrade.now) (other_length_of upgrade.now)
-        breaks.now.command breaks.now.sites.items) line.now (t ∷ [])
+        × IsToldIn upgrade.now breaks.now place asked.entry.messages line.now (t ∷ [])
         × Sees asked.entry place seen.old seen.new t (shown_text shown)) }
 {
     let mut words = String::new(alloc);
@@ -61,7 +58,8 @@ fn message_for<A: Book, B: Book>(
     messages: bool,
     words: &str,
 ) -> Result<String, AllocError>
-    ensures { IfOk result (λ text. IsMessageFor causes.now words.now (has_message messages line.now.standing) (string_bytes text)) }
+    ensures { IfOk result (λ text. IsMessageFor causes.now words.now (IsMessageIn upgrade.now breaks.now line.now)
+        (has_message messages line.now.standing) (string_bytes text)) }
 {
     if causes.has(words) {
         return Ok(String::new(alloc));
@@ -91,7 +89,8 @@ fn digits_of<A: Book, B: Book>(
     line: &Line,
     messages: bool,
 ) -> Result<Option<String>, AllocError>
-    ensures { IfOk result (λ digits. IsBehind (has_message messages line.now.standing) (digits_text digits)) }
+    ensures { IfOk result (λ digits. IsBehind (IsMessageIn upgrade.now breaks.now line.now)
+        (has_message messages line.now.standing) (digits_text digits)) }
 {
     if has_message(messages, line.standing) {
         let message = upgrade.message(alloc, breaks, line)?;
@@ -104,7 +103,7 @@ fn digits_of<A: Book, B: Book>(
 
 /// The bytes of a message in hexadecimal.
 fn encoded(alloc: Global, bytes: &[u8]) -> Result<String, AllocError>
-    ensures { IfOk result (λ digits. IsMessageLine (digits_text (Some digits))) }
+    ensures { IfOk result (λ digits. digits_text (Some digits) ≡ message_line bytes.now) }
 {
     hex::encode(alloc, bytes)
 }

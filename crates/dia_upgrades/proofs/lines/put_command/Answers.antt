@@ -5,12 +5,13 @@ use Rattle.std.proofs.lemmas.Result.{err_from_is_err_and}
 use Rattle.dia_accepted.specs.Accepted.{PlainTold}
 use Rattle.dia_book.specs.Dictionary.{Dictionary}
 use Rattle.dia_breaking.specs.Words.{head_at}
-use Rattle.dia_breaking.specs.Upgrades.{facts_of, sender_of, sides_of}
-use Rattle.dia_breaking.specs.Confirmed.{EachConfirmedBreaks}
+use Rattle.dia_breaking.specs.Upgrades.{facts_of, sender_of, sides_of, stock_of}
+use Rattle.dia_breaking.specs.ToldMessages.{AreConfirmedWhere}
+use Rattle.dia_upgrades.proofs.SomeMessages.{some_message}
 use Rattle.dia_breaking.specs.declared.line.Line.{Line}
-use Rattle.dia_upgrades.specs.Told.{AreParts, IsLineTold, IsToldOf, apart_of, number_at, words_at}
+use Rattle.dia_upgrades.specs.Told.{AreParts, IsToldOf, apart_of, number_at, words_at}
 use Rattle.dia_upgrades.specs.declared.lines.Listing.{Listing}
-use Rattle.dia_upgrades.specs.UnderWay.{GoesOn, among, before}
+use Rattle.dia_upgrades.specs.UnderWay.{GoesOn, IsMessageIn, IsToldIn, among, before}
 use Rattle.dia_upgrades.proofs.CommandHeads.{head_stands}
 use Rattle.dia_upgrades.proofs.Listings.{any_told, apart_goes, goes_both, goes_from, stops_behind, stops_from, stops_here}
 use Rattle.dia_upgrades.proofs.ToldCommands.{IsFound, told_so}
@@ -33,6 +34,7 @@ returns-in_err-put_each-clause-stops g c =
     let p = err_from_is_err_and c.from_residual-in_err-put_each.result c.from_residual-in_err-put_each.ensures.1 in
     let up = c.args.upgrade.now in
     let s = sides_of up in
+    let k = stock_of up in
     let place = c.args.place in
     let asked = c.args.asked in
     let breaks = c.in_ok-breaks.breaks in
@@ -44,10 +46,10 @@ returns-in_err-put_each-clause-stops g c =
     let lengths = (facts_of up).lengths in
     let words = words_at s lengths breaks.command breaks.sites.items in
     let apart_is = c.apart_of-apart.ensures ∙ ap (apart_of asked.meaning) c.as_slice.ensures.value in
-    let is_found : IsFound s asked.meaning breaks.command c.args.listing.now.budget c.breaks.new.left breaks shown = record {
+    let is_found : IsFound s k asked.meaning breaks.command c.args.listing.now.budget c.breaks.new.left breaks shown = record {
       are_lines = found.lines some;
       free = found.free;
-      confirmed = subst (λ (n : ℕ). EachConfirmedBreaks s n breaks.lines.items) (sym found.command) found.each;
+      confirmed = subst (λ (n : ℕ). AreConfirmedWhere s k n breaks.sites.items c.args.listing.now.budget breaks.lines.items) (sym found.command) found.exactly;
       standings = found.standings;
       behind_is = found.left;
       formats = found.formats;
@@ -59,11 +61,11 @@ returns-in_err-put_each-clause-stops g c =
     } in
     let stops = c.in_err-put_each.ensures.stops in
     let mid : Listing = record { seen = c.args.listing.now.seen; pending = c.args.listing.now.pending; budget = c.breaks.new.left } in
-    let told = subst (λ (ls : List Line). AreParts (IsLineTold place asked.messages words) ls (stops.more ++ stops.rest)) c.as_slice-lines.ensures.value stops.are_parts in
-    let apart = any_told place false words (apart_of asked.meaning breaks.meanings.items) in
+    let told = subst (λ (ls : List Line). AreParts (IsToldIn up breaks place asked.messages) ls (stops.more ++ stops.rest)) c.as_slice-lines.ensures.value stops.are_parts in
+    let apart = any_told place false words (IsMessageIn up breaks) (some_message s k breaks.command breaks.sites.items) (apart_of asked.meaning breaks.meanings.items) in
     rw (p.1, p.2)
     (among c.breaks.new.left stops.more stops.rest apart.0
-    (told_so s asked.messages asked.meaning lengths place breaks.command c.args.listing.now.budget c.breaks.new.left breaks shown (stops.more ++ stops.rest) apart.0 same is_found told apart.1)
+    (told_so s k asked.messages asked.meaning lengths place breaks.command c.args.listing.now.budget c.breaks.new.left breaks shown (stops.more ++ stops.rest) apart.0 same is_found told apart.1)
     (stops_from asked place _ _ _ c.args.listing.now mid c.put_each.new.listing stops.more refl refl stops.stops))
 
 pub returns-in_err-see_each_apart-clause-stops : goal.returns-in_err-see_each_apart-clause-stops
@@ -71,6 +73,7 @@ returns-in_err-see_each_apart-clause-stops g c =
     let p = err_from_is_err_and c.from_residual-in_err-see_each_apart.result c.from_residual-in_err-see_each_apart.ensures.1 in
     let up = c.args.upgrade.now in
     let s = sides_of up in
+    let k = stock_of up in
     let place = c.args.place in
     let asked = c.args.asked in
     let breaks = c.in_ok-breaks.breaks in
@@ -82,10 +85,10 @@ returns-in_err-see_each_apart-clause-stops g c =
     let lengths = (facts_of up).lengths in
     let words = words_at s lengths breaks.command breaks.sites.items in
     let apart_is = c.apart_of-apart.ensures ∙ ap (apart_of asked.meaning) c.as_slice.ensures.value in
-    let is_found : IsFound s asked.meaning breaks.command c.args.listing.now.budget c.breaks.new.left breaks shown = record {
+    let is_found : IsFound s k asked.meaning breaks.command c.args.listing.now.budget c.breaks.new.left breaks shown = record {
       are_lines = found.lines some;
       free = found.free;
-      confirmed = subst (λ (n : ℕ). EachConfirmedBreaks s n breaks.lines.items) (sym found.command) found.each;
+      confirmed = subst (λ (n : ℕ). AreConfirmedWhere s k n breaks.sites.items c.args.listing.now.budget breaks.lines.items) (sym found.command) found.exactly;
       standings = found.standings;
       behind_is = found.left;
       formats = found.formats;
@@ -98,17 +101,18 @@ returns-in_err-see_each_apart-clause-stops g c =
     let (more, parts, goes) = c.in_ok-put_each.ensures.all in
     let mid : Listing = record { seen = c.args.listing.now.seen; pending = c.args.listing.now.pending; budget = c.breaks.new.left } in
     let new : Listing = record { seen = c.see_each_apart.new.seen; pending = c.put_each.new.listing.pending; budget = c.put_each.new.listing.budget } in
-    let told = subst (λ (ls : List Line). AreParts (IsLineTold place asked.messages words) ls more) c.as_slice-lines.ensures.value parts in
-    let apart = any_told place false words (apart_of asked.meaning breaks.meanings.items) in
-    let is_told = told_so s asked.messages asked.meaning lengths place breaks.command c.args.listing.now.budget c.breaks.new.left breaks shown more apart.0 same is_found told apart.1 in
+    let told = subst (λ (ls : List Line). AreParts (IsToldIn up breaks place asked.messages) ls more) c.as_slice-lines.ensures.value parts in
+    let apart = any_told place false words (IsMessageIn up breaks) (some_message s k breaks.command breaks.sites.items) (apart_of asked.meaning breaks.meanings.items) in
+    let is_told = told_so s k asked.messages asked.meaning lengths place breaks.command c.args.listing.now.budget c.breaks.new.left breaks shown more apart.0 same is_found told apart.1 in
     rw (p.1, p.2)
-    (among c.breaks.new.left more [] apart.0 (subst (λ (xs : List PlainTold). IsToldOf s asked.messages asked.meaning lengths place c.args.listing.now.budget c.breaks.new.left xs apart.0) (sym (append-nil more)) is_told)
+    (among c.breaks.new.left more [] apart.0 (subst (λ (xs : List PlainTold). IsToldOf s k asked.messages asked.meaning lengths place c.args.listing.now.budget c.breaks.new.left xs apart.0) (sym (append-nil more)) is_told)
     (stops_behind asked place _ _ c.args.listing.now c.put_each.new.listing new more [] refl (goes_from asked place _ _ c.args.listing.now mid c.put_each.new.listing more [] refl refl goes)))
 
 pub returns-clause-all : goal.returns-clause-all
 returns-clause-all g c =
     let up = c.args.upgrade.now in
     let s = sides_of up in
+    let k = stock_of up in
     let place = c.args.place in
     let asked = c.args.asked in
     let breaks = c.in_ok-breaks.breaks in
@@ -120,10 +124,10 @@ returns-clause-all g c =
     let lengths = (facts_of up).lengths in
     let words = words_at s lengths breaks.command breaks.sites.items in
     let apart_is = c.apart_of-apart.ensures ∙ ap (apart_of asked.meaning) c.as_slice.ensures.value in
-    let is_found : IsFound s asked.meaning breaks.command c.args.listing.now.budget c.breaks.new.left breaks shown = record {
+    let is_found : IsFound s k asked.meaning breaks.command c.args.listing.now.budget c.breaks.new.left breaks shown = record {
       are_lines = found.lines some;
       free = found.free;
-      confirmed = subst (λ (n : ℕ). EachConfirmedBreaks s n breaks.lines.items) (sym found.command) found.each;
+      confirmed = subst (λ (n : ℕ). AreConfirmedWhere s k n breaks.sites.items c.args.listing.now.budget breaks.lines.items) (sym found.command) found.exactly;
       standings = found.standings;
       behind_is = found.left;
       formats = found.formats;
@@ -137,13 +141,13 @@ returns-clause-all g c =
     let mid : Listing = record { seen = c.args.listing.now.seen; pending = c.args.listing.now.pending; budget = c.breaks.new.left } in
     let new : Listing = record { seen = c.see_each_apart.new.seen; pending = c.put_each.new.listing.pending; budget = c.put_each.new.listing.budget } in
     let (others, apart_parts, sees) = c.in_ok-see_each_apart.ensures in
-    let told = subst (λ (ls : List Line). AreParts (IsLineTold place asked.messages words) ls more) c.as_slice-lines.ensures.value parts in
-    let apart = subst (λ (ls : List Line). AreParts (IsLineTold place false words) ls others) apart_is apart_parts in
-    let is_told = told_so s asked.messages asked.meaning lengths place breaks.command c.args.listing.now.budget c.breaks.new.left breaks shown more others same is_found told apart in
+    let told = subst (λ (ls : List Line). AreParts (IsToldIn up breaks place asked.messages) ls more) c.as_slice-lines.ensures.value parts in
+    let apart = subst (λ (ls : List Line). AreParts (IsToldIn up breaks place false) ls others) apart_is apart_parts in
+    let is_told = told_so s k asked.messages asked.meaning lengths place breaks.command c.args.listing.now.budget c.breaks.new.left breaks shown more others same is_found told apart in
     let both = goes_both asked place _ _ _ c.args.listing.now c.put_each.new.listing new more [] [] others
     (goes_from asked place _ _ c.args.listing.now mid c.put_each.new.listing more [] refl refl goes) (apart_goes asked place _ c.put_each.new.listing new others refl (sees asked)) in (
       more,
       others,
-      subst (λ (n : ℕ). IsToldOf s asked.messages asked.meaning lengths place c.args.listing.now.budget n more others) (sym c.in_ok-put_each.ensures.budget) is_told,
+      subst (λ (n : ℕ). IsToldOf s k asked.messages asked.meaning lengths place c.args.listing.now.budget n more others) (sym c.in_ok-put_each.ensures.budget) is_told,
       subst (λ (xs : List PlainTold). GoesOn asked place (g.S.Sink.written c.args.sink.now) (g.S.Sink.written c.put_each.new.sink) c.args.listing.now new xs others) (append-nil more) both,
     )

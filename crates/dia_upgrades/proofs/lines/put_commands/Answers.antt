@@ -2,7 +2,7 @@ use Rattle.std.proofs.Common.{List, ℕ, arith, length, refl, subst, take}
 use Rattle.std.proofs.Math.Logic.{∥∥₁_map}
 use Rattle.std.proofs.lemmas.List.{length-take, take_all}
 use Rattle.std.proofs.lemmas.Result.{err_from_is_err_and}
-use Rattle.dia_breaking.specs.Upgrades.{facts_of, sides_of}
+use Rattle.dia_breaking.specs.Upgrades.{facts_of, sides_of, stock_of}
 use Rattle.dia_upgrades.specs.declared.lines.Listing.{Listing}
 use Rattle.dia_upgrades.specs.Told.{AreShortest}
 use Rattle.dia_upgrades.specs.UnderWay.{AreUnderWay}
@@ -13,7 +13,7 @@ use Rattle.dia_upgrades.proofs.lines.put_commands.Goals as goal
 pub loop-place-init : goal.loop-place-init
 loop-place-init g c = record {
   sound = c.requires.sound;
-  some = λ list begun place new all way. none_yet (sides_of c.args.upgrade.now) c.args.asked (facts_of c.args.upgrade.now).lengths c.args.forgets list begun (g.S.Sink.written c.args.sink.now) c.args.listing.now place all way;
+  some = λ list begun place new all way. none_yet (sides_of c.args.upgrade.now) (stock_of c.args.upgrade.now) c.args.asked (facts_of c.args.upgrade.now).lengths c.args.forgets list begun (g.S.Sink.written c.args.sink.now) c.args.listing.now place all way;
 }
 
 pub loop-place-preserved : goal.loop-place-preserved
@@ -35,7 +35,7 @@ loop-place-preserved g c =
           let (told, apart, is, goes) = c.in_ok-put_command.ensures.all in
           let is_here = is in
           let goes_here = goes in
-          goes_next s asked lengths c.args.forgets list begun places i d c.loop-place-test.true (g.S.Sink.written c.loop-place.sink) (g.S.Sink.written c.put_command.new.sink) old begin new some
+          goes_next s (stock_of up) asked lengths c.args.forgets list begun places i d c.loop-place-test.true (g.S.Sink.written c.loop-place.sink) (g.S.Sink.written c.put_command.new.sink) old begin new some
           (λ known others none are. c.begin.ensures asked list some.place _ (length (take i places)) known others none are) refl refl each (omega (arith, length-take i places, c.loop-place-test.true, c.type_inv.places)) told apart is_here goes_here;
     }
 
@@ -57,7 +57,7 @@ returns-in_err-put_command-clause-stops g c =
     let some = c.loop-place.invariant.some list begun place each all way in
     let shortest : AreShortest s.sender s.sends (facts_of up).lengths = ∥∥₁_map up.known (λ known. (known.facts.least, known.facts.are_least, known.facts.are_lengths)) in
     let stops = c.in_err-put_command.ensures.stops in
-    stops_there s asked lengths c.args.forgets list begun places i d c.loop-place-test.true (g.S.Sink.written c.loop-place.sink) (g.S.Sink.written c.put_command.new.sink) old begin new some
+    stops_there s (stock_of up) asked lengths c.args.forgets list begun places i d c.loop-place-test.true (g.S.Sink.written c.loop-place.sink) (g.S.Sink.written c.put_command.new.sink) old begin new some
     (λ known others none are. c.begin.ensures asked list some.place _ (length (take i places)) known others none are) refl refl each (omega (arith, length-take i places, c.loop-place-test.true, c.type_inv.places)) shortest
     c.in_err-put_command.field-0.0 stops)
 
@@ -69,4 +69,4 @@ returns-clause-all g c = λ list begun place each all way.
     let shortest : AreShortest s.sender s.sends (facts_of up).lengths = ∥∥₁_map up.known (λ known. (known.facts.least, known.facts.are_least, known.facts.are_lengths)) in
     let whole = take_all c.loop-place.place-index c.args.places.now c.loop-place-test.false in
     subst (λ (ps : List ℕ). AreUnderWay s c.args.asked c.args.forgets list ps begun (g.S.Sink.written c.loop-place.sink) c.loop-place.listing) whole
-    (all_some s c.args.asked (facts_of up).lengths c.args.forgets list begun (take c.loop-place.place-index c.args.places.now) (g.S.Sink.written c.loop-place.sink) c.loop-place.listing shortest some)
+    (all_some s (stock_of up) c.args.asked (facts_of up).lengths c.args.forgets list begun (take c.loop-place.place-index c.args.places.now) (g.S.Sink.written c.loop-place.sink) c.loop-place.listing shortest some)

@@ -3,8 +3,10 @@ use Rattle.std.proofs.lemmas.List.{take_all}
 use Rattle.std.proofs.lemmas.Result.{err_from_is_err_and}
 use Rattle.dia_breaking.specs.declared.line.Line.{Line}
 use Rattle.dia_breaking.specs.Words.{words_of}
-use Rattle.dia_breaking.specs.Upgrades.{other_length_of, sides_of}
-use Rattle.dia_upgrades.specs.Told.{AreParts, IsLineTold}
+use Rattle.dia_breaking.specs.Upgrades.{other_length_of, sides_of, stock_of}
+use Rattle.dia_upgrades.proofs.SomeMessages.{some_message}
+use Rattle.dia_upgrades.specs.Told.{AreParts}
+use Rattle.dia_upgrades.specs.UnderWay.{IsMessageIn, IsToldIn}
 use Rattle.dia_upgrades.proofs.Listings.{goes_both, goes_nothing, sound_ok, stops_at}
 use Rattle.dia_upgrades.proofs.Parts.{one_more}
 use Rattle.dia_upgrades.proofs.lines.put_each.Goals as goal
@@ -15,8 +17,7 @@ loop-line-init g c = record { sound = c.requires; budget = refl; told = ([], ref
 pub loop-line-preserved : goal.loop-line-preserved
 loop-line-preserved g c =
     let up = c.args.upgrade.now in
-    let words = words_of (sides_of up) (other_length_of up) c.args.breaks.now.command c.args.breaks.now.sites.items in
-    let is = IsLineTold c.args.place c.args.asked.messages words in
+    let is = IsToldIn up c.args.breaks.now c.args.place c.args.asked.messages in
     let (told, parts, goes) = c.loop-line.invariant.told in
     let (t, is_t, one) = c.in_ok-put_line.ensures.all in
     let here = subst (λ (x : Line). is x (t ∷ [])) c.line-item.is is_t in
@@ -35,15 +36,15 @@ returns-in_err-put_line-clause-stops g c =
     let p = err_from_is_err_and c.from_residual.result c.from_residual.ensures.1 in
     let up = c.args.upgrade.now in
     let words = words_of (sides_of up) (other_length_of up) c.args.breaks.now.command c.args.breaks.now.sites.items in
+    let some = some_message (sides_of up) (stock_of up) c.args.breaks.now.command c.args.breaks.now.sites.items in
     let (told, parts, goes) = c.loop-line.invariant.told in
     rw (p.1, p.2)
-    (stops_at c.args.asked c.args.place c.args.asked.messages words _ _ _ _ c.args.listing.now c.loop-line.listing c.put_line.new.listing c.args.lines.now c.loop-line.line-index c.line-item.result told
+    (stops_at c.args.asked c.args.place c.args.asked.messages words (IsMessageIn up c.args.breaks.now) some _ _ _ _ c.args.listing.now c.loop-line.listing c.put_line.new.listing c.args.lines.now c.loop-line.line-index c.line-item.result told
     c.loop-line-test.true c.line-item.is parts goes c.in_err-put_line.ensures.stops)
 
 pub returns-clause-all : goal.returns-clause-all
 returns-clause-all g c =
     let up = c.args.upgrade.now in
-    let words = words_of (sides_of up) (other_length_of up) c.args.breaks.now.command c.args.breaks.now.sites.items in
     let (told, parts, goes) = c.loop-line.invariant.told in
     let all = take_all c.loop-line.line-index c.args.lines.now c.loop-line-test.false in
-    (told, subst (λ (lines : List Line). AreParts (IsLineTold c.args.place c.args.asked.messages words) lines told) all parts, goes)
+    (told, subst (λ (lines : List Line). AreParts (IsToldIn up c.args.breaks.now c.args.place c.args.asked.messages) lines told) all parts, goes)

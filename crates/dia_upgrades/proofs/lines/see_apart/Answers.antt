@@ -1,6 +1,7 @@
 use Rattle.std.proofs.Common.{[], ◌∷◌, List, ℕ, ap, ◌∙◌}
 use Rattle.std.proofs.lemmas.Result.{on_ok_weaker}
 use Rattle.dia_upgrades.specs.Told.{told_as}
+use Rattle.dia_upgrades.specs.UnderWay.{IsMessageIn}
 use Rattle.dia_upgrades.proofs.LinesToTell.{no_message}
 use Rattle.dia_upgrades.proofs.lines.see_apart.Goals as goal
 
@@ -11,7 +12,7 @@ returns g c =
     on_ok_weaker c.see_apart.result
     (λ sees. (
       told_as c.args.place c.as_str.result.now [] ∷ [],
-      ([], no_message c.args.line.now.standing, ap (λ (w : List ℕ). told_as c.args.place w [] ∷ []) words),
+      ([], no_message (IsMessageIn c.args.upgrade.now c.args.breaks.now c.args.line.now) c.args.line.now.standing, ap (λ (w : List ℕ). told_as c.args.place w [] ∷ []) words),
       sees,
     ))
     c.see_apart.ensures

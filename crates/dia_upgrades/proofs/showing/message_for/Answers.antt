@@ -1,16 +1,23 @@
 use Rattle.std.proofs.Common.{inl, inr, sym, ◌∙◌}
 use Rattle.std.proofs.lemmas.Result.{IfOk-weaker}
+use Rattle.dia_breaking.specs.Upgrades.{sides_of, stock_of}
+use Rattle.dia_upgrades.proofs.SomeMessages.{some_message}
 use Rattle.dia_upgrades.specs.Told.{has_message}
-use Rattle.dia_upgrades.specs.UnderWay.{digits_text}
-use Rattle.dia_upgrades.proofs.LinesToTell.{any_behind, any_message}
+use Rattle.dia_upgrades.specs.UnderWay.{IsMessageIn, digits_text}
+use Rattle.dia_upgrades.proofs.LinesToTell.{message_behind, stands_behind}
 use Rattle.dia_upgrades.proofs.showing.message_for.Goals as goal
 
 pub returns-then-has : goal.returns-then-has
-returns-then-has g c = record {
-  message = any_message c.args.line.now.standing c.args.messages;
-  is_behind = any_behind (has_message c.args.messages c.args.line.now.standing);
-  is_kept = λ forgets told command visits are. inr (sym (c.has.ensures forgets told command visits are) ∙ c.if-has.true);
-}
+returns-then-has g c =
+    let up = c.args.upgrade.now in
+    let line = c.args.line.now in
+    let has = has_message c.args.messages line.standing in
+    let some = some_message (sides_of up) (stock_of up) c.args.breaks.now.command c.args.breaks.now.sites.items line in
+    record {
+      message = message_behind has some.0;
+      is_behind = stands_behind (IsMessageIn up c.args.breaks.now line) has some.0 some.1;
+      is_kept = λ forgets told command visits are. inr (sym (c.has.ensures forgets told command visits are) ∙ c.if-has.true);
+    }
 
 pub returns : goal.returns
 returns g c =

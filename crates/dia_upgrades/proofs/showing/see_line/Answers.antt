@@ -3,11 +3,12 @@ use Rattle.std.proofs.lemmas.List.{append-nil}
 use Rattle.dia_accepted.specs.Accepted.{bare, kept}
 use Rattle.dia_accepted.specs.Seen.{AreCauses}
 use Rattle.dia_breaking.specs.Words.{words_of}
-use Rattle.dia_breaking.specs.Upgrades.{other_length_of, sides_of}
+use Rattle.dia_breaking.specs.Upgrades.{other_length_of, sides_of, stock_of}
+use Rattle.dia_upgrades.proofs.SomeMessages.{some_message}
 use Rattle.dia_run.specs.Texts.{line as with_feed}
-use Rattle.dia_upgrades.specs.Told.{told_as}
-use Rattle.dia_upgrades.specs.UnderWay.{digits_text, text_shown}
-use Rattle.dia_upgrades.proofs.LinesToTell.{any_message, sees_accepted, sees_left}
+use Rattle.dia_upgrades.specs.Told.{has_message, told_as}
+use Rattle.dia_upgrades.specs.UnderWay.{IsMessageIn, digits_text, text_shown}
+use Rattle.dia_upgrades.proofs.LinesToTell.{message_behind, sees_accepted, sees_left}
 use Rattle.dia_upgrades.proofs.Listings.{could_be}
 use Rattle.dia_upgrades.proofs.showing.see_line.Goals as goal
 
@@ -20,10 +21,11 @@ returns-then-known g c =
     let words = words_of (sides_of up) (other_length_of up) c.args.breaks.now.command c.args.breaks.now.sites.items in
     let made = rw c.new-words.ensures.bytes at c.in_ok-push_words.ensures.words in
     let told = c.as_str-told.ensures.value ∙ made in
-    let t = told_as place (words line) (any_message line.standing asked.messages) in
+    let some = some_message (sides_of up) (stock_of up) c.args.breaks.now.command c.args.breaks.now.sites.items line in
+    let t = told_as place (words line) (message_behind (has_message asked.messages line.standing) some.0) in
     let judged = c.in_ok-known.ensures in (
       t,
-      could_be place asked.messages words line,
+      could_be place asked.messages words (IsMessageIn up c.args.breaks.now) line some.0 some.1,
       sees_accepted asked place c.args.seen.now c.judge.new.self t c.as_str-told.result.now c.in_ok-known.known (sym told) judged.accepted judged.judged judged.causes judged.meanings c.if-known.true,
     )
 

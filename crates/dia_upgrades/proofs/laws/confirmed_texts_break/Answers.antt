@@ -1,0 +1,8 @@
+use Rattle.std.proofs.Common.{ap, ◌∙◌}
+use Rattle.dia_upgrades.specs.Told.{message_line}
+use Rattle.dia_upgrades.proofs.laws.confirmed_texts_break.Goals as goal
+
+pub returns : goal.returns
+returns c = λ s k command sites left line text exactly confirmed (bytes, is, text_is).
+    let (checked, (found, breaks)) = exactly.0 confirmed in
+    (found, breaks, text_is ∙ ap message_line (c.line_messages_are_one.ensures s k command sites line bytes found is breaks.message))
