@@ -17,7 +17,7 @@ use Rattle.dia_upgrades.specs.declared.asked.Asked.{Asked}
 use Rattle.dia_upgrades.specs.declared.lines.Listing.{Listing}
 use Rattle.dia_upgrades.specs.declared.pending.Pending.{Pending}
 use Rattle.dia_upgrades.specs.Places.{IsEachNew}
-use Rattle.dia_upgrades.specs.Told.{AreBothParts, AreShortest, IsToldOf}
+use Rattle.dia_upgrades.specs.Told.{AreBothParts, AreShortest, IsStockOf, IsToldOf}
 use Rattle.dia_upgrades.specs.UnderWay.{AreAllPut, AreFirstLines, AreSeen, AreUnderWay, GoesOn, IsPut, IsUnderWay, Stands, StandsBehind, StandsPut, StopsIn, among, before, text_shown}
 use Rattle.dia_upgrades.proofs.Listings.{none_of_place}
 use Rattle.dia_upgrades.proofs.LinesToTell.{left_both, nothing_shown}
@@ -70,9 +70,9 @@ module _ (s : Sides) (k : Stock) (asked : Asked) (lengths : List ℕ) (forgets :
       }
 
       -- or it stops there
-      pub stops_there : AreShortest s.sender s.sends lengths → (fault : RunFault) → StopsIn s k asked lengths (get_or places i d) fault a c begin new
+      pub stops_there : AreShortest s.sender s.sends lengths → IsStockOf s lengths k → (fault : RunFault) → StopsIn s k asked lengths (get_or places i d) fault a c begin new
           → (first : List PlainTold) × AreFirstLines s asked list places first × Stands fault begun c new.pending (text_shown asked.once first)
-      stops_there shortest fault (before stops) = (
+      stops_there shortest is_stock fault (before stops) = (
         left_of list some.told,
         record {
           front = take i places;
@@ -81,13 +81,13 @@ module _ (s : Sides) (k : Stock) (asked : Asked) (lengths : List ℕ) (forgets :
           apart = some.apart;
           more = [];
           parts = sym (take-append-drop i places);
-          are_told = record { lengths = lengths; stock = k; behind = old.budget; are_shortest = shortest; each = some.are_both };
+          are_told = record { lengths = lengths; stock = k; behind = old.budget; are_shortest = shortest; is_stock = is_stock; each = some.are_both };
           left_are = sym (append-nil (left_of list some.told));
         },
         subst (λ (xs : List PlainTold). Stands fault begun c new.pending (text_shown asked.once (left_of list xs))) (append-nil some.told)
             (stops forgets list visits begun some.told some.apart small begins),
       )
-      stops_there shortest fault (among behind more rest others is stops) = (
+      stops_there shortest is_stock fault (among behind more rest others is stops) = (
         left_of list (some.told ++ more),
         record {
           front = take (i + 1) places;
@@ -101,6 +101,7 @@ module _ (s : Sides) (k : Stock) (asked : Asked) (lengths : List ℕ) (forgets :
             stock = k;
             behind = behind;
             are_shortest = shortest;
+            is_stock = is_stock;
             each = both_more Tells places i d most_checked_together old.budget behind some.told some.apart (more ++ rest) others less some.are_both
                 (subst (λ (n : ℕ). Tells (get_or places i d) n behind (more ++ rest) others) budget is);
           };
@@ -110,13 +111,13 @@ module _ (s : Sides) (k : Stock) (asked : Asked) (lengths : List ℕ) (forgets :
       )
 
   -- all of them
-  pub all_some : (places : List ℕ) (put : Option (List ℕ)) (listing : Listing) → AreShortest s.sender s.sends lengths → AreSome places put listing
+  pub all_some : (places : List ℕ) (put : Option (List ℕ)) (listing : Listing) → AreShortest s.sender s.sends lengths → IsStockOf s lengths k → AreSome places put listing
       → AreUnderWay s asked forgets list places begun put listing
-  all_some places put listing shortest some = record {
+  all_some places put listing shortest is_stock some = record {
     told = some.told;
     apart = some.apart;
     place = some.place;
-    are_told = record { lengths = lengths; stock = k; behind = listing.budget; are_shortest = shortest; each = some.are_both };
+    are_told = record { lengths = lengths; stock = k; behind = listing.budget; are_shortest = shortest; is_stock = is_stock; each = some.are_both };
     under_way = some.under_way;
   }
 
@@ -172,9 +173,9 @@ start asked forgets list put listing seen nothing =
     record { seen = seen; is_put = subst (IsPut put put listing.pending) (sym (nothing_shown asked.once)) (none_put put listing.pending nothing) }
 
 -- nothing was written of any line
-pub none_first : (s : Sides) (k : Stock) (asked : Asked) (list : List PlainEntry) (lengths places : List ℕ) (put : Option (List ℕ)) → AreShortest s.sender s.sends lengths
+pub none_first : (s : Sides) (k : Stock) (asked : Asked) (list : List PlainEntry) (lengths places : List ℕ) (put : Option (List ℕ)) → AreShortest s.sender s.sends lengths → IsStockOf s lengths k
     → (first : List PlainTold) × AreFirstLines s asked list places first × StandsPut NoMemory put put (text_shown asked.once first)
-none_first s k asked list lengths places put shortest = (
+none_first s k asked list lengths places put shortest is_stock = (
   [],
   record {
     front = [];
@@ -183,7 +184,7 @@ none_first s k asked list lengths places put shortest = (
     apart = [];
     more = [];
     parts = refl;
-    are_told = record { lengths = lengths; stock = k; behind = most_checked_together; are_shortest = shortest; each = (refl, refl, refl) };
+    are_told = record { lengths = lengths; stock = k; behind = most_checked_together; are_shortest = shortest; is_stock = is_stock; each = (refl, refl, refl) };
     left_are = refl;
   },
   subst (Appends put put) (sym (nothing_shown asked.once)) (Appends-nil put),

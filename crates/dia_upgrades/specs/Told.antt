@@ -14,7 +14,7 @@ use Rattle.dia_breaking.specs.declared.line.Standing.{Standing}
 use Rattle.dia_breaking.specs.declared.line.Standing.TheVariants.{Confirmed, Unchecked, Undecided}
 use Rattle.dia_breaking.specs.Confirmed.{HaveStandings, left_after, most_checked_together}
 use Rattle.dia_breaking.specs.Free.{AreValidWhereFree}
-use Rattle.dia_breaking.specs.Lengths.{AreEntryLengths, other_length}
+use Rattle.dia_breaking.specs.Lengths.{AreEntryLengths, AreExactlyOthers, costs_by, other_length}
 use Rattle.dia_breaking.specs.Listing.{AreUnchecked}
 use Rattle.dia_breaking.specs.Messages.{IsLineMessage, Stock}
 use Rattle.dia_breaking.specs.Orders.{IsInOrderOf}
@@ -83,6 +83,11 @@ words_at s lengths c sites line = words_of s (other_length s.sender s.sends leng
 abbrev pub AreShortest : Dictionary → Sends → List ℕ → Type 0
 AreShortest a who lengths = ∥ ((least : List ℕ) × AreExact a who least × AreEntryLengths a least lengths) ∥₁
 
+-- what messages are made of, where A's entries have these lengths: what AVPs take in A's levels, and which of them a wildcard lets in
+pub record IsStockOf (s : Sides) (lengths : List ℕ) (k : Stock) : Type 0 where
+  pub costs_are : k.costs ≡ costs_by s.sender s.sends lengths k.costs.others
+  pub others_are : ∥ AreExactlyOthers s.sender s.receiver s.sends lengths k.costs.others ∥₁
+
 -- where a line stands among those of its command: at its site, but for the one that tells that not all is shown, which stands last
 abbrev pub place_with : ℕ → Cause → ℕ
 place_with site causes.Unproved = 18446744073709551615
@@ -134,6 +139,7 @@ pub record AreTold (s : Sides) (messages meaning : Bool) (places : List ℕ) (to
   pub stock : Stock
   pub behind : ℕ
   pub are_shortest : AreShortest s.sender s.sends lengths
+  pub is_stock : IsStockOf s lengths stock
   pub each : AreBothParts (IsToldOf s stock messages meaning lengths) places most_checked_together behind told apart
 
 -- ---- behind a confirmed line
