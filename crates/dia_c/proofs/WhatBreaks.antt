@@ -64,14 +64,14 @@ module _ (asked : Asked) (input : Input) (a b : Dictionary) (text : List ℕ) (e
   says_safe (no_commands list is_list none refuses what) is_yes = absurd (let e : Bad ≡ Yes = sym refuses.1 ∙ is_yes in cc)
   says_safe (no_command list name is_list some first refuses what) is_yes = absurd (let e : Bad ≡ Yes = sym refuses.1 ∙ is_yes in cc)
 
-  module _ (stale : Vec ℕ) (n : ℕ) (causes meanings : Vec Told) (has : is ≡ found.Listed stale n causes meanings) where
+  module _ (stale : Vec ℕ) (n accepted : ℕ) (causes meanings : Vec Told) (has : is ≡ found.Listed stale n accepted causes meanings) where
     answers : IsListed asked input a b text exit is → exit ≢ Bad
     answers (nothing list apart can breaks differs is_text is_exit) = λ bad. (let e : Yes ≡ Bad = sym is_exit ∙ bad in cc)
     answers (nothing_else list told apart can left some breaks is_text is_exit) = λ bad. (let e : Yes ≡ Bad = sym is_exit ∙ bad in cc)
     answers (told_lines list told apart can left is_text is_exit) = λ bad. (let e : No ≡ Bad = sym is_exit ∙ bad in cc)
-    answers (bad_list bad none refuses what) = absurd (let e : found.NoList bad ≡ found.Listed stale n causes meanings = sym what ∙ has in cc)
-    answers (no_commands list is_list none refuses what) = absurd (let e : found.NoCommands ≡ found.Listed stale n causes meanings = sym what ∙ has in cc)
-    answers (no_command list name is_list some first refuses what) = absurd (let e : found.NoCommand ≡ found.Listed stale n causes meanings = sym what ∙ has in cc)
+    answers (bad_list bad none refuses what) = absurd (let e : found.NoList bad ≡ found.Listed stale n accepted causes meanings = sym what ∙ has in cc)
+    answers (no_commands list is_list none refuses what) = absurd (let e : found.NoCommands ≡ found.Listed stale n accepted causes meanings = sym what ∙ has in cc)
+    answers (no_command list name is_list some first refuses what) = absurd (let e : found.NoCommand ≡ found.Listed stale n accepted causes meanings = sym what ∙ has in cc)
 
     pub told : (answer : Option (List ℕ)) (safe : ℕ) → answer ≡ Some text → safe ≡ holds_of exit → IsListed asked input a b text exit is
         → IfSome answer (λ t. IsToldOf asked input a b t safe)
@@ -89,17 +89,17 @@ module _ (asked : Asked) (input : Input) (a b : Dictionary) (text : List ℕ) (e
   same_bad bad other e = cc
 
   pub no_list : (bad : BadList) (p : Problem) → is ≡ found.NoList bad → p ≡ list_problem bad → IsListed asked input a b text exit is → IsUnlisted a input (names_of asked) p
-  no_list bad p has told (nothing list apart can breaks differs is_text is_exit) = absurd (let t = can.tells in let e : found.NoList bad ≡ found.Listed t.stale t.lines t.causes t.meanings = sym has ∙ t.is_listed in cc)
-  no_list bad p has told (nothing_else list told' apart can left some breaks is_text is_exit) = absurd (let t = can.tells in let e : found.NoList bad ≡ found.Listed t.stale t.lines t.causes t.meanings = sym has ∙ t.is_listed in cc)
-  no_list bad p has told (told_lines list told' apart can left is_text is_exit) = absurd (let t = can.tells in let e : found.NoList bad ≡ found.Listed t.stale t.lines t.causes t.meanings = sym has ∙ t.is_listed in cc)
+  no_list bad p has told (nothing list apart can breaks differs is_text is_exit) = absurd (let t = can.tells in let e : found.NoList bad ≡ found.Listed t.stale t.lines t.accepted t.causes t.meanings = sym has ∙ t.is_listed in cc)
+  no_list bad p has told (nothing_else list told' apart can left some breaks is_text is_exit) = absurd (let t = can.tells in let e : found.NoList bad ≡ found.Listed t.stale t.lines t.accepted t.causes t.meanings = sym has ∙ t.is_listed in cc)
+  no_list bad p has told (told_lines list told' apart can left is_text is_exit) = absurd (let t = can.tells in let e : found.NoList bad ≡ found.Listed t.stale t.lines t.accepted t.causes t.meanings = sym has ∙ t.is_listed in cc)
   no_list bad p has told (bad_list other none refuses what) = IsUnlisted.bad_list bad (subst (IsNoListText input) (sym (same_bad bad other (sym has ∙ what))) none) told
   no_list bad p has told (no_commands list is_list none refuses what) = absurd (let e : found.NoList bad ≡ found.NoCommands = sym has ∙ what in cc)
   no_list bad p has told (no_command list name is_list some first refuses what) = absurd (let e : found.NoList bad ≡ found.NoCommand = sym has ∙ what in cc)
 
   pub unnamed : is ≡ found.NoCommand → IsListed asked input a b text exit is → (name : List ℕ) × IsFirstUnknown a (names_of asked) name
-  unnamed has (nothing list apart can breaks differs is_text is_exit) = absurd (let t = can.tells in let e : found.NoCommand ≡ found.Listed t.stale t.lines t.causes t.meanings = sym has ∙ t.is_listed in cc)
-  unnamed has (nothing_else list told' apart can left some breaks is_text is_exit) = absurd (let t = can.tells in let e : found.NoCommand ≡ found.Listed t.stale t.lines t.causes t.meanings = sym has ∙ t.is_listed in cc)
-  unnamed has (told_lines list told' apart can left is_text is_exit) = absurd (let t = can.tells in let e : found.NoCommand ≡ found.Listed t.stale t.lines t.causes t.meanings = sym has ∙ t.is_listed in cc)
+  unnamed has (nothing list apart can breaks differs is_text is_exit) = absurd (let t = can.tells in let e : found.NoCommand ≡ found.Listed t.stale t.lines t.accepted t.causes t.meanings = sym has ∙ t.is_listed in cc)
+  unnamed has (nothing_else list told' apart can left some breaks is_text is_exit) = absurd (let t = can.tells in let e : found.NoCommand ≡ found.Listed t.stale t.lines t.accepted t.causes t.meanings = sym has ∙ t.is_listed in cc)
+  unnamed has (told_lines list told' apart can left is_text is_exit) = absurd (let t = can.tells in let e : found.NoCommand ≡ found.Listed t.stale t.lines t.accepted t.causes t.meanings = sym has ∙ t.is_listed in cc)
   unnamed has (bad_list bad none refuses what) = absurd (let e : found.NoCommand ≡ found.NoList bad = sym has ∙ what in cc)
   unnamed has (no_commands list is_list none refuses what) = absurd (let e : found.NoCommand ≡ found.NoCommands = sym has ∙ what in cc)
   unnamed has (no_command list name is_list some first refuses what) = (name, first)

@@ -125,11 +125,13 @@ module _ (asked : Asked) (input : Input) (a b : Dictionary) (list : List PlainEn
       finds_tell is f = record {
         stale = f.stale;
         lines = seen.lines;
+        accepted = seen.accepted;
         causes = f.causes;
         meanings = f.meanings;
         is_listed = f.found_is;
         stale_are = f.stale_are list (all.told ++ apart) (subst (λ (xs : List PlainTold). HasSeen seen.accepting list (all.told ++ xs)) apart_is all.are_seen.judged.accepting);
         lines_are = all.are_seen.judged.lines_are;
+        accepted_are = all.are_seen.judged.accepted_are;
         causes_are = kept_causes is f;
         meanings_are = f.meanings_are all.forgets (left_of list all.apart) all.place all.visits all.are_seen.are_kept.meanings ∙ ap (λ (xs : List PlainTold). once_of (left_of list xs)) apart_is;
       }

@@ -16,7 +16,7 @@ use Rattle.dia_io.specs.Writing.{AppendsFront}
 use Rattle.dia_run.specs.Texts.{line}
 use Rattle.dia_upgrades.specs.declared.asked.Asked.{Asked}
 use Rattle.dia_upgrades.specs.declared.seen.Seen.{Seen}
-use Rattle.dia_upgrades.specs.Outcome.{counted}
+use Rattle.dia_upgrades.specs.Outcome.{accepted_of, counted}
 use Rattle.dia_upgrades.specs.Told.{IsBehind, has_message, message_line, told_text}
 use Rattle.dia_upgrades.specs.UnderWay.{AreJudged, Sees, SeesApart, is_any, lines_after, text_shown}
 use Rattle.dia_upgrades.proofs.Puts.{front_of_more}
@@ -99,6 +99,25 @@ lines_more list told t known old e is =
     by true = ap (λ (xs : List PlainTold). counted (length xs)) (sym (append-nil (left_of list told)))
     by false = sym (ap counted (length-append (left_of list told) (t ∷ [])) ∙ counted_more (length (left_of list told)))
 
+-- ---- lines that are accepted
+
+accepted_one : (list : List PlainEntry) (t : PlainTold) (known : Bool) → is_accepted list t ≡ known → accepted_of list (t ∷ []) ≡ cond known (t ∷ []) []
+accepted_one list t known e = ap (λ (b : Bool). cond b (t ∷ []) []) e
+
+accepted_more : (list : List PlainEntry) (told : List PlainTold) (t : PlainTold) (known : Bool) → is_accepted list t ≡ known
+    → accepted_of list (told ++ t ∷ []) ≡ accepted_of list told ++ cond known (t ∷ []) []
+accepted_more list told t known e =
+    filter-append (is_accepted list) told (t ∷ []) ∙ ap (λ (xs : List PlainTold). accepted_of list told ++ xs) (accepted_one list t known e)
+
+accepted_after : (list : List PlainEntry) (told : List PlainTold) (t : PlainTold) (known : Bool) (old : ℕ) → is_accepted list t ≡ known → old ≡ counted (length (accepted_of list told))
+    → lines_after (not known) old ≡ counted (length (accepted_of list (told ++ t ∷ [])))
+accepted_after list told t known old e is =
+    ap (lines_after (not known)) is ∙ by known ∙ ap (λ (xs : List PlainTold). counted (length xs)) (sym (accepted_more list told t known e))
+  where
+    by : (b : Bool) → lines_after (not b) (counted (length (accepted_of list told))) ≡ counted (length (accepted_of list told ++ cond b (t ∷ []) []))
+    by true = sym (ap counted (length-append (accepted_of list told) (t ∷ [])) ∙ counted_more (length (accepted_of list told)))
+    by false = ap (λ (xs : List PlainTold). counted (length xs)) (sym (append-nil (accepted_of list told)))
+
 any_more : (told : List PlainTold) (t : PlainTold) → is_any (told ++ t ∷ []) ≡ true
 any_more [] t = refl
 any_more (x ∷ told) t = refl
@@ -126,20 +145,23 @@ kept_none is_once place told none = kept_any is_once place told ∙ none
 -- ---- a line that comes
 
 module _ (list : List PlainEntry) (told apart : List PlainTold) (t : PlainTold) where
-  pub judged_more : (old new : Seen) (known : Bool) → HasSeen new.accepting list ((told ++ apart) ++ t ∷ []) → is_accepted list t ≡ known → new.lines ≡ lines_after known old.lines → new.is_some ≡ true
+  pub judged_more : (old new : Seen) (known : Bool) → HasSeen new.accepting list ((told ++ apart) ++ t ∷ []) → is_accepted list t ≡ known → new.lines ≡ lines_after known old.lines
+      → new.accepted ≡ lines_after (not known) old.accepted → new.is_some ≡ true
       → AreJudged list old told apart → AreJudged list new (told ++ t ∷ []) apart
-  judged_more old new known seen e lines some are = record {
+  judged_more old new known seen e lines accepted some are = record {
     accepting = seen_between new.accepting list told apart t seen;
     lines_are = lines ∙ lines_more list told t known old.lines e are.lines_are;
+    accepted_are = accepted ∙ accepted_after list told t known old.accepted e are.accepted_are;
     is_some_is = some ∙ sym (any_more told t);
   }
 
 -- the same is known of lines by another name
-pub judged_so : (list : List PlainEntry) (old new : Seen) (told apart : List PlainTold) → new.accepting ≡ old.accepting → new.lines ≡ old.lines → new.is_some ≡ old.is_some
+pub judged_so : (list : List PlainEntry) (old new : Seen) (told apart : List PlainTold) → new.accepting ≡ old.accepting → new.lines ≡ old.lines → new.accepted ≡ old.accepted → new.is_some ≡ old.is_some
     → AreJudged list old told apart → AreJudged list new told apart
-judged_so list old new told apart same lines some are = record {
+judged_so list old new told apart same lines accepted some are = record {
   accepting = subst (λ a. HasSeen a list (told ++ apart)) (sym same) are.accepting;
   lines_are = lines ∙ are.lines_are;
+  accepted_are = accepted ∙ are.accepted_are;
   is_some_is = some ∙ are.is_some_is;
 }
 
@@ -167,16 +189,16 @@ module _ (asked : Asked) (place : ℕ) (old mid : Seen) (t : PlainTold) (words :
       )
 
   -- or it is left
-  pub sees_left : (new : Seen) (text : List ℕ) → known ≡ false → new.accepting ≡ mid.accepting → new.meanings ≡ mid.meanings → new.lines ≡ mid.lines → new.is_some ≡ mid.is_some
+  pub sees_left : (new : Seen) (text : List ℕ) → known ≡ false → new.accepting ≡ mid.accepting → new.meanings ≡ mid.meanings → new.lines ≡ mid.lines → new.accepted ≡ mid.accepted → new.is_some ≡ mid.is_some
       → ((forgets : Bool) (told : List PlainTold) (visits : ℕ) → visits < 2 ^ 63 → AreCauses forgets mid.causes told place visits → AreCauses forgets new.causes (told ++ kept asked.once t ∷ []) place visits)
       → text ≡ text_shown asked.once (t ∷ []) → Sees asked place old new t text
-  sees_left new text is_no same_list same_meanings same_lines same_some added text_is = λ forgets list visits told apart small are.
+  sees_left new text is_no same_list same_meanings same_lines same_accepted same_some added text_is = λ forgets list visits told apart small are.
       let e = is_known list told apart are.judged ∙ is_no in
       let more : map (kept asked.once) (left_of list told) ++ kept asked.once t ∷ [] ≡ map (kept asked.once) (left_of list (told ++ t ∷ [])) =
       sym (map-append (kept asked.once) (left_of list told) (t ∷ [])) ∙ ap (map (kept asked.once)) (sym (left_more list told t false e)) in
       let before = subst (λ (c : Causes). AreCauses forgets c (map (kept asked.once) (left_of list told)) place visits) (sym causes) are.are_kept.causes in (
         record {
-          judged = judged_so list mid new (told ++ t ∷ []) apart same_list same_lines same_some (judged list told apart t words_are are.judged);
+          judged = judged_so list mid new (told ++ t ∷ []) apart same_list same_lines same_accepted same_some (judged list told apart t words_are are.judged);
           are_kept = record {
             causes = subst (λ (xs : List PlainTold). AreCauses forgets new.causes xs place visits) more (added forgets (map (kept asked.once) (left_of list told)) visits small before);
             meanings = subst (λ (c : Causes). AreCauses forgets c (left_of list apart) place visits) (sym (same_meanings ∙ meanings)) are.are_kept.meanings;
@@ -190,11 +212,12 @@ module _ (asked : Asked) (place : ℕ) (old mid : Seen) (t : PlainTold) (words :
 module _ (asked : Asked) (place : ℕ) (old new : Seen) (t : PlainTold) (known : Bool)
     (accepted : (list : List PlainEntry) (told : List PlainTold) → HasSeen old.accepting list told → known ≡ list_any (accepts t.words) list)
     (come : (list : List PlainEntry) (told : List PlainTold) (x : PlainTold) → x.words ≡ t.words → HasSeen old.accepting list told → HasSeen new.accepting list (told ++ x ∷ []))
-    (causes : new.causes ≡ old.causes) (lines : new.lines ≡ old.lines) (some : new.is_some ≡ old.is_some) where
+    (causes : new.causes ≡ old.causes) (lines : new.lines ≡ old.lines) (same : new.accepted ≡ old.accepted) (some : new.is_some ≡ old.is_some) where
   judged_apart : (list : List PlainEntry) (told apart : List PlainTold) → AreJudged list old told apart → AreJudged list new told (apart ++ t ∷ [])
   judged_apart list told apart are = record {
     accepting = seen_behind new.accepting list told apart t (come list (told ++ apart) t refl are.accepting);
     lines_are = lines ∙ are.lines_are;
+    accepted_are = same ∙ are.accepted_are;
     is_some_is = some ∙ are.is_some_is;
   }
 

@@ -53,26 +53,26 @@ list_or_not input list (lists.Limit n) (text, holds, utf8, none, is) (other, hel
 
 -- ---- how much is left
 
-module _ (asked : Asked) (input : Input) (a b : Dictionary) (text : List ℕ) (exit : Exit) (is : Found) (stale : Vec ℕ) (n : ℕ) (causes meanings : Vec Told) where
-  same_lines : (list : List PlainEntry) (told apart : List PlainTold) → is ≡ founds.Listed stale n causes meanings → TellsFound asked.once list told apart is → n ≡ counted (length (left_of list told))
+module _ (asked : Asked) (input : Input) (a b : Dictionary) (text : List ℕ) (exit : Exit) (is : Found) (stale : Vec ℕ) (n known : ℕ) (causes meanings : Vec Told) where
+  same_lines : (list : List PlainEntry) (told apart : List PlainTold) → is ≡ founds.Listed stale n known causes meanings → TellsFound asked.once list told apart is → n ≡ counted (length (left_of list told))
   same_lines list told apart e f =
-      let z : founds.Listed stale n causes meanings ≡ founds.Listed f.stale f.lines f.causes f.meanings = sym e ∙ f.is_listed in let same : n ≡ f.lines = cc in same ∙ f.lines_are
+      let z : founds.Listed stale n known causes meanings ≡ founds.Listed f.stale f.lines f.accepted f.causes f.meanings = sym e ∙ f.is_listed in let same : n ≡ f.lines = cc in same ∙ f.lines_are
 
-  left_by : (list : List PlainEntry) (told apart : List PlainTold) → is ≡ founds.Listed stale n causes meanings → IsAnswerable asked input a b list told apart is → AreLeft asked input a b n
+  left_by : (list : List PlainEntry) (told apart : List PlainTold) → is ≡ founds.Listed stale n known causes meanings → IsAnswerable asked input a b list told apart is → AreLeft asked input a b n
   left_by list told apart e can = (list, told, apart, can.list_is, can.all_told, same_lines list told apart e can.tells)
 
-  pub lines_are_left : IsListed asked input a b text exit is → is ≡ founds.Listed stale n causes meanings → AreLeft asked input a b n
+  pub lines_are_left : IsListed asked input a b text exit is → is ≡ founds.Listed stale n known causes meanings → AreLeft asked input a b n
   lines_are_left (nothing list apart can breaks differs is_text is_exit) e = left_by list [] apart e can
   lines_are_left (nothing_else list told apart can left some breaks is_text is_exit) e = left_by list told apart e can
   lines_are_left (lines list told apart can left is_text is_exit) e = left_by list told apart e can
-  lines_are_left (bad_list bad none refuses what) e = absurd (let z : founds.NoList bad ≡ founds.Listed stale n causes meanings = sym what ∙ e in cc)
-  lines_are_left (no_commands list is_list none refuses what) e = absurd (let z : founds.NoCommands ≡ founds.Listed stale n causes meanings = sym what ∙ e in cc)
-  lines_are_left (no_command list name is_list some first refuses what) e = absurd (let z : founds.NoCommand ≡ founds.Listed stale n causes meanings = sym what ∙ e in cc)
+  lines_are_left (bad_list bad none refuses what) e = absurd (let z : founds.NoList bad ≡ founds.Listed stale n known causes meanings = sym what ∙ e in cc)
+  lines_are_left (no_commands list is_list none refuses what) e = absurd (let z : founds.NoCommands ≡ founds.Listed stale n known causes meanings = sym what ∙ e in cc)
+  lines_are_left (no_command list name is_list some first refuses what) e = absurd (let z : founds.NoCommand ≡ founds.Listed stale n known causes meanings = sym what ∙ e in cc)
 
 pub left_in : (asked : Asked) (input : Input) (a b : Dictionary) (text : List ℕ) (exit : Exit) (is : Found) (r : Option ℕ) → IsListed asked input a b text exit is
     → IfSome r (HasLines is) → IfSome r (AreLeft asked input a b)
 left_in asked input a b text exit is None listed has = tt
-left_in asked input a b text exit is (Some n) listed (stale, causes, meanings, e) = lines_are_left asked input a b text exit is stale n causes meanings listed e
+left_in asked input a b text exit is (Some n) listed (stale, known, causes, meanings, e) = lines_are_left asked input a b text exit is stale n known causes meanings listed e
 
 -- where the lines could be told, no answer is a refusal
 module _ (asked : Asked) (input : Input) (a b : Dictionary) (list : List PlainEntry) (told apart : List PlainTold) (has : Found) (can : IsAnswerable asked input a b list told apart has) where
@@ -101,9 +101,9 @@ module _ (asked : Asked) (input : Input) (a b : Dictionary) (text : List ℕ) (e
   never_refused n (nothing list apart can breaks differs is_text is_exit) has (t, f, cannot) = answered_or_not asked input a b list [] apart is can t f cannot
   never_refused n (nothing_else list told apart can left some breaks is_text is_exit) has (t, f, cannot) = answered_or_not asked input a b list told apart is can t f cannot
   never_refused n (lines list told apart can left is_text is_exit) has (t, f, cannot) = answered_or_not asked input a b list told apart is can t f cannot
-  never_refused n (bad_list bad none refuses what) (stale, causes, meanings, e) cannot = absurd (let z : founds.NoList bad ≡ founds.Listed stale n causes meanings = sym what ∙ e in cc)
-  never_refused n (no_commands list is_list none refuses what) (stale, causes, meanings, e) cannot = absurd (let z : founds.NoCommands ≡ founds.Listed stale n causes meanings = sym what ∙ e in cc)
-  never_refused n (no_command list name is_list some first refuses what) (stale, causes, meanings, e) cannot = absurd (let z : founds.NoCommand ≡ founds.Listed stale n causes meanings = sym what ∙ e in cc)
+  never_refused n (bad_list bad none refuses what) (stale, known, causes, meanings, e) cannot = absurd (let z : founds.NoList bad ≡ founds.Listed stale n known causes meanings = sym what ∙ e in cc)
+  never_refused n (no_commands list is_list none refuses what) (stale, known, causes, meanings, e) cannot = absurd (let z : founds.NoCommands ≡ founds.Listed stale n known causes meanings = sym what ∙ e in cc)
+  never_refused n (no_command list name is_list some first refuses what) (stale, known, causes, meanings, e) cannot = absurd (let z : founds.NoCommand ≡ founds.Listed stale n known causes meanings = sym what ∙ e in cc)
 
   pub none_where_refused : (r : Option ℕ) → IsListed asked input a b text exit is → IfSome r (HasLines is) → (IsNone r → HasNoLines is) → (r ≡ None) ↔ CannotAnswer asked input a b
   none_where_refused None listed some none = (λ e. refused_by listed (none refl), λ cannot. refl)

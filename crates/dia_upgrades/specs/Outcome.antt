@@ -1,5 +1,5 @@
 -- What `breaking` writes for its inputs, and how it ends.
-use Rattle.std.specs.Prelude.{◌≡◌, ◌≢◌, ⊤, ℕ, Bool, true, false, if◌then◌else◌, List, [], ◌∷◌, ◌++◌, Some, Contains, length, map, min, slice_get, codes}
+use Rattle.std.specs.Prelude.{◌≡◌, ◌≢◌, ⊤, ℕ, Bool, true, false, if◌then◌else◌, List, [], ◌∷◌, ◌++◌, Some, Contains, filter, length, map, min, slice_get, codes}
 use Rattle.std.specs.Global.{Vec}
 use Rattle.std.specs.List.{AllByRecursion, list_any}
 use Rattle.dia_book.specs.Dictionary.{Dictionary, PlainDefinition, definitions}
@@ -12,7 +12,7 @@ use Rattle.dia_io.specs.declared.Exit.{Exit}
 use Rattle.dia_io.specs.declared.Exit.TheVariants.{Yes, No, Bad}
 use Rattle.dia_run.specs.Texts.{line, IsDictionaryText, IsNoDictionaryText}
 use Rattle.dia_run.specs.Outcome.{IsPairOutcome, Refuses}
-use Rattle.dia_accepted.specs.Accepted.{PlainEntry, PlainTold, accepts, kept, left_of, plain_told, stale_lines}
+use Rattle.dia_accepted.specs.Accepted.{PlainEntry, PlainTold, accepts, is_accepted, kept, left_of, plain_told, stale_lines}
 use Rattle.dia_accepted.specs.Causes.{once_of}
 use Rattle.dia_accepted.specs.declared.Told.{Told}
 use Rattle.dia_breaking.specs.declared.line.Line.{Line}
@@ -126,16 +126,22 @@ shown is_once left = if is_once then once_of left else left
 abbrev pub counted : ℕ → ℕ
 counted n = min n 18446744073709551615
 
--- what was found tells which lines of the list accept none of these, how many of the first are left and their causes, with their messages
+-- the lines that the list accepts
+abbrev pub accepted_of : List PlainEntry → List PlainTold → List PlainTold
+accepted_of list told = filter (is_accepted list) told
+
+-- what was found tells which lines of the list accept none of these, how many of the first are left and how many accepted, their causes, with their messages
 -- where each cause is told once, and the causes of the meanings that aren't asked for and that the list doesn't accept
 pub record TellsFound (is_once : Bool) (list : List PlainEntry) (told apart : List PlainTold) (is : Found) : Type 0 where
   pub stale : Vec ℕ
   pub lines : ℕ
+  pub accepted : ℕ
   pub causes : Vec Told
   pub meanings : Vec Told
-  pub is_listed : is ≡ found.Listed stale lines causes meanings
+  pub is_listed : is ≡ found.Listed stale lines accepted causes meanings
   pub stale_are : stale.items ≡ stale_lines list (told ++ apart)
   pub lines_are : lines ≡ counted (length (left_of list told))
+  pub accepted_are : accepted ≡ counted (length (accepted_of list told))
   pub causes_are : map plain_told causes.items ≡ once_of (map (kept is_once) (left_of list told))
   pub meanings_are : map plain_told meanings.items ≡ once_of (left_of list apart)
 
@@ -166,11 +172,11 @@ IsAnyListed asked input a b text exit = (is : Found) × IsListed asked input a b
 
 -- what was found has so many lines
 abbrev pub HasLines : Found → ℕ → Type 0
-HasLines is n = (stale : Vec ℕ) × (causes : Vec Told) × (meanings : Vec Told) × (is ≡ found.Listed stale n causes meanings)
+HasLines is n = (stale : Vec ℕ) × (accepted : ℕ) × (causes : Vec Told) × (meanings : Vec Told) × (is ≡ found.Listed stale n accepted causes meanings)
 
 -- what was found has no lines
 abbrev pub HasNoLines : Found → Type 0
-HasNoLines (found.Listed stale n causes meanings) = ⊥
+HasNoLines (found.Listed stale n accepted causes meanings) = ⊥
 HasNoLines (found.NoList bad) = ⊤
 HasNoLines found.NoCommands = ⊤
 HasNoLines found.NoCommand = ⊤

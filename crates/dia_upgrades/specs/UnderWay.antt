@@ -38,7 +38,7 @@ use Rattle.dia_upgrades.specs.declared.seen.Seen.{Seen}
 use Rattle.dia_upgrades.specs.declared.shown.Shown.{Shown}
 use Rattle.dia_upgrades.specs.declared.lines.Listing.{Listing}
 use Rattle.dia_upgrades.specs.Begun.{IsBegun, IsBegunOrWhole, IsOutcomeBegun, IsOutcomeBegunOrWhole}
-use Rattle.dia_upgrades.specs.Outcome.{IsBreakingOutcome, IsListed, counted, nothing_for}
+use Rattle.dia_upgrades.specs.Outcome.{IsBreakingOutcome, IsListed, accepted_of, counted, nothing_for}
 use Rattle.dia_upgrades.specs.Report.{IsReport}
 use Rattle.dia_upgrades.specs.Told.{AreParts, AreTold, IsBehind, IsLineTold, IsToldOf, told_text}
 
@@ -85,14 +85,15 @@ abbrev pub is_any : List PlainTold → Bool
 is_any [] = false
 is_any (t ∷ told) = true
 
--- how many lines are left, where the list accepts one more or not
+-- how many lines are counted, where one more comes that counts or not
 abbrev pub lines_after : Bool → ℕ → ℕ
-lines_after known n = if known then n else counted (n + 1)
+lines_after is_other n = if is_other then n else counted (n + 1)
 
 -- the list was asked for these lines, and they are counted
 pub record AreJudged (list : List PlainEntry) (seen : Seen) (told apart : List PlainTold) : Type 0 where
   pub accepting : HasSeen seen.accepting list (told ++ apart)
   pub lines_are : seen.lines ≡ counted (length (left_of list told))
+  pub accepted_are : seen.accepted ≡ counted (length (accepted_of list told))
   pub is_some_is : seen.is_some ≡ is_any told
 
 -- the causes of those that are left are kept
@@ -206,7 +207,7 @@ pub record Finds (seen : Seen) (is : Found) : Type 0 where
   pub stale : Vec ℕ
   pub causes : Vec Told
   pub meanings : Vec Told
-  pub found_is : is ≡ found.Listed stale seen.lines causes meanings
+  pub found_is : is ≡ found.Listed stale seen.lines seen.accepted causes meanings
   pub stale_are : (list : List PlainEntry) (told : List PlainTold) → HasSeen seen.accepting list told → stale.items ≡ stale_lines list told
   pub causes_are : (forgets : Bool) (told : List PlainTold) (command visits : ℕ) → AreCauses forgets seen.causes told command visits → map plain_told causes.items ≡ once_of told
   pub meanings_are : (forgets : Bool) (told : List PlainTold) (command visits : ℕ) → AreCauses forgets seen.meanings told command visits → map plain_told meanings.items ≡ once_of told

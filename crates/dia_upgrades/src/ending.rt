@@ -33,11 +33,13 @@ pub(crate) fn ended<S: Sink>(
     let causes = seen.causes.lines(alloc)?;
     let meanings = seen.meanings.lines(alloc)?;
     let lines = seen.lines;
+    let accepted = seen.accepted;
     put_end(alloc, asked, lines, seen.is_some, causes.as_slice(), sink)?;
     let exit = exit_of(lines);
     let found = Found::Listed {
         stale,
         lines,
+        accepted,
         causes,
         meanings,
     };

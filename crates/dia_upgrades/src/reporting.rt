@@ -14,6 +14,8 @@ pub enum Found {
         stale: Vec<u32>,
         /// How many lines the list leaves; where there are more than can be counted, the greatest number.
         lines: usize,
+        /// How many the list accepts, counted in the same way.
+        accepted: usize,
         /// A line for each cause of these. It has its message only where each cause is told once.
         causes: Vec<Told>,
         /// Where meanings aren't asked for: a line for each AVP that the second side reads as another format, but for those

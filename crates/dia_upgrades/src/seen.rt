@@ -16,6 +16,8 @@ pub(crate) struct Seen<'l> {
     pub meanings: Causes,
     /// How many lines the list doesn't accept.
     pub lines: usize,
+    /// How many it accepts.
+    pub accepted: usize,
     /// Whether there is a line.
     pub is_some: bool,
 }
@@ -39,6 +41,7 @@ impl<'l> Seen<'l> {
             causes: Causes::new(alloc),
             meanings: Causes::new(alloc),
             lines: 0,
+            accepted: 0,
             is_some: false,
         })
     }
@@ -66,6 +69,7 @@ impl<'l> Seen<'l> {
         let known = self.accepting.accepts(alloc, words)?;
         self.is_some = true;
         self.lines = lines_after(self.lines, known);
+        self.accepted = lines_after(self.accepted, !known);
         Ok(known)
     }
 
@@ -83,11 +87,11 @@ impl<'l> Seen<'l> {
     }
 }
 
-/// How many lines are left, where the list accepts one more or not.
-fn lines_after(lines: usize, known: bool) -> usize
-    ensures { result ≡ lines_after known lines }
+/// How many lines are counted, where one more comes that counts or not.
+fn lines_after(lines: usize, is_other: bool) -> usize
+    ensures { result ≡ lines_after is_other lines }
 {
-    if known {
+    if is_other {
         lines
     } else {
         lines.saturating_add(1)

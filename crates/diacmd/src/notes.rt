@@ -93,6 +93,7 @@ fn push_found(
             lines,
             causes,
             meanings,
+            ..
         } => {
             let (first, second) = (texts.first.name, texts.second.name);
             push_tally(out, first, second, *lines, causes.len())?;

@@ -13,7 +13,7 @@ pub returns-in_err-put_end-clause-ends : goal.returns-in_err-put_end-clause-ends
 returns-in_err-put_end-clause-ends g c =
     let p = err_from_is_err_and c.from_residual-in_err-put_end.result c.from_residual-in_err-put_end.ensures.1 in
     let seen = c.args.seen.now in
-    let is : Found = Listed c.in_ok-stale.stale seen.lines c.in_ok-causes.causes c.in_ok-meanings.meanings in
+    let is : Found = Listed c.in_ok-stale.stale seen.lines seen.accepted c.in_ok-causes.causes c.in_ok-meanings.meanings in
     let finds : Finds seen is = record {
       stale = c.in_ok-stale.stale;
       causes = c.in_ok-causes.causes;
@@ -33,7 +33,7 @@ returns-in_err-put_end-clause-ends g c =
 pub returns-clause-ends : goal.returns-clause-ends
 returns-clause-ends g c =
     let seen = c.args.seen.now in
-    let is : Found = Listed c.in_ok-stale.stale seen.lines c.in_ok-causes.causes c.in_ok-meanings.meanings in
+    let is : Found = Listed c.in_ok-stale.stale seen.lines seen.accepted c.in_ok-causes.causes c.in_ok-meanings.meanings in
     let finds : Finds seen is = record {
       stale = c.in_ok-stale.stale;
       causes = c.in_ok-causes.causes;

@@ -44,7 +44,7 @@ returns-then-asked g c =
     let once = c.if-asked.true in (
       t,
       (keep.message, keep.is_behind, refl),
-      sees_left asked place c.args.seen.now c.judge.new.self t c.as_str-told.result.now c.in_ok-known.known (sym told) judged.accepted judged.judged judged.causes judged.meanings _ [] c.if-known.false refl refl refl refl
+      sees_left asked place c.args.seen.now c.judge.new.self t c.as_str-told.result.now c.in_ok-known.known (sym told) judged.accepted judged.judged judged.causes judged.meanings _ [] c.if-known.false refl refl refl refl refl
           (λ forgets before visits small are. subst (λ (b : Bool). AreCauses forgets c.add.new.self (before ++ kept b t ∷ []) place visits) (sym once)
           (c.in_ok-add.ensures forgets before t visits small refl (sym told) (keep.is_kept forgets before place visits are) are)) (sym (ap (λ (b : Bool). text_shown b (t ∷ [])) once)),
     )
@@ -64,7 +64,7 @@ returns g c =
     let each = c.if-asked.false in (
       t,
       (behind, c.in_ok-digits.ensures, refl),
-      sees_left asked place c.args.seen.now c.judge.new.self t c.as_str-told.result.now c.in_ok-known.known (sym told) judged.accepted judged.judged judged.causes judged.meanings _ _ c.if-known.false refl refl refl refl
+      sees_left asked place c.args.seen.now c.judge.new.self t c.as_str-told.result.now c.in_ok-known.known (sym told) judged.accepted judged.judged judged.causes judged.meanings _ _ c.if-known.false refl refl refl refl refl
           (λ forgets before visits small are. subst (λ (b : Bool). AreCauses forgets c.add-2.new.self (before ++ kept b t ∷ []) place visits) (sym each)
           (c.in_ok-add-2.ensures forgets before (bare t) visits small refl (sym told) (inl (sym c.new-none.ensures.bytes)) are))
           (ap (λ (w : List ℕ). with_feed w ++ behind) made ∙ sym (append-nil (with_feed (words line) ++ behind)) ∙ sym (ap (λ (b : Bool). text_shown b (t ∷ [])) each)),

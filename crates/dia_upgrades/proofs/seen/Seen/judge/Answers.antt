@@ -10,4 +10,4 @@ returns-clause-accepted c = λ list told apart are. c.in_ok-known.ensures.accept
 pub returns-clause-judged : goal.returns-clause-judged
 returns-clause-judged c = λ list told apart t words are.
     let known = ap (λ (w : List ℕ). list_any (accepts w) list) words ∙ sym (c.in_ok-known.ensures.accepted list (told ++ apart) are.accepting) in
-    judged_more list told apart t c.args.self.now _ c.in_ok-known.known (c.in_ok-known.ensures.come list (told ++ apart) t words are.accepting) known c.lines_after-self.ensures refl are
+    judged_more list told apart t c.args.self.now _ c.in_ok-known.known (c.in_ok-known.ensures.come list (told ++ apart) t words are.accepting) known c.lines_after-self.ensures c.lines_after-self-2.ensures refl are

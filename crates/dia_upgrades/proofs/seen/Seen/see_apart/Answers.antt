@@ -11,7 +11,7 @@ returns-then-known c = λ asked.
     let place = c.args.place in
     let t = told_as place c.args.words.now [] in
     let before = c.args.self.now.meanings in
-    sees_apart asked place c.args.self.now _ t c.in_ok-known.known c.in_ok-known.ensures.accepted c.in_ok-known.ensures.come refl refl refl
+    sees_apart asked place c.args.self.now _ t c.in_ok-known.known c.in_ok-known.ensures.accepted c.in_ok-known.ensures.come refl refl refl refl
     (λ forgets told visits small are. subst (λ (b : Bool). AreCauses forgets before (told ++ cond b [] (t ∷ [])) place visits) (sym c.if-known.true)
     (subst (λ (xs : List PlainTold). AreCauses forgets before xs place visits) (sym (append-nil told)) are))
 
@@ -19,6 +19,6 @@ pub returns : goal.returns
 returns c = λ asked.
     let place = c.args.place in
     let t = told_as place c.args.words.now [] in
-    sees_apart asked place c.args.self.now _ t c.in_ok-known.known c.in_ok-known.ensures.accepted c.in_ok-known.ensures.come refl refl refl
+    sees_apart asked place c.args.self.now _ t c.in_ok-known.known c.in_ok-known.ensures.accepted c.in_ok-known.ensures.come refl refl refl refl
     (λ forgets told visits small are. subst (λ (b : Bool). AreCauses forgets c.add.new.self (told ++ cond b [] (t ∷ [])) place visits) (sym c.if-known.false)
     (c.in_ok-add.ensures forgets told t visits small refl refl (inl (sym c.new-none.ensures.bytes)) are))
