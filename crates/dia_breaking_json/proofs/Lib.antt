@@ -1,0 +1,4 @@
+pub mod Added
+pub mod Ends
+pub mod Groups
+pub mod Kept

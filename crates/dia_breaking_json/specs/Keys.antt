@@ -1,0 +1,16 @@
+-- AVPs by their names.
+use Rattle.std.specs.Prelude.{ℕ, List, Option, option_and_then, position, slice_get}
+use Rattle.std.specs.Option.{option_map}
+use Rattle.std.specs.Str.{bytes_eq}
+use Rattle.dia_wire.specs.declared.Key.{Key}
+use Rattle.dia_book.specs.Dictionary.{Dictionary}
+use Rattle.dia_text.specs.Keys.{entry_named}
+use Rattle.dia_breaking_json.specs.declared.keys.Keys.{Keys}
+
+-- the key of the AVP that has this name in the dictionary
+abbrev pub key_named : Dictionary → List ℕ → Option Key
+key_named d name = option_map (λ e. e.key) (entry_named d name)
+
+-- the key that is kept for this name
+abbrev pub key_in : Keys → List ℕ → Option Key
+key_in keys name = option_and_then (slice_get keys.keys.items) (position (λ n. bytes_eq name n.now) keys.names.value.keys)

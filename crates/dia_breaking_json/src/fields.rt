@@ -1,0 +1,115 @@
+//! The texts of members, each with the comma before it.
+
+ghost use Rattle.std.specs.Prelude.{◌≡◌, ◌∷◌, [], IfOk, List, OnOk, Option, codes, false, map, string_bytes, true};
+ghost use Rattle.serde_json.specs.Data.{Data, boolean, null};
+ghost use Rattle.serde_json.specs.Written.{compact_text};
+ghost use Rattle.json.specs.Print.{quoted};
+ghost use Rattle.dia_breaking_json.specs.Fields.{Adds, Field, fields_text, object_of, text_field};
+ghost use Rattle.dia_breaking_json.specs.Lines.{number_field, unsigned_field};
+
+use crate::numbers::number_of;
+use crate::texts::after;
+use serde_json::Value;
+use std::alloc::{AllocError, Global};
+
+/// The string in quotes, with its escapes (RFC 8259 section 7).
+pub(crate) fn quoted(alloc: Global, string: &str) -> Result<String, AllocError>
+    ensures { IfOk result (λ text. string_bytes text ≡ quoted string.now) }
+{
+    Value::try_from_str(alloc, string)?.to_string(alloc)
+}
+
+/// The object that has these members.
+pub fn object_text(alloc: Global, fields: &str) -> Result<String, AllocError>
+    ensures { IfOk result (λ text. (members : List Field) → fields.now ≡ fields_text members
+        → string_bytes text ≡ compact_text (object_of members)) }
+{
+    let members = after(fields, ',');
+    format!(in alloc; "{{{members}}}")
+}
+
+/// Adds a member of which this is the text of the value.
+pub(crate) fn push_field(
+    alloc: Global,
+    out: &mut String,
+    name: &str,
+    value: &str,
+) -> Result<(), AllocError>
+    ensures { OnOk result ((told : Data) → value.now ≡ compact_text told → Adds out.old out.new ((name.now, told) ∷ [])) }
+{
+    let name = quoted(alloc, name)?;
+    write!(out, ",{name}:{value}")
+}
+
+/// Adds a string.
+pub fn push_text(alloc: Global, out: &mut String, name: &str, text: &str) -> Result<(), AllocError>
+    ensures { OnOk result (Adds out.old out.new (text_field name.now text.now)) }
+{
+    let value = quoted(alloc, text)?;
+    push_field(alloc, out, name, value.as_str())
+}
+
+/// Adds whether something is so.
+pub(crate) fn push_bool(
+    alloc: Global,
+    out: &mut String,
+    name: &str,
+    is_so: bool,
+) -> Result<(), AllocError>
+    ensures { OnOk result (Adds out.old out.new ((name.now, boolean is_so) ∷ [])) }
+{
+    push_field(alloc, out, name, bool_text(is_so))
+}
+
+fn bool_text(is_so: bool) -> &'static str
+    ensures { result.now ≡ compact_text (boolean is_so) }
+{
+    if is_so { "true" } else { "false" }
+}
+
+/// Adds that there is no value.
+pub fn push_null(alloc: Global, out: &mut String, name: &str) -> Result<(), AllocError>
+    ensures { OnOk result (Adds out.old out.new ((name.now, null) ∷ [])) }
+{
+    push_field(alloc, out, name, "null")
+}
+
+/// Adds a number.
+pub fn push_unsigned(
+    alloc: Global,
+    out: &mut String,
+    name: &str,
+    number: u64,
+) -> Result<(), AllocError>
+    ensures { OnOk result (Adds out.old out.new (unsigned_field name.now number)) }
+{
+    let value = format!(in alloc; "{number}")?;
+    push_field(alloc, out, name, value.as_str())
+}
+
+/// Adds a number of 32 bits.
+pub(crate) fn push_u32(
+    alloc: Global,
+    out: &mut String,
+    name: &str,
+    number: u32,
+) -> Result<(), AllocError>
+    ensures { OnOk result (Adds out.old out.new (unsigned_field name.now number)) }
+{
+    push_unsigned(alloc, out, name, u64::from(number))
+}
+
+/// Adds the number that a text is, if it is one.
+pub(crate) fn push_number(
+    alloc: Global,
+    out: &mut String,
+    name: &str,
+    text: &str,
+) -> Result<(), AllocError>
+    ensures { OnOk result (Adds out.old out.new (number_field name.now text.now)) }
+{
+    match number_of(text) {
+        Some(number) => push_unsigned(alloc, out, name, number),
+        None => Ok(()),
+    }
+}

@@ -1,0 +1,16 @@
+//! The lines of `breaking` as JSON (RFC 8259), each from its words.
+#![tactic(auto)]
+
+mod details;
+mod fields;
+mod keys;
+mod lines;
+mod numbers;
+mod parts;
+mod places;
+mod subjects;
+mod texts;
+
+pub use fields::{object_text, push_null, push_text, push_unsigned};
+pub use keys::{Keys, Names};
+pub use lines::line_json;

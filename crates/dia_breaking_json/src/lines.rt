@@ -1,0 +1,127 @@
+//! Lines as JSON.
+
+ghost use Rattle.std.specs.Prelude.{◌≡◌, ◌++◌, IfOk, OnOk, string_bytes};
+ghost use Rattle.dia_breaking_json.specs.Parts.{after, before, detail_of};
+ghost use Rattle.dia_breaking_json.specs.Fields.{Adds};
+ghost use Rattle.dia_breaking_json.specs.Keys.{key_in};
+ghost use Rattle.dia_breaking_json.specs.Lines.{is_in_header, line_fields, line_json, matter_fields};
+ghost use Rattle.dia_breaking_json.specs.Lines.{message_field, undecided_field, where_fields};
+
+use crate::details::push_detail;
+use crate::fields::{object_text, push_bool, push_text};
+use crate::keys::Names;
+use crate::parts::{Parts, parts_of};
+use crate::places::push_where;
+use crate::subjects::{push_reason, push_subject};
+use crate::texts::{after, before};
+use std::alloc::{AllocError, Global};
+
+/// The object of a line with these words, or of one of `--once`, and with the message behind it, if it has one: two spaces, its
+/// hexadecimal digits and a line feed.
+pub fn line_json(
+    alloc: Global,
+    names: &Names<'_>,
+    once: bool,
+    words: &str,
+    message: &str,
+) -> Result<String, AllocError>
+    ensures { IfOk result (λ text. string_bytes text
+        ≡ line_json (key_in names.now.first) (key_in names.now.second) once words.now message.now) }
+{
+    let mut fields = String::new(alloc);
+    push_fields(alloc, &mut fields, names, once, words, message)?;
+    object_text(alloc, fields.as_str())
+}
+
+fn push_fields(
+    alloc: Global,
+    out: &mut String,
+    names: &Names<'_>,
+    once: bool,
+    words: &str,
+    message: &str,
+) -> Result<(), AllocError>
+    ensures { OnOk result (Adds out.old out.new
+        (line_fields (key_in names.now.first) (key_in names.now.second) once words.now message.now)) }
+{
+    push_parts(
+        alloc,
+        out,
+        names,
+        once,
+        words,
+        parts_of(words, once),
+        message,
+    )
+}
+
+/// Adds the members of a line with these parts.
+fn push_parts(
+    alloc: Global,
+    out: &mut String,
+    names: &Names<'_>,
+    once: bool,
+    words: &str,
+    parts: Parts<'_>,
+    message: &str,
+) -> Result<(), AllocError>
+    requires { parts.detail.now ≡ detail_of once words.now }
+    ensures { OnOk result (Adds out.old out.new (undecided_field parts.entry.is_undecided ++ where_fields once words.now
+        ++ matter_fields (key_in names.now.first) (key_in names.now.second)
+        parts.entry.reason.now parts.entry.subject.now parts.entry.detail.now
+        ++ message_field message.now)) }
+{
+    push_undecided(alloc, out, parts.is_undecided)?;
+    push_where(alloc, out, words, parts.detail, once)?;
+    push_matter(alloc, out, names, parts.reason, parts.subject, parts.detail)?;
+    push_message(alloc, out, message)
+}
+
+fn push_undecided(alloc: Global, out: &mut String, is_undecided: bool) -> Result<(), AllocError>
+    ensures { OnOk result (Adds out.old out.new (undecided_field is_undecided)) }
+{
+    if is_undecided {
+        push_bool(alloc, out, "undecided", true)
+    } else {
+        Ok(())
+    }
+}
+
+/// Adds the reason, the subject, the detail, and whether the header breaks.
+fn push_matter(
+    alloc: Global,
+    out: &mut String,
+    names: &Names<'_>,
+    reason: &str,
+    subject: &str,
+    detail: &str,
+) -> Result<(), AllocError>
+    ensures { OnOk result (Adds out.old out.new
+        (matter_fields (key_in names.now.first) (key_in names.now.second) reason.now subject.now detail.now)) }
+{
+    push_reason(alloc, out, reason)?;
+    push_subject(alloc, out, names, reason, subject)?;
+    push_detail(alloc, out, reason, detail)?;
+    push_bool(alloc, out, "in_header", is_in_header(reason))
+}
+
+fn is_in_header(reason: &str) -> bool
+    ensures { result ≡ is_in_header reason.now }
+{
+    reason == "command" || reason == "application" || reason == "proxiable"
+}
+
+fn push_message(alloc: Global, out: &mut String, message: &str) -> Result<(), AllocError>
+    ensures { OnOk result (Adds out.old out.new (message_field message.now)) }
+{
+    if message.is_empty() {
+        return Ok(());
+    }
+    push_text(alloc, out, "message", digits_of(message))
+}
+
+fn digits_of(message: &str) -> &str
+    ensures { result.now ≡ before 10 (after 32 (after 32 message.now)) }
+{
+    before(after(after(message, ' '), ' '), '\n')
+}

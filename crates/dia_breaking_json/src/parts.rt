@@ -1,0 +1,143 @@
+//! The parts of a line.
+
+ghost use Rattle.std.specs.Prelude.{◌≡◌, ◌<◌};
+ghost use Rattle.dia_breaking_json.specs.Parts.{cause_of, count_of, detail_of, first_part, first_path, head_of, is_undecided};
+ghost use Rattle.dia_breaking_json.specs.Parts.{fourth_part, has_reason, matter_of, reason_of};
+ghost use Rattle.dia_breaking_json.specs.Parts.{second_part, subject_of, third_part};
+
+use crate::texts::{after, before, begins, behind, first_word};
+
+/// What a line says behind its path: `undecided REASON SUBJECT: DETAIL`.
+#[derive(Clone, Copy)]
+pub(crate) struct Parts<'w> {
+    pub is_undecided: bool,
+    /// It may be empty.
+    pub reason: &'w str,
+    pub subject: &'w str,
+    /// With `--once` the count of commands and the first path stand behind it.
+    pub detail: &'w str,
+}
+
+/// The parts of a line, or of one of `--once`.
+pub(crate) fn parts_of(words: &str, once: bool) -> Parts<'_>
+    ensures undecided { result.is_undecided ≡ is_undecided once words.now }
+    ensures reason { result.reason.now ≡ reason_of once words.now }
+    ensures subject { result.subject.now ≡ subject_of once words.now }
+    ensures detail { result.detail.now ≡ detail_of once words.now }
+{
+    let cause = cause_of(words, once);
+    Parts {
+        is_undecided: is_undecided(words, once),
+        reason: reason_of(words, once),
+        subject: subject_of(words, once),
+        detail: behind(cause, ':'),
+    }
+}
+
+fn cause_of(words: &str, once: bool) -> &str
+    ensures { result.now ≡ cause_of once words.now }
+{
+    if once { words } else { behind(words, ':') }
+}
+
+fn head_of(words: &str, once: bool) -> &str
+    ensures { result.now ≡ head_of once words.now }
+{
+    before(cause_of(words, once), ':')
+}
+
+fn is_undecided(words: &str, once: bool) -> bool
+    ensures { result ≡ is_undecided once words.now }
+{
+    begins(head_of(words, once), "undecided")
+}
+
+/// The reason and the subject.
+fn matter_of(words: &str, once: bool) -> &str
+    ensures { result.now ≡ matter_of once words.now }
+{
+    let head = head_of(words, once);
+    if is_undecided(words, once) {
+        after(head, ' ')
+    } else {
+        head
+    }
+}
+
+fn has_reason(matter: &str) -> bool
+    ensures { result ≡ has_reason matter.now }
+{
+    after(matter, ' ').len() > 0
+}
+
+fn reason_of(words: &str, once: bool) -> &str
+    ensures { result.now ≡ reason_of once words.now }
+{
+    let matter = matter_of(words, once);
+    if has_reason(matter) {
+        first_word(matter)
+    } else {
+        ""
+    }
+}
+
+fn subject_of(words: &str, once: bool) -> &str
+    ensures { result.now ≡ subject_of once words.now }
+{
+    let matter = matter_of(words, once);
+    if has_reason(matter) {
+        after(matter, ' ')
+    } else {
+        matter
+    }
+}
+
+pub(crate) fn first_part(detail: &str) -> &str
+    ensures { result.now ≡ first_part detail.now }
+{
+    before(detail, ',')
+}
+
+pub(crate) fn second_part(detail: &str) -> &str
+    ensures { result.now ≡ second_part detail.now }
+{
+    before(behind(detail, ','), ',')
+}
+
+fn third_part(detail: &str) -> &str
+    ensures { result.now ≡ third_part detail.now }
+{
+    before(behind(behind(detail, ','), ','), ',')
+}
+
+fn fourth_part(detail: &str) -> &str
+    ensures { result.now ≡ fourth_part detail.now }
+{
+    behind(behind(behind(detail, ','), ','), ',')
+}
+
+/// How many commands have the cause of a line of `--once`.
+pub(crate) fn count_of(detail: &str) -> &str
+    ensures { result.now ≡ count_of detail.now }
+{
+    let second = second_part(detail);
+    let part = if begins(second, "in") {
+        second
+    } else {
+        third_part(detail)
+    };
+    first_word(after(part, ' '))
+}
+
+/// The path of the first line with the cause.
+pub(crate) fn first_path(detail: &str) -> &str
+    ensures { result.now ≡ first_path detail.now }
+{
+    let third = third_part(detail);
+    let part = if begins(third, "first") {
+        third
+    } else {
+        fourth_part(detail)
+    };
+    after(after(part, ' '), ' ')
+}
