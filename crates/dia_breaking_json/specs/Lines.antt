@@ -137,5 +137,5 @@ abbrev pub line_fields : (first second : List ℕ → Option Key) → Bool → (
 line_fields first second once words message = undecided_field (is_undecided once words) ++ where_fields once words
     ++ matter_fields first second (reason_of once words) (subject_of once words) (detail_of once words) ++ message_field message
 
-abbrev pub line_json : (first second : List ℕ → Option Key) → Bool → (words message : List ℕ) → List ℕ
+unfoldable pub line_json : (first second : List ℕ → Option Key) → Bool → (words message : List ℕ) → List ℕ
 line_json first second once words message = compact_text (object_of (line_fields first second once words message))

@@ -22,6 +22,7 @@ use Rattle.dia_io.specs.declared.Input.{Input}
 use Rattle.dia_io.specs.declared.Exit.{Exit}
 use Rattle.dia_io.specs.declared.Exit.TheVariants.{Yes, No, Bad}
 use Rattle.dia_upgrades.specs.declared.Asked.{Asked}
+use Rattle.dia_upgrades.specs.declared.Form.TheVariants.{Text}
 use Rattle.dia_upgrades.specs.declared.BadList.{BadList}
 use Rattle.dia_upgrades.specs.declared.Found.{Found}
 use Rattle.dia_upgrades.specs.declared.Found.TheVariants as found
@@ -171,9 +172,9 @@ module _ (d : Dictionary) (xs : List (String Global)) (name : List ℕ) (first :
 -- ---- what is asked
 
 pub is_asked : (w : Wanted) (commands words : List ℕ) (given : Bor (List (String Global))) (names : List (String Global)) → given.now ≡ names → map text_of names ≡ lines words → words ≡ commands
-    → IsAskedBy w commands (record { sends = w.sends; unknown = w.unknown; messages = w.messages; once = w.once; meaning = w.meaning; names = given })
+    → IsAskedBy w commands (record { sends = w.sends; unknown = w.unknown; messages = w.messages; once = w.once; meaning = w.meaning; form = Text; names = given })
 is_asked w commands words given names has is same =
-    record { sends = refl; unknown = refl; messages = refl; once = refl; meaning = refl; names = ap (map text_of) has ∙ is ∙ ap lines same }
+    record { sends = refl; unknown = refl; messages = refl; once = refl; meaning = refl; form = refl; names = ap (map text_of) has ∙ is ∙ ap lines same }
 
 pub same_problem : (x p : Problem) → refused.Bad x ≡ refused.Bad p → p ≡ x
 same_problem x p e = cc

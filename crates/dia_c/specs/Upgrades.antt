@@ -12,6 +12,7 @@ use Rattle.dia_io.specs.declared.Exit.{Exit}
 use Rattle.dia_io.specs.declared.Exit.TheVariants.{Bad}
 use Rattle.dia_io.specs.Inputs.{IsWhole}
 use Rattle.dia_upgrades.specs.declared.Asked.{Asked}
+use Rattle.dia_upgrades.specs.declared.Form.TheVariants.{Text}
 use Rattle.dia_upgrades.specs.declared.BadList.{BadList}
 use Rattle.dia_upgrades.specs.declared.BadList.TheVariants as list
 use Rattle.dia_upgrades.specs.Asking.{names_of}
@@ -49,13 +50,14 @@ wanted_of sends unknown options = record {
   meaning = has_option options 4;
 }
 
--- this is asked of the command: what is wanted, of the commands whose names are the lines of the text
+-- this is asked of the command: what is wanted, in words, of the commands whose names are the lines of the text
 pub record IsAskedBy (wanted : Wanted) (commands : List ℕ) (asked : Asked) : Type 0 where
   pub sends : asked.sends ≡ wanted.sends
   pub unknown : asked.unknown ≡ wanted.unknown
   pub messages : asked.messages ≡ wanted.messages
   pub once : asked.once ≡ wanted.once
   pub meaning : asked.meaning ≡ wanted.meaning
+  pub form : asked.form ≡ Text
   pub names : names_of asked ≡ lines commands
 
 -- ---- what is answered

@@ -19,7 +19,7 @@ use crate::sink::TextSink;
 use crate::wanted::Wanted;
 use dia_book::Book;
 use dia_io::{Exit, Input, RunFault};
-use dia_upgrades::{Asked, BadList, Found, Listed, MAX_LIST, breaking_of, named};
+use dia_upgrades::{Asked, BadList, Form, Found, Listed, MAX_LIST, breaking_of, named};
 use std::alloc::{AllocError, Global};
 
 /// The first dictionary has no commands.
@@ -63,6 +63,7 @@ pub fn listed<A: Book, B: Book>(
         messages,
         once,
         meaning,
+        form: Form::Text,
         names,
     };
     listed_for(alloc, asked, &list, a, b)

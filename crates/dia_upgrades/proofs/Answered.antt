@@ -18,18 +18,18 @@ use Rattle.dia_io.specs.Writing.{AppendsFront}
 use Rattle.dia_accepted.specs.Accepted.{PlainEntry, PlainTold, kept, left_of, plain_told}
 use Rattle.dia_accepted.specs.Causes.{once_of}
 use Rattle.dia_accepted.specs.Seen.{HasSeen}
-use Rattle.dia_run.specs.Texts.{line}
 use Rattle.dia_upgrades.specs.declared.asked.Asked.{Asked}
 use Rattle.dia_upgrades.specs.declared.reporting.Found.{Found}
 use Rattle.dia_upgrades.specs.declared.reporting.Listed.{Listed}
 use Rattle.dia_upgrades.specs.declared.seen.Seen.{Seen}
 use Rattle.dia_upgrades.specs.Asking.{names_of}
 use Rattle.dia_upgrades.specs.Begun.{IsBegun, nothing_yet, some_lines}
+use Rattle.dia_upgrades.specs.Forms.{said}
 use Rattle.dia_upgrades.specs.Lists.{IsListText}
 use Rattle.dia_upgrades.specs.Outcome.{AreAllTold, CanAsk, IsAcceptedWhole, IsAnswerable, IsListed, IsReadAlike, OfEach, TellsFound, counted, nothing_for, nothing_left, shown, sides_in}
 use Rattle.dia_upgrades.specs.Outcome.{nothing, nothing_else, lines}
 use Rattle.dia_upgrades.specs.Places.{asked_places}
-use Rattle.dia_upgrades.specs.Told.{AreTold, number_at, told_text}
+use Rattle.dia_upgrades.specs.Told.{AreTold, number_at, written}
 use Rattle.dia_upgrades.specs.UnderWay.{AreAllPut, AreFirstLines, Answers, Ends, Finds, StandsPut, end_text, exit_of, is_any, text_shown}
 use Rattle.dia_upgrades.proofs.AskedCommands.{asked_each, command_stands}
 use Rattle.dia_upgrades.proofs.LinesToTell.{nothing_shown}
@@ -54,11 +54,11 @@ is_nothing_left meaning (t ∷ told) = refl
 
 -- what is written in the end, where no line is left
 end_of_none : (asked : Asked) (told left causes : List PlainTold) (lines : ℕ) (is_some : Bool) → left ≡ [] → lines ≡ counted (length left) → is_some ≡ is_any told
-    → text_shown asked.once left ++ end_text asked lines is_some causes ≡ line (nothing_left asked.meaning told)
+    → text_shown asked left ++ end_text asked lines is_some causes ≡ said asked.form (nothing_left asked.meaning told)
 end_of_none asked told left causes n is_some none counts some =
     let zero : n ≡ 0 = counts ∙ ap (λ (xs : List PlainTold). counted (length xs)) none in
-    (λ i. text_shown asked.once (none i) ++ end_text asked (zero i) (some i) causes) ∙ ap (λ (x : List ℕ). x ++ line (nothing_for asked.meaning (is_any told))) (nothing_shown asked.once)
-    ∙ ap line (is_nothing_left asked.meaning told)
+    (λ i. text_shown asked (none i) ++ end_text asked (zero i) (some i) causes) ∙ ap (λ (x : List ℕ). x ++ said asked.form (nothing_for asked.meaning (is_any told))) (nothing_shown asked)
+    ∙ ap (said asked.form) (is_nothing_left asked.meaning told)
 
 some_lines_left : (lines : ℕ) (t : PlainTold) (left : List PlainTold) → lines ≡ counted (length (t ∷ left)) → (lines == 0) ≡ false
 some_lines_left n t left counts = ap (λ (m : ℕ). m == 0) counts ∙ by (length left)
@@ -77,14 +77,14 @@ all_kept : (xs : List PlainTold) → map (kept true) xs ≡ xs
 all_kept xs = map-id xs
 
 end_of_some : (asked : Asked) (left causes : List PlainTold) (lines : ℕ) (is_some : Bool) → (lines == 0) ≡ false → causes ≡ once_of (map (kept asked.once) left)
-    → text_shown asked.once left ++ end_text asked lines is_some causes ≡ told_text (shown asked.once left)
+    → text_shown asked left ++ end_text asked lines is_some causes ≡ written asked (shown asked.once left)
 end_of_some asked left causes n is_some some causes_are =
-    ap (λ (b : Bool). text_shown asked.once left ++ cond b (line (nothing_for asked.meaning is_some)) (cond asked.once (told_text causes) [])) some
+    ap (λ (b : Bool). text_shown asked left ++ cond b (said asked.form (nothing_for asked.meaning is_some)) (cond asked.once (written asked causes) [])) some
     ∙ by asked.once causes_are
   where
-    by : (b : Bool) → causes ≡ once_of (map (kept b) left) → text_shown b left ++ cond b (told_text causes) [] ≡ told_text (shown b left)
-    by true e = ap told_text (e ∙ ap once_of (all_kept left))
-    by false e = append-nil (told_text left)
+    by : (b : Bool) → causes ≡ once_of (map (kept b) left) → cond b [] (written asked left) ++ cond b (written asked causes) [] ≡ written asked (shown b left)
+    by true e = ap (written asked) (e ∙ ap once_of (all_kept left))
+    by false e = append-nil (written asked left)
 
 module _ (asked : Asked) (input : Input) (a b : Dictionary) (list : List PlainEntry) (is_list : IsListText input list) where
   module _ (sound : IsDictionary a) (can : CanAsk asked a) (apart : List PlainTold) where
@@ -93,7 +93,7 @@ module _ (asked : Asked) (input : Input) (a b : Dictionary) (list : List PlainEn
 
     by_left : (told left causes : List PlainTold) (lines : ℕ) (is_some : Bool) (exit : Exit) (is : Found) → AreAllTold asked a b told apart → TellsFound asked.once list told apart is → left_of list told ≡ left
         → lines ≡ counted (length (left_of list told)) → is_some ≡ is_any told → causes ≡ once_of (map (kept asked.once) (left_of list told)) → exit ≡ exit_of lines
-        → IsListed asked input a b (text_shown asked.once (left_of list told) ++ end_text asked lines is_some causes) exit is
+        → IsListed asked input a b (text_shown asked (left_of list told) ++ end_text asked lines is_some causes) exit is
     by_left [] [] causes count is_some exit is all tells none counts some causes_are ends =
         let places = asked_places a (names_of asked) in
         let breaks = of_each asked a (λ number. ∥ AreValid a b asked.sends asked.unknown number ∥₁) sound (told_valid a b asked.sends asked.unknown asked.messages asked.meaning places [] apart all refl) in
@@ -137,14 +137,14 @@ module _ (asked : Asked) (input : Input) (a b : Dictionary) (list : List PlainEn
       }
 
       abbrev pub whole_text : (is : Found) → Finds seen is → List ℕ
-      whole_text is f = text_shown asked.once (left_of list all.told) ++ end_text asked seen.lines seen.is_some (map plain_told f.causes.items)
+      whole_text is f = text_shown asked (left_of list all.told) ++ end_text asked seen.lines seen.is_some (map plain_told f.causes.items)
 
       listed_so : (is : Found) (f : Finds seen is) (exit : Exit) → exit ≡ exit_of seen.lines → IsListed asked input a b (whole_text is f) exit is
       listed_so is f exit ends =
           let judged = all.are_seen.judged in
           by_left all.told (left_of list all.told) (map plain_told f.causes.items) seen.lines seen.is_some exit is all_told (finds_tell is f) refl judged.lines_are judged.is_some_is (kept_causes is f) ends
 
-      begun_whole : (is_once : Bool) → asked.once ≡ is_once → IsBegun asked input a b (text_shown is_once (left_of list all.told))
+      begun_whole : (is_once : Bool) → asked.once ≡ is_once → IsBegun asked input a b (cond is_once [] (written asked (left_of list all.told)))
       begun_whole true e = nothing_yet refl
       begun_whole false e =
           some_lines list (asked_places a (names_of asked)) [] all.told apart (left_of list all.told) [] is_list can e (sym (append-nil (asked_places a (names_of asked)))) all_told
@@ -153,22 +153,22 @@ module _ (asked : Asked) (input : Input) (a b : Dictionary) (list : List PlainEn
       -- where all lines were put, and it is known what stands behind them
       pub all_answered : (new : Option (List ℕ)) (r : Result Listed RunFault) → Ends asked seen mid new r → Answers asked input a b old new r
       all_answered new (Ok listed) (f, ends, put) =
-          (whole_text listed.found f, listed_so listed.found f listed.exit ends, Appends-trans old mid new (text_shown asked.once (left_of list all.told)) _ all.is_put put)
+          (whole_text listed.found f, listed_so listed.found f listed.exit ends, Appends-trans old mid new (text_shown asked (left_of list all.told)) _ all.is_put put)
       all_answered new (Err Device) (is, f, front) =
-          (whole_text is f, inr (exit_of seen.lines, (is, listed_so is f (exit_of seen.lines) refl)), front_behind old mid new (text_shown asked.once (left_of list all.told)) _ all.is_put front)
+          (whole_text is f, inr (exit_of seen.lines, (is, listed_so is f (exit_of seen.lines) refl)), front_behind old mid new (text_shown asked (left_of list all.told)) _ all.is_put front)
       all_answered new (Err NoMemory) same =
-          (text_shown asked.once (left_of list all.told), begun_whole asked.once refl, subst (λ (o : Option (List ℕ)). Appends old o (text_shown asked.once (left_of list all.told))) (sym same) all.is_put)
+          (text_shown asked (left_of list all.told), begun_whole asked.once refl, subst (λ (o : Option (List ℕ)). Appends old o (text_shown asked (left_of list all.told))) (sym same) all.is_put)
 
   -- where not all lines were put
   module _ (can : CanAsk asked a) (places : List ℕ) (old new : Option (List ℕ)) (places_are : places ≡ asked_places a (names_of asked)) where
-    begun_so : (first : List PlainTold) → AreFirstLines (sides_in asked a b) asked list places first → (is_once : Bool) → asked.once ≡ is_once → IsBegun asked input a b (text_shown is_once first)
+    begun_so : (first : List PlainTold) → AreFirstLines (sides_in asked a b) asked list places first → (is_once : Bool) → asked.once ≡ is_once → IsBegun asked input a b (cond is_once [] (written asked first))
     begun_so first f true e = nothing_yet refl
     begun_so first f false e = some_lines list f.front f.back f.told f.apart first f.more is_list can e (sym places_are ∙ f.parts) f.are_told f.left_are refl
 
-    pub first_answered : (fault : RunFault) (first : List PlainTold) → AreFirstLines (sides_in asked a b) asked list places first → StandsPut fault old new (text_shown asked.once first)
+    pub first_answered : (fault : RunFault) (first : List PlainTold) → AreFirstLines (sides_in asked a b) asked list places first → StandsPut fault old new (text_shown asked first)
         → Answers asked input a b old new (Err fault)
-    first_answered Device first f stands = (text_shown asked.once first, inl (begun_so first f asked.once refl), stands)
-    first_answered NoMemory first f stands = (text_shown asked.once first, begun_so first f asked.once refl, stands)
+    first_answered Device first f stands = (text_shown asked first, inl (begun_so first f asked.once refl), stands)
+    first_answered NoMemory first f stands = (text_shown asked first, begun_so first f asked.once refl, stands)
 
 -- nothing is written where memory is refused before
 pub none_answered : (asked : Asked) (input : Input) (a b : Dictionary) (put : Option (List ℕ)) → Answers asked input a b put put (Err NoMemory)

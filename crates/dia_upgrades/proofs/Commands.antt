@@ -55,7 +55,7 @@ module _ (s : Sides) (k : Stock) (asked : Asked) (lengths : List ℕ) (forgets :
           record {
             seen = next some.told some.apart (λ e. none_of_place s k asked.messages asked.meaning lengths (get_or places i d) (take i places) most_checked_together old.budget some.told some.apart some.are_both (new_ones e i d less))
                 some.under_way.seen;
-            is_put = subst (λ p. IsPut begun a p (text_shown asked.once (left_of list some.told))) (sym pending) some.under_way.is_put;
+            is_put = subst (λ p. IsPut begun a p (text_shown asked (left_of list some.told))) (sym pending) some.under_way.is_put;
           }
 
       pub goes_next : (told apart : List PlainTold) → Tells (get_or places i d) begin.budget new.budget told apart → GoesOn asked (get_or places i d) a c begin new told apart → AreSome (take (i + 1) places) c new
@@ -71,7 +71,7 @@ module _ (s : Sides) (k : Stock) (asked : Asked) (lengths : List ℕ) (forgets :
 
       -- or it stops there
       pub stops_there : AreShortest s.sender s.sends lengths → IsStockOf s lengths k → (fault : RunFault) → StopsIn s k asked lengths (get_or places i d) fault a c begin new
-          → (first : List PlainTold) × AreFirstLines s asked list places first × Stands fault begun c new.pending (text_shown asked.once first)
+          → (first : List PlainTold) × AreFirstLines s asked list places first × Stands fault begun c new.pending (text_shown asked first)
       stops_there shortest is_stock fault (before stops) = (
         left_of list some.told,
         record {
@@ -84,7 +84,7 @@ module _ (s : Sides) (k : Stock) (asked : Asked) (lengths : List ℕ) (forgets :
           are_told = record { lengths = lengths; stock = k; behind = old.budget; are_shortest = shortest; is_stock = is_stock; each = some.are_both };
           left_are = sym (append-nil (left_of list some.told));
         },
-        subst (λ (xs : List PlainTold). Stands fault begun c new.pending (text_shown asked.once (left_of list xs))) (append-nil some.told)
+        subst (λ (xs : List PlainTold). Stands fault begun c new.pending (text_shown asked (left_of list xs))) (append-nil some.told)
             (stops forgets list visits begun some.told some.apart small begins),
       )
       stops_there shortest is_stock fault (among behind more rest others is stops) = (
@@ -142,13 +142,13 @@ module _ (s : Sides) (asked : Asked) (forgets : Bool) (list : List PlainEntry) (
   }
 
   pub rest_stands : {U : Type 0} (found : Result U RunFault) → OnOk found (AreUnderWay s asked forgets list places begun put listing)
-      → IfErr found (λ fault. (first : List PlainTold) × AreFirstLines s asked list places first × Stands fault begun put listing.pending (text_shown asked.once first))
-      → (fault : RunFault) → StandsBehind found fault put new listing.pending → (first : List PlainTold) × AreFirstLines s asked list places first × StandsPut fault begun new (text_shown asked.once first)
-  rest_stands (Ok u) way stops Device front = (left_of list way.told, all_first way, front begun (text_shown asked.once (left_of list way.told)) way.under_way.is_put)
+      → IfErr found (λ fault. (first : List PlainTold) × AreFirstLines s asked list places first × Stands fault begun put listing.pending (text_shown asked first))
+      → (fault : RunFault) → StandsBehind found fault put new listing.pending → (first : List PlainTold) × AreFirstLines s asked list places first × StandsPut fault begun new (text_shown asked first)
+  rest_stands (Ok u) way stops Device front = (left_of list way.told, all_first way, front begun (text_shown asked (left_of list way.told)) way.under_way.is_put)
   rest_stands (Ok u) way stops NoMemory never = absurd never
-  rest_stands (Err NoMemory) way (first, are, stands) fault behind = (first, are, behind begun (text_shown asked.once first) stands)
+  rest_stands (Err NoMemory) way (first, are, stands) fault behind = (first, are, behind begun (text_shown asked first) stands)
   rest_stands (Err Device) way (first, are, stands) Device (same, put_same) =
-      (first, are, subst (λ (o : Option (List ℕ)). AppendsFront begun o (text_shown asked.once first)) (sym put_same) stands)
+      (first, are, subst (λ (o : Option (List ℕ)). AppendsFront begun o (text_shown asked first)) (sym put_same) stands)
   rest_stands (Err Device) way (first, are, stands) NoMemory (same, put_same) = absurd (let z : NoMemory ≡ Device = same in cc)
 
   pub all_put : {U : Type 0} (found : Result U RunFault) → IsOk found → OnOk found (AreUnderWay s asked forgets list places begun put listing)
@@ -161,7 +161,7 @@ module _ (s : Sides) (asked : Asked) (forgets : Bool) (list : List PlainEntry) (
     visits = length places;
     are_told = way.are_told;
     are_seen = way.under_way.seen;
-    is_put = out begun (text_shown asked.once (left_of list way.told)) way.under_way.is_put;
+    is_put = out begun (text_shown asked (left_of list way.told)) way.under_way.is_put;
   }
   all_put (Err fault) ok way out = absurd (let z : false ≡ true = ok in cc)
 
@@ -170,11 +170,11 @@ module _ (s : Sides) (asked : Asked) (forgets : Bool) (list : List PlainEntry) (
 pub start : (asked : Asked) (forgets : Bool) (list : List PlainEntry) (put : Option (List ℕ)) (listing : Listing) → AreSeen asked forgets list 0 0 listing.seen [] [] → listing.pending.bytes.items ≡ []
     → IsUnderWay asked forgets list 0 0 put put listing [] []
 start asked forgets list put listing seen nothing =
-    record { seen = seen; is_put = subst (IsPut put put listing.pending) (sym (nothing_shown asked.once)) (none_put put listing.pending nothing) }
+    record { seen = seen; is_put = subst (IsPut put put listing.pending) (sym (nothing_shown asked)) (none_put put listing.pending nothing) }
 
 -- nothing was written of any line
 pub none_first : (s : Sides) (k : Stock) (asked : Asked) (list : List PlainEntry) (lengths places : List ℕ) (put : Option (List ℕ)) → AreShortest s.sender s.sends lengths → IsStockOf s lengths k
-    → (first : List PlainTold) × AreFirstLines s asked list places first × StandsPut NoMemory put put (text_shown asked.once first)
+    → (first : List PlainTold) × AreFirstLines s asked list places first × StandsPut NoMemory put put (text_shown asked first)
 none_first s k asked list lengths places put shortest is_stock = (
   [],
   record {
@@ -187,5 +187,5 @@ none_first s k asked list lengths places put shortest is_stock = (
     are_told = record { lengths = lengths; stock = k; behind = most_checked_together; are_shortest = shortest; is_stock = is_stock; each = (refl, refl, refl) };
     left_are = refl;
   },
-  subst (Appends put put) (sym (nothing_shown asked.once)) (Appends-nil put),
+  subst (Appends put put) (sym (nothing_shown asked)) (Appends-nil put),
 )

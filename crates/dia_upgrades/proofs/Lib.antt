@@ -2,6 +2,7 @@ pub mod Answered
 pub mod AskedCommands
 pub mod CommandHeads
 pub mod Commands
+pub mod Forms
 pub mod LinesToTell
 pub mod Listings
 pub mod Outcomes

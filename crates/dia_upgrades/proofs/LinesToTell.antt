@@ -17,7 +17,8 @@ use Rattle.dia_run.specs.Texts.{line}
 use Rattle.dia_upgrades.specs.declared.asked.Asked.{Asked}
 use Rattle.dia_upgrades.specs.declared.seen.Seen.{Seen}
 use Rattle.dia_upgrades.specs.Outcome.{accepted_of, counted}
-use Rattle.dia_upgrades.specs.Told.{IsBehind, has_message, message_line, told_text}
+use Rattle.dia_upgrades.specs.Told.{IsBehind, has_message, message_line, told_text, written}
+use Rattle.dia_upgrades.specs.Forms.{line_in}
 use Rattle.dia_upgrades.specs.UnderWay.{AreJudged, Sees, SeesApart, is_any, lines_after, text_shown}
 use Rattle.dia_upgrades.proofs.Puts.{front_of_more}
 
@@ -50,13 +51,19 @@ front_of_lines old new lines i t less is front =
     subst (AppendsFront old new) all (front_of_more old new (told_text (map plain_told (take (i + 1) lines))) rest (subst (AppendsFront old new) (sym (text_next lines i t less is)) front))
 
 -- where nothing is left, nothing is written
-pub nothing_shown : (is_once : Bool) → text_shown is_once [] ≡ []
-nothing_shown true = refl
-nothing_shown false = refl
+pub nothing_shown : (asked : Asked) → text_shown asked [] ≡ []
+nothing_shown asked = by asked.once
+  where
+    by : (b : Bool) → cond b [] (written asked []) ≡ []
+    by true = refl
+    by false = refl
 
-pub shown_more : (is_once : Bool) (xs ys : List PlainTold) → text_shown is_once (xs ++ ys) ≡ text_shown is_once xs ++ text_shown is_once ys
-shown_more true xs ys = refl
-shown_more false xs ys = flat_map-append (λ (t : PlainTold). line t.words ++ t.message) xs ys
+pub shown_more : (asked : Asked) (xs ys : List PlainTold) → text_shown asked (xs ++ ys) ≡ text_shown asked xs ++ text_shown asked ys
+shown_more asked xs ys = by asked.once
+  where
+    by : (b : Bool) → cond b [] (written asked (xs ++ ys)) ≡ cond b [] (written asked xs) ++ cond b [] (written asked ys)
+    by true = refl
+    by false = flat_map-append (line_in asked.form asked.once) xs ys
 
 -- what stands behind a line whose message has these bytes, if anything does
 abbrev pub message_behind : Bool → List ℕ → List ℕ
@@ -185,13 +192,13 @@ module _ (asked : Asked) (place : ℕ) (old mid : Seen) (t : PlainTold) (words :
             meanings = subst (λ (c : Causes). AreCauses forgets c (left_of list apart) place visits) (sym meanings) are.are_kept.meanings;
           };
         },
-        sym (ap (text_shown asked.once) (left_one list t true e) ∙ nothing_shown asked.once),
+        sym (ap (text_shown asked) (left_one list t true e) ∙ nothing_shown asked),
       )
 
   -- or it is left
   pub sees_left : (new : Seen) (text : List ℕ) → known ≡ false → new.accepting ≡ mid.accepting → new.meanings ≡ mid.meanings → new.lines ≡ mid.lines → new.accepted ≡ mid.accepted → new.is_some ≡ mid.is_some
       → ((forgets : Bool) (told : List PlainTold) (visits : ℕ) → visits < 2 ^ 63 → AreCauses forgets mid.causes told place visits → AreCauses forgets new.causes (told ++ kept asked.once t ∷ []) place visits)
-      → text ≡ text_shown asked.once (t ∷ []) → Sees asked place old new t text
+      → text ≡ text_shown asked (t ∷ []) → Sees asked place old new t text
   sees_left new text is_no same_list same_meanings same_lines same_accepted same_some added text_is = λ forgets list visits told apart small are.
       let e = is_known list told apart are.judged ∙ is_no in
       let more : map (kept asked.once) (left_of list told) ++ kept asked.once t ∷ [] ≡ map (kept asked.once) (left_of list (told ++ t ∷ [])) =
@@ -204,7 +211,7 @@ module _ (asked : Asked) (place : ℕ) (old mid : Seen) (t : PlainTold) (words :
             meanings = subst (λ (c : Causes). AreCauses forgets c (left_of list apart) place visits) (sym (same_meanings ∙ meanings)) are.are_kept.meanings;
           };
         },
-        text_is ∙ ap (text_shown asked.once) (sym (left_one list t false e)),
+        text_is ∙ ap (text_shown asked) (sym (left_one list t false e)),
       )
 
 -- ---- a line of a meaning that comes

@@ -24,24 +24,24 @@ use Rattle.dia_upgrades.proofs.Puts.{same_put}
 module _ (asked : Asked) (place : ℕ) where
   -- ---- one line
 
-  text_behind : (list : List PlainEntry) (told : List PlainTold) (t : PlainTold) (text : List ℕ) → text ≡ text_shown asked.once (left_of list (t ∷ []))
-      → text_shown asked.once (left_of list told) ++ text ≡ text_shown asked.once (left_of list (told ++ t ∷ []))
+  text_behind : (list : List PlainEntry) (told : List PlainTold) (t : PlainTold) (text : List ℕ) → text ≡ text_shown asked (left_of list (t ∷ []))
+      → text_shown asked (left_of list told) ++ text ≡ text_shown asked (left_of list (told ++ t ∷ []))
   text_behind list told t text is =
-      ap (λ (x : List ℕ). text_shown asked.once (left_of list told) ++ x) is ∙ sym (shown_more asked.once (left_of list told) (left_of list (t ∷ [])))
-      ∙ ap (text_shown asked.once) (sym (left_both list told (t ∷ [])))
+      ap (λ (x : List ℕ). text_shown asked (left_of list told) ++ x) is ∙ sym (shown_more asked (left_of list told) (left_of list (t ∷ [])))
+      ∙ ap (text_shown asked) (sym (left_both list told (t ∷ [])))
 
   pub line_goes : (put_old put : Option (List ℕ)) (old new : Listing) (t : PlainTold) (text : List ℕ) → Sees asked place old.seen new.seen t text
       → ((begun : Option (List ℕ)) (before : List ℕ) → IsPut begun put_old old.pending before → IsPut begun put new.pending (before ++ text)) → GoesOn asked place put_old put old new (t ∷ []) []
   line_goes put_old put old new t text sees added = λ forgets list visits begun told apart small way.
       let s = sees forgets list visits told apart small way.seen in record {
         seen = subst (λ (xs : List PlainTold). AreSeen asked forgets list place visits new.seen (told ++ t ∷ []) xs) (sym (append-nil apart)) s.0;
-        is_put = subst (IsPut begun put new.pending) (text_behind list told t text s.1) (added begun (text_shown asked.once (left_of list told)) way.is_put);
+        is_put = subst (IsPut begun put new.pending) (text_behind list told t text s.1) (added begun (text_shown asked (left_of list told)) way.is_put);
       }
 
   pub line_stops : (put_old put : Option (List ℕ)) (old new : Listing) (seen : Seen) (t : PlainTold) (text : List ℕ) → Sees asked place old.seen seen t text
       → ((begun : Option (List ℕ)) (before : List ℕ) → IsPut begun put_old old.pending before → AppendsFront begun put (before ++ text)) → StopsBehind asked place Device put_old put old new (t ∷ [])
   line_stops put_old put old new seen t text sees front = λ forgets list visits begun told apart small way.
-      subst (AppendsFront begun put) (text_behind list told t text (sees forgets list visits told apart small way.seen).1) (front begun (text_shown asked.once (left_of list told)) way.is_put)
+      subst (AppendsFront begun put) (text_behind list told t text (sees forgets list visits told apart small way.seen).1) (front begun (text_shown asked (left_of list told)) way.is_put)
 
   -- ---- nothing more
 
@@ -52,19 +52,19 @@ module _ (asked : Asked) (place : ℕ) where
   -- where memory is refused, what was put and what is pending stay
   pub stops_here : (put : Option (List ℕ)) (old new : Listing) → new.pending ≡ old.pending → StopsBehind asked place NoMemory put put old new []
   stops_here put old new same = λ forgets list visits begun told apart small way.
-      subst (λ (xs : List PlainTold). IsPut begun put new.pending (text_shown asked.once (left_of list xs))) (sym (append-nil told))
-      (same_put begun put old.pending new.pending (text_shown asked.once (left_of list told)) (ap (λ p. p.bytes.items) same) way.is_put)
+      subst (λ (xs : List PlainTold). IsPut begun put new.pending (text_shown asked (left_of list xs))) (sym (append-nil told))
+      (same_put begun put old.pending new.pending (text_shown asked (left_of list told)) (ap (λ p. p.bytes.items) same) way.is_put)
 
   pub stops_behind : (put_old put : Option (List ℕ)) (old mid new : Listing) (more others : List PlainTold) → new.pending ≡ mid.pending → GoesOn asked place put_old put old mid more others
       → StopsBehind asked place NoMemory put_old put old new more
   stops_behind put_old put old mid new more others same goes = λ forgets list visits begun told apart small way.
-      same_put begun put mid.pending new.pending (text_shown asked.once (left_of list (told ++ more))) (ap (λ p. p.bytes.items) same) (goes forgets list visits begun told apart small way).is_put
+      same_put begun put mid.pending new.pending (text_shown asked (left_of list (told ++ more))) (ap (λ p. p.bytes.items) same) (goes forgets list visits begun told apart small way).is_put
 
   from_there : (put : Option (List ℕ)) (old mid : Listing) → mid.seen ≡ old.seen → mid.pending ≡ old.pending → (forgets : Bool) (list : List PlainEntry) (visits : ℕ) (begun : Option (List ℕ))
       (told apart : List PlainTold) → IsUnderWay asked forgets list place visits begun put old told apart → IsUnderWay asked forgets list place visits begun put mid told apart
   from_there put old mid seen pending forgets list visits begun told apart way = record {
     seen = subst (λ s. AreSeen asked forgets list place visits s told apart) (sym seen) way.seen;
-    is_put = same_put begun put old.pending mid.pending (text_shown asked.once (left_of list told)) (ap (λ p. p.bytes.items) pending) way.is_put;
+    is_put = same_put begun put old.pending mid.pending (text_shown asked (left_of list told)) (ap (λ p. p.bytes.items) pending) way.is_put;
   }
 
   -- what was known before the budget was used
@@ -88,7 +88,7 @@ module _ (asked : Asked) (place : ℕ) where
   pub stops_later : (fault : RunFault) (a b c : Option (List ℕ)) (old mid new : Listing) (more last others : List PlainTold) → GoesOn asked place a b old mid more others
       → StopsBehind asked place fault b c mid new last → StopsBehind asked place fault a c old new (more ++ last)
   stops_later fault a b c old mid new more last others goes stops = λ forgets list visits begun told apart small way.
-      subst (λ (xs : List PlainTold). Stands fault begun c new.pending (text_shown asked.once (left_of list xs))) (append_assoc told more last)
+      subst (λ (xs : List PlainTold). Stands fault begun c new.pending (text_shown asked (left_of list xs))) (append_assoc told more last)
       (stops forgets list visits begun (told ++ more) (apart ++ others) small (goes forgets list visits begun told apart small way))
 
   -- lines that aren't shown
@@ -97,7 +97,7 @@ module _ (asked : Asked) (place : ℕ) where
   apart_goes put old new others same sees = λ forgets list visits begun told apart small way.
       subst (λ (xs : List PlainTold). IsUnderWay asked forgets list place visits begun put new xs (apart ++ others)) (sym (append-nil told)) (record {
         seen = sees forgets list visits told apart small way.seen;
-        is_put = same_put begun put old.pending new.pending (text_shown asked.once (left_of list told)) (ap (λ p. p.bytes.items) same) way.is_put;
+        is_put = same_put begun put old.pending new.pending (text_shown asked (left_of list told)) (ap (λ p. p.bytes.items) same) way.is_put;
       })
 
   pub apart_both : (old mid new : Seen) (others rest : List PlainTold) → SeesApart asked place old mid others → SeesApart asked place mid new rest → SeesApart asked place old new (others ++ rest)

@@ -17,7 +17,7 @@ use Rattle.dia_io.specs.Inputs.{Holds, IsOver}
 use Rattle.dia_accepted.specs.Accepted.{PlainEntry, PlainTold, left_of, list_fault, max_list}
 use Rattle.dia_accepted.specs.declared.Told.{Told}
 use Rattle.dia_accepted.specs.declared.ListFault.{ListFault}
-use Rattle.dia_run.specs.Texts.{line, IsDictionaryText}
+use Rattle.dia_run.specs.Texts.{IsDictionaryText}
 use Rattle.dia_run.specs.Outcome.{ended, no_first, no_second}
 use Rattle.dia_run.proofs.OneInput.{one_dictionary, dictionary_or_not}
 use Rattle.dia_upgrades.specs.declared.asked.Asked.{Asked}
@@ -25,8 +25,8 @@ use Rattle.dia_upgrades.specs.declared.list.BadList.{BadList}
 use Rattle.dia_upgrades.specs.declared.list.BadList.TheVariants as lists
 use Rattle.dia_upgrades.specs.declared.reporting.Found.{Found}
 use Rattle.dia_upgrades.specs.declared.reporting.Found.TheVariants as founds
-use Rattle.dia_upgrades.specs.declared.reporting.Listed.{Listed}
 use Rattle.dia_upgrades.specs.Asking.{names_of}
+use Rattle.dia_upgrades.specs.Forms.{said}
 use Rattle.dia_upgrades.specs.Lists.{IsListText, IsNoListText}
 use Rattle.dia_upgrades.specs.Outcome.{AreLeft, AreRead, CanAsk, CannotAnswer, HasLines, HasNoLines, IsAnswerable, IsBreakingOutcome, IsListed, TellsFound, counted, nothing_else_breaks, nothing_else_differs, nothing_left}
 use Rattle.dia_upgrades.specs.Outcome.{nothing, nothing_else, lines, bad_list, no_commands, no_command}
@@ -123,7 +123,7 @@ module _ (asked : Asked) (inputs : Inputs) (text : List ℕ) (exit : Exit) where
   pub yes_is_safe : IsBreakingOutcome asked inputs text exit → exit ≡ Yes → IsSafeUpgrade asked inputs text
   yes_is_safe (ended a b is_a is_b (is, nothing list apart can breaks differs is_text is_exit)) is_yes = safe a b list (read a b list is_a is_b can.list_is can.can_ask) breaks differs is_text
   yes_is_safe (ended a b is_a is_b (is, nothing_else list told apart can left some breaks is_text is_exit)) is_yes =
-      accepted a b list (read a b list is_a is_b can.list_is can.can_ask) breaks (is_text ∙ ap line (else_left asked.meaning told some))
+      accepted a b list (read a b list is_a is_b can.list_is can.can_ask) breaks (is_text ∙ ap (said asked.form) (else_left asked.meaning told some))
   yes_is_safe (ended a b is_a is_b (is, lines list told apart can left is_text is_exit)) is_yes = absurd (let e : No ≡ Yes = sym is_exit ∙ is_yes in cc)
   yes_is_safe (ended a b is_a is_b (is, bad_list bad none refuses what)) is_yes = absurd (let e : Bad ≡ Yes = sym refuses.1 ∙ is_yes in cc)
   yes_is_safe (ended a b is_a is_b (is, no_commands list is_list none refuses what)) is_yes = absurd (let e : Bad ≡ Yes = sym refuses.1 ∙ is_yes in cc)

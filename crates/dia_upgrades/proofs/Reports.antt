@@ -5,7 +5,6 @@ use Rattle.std.specs.Io.KnownBytes.{Appends}
 use Rattle.std.proofs.KnownBytes.{Appends-nil}
 use Rattle.dia_book.specs.Dictionary.{Dictionary}
 use Rattle.dia_dict.specs.declared.IndexedBook.{IndexedBook}
-use Rattle.dia_io.specs.declared.Exit.{Exit}
 use Rattle.dia_io.specs.declared.Exit.TheVariants.{Yes, No, Bad}
 use Rattle.dia_io.specs.declared.Input.{Input}
 use Rattle.dia_io.specs.declared.Inputs.{Inputs}
@@ -14,11 +13,10 @@ use Rattle.dia_io.specs.declared.RunFault.TheVariants.{Device, NoMemory}
 use Rattle.dia_io.specs.Writing.{AppendsFront}
 use Rattle.dia_report.specs.declared.bad_input.BadInput.{BadInput}
 use Rattle.dia_report.specs.declared.reporting.BothBooks.{BothBooks}
-use Rattle.dia_report.specs.declared.refusing.Refused.{Refused}
-use Rattle.dia_report.specs.Refusals.{TellsOf, bad_input_text, dictionary_line}
+use Rattle.dia_report.specs.Refusals.{bad_input_text}
 use Rattle.dia_run.specs.Outcome.{ended, no_first, no_second}
 use Rattle.dia_run.specs.Report.{AreReadFrom}
-use Rattle.dia_run.specs.Texts.{line, IsDictionaryText, IsNoDictionaryText}
+use Rattle.dia_run.specs.Texts.{line}
 use Rattle.dia_upgrades.specs.declared.asked.Asked.{Asked}
 use Rattle.dia_upgrades.specs.declared.reporting.Listed.{Listed}
 use Rattle.dia_upgrades.specs.declared.reporting.Report.TheVariants as reports

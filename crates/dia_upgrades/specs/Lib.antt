@@ -1,5 +1,6 @@
 pub mod Asking
 pub mod Begun
+pub mod Forms
 pub mod Lists
 pub mod Outcome
 pub mod Places

@@ -10,8 +10,8 @@ use Rattle.dia_io.specs.declared.Input.{Input}
 use Rattle.dia_io.specs.declared.Inputs.{Inputs}
 use Rattle.dia_io.specs.declared.Exit.{Exit}
 use Rattle.dia_io.specs.declared.Exit.TheVariants.{Yes, No, Bad}
-use Rattle.dia_run.specs.Texts.{line, IsDictionaryText, IsNoDictionaryText}
-use Rattle.dia_run.specs.Outcome.{IsPairOutcome, Refuses}
+use Rattle.dia_run.specs.Texts.{IsDictionaryText, IsNoDictionaryText}
+use Rattle.dia_run.specs.Outcome.{IsPairOutcome}
 use Rattle.dia_accepted.specs.Accepted.{PlainEntry, PlainTold, accepts, is_accepted, kept, left_of, plain_told, stale_lines}
 use Rattle.dia_accepted.specs.Causes.{once_of}
 use Rattle.dia_accepted.specs.declared.Told.{Told}
@@ -22,13 +22,15 @@ use Rattle.dia_breaking.specs.Sides.{Sides, answer, sides}
 use Rattle.dia_breaking.specs.TheLines.{AreLinesOrUnproved}
 use Rattle.dia_breaking.specs.TheMeanings.{AreMeaningsOf, AreMeant, AreTheMeanings, HoldsOfLevels, IsReadAsSent}
 use Rattle.dia_upgrades.specs.declared.asked.Asked.{Asked}
+use Rattle.dia_upgrades.specs.declared.asked.Form.{Form}
 use Rattle.dia_upgrades.specs.declared.list.BadList.{BadList}
 use Rattle.dia_upgrades.specs.declared.reporting.Found.{Found}
 use Rattle.dia_upgrades.specs.declared.reporting.Found.TheVariants as found
 use Rattle.dia_upgrades.specs.Asking.{names_of, IsAskedFor, AreCommands}
+use Rattle.dia_upgrades.specs.Forms.{said}
 use Rattle.dia_upgrades.specs.Lists.{IsListText, IsNoListText, list_line}
 use Rattle.dia_upgrades.specs.Places.{asked_places}
-use Rattle.dia_upgrades.specs.Told.{AreShortest, AreTold, told_text, words_at}
+use Rattle.dia_upgrades.specs.Told.{AreShortest, AreTold, words_at, written}
 
 -- ---- what is claimed
 
@@ -113,6 +115,10 @@ no_commands_line = codes "breaking: no command"
 abbrev pub no_command_line : List ℕ → List ℕ
 no_command_line name = codes "breaking: no command " ++ name
 
+-- it ends with these words, where words are written
+abbrev pub Tells : Form → List ℕ → List ℕ → Exit → Type 0
+Tells form told text exit = (text ≡ said form told) × (exit ≡ Bad)
+
 -- there are commands, and each name that is given is that of one
 pub record CanAsk (asked : Asked) (a : Dictionary) : Type 0 where
   pub some : a.commands ≢ []
@@ -155,16 +161,16 @@ pub record IsAnswerable (asked : Asked) (input : Input) (a b : Dictionary) (list
 -- `breaking` of two dictionaries and a list: what is written, how it ends, and what was found
 pub data IsListed (asked : Asked) (input : Input) (a b : Dictionary) (text : List ℕ) (exit : Exit) (is : Found) : Type 0 where
   nothing : (list : List PlainEntry) (apart : List PlainTold) → IsAnswerable asked input a b list [] apart is → NothingBreaks asked a b → NothingDiffers asked a b
-      → text ≡ line (nothing_left asked.meaning []) → exit ≡ Yes → IsListed asked input a b text exit is
+      → text ≡ said asked.form (nothing_left asked.meaning []) → exit ≡ Yes → IsListed asked input a b text exit is
   nothing_else : (list : List PlainEntry) (told apart : List PlainTold) → IsAnswerable asked input a b list told apart is → left_of list told ≡ [] → told ≢ []
-      → NothingElseBreaks asked list a b → text ≡ line (nothing_left asked.meaning told) → exit ≡ Yes → IsListed asked input a b text exit is
+      → NothingElseBreaks asked list a b → text ≡ said asked.form (nothing_left asked.meaning told) → exit ≡ Yes → IsListed asked input a b text exit is
   lines : (list : List PlainEntry) (told apart : List PlainTold) → IsAnswerable asked input a b list told apart is → left_of list told ≢ []
-      → text ≡ told_text (shown asked.once (left_of list told)) → exit ≡ No → IsListed asked input a b text exit is
-  bad_list : (bad : BadList) → IsNoListText input bad → Refuses (list_line bad) text exit → is ≡ found.NoList bad → IsListed asked input a b text exit is
-  no_commands : (list : List PlainEntry) → IsListText input list → a.commands ≡ [] → Refuses no_commands_line text exit → is ≡ found.NoCommands
+      → text ≡ written asked (shown asked.once (left_of list told)) → exit ≡ No → IsListed asked input a b text exit is
+  bad_list : (bad : BadList) → IsNoListText input bad → Tells asked.form (list_line bad) text exit → is ≡ found.NoList bad → IsListed asked input a b text exit is
+  no_commands : (list : List PlainEntry) → IsListText input list → a.commands ≡ [] → Tells asked.form no_commands_line text exit → is ≡ found.NoCommands
       → IsListed asked input a b text exit is
   no_command : (list : List PlainEntry) (name : List ℕ) → IsListText input list → a.commands ≢ [] → IsFirstUnknown a (names_of asked) name
-      → Refuses (no_command_line name) text exit → is ≡ found.NoCommand → IsListed asked input a b text exit is
+      → Tells asked.form (no_command_line name) text exit → is ≡ found.NoCommand → IsListed asked input a b text exit is
 
 -- the same, whatever was found
 abbrev pub IsAnyListed : Asked → Input → Dictionary → Dictionary → List ℕ → Exit → Type 0
@@ -206,15 +212,15 @@ pub record AreRead (asked : Asked) (inputs : Inputs) (a b : Dictionary) (list : 
 -- what a no says: this is the text of the lines that the list doesn't accept, or of their causes, and there is one
 abbrev pub IsUnsafeUpgrade : Asked → Inputs → List ℕ → Type 0
 IsUnsafeUpgrade asked inputs text = (a : Dictionary) × (b : Dictionary) × (list : List PlainEntry) × (told : List PlainTold) × (apart : List PlainTold) × AreRead asked inputs a b list
-    × AreAllTold asked a b told apart × (left_of list told ≢ []) × (text ≡ told_text (shown asked.once (left_of list told)))
+    × AreAllTold asked a b told apart × (left_of list told ≢ []) × (text ≡ written asked (shown asked.once (left_of list told)))
 
 -- what a yes says: nothing breaks, or nothing but what the list accepts; with `--meaning` nothing is read as another format, either, or
 -- nothing but what the list accepts; and what is written says which
 pub data IsSafeUpgrade (asked : Asked) (inputs : Inputs) (text : List ℕ) : Type 0 where
   safe : (a b : Dictionary) (list : List PlainEntry) → AreRead asked inputs a b list → NothingBreaks asked a b → NothingDiffers asked a b
-      → text ≡ line (if asked.meaning then nothing_differs else nothing_breaks) → IsSafeUpgrade asked inputs text
+      → text ≡ said asked.form (if asked.meaning then nothing_differs else nothing_breaks) → IsSafeUpgrade asked inputs text
   accepted : (a b : Dictionary) (list : List PlainEntry) → AreRead asked inputs a b list → NothingElseBreaks asked list a b
-      → text ≡ line (if asked.meaning then nothing_else_differs else nothing_else_breaks) → IsSafeUpgrade asked inputs text
+      → text ≡ said asked.form (if asked.meaning then nothing_else_differs else nothing_else_breaks) → IsSafeUpgrade asked inputs text
 
 -- the inputs are refused: one is no dictionary's text, or no list's; or the first has no commands, or none of a name that is given
 pub data AreRefused (asked : Asked) (inputs : Inputs) : Type 0 where

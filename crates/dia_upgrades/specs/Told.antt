@@ -25,6 +25,8 @@ use Rattle.dia_breaking.specs.ToldMessages.{AreConfirmedWhere, BreaksAsTold, IsC
 use Rattle.dia_breaking.specs.Words.{words_of}
 use Rattle.dia_breaking.specs.Sides.{Sides, answer}
 use Rattle.dia_run.specs.Texts.{line}
+use Rattle.dia_upgrades.specs.declared.asked.Asked.{Asked}
+use Rattle.dia_upgrades.specs.Forms.{line_in}
 
 -- the list is one of the first, behind it one of the second, and so on
 abbrev pub AreParts : {X Y : Type 0} → (X → List Y → Type 0) → List X → List Y → Type 0
@@ -68,6 +70,10 @@ IsLineTold place messages words are line told =
 -- the text of lines: each ends a line, and its message stands behind it
 abbrev pub told_text : List PlainTold → List ℕ
 told_text told = flat_map (λ t. line t.words ++ t.message) told
+
+-- the lines in the form that is asked for
+abbrev pub written : Asked → List PlainTold → List ℕ
+written asked told = flat_map (line_in asked.form asked.once) told
 
 -- ---- a command
 

@@ -38,9 +38,10 @@ use Rattle.dia_upgrades.specs.declared.seen.Seen.{Seen}
 use Rattle.dia_upgrades.specs.declared.shown.Shown.{Shown}
 use Rattle.dia_upgrades.specs.declared.lines.Listing.{Listing}
 use Rattle.dia_upgrades.specs.Begun.{IsBegun, IsBegunOrWhole, IsOutcomeBegun, IsOutcomeBegunOrWhole}
+use Rattle.dia_upgrades.specs.Forms.{said}
 use Rattle.dia_upgrades.specs.Outcome.{IsBreakingOutcome, IsListed, accepted_of, counted, nothing_for}
 use Rattle.dia_upgrades.specs.Report.{IsReport}
-use Rattle.dia_upgrades.specs.Told.{AreParts, AreTold, IsBehind, IsLineTold, IsToldOf, told_text}
+use Rattle.dia_upgrades.specs.Told.{AreParts, AreTold, IsBehind, IsLineTold, IsToldOf, written}
 
 -- ---- what is put
 
@@ -76,8 +77,8 @@ shown_text None = []
 shown_text (Some shown) = line (string_bytes shown.words) ++ digits_text shown.digits
 
 -- what is written of lines as they are found: with `--once` nothing
-abbrev pub text_shown : Bool → List PlainTold → List ℕ
-text_shown is_once left = if is_once then [] else told_text left
+abbrev pub text_shown : Asked → List PlainTold → List ℕ
+text_shown asked left = if asked.once then [] else written asked left
 
 -- ---- what is known
 
@@ -109,7 +110,7 @@ pub record AreSeen (asked : Asked) (forgets : Bool) (list : List PlainEntry) (pl
 -- one more line is known, and this text is written of it
 abbrev pub Sees : Asked → ℕ → Seen → Seen → PlainTold → List ℕ → Type 0
 Sees asked place old new t text = (forgets : Bool) (list : List PlainEntry) (visits : ℕ) (told apart : List PlainTold) → visits < 2 ^ 63
-    → AreSeen asked forgets list place visits old told apart → AreSeen asked forgets list place visits new (told ++ t ∷ []) apart × (text ≡ text_shown asked.once (left_of list (t ∷ [])))
+    → AreSeen asked forgets list place visits old told apart → AreSeen asked forgets list place visits new (told ++ t ∷ []) apart × (text ≡ text_shown asked (left_of list (t ∷ [])))
 
 -- these more lines are known, of meanings that aren't shown
 abbrev pub SeesApart : Asked → ℕ → Seen → Seen → List PlainTold → Type 0
@@ -138,7 +139,7 @@ pub record IsMessageFor (causes : Causes) (words : List ℕ) (are : List ℕ →
 -- these lines are known, and what is to be written of them is put or pending
 pub record IsUnderWay (asked : Asked) (forgets : Bool) (list : List PlainEntry) (place visits : ℕ) (begun put : Option (List ℕ)) (listing : Listing) (told apart : List PlainTold) : Type 0 where
   pub seen : AreSeen asked forgets list place visits listing.seen told apart
-  pub is_put : IsPut begun put listing.pending (text_shown asked.once (left_of list told))
+  pub is_put : IsPut begun put listing.pending (text_shown asked (left_of list told))
 
 -- it goes on with these lines, and with these apart
 abbrev pub GoesOn : Asked → ℕ → Option (List ℕ) → Option (List ℕ) → Listing → Listing → List PlainTold → List PlainTold → Type 0
@@ -148,7 +149,7 @@ GoesOn asked place put_old put old new more others = (forgets : Bool) (list : Li
 -- it stops behind these lines, or in the last of them
 abbrev pub StopsBehind : Asked → ℕ → RunFault → Option (List ℕ) → Option (List ℕ) → Listing → Listing → List PlainTold → Type 0
 StopsBehind asked place fault put_old put old new more = (forgets : Bool) (list : List PlainEntry) (visits : ℕ) (begun : Option (List ℕ)) (told apart : List PlainTold) → visits < 2 ^ 63
-    → IsUnderWay asked forgets list place visits begun put_old old told apart → Stands fault begun put new.pending (text_shown asked.once (left_of list (told ++ more)))
+    → IsUnderWay asked forgets list place visits begun put_old old told apart → Stands fault begun put new.pending (text_shown asked (left_of list (told ++ more)))
 
 -- among lines that tell these
 pub record StopsAmong (asked : Asked) (place : ℕ) (fault : RunFault) (put_old put : Option (List ℕ)) (old new : Listing) (is : Line → List PlainTold → Type 0) (lines : List Line) : Type 0 where
@@ -193,11 +194,11 @@ pub record AreAllPut (s : Sides) (asked : Asked) (list : List PlainEntry) (place
   pub visits : ℕ
   pub are_told : AreTold s asked.messages asked.meaning places told apart
   pub are_seen : AreSeen asked forgets list place visits seen told apart
-  pub is_put : Appends begun put (text_shown asked.once (left_of list told))
+  pub is_put : Appends begun put (text_shown asked (left_of list told))
 
 -- what is written behind all lines
 abbrev pub end_text : Asked → ℕ → Bool → List PlainTold → List ℕ
-end_text asked lines is_some causes = if lines == 0 then line (nothing_for asked.meaning is_some) else (if asked.once then told_text causes else [])
+end_text asked lines is_some causes = if lines == 0 then said asked.form (nothing_for asked.meaning is_some) else (if asked.once then written asked causes else [])
 
 abbrev pub exit_of : ℕ → Exit
 exit_of lines = if lines == 0 then Yes else No

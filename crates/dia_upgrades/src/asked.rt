@@ -1,6 +1,16 @@
 //! What the command is asked for.
 
+use dia_breaking_json::Names;
 use dia_policy::{Sends, Unknown};
+
+/// The form in which lines are written.
+#[derive(Clone, Copy)]
+pub enum Form<'a> {
+    /// In words, with a message behind a line on a line of its own.
+    Text,
+    /// As JSON: an object for each line, with the AVPs of the two dictionaries. What is said of the whole answer isn't written.
+    Json(&'a Names<'a>),
+}
 
 /// What `breaking` is to list.
 #[derive(Clone, Copy)]
@@ -15,6 +25,7 @@ pub struct Asked<'a> {
     pub once: bool,
     /// Whether AVPs that are read as another format are lines, too.
     pub meaning: bool,
+    pub form: Form<'a>,
     /// The commands of the first dictionary that are listed: all where none is named.
     pub names: &'a [String],
 }

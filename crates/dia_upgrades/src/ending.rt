@@ -1,22 +1,25 @@
 //! What is written behind all lines, and of inputs that are refused.
 
-ghost use Rattle.std.specs.Prelude.{◌≡◌, ◌↔◌, IfErr, IfOk, IsErr, IsTrue, List, ℕ, Option, Err, OnOk, ◌++◌, map, string_bytes};
+ghost use Rattle.std.specs.Prelude.{◌≡◌, ◌↔◌, IfErr, IfOk, IsErr, IsTrue, List, ℕ, Option, Err, OnOk, ◌++◌, map, string_bytes, true};
+ghost use Rattle.std.specs.List.{flat_map};
 ghost use Rattle.std.specs.Io.KnownBytes.{Appends};
-ghost use Rattle.dia_io.specs.declared.RunFault.TheVariants.{Device};
+ghost use Rattle.dia_io.specs.declared.RunFault.TheVariants.{Device, NoMemory};
 ghost use Rattle.dia_io.specs.Writing.{AppendsFront};
 ghost use Rattle.dia_run.specs.Texts.{line};
 ghost use Rattle.dia_accepted.specs.Accepted.{plain_told};
 ghost use Rattle.dia_upgrades.specs.Outcome.{nothing_for};
-ghost use Rattle.dia_upgrades.specs.Told.{told_text};
+ghost use Rattle.dia_upgrades.specs.Forms.{object_in, said};
+ghost use Rattle.dia_upgrades.specs.Told.{told_text, written};
 ghost use Rattle.dia_upgrades.specs.UnderWay.{Ends, IsPut, end_text, exit_of};
 
-use crate::asked::Asked;
+use crate::asked::{Asked, Form};
 use crate::pending::Pending;
 use crate::reporting::{Found, Listed};
 use crate::seen::Seen;
 use dia_accepted::Told;
+use dia_breaking_json::{Names, line_json};
 use dia_io::{Exit, Failed, RunFault, Sink, put_all};
-use std::alloc::Global;
+use std::alloc::{AllocError, Global};
 
 /// Writes what stands behind all lines, and answers what was found.
 pub(crate) fn ended<S: Sink>(
@@ -52,7 +55,7 @@ fn exit_of(lines: usize) -> Exit
     if lines == 0 { Exit::Yes } else { Exit::No }
 }
 
-/// Writes that no line is left, or the causes where each is told once.
+/// Writes that no line is left, or the causes where each is told once. Where memory is refused, nothing is written.
 fn put_end<S: Sink>(
     alloc: Global,
     asked: Asked<'_>,
@@ -60,21 +63,89 @@ fn put_end<S: Sink>(
     is_some: bool,
     causes: &[Told],
     sink: &mut S,
-) -> Result<(), Failed>
+) -> Result<(), RunFault>
     requires { ¬ IsTrue (S.has_failed sink.old) }
     ensures put { OnOk result (Appends (S.written sink.old) (S.written sink.new)
         (end_text asked.entry lines is_some (map plain_told causes.now))) }
-    ensures front { AppendsFront (S.written sink.old) (S.written sink.new)
+    ensures front { result ≡ Err Device → AppendsFront (S.written sink.old) (S.written sink.new)
         (end_text asked.entry lines is_some (map plain_told causes.now)) }
-    ensures failed { IsErr result ↔ IsTrue (S.has_failed sink.new) }
+    ensures device { (result ≡ Err Device) ↔ IsTrue (S.has_failed sink.new) }
+    ensures no_memory { result ≡ Err NoMemory → S.written sink.new ≡ S.written sink.old }
 {
     if lines == 0 {
-        return put_all(sink, nothing_left(is_some, asked.meaning).as_bytes());
+        let text = nothing_text(asked.form, is_some, asked.meaning);
+        put_all(sink, text.as_bytes())?;
+        return Ok(());
     }
     if asked.once {
-        return put_causes(alloc, causes, sink);
+        return put_once(alloc, asked, causes, sink);
     }
     Ok(())
+}
+
+/// Writes the causes, of which each is told once.
+fn put_once<S: Sink>(
+    alloc: Global,
+    asked: Asked<'_>,
+    causes: &[Told],
+    sink: &mut S,
+) -> Result<(), RunFault>
+    requires sound { ¬ IsTrue (S.has_failed sink.old) }
+    requires once { asked.once ≡ true }
+    ensures put { OnOk result (Appends (S.written sink.old) (S.written sink.new)
+        (written asked.entry (map plain_told causes.now))) }
+    ensures front { result ≡ Err Device → AppendsFront (S.written sink.old) (S.written sink.new)
+        (written asked.entry (map plain_told causes.now)) }
+    ensures device { (result ≡ Err Device) ↔ IsTrue (S.has_failed sink.new) }
+    ensures no_memory { result ≡ Err NoMemory → S.written sink.new ≡ S.written sink.old }
+{
+    match asked.form {
+        Form::Text => put_causes(alloc, causes, sink)?,
+        Form::Json(names) => {
+            let text = causes_json(alloc, names, causes)?;
+            put_all(sink, text.as_bytes())?;
+        }
+    }
+    Ok(())
+}
+
+/// The objects of causes.
+fn causes_json(alloc: Global, names: &Names<'_>, causes: &[Told]) -> Result<String, AllocError>
+    ensures { IfOk result (λ text. string_bytes text ≡ flat_map (object_in names.now true) (map plain_told causes.now)) }
+{
+    let mut text = String::new(alloc);
+    for told in causes {
+        push_cause(alloc, &mut text, names, told)?;
+    }
+    Ok(text)
+}
+
+/// Adds the object of a cause, on a line.
+fn push_cause(
+    alloc: Global,
+    text: &mut String,
+    names: &Names<'_>,
+    told: &Told,
+) -> Result<(), AllocError>
+    ensures { OnOk result (string_bytes text.new ≡ string_bytes text.old ++ object_in names.now true (plain_told told.now)) }
+{
+    let object = line_json(
+        alloc,
+        names,
+        true,
+        told.words.as_str(),
+        told.message.as_str(),
+    )?;
+    write!(text, "{object}\n")
+}
+
+fn nothing_text(form: Form<'_>, is_some: bool, meaning: bool) -> &'static str
+    ensures { result.now ≡ said form.entry (nothing_for meaning is_some) }
+{
+    match form {
+        Form::Text => nothing_left(is_some, meaning),
+        Form::Json(_) => "",
+    }
 }
 
 fn nothing_left(is_some: bool, meaning: bool) -> &'static str

@@ -6,15 +6,15 @@ ghost use Rattle.dia_io.specs.declared.Input.{Input as AnyInput};
 ghost use Rattle.dia_io.specs.declared.RunFault.TheVariants.{Device, NoMemory};
 ghost use Rattle.dia_io.specs.Writing.{AppendsFront};
 ghost use Rattle.dia_accepted.specs.Accepted.{plain_entry};
-ghost use Rattle.dia_run.specs.Texts.{line};
+ghost use Rattle.dia_upgrades.specs.Forms.{said};
 ghost use Rattle.dia_upgrades.specs.Begun.{IsBegun, IsBegunOrWhole};
 ghost use Rattle.dia_upgrades.specs.Lists.{IsListText, list_line};
 ghost use Rattle.dia_upgrades.specs.Asking.{names_of};
-ghost use Rattle.dia_upgrades.specs.Outcome.{CanAsk, IsListed, no_command_line};
+ghost use Rattle.dia_upgrades.specs.Outcome.{CanAsk, IsListed, no_command_line, no_commands_line};
 ghost use Rattle.dia_upgrades.specs.Places.{asked_places};
 ghost use Rattle.dia_upgrades.specs.UnderWay.{Answers};
 
-use crate::asked::Asked;
+use crate::asked::{Asked, Form};
 use crate::ending::{ended, refused};
 use crate::lines::put_lines;
 use crate::list::{BadList, read_accepted};
@@ -70,7 +70,7 @@ fn answered<A: Book, B: Book, S: Sink>(
     match read_accepted(alloc, list)? {
         Ok(list) => listed(alloc, asked, list.as_slice(), a, b, sink),
         Err(bad) => {
-            let text = no_list_text(alloc, bad)?;
+            let text = no_list_text(alloc, asked.form, bad)?;
             refused(sink, text.as_str(), Found::NoList(bad))
         }
     }
@@ -91,12 +91,12 @@ fn listed<A: Book, B: Book, S: Sink>(
     ensures device { (result ≡ Err Device) ↔ IsTrue (S.has_failed sink.new) }
 {
     if has_no_commands(a) {
-        return refused(sink, "breaking: no command\n", Found::NoCommands);
+        return refused(sink, no_commands_text(asked.form), Found::NoCommands);
     }
     match named(alloc, a, asked.names)? {
         Ok(commands) => compared(alloc, asked, list, a, b, commands.as_slice(), sink),
         Err(name) => {
-            let text = no_command_text(alloc, name)?;
+            let text = no_command_text(alloc, asked.form, name)?;
             refused(sink, text.as_str(), Found::NoCommand)
         }
     }
@@ -130,14 +130,29 @@ fn compared<A: Book, B: Book, S: Sink>(
     ended(alloc, asked, &seen, sink)
 }
 
-fn no_list_text(alloc: Global, bad: BadList) -> Result<String, AllocError>
-    ensures { IfOk result (λ text. string_bytes text ≡ line (list_line bad)) }
+fn no_list_text(alloc: Global, form: Form<'_>, bad: BadList) -> Result<String, AllocError>
+    ensures { IfOk result (λ text. string_bytes text ≡ said form.entry (list_line bad)) }
 {
-    format!(in alloc; "accepted: {bad}\n")
+    match form {
+        Form::Text => format!(in alloc; "accepted: {bad}\n"),
+        Form::Json(_) => Ok(String::new(alloc)),
+    }
 }
 
-fn no_command_text(alloc: Global, name: &str) -> Result<String, AllocError>
-    ensures { IfOk result (λ text. string_bytes text ≡ line (no_command_line name.now)) }
+fn no_commands_text(form: Form<'_>) -> &'static str
+    ensures { result.now ≡ said form.entry no_commands_line }
 {
-    format!(in alloc; "breaking: no command {name}\n")
+    match form {
+        Form::Text => "breaking: no command\n",
+        Form::Json(_) => "",
+    }
+}
+
+fn no_command_text(alloc: Global, form: Form<'_>, name: &str) -> Result<String, AllocError>
+    ensures { IfOk result (λ text. string_bytes text ≡ said form.entry (no_command_line name.now)) }
+{
+    match form {
+        Form::Text => format!(in alloc; "breaking: no command {name}\n"),
+        Form::Json(_) => Ok(String::new(alloc)),
+    }
 }

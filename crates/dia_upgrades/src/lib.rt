@@ -17,10 +17,11 @@ mod seen;
 mod showing;
 mod shown;
 
-pub use asked::Asked;
+pub use asked::{Asked, Form};
 pub use command::breaking;
 pub use counting::lines_left;
 pub use dia_accepted::{MAX_LINES, MAX_LIST, Told};
+pub use dia_breaking_json::{Keys, Names};
 pub use judging::breaking_of;
 pub use laws::confirmed_texts_break;
 pub use list::BadList;

@@ -50,7 +50,7 @@ pub(crate) fn put_lines<'l, A: Book, B: Book, S: Sink>(
         (S.written sink.old) (S.written sink.new)) }
     ensures front { IfErr result (λ fault. (first : List PlainTold)
         × AreFirstLines (sides_of upgrade.now) asked.entry (map plain_entry list.now) places.now first
-        × StandsPut fault (S.written sink.old) (S.written sink.new) (text_shown asked.entry.once first)) }
+        × StandsPut fault (S.written sink.old) (S.written sink.new) (text_shown asked.entry first)) }
     ensures device { (result ≡ Err Device) ↔ IsTrue (S.has_failed sink.new) }
 {
     let forgets = are_distinct(alloc, places)?;
@@ -110,7 +110,7 @@ fn put_commands<A: Book, B: Book, S: Sink>(
         → listing.old.budget ≡ most_checked_together
         → IsUnderWay asked.entry forgets list place 0 begun (S.written sink.old) listing.old [] []
         → (first : List PlainTold) × AreFirstLines (sides_of upgrade.now) asked.entry list places.now first
-        × Stands fault begun (S.written sink.new) listing.new.pending (text_shown asked.entry.once first)) }
+        × Stands fault begun (S.written sink.new) listing.new.pending (text_shown asked.entry first)) }
     ensures device { (result ≡ Err Device) ↔ IsTrue (S.has_failed sink.new) }
 {
     for place in places {

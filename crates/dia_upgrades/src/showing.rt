@@ -1,16 +1,18 @@
 //! A line of a command: its words and its message.
 
-ghost use Rattle.std.specs.Prelude.{◌≡◌, ◌∷◌, IfOk, OnOk, Some, [], string_bytes};
+ghost use Rattle.std.specs.Prelude.{◌≡◌, ◌∷◌, ℕ, IfOk, OnOk, Some, [], string_bytes};
 ghost use Rattle.dia_breaking.specs.Orders.{IsInOrderOf};
 ghost use Rattle.dia_accepted.specs.Accepted.{PlainTold};
-ghost use Rattle.dia_upgrades.specs.Told.{AreShown, IsBehind, apart_of, has_message, message_line, place_of};
+ghost use Rattle.dia_upgrades.specs.Told.{AreShown, IsBehind, apart_of, has_message, message_line, place_of, told_as};
 ghost use Rattle.dia_upgrades.specs.UnderWay.{IsMessageFor, IsMessageIn, IsToldIn, Sees, digits_text, shown_text};
+ghost use Rattle.dia_upgrades.specs.Forms.{line_in};
 
-use crate::asked::Asked;
+use crate::asked::{Asked, Form};
 use crate::seen::Seen;
 use crate::shown::Shown;
 use dia_accepted::Causes;
 use dia_breaking::{Breaks, Cause, Line, Standing, Upgrade};
+use dia_breaking_json::line_json;
 use dia_dict::Book;
 use std::alloc::{AllocError, Global};
 
@@ -45,7 +47,31 @@ pub(crate) fn see_line<A: Book, B: Book>(
     let digits = digits_of(alloc, upgrade, breaks, line, messages)?;
     let none = String::new(alloc);
     seen.causes.add(alloc, place, told, none)?;
-    Ok(Some(Shown { words, digits }))
+    let shown = in_form(alloc, asked, words, digits)?;
+    Ok(Some(shown))
+}
+
+/// A line in the form that is asked for.
+fn in_form(
+    alloc: Global,
+    asked: Asked<'_>,
+    words: String,
+    digits: Option<String>,
+) -> Result<Shown, AllocError>
+    ensures { IfOk result (λ shown. (place : ℕ) → shown_text (Some shown)
+        ≡ line_in asked.entry.form asked.entry.once (told_as place (string_bytes words) (digits_text digits))) }
+{
+    match asked.form {
+        Form::Text => Ok(Shown { words, digits }),
+        Form::Json(names) => {
+            let message = text_of(alloc, &digits)?;
+            let words = line_json(alloc, names, asked.once, words.as_str(), message.as_str())?;
+            Ok(Shown {
+                words,
+                digits: None,
+            })
+        }
+    }
 }
 
 /// The message of a line that is to be kept for its cause: nothing where the cause is known.

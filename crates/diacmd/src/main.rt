@@ -26,7 +26,7 @@ use dia_explain_places::{InputTexts, NamedText};
 use dia_io::put_all;
 use dia_report::{Answered, Report, Reported};
 use dia_run::{Command, Exit, Inputs, RunFault, ToWriter, run_reporting};
-use dia_upgrades::{Asked, breaking};
+use dia_upgrades::{Asked, Form, breaking};
 use notes::{explain, explain_upgrade, unnamed};
 use showing::show_named;
 use std::alloc::AllocError;
@@ -145,6 +145,7 @@ where
                 messages: *messages,
                 once: *once,
                 meaning: *meaning,
+                form: Form::Text,
                 names: names.as_slice(),
             };
             list(rt, asked, inputs, origins, quiet)

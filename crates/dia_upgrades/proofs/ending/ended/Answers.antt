@@ -7,6 +7,7 @@ use Rattle.dia_io.specs.Writing.{AppendsFront}
 use Rattle.dia_upgrades.specs.declared.reporting.Found.{Found}
 use Rattle.dia_upgrades.specs.declared.reporting.Found.TheVariants.{Listed}
 use Rattle.dia_upgrades.specs.UnderWay.{Finds, end_text}
+use Rattle.dia_upgrades.proofs.Forms.{ends_fault}
 use Rattle.dia_upgrades.proofs.ending.ended.Goals as goal
 
 pub returns-in_err-put_end-clause-ends : goal.returns-in_err-put_end-clause-ends
@@ -23,12 +24,9 @@ returns-in_err-put_end-clause-ends g c =
       causes_are = c.in_ok-causes.ensures;
       meanings_are = c.in_ok-meanings.ensures;
     } in
-    rw (p.1, p.2) (
-      is,
-      finds,
-      subst (λ (ts : List Told). AppendsFront (g.S.Sink.written c.args.sink.now) (g.S.Sink.written c.put_end.new.sink) (end_text c.args.asked seen.lines seen.is_some (map plain_told ts)))
-          c.as_slice.ensures.value c.in_err-put_end.ensures.front,
-    )
+    rw (p.1, p.2) (ends_fault c.args.asked seen (g.S.Sink.written c.args.sink.now) (g.S.Sink.written c.put_end.new.sink) _ is finds c.put_end.result c.in_err-put_end.was
+    (λ e. subst (λ (ts : List Told). AppendsFront (g.S.Sink.written c.args.sink.now) (g.S.Sink.written c.put_end.new.sink) (end_text c.args.asked seen.lines seen.is_some (map plain_told ts)))
+    c.as_slice.ensures.value (c.put_end.ensures.front e)) c.put_end.ensures.no_memory)
 
 pub returns-clause-ends : goal.returns-clause-ends
 returns-clause-ends g c =

@@ -3,10 +3,9 @@ use Rattle.std.specs.Prelude.{All}
 use Rattle.std.proofs.lemmas.Bool.{eqb-true}
 use Rattle.std.proofs.lemmas.Result.{err_from_is_err_and}
 use Rattle.dia_accepted.specs.Accepted.{plain_entry}
-use Rattle.dia_run.specs.Texts.{line}
 use Rattle.dia_upgrades.specs.declared.reporting.Found.TheVariants.{NoCommand, NoCommands}
 use Rattle.dia_upgrades.specs.Asking.{names_of}
-use Rattle.dia_upgrades.specs.Outcome.{no_command, no_commands, no_commands_line}
+use Rattle.dia_upgrades.specs.Outcome.{no_command, no_commands}
 use Rattle.dia_upgrades.proofs.Answered.{no_items, none_answered, not_zero, refusal_answered, some_items}
 use Rattle.dia_upgrades.proofs.AskedCommands.{asked_within}
 use Rattle.dia_upgrades.proofs.judging.listed.Goals as goal
@@ -21,8 +20,8 @@ pub returns-then-has_no_commands-clause-answers : goal.returns-then-has_no_comma
 returns-then-has_no_commands-clause-answers g c = λ input is_list.
     let da = g.A.Book.meaning c.args.a.now in
     let none = no_items da.commands (eqb-true (length da.commands) 0 (sym c.has_no_commands.ensures ∙ c.if-has_no_commands.true)) in
-    refusal_answered c.args.asked input da (g.B.Book.meaning c.args.b.now) _ _ (line no_commands_line) NoCommands c.refused.result
-    (no_commands (map plain_entry c.args.list.now) is_list none (refl, refl) refl) c.refused.ensures.put c.refused.ensures.exit c.refused.ensures.found c.refused.ensures.fault c.refused.ensures.front
+    refusal_answered c.args.asked input da (g.B.Book.meaning c.args.b.now) _ _ c.no_commands_text.result.now NoCommands c.refused.result
+    (no_commands (map plain_entry c.args.list.now) is_list none (c.no_commands_text.ensures, refl) refl) c.refused.ensures.put c.refused.ensures.exit c.refused.ensures.found c.refused.ensures.fault c.refused.ensures.front
 
 pub returns-in-Ok-clause-answers : goal.returns-in-Ok-clause-answers
 returns-in-Ok-clause-answers g c = λ input is_list.

@@ -1,13 +1,13 @@
-use Rattle.std.proofs.Common.{[], ◌∷◌, ◌++◌, List, ℕ, Bool, ap, inl, refl, subst, sym, ◌∙◌}
+use Rattle.std.proofs.Common.{[], ◌∷◌, ◌++◌, List, ℕ, Bool, cond, ap, inl, refl, subst, sym, ◌∙◌}
 use Rattle.std.proofs.lemmas.List.{append-nil}
 use Rattle.dia_accepted.specs.Accepted.{bare, kept}
 use Rattle.dia_accepted.specs.Seen.{AreCauses}
 use Rattle.dia_breaking.specs.Words.{words_of}
 use Rattle.dia_breaking.specs.Upgrades.{other_length_of, sides_of, stock_of}
 use Rattle.dia_upgrades.proofs.SomeMessages.{some_message}
-use Rattle.dia_run.specs.Texts.{line as with_feed}
-use Rattle.dia_upgrades.specs.Told.{has_message, told_as}
-use Rattle.dia_upgrades.specs.UnderWay.{IsMessageIn, digits_text, text_shown}
+use Rattle.dia_upgrades.specs.Told.{has_message, told_as, written}
+use Rattle.dia_upgrades.specs.Forms.{line_in}
+use Rattle.dia_upgrades.specs.UnderWay.{IsMessageIn, digits_text}
 use Rattle.dia_upgrades.proofs.LinesToTell.{message_behind, sees_accepted, sees_left}
 use Rattle.dia_upgrades.proofs.Listings.{could_be}
 use Rattle.dia_upgrades.proofs.showing.see_line.Goals as goal
@@ -46,7 +46,7 @@ returns-then-asked g c =
       (keep.message, keep.is_behind, refl),
       sees_left asked place c.args.seen.now c.judge.new.self t c.as_str-told.result.now c.in_ok-known.known (sym told) judged.accepted judged.judged judged.causes judged.meanings _ [] c.if-known.false refl refl refl refl refl
           (λ forgets before visits small are. subst (λ (b : Bool). AreCauses forgets c.add.new.self (before ++ kept b t ∷ []) place visits) (sym once)
-          (c.in_ok-add.ensures forgets before t visits small refl (sym told) (keep.is_kept forgets before place visits are) are)) (sym (ap (λ (b : Bool). text_shown b (t ∷ [])) once)),
+          (c.in_ok-add.ensures forgets before t visits small refl (sym told) (keep.is_kept forgets before place visits are) are)) (sym (ap (λ (b : Bool). cond b [] (written asked (t ∷ []))) once)),
     )
 
 pub returns : goal.returns
@@ -67,5 +67,5 @@ returns g c =
       sees_left asked place c.args.seen.now c.judge.new.self t c.as_str-told.result.now c.in_ok-known.known (sym told) judged.accepted judged.judged judged.causes judged.meanings _ _ c.if-known.false refl refl refl refl refl
           (λ forgets before visits small are. subst (λ (b : Bool). AreCauses forgets c.add-2.new.self (before ++ kept b t ∷ []) place visits) (sym each)
           (c.in_ok-add-2.ensures forgets before (bare t) visits small refl (sym told) (inl (sym c.new-none.ensures.bytes)) are))
-          (ap (λ (w : List ℕ). with_feed w ++ behind) made ∙ sym (append-nil (with_feed (words line) ++ behind)) ∙ sym (ap (λ (b : Bool). text_shown b (t ∷ [])) each)),
+          (c.in_ok-shown.ensures place ∙ ap (λ (w : List ℕ). line_in asked.form asked.once (told_as place w behind)) made ∙ sym (append-nil (line_in asked.form asked.once t)) ∙ sym (ap (λ (b : Bool). cond b [] (written asked (t ∷ []))) each)),
     )

@@ -1,4 +1,4 @@
-use Rattle.std.proofs.Common.{List, map}
+use Rattle.std.proofs.Common.{map}
 use Rattle.dia_accepted.specs.Accepted.{kept, left_of}
 use Rattle.dia_upgrades.proofs.LinesToTell.{kept_none, left_none}
 use Rattle.dia_upgrades.proofs.seen.Seen.begin.Goals as goal

@@ -1,0 +1,53 @@
+-- Lines in their forms.
+use Rattle.std.proofs.Common.{◌≡◌, ◌∙◌, ℕ, ◌+◌, ◌<◌, true, List, [], ◌∷◌, ◌++◌, Bor, Option, Result, Ok, Err, ap, get_or, length, map, sym, take, codes}
+use Rattle.std.specs.Prelude.{OnOk}
+use Rattle.std.specs.List.{flat_map}
+use Rattle.dia_accepted.specs.Accepted.{PlainTold}
+use Rattle.dia_breaking_json.specs.declared.Names.{Names}
+use Rattle.dia_upgrades.specs.declared.asked.Asked.{Asked}
+use Rattle.dia_upgrades.specs.declared.asked.Form.TheVariants.{Text, Json}
+use Rattle.dia_upgrades.specs.Forms.{line_in, object_in}
+use Rattle.dia_upgrades.specs.Told.{told_text, written}
+use Rattle.dia_upgrades.specs.declared.reporting.Found.{Found}
+use Rattle.dia_upgrades.specs.declared.seen.Seen.{Seen}
+use Rattle.dia_upgrades.specs.UnderWay.{Ends, Finds, end_text}
+use Rattle.dia_accepted.specs.Accepted.{plain_told}
+use Rattle.dia_io.specs.Writing.{AppendsFront}
+use Rattle.dia_io.specs.declared.RunFault.{RunFault}
+use Rattle.dia_io.specs.declared.RunFault.TheVariants.{Device, NoMemory}
+use Rattle.dia_run.specs.Texts.{line}
+use Rattle.std.proofs.lemmas.Grind.{flat_map-append}
+use Rattle.std.proofs.lemmas.List.{append-nil, map-append, take_more}
+use Rattle.dia_accepted.specs.declared.told.Told.{Told}
+
+-- in words
+pub written_text : (asked : Asked) (told : List PlainTold) → asked.form ≡ Text → told_text told ≡ written asked told
+written_text asked told e = ap (λ f. flat_map (line_in f asked.once) told) (sym e)
+
+-- as JSON, where each cause is told once
+pub written_json : (asked : Asked) (names : Bor Names) (told : List PlainTold) → asked.form ≡ Json names → asked.once ≡ true → flat_map (object_in names.now true) told ≡ written asked told
+written_json asked names told e once = λ i. flat_map (line_in (sym e i) (sym once i)) told
+
+-- an object is a line
+pub object_shown : (written object : List ℕ) → written ≡ object → line written ++ [] ≡ line object
+object_shown written object is = append-nil (line written) ∙ ap line is
+
+pub object_added : {U E : Type 0} (r : Result U E) (old new written object : List ℕ) → written ≡ object → OnOk r (new ≡ old ++ (written ++ codes "\n")) → OnOk r (new ≡ old ++ line object)
+object_added (Ok u) old new written object is e = e ∙ ap (λ (t : List ℕ). old ++ line t) is
+object_added (Err f) old new written object is e = tt
+
+-- what stands behind all lines isn't written whole
+pub ends_fault : {U : Type 0} (asked : Asked) (seen : Seen) (old new : Option (List ℕ)) (fault : RunFault) (is : Found) (finds : Finds seen is)
+    → (r : Result U RunFault) → r ≡ Err fault → (r ≡ Err Device → AppendsFront old new (end_text asked seen.lines seen.is_some (map plain_told finds.causes.items))) → (r ≡ Err NoMemory → new ≡ old)
+    → Ends asked seen old new (Err fault)
+ends_fault asked seen old new Device is finds r e front nothing = (is, finds, front e)
+ends_fault asked seen old new NoMemory is finds r e front nothing = nothing e
+
+-- an object more
+pub objects_more : (f : PlainTold → List ℕ) (lines : List Told) (i : ℕ) (t : Told) → i < length lines → t ≡ get_or lines i t → (old new : List ℕ) → old ≡ flat_map f (map plain_told (take i lines))
+    → new ≡ old ++ f (plain_told t) → new ≡ flat_map f (map plain_told (take (i + 1) lines))
+objects_more f lines i t less is old new before added =
+    let more : map plain_told (take (i + 1) lines) ≡ map plain_told (take i lines) ++ plain_told t ∷ [] =
+    ap (map plain_told) (take_more lines i t less ∙ ap (λ (x : Told). take i lines ++ x ∷ []) (sym is)) ∙ map-append plain_told (take i lines) (t ∷ []) in
+    added ∙ ap (λ (o : List ℕ). o ++ f (plain_told t)) before ∙ ap (λ (o : List ℕ). flat_map f (map plain_told (take i lines)) ++ o) (sym (append-nil (f (plain_told t))))
+    ∙ sym (flat_map-append f (map plain_told (take i lines)) (plain_told t ∷ [])) ∙ ap (flat_map f) (sym more)
