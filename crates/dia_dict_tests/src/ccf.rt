@@ -3,7 +3,6 @@
 //! A row is a text, and what `parse` answers: `fine`, `syntax TOKEN LINE`, `number LINE` or `limit LINE`; or `renders TEXT`,
 //! where it is rendered as that.
 
-mod example;
 mod memory;
 mod places;
 mod texts;

@@ -4,6 +4,7 @@
 //! accepts FORMAT DATA => Fine, BadLength or BadValue
 //! lengths FORMAT => the one length of data that it accepts, or any
 //! below FORMAT FORMAT => true or false
+//! copies FORMAT FORMAT => whether a copy of the first equals the second
 //! print FORMAT DATA => TEXT
 //! shortest FORMAT => its shortest data
 //! witness FORMAT FORMAT => shortest data that the first accepts and the second doesn't
@@ -21,8 +22,6 @@ use std::process::Abort;
 
 mod accept;
 mod below;
-mod example;
-mod format;
 mod leaf_state;
 mod print;
 mod values;
@@ -62,9 +61,24 @@ fn answer(rt: &(impl AllocGlobal + Abort), row: &Row<'_>) {
         "accepts" => is_accepted(rt, row, &format, second),
         "lengths" => has_length(rt, row, &format),
         "print" => is_printed(rt, row, &format, second),
-        "below" => is_below(rt, row, &format, &format_of(rt, second)),
         "shortest" => is_data(rt, row, shortest(&format)),
-        _ => is_data(rt, row, witness(&format, &format_of(rt, second))),
+        verb => answer_pair(rt, row, verb, &format, second),
+    }
+}
+
+/// Checks a row of two formats.
+fn answer_pair(
+    rt: &(impl AllocGlobal + Abort),
+    row: &Row<'_>,
+    verb: &str,
+    format: &Format,
+    second: &str,
+) {
+    let second = format_of(rt, second);
+    match verb {
+        "below" => is_answer(rt, row, format_below(format, &second)),
+        "copies" => is_answer(rt, row, is_copied(rt, format, &second)),
+        _ => is_data(rt, row, witness(format, &second)),
     }
 }
 
@@ -90,10 +104,15 @@ fn has_length(rt: &impl Abort, row: &Row<'_>, format: &Format) {
     }
 }
 
-/// Checks whether the first format is below the second.
-fn is_below(rt: &impl Abort, row: &Row<'_>, f: &Format, g: &Format) {
-    let below = format_below(f, g);
-    assert!(rt; below == (row.wanted == "true"), "{}", row.line);
+/// Whether a copy of the first format equals the second.
+fn is_copied(rt: &impl Abort, format: &Format, second: &Format) -> bool {
+    let copy = format.clone().expect(rt, "memory");
+    copy == *second
+}
+
+/// Checks an answer that is true or false.
+fn is_answer(rt: &impl Abort, row: &Row<'_>, found: bool) {
+    assert!(rt; found == (row.wanted == "true"), "{}", row.line);
 }
 
 /// Checks the text of data.
@@ -157,11 +176,5 @@ fn list_of(rt: &(impl AllocGlobal + Abort), list: &str) -> Format {
         let range = (number_of(rt, low), number_of(rt, high));
         ranges.push(range).ok().expect(rt, "memory");
     }
-    Format::Enumerated(Values::new(rt.alloc(), ranges).expect(rt, "memory"))
-}
-
-/// The Enumerated format of these ranges.
-fn listed(rt: &(impl AllocGlobal + Abort), ranges: &[(u32, u32)]) -> Format {
-    let ranges = Vec::from_slice(rt.alloc(), ranges).expect(rt, "memory");
     Format::Enumerated(Values::new(rt.alloc(), ranges).expect(rt, "memory"))
 }

@@ -2,7 +2,6 @@
 
 mod answers;
 mod base;
-mod example;
 mod faults;
 mod findings;
 mod indexed;

@@ -1,5 +1,5 @@
-//! The tests of `dia_wire`, `dia_data`, `dia_breaking_data`, `dia_ccf`, `dia_dict`, `dia_text` and `dia_make`, by library: each goes
-//! through public calls alone. There is nothing but tests.
+//! The tests of `dia_wire`, `dia_data`, `dia_breaking_data`, `dia_ccf`, `dia_dict` and `dia_text`, by library: each goes through
+//! public calls alone. There is nothing but tests.
 #![tactic(auto)]
 
 #[cfg(test)]
@@ -8,8 +8,6 @@ mod ccf;
 mod data;
 #[cfg(test)]
 mod dict;
-#[cfg(test)]
-mod make;
 #[cfg(test)]
 mod refused;
 #[cfg(test)]

@@ -16,23 +16,28 @@ const WANTED: [u8; 35] = [
     0, 0, 11, b'a', b'.', b'b', 0,
 ];
 
+const HEADER: Header = Header {
+    flags: 0x80,
+    code: 280,
+    app: 0,
+    hop: 1,
+    e2e: 2,
+};
+
 /// Puts the request, twice where memory is refused at first.
 fn puts_again(rt: &impl Abort, out: &mut Vec<u8>, avps: &[Avp<'_>])
     requires { All (λ avp. Agrees (plain_avp avp)) avps.now }
 {
-    let header = Header {
-        flags: 0x80,
-        code: 280,
-        app: 0,
-        hop: 1,
-        e2e: 2,
-    };
-    if let Err(fault) = put_message(out, &header, avps) {
-        assert!(rt; matches!(fault, PutFault::NoMemory));
-        assert!(rt; out.as_slice() == FRONT.as_slice());
-        assert!(rt; put_message(out, &header, avps).is_ok());
+    if let Err(fault) = put_message(out, &HEADER, avps) {
+        is_unchanged(rt, fault, out.as_slice());
+        assert!(rt; put_message(out, &HEADER, avps).is_ok());
     }
     assert!(rt; out.as_slice() == WANTED.as_slice());
+}
+
+/// Checks that memory was refused, and nothing was put.
+fn is_unchanged(rt: &impl Abort, fault: PutFault, out: &[u8]) {
+    assert!(rt; matches!(fault, PutFault::NoMemory) && out == FRONT.as_slice());
 }
 
 #[test]

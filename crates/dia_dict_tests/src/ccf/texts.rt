@@ -19,6 +19,10 @@ t ::= <diameter-header:300 req pxy 5>{X}*[AVP] <Y>::=<AVP Header:9003 0>*2<X> =>
 %avp E 9004 Enumerated any (0..3 7..7 10) => renders %avp E 9004 Enumerated any ( 0..3 7 10 )\n
 %avp 3GPP-IMSI 01 vendor 10415 UTF8String mustnot => renders %avp 3GPP-IMSI 1 vendor 10415 UTF8String mustnot\n
 T ::= <diameter-header:code err> U ::= <Diameter Header: code, ERR PXY> V ::= <Diameter Header: CODE ERR [PXY]> => renders <T> ::= < Diameter Header: code, ERR >\n<U> ::= < Diameter Header: code, ERR, PXY >\n<V> ::= < Diameter Header: code, ERR [, PXY] >\n
+
+# The example of dia_ccf's docs.
+%avp Origin-Host 264 DiameterIdentity must <DWR> ::= <Diameter-Header:280,REQ> {Origin-Host} => renders %avp Origin-Host 264 DiameterIdentity must\n<DWR> ::= < Diameter Header: 280, REQ >\n  { Origin-Host }\n
+%avp Origin-Host\nDiameterIdentity => syntax 3 2
 ";
 
 #[test]

@@ -51,4 +51,12 @@ lengths Time => 4
 lengths Integer64 => 8
 lengths Unsigned64 => 8
 lengths Float64 => 8
+
+# The example of dia_data's docs.
+accepts Unsigned32 000028af => Fine
+accepts Unsigned64 000028af => BadLength
+print Unsigned32 000028af => 10415
+accepts Enumerated(0..1) 000028af => BadValue
+below Enumerated(0..1) Integer32 => true
+below Integer32 Enumerated(0..1) => false
 ";

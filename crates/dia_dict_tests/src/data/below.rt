@@ -1,4 +1,4 @@
-//! Which format accepts all that another accepts.
+//! Which format accepts all that another accepts, and copies of formats.
 
 pub(super) const ROWS: &str = r"
 # Formats without lists.
@@ -33,4 +33,9 @@ below Enumerated(0..2147483647) Enumerated => true
 below Enumerated Enumerated(0..2147483647) => false
 below Enumerated(0..4294967295) Enumerated(0..4294967295) => true
 below Enumerated(0..4294967295) Enumerated(0..2147483647) => false
+
+# A copy of a format equals it, and no other.
+copies Enumerated(7..9,0..3) Enumerated(7..9,0..3) => true
+copies Time Time => true
+copies Time Unsigned32 => false
 ";

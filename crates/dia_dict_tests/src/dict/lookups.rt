@@ -3,6 +3,7 @@
 //! ```text
 //! entry PLACE | DICTIONARY => the name and the code of the AVP at a place, and `group` if it is one
 //! avp CODE VENDOR | DICTIONARY => its name
+//! format CODE VENDOR | DICTIONARY => its format
 //! command PLACE | DICTIONARY => the name of the command at a place
 //! select CODE CLASS APPLICATION | DICTIONARY => the name of the command that a message selects
 //! slot CODE CLASS AVP | DICTIONARY => the slot of an AVP without a vendor in the command of application 0
@@ -92,6 +93,12 @@ all | $FIXED => alike
 slot 300 request 263 | $FIXED => Fixed(0)
 slot 300 request 264 | $FIXED => Loose(1)
 
+# The example of dia_dict's docs.
+let EXAMPLE = %avp Origin-Host 264 DiameterIdentity must <DWR> ::= <Diameter-Header:280,REQ> {Origin-Host}
+avp 264 0 | $EXAMPLE => Origin-Host
+format 264 0 | $EXAMPLE => DiameterIdentity
+slot 280 request 264 | $EXAMPLE => Loose(0)
+
 # A group that may hold itself, and a command of it.
 let NODES = <Node> ::= < AVP Header: 9001 > * [ Node ] <T> ::= < Diameter Header: 301, REQ > * [ Node ]
 all | $NODES => alike
@@ -135,11 +142,8 @@ fn is_answer<B: Book>(rt: &(impl AllocGlobal + Abort), book: &B, row: &Row<'_>) 
     let found = match word(call, 0) {
         "entry" => entry(rt.alloc(), book, number_of(rt, first) as usize),
         "command" => owned(rt.alloc(), command(book, number_of(rt, first) as usize)),
-        "avp" => {
-            let vendor = number_of(rt, word(call, 2));
-            let code = number_of(rt, first);
-            owned(rt.alloc(), avp(book, Key { code, vendor }))
-        }
+        "avp" => owned(rt.alloc(), avp(book, key_of(rt, call))),
+        "format" => format_text(rt.alloc(), book, key_of(rt, call)),
         verb => {
             let class = class_of(word(call, 2));
             let code = number_of(rt, first);
@@ -148,6 +152,14 @@ fn is_answer<B: Book>(rt: &(impl AllocGlobal + Abort), book: &B, row: &Row<'_>) 
     };
     let found = found.expect(rt, "memory");
     same(rt, found.as_bytes(), row.wanted.as_bytes(), row.line);
+}
+
+/// The key of `avp CODE VENDOR`.
+fn key_of(rt: &impl Abort, call: &str) -> Key {
+    Key {
+        code: number_of(rt, word(call, 1)),
+        vendor: number_of(rt, word(call, 2)),
+    }
 }
 
 /// What a book answers of the command that a message of a code and a class selects.
@@ -205,6 +217,17 @@ fn entry<B: Book>(alloc: Global, book: &B, place: usize) -> Result<String, Alloc
 fn avp<B: Book>(book: &B, key: Key) -> Option<&str> {
     let entry = book.avp(key)?;
     Some(book.entry_name(entry))
+}
+
+/// The format of the AVP of a key.
+fn format_text<B: Book>(alloc: Global, book: &B, key: Key) -> Result<String, AllocError> {
+    match book.avp(key) {
+        Some(entry) => {
+            let format = book.format(entry);
+            format!(in alloc; "{format:?}")
+        }
+        None => String::from_str(alloc, "-"),
+    }
 }
 
 /// The name of the command at a place.
