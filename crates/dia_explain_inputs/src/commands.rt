@@ -3,7 +3,7 @@
 use crate::names::{Named, NamedSource, Vocabulary};
 use crate::notes::Added;
 use dia_ccf::Def;
-use std::alloc::Global;
+use std::alloc::{AllocError, Global};
 
 /// The most commands of a dictionary that are listed.
 const MOST_LISTED: usize = 30;
@@ -20,18 +20,27 @@ pub fn push_unknown_commands(
     second: &NamedSource<'_>,
 ) -> Added {
     let known = Vocabulary::of(alloc, first)?;
-    let mut count = 0usize;
-    for name in names {
-        if count < MOST && !known.has(Named::Command, name) {
-            push_missing(out, &known, name)?;
-            count = count.saturating_add(1);
-        }
-    }
-    if count == 0 {
+    if push_all_missing(out, &known, names)? == 0 {
         return Ok(());
     }
     push_list(out, first.name, &first.source.commands)?;
     push_found(out, names.get(..MOST).unwrap_or(names), &known, second)
+}
+
+/// Adds the first names that no command has. Answers how many these are.
+fn push_all_missing(
+    out: &mut String,
+    known: &Vocabulary<'_>,
+    names: &[String],
+) -> Result<usize, AllocError> {
+    let mut count = 0usize;
+    for name in names {
+        if count < MOST && !known.has(Named::Command, name) {
+            push_missing(out, known, name)?;
+            count = count.saturating_add(1);
+        }
+    }
+    Ok(count)
 }
 
 fn push_missing(out: &mut String, known: &Vocabulary<'_>, name: &str) -> Added {

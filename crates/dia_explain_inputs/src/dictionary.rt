@@ -19,7 +19,7 @@ use dia_explain_places::NamedText;
 use dia_report::{BadDictionary, WrongSource};
 use meaning::push_meaning;
 use scene::Scene;
-use std::alloc::Global;
+use std::alloc::{AllocError, Global};
 
 const CAPTURED: &str =
     "the dictionary stands before the messages, and docs/CAPTURES.md says how to take these out of a capture";
@@ -38,7 +38,7 @@ pub fn push_dictionary(
         BadDictionary::Wrong(wrong) => push_wrong(alloc, out, dictionary, wrong),
         BadDictionary::NoSource(misfit) => push_syntax(out, dictionary, misfit),
         BadDictionary::NotText { .. } if is_capture(dictionary.text) => {
-            push_capture(alloc, out, dictionary, "the text of a dictionary", CAPTURED)
+            push_capture(out, dictionary.name, "the text of a dictionary", CAPTURED)
         }
         BadDictionary::NotText { at } => push_not_text(out, dictionary, *at),
         BadDictionary::TooLong => push_too_long(out, dictionary.name),
@@ -79,13 +79,40 @@ fn push_syntax(out: &mut String, dictionary: &NamedText<'_>, misfit: &Misfit) ->
     ensures { OnOk result (MisfitBegins dictionary.now.name.now dictionary.now.text.now misfit.now
         (string_bytes out.old) (string_bytes out.new)) }
 {
+    let alloc = *out.allocator();
     let scene = Scene::new(spelt(dictionary.text), misfit);
-    let mut told = String::new(*out.allocator());
+    let told = fault_of(alloc, &scene)?;
+    let cause = cause_of(alloc, &scene)?;
+    push_misfit(out, dictionary, misfit, told.as_str(), cause.as_str())
+}
+
+/// What is wrong.
+fn fault_of(alloc: Global, scene: &Scene<'_>) -> Result<String, AllocError> {
+    let mut told = String::new(alloc);
     scene.push_fault(&mut told)?;
-    let mut cause = String::new(*out.allocator());
-    push_cause(&mut cause, &scene)?;
-    push_told(out, dictionary, misfit.at, told.as_str())?;
-    out.push_str(cause.as_str())?;
+    Ok(told)
+}
+
+/// What to do about it.
+fn cause_of(alloc: Global, scene: &Scene<'_>) -> Result<String, AllocError> {
+    let mut cause = String::new(alloc);
+    push_cause(&mut cause, scene)?;
+    Ok(cause)
+}
+
+/// Adds what is told of the place of a fault, its line, and what to do.
+fn push_misfit(
+    out: &mut String,
+    dictionary: &NamedText<'_>,
+    misfit: &Misfit,
+    told: &str,
+    cause: &str,
+) -> Added
+    ensures { OnOk result (MisfitBegins dictionary.now.name.now dictionary.now.text.now misfit.now
+        (string_bytes out.old) (string_bytes out.new)) }
+{
+    push_told(out, dictionary, misfit.at, told)?;
+    out.push_str(cause)?;
     Ok(())
 }
 

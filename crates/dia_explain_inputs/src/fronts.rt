@@ -24,7 +24,7 @@ pub fn push_front(
         return push_whole(out, &input, "there is no message", hint);
     }
     if let Some(at) = bad_in_front(front, line) {
-        return push_bad(alloc, out, &input, "the hexadecimal text of messages", at);
+        return push_bad(out, &input, "the hexadecimal text of messages", at);
     }
     if let Some(hint) = dump_of(front) {
         return write!(out, "{name}: {hint}\n");

@@ -36,8 +36,8 @@ pub fn push_message(
             )
         }
         BadMessage::NotHexadecimal => match first_bad(message.text) {
-            Some(at) => push_bad(alloc, out, message, "the hexadecimal text of a message", at),
-            None => push_odd(alloc, out, message),
+            Some(at) => push_bad(out, message, "the hexadecimal text of a message", at),
+            None => push_odd(out, message),
         },
         BadMessage::NoMessage(_) => {
             let bytes = bytes_of(alloc, message.text, message.text.len())?;
@@ -52,44 +52,35 @@ pub fn first_bad(text: &[u8]) -> Option<usize> {
         .position(|byte| !byte.is_ascii_hexdigit() && !is_white(*byte))
 }
 
-fn push_odd(alloc: Global, out: &mut String, message: &NamedText<'_>) -> Added {
-    let digits = count_digits(message.text);
-    let told = format!(in alloc;
-        "the number of hexadecimal digits is odd, {digits}: one is missing or too many"
-    )?;
-    let hint = dump_of(message.text).unwrap_or("each byte has two digits, also one below 16");
-    push_whole(out, message, told.as_str(), hint)
+fn push_odd(out: &mut String, message: &NamedText<'_>) -> Added {
+    let NamedText { name, text } = *message;
+    let digits = count_digits(text);
+    let hint = dump_of(text).unwrap_or("each byte has two digits, also one below 16");
+    write!(
+        out,
+        "{name}: the number of hexadecimal digits is odd, {digits}: one is missing or too many\nhint: {hint}\n"
+    )
 }
 
 /// Adds what stands at a place for a digit, or what the text is.
-pub fn push_bad(
-    alloc: Global,
-    out: &mut String,
-    message: &NamedText<'_>,
-    wanted: &str,
-    at: usize,
-) -> Added {
+pub fn push_bad(out: &mut String, message: &NamedText<'_>, wanted: &str, at: usize) -> Added {
     let text = message.text;
     if is_capture(text) {
-        return push_capture(alloc, out, message, wanted, CAPTURED);
+        return push_capture(out, message.name, wanted, CAPTURED);
     }
     if is_binary(first_line(back(text, at))) {
-        return push_binary(alloc, out, message);
+        return push_binary(out, message);
     }
     let hint = hint_at(text, at);
     push_noted(out, message, at, "this is no hexadecimal digit", hint)
 }
 
 /// Adds that an input is a file of packets, and what to do.
-pub fn push_capture(
-    alloc: Global,
-    out: &mut String,
-    input: &NamedText<'_>,
-    wanted: &str,
-    hint: &str,
-) -> Added {
-    let told = format!(in alloc; "this is a capture file (pcap), and not {wanted}")?;
-    push_whole(out, input, told.as_str(), hint)
+pub fn push_capture(out: &mut String, name: &str, wanted: &str, hint: &str) -> Added {
+    write!(
+        out,
+        "{name}: this is a capture file (pcap), and not {wanted}\nhint: {hint}\n"
+    )
 }
 
 /// Whether bytes are no text: they have a control character that isn't white space, or aren't UTF-8.
@@ -99,28 +90,31 @@ fn is_binary(text: &[u8]) -> bool {
 }
 
 /// Adds what bytes are that aren't text.
-fn push_binary(alloc: Global, out: &mut String, message: &NamedText<'_>) -> Added {
+fn push_binary(out: &mut String, message: &NamedText<'_>) -> Added {
     let NamedText { name, text } = *message;
-    if text.starts_with(b"\xff\xfe") || text.starts_with(b"\xfe\xff") {
-        return push_whole(out, message, "the text is UTF-16", SAVE);
-    }
-    if text.starts_with(b"\x1f\x8b") {
-        return push_whole(
-            out,
-            message,
-            "the file is packed by gzip",
-            "`gunzip` unpacks it",
-        );
+    if let Some((told, hint)) = packing_of(text) {
+        return push_whole(out, message, told, hint);
     }
     let told = if text.first() == Some(&1) {
         "these are the bytes of a message, and not hexadecimal text"
     } else {
         "these are bytes, and not hexadecimal text"
     };
-    let hint = format!(in alloc;
-        "write `xxd -p {name}` into a file: a message is its hexadecimal digits"
-    )?;
-    push_whole(out, message, told, hint.as_str())
+    write!(
+        out,
+        "{name}: {told}\nhint: write `xxd -p {name}` into a file: a message is its hexadecimal digits\n"
+    )
+}
+
+/// How a text is packed into bytes that aren't UTF-8, and what to do.
+fn packing_of(text: &[u8]) -> Option<(&'static str, &'static str)> {
+    if text.starts_with(b"\xff\xfe") || text.starts_with(b"\xfe\xff") {
+        Some(("the text is UTF-16", SAVE))
+    } else if text.starts_with(b"\x1f\x8b") {
+        Some(("the file is packed by gzip", "`gunzip` unpacks it"))
+    } else {
+        None
+    }
 }
 
 /// What to do about a character that is no digit.

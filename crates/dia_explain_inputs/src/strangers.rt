@@ -24,8 +24,8 @@ pub fn push_strangers(
     first: &NamedSource<'_>,
     second: &NamedSource<'_>,
 ) -> Added {
-    let of_first = push_side(out, table, true, &Vocabulary::of(alloc, first)?)?;
-    let of_second = push_side(out, table, false, &Vocabulary::of(alloc, second)?)?;
+    let of_first = push_side_of(alloc, out, table, true, first)?;
+    let of_second = push_side_of(alloc, out, table, false, second)?;
     if of_first || of_second {
         out.push_str(
             "hint: the first name of a pair is one of the first dictionary, the second one of the second; \
@@ -36,12 +36,26 @@ pub fn push_strangers(
 }
 
 /// Adds the names of one side of a table that its dictionary doesn't have. Answers whether one is like no other.
+fn push_side_of(
+    alloc: Global,
+    out: &mut String,
+    table: &NamedText<'_>,
+    is_first: bool,
+    dictionary: &NamedSource<'_>,
+) -> Result<bool, AllocError> {
+    let known = Vocabulary::of(alloc, dictionary)?;
+    let (count, is_odd) = push_side(out, table, is_first, &known)?;
+    push_rest(out, dictionary.name, count)?;
+    Ok(is_odd)
+}
+
+/// Adds the first of these names. Answers how many there are, and whether one that is told is like no other.
 fn push_side(
     out: &mut String,
     table: &NamedText<'_>,
     is_first: bool,
     known: &Vocabulary<'_>,
-) -> Result<bool, AllocError> {
+) -> Result<(usize, bool), AllocError> {
     let mut start = 0usize;
     let mut count = 0usize;
     let mut is_odd = false;
@@ -49,15 +63,11 @@ fn push_side(
         let words = words_of(table.text, start);
         if let Some(stranger) = stranger_in(&words, is_first, known) {
             count = count.saturating_add(1);
-            if count <= MOST {
-                push_place(out, table.name, table.text, stranger.at)?;
-                is_odd = !push_stranger(out, known, &stranger)? || is_odd;
-            }
+            is_odd = count <= MOST && push_stranger(out, table, known, &stranger)? || is_odd;
         }
         start = start.saturating_add(line.len()).saturating_add(1);
     }
-    push_rest(out, known.dictionary.name, count)?;
-    Ok(is_odd)
+    Ok((count, is_odd))
 }
 
 /// The name of a side in the words of a line, if the dictionary doesn't have it.
@@ -80,20 +90,23 @@ fn stranger_in<'a>(
     Some(Stranger { named, name, at })
 }
 
-/// Adds a name that the dictionary doesn't have. Answers whether it is told what is meant.
+/// Adds a name that the dictionary doesn't have. Answers whether it is like no other.
 fn push_stranger(
     out: &mut String,
+    table: &NamedText<'_>,
     known: &Vocabulary<'_>,
     stranger: &Stranger<'_>,
 ) -> Result<bool, AllocError> {
-    let Stranger { named, name, .. } = *stranger;
+    let Stranger { named, name, at } = *stranger;
     let dictionary = known.dictionary.name;
+    push_place(out, table.name, table.text, at)?;
     let (what, instead) = match named {
         Named::Command => ("command", "an AVP there: write avp for command"),
         Named::Avp => ("AVP", "a command there: write command for avp"),
     };
     write!(out, "{dictionary} has no {what} {name}\n")?;
-    known.push_meant(out, named, name, instead)
+    let is_known = known.push_meant(out, named, name, instead)?;
+    Ok(!is_known)
 }
 
 /// Adds how many names more there are.

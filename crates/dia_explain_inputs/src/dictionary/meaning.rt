@@ -53,11 +53,23 @@ fn told_of<'a>(
     findings: &[Finding<'a>],
 ) -> Result<String, AllocError> {
     let notes = notes_of(alloc, findings)?;
+    told_of_notes(alloc, parts, &notes)
+}
+
+fn told_of_notes(
+    alloc: Global,
+    parts: &Parts<'_>,
+    notes: &[Note<'_>],
+) -> Result<String, AllocError> {
     let names = names_of(alloc, parts.source, Named::Avp)?;
     let mut told = String::new(alloc);
-    push_first(&mut told, parts, &names, &notes)?;
-    push_rest(&mut told, parts.name, &notes)?;
+    push_notes(&mut told, parts, &names, notes)?;
     Ok(told)
+}
+
+fn push_notes(out: &mut String, parts: &Parts<'_>, names: &[&str], notes: &[Note<'_>]) -> Added {
+    push_first(out, parts, names, notes)?;
+    push_rest(out, parts.name, notes)
 }
 
 /// Adds the first faults one by one, the place of the very first left out. What helps with each fault of a kind is told once.
