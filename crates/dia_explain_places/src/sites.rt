@@ -107,13 +107,19 @@ fn start_of(source: &Source, part: Part) -> Option<usize>
 fn start_among_decls(decls: &[Decl], index: usize) -> Option<usize>
     ensures { result ≡ option_map (λ d. d.at) (slice_get decls.now index) }
 {
-    Some(decls.get(index)?.at)
+    match decls.get(index) {
+        Some(decl) => Some(decl.at),
+        None => None,
+    }
 }
 
 fn start_among(defs: &[Def], index: usize, rule: Option<usize>) -> Option<usize>
     ensures { result ≡ option_and_then (λ d. start_in d rule) (slice_get defs.now index) }
 {
-    start_in(defs.get(index)?, rule)
+    match defs.get(index) {
+        Some(def) => start_in(def, rule),
+        None => None,
+    }
 }
 
 /// Where a definition begins, or this rule of it.
@@ -121,7 +127,16 @@ fn start_in(def: &Def, rule: Option<usize>) -> Option<usize>
     ensures { result ≡ start_in def.now rule }
 {
     match rule {
-        Some(index) => Some(def.rules.get(index)?.at),
+        Some(index) => start_among_rules(&def.rules, index),
         None => Some(def.at),
+    }
+}
+
+fn start_among_rules(rules: &[Rule], index: usize) -> Option<usize>
+    ensures { result ≡ option_map (λ r. r.at) (slice_get rules.now index) }
+{
+    match rules.get(index) {
+        Some(rule) => Some(rule.at),
+        None => None,
     }
 }
