@@ -4,17 +4,18 @@ mod failings;
 mod pair;
 mod pairing;
 mod parts;
+mod says;
 
 use crate::sides::{Side, sites_of};
 use crate::texts::{Added, push_hint};
 use dia_compat::{Answer, Failing, PairKind, Test, failings};
 use dia_explain_places::{InputTexts, push_start};
 use dia_report::Compared;
-use failings::told_of;
+use failings::{hint_of, lines_of};
 use pair::Pair;
 use pairing::{Pairing, place_of_pair};
 use parts::push_line;
-use std::alloc::Global;
+use std::alloc::{AllocError, Global};
 
 /// Adds the note of the first pair of a table that fails a test.
 pub fn push_compare(
@@ -26,11 +27,11 @@ pub fn push_compare(
     let Answer::No { kind, pair, reason } = found.answer else {
         return Ok(());
     };
-    let first_sites = sites_of(alloc, &texts.first, &found.books.first)?;
-    let second_sites = sites_of(alloc, &texts.second, &found.books.second)?;
+    let first = sites_of(alloc, &texts.first, &found.books.first)?;
+    let second = sites_of(alloc, &texts.second, &found.books.second)?;
     let pairing = Pairing {
-        a: Side::of(&texts.first, &found.books.first, &first_sites),
-        b: Side::of(&texts.second, &found.books.second, &second_sites),
+        a: Side::of(&texts.first, &found.books.first, &first),
+        b: Side::of(&texts.second, &found.books.second, &second),
         unknown: found.unknown,
         table: &found.table,
         name: texts.table.name,
@@ -48,17 +49,39 @@ fn push_failing(
     pair: usize,
     test: Test,
 ) -> Added {
-    let (a, b) = (pairing.a.book, pairing.b.book);
-    let (unknown, table) = (pairing.unknown, pairing.table);
+    push_asked(out, pairing, kind, pair, test)?;
+    match first_failing(alloc, pairing, kind, pair, test)? {
+        Some(failing) => push_pair(out, pairing, kind, pair, failing),
+        None => Ok(()),
+    }
+}
+
+/// Adds the place of the pair in the table, and what the test asks.
+fn push_asked(
+    out: &mut String,
+    pairing: &Pairing<'_>,
+    kind: PairKind,
+    pair: usize,
+    test: Test,
+) -> Added {
     let at = place_of_pair(pairing.text, kind, pair);
     let asked = asked_by(test, kind);
     push_start(out, pairing.name, pairing.text, at)?;
-    write!(out, "this pair fails the test {asked}\n")?;
+    write!(out, "this pair fails the test {asked}\n")
+}
+
+/// The first that fails a test of the pair.
+fn first_failing(
+    alloc: Global,
+    pairing: &Pairing<'_>,
+    kind: PairKind,
+    pair: usize,
+    test: Test,
+) -> Result<Option<Failing>, AllocError> {
+    let (a, b) = (pairing.a.book, pairing.b.book);
+    let (unknown, table) = (pairing.unknown, pairing.table);
     let failings = failings(alloc, a, b, unknown, table, kind, pair, test)?;
-    match failings.first() {
-        Some(failing) => push_pair(out, pairing, kind, pair, *failing),
-        None => Ok(()),
-    }
+    Ok(failings.first().copied())
 }
 
 /// What a test is about.
@@ -91,11 +114,10 @@ fn push_pair(
     let Some(pair) = Pair::of(pairing, kind, number, failing) else {
         return Ok(());
     };
-    let (lines, hint) = told_of(&pair);
-    for line in lines {
+    for line in lines_of(&pair) {
         push_line(out, &pair, line)?;
     }
-    push_hint(out, &pair, hint)?;
+    push_hint(out, &pair, hint_of(&pair))?;
     push_hint(
         out,
         &pair,

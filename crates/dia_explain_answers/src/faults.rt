@@ -22,7 +22,6 @@ use header::push_header_fault;
 use in_body::InBody;
 use results::push_result;
 pub use showing::{push_show, push_unnamed};
-use walk::walk_to;
 
 /// A message: the word that names its text, the text, and its bytes.
 #[derive(Clone, Copy)]
@@ -83,20 +82,18 @@ fn push_in_body(
     fault: &Fault,
 ) -> Added {
     let body = Level::body(header);
-    let (alloc, place) = (*out.allocator(), fault.place as usize);
-    let walk = walk_to(alloc, side.book, message.bytes, place)?;
+    let Some(command) = definition(side.book, body) else {
+        return Ok(());
+    };
     let scene = InBody {
         side: *side,
         message: *message,
         asked: *asked,
         fault: *fault,
         body,
-        outermost: match definition(side.book, body) {
-            Some(command) => command.name.as_str(),
-            None => return Ok(()),
-        },
-        groups: &walk.groups,
+        outermost: command.name.as_str(),
+        groups: &[],
         counting: None,
     };
-    scene.in_level().push(out)
+    scene.push_in_groups(out)
 }

@@ -60,14 +60,29 @@ fn push_not_first(
 ) -> Added {
     let sites = sites_of(alloc, &texts.first, &found.books.first)?;
     let side = Side::of(&texts.first, &found.books.first, &sites);
+    push_verdict(out, texts.message.name, side.name, refusal)?;
+    push_fault(out, texts, found, &side, refusal)?;
+    match found.under_second {
+        Ok(_) => push_second(out, texts.second.name),
+        Err(_) => Ok(()),
+    }
+}
+
+/// Adds the fault of the message under the first dictionary.
+fn push_fault(
+    out: &mut String,
+    texts: &InputTexts<'_>,
+    found: &Unrefuting,
+    side: &Side<'_>,
+    refusal: &Refusal,
+) -> Added {
     let message = Message::of(&texts.message, &found.message);
     let asked = Asked::new(found.unknown, found.levels);
-    push_verdict(out, message.name, side.name, refusal)?;
-    push_refusal(out, &side, &message, &asked, refusal)?;
-    if found.under_second.is_err() {
-        return Ok(());
-    }
-    let second = texts.second.name;
+    push_refusal(out, side, &message, &asked, refusal)
+}
+
+/// Adds that the message is valid under the second dictionary.
+fn push_second(out: &mut String, second: &str) -> Added {
     write!(
         out,
         "hint: it is valid under {second}: the dictionary of the side that sends the message stands first\n"

@@ -4,7 +4,7 @@ use crate::books::avp_of;
 use crate::texts::{Added, Scene, push_text};
 use dia_book::{DefHead, Definition, Key};
 use dia_dict::IndexedBook;
-use dia_explain_places::{DefSite, NamedText, Sites, back, push_excerpt, push_start};
+use dia_explain_places::{DefSite, NamedText, Sites, back, front_of_run, push_excerpt, push_start};
 use dia_report::ReadBook;
 use std::alloc::{AllocError, Global};
 
@@ -97,11 +97,5 @@ impl<'a> Side<'a> {
 
 /// Whether the word at a place of a text is this name.
 fn names_at(text: &[u8], at: usize, name: &str) -> bool {
-    let rest = back(text, at);
-    let length = rest.iter().take_while(|byte| is_of_name(**byte)).count();
-    rest.get(..length) == Some(name.as_bytes())
-}
-
-fn is_of_name(byte: u8) -> bool {
-    byte.is_ascii_alphanumeric() || byte == b'-'
+    front_of_run(back(text, at)) == name.as_bytes()
 }

@@ -2,13 +2,14 @@
 
 use crate::books::{Known, avp_of};
 use crate::comparing::pair::Pair;
+use crate::comparing::says::Says;
 use crate::rule_text::push_counted;
 use crate::sides::Side;
 use crate::texts::{Added, Scene};
 use dia_book::{Class, DRule, DefHead, Definition, Key, Pxy};
 
 /// A line: what it is about, and what it says of that.
-pub type Line = (Spot, &'static str);
+pub type Line = (Spot, Says);
 
 /// A part of one of the two dictionaries. A rule is told by its place.
 #[derive(Clone, Copy)]
@@ -29,7 +30,8 @@ pub enum Spot {
 
 /// Adds a line, where there is what it is about.
 pub fn push_line(out: &mut String, pair: &Pair<'_>, line: Line) -> Added {
-    let (spot, told) = line;
+    let (spot, says) = line;
+    let told = says.text();
     let (a, b) = (&pair.pairing.a, &pair.pairing.b);
     match spot {
         Spot::X => push_defined(out, a, pair.x, None, told),

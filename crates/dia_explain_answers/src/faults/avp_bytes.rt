@@ -29,15 +29,20 @@ pub fn push_avp(out: &mut String, bytes: &[u8]) -> Added {
         out.push_str("bytes ")?;
         return push_hex(out, bytes);
     };
-    push_field(out, "code ", part(bytes, 0, 4))?;
-    out.push_str(", ")?;
-    push_flags(out, *flags, &AVP_FLAGS)?;
-    push_field(out, ", length ", part(bytes, 5, 8))?;
+    push_front(out, *flags, bytes)?;
     let head = head_of(bytes);
     if head == VENDOR_AVP_HEAD_LENGTH {
         push_field(out, ", vendor ", part(bytes, 8, 12))?;
     }
     push_data(out, part(bytes, head, length_of(bytes)))
+}
+
+/// Adds the code, the flags and the AVP Length.
+fn push_front(out: &mut String, flags: u8, bytes: &[u8]) -> Added {
+    push_field(out, "code ", part(bytes, 0, 4))?;
+    out.push_str(", ")?;
+    push_flags(out, flags, &AVP_FLAGS)?;
+    push_field(out, ", length ", part(bytes, 5, 8))
 }
 
 fn push_data(out: &mut String, bytes: &[u8]) -> Added {

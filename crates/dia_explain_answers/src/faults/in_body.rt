@@ -8,7 +8,7 @@ use crate::faults::avp_bytes::{part, push_avp};
 use crate::faults::lengths::texts_of_length;
 use crate::faults::level::Counting;
 use crate::faults::rules::texts_of_rule;
-use crate::faults::walk::Group;
+use crate::faults::walk::{Group, walk_to};
 use crate::sides::Side;
 use crate::texts::{Added, Scene, push_hint, push_number, push_text};
 use dia_book::Key;
@@ -46,6 +46,21 @@ impl<'a> InBody<'a> {
         avp_of(self.side.book, self.key()?)
     }
 
+    /// Adds the fault in the groups around its place.
+    pub fn push_in_groups(&self, out: &mut String) -> Added {
+        let walk = walk_to(
+            *out.allocator(),
+            self.side.book,
+            self.message.bytes,
+            self.place(),
+        )?;
+        let scene = InBody {
+            groups: &walk.groups,
+            ..*self
+        };
+        scene.in_level().push(out)
+    }
+
     /// Adds what is wrong, where in the message and in the dictionary, and what to do.
     pub fn push(&self, out: &mut String) -> Added {
         let (fault, hint) = match self.fault.reason {
@@ -55,10 +70,15 @@ impl<'a> InBody<'a> {
         };
         self.message.push_spot(out, self.place())?;
         push_text(out, self, fault)?;
+        self.push_places(out)?;
+        push_hint(out, self, hint)
+    }
+
+    /// Adds where in the message and in the dictionary.
+    fn push_places(&self, out: &mut String) -> Added {
         self.push_groups(out)?;
         self.push_bytes(out)?;
-        self.push_declared(out)?;
-        push_hint(out, self, hint)
+        self.push_declared(out)
     }
 
     /// Whether a rule of the level is broken.

@@ -8,6 +8,7 @@ use crate::faults::in_body::InBody;
 use crate::faults::walk::walk_to;
 use crate::sides::{Side, sites_of};
 use crate::texts::Added;
+use dia_book::Book;
 use dia_check::{Fault, Levels, Reason, Subject, Unknown};
 use dia_dict::base_book;
 use dia_explain_places::InputTexts;
@@ -28,24 +29,39 @@ pub fn push_show(
     let sites = sites_of(alloc, &texts.first, &cut.first)?;
     let side = Side::of(&texts.first, &cut.first, &sites);
     let message = Message::of(&texts.message, &cut.message);
+    push_end(alloc, out, &side, &message, Level::body(&header))
+}
+
+/// Adds why the AVPs of a message end where they do.
+fn push_end(
+    alloc: Global,
+    out: &mut String,
+    side: &Side<'_>,
+    message: &Message<'_>,
+    body: Level,
+) -> Added {
     let walk = walk_to(alloc, side.book, message.bytes, message.bytes.len())?;
-    let fault = Fault {
-        place: u32::try_from(walk.at).unwrap_or(u32::MAX),
-        code: 5014,
-        reason: Reason::AvpLength,
-        subject: Subject::Nothing,
-    };
     let scene = InBody {
-        side,
-        message,
+        side: *side,
+        message: *message,
         asked: Asked::new(Unknown::Kept, Levels::Any),
-        fault,
-        body: Level::body(&header),
+        fault: fault_at(walk.at),
+        body,
         outermost: "the message",
         groups: &walk.groups,
         counting: None,
     };
     scene.push(out)
+}
+
+/// The fault of a place where no AVP begins.
+fn fault_at(place: usize) -> Fault {
+    Fault {
+        place: u32::try_from(place).unwrap_or(u32::MAX),
+        code: 5014,
+        reason: Reason::AvpLength,
+        subject: Subject::Nothing,
+    }
 }
 
 /// Adds how all AVPs of a message are named, where the base dictionary, by which it was shown, doesn't have each of them. `sign`
@@ -75,6 +91,11 @@ pub fn push_unnamed(alloc: Global, out: &mut String, message: &[u8], sign: &str)
 /// Whether the base dictionary lacks an AVP of a message.
 fn has_unnamed(alloc: Global, message: &[u8]) -> Result<bool, AllocError> {
     let base = base_book(alloc)?;
-    let walk = walk_to(alloc, &base, message, message.len())?;
+    lacks(alloc, &base, message)
+}
+
+/// Whether a dictionary lacks an AVP of a message.
+fn lacks<B: Book>(alloc: Global, book: &B, message: &[u8]) -> Result<bool, AllocError> {
+    let walk = walk_to(alloc, book, message, message.len())?;
     Ok(walk.has_unnamed)
 }
