@@ -1,18 +1,15 @@
 -- The meanings that are found are all.
-use Rattle.std.proofs.Common.{◌≡◌, ℕ, zero, suc, ◌-◌, ◌<◌, ◌≤◌, Bool, true, List, [], ◌∷◌, ◌++◌, length, map, Option, Some, None, refl, sym, ap, subst, ◌∙◌, arith, inl, inr}
-use Rattle.std.specs.Prelude.{◌⊎◌, ◌==◌, is_some, IsSome, Contains, slice_get, option_and_then, option_to_list, unwrap_or, if◌then◌else◌}
-use Rattle.std.specs.Option.{option_map, option_map_or}
-use Rattle.std.proofs.lemmas.Bool.{cases_order, eq-eqb, le-leb}
-use Rattle.std.proofs.lemmas.Option.{none-some, same_Some, slice_get_within}
+use Rattle.std.proofs.Common.{◌≡◌, ℕ, ◌-◌, ◌≤◌, Bool, true, List, [], length, map, Option, Some, None, refl, sym, ap, subst, ◌∙◌, arith, inl, inr}
+use Rattle.std.specs.Prelude.{◌⊎◌, is_some, IsSome, Contains, slice_get, option_and_then, unwrap_or, if◌then◌else◌}
+use Rattle.std.specs.Option.{option_map}
+use Rattle.std.proofs.lemmas.Option.{none-some, same_Some}
 use Rattle.dia_wire.specs.declared.Key.{Key}
 use Rattle.dia_wire.specs.Wire.{PlainAvp, key_of}
-use Rattle.dia_book.specs.declared.DRule.{DRule}
 use Rattle.dia_book.specs.Dictionary.{Dictionary, DictEntry, PlainDefinition, IsDictionary, entry_of}
 use Rattle.dia_book.proofs.Members.{at_filter_map, at_map, into_map, position-is_some}
 use Rattle.dia_policy.specs.declared.Unknown.{Unknown}
 use Rattle.dia_policy.specs.declared.Sends.{Sends}
-use Rattle.dia_rules.specs.Rules.{rules_in}
-use Rattle.dia_rules.proofs.Members.{IsIn, all_of, at_in, in_append, in_at, in_contains, in_filter, in_left, in_right, into_filter}
+use Rattle.dia_rules.proofs.Members.{IsIn, all_of, at_in, in_append, in_at, in_contains}
 use Rattle.dia_breaking_sites.specs.Selection.{max_body}
 use Rattle.dia_breaking_shortest.specs.Floors.{AreFloors}
 use Rattle.dia_breaking_ways.specs.Walks.{IsWalk, plain_exits}
@@ -21,76 +18,36 @@ use Rattle.dia_breaking_ways.specs.declared.graph.Reach.{Reach}
 use Rattle.dia_breaking.specs.declared.exits.Outlook.{Outlook}
 use Rattle.dia_breaking.specs.declared.keys.Own.{Own}
 use Rattle.dia_breaking.specs.declared.keys.Telling.{Telling}
-use Rattle.dia_breaking.specs.declared.line.Cause.{Cause}
 use Rattle.dia_breaking.specs.declared.line.Cause.TheVariants as causes
 use Rattle.dia_breaking.specs.declared.line.Line.{Line}
 use Rattle.dia_breaking.specs.declared.line.Site.{Site}
 use Rattle.dia_breaking.specs.declared.own_breaks.OwnBreaks.{OwnBreaks}
 use Rattle.dia_breaking.specs.declared.own_lines.Kind.TheVariants as kinds
 use Rattle.dia_breaking.specs.declared.start.Start.{Start}
-use Rattle.dia_breaking.specs.Exits.{AreExits, AreOutlooks}
+use Rattle.dia_breaking.specs.Exits.{AreOutlooks}
 use Rattle.dia_breaking.specs.Headers.{IsCommandPlace}
 use Rattle.dia_breaking.specs.Lengths.{costs_by}
 use Rattle.dia_breaking.specs.LevelCosts.{PicksShortest}
-use Rattle.dia_breaking.specs.Listing.{Told, Basis, AreMeanings, IsWalkFrom, basis_of, own_cause, own_line, own_lines, reach_at, reached_line, sites_of, start_of, subject, tells, with_room}
+use Rattle.dia_breaking.specs.Listing.{Told, Basis, AreMeanings, IsWalkFrom, basis_of, own_cause, own_lines, sites_of, start_of, tells}
 use Rattle.dia_breaking.specs.Meanings.{IsReadAsOther}
-use Rattle.dia_breaking.specs.Orders.{IsInOrderOf, joined, of_each}
+use Rattle.dia_breaking.specs.Orders.{IsInOrderOf}
 use Rattle.dia_breaking.specs.OwnBreaks.{AreOwnBreaks, IsOwnBreaks}
 use Rattle.dia_breaking.specs.Sites.{command_sites, group_site, group_sites, site_number}
 use Rattle.dia_breaking.specs.Telling.{IsExactTelling}
 use Rattle.dia_breaking.specs.TheLines.{AreFacts, Facts, IsStartOf, costs_in}
 use Rattle.dia_breaking.specs.TheMeanings.{AreMeant, HoldsOfLevels, IsMeant, IsReadAsSent}
 use Rattle.dia_breaking.specs.Sides.{sides, answer}
-use Rattle.dia_breaking.proofs.ClosedSites.{sent_keys}
-use Rattle.dia_breaking.proofs.Lists.{contains_at}
+use Rattle.dia_breaking.proofs.SentLevels.{sent_keys}
 use Rattle.dia_breaking.proofs.ReadLevels.{AtLevel, each_level, way_of}
 use Rattle.dia_breaking.proofs.Reached.{Kept, listed, other_kept}
 use Rattle.dia_breaking.proofs.Shortest.{first_is_shortest}
-use Rattle.dia_breaking.proofs.TooLong.{body_bytes, body_within}
-
--- ---- lists
-
-in_part : {Y : Type 0} (part : ℕ → List Y) (y : Y) (n i : ℕ) → i < n → IsIn y (part i) → IsIn y (joined part n)
-in_part part y zero i lt h = absurd (omega (arith, lt))
-in_part part y (suc n) i lt h = by (cases_order i n) (in_part part y n i)
-  where
-    by : (i ≡ n) ⊎ ((i < n) ⊎ (n < i)) → (i < n → IsIn y (part i) → IsIn y (joined part n)) → IsIn y (joined part n ++ part n)
-    by (inl e) more = in_right (joined part n) (part n) y (subst (λ (m : ℕ). IsIn y (part m)) e h)
-    by (inr (inl less)) more = in_left (joined part n) (part n) y (more less h)
-    by (inr (inr past)) more = absurd (omega (arith, past, lt))
-
-in_each : {X Y : Type 0} (f : ℕ → X → List Y) (xs : List X) (i : ℕ) (x : X) (y : Y) → slice_get xs i ≡ Some x → IsIn y (f i x) → IsIn y (of_each f xs)
-in_each {X} f xs i x y at h =
-    in_part (λ i. option_map_or (f i) (slice_get xs i) []) y (length xs) i (slice_get_within xs i x at) (subst (λ (o : Option X). IsIn y (option_map_or (f i) o [])) (sym at) h)
-
-in_sorted : {X : Type 0} (number : X → ℕ) (all sorted : List X) (x : X) → IsInOrderOf number all sorted → IsIn x all → IsIn x sorted
-in_sorted {X} number all sorted x order i =
-    let p : X → Bool = λ y. number y == number x in
-    let kept = into_filter p all x i (eq-eqb (number x) (number x) refl) in
-    (in_filter p sorted x (subst (λ (xs : List X). IsIn x xs) (sym (order.each (number x))) kept)).0
+use Rattle.dia_breaking.proofs.ToldLines.{cause_is, in_sorted, own_told, told_in}
+use Rattle.dia_breaking.proofs.TopLevels.{top_level}
 
 -- ---- what lines tell
 
-same_cause : (key : Key) (cause : Cause) → subject cause ≡ causes.Meaning key → cause ≡ causes.Meaning key
-same_cause key (causes.Format own found) e = absurd (let bad : causes.Format own None ≡ causes.Meaning key = e in cc)
-same_cause key (causes.LevelAsLeaf own) e = absurd (let bad : causes.Format own None ≡ causes.Meaning key = e in cc)
-same_cause key causes.Command e = e
-same_cause key causes.Application e = e
-same_cause key (causes.Proxiable set) e = e
-same_cause key (causes.Level line) e = e
-same_cause key (causes.Unknown own m) e = e
-same_cause key (causes.MBit own m) e = e
-same_cause key (causes.Meaning own) e = e
-same_cause key causes.Unproved e = e
-
 meant_by : (meanings : List Line) (key : Key) (told : Told) → IsIn told (map tells meanings) → told.cause ≡ causes.Meaning key → IsMeant meanings key
-meant_by meanings key told i is =
-    let a = at_in (map tells meanings) told i in
-    let (line, at, same) = at_map tells meanings a.place told a.at in
-    (line, contains_at meanings a.place line at, same_cause key line.cause (ap (λ (t : Told). t.cause) same ∙ is))
-
-with_enough : (site size : ℕ) (cause : Cause) → size ≤ max_body → with_room site size cause ≡ Some (record { site = site; cause = cause; length = size })
-with_enough site size cause le = ap (λ (b : Bool). if b then Some (record { site = site; cause = cause; length = size }) else None) (le-leb size max_body le)
+meant_by meanings key told i is = let t = told_in meanings told i in (t.line, t.inside, cause_is t.line.cause (causes.Meaning key) (t.cause ∙ is) refl)
 
 module _ (da db : Dictionary) (who : Sends) (u : Unknown) (lengths : List ℕ) (others : List Key) (telling : Telling) (outlooks : List Outlook) (tells_all : IsExactTelling (sides da db who u) telling)
     (are : AreOutlooks da db telling (costs_by da who lengths others) outlooks) (owns : List OwnBreaks)
@@ -109,12 +66,7 @@ module _ (da db : Dictionary) (who : Sends) (u : Unknown) (lengths : List ℕ) (
       let line : Told = record { site = site; cause = causes.Meaning one.key; length = reach.length } in
       let cause : own_cause kinds.Meaning one reach.length ≡ Some (causes.Meaning one.key, reach.length) =
       ap (λ (b : Bool). if b then Some (causes.Meaning one.key, reach.length) else None) reads in
-      let made : own_line kinds.Meaning first count one reach ≡ Some line =
-      ap (λ (o : Option (Cause × ℕ)). option_and_then (λ (found : Cause × ℕ). with_room site found.1 found.0) o) cause ∙ with_enough site reach.length (causes.Meaning one.key) room in
-      let there : reach_at reached p.place ≡ Some reach = ap (λ (o : Option (Option Reach)). option_and_then (λ (r : Option Reach). r) o) at in
-      let part : reached_line kinds.Meaning first count reached p.place one ≡ line ∷ [] =
-      ap (λ (o : Option Reach). option_to_list (option_and_then (own_line kinds.Meaning first count one) o)) there ∙ ap (λ (o : Option Told). option_to_list o) made in
-      let inside = in_each (reached_line kinds.Meaning first count reached) owns p.place one line here (subst (λ (xs : List Told). IsIn line xs) (sym part) (inl refl)) in
+      let inside = own_told kinds.Meaning first count owns reached p.place one reach (causes.Meaning one.key) reach.length here at cause room in
       (line, in_sorted (λ (line : Told). line.site) (own_lines kinds.Meaning first count owns reached) told line order inside, ap (λ (q : Key). causes.Meaning q) its)
     where
       own_key_at : (place : ℕ) (own : Own) → slice_get telling.own.items place ≡ Some own → slice_get (map (λ (own : Own). own.key) telling.own.items) place ≡ Some own.key
@@ -123,7 +75,7 @@ module _ (da db : Dictionary) (who : Sends) (u : Unknown) (lengths : List ℕ) (
 -- ---- the walk begins
 
 module _ (db : Dictionary) (basis : Basis) (at count : ℕ) (steps : List Step) where
-  no_group_here : (app : ℕ) (site : Site) → IsCommandPlace app site.place → IsIn site (group_sites basis.own at count steps) → ⊥
+  pub no_group_here : (app : ℕ) (site : Site) → IsCommandPlace app site.place → IsIn site (group_sites basis.own at count steps) → ⊥
   no_group_here app site is i =
       let a = at_in (group_sites basis.own at count steps) site i in
       let (j, step, here, e) = at_filter_map (λ (step : Step). option_map (λ (one : OwnBreaks). group_site at count step one.key) (slice_get basis.own step.place)) steps a.place site a.at in
@@ -133,7 +85,7 @@ module _ (db : Dictionary) (basis : Basis) (at count : ℕ) (steps : List Step) 
       by step None e = none-some site e
       by step (Some one) e = subst (λ (s : Site). IsCommandPlace app s.place) (sym (same_Some (group_site at count step one.key) site e)) is
 
-  begins : (app : ℕ) (sites : List Site) (site : Site) → sites ≡ sites_of db basis at count steps → Contains sites site → site.is_read ≡ true → IsCommandPlace app site.place
+  pub begins : (app : ℕ) (sites : List Site) (site : Site) → sites ≡ sites_of db basis at count steps → Contains sites site → site.is_read ≡ true → IsCommandPlace app site.place
       → is_some (start_of db basis) ≡ true
   begins app sites site are inside read is =
       by (in_append own (group_sites basis.own at count steps) site (subst (λ (xs : List Site). IsIn site xs) are (in_contains sites site inside)))
@@ -166,8 +118,9 @@ module _ (da db : Dictionary) (who : Sends) (u : Unknown) (made : Facts) (start 
 
   pub all_meant : HoldsOfLevels (sides da db who u) (answer c sites lines) (AreMeant (sides da db who u) meanings)
   all_meant bytes sent app site other level a b inner lies =
-      each_level da db who u made.lengths made.others made.telling made.outlooks facts.is_telling facts.are_outlooks sa shortest floors (plain_exits start.exits) listing.steps listing.reached walk
-      (AreMeant (sides da db who u) meanings) meant a b inner sent.command other sent.avps lies first_level
+      each_level da db who u made.lengths made.others made.telling made.outlooks facts.is_telling facts.are_outlooks sa shortest floors (plain_exits start.exits) listing.steps listing.reached sent.command other walk
+      (AreMeant (sides da db who u) meanings) meant a b inner sent.command other sent.avps lies
+      (top_level da db who u made start c sa facts floors is_start shortest listing.steps listing.reached bytes sent other)
     where
       from : ℕ
       from = unwrap_or (start_of db basis) 0
@@ -177,13 +130,13 @@ module _ (da db : Dictionary) (who : Sends) (u : Unknown) (made : Facts) (start 
           (begins db basis from (length basis.readings) listing.steps app sites site listing.sites_are level.inside level.is_read level.place) listing.is_walk
 
       meant : (x y : PlainDefinition) (avps : List PlainAvp)
-          → AtLevel da db who u made.lengths made.others made.telling made.outlooks facts.is_telling facts.are_outlooks sa shortest floors (plain_exits start.exits) listing.steps listing.reached x avps
+          → AtLevel da db who u made.lengths made.others made.telling made.outlooks facts.is_telling facts.are_outlooks sa shortest floors (plain_exits start.exits) listing.steps listing.reached sent.command other x y avps
           → AreMeant (sides da db who u) meanings x y avps
       meant x y avps l v comes is =
           let key = key_of v in
           let p = other_kept da db who u made.lengths made.others made.telling made.outlooks facts.is_telling facts.are_outlooks key (known_here key is) is in
-          let w = way_of da db who u made.lengths made.others made.telling made.outlooks facts.is_telling facts.are_outlooks sa shortest floors (plain_exits start.exits) listing.steps listing.reached walk
-          x avps l v comes p in
+          let w = way_of da db who u made.lengths made.others made.telling made.outlooks facts.is_telling facts.are_outlooks sa shortest floors (plain_exits start.exits) listing.steps listing.reached sent.command other walk
+          x y avps l v comes p in
           let le = w.2 in
           let keep = sent_keys da db who u (costs_in (sides da db who u) made).listed floors x.rules (max_body - l.stage.way) avps l.level in
           let room = keep.1 in
@@ -191,31 +144,6 @@ module _ (da db : Dictionary) (who : Sends) (u : Unknown) (made : Facts) (start 
           let t = meaning_told da db who u made.lengths made.others made.telling made.outlooks facts.is_telling facts.are_outlooks made.own facts.are_own from (length basis.readings) listing.reached
           (map tells meanings) listing.lines_are key p is w.0 w.1 (omega (arith, le, room, fits)) in
           meant_by meanings key t.0 t.1 t.2
-
-      rules : rules_in da c ≡ sent.command.rules
-      rules = ap (λ (o : Option PlainDefinition). option_map_or (λ (y : PlainDefinition). y.rules) o []) sent.is_command
-
-      first_level : AtLevel da db who u made.lengths made.others made.telling made.outlooks facts.is_telling facts.are_outlooks sa shortest floors (plain_exits start.exits) listing.steps listing.reached
-          sent.command sent.avps
-      first_level = record {
-        number = 0;
-        def = c;
-        stage = record { way = 0; exits = plain_exits start.exits };
-        exits = is_start.exits;
-        is_stage = refl;
-        stage_exits = is_start.exits_are;
-        at_def = sent.is_command;
-        are_exits = subst (λ (rs : List DRule). AreExits made.telling (costs_in (sides da db who u) made) rs is_start.exits) rules is_start.are_exits;
-        within = omega arith;
-        level = record {
-          bytes = sent.message.body;
-          are_bytes = body_bytes sent.header sent.avps bytes sent.message sent.are_bytes;
-          spelled = sent.message.is_body;
-          has_room = let fits = body_within sent.header sent.avps bytes sent.message sent.are_bytes in omega (arith, fits);
-          stand = sent.stand;
-          sent = sent.sent;
-        };
-      }
 
 -- where none is told, none is read so
 pub none_meant : (da db : Dictionary) (who : Sends) (u : Unknown) (c : ℕ) (sites : List Site) (lines meanings : List Line) → meanings ≡ []

@@ -130,7 +130,6 @@ module _ (da db : Dictionary) (who : Sends) (u : Unknown) where
   plain (causes.Unknown key m) other = tt
   plain (causes.MBit key m) other = tt
   plain (causes.Meaning key) other = tt
-  plain causes.Unproved other = tt
 
   -- where nothing is told of data
   pub plain_lines : (lines : List Line) (told : List Told) → map tells lines ≡ told → All IsPlain told → TellData (sides da db who u) lines

@@ -1,6 +1,6 @@
 -- The applications by which messages are looked at, as they are found.
 use Rattle.std.proofs.Common.{◌≡◌, ℕ, zero, suc, ◌+◌, ◌<◌, ◌≤◌, Bool, true, false, List, [], ◌∷◌, ◌++◌, filter, take, Option, Some, None, Result, refl, sym, ap, subst, ◌∙◌, arith, inl, inr}
-use Rattle.std.specs.Prelude.{◌⊎◌, ◌||◌, Contains, IfOk, IfSome, MatchOption, nat_eq, slice_get}
+use Rattle.std.specs.Prelude.{◌⊎◌, ◌||◌, Contains, IfOk, MatchOption, nat_eq, slice_get}
 use Rattle.std.proofs.lemmas.Bool.{both_ways, cases_order, eq-eqb, eqb-false, eqb-true, or_cases, or_parts}
 use Rattle.std.proofs.lemmas.List.Elements.{filter-append}
 use Rattle.std.specs.List.{list_any}
@@ -8,7 +8,7 @@ use Rattle.std.specs.Option.{option_eq}
 use Rattle.dia_book.specs.Dictionary.{Dictionary, selected}
 use Rattle.dia_breaking.specs.declared.heads.Head.{Head}
 use Rattle.dia_breaking.specs.ToldApps.{IsLeastUnnamed, IsNamed, selects}
-use Rattle.dia_breaking.proofs.Lists.{one_more, when_ok}
+use Rattle.dia_breaking.proofs.Lists.{one_more}
 use Rattle.dia_breaking.proofs.LeastNumbers.{named_of, of_named}
 
 -- one more is looked at
@@ -80,13 +80,6 @@ module _ {E : Type 0} (r : Result (Option ℕ) E) where
   pub unnamed_of : (xs ys first second : List ℕ) → xs ≡ first → ys ≡ second → IfOk r (IsLeastUnnamed xs ys) → IfOk r (IsLeastUnnamed first second)
   unnamed_of xs ys first second same_first same_second is =
       subst (λ (zs : List ℕ). IfOk r (IsLeastUnnamed zs second)) same_first (subst (λ (zs : List ℕ). IfOk r (IsLeastUnnamed xs zs)) same_second is)
-
-  pub in_neither : (first second : List ℕ) → IfOk r (IsLeastUnnamed first second) → IfOk r (λ found. IfSome found (λ app. (¬ Contains first app) × (¬ Contains second app)))
-  in_neither first second is = when_ok (IsLeastUnnamed first second) (λ found. IfSome found (λ app. (¬ Contains first app) × (¬ Contains second app))) r apart is
-    where
-      apart : (found : Option ℕ) → IsLeastUnnamed first second found → IfSome found (λ app. (¬ Contains first app) × (¬ Contains second app))
-      apart None all = tt
-      apart (Some app) least = (λ there. least.1 (inl there), λ there. least.1 (inr there))
 
 -- ---- a command that is selected
 

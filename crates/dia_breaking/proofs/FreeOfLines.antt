@@ -26,26 +26,14 @@ no_member lines line none (i, within, is) = absurd (let e : length lines ≡ 0 =
 pub nothing_told : (da db : Dictionary) (who : Sends) (u : Unknown) (sites : List Site) (lines : List Line) (c : ℕ) → AreValidWhereFree (sides da db who u) (answer c sites lines) → lines ≡ [] → AreValid da db who u c
 nothing_told da db who u sites lines c valid none bytes sent =
     valid bytes sent (record {
-      shown = λ line inside. absurd (no_member lines line none inside);
-      asked = record {
-        selects = λ told. absurd (no_member lines told.0 none told.1);
-        proxiable = λ other is told. absurd (no_member lines told.0 none told.3);
-        levels = λ other is a b inner lies. record { level = λ line told inside. absurd (no_member lines line none inside); own = λ line key v inside. absurd (no_member lines line none inside) };
-      };
+      selects = λ told. absurd (no_member lines told.0 none told.1);
+      proxiable = λ other is told. absurd (no_member lines told.0 none told.3);
+      levels = λ other is a b inner lies. record { level = λ line told inside. absurd (no_member lines line none inside); own = λ line key v inside. absurd (no_member lines line none inside) };
     })
 
 -- where each is valid, each that is free is
 pub all_valid : (da db : Dictionary) (who : Sends) (u : Unknown) (sites : List Site) (lines : List Line) (c : ℕ) → AreValid da db who u c → AreValidWhereFree (sides da db who u) (answer c sites lines)
 all_valid da db who u sites lines c valid bytes sent free = valid bytes sent
-
--- where it isn't shown that nothing else breaks, none is free
-pub none_free : (da db : Dictionary) (who : Sends) (u : Unknown) (sites : List Site) (lines : List Line) (c : ℕ) (line : Line) → Contains lines line → line.cause ≡ causes.Unproved
-    → AreValidWhereFree (sides da db who u) (answer c sites lines)
-none_free da db who u sites lines c line inside is bytes sent free = absurd (free.shown line inside is)
-
-pub none_mended : (da db : Dictionary) (who : Sends) (u : Unknown) (sites : List Site) (lines : List Line) (c : ℕ) (line : Line) → Contains lines line → line.cause ≡ causes.Unproved
-    → AreValidOnceMended (sides da db who u) (answer c sites lines)
-none_mended da db who u sites lines c line inside is shown bytes mended sent app site other header level asked mends message = absurd (shown line inside is)
 
 -- where none is sent
 pub unsent_valid : (da db : Dictionary) (who : Sends) (u : Unknown) (c : ℕ) → IsUnsent (sides da db who u) c → AreValid da db who u c
@@ -53,7 +41,7 @@ unsent_valid da db who u c unsent bytes sent = absurd (unsent bytes sent)
 
 pub unsent_mended : (da db : Dictionary) (who : Sends) (u : Unknown) (sites : List Site) (lines : List Line) (c : ℕ) → IsUnsent (sides da db who u) c
     → AreValidOnceMended (sides da db who u) (answer c sites lines)
-unsent_mended da db who u sites lines c unsent shown bytes mended sent app site other header level asked mends message = absurd (unsent bytes sent)
+unsent_mended da db who u sites lines c unsent bytes mended sent app site other header level asked mends message = absurd (unsent bytes sent)
 
 -- ---- lines of which something else is known
 
@@ -91,18 +79,14 @@ module _ (da db : Dictionary) (u : Unknown) (sites : List Site) (old new : List 
 
   still_free : (header : Header) (command : PlainDefinition) (avps : List PlainAvp) → IsFree da db u sites new c header command avps → IsFree da db u sites old c header command avps
   still_free header command avps free = record {
-    shown = λ line inside is. let t = there line inside in free.shown t.other t.inside (t.cause ∙ is);
-    asked = record {
-      selects = λ told. free.asked.selects (refusal told);
-      proxiable = λ other is told. free.asked.proxiable other is (flags_told other header.flags told);
-      levels = λ other is a b inner lies. free_level a b inner (free.asked.levels other is a b inner lies);
-    };
+    selects = λ told. free.selects (refusal told);
+    proxiable = λ other is told. free.proxiable other is (flags_told other header.flags told);
+    levels = λ other is a b inner lies. free_level a b inner (free.levels other is a b inner lies);
   }
 
   pub still_valid : (who : Sends) → AreValidWhereFree (sides da db who u) (answer c sites old) → AreValidWhereFree (sides da db who u) (answer c sites new)
   still_valid who valid bytes sent free = valid bytes sent (still_free sent.header sent.command sent.avps free)
 
   pub still_mended : (who : Sends) → AreValidOnceMended (sides da db who u) (answer c sites old) → AreValidOnceMended (sides da db who u) (answer c sites new)
-  still_mended who valid shown bytes mended sent app site other header level asked mends message =
-      valid (λ line inside is. let t = there line inside in shown t.other t.inside (t.cause ∙ is)) bytes mended sent app site other header level
-      (λ a b inner lies. free_level a b inner (asked a b inner lies)) mends message
+  still_mended who valid bytes mended sent app site other header level asked mends message =
+      valid bytes mended sent app site other header level (λ a b inner lies. free_level a b inner (asked a b inner lies)) mends message

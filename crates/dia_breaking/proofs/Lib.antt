@@ -1,4 +1,5 @@
 pub mod InRange
+mod GroupsFound
 pub mod Shortest
 pub mod Confirmed
 mod Standings
@@ -18,19 +19,17 @@ mod FoundExits
 pub mod OneOrder
 pub mod FloorsOfEntries
 pub mod KeptFloors
+pub mod ExactFloors
 pub mod LevelCosts
-pub mod ClosedBy
-pub mod Closings
-pub mod ClosedSites
+pub mod SentPrices
+pub mod SentLevels
 pub mod Lists
 pub mod Outlooks
 pub mod OpenCommands
 pub mod ToldHeaders
-pub mod Certified
 pub mod TooLong
 mod MendedHeaders
 mod MendedLines
-mod MendedMessages
 mod Nested
 mod OneMessage
 mod OnceMended
@@ -45,9 +44,16 @@ pub mod Listings
 pub mod OneOwn
 pub mod OneStart
 pub mod TheOneList
+pub mod ToldLines
+pub mod EachLevelLine
+pub mod LookedHeaders
 pub mod Reached
 pub mod ReadLevels
+pub mod TopLevels
+pub mod OwnFits
+pub mod PlacedLevels
 pub mod AllMeanings
+pub mod AllLines
 mod WalkGraphs
 mod GapsInRanges
 mod LackingNumbers

@@ -1,14 +1,13 @@
 -- What is kept of the members of a list.
-use Rattle.std.proofs.Common.{◌≡◌, ℕ, zero, suc, ◌+◌, ◌<◌, get_or, List, [], ◌∷◌, ◌++◌, length, map, take, drop, Option, Some, Result, Ok, Err, sym, ap, subst, ◌∙◌, arith, inl, inr}
-use Rattle.std.specs.Prelude.{◌⊎◌, All, Contains, IfOk, slice_get}
+use Rattle.std.proofs.Common.{◌≡◌, ℕ, ◌+◌, ◌<◌, get_or, List, [], ◌∷◌, ◌++◌, length, map, take, Option, Some, Result, Ok, Err, sym, ap, subst, ◌∙◌}
+use Rattle.std.specs.Prelude.{All, Contains, IfOk, slice_get}
 use Rattle.std.specs.List.{filter_map}
 use Rattle.std.specs.Option.{option_map}
-use Rattle.std.proofs.lemmas.Bool.{cases_order}
 use Rattle.std.proofs.lemmas.Option.{same_Some, slice_get_within, slice_get-get_or, slice_get-map}
 use Rattle.std.proofs.lemmas.List.{map-append, take_more}
 use Rattle.std.proofs.lemmas.List.Elements.{All-nil, All-push, filter_map-append}
 use Rattle.dia_book.proofs.Members.{at_Contains, at_map}
-use Rattle.dia_breaking_sites.proofs.Members.{IsIn, in_at, contains_in}
+use Rattle.dia_breaking_sites.proofs.Members.{in_at, contains_in}
 
 pub one_more : {X : Type 0} (xs : List X) (i : ℕ) (x : X) → slice_get xs i ≡ Some x → take (i + 1) xs ≡ take i xs ++ x ∷ []
 one_more {X} xs i x at =
@@ -29,6 +28,10 @@ pub when_two : {X E : Type 0} (P R Q : X → Type 0) (r : Result X E) → ((x : 
 when_two P R Q (Ok x) f h k = f x h k
 when_two P R Q (Err e) f h k = tt
 
+pub when_three : {X E : Type 0} (P R S Q : X → Type 0) (r : Result X E) → ((x : X) → P x → R x → S x → Q x) → IfOk r P → IfOk r R → IfOk r S → IfOk r Q
+when_three P R S Q (Ok x) f h k l = f x h k l
+when_three P R S Q (Err e) f h k l = tt
+
 -- ---- all members
 
 pub all_in : {X : Type 0} (P : X → Type 0) (xs : List X) (x : X) → All P xs → Contains xs x → P x
@@ -39,24 +42,6 @@ contains_at xs i x at = contains_in xs x (in_at xs i x at)
 
 pub at_place : {X : Type 0} (xs : List X) (i : ℕ) (x : X) → i < length xs → x ≡ get_or xs i x → slice_get xs i ≡ Some x
 at_place xs i x within is = slice_get-get_or xs i x within ∙ ap (λ y. Some y) (sym is)
-
--- ---- parts
-
-in_drop : {X : Type 0} (k : ℕ) (xs : List X) (x : X) → IsIn x (drop k xs) → IsIn x xs
-in_drop zero xs x i = i
-in_drop (suc k) [] x i = i
-in_drop (suc k) (y ∷ xs) x i = inr (in_drop k xs x i)
-
-in_take : {X : Type 0} (n : ℕ) (xs : List X) (x : X) → IsIn x (take n xs) → IsIn x xs
-in_take zero xs x i = absurd i
-in_take (suc n) [] x i = i
-in_take (suc n) (y ∷ xs) x (inl e) = inl e
-in_take (suc n) (y ∷ xs) x (inr i) = inr (in_take n xs x i)
-
-pub all_within : {X : Type 0} (xs : List X) (n k : ℕ) → All (Contains xs) (take n (drop k xs))
-all_within xs n k i d within =
-    let part = take n (drop k xs) in
-    contains_in xs (get_or part i d) (in_drop k xs (get_or part i d) (in_take n (drop k xs) (get_or part i d) (in_at part i (get_or part i d) (slice_get-get_or part i d within))))
 
 -- ---- images
 
@@ -70,9 +55,6 @@ same_image f xs ys x same inside =
 pub all_more : {X : Type 0} (P : X → Type 0) (xs : List X) (x : X) (new : List X) → new ≡ xs ++ x ∷ [] → All P xs → P x → All P new
 all_more P xs x new is all own = subst (All P) (sym is) (All-push P xs x all own)
 
-pub all_taken : {X : Type 0} (P : X → Type 0) (xs : List X) (i : ℕ) (d : X) → i < length xs → All P (take i xs) → P (get_or xs i d) → All P (take (i + 1) xs)
-all_taken P xs i d within all own = all_more P (take i xs) (get_or xs i d) (take (i + 1) xs) (take_more xs i d within) all own
-
 pub none_of : {X : Type 0} (P : X → Type 0) (xs : List X) → xs ≡ [] → All P xs
 none_of P xs is = subst (All P) (sym is) (All-nil P)
 
@@ -82,16 +64,6 @@ pub image_more : {X Y : Type 0} (f : X → Y) (old new ys : List X) (i : ℕ) (x
 image_more {X} {Y} f old new ys i x d is within same before =
     ap (map f) is ∙ map-append f old (x ∷ []) ∙ ap (λ (zs : List Y). zs ++ f x ∷ []) before ∙ ap (λ (y : Y). map f (take i ys) ++ y ∷ []) same
     ∙ sym (ap (map f) (take_more ys i d within) ∙ map-append f (take i ys) (get_or ys i d ∷ []))
-
--- one place more
-pub before_more : {X : Type 0} (P : ℕ → X → Type 0) (xs : List X) (i : ℕ) (d : X) → i < length xs → ((n : ℕ) (x : X) → n < i → slice_get xs n ≡ Some x → P n x) → P i (get_or xs i d)
-    → (n : ℕ) (x : X) → n < i + 1 → slice_get xs n ≡ Some x → P n x
-before_more P xs i d within before own n x less at = by (cases_order n i)
-  where
-    by : (n ≡ i) ⊎ ((n < i) ⊎ (i < n)) → P n x
-    by (inl same) = subst (λ k. P k x) (sym same) (subst (P i) (same_Some (get_or xs i d) x (sym (slice_get-get_or xs i d within) ∙ ap (slice_get xs) (sym same) ∙ at)) own)
-    by (inr (inl lt)) = before n x lt at
-    by (inr (inr gt)) = absurd (omega (arith, less, gt))
 
 pub when_ok : {X E : Type 0} (P Q : X → Type 0) (r : Result X E) → ((x : X) → P x → Q x) → IfOk r P → IfOk r Q
 when_ok P Q (Ok x) f h = f x h

@@ -38,7 +38,6 @@ module _ (s : Sides) (k : Stock) (c : ℕ) where
   one_parts place def (causes.Format key found) xs ys a b = a ∙ sym b
   one_parts place def (causes.LevelAsLeaf key) xs ys a b = a ∙ sym b
   one_parts place def (causes.Meaning key) xs ys a b = a ∙ sym b
-  one_parts place def causes.Unproved xs ys a b = a ∙ sym b
 
   one_alone : (place : Place) (cause : Cause) (number : Option ℕ) (xs ys : List ℕ)
       → MatchOption number (xs ≡ []) (λ def. (parts : List Part) × AreParts s k c place def cause parts × (xs ≡ parts_bytes (shortest_avp s k) parts))

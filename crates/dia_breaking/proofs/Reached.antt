@@ -35,11 +35,15 @@ use Rattle.dia_breaking.specs.Meanings.{IsReadAsOther}
 use Rattle.dia_breaking.specs.Nodes.{exits_in, node_in}
 use Rattle.dia_breaking.specs.Telling.{AreGroups, IsExactlyOwn, IsExactTelling, is_news}
 use Rattle.dia_breaking.specs.Sides.{sides}
-use Rattle.dia_breaking.proofs.ClosedBy.{stand_placed, stand_price}
+use Rattle.dia_breaking.proofs.SentPrices.{stand_placed, stand_price}
 use Rattle.dia_breaking.proofs.LevelCosts.{cost_of as is_cost, one_is_shortest}
 use Rattle.dia_breaking.proofs.Lists.{all_in, contains_at}
 use Rattle.dia_breaking.proofs.SentKeys.{sent_of}
 use Rattle.dia_breaking.proofs.Shortest.{lists_some}
+
+by_own : (b c d : Bool) → b ≡ true → ((b || c) || d) ≡ true
+by_own true c d e = refl
+by_own false c d e = absurd (both_ways false refl e)
 
 by_group : (b c d : Bool) → c ≡ true → ((b || c) || d) ≡ true
 by_group true c d e = refl
@@ -107,14 +111,29 @@ module _ (da db : Dictionary) (who : Sends) (u : Unknown) (lengths : List ℕ) (
         has = all_in (IsOutlook da db telling k) outlooks o.0 are.1 (contains_at outlooks place o.0 o.1);
       }
 
-  -- each key that A knows and of which there is something to tell is kept
-  kept : (key : Key) → IsSome (entry_of da key) → ((own : Own) → IsExactlyOwn (sides da db who u) own → own.key ≡ key → is_news own ≡ true) → Kept key
-  kept key known news =
-      let a = at_Contains tells.keys key ((sent_of da db who tells.keys tells.sent).own key known) in
+  -- what is found of each key that is sent
+  pub record Found (key : Key) : Type 0 where
+    pub own : Own
+    pub inside : IsIn own tells.all
+    pub own_key : own.key ≡ key
+    pub exact : IsExactlyOwn (sides da db who u) own
+
+  pub found : (key : Key) → Contains tells.keys key → Found key
+  found key there =
+      let a = at_Contains tells.keys key there in
       let (x, at, same) = at_map (λ (own : Own). own.key) tells.all a.place key (subst (λ (xs : List Key). slice_get xs a.place ≡ Some key) (sym tells.each.0) a.at) in
       let inside = in_at tells.all a.place x at in
-      let exact = all_of (IsExactlyOwn (sides da db who u)) tells.all x tells.each.1 inside in
-      placed key x (subst (λ (xs : List Own). IsIn x xs) (sym tells.told_are) (into_filter is_news tells.all x inside (news x exact same))) same
+      record { own = x; inside = inside; own_key = same; exact = all_of (IsExactlyOwn (sides da db who u)) tells.all x tells.each.1 inside }
+
+  -- that of which there is something to tell is kept
+  news_kept : (key : Key) (f : Found key) → is_news f.own ≡ true → Kept key
+  news_kept key f news = placed key f.own (subst (λ (xs : List Own). IsIn f.own xs) (sym tells.told_are) (into_filter is_news tells.all f.own f.inside news)) f.own_key
+
+  kept : (key : Key) → IsSome (entry_of da key) → ((own : Own) → IsExactlyOwn (sides da db who u) own → own.key ≡ key → is_news own ≡ true) → Kept key
+  kept key known news = let f = found key ((sent_of da db who tells.keys tells.sent).own key known) in news_kept key f (news f.own f.exact f.own_key)
+
+  pub own_kept : (key : Key) (f : Found key) → f.own.breaks ≡ true → Kept key
+  own_kept key f breaks = news_kept key f (by_own f.own.breaks f.own.is_group f.own.is_other breaks)
 
   pub other_kept : (key : Key) → IsSome (entry_of da key) → IsReadAsOther (sides da db who u) key → Kept key
   other_kept key known is = kept key known (λ own exact same.
@@ -143,12 +162,12 @@ module _ (da db : Dictionary) (who : Sends) (u : Unknown) (lengths : List ℕ) (
 
   -- by a cost of levels that is no more than they take
   module _ (rules : List DRule) (exits : Exits) (c : LevelCost) (listed_are : exits.listed.items ≡ filter_map (exit_by telling listed c) rules) (beside_is : exits.beside ≡ c.beside)
-      (costs : IsCostOf listed other rules c) (keys : List Key) (stand : StandAsSent who rules keys) (room : total listed keys ≤ max_body) (key : Key) (comes : Contains keys key) (p : Kept key) where
-    abbrev Led : Type 0
-    Led = (inner : ℕ) × Leads (map node_in outlooks) (exits_in exits) p.place inner × (inner ≤ total listed keys)
+      (costs : IsCostOf listed other rules c) (keys : List Key) (stand : StandAsSent who rules keys) (room : total listed keys ≤ max_body) (key : Key) (comes : Contains keys key) where
+    abbrev pub Led : ℕ → Type 0
+    Led place = (inner : ℕ) × Leads (map node_in outlooks) (exits_in exits) place inner × (inner ≤ total listed keys)
 
-    by_rule : is_listed rules key ≡ true → Led
-    by_rule e =
+    by_rule : (p : Kept key) → is_listed rules key ≡ true → Led p.place
+    by_rule p e =
         let (rule, i, l) = any_in (lists_key key) rules e in
         let is : rule.key ≡ Some key = lists_some key rule l in
         let exit : exit_by telling listed c rule ≡ Some (p.place, with_listed c rule (listed key)) =
@@ -161,31 +180,32 @@ module _ (da db : Dictionary) (who : Sends) (u : Unknown) (lengths : List ℕ) (
         let alike = stand_price da who lengths rules keys stand in
         (with_listed c rule (listed key), By_rule lists, omega (arith, least, alike))
 
-    unlisted : is_listed rules key ≡ false → IsUnlisted exits.listed.items p.place
-    unlisted e n inside =
+    unlisted : (q : Key) (p : Kept q) → is_listed rules q ≡ false → IsUnlisted exits.listed.items p.place
+    unlisted q p e n inside =
         let a = at_Contains exits.listed.items (p.place, n) inside in
         let (j, rule, at, is) = at_filter_map (exit_by telling listed c) rules a.place (p.place, n) (subst (λ (xs : List (ℕ × ℕ)). slice_get xs a.place ≡ Some (p.place, n)) listed_are a.at) in
-        let (q, is_q, at_q) = exit_key c rule p.place n is in
-        let alike : q ≡ key = sym (key_at p.place q p.own at_q p.is_own) ∙ p.own_key in
-        let lists : lists_key key rule ≡ true = ap (λ (o : Option Key). option_map_or (same_key key) o false) (is_q ∙ ap (λ (q : Key). Some q) alike) ∙ same_key-refl key in
-        both_ways (is_listed rules key) e (in_any (lists_key key) rules rule (in_at rules j rule at) lists)
+        let (key, is_key, at_key) = exit_key c rule p.place n is in
+        let alike : key ≡ q = sym (key_at p.place key p.own at_key p.is_own) ∙ p.own_key in
+        let lists : lists_key q rule ≡ true = ap (λ (o : Option Key). option_map_or (same_key q) o false) (is_key ∙ ap (λ (k : Key). Some k) alike) ∙ same_key-refl q in
+        both_ways (is_listed rules q) e (in_any (lists_key q) rules rule (in_at rules j rule at) lists)
 
-    by_wildcard : is_listed rules key ≡ false → Led
-    by_wildcard e =
+    -- where the key comes through the wildcard, another may that takes no more
+    pub by_wildcard : is_listed rules key ≡ false → (q : Key) (p : Kept q) → is_listed rules q ≡ false → other q ≤ other key → Led p.place
+    by_wildcard e q p none le =
         let least = costs.others_within key e keys (stand_placed who rules keys stand) comes in
         let alike = stand_price da who lengths rules keys stand in
-        let is_other : p.outlook.other ≡ other key = p.has.other_is ∙ ap other p.outlook_key in (
+        let is_other : p.outlook.other ≡ other q = p.has.other_is ∙ ap other p.outlook_key in (
           exits.beside + p.outlook.other,
-          By_wildcard (node_in p.outlook) (into_map node_in outlooks p.place p.outlook p.is_outlook) (unlisted e) refl,
-          omega (arith, least, alike, beside_is, is_other, room),
+          By_wildcard (node_in p.outlook) (into_map node_in outlooks p.place p.outlook p.is_outlook) (unlisted q p none) refl,
+          omega (arith, least, alike, beside_is, is_other, room, le),
         )
 
-    pub led : Led
-    led = by (is_listed rules key) refl
+    pub led : (p : Kept key) → Led p.place
+    led p = by (is_listed rules key) refl
       where
-        by : (b : Bool) → is_listed rules key ≡ b → Led
-        by true e = by_rule e
-        by false e = by_wildcard e
+        by : (b : Bool) → is_listed rules key ≡ b → Led p.place
+        by true e = by_rule p e
+        by false e = by_wildcard e key p e (omega arith)
 
   pub costs_at : IsDictionary da → PicksShortest da db k → (def : ℕ) (x : PlainDefinition) → slice_get (definitions da) def ≡ Some x → IsCostOf listed other x.rules (cost x.rules)
   costs_at sa shortest def x at =

@@ -1,6 +1,6 @@
 -- In messages that are sent each level that both sides read is reached, and so are its AVPs.
 use Rattle.std.proofs.Common.{◌≡◌, ℕ, zero, suc, ◌+◌, ◌-◌, ◌<◌, ◌≤◌, List, [], ◌∷◌, ◌++◌, length, map, Option, Some, None, refl, sym, ap, subst, ◌∙◌, arith, inl, inr}
-use Rattle.std.specs.Prelude.{is_some, IsSome, MatchOption, Contains, slice_get, option_and_then}
+use Rattle.std.specs.Prelude.{false, is_some, IsSome, MatchOption, Contains, slice_get, option_and_then}
 use Rattle.std.specs.List.{AllByRecursion}
 use Rattle.std.specs.Option.{option_map, option_map_or}
 use Rattle.std.proofs.lemmas.Option.{none-some, slice_get_within}
@@ -14,7 +14,7 @@ use Rattle.dia_book.specs.Dictionary.{Dictionary, DictEntry, PlainDefinition, Is
 use Rattle.dia_book.proofs.Members.{at_Contains, into_map}
 use Rattle.dia_policy.specs.declared.Unknown.{Unknown}
 use Rattle.dia_policy.specs.declared.Sends.{Sends}
-use Rattle.dia_check.specs.Valid.{known, IsAccepted, MHolds}
+use Rattle.dia_check.specs.Valid.{known, is_listed, IsAccepted, MHolds}
 use Rattle.dia_check.specs.Walks.{group_at}
 use Rattle.dia_rules.proofs.Members.{IsIn, in_contains, there_is}
 use Rattle.dia_rules.proofs.GroupNumbers.{group_there}
@@ -34,14 +34,14 @@ use Rattle.dia_breaking.specs.declared.exits.Inner.{Inner}
 use Rattle.dia_breaking.specs.declared.exits.Outlook.{Outlook}
 use Rattle.dia_breaking.specs.declared.keys.Telling.{Telling}
 use Rattle.dia_breaking.specs.Exits.{AreExits, AreOutlooks, IsInner, IsInnerOrNone}
-use Rattle.dia_breaking.specs.Lengths.{costs_by}
+use Rattle.dia_breaking.specs.Lengths.{costs_by, other_length}
 use Rattle.dia_breaking.specs.LevelCosts.{PicksShortest}
 use Rattle.dia_breaking.specs.Nodes.{exits_in, level_in, node_in}
 use Rattle.dia_breaking.specs.Outlooks.{group_rules}
 use Rattle.dia_breaking.specs.Telling.{AreGroups, IsExactTelling}
 use Rattle.dia_breaking.specs.Sides.{sides}
-use Rattle.dia_breaking.proofs.ClosedSites.{group_within, key_contained, sent_keys}
-use Rattle.dia_breaking.proofs.Reached.{Kept, cost, costs_at, group_kept, led, listed}
+use Rattle.dia_breaking.proofs.SentLevels.{group_within, key_contained, sent_keys}
+use Rattle.dia_breaking.proofs.Reached.{Kept, by_wildcard, cost, costs_at, group_kept, led, listed}
 use Rattle.dia_breaking.proofs.Tellings.{no_group}
 
 -- ---- the AVPs of bytes
@@ -78,8 +78,15 @@ group_def d key x i at is =
     let (e, here, knows) = known_by_entry d key i at in
     (_, (group_there d i e x here (sym (ap (λ (o : Option DictEntry). option_and_then (λ (e : DictEntry). e.group) o) knows) ∙ is)).1)
 
+pub def_of : (d : Dictionary) (key : Key) (x : PlainDefinition) → group_of d key ≡ Some x → (def : ℕ) × (slice_get (definitions d) def ≡ Some x)
+def_of d key x is = by (entry_of d key) refl
+  where
+    by : (o : Option ℕ) → entry_of d key ≡ o → (def : ℕ) × (slice_get (definitions d) def ≡ Some x)
+    by None e = absurd (no_group d key e (ap (λ (o : Option PlainDefinition). is_some o) is))
+    by (Some i) e = group_def d key x i e is
+
 -- a key of the list takes no more than all
-total_has : (f : Key → ℕ) (keys : List Key) (key : Key) → IsIn key keys → f key ≤ total f keys
+pub total_has : (f : Key → ℕ) (keys : List Key) (key : Key) → IsIn key keys → f key ≤ total f keys
 total_has f [] key i = absurd i
 total_has f (q ∷ keys) key (inl e) = let same : f key ≡ f q = ap f e in omega (arith, same)
 total_has f (q ∷ keys) key (inr i) = let more = total_has f keys key i in omega (arith, more)
@@ -100,12 +107,29 @@ module _ (da db : Dictionary) (who : Sends) (u : Unknown) (lengths : List ℕ) (
       by None e = absurd (no_group da key e (ap (λ (o : Option PlainDefinition). is_some o) is))
       by (Some i) e = ap (λ (o : Option ℕ). is_some o) e
 
-  module _ (floors : AreFloors da who floor) (start : PlainExits) (steps : List Step) (reached : List (Option Reach)) where
-    abbrev graph : Graph
+  -- the level of the group to which the step of a number leads is read by these definitions
+  pub record IsStepTo (steps : List Step) (number way : ℕ) (x y : PlainDefinition) : Type 0 where
+    pub step : Step
+    pub outlook : Outlook
+    pub inner : Inner
+    pub at : slice_get steps number ≡ Some step
+    pub is_outlook : slice_get outlooks step.place ≡ Some outlook
+    pub is_inner : outlook.inner ≡ Some inner
+    pub is_way : way ≡ step.way
+    pub is_sent : group_of da outlook.key ≡ Some x
+    pub is_read : group_of db outlook.key ≡ Some y
+
+  module _ (floors : AreFloors da who floor) (start : PlainExits) (steps : List Step) (reached : List (Option Reach)) (top under : PlainDefinition) where
+    abbrev pub graph : Graph
     graph = record { nodes = map node_in outlooks; start = start; room = max_body }
 
+    -- the start is read by the definitions of a command
+    abbrev pub IsReadAt : ℕ → ℕ → PlainDefinition → PlainDefinition → Type 0
+    IsReadAt zero way x y = (way ≡ 0) × (x ≡ top) × (y ≡ under)
+    IsReadAt (suc number) way x y = IsStepTo steps number way x y
+
     -- the level is reached, with what its way leaves
-    pub record AtLevel (x : PlainDefinition) (avps : List PlainAvp) : Type 0 where
+    pub record AtLevel (x y : PlainDefinition) (avps : List PlainAvp) : Type 0 where
       pub number : ℕ
       pub def : ℕ
       pub stage : Stage
@@ -113,57 +137,73 @@ module _ (da db : Dictionary) (who : Sends) (u : Unknown) (lengths : List ℕ) (
       pub is_stage : stage_at graph steps number ≡ Some stage
       pub stage_exits : stage.exits ≡ exits_in exits
       pub at_def : slice_get (definitions da) def ≡ Some x
+      pub is_read : IsReadAt number stage.way x y
       pub are_exits : AreExits telling (costs_by da who lengths others) x.rules exits
       pub within : stage.way ≤ max_body
       pub level : IsLevelOf da who x.rules (max_body - stage.way) avps
 
     module _ (walk : IsWalk graph steps reached) where
       -- so is each AVP of it of which something is kept
-      abbrev Reaches : PlainAvp → (x : PlainDefinition) (avps : List PlainAvp) → AtLevel x avps → ℕ → Type 0
-      Reaches v x avps l place = (reach : Reach) × (slice_get reached place ≡ Some (Some reach)) × (reach.length ≤ l.stage.way + total floor (map key_of avps))
+      abbrev pub Reaches : (x y : PlainDefinition) (avps : List PlainAvp) → AtLevel x y avps → ℕ → Type 0
+      Reaches x y avps l place = (reach : Reach) × (slice_get reached place ≡ Some (Some reach)) × (reach.length ≤ l.stage.way + total floor (map key_of avps))
 
-      pub way_of : (x : PlainDefinition) (avps : List PlainAvp) (l : AtLevel x avps) (v : PlainAvp) → Contains avps v → (p : KeptAt (key_of v)) → Reaches v x avps l p.place
-      way_of x avps l v comes p = by there.0 there.1
-        where
-          keys : List Key
-          keys = map key_of avps
+      module _ (x y : PlainDefinition) (avps : List PlainAvp) (l : AtLevel x y avps) where
+        abbrev keys : List Key
+        keys = map key_of avps
 
-          sent : StandAsSent who x.rules keys × (total floor keys ≤ max_body - l.stage.way)
-          sent = sent_keys da db who u floor floors x.rules (max_body - l.stage.way) avps l.level
+        sent_here : StandAsSent who x.rules keys × (total floor keys ≤ max_body - l.stage.way)
+        sent_here = sent_keys da db who u floor floors x.rules (max_body - l.stage.way) avps l.level
 
-          leads : (inner : ℕ) × Leads (map node_in outlooks) (exits_in l.exits) p.place inner × (inner ≤ total floor keys)
-          leads =
-              let room = sent.1 in
-              led da db who u lengths others telling outlooks tells are x.rules l.exits (cost da db who u lengths others telling outlooks tells are x.rules) l.are_exits.listed_are l.are_exits.beside
-              (costs_at da db who u lengths others telling outlooks tells are sa shortest l.def x l.at_def) keys sent.0 (omega (arith, room)) (key_of v) (key_contained avps v comes) p
+        room_here : total floor keys ≤ max_body
+        room_here = let room = sent_here.1 in omega (arith, room)
 
-          is : IsReached graph steps p.place l.number (l.stage.way + leads.0)
-          is = record {
-            stage = l.stage;
-            inner = leads.0;
-            is_stage = l.is_stage;
-            leads = subst (λ (e : PlainExits). Leads (map node_in outlooks) e p.place leads.0) (sym l.stage_exits) leads.1;
-            is_total = refl;
-            has_room = let le = leads.2 in let room = sent.1 in let fits = l.within in omega (arith, le, room, fits);
-          }
+        abbrev LedTo : ℕ → Type 0
+        LedTo place = (inner : ℕ) × Leads (map node_in outlooks) (exits_in l.exits) place inner × (inner ≤ total floor keys)
 
-          there : (o : Option Reach) × (slice_get reached p.place ≡ Some o)
-          there =
-              let within = slice_get_within (map node_in outlooks) p.place (node_in p.outlook) (into_map node_in outlooks p.place p.outlook p.is_outlook) in
-              let size : length reached ≡ length (map node_in outlooks) = walk.each in
-              there_is reached p.place (omega (arith, within, size))
+        way_by : (q : Key) (p : KeptAt q) → LedTo p.place → Reaches x y avps l p.place
+        way_by q p leads = by there.0 there.1
+          where
+            is : IsReached graph steps p.place l.number (l.stage.way + leads.0)
+            is = record {
+              stage = l.stage;
+              inner = leads.0;
+              is_stage = l.is_stage;
+              leads = subst (λ (e : PlainExits). Leads (map node_in outlooks) e p.place leads.0) (sym l.stage_exits) leads.1;
+              is_total = refl;
+              has_room = let le = leads.2 in let room = sent_here.1 in let fits = l.within in omega (arith, le, room, fits);
+            }
 
-          no_later : (reach : Reach) → IsNoLater reach l.number (l.stage.way + leads.0) → reach.length ≤ l.stage.way + total floor keys
-          no_later reach (inl less) = let le = leads.2 in omega (arith, less, le)
-          no_later reach (inr (equal, later)) = let le = leads.2 in omega (arith, equal, le)
+            there : (o : Option Reach) × (slice_get reached p.place ≡ Some o)
+            there =
+                let within = slice_get_within (map node_in outlooks) p.place (node_in p.outlook) (into_map node_in outlooks p.place p.outlook p.is_outlook) in
+                let size : length reached ≡ length (map node_in outlooks) = walk.each in
+                there_is reached p.place (omega (arith, within, size))
 
-          by : (o : Option Reach) → slice_get reached p.place ≡ Some o → Reaches v x avps l p.place
-          by None at = absurd (walk.shortest p.place None at l.number (l.stage.way + leads.0) is)
-          by (Some reach) at = (reach, at, no_later reach ((walk.shortest p.place (Some reach) at).1 l.number (l.stage.way + leads.0) is))
+            no_later : (reach : Reach) → IsNoLater reach l.number (l.stage.way + leads.0) → reach.length ≤ l.stage.way + total floor keys
+            no_later reach (inl less) = let le = leads.2 in omega (arith, less, le)
+            no_later reach (inr (equal, later)) = let le = leads.2 in omega (arith, equal, le)
+
+            by : (o : Option Reach) → slice_get reached p.place ≡ Some o → Reaches x y avps l p.place
+            by None at = absurd (walk.shortest p.place None at l.number (l.stage.way + leads.0) is)
+            by (Some reach) at = (reach, at, no_later reach ((walk.shortest p.place (Some reach) at).1 l.number (l.stage.way + leads.0) is))
+
+        pub way_of : (v : PlainAvp) → Contains avps v → (p : KeptAt (key_of v)) → Reaches x y avps l p.place
+        way_of v comes p =
+            way_by (key_of v) p
+            (led da db who u lengths others telling outlooks tells are x.rules l.exits (cost da db who u lengths others telling outlooks tells are x.rules) l.are_exits.listed_are l.are_exits.beside
+            (costs_at da db who u lengths others telling outlooks tells are sa shortest l.def x l.at_def) keys sent_here.0 room_here (key_of v) (key_contained avps v comes) p)
+
+        -- so is another that could come through the wildcard in the place of one
+        pub way_beside : (v : PlainAvp) → Contains avps v → is_listed x.rules (key_of v) ≡ false → (q : Key) (p : KeptAt q) → is_listed x.rules q ≡ false
+            → other_length da who lengths q ≤ other_length da who lengths (key_of v) → Reaches x y avps l p.place
+        way_beside v comes none q p unlisted le =
+            way_by q p
+            (by_wildcard da db who u lengths others telling outlooks tells are x.rules l.exits (cost da db who u lengths others telling outlooks tells are x.rules) l.are_exits.listed_are l.are_exits.beside
+            (costs_at da db who u lengths others telling outlooks tells are sa shortest l.def x l.at_def) keys sent_here.0 room_here (key_of v) (key_contained avps v comes) none q p unlisted le)
 
       -- ---- the level in a group
 
-      module _ (x : PlainDefinition) (avps : List PlainAvp) (l : AtLevel x avps) (v : PlainAvp) (g h : PlainDefinition) (next : List PlainAvp) (comes : Contains avps v) (is_g : group_at da v ≡ Some g)
+      module _ (x y : PlainDefinition) (avps : List PlainAvp) (l : AtLevel x y avps) (v : PlainAvp) (g h : PlainDefinition) (next : List PlainAvp) (comes : Contains avps v) (is_g : group_at da v ≡ Some g)
           (is_h : group_at db v ≡ Some h) (spelled : SpellsAll next v.bytes) where
         abbrev key : Key
         key = key_of v
@@ -174,15 +214,11 @@ module _ (da db : Dictionary) (who : Sends) (u : Unknown) (lengths : List ℕ) (
         p : KeptAt key
         p = group_kept da db who u lengths others telling outlooks tells are key (has_entry key g is_g) both
 
-        way : Reaches v x avps l p.place
-        way = way_of x avps l v comes p
+        way : Reaches x y avps l p.place
+        way = way_of x y avps l v comes p
 
-        own_def : (def : ℕ) × (slice_get (definitions da) def ≡ Some g)
-        own_def = by (entry_of da key) refl
-          where
-            by : (o : Option ℕ) → entry_of da key ≡ o → (def : ℕ) × (slice_get (definitions da) def ≡ Some g)
-            by None e = absurd (no_group da key e both.0)
-            by (Some i) e = group_def da key g i e is_g
+        def_here : (def : ℕ) × (slice_get (definitions da) def ≡ Some g)
+        def_here = def_of da key g is_g
 
         sent : (m : ℕ) × IsSentLevel who (IsSentWithin da who m) g.rules v.bytes
         sent = sent_inside da who v g l.level.sent.0 is_g (in_all (IsSentWithin da who l.level.sent.0) avps v l.level.sent.1 (in_contains avps v comes))
@@ -202,7 +238,7 @@ module _ (da db : Dictionary) (who : Sends) (u : Unknown) (lengths : List ℕ) (
             }
 
         -- by the level that is kept of it
-        by_inner : (inner : Inner) → p.outlook.inner ≡ Some inner → IsInner da telling (costs_by da who lengths others) p.outlook.key inner → AtLevel g next
+        by_inner : (inner : Inner) → p.outlook.inner ≡ Some inner → IsInner da telling (costs_by da who lengths others) p.outlook.key inner → AtLevel g h next
         by_inner inner is_inner is =
             let reach = way.0 in
             let level : PlainLevel = level_in inner in
@@ -226,29 +262,40 @@ module _ (da db : Dictionary) (who : Sends) (u : Unknown) (lengths : List ℕ) (
             let has = total_has floor (map key_of avps) key (in_contains (map key_of avps) key (key_contained avps v comes)) in
             record {
               number = suc j.place;
-              def = own_def.0;
+              def = def_here.0;
               stage = stage;
               exits = inner.exits;
               is_stage = staged;
               stage_exits = refl;
-              at_def = own_def.1;
+              at_def = def_here.1;
+              is_read = record {
+                step = step;
+                outlook = p.outlook;
+                inner = inner;
+                at = j.at;
+                is_outlook = p.is_outlook;
+                is_inner = is_inner;
+                is_way = refl;
+                is_sent = ap (λ (q : Key). group_of da q) p.outlook_key ∙ is_g;
+                is_read = ap (λ (q : Key). group_of db q) p.outlook_key ∙ is_h;
+              };
               are_exits = subst (λ (rs : List DRule). AreExits telling (costs_by da who lengths others) rs inner.exits) rules is.exits;
               within = omega (arith, taken, shorter, room, fits);
               level = next_level (max_body - step.way) (omega (arith, taken, least, shorter, room, fits, beside, has));
             }
 
-        pub level_inside : AtLevel g next
+        pub level_inside : AtLevel g h next
         level_inside = by p.outlook.inner refl p.has.inner_is
           where
-            by : (o : Option Inner) → p.outlook.inner ≡ o → IsInnerOrNone da db telling (costs_by da who lengths others) p.outlook.key o → AtLevel g next
+            by : (o : Option Inner) → p.outlook.inner ≡ o → IsInnerOrNone da db telling (costs_by da who lengths others) p.outlook.key o → AtLevel g h next
             by None e none = absurd (none (subst (λ (q : Key). AreGroups da db q) (sym p.outlook_key) both))
             by (Some inner) e (groups, is) = by_inner inner e is
 
       -- ---- each level
 
-      pub each_level : (Asked : AboutLevels) → ((x y : PlainDefinition) (avps : List PlainAvp) → AtLevel x avps → Asked x y avps) → (a b : PlainDefinition) (inner : List PlainAvp) (x y : PlainDefinition)
+      pub each_level : (Asked : AboutLevels) → ((x y : PlainDefinition) (avps : List PlainAvp) → AtLevel x y avps → Asked x y avps) → (a b : PlainDefinition) (inner : List PlainAvp) (x y : PlainDefinition)
           (avps : List PlainAvp)
-          → LiesIn da db a b inner x y avps → AtLevel x avps → Asked a b inner
+          → LiesIn da db a b inner x y avps → AtLevel x y avps → Asked a b inner
       each_level Asked asked a b inner x y avps same l = asked a b inner l
       each_level Asked asked a b inner x y avps (inside v g h next comes is_g is_h spelled lies) l =
-          each_level Asked asked a b inner g h next lies (level_inside x avps l v g h next comes is_g is_h spelled)
+          each_level Asked asked a b inner g h next lies (level_inside x y avps l v g h next comes is_g is_h spelled)

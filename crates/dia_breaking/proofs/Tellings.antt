@@ -1,8 +1,8 @@
 -- What is told of the keys that are sent is all that there is to tell.
 use Rattle.std.proofs.Common.{◌≡◌, ℕ, zero, suc, Bool, true, false, List, [], ◌∷◌, ◌++◌, length, Option, Some, None, refl, sym, ap, subst, ◌∙◌, arith, inl, inr}
-use Rattle.std.specs.Prelude.{◌⊎◌, ◌&&◌, ◌||◌, is_some, IsSome, MatchOption, ⊤, Contains, slice_get, option_and_then, if◌then◌else◌}
+use Rattle.std.specs.Prelude.{◌⊎◌, ◌&&◌, is_some, IsSome, MatchOption, ⊤, Contains, slice_get, option_and_then, if◌then◌else◌}
 use Rattle.std.specs.HashMap.{get}
-use Rattle.std.proofs.lemmas.Bool.{and_from, both_ways}
+use Rattle.std.proofs.lemmas.Bool.{both_ways}
 use Rattle.std.proofs.lemmas.Option.{none-some}
 use Rattle.dia_wire.specs.declared.Key.{Key}
 use Rattle.dia_data.specs.Leaf.{IsLeaf}
@@ -11,10 +11,9 @@ use Rattle.dia_book.specs.Dictionary.{Dictionary, DictEntry, entry_of}
 use Rattle.dia_book.proofs.SameKeys.{same_key-refl, same_key-true}
 use Rattle.dia_policy.specs.declared.Unknown.{Unknown}
 use Rattle.dia_policy.specs.declared.Sends.{Sends}
-use Rattle.dia_policy.specs.declared.Sends.TheVariants.{Any, Known, Listed}
 use Rattle.dia_check.specs.Valid.{Fits as AvpFits, IsAccepted, IsLevel, MHolds, known}
 use Rattle.dia_check.specs.Admission.{HasFlags}
-use Rattle.dia_breaking_sites.specs.Sent.{own_policy, IsSentLevel, IsSentWithin}
+use Rattle.dia_breaking_sites.specs.Sent.{own_policy}
 use Rattle.dia_breaking_avps.specs.declared.breaking.AvpBreaks.{AvpBreaks}
 use Rattle.dia_breaking_avps.specs.declared.breaking.HeadBreak.{HeadBreak}
 use Rattle.dia_breaking_avps.specs.declared.breaking.DataBreak.TheVariants.{Fits}
@@ -22,11 +21,11 @@ use Rattle.dia_breaking_avps.specs.Sent.{group_of}
 use Rattle.dia_breaking_avps.specs.Breaks.{AcceptsFlags, IsDataBreak, IsHeadBreak, IsSilent}
 use Rattle.dia_breaking_avps.specs.Laws.{FitKeyAlone}
 use Rattle.dia_breaking_avps.proofs.Alone.{key_alone}
-use Rattle.dia_rules.proofs.Members.{IsIn, in_at, in_contains, contains_in, in_append}
+use Rattle.dia_rules.proofs.Members.{IsIn, in_contains, contains_in, in_append}
 use Rattle.dia_breaking.specs.declared.keys.Own.{Own}
 use Rattle.dia_breaking.specs.declared.keys.Telling.{Telling}
-use Rattle.dia_breaking.specs.SentKeys.{AreSentKeys, IsStrange}
-use Rattle.dia_breaking.specs.Telling.{Adds, AreGroups, AreTold, IsTelling, IsToldOf, IsUntold, StandsForStrangers, is_news}
+use Rattle.dia_breaking.specs.SentKeys.{IsStrange}
+use Rattle.dia_breaking.specs.Telling.{Adds, AreTold, IsToldOf, is_news}
 use Rattle.dia_breaking.specs.Sides.{sides}
 
 -- ---- keys that a dictionary doesn't know
@@ -53,49 +52,17 @@ alone_by_flags da db who u key accepts none = key_alone da db who u key None Fit
         (sym (known_none db key none)) tt
 
 -- strange keys have the flags of one another
-strange_alone : (da db : Dictionary) (who : Sends) (u : Unknown) (own key : Key) → IsStrange da db own → IsStrange da db key → AcceptsFlags da db who u own → FitKeyAlone da db who u key
+pub strange_alone : (da db : Dictionary) (who : Sends) (u : Unknown) (own key : Key) → IsStrange da db own → IsStrange da db key → AcceptsFlags da db who u own → FitKeyAlone da db who u key
 strange_alone da db who u own key (none_a, none_b) (key_a, key_b) accepts =
     alone_by_flags da db who u key
     (λ flags h. none_flags db u key flags key_b (flags_none db u own flags none_b (accepts flags (none_flags da (own_policy who) own flags none_a (flags_none da (own_policy who) key flags key_a h)))))
     key_b
-
-unsent_data : (da db : Dictionary) (who : Sends) (u : Unknown) (key : Key) → (who ≡ Any → ⊥) → entry_of da key ≡ None → IsDataBreak da db who u key Fits
-unsent_data da db who u key never none bytes are sent = absurd (never (subst
-    (λ (o : Option DictEntry). MatchOption o (who ≡ Any) (λ e. MatchOption e.group (IsLeaf e.format bytes) (λ group. (n : ℕ) × IsSentLevel who (IsSentWithin da who n) group.rules bytes)))
-    (known_none da key none) sent))
-
--- one that A doesn't know isn't sent by a side that sends what it knows
-unsent_alone : (da db : Dictionary) (who : Sends) (u : Unknown) (key : Key) → (who ≡ Any → ⊥) → entry_of da key ≡ None → FitKeyAlone da db who u key
-unsent_alone da db Any u key never none = absurd (never refl)
-unsent_alone da db Known u key never none =
-    key_alone da db Known u key None Fits (λ flags h. absurd (flags_none da (own_policy Known) key flags none h)) (unsent_data da db Known u key never none) (refl, tt)
-unsent_alone da db Listed u key never none =
-    key_alone da db Listed u key None Fits (λ flags h. absurd (flags_none da (own_policy Listed) key flags none h)) (unsent_data da db Listed u key never none) (refl, tt)
 
 -- where nothing breaks, B accepts the flags
 pub silent_of : (da db : Dictionary) (who : Sends) (u : Unknown) (key : Key) (breaks : AvpBreaks) → IsHeadBreak da db who u key breaks.head → (IsSilent breaks → FitKeyAlone da db who u key)
     → IsSilent breaks
     → AcceptsFlags da db who u key × FitKeyAlone da db who u key
 silent_of da db who u key breaks is_head alone silent = (subst (λ (o : Option HeadBreak). IsHeadBreak da db who u key o) silent.0 is_head, alone silent)
-
-no_groups : (da db : Dictionary) (key : Key) (b : Bool) → b ≡ (is_some (group_of da key) && is_some (group_of db key)) → b ≡ false → ¬ AreGroups da db key
-no_groups da db key b is none both = both_ways b none (is ∙ and_from (is_some (group_of da key)) (is_some (group_of db key)) both.0 both.1)
-
-first_of : (b c d : Bool) → ((b || c) || d) ≡ false → b ≡ false
-first_of false c d h = refl
-first_of true c d h = absurd (let bad : true ≡ false = h in cc)
-
-second_of : (b c d : Bool) → ((b || c) || d) ≡ false → c ≡ false
-second_of false false d h = refl
-second_of false true d h = absurd (let bad : true ≡ false = h in cc)
-second_of true c d h = absurd (let bad : true ≡ false = h in cc)
-
--- what is found says that there is nothing to tell
-nothing_told : (da db : Dictionary) (who : Sends) (u : Unknown) (key : Key) (own : Own) → IsToldOf (sides da db who u) key own → is_news own ≡ false → IsUntold da db who u key
-nothing_told da db who u key own is none = (
-  (is.silent (first_of own.breaks own.is_group own.is_other none)).1,
-  no_groups da db key own.is_group is.group (second_of own.breaks own.is_group own.is_other none),
-)
 
 -- ---- one key after the other
 
@@ -163,47 +130,3 @@ module _ (da db : Dictionary) (who : Sends) (u : Unknown) where
       each = λ o i. each_more (is_news own) adds.items o i;
       rest = rest_more;
     }
-
-  -- ---- all keys
-
-  module _ (keys : List Key) (telling : Telling) (sent : AreSentKeys da db who keys) (told : AreTold (sides da db who u) keys telling) where
-    abbrev IsSettled : Key → Type 0
-    IsSettled key = IsUntold da db who u key ⊎ ((own : Own) × Contains telling.own.items own × StandsForStrangers da db key own)
-
-    of_keys : (key : Key) → Contains keys key → get same_key telling.places key ≡ None → IsSettled key
-    of_keys key is e = let (own, of_key, none) = told.rest key is e in inl (nothing_told da db who u key own of_key none)
-
-    by_stranger : (key own : Key) → Contains keys own → IsStrange da db own → own.vendor ≡ 0 → IsStrange da db key → IsSettled key
-    by_stranger key own is strange vendor here = by (get same_key telling.places own) refl
-      where
-        accepted : AcceptsFlags da db who u own → IsSettled key
-        accepted h = inl (strange_alone da db who u own key strange here h, λ both. no_group da key here.0 both.0)
-
-        of_own : (o : Own) → Contains telling.own.items o → o.key ≡ own → (b : Bool) → o.breaks ≡ b → IsSettled key
-        of_own o i same true breaks = inr (o, i, (here, subst (λ (k : Key). IsStrange da db k) (sym same) strange, ap (λ (k : Key). k.vendor) same ∙ vendor, breaks))
-        of_own o i same false silent = accepted (subst (λ (k : Key). AcceptsFlags da db who u k) same ((told.each o i).silent silent).0)
-
-        by : (p : Option ℕ) → get same_key telling.places own ≡ p → IsSettled key
-        by None e = let (o, of_key, none) = told.rest own is e in accepted (of_key.silent (first_of o.breaks o.is_group o.is_other none)).0
-        by (Some place) e = let (o, at, same) = told.placed own place e in of_own o (contains_in telling.own.items o (in_at telling.own.items place o at)) same o.breaks refl
-
-    not_known : (who' : Sends) → who' ≡ who → (key : Key) → entry_of da key ≡ None → get same_key telling.places key ≡ None → IsSettled key
-    not_known Any is key none e = by (entry_of db key) refl
-      where
-        by : (o : Option ℕ) → entry_of db key ≡ o → IsSettled key
-        by (Some i) at = of_keys key (sent.others (sym is) key (ap (λ (o : Option ℕ). is_some o) at)) e
-        by None at = let (own, i, strange, vendor) = sent.strange (sym is) in by_stranger key own i strange vendor (none, at)
-    not_known Known is key none e = inl (unsent_alone da db who u key (λ any. absurd (let bad : Known ≡ Any = is ∙ any in cc)) none, λ both. no_group da key none both.0)
-    not_known Listed is key none e = inl (unsent_alone da db who u key (λ any. absurd (let bad : Listed ≡ Any = is ∙ any in cc)) none, λ both. no_group da key none both.0)
-
-    pub all_told : IsTelling (sides da db who u) telling
-    all_told = record {
-      placed = told.placed;
-      silent = λ own i none. ((told.each own i).silent none).1;
-      leaf = λ own i none. no_groups da db own.key own.is_group (told.each own i).group none;
-      rest = λ key e. by key e (entry_of da key) refl;
-    }
-      where
-        by : (key : Key) → get same_key telling.places key ≡ None → (o : Option ℕ) → entry_of da key ≡ o → IsSettled key
-        by key e (Some i) at = of_keys key (sent.own key (ap (λ (o : Option ℕ). is_some o) at)) e
-        by key e None at = not_known who refl key at e

@@ -1,37 +1,24 @@
 -- A command whose least level is longer than a message is not sent; nor is one that is a group.
-use Rattle.std.proofs.Common.{◌≡◌, ℕ, suc, ◌+◌, ◌*◌, ◌%◌, ◌<◌, ◌≤◌, List, [], ◌∷◌, ◌++◌, length, map, Option, Some, None, sym, ap, subst, ◌∙◌, arith}
+use Rattle.std.proofs.Common.{◌≡◌, ℕ, suc, ◌+◌, ◌*◌, ◌%◌, ◌<◌, ◌≤◌, List, [], ◌∷◌, ◌++◌, length, Some, None, sym, ap, subst, ◌∙◌, arith}
 use Rattle.std.specs.Prelude.{slice_get}
-use Rattle.std.specs.Option.{option_map_or}
 use Rattle.std.proofs.lemmas.Option.{same_Some}
 use Rattle.std.proofs.lemmas.List.{length-append}
 use Rattle.dia_wire.specs.declared.Header.{Header}
-use Rattle.dia_wire.specs.declared.Key.{Key}
 use Rattle.dia_wire.specs.Lengths.{three_bytes}
 use Rattle.dia_wire.specs.Number.{number}
-use Rattle.dia_wire.specs.Wire.{PlainAvp, key_of, SpellsAll, IsHead, IsMessage}
-use Rattle.dia_book.specs.declared.DRule.{DRule}
+use Rattle.dia_wire.specs.Wire.{PlainAvp, SpellsAll, IsHead, IsMessage}
 use Rattle.dia_book.specs.declared.DefHead.{DefHead}
 use Rattle.dia_book.specs.declared.DefHead.TheVariants.{Group, Command, Error}
 use Rattle.dia_book.specs.Dictionary.{Dictionary, PlainDefinition, definitions}
 use Rattle.dia_policy.specs.declared.Unknown.{Unknown}
 use Rattle.dia_policy.specs.declared.Sends.{Sends}
-use Rattle.dia_policy.specs.declared.Sends.TheVariants.{Any, Known, Listed}
-use Rattle.dia_check.specs.Valid.{AllowsP, Placed}
-use Rattle.dia_breaking_sites.specs.Sent.{AreBytes, StandAsSent}
+use Rattle.dia_check.specs.Valid.{AllowsP}
+use Rattle.dia_breaking_sites.specs.Sent.{AreBytes}
 use Rattle.dia_breaking_sites.specs.Selection.{max_body}
 use Rattle.dia_breaking_sites.proofs.Members.{all_parts}
-use Rattle.dia_rules.specs.Rules.{rules_in}
-use Rattle.dia_rules.proofs.Members.{there_is}
-use Rattle.dia_breaking_levels.specs.Levels.{FirstIsShortest, OtherIsShortest, IsWithinAll}
-use Rattle.dia_breaking_levels.specs.LevelTests.{price}
-use Rattle.dia_breaking_shortest.specs.Floors.{AreFloors}
-use Rattle.dia_breaking_shortest.proofs.FloorsOfAvps.{no_message}
 use Rattle.dia_breaking.specs.Headers.{head_in}
-use Rattle.dia_breaking.specs.Lengths.{listed_length, other_length}
 use Rattle.dia_breaking.specs.Mended.{IsUnsent}
 use Rattle.dia_breaking.specs.Sides.{sides}
-use Rattle.dia_breaking.proofs.ClosedBy.{stand_price}
-use Rattle.dia_breaking.proofs.LevelCosts.{one_is_shortest}
 
 -- ---- how long a message is
 
@@ -96,24 +83,7 @@ body_within h vs b m are =
     let within : length b ≤ 20 + max_body = message_within h vs b m are in
     omega (arith, whole, within)
 
--- ---- what its AVPs take
-
-placed_of : (who : Sends) (rules : List DRule) (keys : List Key) → StandAsSent who rules keys → Placed rules keys
-placed_of Any rules keys stand = stand
-placed_of Known rules keys stand = stand
-placed_of Listed rules keys stand = stand.0
-
-pub unsent : (da db : Dictionary) (who : Sends) (u : Unknown) (entries : List ℕ) (rules : List DRule) (c n : ℕ) (x : PlainDefinition) → slice_get (definitions da) c ≡ Some x → rules ≡ x.rules
-    → AreFloors da who (listed_length da who entries) → IsWithinAll (price (listed_length da who entries) (other_length da who entries) rules) rules n → max_body < n → IsUnsent (sides da db who u) c
-unsent da db who u entries rules c n x at same floors least long bytes s =
-    let own : s.command.rules ≡ rules = ap (λ (y : PlainDefinition). y.rules) (same_Some s.command x (sym s.is_command ∙ at)) ∙ sym same in
-    let keys = map key_of s.avps in
-    let stand : StandAsSent who rules keys = subst (λ (r : List DRule). StandAsSent who r keys) own s.stand in
-    let level = least keys (placed_of who rules keys stand) in
-    let price_is = stand_price da who entries rules keys stand in
-    let whole = no_message da who (listed_length da who entries) floors bytes c s in
-    let within = message_within s.header s.avps bytes s.message s.are_bytes in
-    omega (arith, level, price_is, whole, within, long)
+-- ---- groups
 
 pub no_message_of_group : (da db : Dictionary) (who : Sends) (u : Unknown) (c : ℕ) (x : PlainDefinition) → slice_get (definitions da) c ≡ Some x → None ≡ head_in x.head → IsUnsent (sides da db who u) c
 no_message_of_group da db who u c x at is bytes s = by x.head is (subst (λ (y : PlainDefinition). AllowsP y.head s.header.flags) (same_Some s.command x (sym s.is_command ∙ at)) s.proxiable)
@@ -122,18 +92,3 @@ no_message_of_group da db who u c x at is bytes s = by x.head is (subst (λ (y :
     by (Group key) e p = p
     by (Command code class app p) e q = absurd (let f : None ≡ Some (record { code = code; class = class; app = app; p = p }) = e in cc)
     by (Error p) e q = absurd cc
-
--- by the length that is computed
-pub too_long_when : (da db : Dictionary) (who : Sends) (u : Unknown) (entries : List ℕ) (keys : List Key) (c n : ℕ) → c < length (definitions da)
-    → ((y : ℕ) → FirstIsShortest (other_length da who entries) keys (rules_in da c) (rules_in db y))
-    → (OtherIsShortest (other_length da who entries) keys (rules_in da c)
-    → IsWithinAll (price (listed_length da who entries) (other_length da who entries) (rules_in da c)) (rules_in da c) n)
-    → max_body < n → AreFloors da who (listed_length da who entries) → IsUnsent (sides da db who u) c
-too_long_when da db who u entries keys c n within shortest least long floors =
-    unsent da db who u entries (rules_in da c) c n x.0 x.1 rules_are floors (least (one_is_shortest (other_length da who entries) keys (rules_in da c) db shortest)) long
-  where
-    x : (y : PlainDefinition) × (slice_get (definitions da) c ≡ Some y)
-    x = there_is (definitions da) c within
-
-    rules_are : rules_in da c ≡ x.0.rules
-    rules_are = ap (λ (o : Option PlainDefinition). option_map_or (λ (y : PlainDefinition). y.rules) o []) x.1

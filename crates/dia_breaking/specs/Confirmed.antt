@@ -49,7 +49,6 @@ most_checked_together = 67108864
 -- no message is known that breaks so
 abbrev pub has_no_message : Cause → Bool
 has_no_message (causes.LevelAsLeaf key) = true
-has_no_message causes.Unproved = true
 has_no_message cause = false
 
 -- the line's message is checked, where so many bytes are left for this and the lines behind

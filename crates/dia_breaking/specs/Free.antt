@@ -1,5 +1,5 @@
 -- Messages that are free of the lines of an answer: they break in none of the ways that it tells.
-use Rattle.std.specs.Prelude.{◌≡◌, ◌≢◌, ℕ, Bool, true, false, List, map, Some, slice_get, Contains}
+use Rattle.std.specs.Prelude.{◌≡◌, ◌⊎◌, ℕ, Bool, true, false, List, map, Some, slice_get, Contains}
 use Rattle.dia_wire.specs.declared.Header.{Header}
 use Rattle.dia_wire.specs.declared.Key.{Key}
 use Rattle.dia_wire.specs.Wire.{PlainAvp, key_of, HasP}
@@ -20,9 +20,9 @@ use Rattle.dia_breaking.specs.declared.line.Line.{Line}
 use Rattle.dia_breaking.specs.declared.line.Place.{Place}
 use Rattle.dia_breaking.specs.declared.line.Place.TheVariants as places
 use Rattle.dia_breaking.specs.declared.line.Site.{Site}
-use Rattle.dia_breaking.specs.Closed.{StandsIn}
 use Rattle.dia_breaking.specs.Headers.{head_in, TellsRefusal}
 use Rattle.dia_breaking.specs.OwnKeys.{own_key}
+use Rattle.dia_breaking.specs.SentKeys.{IsStrange}
 use Rattle.dia_breaking.specs.Sides.{Sides, Answer}
 
 -- ---- the levels of a line
@@ -41,6 +41,10 @@ abbrev pub IsLineOf : Dictionary → Dictionary → List Site → ℕ → Line �
 IsLineOf da db sites c line x y = (site : Site) × (slice_get sites line.site ≡ Some site) × IsReadBy da db c site.place x y
 
 -- ---- levels
+
+-- AVPs of the key stand for those of another: they have that key, or neither dictionary knows either
+abbrev pub StandsIn : Dictionary → Dictionary → Key → Key → Type 0
+StandsIn da db key own = (key ≡ own) ⊎ (IsStrange da db own × IsStrange da db key)
 
 -- a level that these definitions read breaks in none of the ways that lines of such levels tell; and of AVPs of which a line tells
 -- that they break by themselves, those of the level fit
@@ -63,11 +67,10 @@ TellsFlags da db sites lines c other flags = (line : Line) × (set : Bool) × (x
 
 -- ---- messages
 
--- it isn't said that something may break of which no line tells; B selects a definition, and allows the P flag, also where lines tell
--- of others; and each level that both dictionaries see in the message is free of the lines
-pub record IsFree (da db : Dictionary) (u : Unknown) (sites : List Site) (lines : List Line) (c : ℕ) (header : Header) (command : PlainDefinition) (avps : List PlainAvp) : Type 0 where
-  pub shown : (line : Line) → Contains lines line → line.cause ≢ causes.Unproved
-  pub asked : IsAsked da db (IsFreeLevel da db u sites lines c) (TellsRefusal lines) (TellsFlags da db sites lines c) header command avps
+-- B selects a definition, and allows the P flag, also where lines tell of others; and each level that both dictionaries see in the message is
+-- free of the lines
+abbrev pub IsFree : Dictionary → Dictionary → Unknown → List Site → List Line → ℕ → Header → PlainDefinition → List PlainAvp → Type 0
+IsFree da db u sites lines c header command avps = IsAsked da db (IsFreeLevel da db u sites lines c) (TellsRefusal lines) (TellsFlags da db sites lines c) header command avps
 
 -- each message of the command that A's side sends is valid under B
 abbrev pub AllAreValid : Sides → ℕ → Type 0

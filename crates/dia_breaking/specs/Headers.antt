@@ -1,5 +1,5 @@
 -- The headers of a command's messages that tell of all, as they are found.
-use Rattle.std.specs.Prelude.{◌≡◌, ◌⊎◌, ℕ, ◌==◌, nat_eq, Bool, true, false, not, List, [], Option, Some, None, IsSome, if◌then◌else◌, unwrap_or, slice_get, All, Contains}
+use Rattle.std.specs.Prelude.{◌≡◌, ◌⊎◌, ℕ, ◌==◌, nat_eq, Bool, true, not, List, [], Option, Some, None, if◌then◌else◌, unwrap_or, slice_get, Contains}
 use Rattle.std.specs.List.{filter_map}
 use Rattle.std.specs.Option.{option_map}
 use Rattle.std.specs.HashMap.{get}
@@ -9,7 +9,7 @@ use Rattle.dia_book.specs.declared.Pxy.{Pxy}
 use Rattle.dia_book.specs.declared.Pxy.TheVariants as pxy
 use Rattle.dia_book.specs.declared.DefHead.{DefHead}
 use Rattle.dia_book.specs.declared.DefHead.TheVariants.{Group, Command, Error}
-use Rattle.dia_book.specs.Dictionary.{Dictionary, PlainDefinition, definitions, selected, same_class}
+use Rattle.dia_book.specs.Dictionary.{Dictionary, PlainDefinition, definitions, same_class}
 use Rattle.dia_breaking.specs.declared.apps.Apps.{Apps}
 use Rattle.dia_breaking.specs.declared.apps.BothApps.{BothApps}
 use Rattle.dia_breaking.specs.declared.heads.Head.{Head}
@@ -17,8 +17,6 @@ use Rattle.dia_breaking.specs.declared.line.Cause.TheVariants as causes
 use Rattle.dia_breaking.specs.declared.line.Line.{Line}
 use Rattle.dia_breaking.specs.declared.line.Place.{Place}
 use Rattle.dia_breaking.specs.declared.line.Place.TheVariants as places
-use Rattle.dia_breaking.specs.declared.line.Site.{Site}
-use Rattle.dia_breaking.specs.Sides.{Answer}
 
 -- ---- the applications that commands name
 
@@ -67,50 +65,8 @@ abbrev pub IsCommandPlace : ℕ → Place → Type 0
 IsCommandPlace app (places.Command own read_as is_told proxiable) = read_as ≡ app
 IsCommandPlace app (places.Group key outer) = ⊥
 
--- at such a place B's side reads a level
-abbrev pub IsReadFor : List Site → ℕ → Type 0
-IsReadFor sites app = (site : Site) × Contains sites site × (site.is_read ≡ true) × IsCommandPlace app site.place
-
--- a line of such a place tells that this P flag is forbidden
-abbrev pub TellsFlagFor : List Site → List Line → ℕ → Bool → Type 0
-TellsFlagFor sites lines app set = (line : Line) × (site : Site) × Contains lines line × (line.cause ≡ causes.Proxiable set) × (slice_get sites line.site ≡ Some site) × IsCommandPlace app site.place
-
 -- whether the P flag may have this value
 abbrev pub allows : Pxy → Bool → Bool
 allows pxy.Clear set = not set
 allows pxy.Set set = set
 allows pxy.Either set = true
-
--- if the head allows this P flag, B's definition allows it, and the level is read; or a line tells that it is forbidden
-abbrev pub IsFlagMet : Answer → ℕ → Pxy → Pxy → Bool → Type 0
-IsFlagMet answer app p other set =
-    allows p set ≡ true → ((allows other set ≡ true) × IsReadFor answer.sites app) ⊎ ((allows other set ≡ false) × TellsFlagFor answer.sites answer.lines app set)
-
--- of this number B has a definition of a command, which meets each P flag
-pub record IsMetAs (db : Dictionary) (answer : Answer) (head : Head) (app def : ℕ) : Type 0 where
-  pub other : PlainDefinition
-  pub is_other : slice_get (definitions db) def ≡ Some other
-  pub other_head : Head
-  pub is_head : head_in other.head ≡ Some other_head
-  pub clear : IsFlagMet answer app head.p other_head.p false
-  pub set : IsFlagMet answer app head.p other_head.p true
-
--- for this application B selects such a definition, or a line tells that it selects none
-pub record IsMetFor (db : Dictionary) (answer : Answer) (head : Head) (app : ℕ) : Type 0 where
-  pub selects : IsSome (selected db head.code head.class app) ⊎ TellsRefusal answer.lines
-  pub each : (def : ℕ) → selected db head.code head.class app ≡ Some def → IsMetAs db answer head app def
-
--- so for those of the applications for which A selects the command
-abbrev pub AreMetFor : Dictionary → Dictionary → Answer → Head → List ℕ → Type 0
-AreMetFor da db answer head apps = All (λ app. selected da head.code head.class app ≡ Some answer.command → IsMetFor db answer head app) apps
-
--- and for one that is none of these
-abbrev pub IsOtherMet : Dictionary → Answer → Head → List ℕ → List ℕ → Type 0
-IsOtherMet db answer head first second = (app : ℕ) × (¬ Contains first app) × (¬ Contains second app) × IsMetFor db answer head app
-
--- the headers that tell of all are met, for a command with this head
-abbrev pub AreHeadersMet : Dictionary → Dictionary → Answer → BothApps → Head → Type 0
-AreHeadersMet da db answer both head =
-    ((app : ℕ) → head.app ≡ Some app → IsMetFor db answer head app)
-    × (head.app ≡ None → AreMetFor da db answer head (apps_of both.second head.code head.class)
-    × IsOtherMet db answer head (apps_of both.first head.code head.class) (apps_of both.second head.code head.class))

@@ -1,8 +1,3 @@
-pub mod Certified
-pub mod Closed
-pub mod ClosedBy
-pub mod ClosedRules
-pub mod Closing
 pub mod CommandLevels
 pub mod Confirmed
 pub mod Exits
@@ -23,6 +18,7 @@ pub mod OwnKeys
 pub mod Readings
 pub mod Sender
 pub mod SentKeys
+pub mod SentLevels
 pub mod Sides
 pub mod Sites
 pub mod Telling

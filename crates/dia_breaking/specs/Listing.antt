@@ -76,10 +76,6 @@ AreUnchecked lines = All (λ line. line.standing ≡ Unchecked) lines
 abbrev pub KeepsUnchecked : List Line → List Line → Type 0
 KeepsUnchecked old new = AreUnchecked old → AreUnchecked new
 
--- that it isn't shown that nothing else breaks
-abbrev pub not_shown : Told
-not_shown = record { site = 0; cause = causes.Unproved; length = 0 }
-
 -- ---- headers
 
 -- B selects no definition

@@ -34,10 +34,6 @@ pub record IsMendedFor (db : Dictionary) (other : PlainDefinition) (old new : He
   pub selected : IsSelected db new other
   pub allowed : AllowsP other.head new.flags
 
--- it isn't said that something may break of which no line tells
-abbrev pub IsAllTold : List Line → Type 0
-IsAllTold lines = (line : Line) → Contains lines line → line.cause ≢ causes.Unproved
-
 -- the level of the command at this site is read by these definitions, the second for this application
 pub record IsLevelAt (s : Sides) (sites : List Site) (c app : ℕ) (site : Site) (command other : PlainDefinition) : Type 0 where
   pub inside : Contains sites site
@@ -48,7 +44,7 @@ pub record IsLevelAt (s : Sides) (sites : List Site) (c app : ℕ) (site : Site)
 -- a message that A's side sends, whose levels are free of the lines where they are read by the definitions of a site of the command, is
 -- valid under B once its header is mended for that site's definition
 abbrev pub AreValidOnceMended : Sides → Answer → Type 0
-AreValidOnceMended s answer = IsAllTold answer.lines → (bytes mended : List ℕ) (sent : IsSent s.sender s.sends bytes answer.command) (app : ℕ) (site : Site) (other : PlainDefinition) (header : Header)
+AreValidOnceMended s answer = (bytes mended : List ℕ) (sent : IsSent s.sender s.sends bytes answer.command) (app : ℕ) (site : Site) (other : PlainDefinition) (header : Header)
     → IsLevelAt s answer.sites answer.command app site sent.command other
     → AreAsked s.sender s.receiver (IsFreeLevel s.sender s.receiver s.unknown answer.sites answer.lines answer.command) sent.command other sent.avps
     → IsMendedFor s.receiver other sent.header header → IsMessage header sent.avps mended → IsValid s.receiver s.unknown levels.Any mended

@@ -96,7 +96,6 @@ shown_avp s k (causes.Format key None) = Some (shown key (shortest_avp s k key))
 shown_avp s k (causes.Format key (Some found)) = Some (shown key (avp_bytes key (wants_m s key) (witness_bytes found)))
 shown_avp s k (causes.LevelAsLeaf key) = Some (shown key (shortest_avp s k key))
 shown_avp s k (causes.Meaning key) = Some (shown key (with_m (wants_m s key) (shortest_avp s k key)))
-shown_avp s k causes.Unproved = None
 
 -- ---- levels
 

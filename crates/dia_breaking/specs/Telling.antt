@@ -1,6 +1,6 @@
 -- The keys of which there is something to tell: AVPs that break by themselves, in which both dictionaries see a level, or that are read as another
 -- format.
-use Rattle.std.specs.Prelude.{◌≡◌, ◌⊎◌, ℕ, Bool, true, false, ◌&&◌, ◌||◌, if◌then◌else◌, List, [], ◌∷◌, ◌++◌, length, Option, Some, None, option_and_then, is_some, IsSome, slice_get, Contains, All, map, filter, position, IsTrue, ◌↔◌}
+use Rattle.std.specs.Prelude.{◌≡◌, ◌⊎◌, ℕ, Bool, false, ◌&&◌, ◌||◌, if◌then◌else◌, List, [], ◌∷◌, ◌++◌, length, Some, None, is_some, IsSome, slice_get, Contains, All, map, filter, position, IsTrue, ◌↔◌}
 use Rattle.std.specs.HashMap.{get}
 use Rattle.dia_wire.specs.declared.Key.{Key}
 use Rattle.dia_book.specs.Keys.{same_key}
@@ -13,30 +13,18 @@ use Rattle.dia_breaking_avps.specs.Laws.{FitKeyAlone}
 use Rattle.dia_breaking.specs.declared.keys.Own.{Own}
 use Rattle.dia_breaking.specs.declared.keys.Telling.{Telling}
 use Rattle.dia_breaking.specs.Meanings.{IsReadAsOther}
-use Rattle.dia_breaking.specs.SentKeys.{AreSentInOrder, IsStrange}
+use Rattle.dia_breaking.specs.SentKeys.{AreSentInOrder}
 use Rattle.dia_breaking.specs.Sides.{Sides}
 
 -- both dictionaries see a level in AVPs of the key
 abbrev pub AreGroups : Dictionary → Dictionary → Key → Type 0
 AreGroups da db key = IsSome (group_of da key) × IsSome (group_of db key)
 
--- there is nothing to tell: AVPs of the key fit alone, and have no level of both
-abbrev pub IsUntold : Dictionary → Dictionary → Sends → Unknown → Key → Type 0
-IsUntold da db who u key = FitKeyAlone da db who u key × (¬ AreGroups da db key)
-
--- a strange one that breaks, without vendor, stands for all strange ones
-abbrev pub StandsForStrangers : Dictionary → Dictionary → Key → Own → Type 0
-StandsForStrangers da db key own = IsStrange da db key × IsStrange da db own.key × (own.key.vendor ≡ 0) × (own.breaks ≡ true)
-
 -- what is found of a key, where nothing breaks, is that B accepts each M flag of its AVPs, and that they fit alone
 pub record IsToldOf (s : Sides) (key : Key) (own : Own) : Type 0 where
   pub key_is : own.key ≡ key
   pub silent : own.breaks ≡ false → AcceptsFlags s.sender s.receiver s.sends s.unknown key × FitKeyAlone s.sender s.receiver s.sends s.unknown key
   pub group : own.is_group ≡ (is_some (group_of s.sender key) && is_some (group_of s.receiver key))
-
--- what is told of the key
-abbrev pub told : Telling → Key → Option Own
-told telling key = option_and_then (slice_get telling.own.items) (get same_key telling.places key)
 
 -- there is something to tell: it breaks by itself, has a level of both, or is read as another format
 abbrev pub is_news : Own → Bool
@@ -52,13 +40,6 @@ pub record AreTold (s : Sides) (keys : List Key) (telling : Telling) : Type 0 wh
   pub placed : (key : Key) (place : ℕ) → get same_key telling.places key ≡ Some place → (own : Own) × (slice_get telling.own.items place ≡ Some own) × (own.key ≡ key)
   pub each : (own : Own) → Contains telling.own.items own → IsToldOf s own.key own
   pub rest : (key : Key) → Contains keys key → get same_key telling.places key ≡ None → (own : Own) × IsToldOf s key own × (is_news own ≡ false)
-
--- what is told, and of every key that is not: there is nothing to tell, or another stands for it
-pub record IsTelling (s : Sides) (telling : Telling) : Type 0 where
-  pub placed : (key : Key) (place : ℕ) → get same_key telling.places key ≡ Some place → (own : Own) × (slice_get telling.own.items place ≡ Some own) × (own.key ≡ key)
-  pub silent : (own : Own) → Contains telling.own.items own → own.breaks ≡ false → FitKeyAlone s.sender s.receiver s.sends s.unknown own.key
-  pub leaf : (own : Own) → Contains telling.own.items own → own.is_group ≡ false → ¬ AreGroups s.sender s.receiver own.key
-  pub rest : (key : Key) → get same_key telling.places key ≡ None → IsUntold s.sender s.receiver s.sends s.unknown key ⊎ ((own : Own) × Contains telling.own.items own × StandsForStrangers s.sender s.receiver key own)
 
 -- ---- exactly these
 

@@ -1,8 +1,8 @@
 -- The one list of lines that a command has.
-use Rattle.std.specs.Prelude.{◌≡◌, ℕ, ◌<◌, nat_le, Bool, true, false, List, [], ◌∷◌, ◌++◌, length, map, Option, MatchOption, All, IfSome}
+use Rattle.std.specs.Prelude.{◌≡◌, ℕ, ◌^◌, ◌<◌, nat_le, Bool, true, false, List, [], ◌∷◌, length, map, Option, MatchOption, All, IfSome}
 use Rattle.dia_wire.specs.declared.Key.{Key}
 use Rattle.dia_book.specs.declared.DRule.{DRule}
-use Rattle.dia_book.specs.Dictionary.{Dictionary, definitions, selected}
+use Rattle.dia_book.specs.Dictionary.{Dictionary, IsDictionary, definitions, selected}
 use Rattle.dia_rules.specs.Rules.{rules_in}
 use Rattle.dia_breaking_sites.specs.Selection.{max_body}
 use Rattle.dia_breaking_shortest.specs.Exact.{AreExact}
@@ -21,16 +21,18 @@ use Rattle.dia_breaking.specs.declared.own_breaks.OwnBreaks.{OwnBreaks}
 use Rattle.dia_breaking.specs.declared.readings.Reading.{Reading}
 use Rattle.dia_breaking.specs.declared.start.Start.{Start}
 use Rattle.dia_breaking.specs.Exits.{AreExits, AreOutlooks}
+use Rattle.dia_breaking.specs.Free.{AreValidWhereFree}
 use Rattle.dia_breaking.specs.Headers.{AreApps, HasHead}
 use Rattle.dia_breaking.specs.Lengths.{Costs, costs_by, AreEntryLengths, AreExactlyOthers}
-use Rattle.dia_breaking.specs.Listing.{Told, Listed, IsListingOf, basis_of, lines_of, not_shown, tells}
+use Rattle.dia_breaking.specs.Listing.{Told, Listed, IsListingOf, basis_of, lines_of, tells}
+use Rattle.dia_breaking.specs.Mended.{AreValidOnceMended}
 use Rattle.dia_breaking.specs.Nodes.{exits_in}
-use Rattle.dia_breaking.specs.Outlooks.{HaveGroupLines, group_rules}
+use Rattle.dia_breaking.specs.Outlooks.{group_rules}
 use Rattle.dia_breaking.specs.OwnBreaks.{AreOwnBreaks}
 use Rattle.dia_breaking.specs.Readings.{AreReadings}
-use Rattle.dia_breaking.specs.Sides.{Sides, Answer}
+use Rattle.dia_breaking.specs.Sides.{Sides, Answer, answer}
 use Rattle.dia_breaking.specs.Sites.{command_site}
-use Rattle.dia_breaking.specs.Telling.{IsExactTelling, IsTelling}
+use Rattle.dia_breaking.specs.Telling.{IsExactTelling}
 
 -- ---- what is the same for all commands
 
@@ -45,7 +47,6 @@ HasLevelLines da db k outlook = IfSome outlook.inner (λ inner. AreLinesOf k (gr
 -- of all that is told, in its order: where levels lead, and how they break B's rules
 pub record AreAllOutlooks (da db : Dictionary) (telling : Telling) (k : Costs) (outlooks : List Outlook) : Type 0 where
   pub exact : AreOutlooks da db telling k outlooks
-  pub lines : HaveGroupLines da db k outlooks
   pub levels : All (HasLevelLines da db k) outlooks
 
 -- the lengths of A's entries, the keys that a wildcard lets in, the AVPs of which there is something to tell, and what there is to tell of them
@@ -72,12 +73,6 @@ pub record AreFacts (s : Sides) (f : Facts) : Type 0 where
   pub are_outlooks : AreOutlooks s.sender s.receiver f.telling (costs_in s f) f.outlooks
   pub have_lines : All (HasLevelLines s.sender s.receiver (costs_in s f)) f.outlooks
   pub are_own : AreOwnBreaks s (costs_in s f).listed f.telling.own.items f.own
-
--- so each group of both has lines for all that breaks in its levels, and what is told is all that there is to tell
-pub record AreKnown (s : Sides) (f : Facts) : Type 0 where
-  pub facts : AreFacts s f
-  pub told : IsTelling s f.telling
-  pub lines : HaveGroupLines s.sender s.receiver (costs_in s f) f.outlooks
 
 -- ---- the level of a command
 
@@ -138,14 +133,17 @@ IsOfHead breaks head = (breaks.code ≡ head.code) × (breaks.class ≡ head.cla
 abbrev pub HaveSameSites : Breaks → Breaks → Type 0
 HaveSameSites old new = (new.command ≡ old.command) × (new.code ≡ old.code) × (new.class ≡ old.class) × (new.sites.items ≡ old.sites.items) × (new.meanings.items ≡ old.meanings.items)
 
--- what lines tell is all, or all but for the last line, which tells that it isn't shown that nothing else breaks
-pub data AreAllOrUnproved (IsAll : List Told → Type 0) (lines : List Line) : Type 0 where
-  exact : IsAll (map tells lines) → AreAllOrUnproved IsAll lines
-  added : (told : List Told) → IsAll told → map tells lines ≡ told ++ not_shown ∷ [] → AreAllOrUnproved IsAll lines
+-- an answer has the sites and the lines of its command
+abbrev pub HasTheLines : Sides → Answer → Type 0
+HasTheLines s answer = ∥ AreTheLines s answer.command answer.sites (map tells answer.lines) ∥₁
 
--- so they are of the lines of the command c
-abbrev pub AreLinesOrUnproved : Sides → Answer → Type 0
-AreLinesOrUnproved s answer = AreAllOrUnproved (λ told. ∥ AreTheLines s answer.command answer.sites told ∥₁) answer.lines
+-- ---- they are all
+
+-- where an answer has the lines of a command, and its sites have numbers of 64 bits, each message of the command that A's side sends, and
+-- that is free of the lines, is valid under B, also once its header is mended
+abbrev pub TheLinesAreAll : Type 0
+TheLinesAreAll = (s : Sides) (c : ℕ) (sites : List Site) (lines : List Line) → IsDictionary s.sender → IsDictionary s.receiver → length sites < 2 ^ 64
+    → AreTheLines s c sites (map tells lines) → AreValidWhereFree s (answer c sites lines) × AreValidOnceMended s (answer c sites lines)
 
 -- ---- there is one
 

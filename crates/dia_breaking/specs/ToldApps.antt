@@ -13,10 +13,6 @@ selects da c head app = option_eq nat_eq (selected da head.code head.class app) 
 abbrev pub IsNamed : List ℕ → List ℕ → ℕ → Type 0
 IsNamed first second app = Contains first app ⊎ Contains second app
 
--- no command of the head's code and class names the application, in neither dictionary
-abbrev pub IsUnnamed : BothApps → Head → ℕ → Type 0
-IsUnnamed both head app = (¬ Contains (apps_of both.first head.code head.class) app) × (¬ Contains (apps_of both.second head.code head.class) app)
-
 -- the least application that none of the two lists names; none, where they name all
 abbrev pub IsLeastUnnamed : List ℕ → List ℕ → Option ℕ → Type 0
 IsLeastUnnamed first second found =

@@ -257,7 +257,6 @@ cause_text s other at (causes.MBit key m) = m_bit_text s key m
 cause_text s other at (causes.Format key found) = format_text s key
 cause_text s other at (causes.LevelAsLeaf key) = avp_name s key ++ codes ": " ++ formats_text (format_in s.sender key) (format_in s.receiver key)
 cause_text s other at (causes.Meaning key) = meaning_text s key
-cause_text s other at causes.Unproved = codes "-: nothing more found, not proved"
 
 abbrev pub standing_text : Standing → List ℕ
 standing_text Confirmed = []

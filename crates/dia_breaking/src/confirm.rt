@@ -168,7 +168,7 @@ fn has_length(bytes: &[u8], size: u64) -> bool
 fn has_no_message(cause: &Cause) -> bool
     ensures { result ≡ has_no_message cause.now }
 {
-    matches!(cause, Cause::LevelAsLeaf { .. } | Cause::Unproved)
+    matches!(cause, Cause::LevelAsLeaf { .. })
 }
 
 /// Whether the message of a line is checked, where so many bytes are left.

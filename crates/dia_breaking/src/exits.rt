@@ -5,7 +5,7 @@ ghost use Rattle.dia_book.specs.Dictionary.{definitions};
 ghost use Rattle.dia_rules.specs.Rules.{rules_in};
 ghost use Rattle.dia_breaking.specs.Exits.{AreExits, IsInnerOrNone, exit_by};
 ghost use Rattle.dia_breaking.specs.LevelCosts.{PicksShortest};
-ghost use Rattle.dia_breaking.specs.Outlooks.{group_rules, HasGroupLines};
+ghost use Rattle.dia_breaking.specs.Outlooks.{group_rules};
 ghost use Rattle.dia_breaking.specs.Sender.{costs_of, sender_in};
 ghost use Rattle.dia_breaking.specs.TheLines.{AreAllOutlooks, AreLinesOf};
 
@@ -141,8 +141,6 @@ fn inner_of<A: Book, B: Book>(
 ) -> Result<Option<Inner>, AllocError>
     requires { PicksShortest (sender_in lengths.now) (B.meaning b.now) (costs_of lengths.now) }
     ensures exact { IfOk result (IsInnerOrNone (sender_in lengths.now) (B.meaning b.now) telling.now (costs_of lengths.now) key) }
-    ensures lines { IfOk result (λ inner. IfSome inner (λ inner. HasGroupLines
-        (sender_in lengths.now) (B.meaning b.now) (costs_of lengths.now) key inner.lines.items)) }
     ensures levels { IfOk result (λ inner. IfSome inner (λ inner. AreLinesOf (costs_of lengths.now)
         (group_rules (sender_in lengths.now) key) (group_rules (B.meaning b.now) key) inner.lines.items)) }
 {

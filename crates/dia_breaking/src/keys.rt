@@ -11,8 +11,7 @@ ghost use Rattle.dia_breaking_avps.specs.Breaks.{IsSilent, IsSilentData};
 ghost use Rattle.dia_breaking_avps.specs.Sent.{group_of};
 ghost use Rattle.dia_breaking.specs.SentKeys.{AreSentInOrder, entry_keys, is_unknown, keys_of_b_alone};
 ghost use Rattle.dia_breaking.specs.Sides.{sides};
-ghost use Rattle.dia_breaking.specs.Telling.{Adds, AreExactlyTold, AreTold, IsExactlyOwn, IsExactTelling, IsTelling};
-ghost use Rattle.dia_breaking.specs.Telling.{IsToldOf, told};
+ghost use Rattle.dia_breaking.specs.Telling.{Adds, AreExactlyTold, AreTold, IsExactlyOwn, IsExactTelling, IsToldOf};
 
 use crate::books::group_of;
 use crate::lengths::{keys_of, stranger};
@@ -182,8 +181,7 @@ impl Telling {
         sends: Sends,
         unknown: Unknown,
     ) -> Result<Self, AllocError>
-        ensures telling { IfOk result (IsTelling (sides (A.meaning a.now) (B.meaning b.now) sends unknown)) }
-        ensures exact { IfOk result (IsExactTelling (sides (A.meaning a.now) (B.meaning b.now) sends unknown)) }
+        ensures { IfOk result (IsExactTelling (sides (A.meaning a.now) (B.meaning b.now) sends unknown)) }
     {
         let keys = sent_keys(alloc, a, b, sends)?;
         let mut telling = Telling::empty(alloc);
@@ -231,13 +229,5 @@ impl Telling {
             self.own.push(own)?;
         }
         Ok(())
-    }
-
-    /// What there is to tell of the key, if anything.
-    pub fn find(&self, key: Key) -> Option<Own>
-        ensures { result ≡ told self.now key }
-    {
-        let place = *self.places.get(&key)?;
-        self.own.get(place).copied()
     }
 }

@@ -1,15 +1,9 @@
-//! What holds of all that A's side sends, where sites are closed, or where a table shows inclusion.
-ghost use Rattle.dia_breaking.specs.Closed.{ClosedSitesAreSafe};
+//! What holds of the lines and the meanings of a command, and where a table shows inclusion.
 ghost use Rattle.dia_breaking.specs.Confirmed.{IncludedBreakNothing, IncludedHaveNoLines};
 ghost use Rattle.dia_breaking.specs.Listing.{ListingsAreOne};
 ghost use Rattle.dia_breaking.specs.Messages.{LineMessagesAreOne};
-ghost use Rattle.dia_breaking.specs.TheLines.{TheLinesAreOne};
+ghost use Rattle.dia_breaking.specs.TheLines.{TheLinesAreAll, TheLinesAreOne};
 ghost use Rattle.dia_breaking.specs.TheMeanings.{TheMeaningsAreOne};
-
-/// At a site that is closed, by lengths that no AVP is below, nothing breaks in levels that are free of what is told there.
-pub fn closed_sites_are_safe()
-    ensures { ClosedSitesAreSafe }
-{}
 
 /// Where a table shows inclusion, with the sender's own policy for unknown AVPs on both sides, no message breaks a command that
 /// it lists, and no line of such a command is told as confirmed.
@@ -26,6 +20,11 @@ pub fn listings_are_one()
 /// The message that is written for a line is one.
 pub fn line_messages_are_one()
     ensures { LineMessagesAreOne }
+{}
+
+/// The lines of a command tell all that breaks: what is free of them is valid under B, also once its header is mended.
+pub fn the_lines_are_all()
+    ensures { TheLinesAreAll }
 {}
 
 /// Two dictionaries have one list of sites and one of lines for a command, by what is sent and by the receiver's policy.

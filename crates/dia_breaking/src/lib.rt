@@ -7,8 +7,6 @@
 mod apps;
 mod books;
 mod bounds;
-mod closed;
-mod closing;
 mod confirm;
 mod exits;
 mod format_words;
@@ -35,7 +33,6 @@ mod readings;
 mod shown;
 mod sites;
 mod start;
-mod told;
 mod upgrade;
 mod ways;
 mod words;
@@ -43,8 +40,8 @@ mod words;
 pub use confirm::MOST_CHECKED_TOGETHER;
 pub use dia_policy::{Sends, Unknown};
 pub use laws::{
-    closed_sites_are_safe, included_commands_break_nothing, line_messages_are_one,
-    listings_are_one, the_lines_are_one, the_meanings_are_one,
+    included_commands_break_nothing, line_messages_are_one, listings_are_one, the_lines_are_all,
+    the_lines_are_one, the_meanings_are_one,
 };
 pub use line::{Breaks, Cause, Line, Place, Site, Standing};
 pub use upgrade::Upgrade;

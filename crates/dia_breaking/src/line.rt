@@ -1,6 +1,5 @@
 //! The lines of a command, and the sites at which they stand.
 ghost use Rattle.std.specs.Prelude.{◌≡◌, IfOk};
-ghost use Rattle.dia_breaking.specs.OwnKeys.{own_key};
 ghost use Rattle.dia_breaking.specs.Words.{outer_of, path_to};
 
 use dia_book::{Class, DefId, Key};
@@ -73,28 +72,6 @@ pub enum Cause {
     LevelAsLeaf { key: Key },
     /// Nothing breaks: B accepts all data of the AVP, and reads them as another format than A's.
     Meaning { key: Key },
-    /// It isn't shown that nothing breaks but what the lines before this one tell.
-    Unproved,
-}
-
-impl Cause {
-    /// The key of the AVP, where it is one that breaks by itself.
-    pub(crate) fn own_key(&self) -> Option<Key>
-        ensures { result ≡ own_key self.now }
-    {
-        match self {
-            Cause::Unknown { key, .. }
-            | Cause::MBit { key, .. }
-            | Cause::Format { key, .. }
-            | Cause::LevelAsLeaf { key } => Some(*key),
-            Cause::Command
-            | Cause::Application
-            | Cause::Proxiable { .. }
-            | Cause::Level(_)
-            | Cause::Meaning { .. }
-            | Cause::Unproved => None,
-        }
-    }
 }
 
 /// What is known of a line.

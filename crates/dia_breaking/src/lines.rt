@@ -1,5 +1,5 @@
 //! The lines of a command.
-ghost use Rattle.std.specs.Prelude.{◌≡◌, ◌⊎◌, ◌++◌, ◌∷◌, [], ℕ, IfOk, OnOk, length};
+ghost use Rattle.std.specs.Prelude.{◌≡◌, ◌⊎◌, ◌++◌, ◌∷◌, ◌<◌, ◌^◌, [], ℕ, IfOk, OnOk, length};
 ghost use Rattle.std.specs.Prelude.{map, option_to_list, slice_get};
 ghost use Rattle.std.specs.Option.{option_map_or};
 ghost use Rattle.dia_breaking.specs.Confirmed.{EachConfirmedBreaks, HaveStandings, left_after};
@@ -14,7 +14,7 @@ ghost use Rattle.dia_breaking.specs.Orders.{IsInOrderOf, of_each};
 ghost use Rattle.dia_breaking.specs.OwnBreaks.{TellData};
 ghost use Rattle.dia_breaking.specs.Sides.{answer_of};
 ghost use Rattle.dia_breaking.specs.Sites.{group_sites};
-ghost use Rattle.dia_breaking.specs.TheLines.{AreAllOrUnproved, AreLinesOrUnproved, IsOfHead, IsStartOf};
+ghost use Rattle.dia_breaking.specs.TheLines.{HasTheLines, IsOfHead, IsStartOf};
 ghost use Rattle.dia_breaking.specs.Sender.{costs_of};
 ghost use Rattle.dia_breaking.specs.TheMeanings.{AreMeaningsOf, AreMeant, HoldsOfLevels};
 ghost use Rattle.dia_breaking.specs.ToldMessages.{AreConfirmedWhere};
@@ -58,7 +58,7 @@ impl<'a, A: Book, B: Book> Upgrade<'a, A, B> {
             command breaks.sites.items left.old breaks.lines.items) }
         ensures left { IfOk result (λ breaks. left.new ≡ left_after left.old breaks.lines.items) }
         ensures formats { IfOk result (λ breaks. ∥ TellData (sides_of self.now) breaks.lines.items ∥₁) }
-        ensures lines { IfOk result (λ breaks. AreLinesOrUnproved (sides_of self.now) (answer_of breaks)) }
+        ensures lines { IfOk result (λ breaks. HasTheLines (sides_of self.now) (answer_of breaks)) }
         ensures meanings { IfOk result
             (λ breaks. AreMeaningsOf (sides_of self.now) (answer_of breaks) breaks.meanings.items) }
         ensures all_meanings { IfOk result (λ breaks.
@@ -76,7 +76,7 @@ impl<'a, A: Book, B: Book> Upgrade<'a, A, B> {
         ensures head { IfOk result (λ breaks. IsOfHead breaks head.now) }
         ensures free { IfOk result (λ breaks. ∥ AreValidWhereFree (sides_of self.now) (answer_of breaks) ∥₁) }
         ensures mended { IfOk result (λ breaks. ∥ AreValidOnceMended (sides_of self.now) (answer_of breaks) ∥₁) }
-        ensures lines { IfOk result (λ breaks. AreLinesOrUnproved (sides_of self.now) (answer_of breaks)) }
+        ensures lines { IfOk result (λ breaks. HasTheLines (sides_of self.now) (answer_of breaks)) }
         ensures meanings { IfOk result
             (λ breaks. AreMeaningsOf (sides_of self.now) (answer_of breaks) breaks.meanings.items) }
         ensures all_meanings { IfOk result (λ breaks.
@@ -95,10 +95,9 @@ impl<'a, A: Book, B: Book> Upgrade<'a, A, B> {
             (costs_of self.now.lengths) command start.now }
         ensures command { IfOk result (λ breaks. breaks.command ≡ command) }
         ensures head { IfOk result (λ breaks. IsOfHead breaks start.now.head) }
-        ensures free { IfOk result (λ breaks. ∥ AreValidWhereFree (sides_of self.now) (answer_of breaks) ∥₁) }
-        ensures mended { IfOk result (λ breaks. ∥ AreValidOnceMended (sides_of self.now) (answer_of breaks) ∥₁) }
-        ensures listing { IfOk result (λ breaks. AreAllOrUnproved (IsListing (sides_of self.now).receiver
-            (basis_for self.now start.now) breaks.sites.items) breaks.lines.items) }
+        ensures few { IfOk result (λ breaks. length breaks.sites.items < 2 ^ 64) }
+        ensures listing { IfOk result (λ breaks. IsListing (sides_of self.now).receiver
+            (basis_for self.now start.now) breaks.sites.items (map tells breaks.lines.items)) }
         ensures meanings { IfOk result (λ breaks. AreMeanings (sides_of self.now).receiver
             (basis_for self.now start.now) breaks.sites.items (map tells breaks.meanings.items)) }
         ensures unchecked { IfOk result (λ breaks. AreUnchecked breaks.meanings.items) }
@@ -111,8 +110,7 @@ impl<'a, A: Book, B: Book> Upgrade<'a, A, B> {
             count: count_of(&start.readings),
         };
         let walk = self.walk_from(alloc, start, first.is_some())?;
-        let found = self.found_by(alloc, command, start, sites, numbers, &walk)?;
-        self.unless_certified(alloc, &start.head, found)
+        self.found_by(alloc, command, start, sites, numbers, &walk)
     }
 
     /// The sites and the lines that a walk finds. `sites` are those of the command's own level.
@@ -129,6 +127,7 @@ impl<'a, A: Book, B: Book> Upgrade<'a, A, B> {
         ensures head { IfOk result (λ breaks. IsOfHead breaks start.now.head) }
         ensures sites { IfOk result (λ breaks. breaks.sites.items
             ≡ sites.items ++ group_sites self.now.own.items numbers.first numbers.count walk.now.steps.items) }
+        ensures few { IfOk result (λ breaks. length breaks.sites.items < 2 ^ 64) }
         ensures lines { IfOk result
             (λ breaks. AreInOrder (lines_for self.now start.now numbers walk.now) (map tells breaks.lines.items)) }
         ensures meanings { IfOk result (λ breaks. AreInOrder
@@ -138,6 +137,7 @@ impl<'a, A: Book, B: Book> Upgrade<'a, A, B> {
         ensures formats { IfOk result (λ breaks. ∥ TellData (sides_of self.now) breaks.lines.items ∥₁) }
     {
         push_group_sites(&mut sites, &self.own, numbers, &walk.steps)?;
+        count_sites(&sites);
         let lines = self.lines_by(alloc, start, numbers, walk)?;
         let meanings = self.meanings_by(alloc, numbers, walk)?;
         Ok(Breaks {
@@ -265,6 +265,13 @@ fn count_of(readings: &[Reading]) -> usize
     ensures { result ≡ length readings.now }
 {
     readings.len()
+}
+
+/// The sites have numbers of 64 bits.
+fn count_sites(sites: &[Site])
+    ensures { length sites.now < 2 ^ 64 }
+{
+    let _count = sites.len();
 }
 
 /// Puts lines in the order of their sites. The lines of one site stay in their order.

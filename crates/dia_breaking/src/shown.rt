@@ -47,7 +47,6 @@ impl<'a, A: Book, B: Book> Upgrade<'a, A, B> {
             } => Ok(Some(self.with_data(alloc, key, &found)?)),
             Cause::LevelAsLeaf { key } => Ok(Some(self.shortest(alloc, key)?)),
             Cause::Meaning { key } => Ok(Some(self.with_m(alloc, key, self.wants_m(key))?)),
-            Cause::Unproved => Ok(None),
         }
     }
 

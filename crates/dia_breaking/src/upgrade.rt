@@ -12,11 +12,10 @@ ghost use Rattle.dia_breaking.specs.Listing.{AreUnchecked};
 ghost use Rattle.dia_breaking.specs.Mended.{AreValidOnceMended, EachHasMessage};
 ghost use Rattle.dia_breaking.specs.Nodes.{node_in};
 ghost use Rattle.dia_breaking.specs.OwnBreaks.{TellData};
-ghost use Rattle.dia_breaking.specs.Outlooks.{HasGroupLines, HasLinesFor};
 ghost use Rattle.dia_breaking.specs.Readings.{AreOtherApps};
 ghost use Rattle.dia_breaking.specs.Sender.{costs_of, sender_in};
 ghost use Rattle.dia_breaking.specs.Sides.{answer_of, sides};
-ghost use Rattle.dia_breaking.specs.TheLines.{AreKnown, AreLinesOf, AreLinesOrUnproved, IsOfHead, facts_by};
+ghost use Rattle.dia_breaking.specs.TheLines.{AreFacts, AreLinesOf, HasTheLines, IsOfHead, facts_by};
 ghost use Rattle.dia_breaking.specs.TheMeanings.{AreMeaningsOf, AreMeant, HoldsOfLevels, IsReadAsSent};
 ghost use Rattle.dia_breaking.specs.Words.{head_at};
 
@@ -29,7 +28,7 @@ use crate::line::Breaks;
 use crate::nodes::nodes_of;
 use crate::own_breaks::{OwnBreaks, own_breaks};
 use crate::readings::OtherApps;
-use dia_book::{Book, Class, DefId, Key};
+use dia_book::{Book, Class, DefId};
 use dia_breaking_levels::{Line as LevelLine, level_lines};
 use dia_breaking_ways::Node;
 use dia_policy::{Sends, Unknown};
@@ -53,7 +52,7 @@ pub struct Upgrade<'a, A: Book, B: Book> {
     pub(crate) own: Vec<OwnBreaks>,
     ghost shortest: { PicksShortest (sender_in lengths) (B.meaning b.now) (costs_of lengths) },
     ghost graph: { map plain_node nodes.items ≡ map node_in outlooks.items },
-    ghost known: { ∥ AreKnown (sides (sender_in lengths) (B.meaning b.now) lengths.sends unknown)
+    ghost known: { ∥ AreFacts (sides (sender_in lengths) (B.meaning b.now) lengths.sends unknown)
         (facts_by lengths.entries.items lengths.others.items telling.value outlooks.items own.items) ∥₁ },
     ghost first_apps: { AreApps (sender_in lengths) apps.value.first } by { Prim.hlevel props },
     ghost second_apps: { AreApps (B.meaning b.now) apps.value.second } by { Prim.hlevel props },
@@ -108,29 +107,13 @@ impl<'a, A: Book, B: Book> Upgrade<'a, A, B> {
         self.lengths.book
     }
 
-    /// How the levels of a group break, if both dictionaries see a level in AVPs of the key.
-    pub(crate) fn level_lines_of(&self, key: Key) -> Option<&[LevelLine]>
-        ensures { IfSome result (λ lines. ∥ HasGroupLines
-            (sides_of self.now).sender (sides_of self.now).receiver (costs_of self.now.lengths) key lines.now ∥₁) }
-    {
-        let place = self.telling.places.get(&key).copied()?;
-        let outlook = self.outlooks.get(place)?;
-        if outlook.key != key {
-            return None;
-        }
-        match &outlook.inner {
-            Some(inner) => Some(&inner.lines),
-            None => None,
-        }
-    }
-
-    /// All that can break the messages of a command of A. Where no line is `Unproved`, each message of the command that A's side
-    /// sends, and that breaks in none of the ways that the lines tell, is valid under B; so where there is no line, each is. A
-    /// line of the header hides none of the levels behind it: a message whose levels are free of the lines is valid under B once
-    /// its P flag and its application are such as B's definition takes.
+    /// All that can break the messages of a command of A. Each message of the command that A's side sends, and that breaks in none
+    /// of the ways that the lines tell, is valid under B; so where there is no line, each is. A line of the header hides none of
+    /// the levels behind it: a message whose levels are free of the lines is valid under B once its P flag and its application are
+    /// such as B's definition takes.
     ///
     /// The sites, and the places, causes and lengths of the lines, are the one list that the dictionaries, the sender and the
-    /// policy have. Behind it a line may be `Unproved`. Which data break a format is no part of that list.
+    /// policy have. Which data break a format is no part of that list.
     ///
     /// The standings are told line by line. A line without message is undecided; the message of another is checked, unless it
     /// has more than 2^20 bytes, or more than are left. `left` is how many bytes may be checked, and then how many of them
@@ -166,7 +149,7 @@ impl<'a, A: Book, B: Book> Upgrade<'a, A, B> {
         ensures none { head_at (sides_of self.now).sender command ≡ None
             → IfOk result (λ breaks. (breaks.sites.items ≡ []) × (breaks.lines.items ≡ []) × (breaks.meanings.items ≡ [])) }
         ensures lines { IfOk result (λ breaks. IsSome (head_at (sides_of self.now).sender command)
-            → AreLinesOrUnproved (sides_of self.now) (answer_of breaks)) }
+            → HasTheLines (sides_of self.now) (answer_of breaks)) }
         ensures meanings { IfOk result (λ breaks. IsSome (head_at (sides_of self.now).sender command)
             → AreMeaningsOf (sides_of self.now) (answer_of breaks) breaks.meanings.items) }
         ensures all_meanings { IfOk result (λ breaks.
@@ -201,9 +184,7 @@ impl<'a, A: Book, B: Book> Upgrade<'a, A, B> {
     ) -> Result<Vec<LevelLine>, AllocError>
         requires first { a_def < length (definitions (sides_of self.now).sender) }
         requires second { b_def < length (definitions (sides_of self.now).receiver) }
-        ensures complete { IfOk result (λ lines. HasLinesFor (costs_of self.now.lengths)
-            (rules_in (sides_of self.now).sender a_def) (rules_in (sides_of self.now).receiver b_def) lines.items) }
-        ensures exact { IfOk result (λ lines. AreLinesOf (costs_of self.now.lengths)
+        ensures { IfOk result (λ lines. AreLinesOf (costs_of self.now.lengths)
             (rules_in (sides_of self.now).sender a_def) (rules_in (sides_of self.now).receiver b_def) lines.items) }
     {
         level_lines(

@@ -134,7 +134,6 @@ impl<'a, A: Book, B: Book> Upgrade<'a, A, B> {
             Cause::Format { key, .. } => self.push_format(alloc, out, key),
             Cause::LevelAsLeaf { key } => self.push_level_as_leaf(out, key),
             Cause::Meaning { key } => self.push_meaning(out, key),
-            Cause::Unproved => out.push_str("-: nothing more found, not proved"),
         }
     }
 

@@ -49,11 +49,11 @@ data_in : (who : Sends) (P Q : List DRule → List ℕ → Type 0) → ((rules :
 data_in who P Q f v None h = only_any who v.flags h
 data_in who P Q f v (Some e) h = group_in P Q f (IsLeaf e.format v.bytes) v.bytes e.group h.1
 
-sent_flags : (d : Dictionary) (who : Sends) (n : ℕ) (v : PlainAvp) → IsSentWithin d who n v → HasFlags d (own_policy who) (key_of v) v.flags
+pub sent_flags : (d : Dictionary) (who : Sends) (n : ℕ) (v : PlainAvp) → IsSentWithin d who n v → HasFlags d (own_policy who) (key_of v) v.flags
 sent_flags d who zero v h = flags_in (own_policy who) (λ rules bytes. ⊥) v (known d (key_of v)) h
 sent_flags d who (suc n) v h = flags_in (own_policy who) (IsSentLevel who (IsSentWithin d who n)) v (known d (key_of v)) h
 
-sent_data : (d : Dictionary) (who : Sends) (n : ℕ) (v : PlainAvp) → IsSentWithin d who n v → IsSentData d who (key_of v) v.bytes
+pub sent_data : (d : Dictionary) (who : Sends) (n : ℕ) (v : PlainAvp) → IsSentWithin d who n v → IsSentData d who (key_of v) v.bytes
 sent_data d who zero v h =
     data_in who (λ rules bytes. ⊥) (λ rules bytes. (n : ℕ) × IsSentLevel who (IsSentWithin d who n) rules bytes) (λ rules bytes bad. absurd bad) v (known d (key_of v)) h
 sent_data d who (suc n) v h =
@@ -70,7 +70,7 @@ module _ (da db : Dictionary) (u : Unknown) (v : PlainAvp) where
   of_entry e m None is leaf = (0, (m, leaf))
   of_entry e m (Some x) is level = (level.0, (m, inr level.1))
 
-  of_data : (o : Option DictEntry) → MatchOption o (IsAccepted u v.flags) (λ e. MHolds e.rule v.flags)
+  pub of_data : (o : Option DictEntry) → MatchOption o (IsAccepted u v.flags) (λ e. MHolds e.rule v.flags)
       → MatchOption o ⊤ (λ e. MatchOption e.group (IsLeaf e.format v.bytes) (λ group. (n : ℕ) × IsLevel (AvpFits db u n) group.rules v.bytes)) → (n : ℕ) × Body u (Inner n) v o
   of_data None flags h = (0, flags)
   of_data (Some e) flags h = of_entry e flags e.group refl h

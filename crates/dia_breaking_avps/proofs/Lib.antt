@@ -5,4 +5,5 @@ pub mod NoLevels
 pub mod Heads
 pub mod Readings
 pub mod Alone
+pub mod ShorterData
 mod AnyData

@@ -28,7 +28,7 @@ of_bytes (b ∷ bytes) h = (h.0, of_bytes bytes h.1)
 
 -- ---- shortest data of a format
 
-no_family : IsAddress (0 ∷ 0 ∷ [])
+pub no_family : IsAddress (0 ∷ 0 ∷ [])
 no_family = record {
   family = 0 ∷ 0 ∷ [];
   rest = [];
@@ -46,10 +46,10 @@ graphic (b ∷ bytes) h (suc k) d lt = graphic bytes h.1 k d (omega (arith, lt))
 letter : IsGraphic 97
 letter = (omega arith, omega arith)
 
-one_letter : IsIdentity (97 ∷ [])
+pub one_letter : IsIdentity (97 ∷ [])
 one_letter = (omega arith, graphic (97 ∷ []) (letter, tt))
 
-abbrev least_uri : List ℕ
+abbrev pub least_uri : List ℕ
 least_uri = 97 ∷ 97 ∷ 97 ∷ 58 ∷ 47 ∷ 47 ∷ 97 ∷ []
 
 names_scheme : NamesScheme (codes "aaa://") least_uri
@@ -61,7 +61,7 @@ names_scheme = record {
   more = omega arith;
 }
 
-is_uri : IsUri least_uri
+pub is_uri : IsUri least_uri
 is_uri = (inl names_scheme, graphic least_uri (letter, (letter, (letter, ((omega arith, omega arith), ((omega arith, omega arith), ((omega arith, omega arith), (letter, tt))))))))
 
 less_of : (n : ℕ) → n ≤ 8 → ¬ (n ≡ 8) → n < 8
@@ -117,30 +117,30 @@ letter_too QosFilterRule h = tt
 
 -- ---- levels
 
-abbrev eight_zeros : List ℕ
+abbrev pub eight_zeros : List ℕ
 eight_zeros = 0 ∷ 0 ∷ 0 ∷ 0 ∷ 0 ∷ 0 ∷ 0 ∷ 0 ∷ []
 
 module _ (d : Dictionary) (u : Unknown) (rules : List DRule) where
-  abbrev IsItsLevel : List ℕ → Type 0
+  abbrev pub IsItsLevel : List ℕ → Type 0
   IsItsLevel bytes = (n : ℕ) × IsLevel (Fits d u n) rules bytes
 
-  empty_level : All (λ rule. rule.min ≡ 0) rules → IsItsLevel []
+  pub empty_level : All (λ rule. rule.min ≡ 0) rules → IsItsLevel []
   empty_level all = (0, ([], refl, placed_none rules all, tt))
 
   no_avps : (avps : List PlainAvp) → SpellsAll avps [] → avps ≡ []
   no_avps [] h = refl
   no_avps (v ∷ avps) h = absurd (let long = some_long v avps [] h in omega (arith, long))
 
-  not_empty : ¬ All (λ rule. rule.min ≡ 0) rules → ¬ IsItsLevel []
+  pub not_empty : ¬ All (λ rule. rule.min ≡ 0) rules → ¬ IsItsLevel []
   not_empty other (n, (avps, spelled, placed, fit)) = other (none_placed rules (subst (λ (vs : List PlainAvp). Placed rules (map key_of vs)) (no_avps avps spelled) placed))
 
-  not_short : (bytes : List ℕ) → 0 < length bytes → length bytes < 8 → ¬ IsItsLevel bytes
+  pub not_short : (bytes : List ℕ) → 0 < length bytes → length bytes < 8 → ¬ IsItsLevel bytes
   not_short bytes some less (n, (avps, spelled, placed, fit)) = elim (level_long avps bytes spelled) [
     | inl e ↦ (let none = ap length e in omega (arith, none, some))
     | inr long ↦ omega (arith, long, less)
   ]
 
-  not_zeros : ¬ IsItsLevel eight_zeros
+  pub not_zeros : ¬ IsItsLevel eight_zeros
   not_zeros (n, (avps, spelled, placed, fit)) = no_zeros avps eight_zeros spelled (omega arith) (refl, (refl, (refl, (refl, (refl, (refl, (refl, (refl, tt))))))))
 
   -- ---- the answers

@@ -1,7 +1,12 @@
 //! What holds of AVPs that break nothing by themselves.
-ghost use Rattle.dia_breaking_avps.specs.Laws.{KeysFitAlone};
+ghost use Rattle.dia_breaking_avps.specs.Laws.{KeysFitAlone, ShorterDataAreAccepted};
 
 /// An AVP of a level that A's side sends fits B by itself, where each that is sent of its key does.
 pub fn keys_fit_alone()
     ensures { KeysFitAlone }
+{}
+
+/// Data that A's side sends are accepted where they are shorter than the shortest that break.
+pub fn shorter_data_are_accepted()
+    ensures { ShorterDataAreAccepted }
 {}

@@ -13,4 +13,4 @@ pub use dia_book::{Book, DefId};
 pub use dia_breaking_data::Witness;
 pub use dia_policy::{Sends, Unknown};
 pub use dia_wire::Key;
-pub use laws::keys_fit_alone;
+pub use laws::{keys_fit_alone, shorter_data_are_accepted};

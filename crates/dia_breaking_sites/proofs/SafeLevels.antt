@@ -51,7 +51,7 @@ module _ (d : Dictionary) (u : Unknown) where
       (λ rules lv. (lv.0, lv.1, lv.2, all_map (Fits d u n) (Fits d u m) lv.0 (λ w k. fits_more n m w (omega (arith, le)) k) lv.3)) h
 
   -- so AVPs of which each fits with some number of levels fit with one number
-  common : (avps : List PlainAvp) → ((v : PlainAvp) → IsIn v avps → (n : ℕ) × Fits d u n v) → (n : ℕ) × AllByRecursion (Fits d u n) avps
+  pub common : (avps : List PlainAvp) → ((v : PlainAvp) → IsIn v avps → (n : ℕ) × Fits d u n v) → (n : ℕ) × AllByRecursion (Fits d u n) avps
   common [] h = (0, tt)
   common (v ∷ avps) h =
       let x = h v (inl refl) in
@@ -109,7 +109,7 @@ module _ (da db : Dictionary) (who : Sends) (u : Unknown) where
   avp_fits P v k (Some f) lifts sent at h = entry_fits P v k f f.group lifts sent at refl h.0 h.1
 
   -- an AVP that fits B by itself fits B, where the level in it is one of B's
-  one_fits : (P : List DRule → List ℕ → Type 0) (v : PlainAvp) → Lifts P v → FitsBy da (own_policy who) P v → FitsAlone da db u v → (m : ℕ) × Fits db u m v
+  pub one_fits : (P : List DRule → List ℕ → Type 0) (v : PlainAvp) → Lifts P v → FitsBy da (own_policy who) P v → FitsAlone da db u v → (m : ℕ) × Fits db u m v
   one_fits P v lifts sent (k, h) = avp_fits P v k (known db (key_of v)) lifts sent refl h
 
 module _ (da db : Dictionary) (who : Sends) (u : Unknown) (Asked : AboutLevels) (sites : List Site) (safe : AreSafe da db who u Asked sites) where

@@ -82,6 +82,10 @@ aligned (v ∷ vs) b (front, rest, s, p, all) =
 message_bytes : (h : Header) (vs : List PlainAvp) (b : List ℕ) (m : IsMessage h vs b) → AreBytes b → AreBytes m.head × AreBytes m.body
 message_bytes h vs b m are = all_parts IsByte m.head m.body (subst AreBytes m.parts are)
 
+-- an application has 32 bits
+pub small_app : (d : Dictionary) (who : Sends) (bytes : List ℕ) (c : ℕ) (s : IsSent d who bytes c) → s.header.app < 2 ^ 32
+small_app d who bytes c s = (numbers s.header (length bytes) s.message.head s.message.is_head (message_bytes s.header s.avps bytes s.message s.are_bytes).0).app
+
 body_fits : (h : Header) (vs : List PlainAvp) (b : List ℕ) (m : IsMessage h vs b) → AreBytes b → length m.body ≤ max_body
 body_fits h vs b m are =
     let n = numbers h (length b) m.head m.is_head (message_bytes h vs b m are).0 in

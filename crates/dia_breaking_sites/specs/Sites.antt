@@ -54,6 +54,15 @@ pub data LiesIn (da db : Dictionary) (a b : PlainDefinition) (inner : List Plain
 abbrev pub AreAsked : Dictionary → Dictionary → AboutLevels → PlainDefinition → PlainDefinition → List PlainAvp → Type 0
 AreAsked da db Asked x y avps = (a b : PlainDefinition) (inner : List PlainAvp) → LiesIn da db a b inner x y avps → Asked a b inner
 
+-- the level stands as B's rules say, and by itself each AVP of it fits B
+abbrev pub IsReadAlone : Dictionary → Dictionary → Unknown → AboutLevels
+IsReadAlone da db u x y avps = Placed y.rules (map key_of avps) × ((v : PlainAvp) → Contains avps v → FitsAlone da db u v)
+
+-- where this holds of each level that lies in a level of AVPs that can be sent, that one is a level of B's, at every depth
+abbrev pub LevelsAreRead : Type 0
+LevelsAreRead = (da db : Dictionary) (who : Sends) (u : Unknown) (x y : PlainDefinition) (avps : List PlainAvp) → AreSentAvps da who avps → AreAsked da db (IsReadAlone da db u) x y avps
+    → Placed y.rules (map key_of avps) × AllFit db u levels.Any avps
+
 -- nothing breaks in the levels of the site that are as asked, and what both dictionaries see a level in is at one of the sites
 pub record IsSafeSite (da db : Dictionary) (who : Sends) (u : Unknown) (Asked : AboutLevels) (sites : List Site) (site : Site) : Type 0 where
   pub placed : (avps : List PlainAvp) → IsLevelOf da who site.a.rules site.room avps → Asked site.a site.b avps → Placed site.b.rules (map key_of avps)

@@ -4,8 +4,14 @@ ghost use Rattle.dia_book.specs.declared.DRule.{DRule as AnyRule};
 ghost use Rattle.dia_book.specs.Dictionary.{Dictionary, PlainDefinition, IsDictionary, definitions};
 ghost use Rattle.dia_policy.specs.declared.Unknown.{Unknown as AnyPolicy};
 ghost use Rattle.dia_policy.specs.declared.sends.Sends.{Sends as AnySender};
-ghost use Rattle.dia_breaking_sites.specs.Sites.{Site, IsLevelOf, LevelTest, Passes, AreSafe, AreLevelsOfB};
+ghost use Rattle.dia_breaking_sites.specs.Sites.{Site, IsLevelOf, LevelTest, Passes, AreSafe, AreLevelsOfB, LevelsAreRead};
 ghost use Rattle.dia_breaking_sites.specs.Selection.{FlagTest, IsForbidden, AreMet, AreValidWhere, IsMetBy};
+
+/// Where each level that lies in a level of AVPs that can be sent stands as B's rules say, and by itself each AVP of it fits B,
+/// that level is one of B's, at every depth of groups.
+pub fn levels_are_read()
+    ensures { LevelsAreRead }
+{}
 
 /// Where nothing breaks in levels of some sites that pass a test, and groups lead to these sites alone, each level of them that
 /// can be sent is a level of B's, if each level that lies in it passes: its AVPs stand as the rules say, and each fits, at every

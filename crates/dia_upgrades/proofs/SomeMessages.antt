@@ -149,7 +149,6 @@ module _ (s : Sides) (k : Stock) (c : ℕ) where
   some_parts place def (causes.Format key found) = (least_parts k.costs.others (rules_in s.sender def), refl)
   some_parts place def (causes.LevelAsLeaf key) = (least_parts k.costs.others (rules_in s.sender def), refl)
   some_parts place def (causes.Meaning key) = (least_parts k.costs.others (rules_in s.sender def), refl)
-  some_parts place def causes.Unproved = (least_parts k.costs.others (rules_in s.sender def), refl)
 
   some_alone : (place : Place) (cause : Cause) (number : Option ℕ) → (bytes : List ℕ)
       × MatchOption number (bytes ≡ []) (λ def. (parts : List Part) × AreParts s k c place def cause parts × (bytes ≡ parts_bytes (shortest_avp s k) parts))

@@ -9,14 +9,14 @@ use Rattle.dia_breaking.specs.Listing.{AreUnchecked}
 use Rattle.dia_breaking.specs.Messages.{IsLineMessage, Stock}
 use Rattle.dia_breaking.specs.OwnBreaks.{TellData}
 use Rattle.dia_breaking.specs.Sides.{Sides, answer}
-use Rattle.dia_breaking.specs.TheLines.{AreLinesOrUnproved}
+use Rattle.dia_breaking.specs.TheLines.{HasTheLines}
 use Rattle.dia_breaking.specs.TheMeanings.{AreMeaningsOf, AreMeant, HoldsOfLevels, IsReadAsSent}
 use Rattle.dia_breaking.specs.ToldMessages.{AreConfirmedWhere}
 use Rattle.dia_upgrades.specs.Told.{AreParts, AreShown, IsLineTold, IsToldOf, apart_of, number_at, words_at}
 
 -- what was found of a command, by its number
 pub record IsFound (s : Sides) (k : Stock) (meaning : Bool) (number budget behind : ℕ) (breaks : Breaks) (shown : List Line) : Type 0 where
-  pub are_lines : AreLinesOrUnproved s (answer number breaks.sites.items breaks.lines.items)
+  pub are_lines : HasTheLines s (answer number breaks.sites.items breaks.lines.items)
   pub free : ∥ AreValidWhereFree s (answer number breaks.sites.items breaks.lines.items) ∥₁
   pub confirmed : AreConfirmedWhere s k number breaks.sites.items budget breaks.lines.items
   pub standings : HaveStandings budget breaks.lines.items

@@ -19,7 +19,7 @@ use Rattle.dia_breaking.specs.declared.line.Line.{Line}
 use Rattle.dia_breaking.specs.declared.line.Site.{Site}
 use Rattle.dia_breaking.specs.Free.{AreValidWhereFree}
 use Rattle.dia_breaking.specs.Sides.{Sides, answer, sides}
-use Rattle.dia_breaking.specs.TheLines.{AreLinesOrUnproved}
+use Rattle.dia_breaking.specs.TheLines.{HasTheLines}
 use Rattle.dia_breaking.specs.TheMeanings.{AreMeaningsOf, AreMeant, AreTheMeanings, HoldsOfLevels, IsReadAsSent}
 use Rattle.dia_upgrades.specs.declared.asked.Asked.{Asked}
 use Rattle.dia_upgrades.specs.declared.asked.Form.{Form}
@@ -67,7 +67,7 @@ pub record IsAcceptedWhole (s : Sides) (meaning : Bool) (list : List PlainEntry)
   pub lines : List Line
   pub meanings : List Line
   pub are_shortest : AreShortest s.sender s.sends lengths
-  pub are_lines : AreLinesOrUnproved s (answer c sites lines)
+  pub are_lines : HasTheLines s (answer c sites lines)
   pub are_meanings : AreMeaningsOf s (answer c sites lines) meanings
   pub accepted : AllByRecursion (IsAcceptedBy list (words_at s lengths c sites)) lines
   pub meanings_accepted : meaning ≡ true → AllByRecursion (IsAcceptedBy list (words_at s lengths c sites)) meanings

@@ -6,8 +6,6 @@ use Rattle.dia_accepted.specs.Accepted.{PlainTold}
 use Rattle.dia_policy.specs.declared.sends.Sends.{Sends}
 use Rattle.dia_book.specs.Dictionary.{Dictionary, groups}
 use Rattle.dia_breaking_shortest.specs.Exact.{AreExact}
-use Rattle.dia_breaking.specs.declared.line.Cause.{Cause}
-use Rattle.dia_breaking.specs.declared.line.Cause.TheVariants as causes
 use Rattle.dia_breaking.specs.declared.line.Line.{Line}
 use Rattle.dia_breaking.specs.declared.line.Site.{Site}
 use Rattle.dia_breaking.specs.declared.line.Standing.{Standing}
@@ -19,7 +17,7 @@ use Rattle.dia_breaking.specs.Listing.{AreUnchecked}
 use Rattle.dia_breaking.specs.Messages.{IsLineMessage, Stock}
 use Rattle.dia_breaking.specs.Orders.{IsInOrderOf}
 use Rattle.dia_breaking.specs.OwnBreaks.{TellData}
-use Rattle.dia_breaking.specs.TheLines.{AreLinesOrUnproved}
+use Rattle.dia_breaking.specs.TheLines.{HasTheLines}
 use Rattle.dia_breaking.specs.TheMeanings.{AreMeaningsOf, AreMeant, HoldsOfLevels, IsReadAsSent}
 use Rattle.dia_breaking.specs.ToldMessages.{AreConfirmedWhere, BreaksAsTold, IsConfirmedWhere}
 use Rattle.dia_breaking.specs.Words.{words_of}
@@ -94,13 +92,9 @@ pub record IsStockOf (s : Sides) (lengths : List ℕ) (k : Stock) : Type 0 where
   pub costs_are : k.costs ≡ costs_by s.sender s.sends lengths k.costs.others
   pub others_are : ∥ AreExactlyOthers s.sender s.receiver s.sends lengths k.costs.others ∥₁
 
--- where a line stands among those of its command: at its site, but for the one that tells that not all is shown, which stands last
-abbrev pub place_with : ℕ → Cause → ℕ
-place_with site causes.Unproved = 18446744073709551615
-place_with site cause = site
-
+-- a line stands among those of its command at its site
 abbrev pub place_of : Line → ℕ
-place_of line = place_with line.site line.cause
+place_of line = line.site
 
 -- the lines that are shown: those of what breaks; with `--meaning` also those of meanings, which stand behind the others of their site
 abbrev pub AreShown : Bool → List Line → List Line → List Line → Type 0
@@ -111,8 +105,8 @@ AreShown false lines meanings shown = shown ≡ lines
 abbrev pub apart_of : Bool → List Line → List Line
 apart_of meaning meanings = if meaning then [] else meanings
 
--- these are told of the command at this place: the lines that its dictionaries have, unless one tells that not all is shown. A message
--- that A's side sends, and that breaks in none of their ways, is valid under B. A line is confirmed exactly where its message is checked and
+-- these are told of the command at this place: the lines that its dictionaries have. A message that A's side
+-- sends, and that breaks in none of their ways, is valid under B. A line is confirmed exactly where its message is checked and
 -- breaks as the line tells; which messages are checked follows from the lines' causes and lengths, and from how many bytes may be checked, of
 -- which some are left behind; and a line about a format has data that B refuses, if it names some. Behind a line stand the bytes of its message.
 -- The meanings are those that its dictionaries have, and none of their messages is checked; they are all AVPs that B reads as another
@@ -122,7 +116,7 @@ pub record IsToldOf (s : Sides) (k : Stock) (messages meaning : Bool) (lengths :
   pub lines : List Line
   pub meanings : List Line
   pub shown : List Line
-  pub are_lines : AreLinesOrUnproved s (answer (number_at s.sender place) sites lines)
+  pub are_lines : HasTheLines s (answer (number_at s.sender place) sites lines)
   pub free : ∥ AreValidWhereFree s (answer (number_at s.sender place) sites lines) ∥₁
   pub confirmed : AreConfirmedWhere s k (number_at s.sender place) sites budget lines
   pub standings : HaveStandings budget lines

@@ -11,7 +11,7 @@ use crate::asked::{Asked, Form};
 use crate::seen::Seen;
 use crate::shown::Shown;
 use dia_accepted::Causes;
-use dia_breaking::{Breaks, Cause, Line, Standing, Upgrade};
+use dia_breaking::{Breaks, Line, Standing, Upgrade};
 use dia_breaking_json::line_json;
 use dia_dict::Book;
 use std::alloc::{AllocError, Global};
@@ -163,26 +163,8 @@ pub(crate) fn shown_of(
 fn sort_by_place(lines: &mut Vec<Line>) -> Result<(), AllocError>
     ensures { OnOk result (IsInOrderOf place_of lines.old.items lines.new.items) }
 {
-    lines.sort_by_key(|line| place_of(line))?;
+    lines.sort_by_key(|line| line.site)?;
     Ok(())
-}
-
-/// Where a line stands: at its site, or, where it tells that not all is shown, last.
-fn place_of(line: &Line) -> usize
-    ensures { result ≡ place_of line.now }
-{
-    match line.cause {
-        Cause::Unproved => usize::MAX,
-        Cause::Command
-        | Cause::Application
-        | Cause::Proxiable { .. }
-        | Cause::Level(_)
-        | Cause::Unknown { .. }
-        | Cause::MBit { .. }
-        | Cause::Format { .. }
-        | Cause::LevelAsLeaf { .. }
-        | Cause::Meaning { .. } => line.site,
-    }
 }
 
 /// The meanings that aren't shown.

@@ -1,7 +1,7 @@
 use Rattle.std.proofs.Common.{sym, ap, ◌∙◌}
 use Rattle.std.specs.Prelude.{option_and_then}
 use Rattle.dia_book.specs.Dictionary.{group_place}
-use Rattle.dia_breaking.proofs.Certified.{group_found}
+use Rattle.dia_breaking.proofs.GroupsFound.{group_found}
 use Rattle.dia_breaking.proofs.InRange.{group_within, group_known}
 use Rattle.dia_breaking.proofs.books.group_of.Goals as goal
 

@@ -1,9 +1,7 @@
 use Rattle.std.proofs.Common.{false, List, refl, sym, ap, ◌∙◌, arith}
-use Rattle.std.specs.Prelude.{IfSome, slice_get}
+use Rattle.std.specs.Prelude.{slice_get}
 use Rattle.std.proofs.lemmas.Option.{slice_get-get_or}
-use Rattle.dia_breaking.specs.declared.exits.Outlook.{Outlook}
 use Rattle.dia_breaking.specs.declared.keys.Own.{Own}
-use Rattle.dia_breaking.specs.Outlooks.{HasGroupLines}
 use Rattle.dia_breaking.specs.Sender.{costs_of, sender_in}
 use Rattle.dia_breaking.specs.TheLines.{HasLevelLines}
 use Rattle.dia_breaking.proofs.FoundExits.{all_outlooks, one_outlook_more}
@@ -18,18 +16,15 @@ loop-own-preserved g c =
     let telling = c.args.telling.now in
     let i = c.loop-own.own-index in (
       all_more (HasLevelLines da db k) c.loop-own.outlooks.items _ _ c.in_ok-push.ensures.items c.loop-own.invariant.0 c.in_ok-inner.ensures.levels,
-      all_more (λ (outlook : Outlook). IfSome outlook.inner (λ inner. HasGroupLines da db k outlook.key inner.lines.items)) c.loop-own.outlooks.items _ _ c.in_ok-push.ensures.items
-          c.loop-own.invariant.1 c.in_ok-inner.ensures.lines,
       one_outlook_more da db telling k i _ _ c.loop-own.outlooks.items _ c.in_ok-push.ensures.items
           (ap (λ (xs : List Own). slice_get xs i) (sym c.deref-own-items.ensures.value)
-          ∙ slice_get-get_or c.deref-own-items.result.now i (record { key = record { code = 0; vendor = 0 }; is_group = false; breaks = false; is_other = false }) (omega arith)) refl c.loop-own.invariant.2
+          ∙ slice_get-get_or c.deref-own-items.result.now i (record { key = record { code = 0; vendor = 0 }; is_group = false; breaks = false; is_other = false }) (omega arith)) refl c.loop-own.invariant.1
           (record { other_is = c.other.ensures; inner_is = c.in_ok-inner.ensures.exact }),
     )
 
 pub returns : goal.returns
 returns g c = record {
   exact = all_outlooks (sender_in c.args.lengths.now) (g.B.Book.meaning c.args.b.now) c.args.telling.now (costs_of c.args.lengths.now) c.loop-own.own-index c.loop-own.outlooks.items (omega arith)
-      c.loop-own.invariant.2;
-  lines = c.loop-own.invariant.1;
+      c.loop-own.invariant.1;
   levels = c.loop-own.invariant.0;
 }

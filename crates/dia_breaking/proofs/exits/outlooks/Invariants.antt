@@ -1,5 +1,4 @@
 use Rattle.std.specs.Prelude.{All}
-use Rattle.dia_breaking.specs.Outlooks.{HaveGroupLines}
 use Rattle.dia_breaking.specs.Sender.{costs_of, sender_in}
 use Rattle.dia_breaking.specs.TheLines.{HasLevelLines}
 use Rattle.dia_breaking.proofs.FoundExits.{AreFirstOutlooks}
@@ -10,4 +9,4 @@ invariant-loop-own g l =
     let da = sender_in l.lengths in
     let db = g.B.Book.meaning l.b in
     let k = costs_of l.lengths in
-    All (HasLevelLines da db k) l.outlooks.items × HaveGroupLines da db k l.outlooks.items × AreFirstOutlooks da db l.telling k l.own-index l.outlooks.items
+    All (HasLevelLines da db k) l.outlooks.items × AreFirstOutlooks da db l.telling k l.own-index l.outlooks.items

@@ -1,12 +1,10 @@
 use Rattle.std.proofs.Common.{◌∙◌}
 use Rattle.dia_breaking.specs.Headers.{apps_of}
-use Rattle.dia_breaking.proofs.FoundApps.{in_neither, unnamed_of}
+use Rattle.dia_breaking.proofs.FoundApps.{unnamed_of}
 use Rattle.dia_breaking.proofs.headers.unnamed_app.Goals as goal
 
 pub returns : goal.returns
 returns c =
-    let first = apps_of c.args.both.now.first c.args.head.now.code c.args.head.now.class in
-    let second = apps_of c.args.both.now.second c.args.head.now.code c.args.head.now.class in
-    let exact = unnamed_of c.least_unnamed.result c.deref.result.now c.deref-2.result.now first second (c.deref.ensures.value ∙ c.in_ok-first.ensures)
-    (c.deref-2.ensures.value ∙ c.in_ok-second.ensures) c.least_unnamed.ensures in
-    record { unnamed = in_neither c.least_unnamed.result first second exact; exact = exact }
+    unnamed_of c.least_unnamed.result c.deref.result.now c.deref-2.result.now (apps_of c.args.both.now.first c.args.head.now.code c.args.head.now.class)
+    (apps_of c.args.both.now.second c.args.head.now.code c.args.head.now.class) (c.deref.ensures.value ∙ c.in_ok-first.ensures)
+    (c.deref-2.ensures.value ∙ c.in_ok-second.ensures) c.least_unnamed.ensures

@@ -6,4 +6,4 @@ use Rattle.dia_breaking.proofs.InOrder.{in_order}
 use Rattle.dia_breaking.proofs.lines.sort_by_site.Goals as goal
 
 pub returns : goal.returns
-returns c = in_order (λ (line : Line). line.site) (λ n. new_line n causes.Unproved 0) (λ n. refl) _ _ c.in_ok-sort_by_key.ensures.sorted c.sort_by_key.ensures.stable (λ a r q k. search rules)
+returns c = in_order (λ (line : Line). line.site) (λ n. new_line n causes.Command 0) (λ n. refl) _ _ c.in_ok-sort_by_key.ensures.sorted c.sort_by_key.ensures.stable (λ a r q k. search rules)

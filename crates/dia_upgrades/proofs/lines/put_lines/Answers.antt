@@ -12,16 +12,16 @@ pub returns-in_err-forgets-clause-front : goal.returns-in_err-forgets-clause-fro
 returns-in_err-forgets-clause-front g c =
     let p = err_from_is_err_and c.from_residual.result c.from_residual.ensures.1 in
     let up = c.args.upgrade.now in
-    let shortest : AreShortest (sides_of up).sender (sides_of up).sends (facts_of up).lengths = ∥∥₁_map up.known (λ known. (known.facts.least, known.facts.are_least, known.facts.are_lengths)) in
-    let is_stock : IsStockOf (sides_of up) (facts_of up).lengths (stock_of up) = record { costs_are = refl; others_are = ∥∥₁_map up.known (λ known. known.facts.are_others) } in
+    let shortest : AreShortest (sides_of up).sender (sides_of up).sends (facts_of up).lengths = ∥∥₁_map up.known (λ known. (known.least, known.are_least, known.are_lengths)) in
+    let is_stock : IsStockOf (sides_of up) (facts_of up).lengths (stock_of up) = record { costs_are = refl; others_are = ∥∥₁_map up.known (λ known. known.are_others) } in
     rw (p.1, p.2) (none_first (sides_of up) (stock_of up) c.args.asked (map plain_entry c.args.list.now) (facts_of up).lengths c.args.places.now (g.S.Sink.written c.args.sink.now) shortest is_stock)
 
 pub returns-in_err-seen-clause-front : goal.returns-in_err-seen-clause-front
 returns-in_err-seen-clause-front g c =
     let p = err_from_is_err_and c.from_residual-in_err-seen.result c.from_residual-in_err-seen.ensures.1 in
     let up = c.args.upgrade.now in
-    let shortest : AreShortest (sides_of up).sender (sides_of up).sends (facts_of up).lengths = ∥∥₁_map up.known (λ known. (known.facts.least, known.facts.are_least, known.facts.are_lengths)) in
-    let is_stock : IsStockOf (sides_of up) (facts_of up).lengths (stock_of up) = record { costs_are = refl; others_are = ∥∥₁_map up.known (λ known. known.facts.are_others) } in
+    let shortest : AreShortest (sides_of up).sender (sides_of up).sends (facts_of up).lengths = ∥∥₁_map up.known (λ known. (known.least, known.are_least, known.are_lengths)) in
+    let is_stock : IsStockOf (sides_of up) (facts_of up).lengths (stock_of up) = record { costs_are = refl; others_are = ∥∥₁_map up.known (λ known. known.are_others) } in
     rw (p.1, p.2) (none_first (sides_of up) (stock_of up) c.args.asked (map plain_entry c.args.list.now) (facts_of up).lengths c.args.places.now (g.S.Sink.written c.args.sink.now) shortest is_stock)
 
 pub returns-in_err-put_rest-clause-front : goal.returns-in_err-put_rest-clause-front

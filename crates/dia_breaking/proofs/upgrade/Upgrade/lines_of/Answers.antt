@@ -6,17 +6,16 @@ use Rattle.dia_breaking.specs.declared.line.Line.{Line}
 use Rattle.dia_breaking.specs.declared.line.Site.{Site}
 use Rattle.dia_breaking.specs.Listing.{AreUnchecked}
 use Rattle.dia_breaking.specs.Mended.{AreValidOnceMended, EachHasMessage}
-use Rattle.dia_breaking.specs.Listing.{tells}
+use Rattle.dia_breaking.specs.Listing.{Told, tells}
 use Rattle.dia_breaking.specs.Sides.{answer, answer_of}
-use Rattle.dia_breaking.specs.TheLines.{AreLinesOrUnproved, AreTheLines}
+use Rattle.dia_breaking.specs.TheLines.{AreTheLines, HasTheLines}
 use Rattle.dia_breaking.specs.TheMeanings.{AreMeaningsOf, AreMeant, AreTheMeanings, HoldsOfLevels}
 use Rattle.dia_breaking.specs.ToldMessages.{AreConfirmedWhere}
 use Rattle.dia_breaking.specs.Upgrades.{sides_of, stock_of}
 use Rattle.dia_breaking.proofs.FormatData.{data_kept}
-use Rattle.dia_breaking.proofs.FoundLines.{lines_kept}
 use Rattle.dia_breaking.proofs.FreeOfLines.{still_mended, still_valid}
 use Rattle.dia_breaking.proofs.Lists.{when_ok, when_two}
-use Rattle.dia_breaking.proofs.ToldLists.{told_kept}
+use Rattle.dia_breaking.proofs.ToldLists.{tells_kept, told_kept}
 use Rattle.dia_breaking.proofs.upgrade.Upgrade.lines_of.Goals as goal
 
 pub returns : goal.returns
@@ -41,9 +40,9 @@ returns g c =
           (still_mended s.sender s.receiver s.unknown found.sites.items found.lines.items told.lines.items found.command (told_kept told.lines.items found.lines.items kept) s.sends valid))))
           c.with_standings.ensures.same c.with_standings.ensures.kept;
       lines = when_two _ _ _ c.with_standings.result
-          (λ told same kept. subst (λ (at : List Site). AreLinesOrUnproved s (answer told.command at told.lines.items)) (sym same.3)
-          (subst (λ (number : ℕ). AreLinesOrUnproved s (answer number found.sites.items told.lines.items)) (sym same.0)
-          (lines_kept (λ lines. ∥ AreTheLines s found.command found.sites.items lines ∥₁) found.lines.items told.lines.items kept c.in_ok-found.ensures.lines)))
+          (λ told same kept. subst (λ (at : List Site). HasTheLines s (answer told.command at told.lines.items)) (sym same.3)
+          (subst (λ (number : ℕ). HasTheLines s (answer number found.sites.items told.lines.items)) (sym same.0)
+          (subst (λ (all : List Told). ∥ AreTheLines s found.command found.sites.items all ∥₁) (sym (tells_kept told.lines.items found.lines.items kept)) c.in_ok-found.ensures.lines)))
           c.with_standings.ensures.same c.with_standings.ensures.kept;
       meanings = when_two _ _ _ c.with_standings.result
           (λ told same kept. subst (λ (at : List Site). AreMeaningsOf s (answer told.command at told.lines.items) told.meanings.items) (sym same.3)

@@ -21,7 +21,7 @@ returns g c =
     record {
       told = subst (λ told. IsInOrderOf (λ (line : Told). line.site) told (map tells c.sort_by_site.new.lines.items))
           (adds ∙ ap (λ (lines : List Line). map tells lines ++ all) c.new-meanings.ensures.items)
-          (image_in_order tells (λ (line : Line). line.site) (λ (line : Told). line.site) (λ x. refl) (new_line 0 causes.Unproved 0) _ _ c.in_ok-sort_by_site.ensures);
+          (image_in_order tells (λ (line : Line). line.site) (λ (line : Told). line.site) (λ x. refl) (new_line 0 causes.Command 0) _ _ c.in_ok-sort_by_site.ensures);
       unchecked = unchecked_in_order c.push_own_lines.new.lines.items c.sort_by_site.new.lines.items c.in_ok-sort_by_site.ensures
           (c.in_ok-push_own_lines.ensures.unchecked (none_of (λ (line : Line). line.standing ≡ Unchecked) c.new-meanings.result.items c.new-meanings.ensures.items));
     }

@@ -9,7 +9,7 @@ use Rattle.dia_breaking.specs.OwnBreaks.{AreOwnBreaks}
 use Rattle.dia_breaking.specs.Readings.{AreOtherApps}
 use Rattle.dia_breaking.specs.Sender.{costs_of, sender_in}
 use Rattle.dia_breaking.specs.Sides.{sides}
-use Rattle.dia_breaking.specs.Telling.{IsExactTelling, IsTelling}
+use Rattle.dia_breaking.specs.Telling.{IsExactTelling}
 use Rattle.dia_breaking.proofs.Shortest.{first_is_shortest}
 use Rattle.dia_breaking.proofs.upgrade.Upgrade.new.Goals as goal
 
@@ -23,18 +23,14 @@ invariant_of-result g c =
       shortest = first_is_shortest s.sender db lengths.sends lengths.entries.items lengths.others.items (g.met.A.Book.sound lengths.book.now) (g.met.B.Book.sound c.args.b.now) c.in_ok-lengths.ensures.others;
       graph = c.in_ok-nodes.ensures ∙ ap (λ (os : List Outlook). map node_in os) c.deref-2.ensures.value;
       known = ∣ record {
-        facts = record {
-          least = lengths.least.lengths.items;
-          are_least = c.in_ok-lengths.ensures.least;
-          are_lengths = c.in_ok-lengths.ensures.entries;
-          are_others = c.in_ok-lengths.ensures.others;
-          is_telling = subst (IsExactTelling s) (sym c.in_ok-telling.ensures.ok) c.in_ok-new.ensures.exact;
-          are_outlooks = subst (λ telling. AreOutlooks s.sender db telling k c.in_ok-outlooks.outlooks.items) c.deref.ensures c.in_ok-outlooks.ensures.exact;
-          have_lines = c.in_ok-outlooks.ensures.levels;
-          are_own = subst (λ (told : List Own). AreOwnBreaks s k.listed told c.in_ok-own.own.items) (c.deref-4.ensures.value ∙ ap (λ (t : Telling). t.own.items) c.deref-3.ensures) c.in_ok-own.ensures;
-        };
-        told = subst (IsTelling s) (sym c.in_ok-telling.ensures.ok) c.in_ok-new.ensures.telling;
-        lines = c.in_ok-outlooks.ensures.lines;
+        least = lengths.least.lengths.items;
+        are_least = c.in_ok-lengths.ensures.least;
+        are_lengths = c.in_ok-lengths.ensures.entries;
+        are_others = c.in_ok-lengths.ensures.others;
+        is_telling = subst (IsExactTelling s) (sym c.in_ok-telling.ensures.ok) c.in_ok-new.ensures;
+        are_outlooks = subst (λ telling. AreOutlooks s.sender db telling k c.in_ok-outlooks.outlooks.items) c.deref.ensures c.in_ok-outlooks.ensures.exact;
+        have_lines = c.in_ok-outlooks.ensures.levels;
+        are_own = subst (λ (told : List Own). AreOwnBreaks s k.listed told c.in_ok-own.own.items) (c.deref-4.ensures.value ∙ ap (λ (t : Telling). t.own.items) c.deref-3.ensures) c.in_ok-own.ensures;
       } ∣₁;
       first_apps = subst (λ both. AreApps s.sender both.first) (sym c.in_ok-apps.ensures.ok) c.in_ok-named.ensures.first;
       second_apps = subst (λ both. AreApps db both.second) (sym c.in_ok-apps.ensures.ok) c.in_ok-named.ensures.second;

@@ -1,0 +1,271 @@
+-- Each AVP of a level that is reached fits B by itself, where the level is free of the lines.
+use Rattle.std.proofs.Common.{◌≡◌, ℕ, ◌+◌, ◌-◌, ◌<◌, ◌≤◌, Bool, true, false, List, [], length, map, Option, Some, None, refl, sym, ap, subst, ◌∙◌, arith, inl, inr}
+use Rattle.std.specs.Prelude.{◌⊎◌, ⊤, is_some, MatchOption, Contains, slice_get, option_and_then}
+use Rattle.std.specs.Option.{option_map, option_map_or}
+use Rattle.std.proofs.lemmas.Bool.{cases_lt}
+use Rattle.dia_wire.specs.declared.Key.{Key}
+use Rattle.dia_wire.specs.Wire.{PlainAvp, key_of}
+use Rattle.dia_data.specs.Leaf.{IsLeaf}
+use Rattle.dia_book.specs.declared.DRule.{DRule}
+use Rattle.dia_book.specs.Dictionary.{Dictionary, DictEntry, PlainDefinition, IsDictionary, entry_of}
+use Rattle.dia_book.proofs.Members.{at_map, into_map}
+use Rattle.dia_policy.specs.declared.Unknown.{Unknown}
+use Rattle.dia_policy.specs.declared.Sends.{Sends}
+use Rattle.dia_policy.specs.declared.Sends.TheVariants.{Any}
+use Rattle.dia_check.specs.Valid.{is_listed, known}
+use Rattle.dia_rules.specs.Rules.{rules_in}
+use Rattle.dia_rules.proofs.Members.{IsIn, all_of, in_at, in_contains, some_of}
+use Rattle.dia_breaking_sites.specs.Sent.{IsSentLevel, IsSentWithin}
+use Rattle.dia_breaking_sites.specs.Sites.{FitsAlone}
+use Rattle.dia_breaking_sites.specs.Selection.{max_body}
+use Rattle.dia_breaking_sites.proofs.Members.{in_all}
+use Rattle.dia_breaking_data.specs.Shortest.{witness_bytes}
+use Rattle.dia_breaking_avps.specs.declared.breaking.DataBreak.{DataBreak}
+use Rattle.dia_breaking_avps.specs.declared.breaking.DataBreak.TheVariants.{Fits, Groups, Data, LeastLevel, Undecided}
+use Rattle.dia_breaking_avps.specs.declared.breaking.HeadBreak.{HeadBreak}
+use Rattle.dia_breaking_avps.specs.declared.breaking.HeadBreak.TheVariants as head_breaks
+use Rattle.dia_breaking_avps.specs.Breaks.{AcceptsFlags, IsDataBreak, IsHeadBreak}
+use Rattle.dia_breaking_avps.specs.Laws.{FitKeyAlone}
+use Rattle.dia_breaking_avps.specs.Sent.{IsSentData, group_of}
+use Rattle.dia_breaking_avps.proofs.Alone.{key_alone, keys_alone, of_data, sent_data, sent_flags}
+use Rattle.dia_breaking_avps.proofs.ShorterData.{shorter_accepted}
+use Rattle.dia_breaking_shortest.specs.Floors.{AreFloors, padded, shortest_head, total}
+use Rattle.dia_breaking_shortest.proofs.FloorsOfAvps.{rounded_more}
+use Rattle.dia_breaking_ways.specs.Walks.{IsWalk, PlainExits}
+use Rattle.dia_breaking_ways.specs.declared.graph.Step.{Step}
+use Rattle.dia_breaking_ways.specs.declared.graph.Reach.{Reach}
+use Rattle.dia_breaking.specs.declared.keys.Own.{Own}
+use Rattle.dia_breaking.specs.declared.line.Cause.{Cause}
+use Rattle.dia_breaking.specs.declared.line.Cause.TheVariants as causes
+use Rattle.dia_breaking.specs.declared.line.Line.{Line}
+use Rattle.dia_breaking.specs.declared.line.Site.{Site}
+use Rattle.dia_breaking.specs.declared.own_breaks.OwnBreaks.{OwnBreaks}
+use Rattle.dia_breaking.specs.declared.own_lines.Kind.{Kind}
+use Rattle.dia_breaking.specs.declared.own_lines.Kind.TheVariants as kinds
+use Rattle.dia_breaking.specs.Free.{IsFreeLevel, StandsIn}
+use Rattle.dia_breaking.specs.LevelCosts.{PicksShortest}
+use Rattle.dia_breaking.specs.Listing.{Told, data_length, head_cause, own_cause, own_lines, with_data}
+use Rattle.dia_breaking.specs.OwnBreaks.{IsOwnBreaks}
+use Rattle.dia_breaking.specs.OwnKeys.{own_key}
+use Rattle.dia_breaking.specs.SentKeys.{AreSentKeys, IsStrange}
+use Rattle.dia_breaking.specs.Telling.{AreGroups, BreaksNothing, IsDataTaken}
+use Rattle.dia_breaking.specs.TheLines.{AreFacts, Facts, costs_in}
+use Rattle.dia_breaking.specs.Sides.{sides}
+use Rattle.dia_breaking.proofs.SentPrices.{strange_least}
+use Rattle.dia_breaking.proofs.SentLevels.{data_beside, key_contained, sent_keys}
+use Rattle.dia_breaking.proofs.ReadLevels.{AtLevel, Reaches, def_of, graph, total_has, way_beside, way_of}
+use Rattle.dia_breaking.proofs.Reached.{Found, Kept, found, own_kept}
+use Rattle.dia_breaking.proofs.SentKeys.{sent_of}
+use Rattle.dia_breaking.proofs.Shortest.{unlisted}
+use Rattle.dia_breaking.proofs.Tellings.{strange_alone}
+use Rattle.dia_breaking.proofs.ToldLines.{IsToldIn, own_told, subject_key}
+
+-- what breaks nothing fits alone
+nothing_breaks : (da db : Dictionary) (who : Sends) (u : Unknown) (key : Key) → BreaksNothing da db who u key → FitKeyAlone da db who u key
+nothing_breaks da db who u key (flags, how) = by how
+  where
+    by : AreGroups da db key ⊎ IsDataTaken da db who u key → FitKeyAlone da db who u key
+    by (inl both) =
+        let x = some_of (group_of da key) both.0 in
+        let y = some_of (group_of db key) both.1 in
+        let a = def_of da key x.0 x.1 in
+        let b = def_of db key y.0 y.1 in
+        key_alone da db who u key None (Groups a.0 b.0) flags ((x.0, x.1, a.1), (y.0, y.1, b.1)) (refl, tt)
+    by (inr taken) = key_alone da db who u key None Fits flags taken.0 (refl, tt)
+
+-- the kinds that lines tell
+abbrev pub IsOfLines : Kind → Type 0
+IsOfLines kinds.Unknown = ⊤
+IsOfLines kinds.MBit = ⊤
+IsOfLines kinds.Data = ⊤
+IsOfLines kinds.Meaning = ⊥
+
+-- of an AVP that A doesn't know, and that is sent, any is
+sends_any : (d : Dictionary) (who : Sends) (key : Key) (bytes : List ℕ) → entry_of d key ≡ None → IsSentData d who key bytes → who ≡ Any
+sends_any d who key bytes none sent =
+    subst (λ (o : Option DictEntry). MatchOption o (who ≡ Any) (λ e. MatchOption e.group (IsLeaf e.format bytes) (λ group. (n : ℕ) × IsSentLevel who (IsSentWithin d who n) group.rules bytes)))
+    (ap (λ (o : Option ℕ). option_and_then (λ i. slice_get d.entries i) o) none) sent
+
+module _ (da db : Dictionary) (who : Sends) (u : Unknown) (made : Facts) (facts : AreFacts (sides da db who u) made) (sa : IsDictionary da)
+    (shortest : PicksShortest da db (costs_in (sides da db who u) made)) (floors : AreFloors da who (costs_in (sides da db who u) made).listed) (start : PlainExits) (steps : List Step)
+    (reached : List (Option Reach)) (top under : PlainDefinition)
+    (walk : IsWalk (graph da db who u made.lengths made.others made.telling made.outlooks facts.is_telling facts.are_outlooks sa shortest floors start steps reached top under) steps reached)
+    (sites : List Site) (lines : List Line) (c first count : ℕ) (told : (kind : Kind) (t : Told) → IsOfLines kind → IsIn t (own_lines kind first count made.own reached) → IsToldIn lines t) where
+  abbrev floor : Key → ℕ
+  floor = (costs_in (sides da db who u) made).listed
+
+  abbrev KeptHere : Key → Type 0
+  KeptHere key = Kept da db who u made.lengths made.others made.telling made.outlooks facts.is_telling facts.are_outlooks key
+
+  abbrev FoundHere : Key → Type 0
+  FoundHere key = Found da db who u made.lengths made.others made.telling made.outlooks facts.is_telling facts.are_outlooks key
+
+  abbrev pub LevelHere : PlainDefinition → PlainDefinition → List PlainAvp → Type 0
+  LevelHere x y avps =
+      AtLevel da db who u made.lengths made.others made.telling made.outlooks facts.is_telling facts.are_outlooks sa shortest floors start steps reached top under x y avps
+
+  keys_sent : AreSentKeys da db who facts.is_telling.keys
+  keys_sent = sent_of da db who facts.is_telling.keys facts.is_telling.sent
+
+  -- how it breaks is kept beside
+  record KeptOwn (key : Key) (place : ℕ) : Type 0 where
+    one : OwnBreaks
+    at : slice_get made.own place ≡ Some one
+    is_key : one.key ≡ key
+    is : IsOwnBreaks (sides da db who u) floor one
+
+  kept_own : (key : Key) (p : KeptHere key) → KeptOwn key p.place
+  kept_own key p =
+      let (one, here, same) = at_map (λ (one : OwnBreaks). one.key) made.own p.place p.own.key
+      (subst (λ (xs : List Key). slice_get xs p.place ≡ Some p.own.key) (sym facts.are_own.keys) (into_map (λ (own : Own). own.key) made.telling.own.items p.place p.own p.is_own)) in
+      record { one = one; at = here; is_key = same ∙ p.own_key; is = all_of (IsOwnBreaks (sides da db who u) floor) made.own one facts.are_own.each (in_at made.own p.place one here) }
+
+  module _ (x y : PlainDefinition) (avps : List PlainAvp) (l : LevelHere x y avps) (free : IsFreeLevel da db u sites lines c x y avps) (v : PlainAvp) (comes : Contains avps v) where
+    abbrev key : Key
+    key = key_of v
+
+    sent : IsSentWithin da who l.level.sent.0 v
+    sent = in_all (IsSentWithin da who l.level.sent.0) avps v l.level.sent.1 (in_contains avps v comes)
+
+    alone : FitKeyAlone da db who u key → FitsAlone da db u v
+    alone fits = keys_alone da db who u x.rules (max_body - l.stage.way) avps v l.level comes fits
+
+    -- what is told of an AVP that is reached doesn't break here
+    refused : (q : Key) (place : ℕ) (o : KeptOwn q place) (reach : Reach) → slice_get reached place ≡ Some (Some reach) → StandsIn da db key q → (kind : Kind) → IsOfLines kind → (cause : Cause) (n : ℕ)
+        → own_cause kind o.one reach.length ≡ Some (cause, n) → n ≤ max_body → own_key cause ≡ Some o.one.key → FitsAlone da db u v
+    refused q place o reach at stands kind of cause n is room its =
+        let t = told kind _ of (own_told kind first count made.own reached place o.one reach cause n o.at at is room) in
+        free.own t.line q v t.inside (sym (subject_key t.line.cause) ∙ ap own_key t.cause ∙ its ∙ ap (λ (k : Key). Some k) o.is_key) comes stands
+
+    -- nor does its head
+    head_refused : (q : Key) (place : ℕ) (o : KeptOwn q place) (reach : Reach) → slice_get reached place ≡ Some (Some reach) → reach.length ≤ max_body → StandsIn da db key q
+        → (found : HeadBreak) → o.one.breaks.head ≡ Some found → FitsAlone da db u v
+    head_refused q place o reach at room stands (head_breaks.Unknown m) is =
+        refused q place o reach at stands kinds.Unknown tt (causes.Unknown o.one.key m) reach.length
+        (ap (λ (h : Option HeadBreak). option_map {U = Cause × ℕ} (λ (cause : Cause). (cause, reach.length)) (option_and_then (head_cause kinds.Unknown o.one.key) h)) is) room refl
+    head_refused q place o reach at room stands (head_breaks.MBit m) is =
+        refused q place o reach at stands kinds.MBit tt (causes.MBit o.one.key m) reach.length
+        (ap (λ (h : Option HeadBreak). option_map {U = Cause × ℕ} (λ (cause : Cause). (cause, reach.length)) (option_and_then (head_cause kinds.MBit o.one.key) h)) is) room refl
+
+    -- a message has room for what is reached from this level
+    within_room : (reach : Reach) → reach.length ≤ l.stage.way + total floor (map key_of avps) → reach.length ≤ max_body
+    within_room reach le =
+        let keep = sent_keys da db who u floor floors x.rules (max_body - l.stage.way) avps l.level in
+        let room = keep.1 in
+        let fits = l.within in
+        omega (arith, le, room, fits)
+
+    -- ---- its own key
+
+    module _ (p : KeptHere key) (o : KeptOwn key p.place) (reach : Reach) (at : slice_get reached p.place ≡ Some (Some reach)) (short : reach.length ≤ l.stage.way + total floor (map key_of avps))
+        (room : reach.length ≤ max_body) (silent : o.one.breaks.head ≡ None) where
+      flags : AcceptsFlags da db who u key
+      flags = subst (λ (k : Key). AcceptsFlags da db who u k) o.is_key (subst (λ (h : Option HeadBreak). IsHeadBreak da db who u o.one.key h) silent o.is.head)
+
+      breaks : (r : DataBreak) → o.one.breaks.data ≡ r → IsDataBreak da db who u key r
+      breaks r is = subst (λ (k : Key). IsDataBreak da db who u k r) o.is_key (subst (λ (d : DataBreak). IsDataBreak da db who u o.one.key d) is o.is.content)
+
+      by_data : (n : ℕ) → data_length o.one reach.length o.one.breaks.data ≡ Some n → n ≤ max_body → FitsAlone da db u v
+      by_data n is fits =
+          refused key p.place o reach at (inl refl) kinds.Data tt (causes.Format o.one.key None) n
+          (ap (λ (h : Option ℕ). option_map {U = Cause × ℕ} (λ (m : ℕ). (causes.Format o.one.key None, m)) h) is) fits refl
+
+      -- where a message has no room for the shortest data that break, those of this AVP are shorter
+      shorter : (least : List ℕ) → max_body < reach.length - o.one.least + padded (shortest_head o.one.key + length least) → length v.bytes < length least
+      shorter least over = by (cases_lt (length v.bytes) (length least))
+        where
+          by : (length v.bytes < length least) ⊎ (length least ≤ length v.bytes) → length v.bytes < length least
+          by (inl less) = less
+          by (inr le) =
+              let more = rounded_more (shortest_head key + length least) (shortest_head key + length v.bytes) (omega (arith, le)) in
+              let head : padded (shortest_head o.one.key + length least) ≡ padded (shortest_head key + length least) = ap (λ (k : Key). padded (shortest_head k + length least)) o.is_key in
+              let least_is : o.one.least ≡ floor key = o.is.least ∙ ap floor o.is_key in
+              let beside = data_beside da db who u floor floors x.rules (max_body - l.stage.way) avps v l.level comes in
+              let has = total_has floor (map key_of avps) key (in_contains (map key_of avps) key (key_contained avps v comes)) in
+              let fits = l.within in
+              absurd (omega (arith, over, more, head, least_is, beside, has, fits, short))
+
+      data_fits : (r : DataBreak) → o.one.breaks.data ≡ r → FitsAlone da db u v
+      data_fits Fits is = alone (key_alone da db who u key None Fits flags (breaks Fits is) (refl, tt))
+      data_fits (Groups a b) is = alone (key_alone da db who u key None (Groups a b) flags (breaks (Groups a b) is) (refl, tt))
+      data_fits LeastLevel is = by_data reach.length (ap (data_length o.one reach.length) is) room
+      data_fits Undecided is = by_data reach.length (ap (data_length o.one reach.length) is) room
+      data_fits (Data w) is = by (cases_lt max_body (with_data o.one reach.length w))
+        where
+          by : (max_body < with_data o.one reach.length w) ⊎ (with_data o.one reach.length w ≤ max_body) → FitsAlone da db u v
+          by (inr fits) = by_data (with_data o.one reach.length w) (ap (data_length o.one reach.length) is) fits
+          by (inl over) =
+              let h = breaks (Data w) is in
+              let less = shorter (witness_bytes w) (omega (arith, over)) in
+              of_data da db u v (known db key) (flags v.flags (sent_flags da who l.level.sent.0 v sent))
+              (shorter_accepted da db who u key (witness_bytes w) v.bytes h.0 h.1 (sent_data da who l.level.sent.0 v sent) less)
+
+    own_fits : (p : KeptHere key) → FitsAlone da db u v
+    own_fits p = by o.one.breaks.head refl
+      where
+        o : KeptOwn key p.place
+        o = kept_own key p
+
+        w : Reaches da db who u made.lengths made.others made.telling made.outlooks facts.is_telling facts.are_outlooks sa shortest floors start steps reached top under walk x y avps l p.place
+        w = way_of da db who u made.lengths made.others made.telling made.outlooks facts.is_telling facts.are_outlooks sa shortest floors start steps reached top under walk x y avps l v comes p
+
+        by : (h : Option HeadBreak) → o.one.breaks.head ≡ h → FitsAlone da db u v
+        by None is = data_fits p o w.0 w.1 w.2 (within_room w.0 w.2) is o.one.breaks.data refl
+        by (Some found) is = head_refused key p.place o w.0 w.1 (within_room w.0 w.2) (inl refl) found is
+
+    by_found : FoundHere key → FitsAlone da db u v
+    by_found f = by f.own.breaks refl
+      where
+        by : (b : Bool) → f.own.breaks ≡ b → FitsAlone da db u v
+        by true e = own_fits (own_kept da db who u made.lengths made.others made.telling made.outlooks facts.is_telling facts.are_outlooks key f e)
+        by false e = alone (nothing_breaks da db who u key (subst (λ (k : Key). BreaksNothing da db who u k) f.own_key (f.exact.silent.0 e)))
+
+    -- ---- a key that neither knows: another stands for it
+
+    module _ (none_a : entry_of da key ≡ None) (none_b : entry_of db key ≡ None) (q : Key) (strange : IsStrange da db q) (vendor : q.vendor ≡ 0) where
+      not_listed : (k : Key) → entry_of da k ≡ None → is_listed x.rules k ≡ false
+      not_listed k none =
+          let rules : rules_in da l.def ≡ x.rules = ap (λ (o : Option PlainDefinition). option_map_or (λ (y : PlainDefinition). y.rules) o []) l.at_def in
+          subst (λ (rs : List DRule). is_listed rs k ≡ false) rules (unlisted da l.def k sa none)
+
+      by_flags : AcceptsFlags da db who u q → FitsAlone da db u v
+      by_flags accepts = alone (strange_alone da db who u q key strange (none_a, none_b) accepts)
+
+      stranger_fits : KeptHere q → FitsAlone da db u v
+      stranger_fits p = by o.one.breaks.head refl
+        where
+          o : KeptOwn q p.place
+          o = kept_own q p
+
+          w : Reaches da db who u made.lengths made.others made.telling made.outlooks facts.is_telling facts.are_outlooks sa shortest floors start steps reached top under walk x y avps l p.place
+          w = way_beside da db who u made.lengths made.others made.telling made.outlooks facts.is_telling facts.are_outlooks sa shortest floors start steps reached top under walk x y avps l v comes
+              (not_listed key none_a) q p (not_listed q strange.0) (strange_least da who made.lengths q key strange.0 vendor none_a)
+
+          by : (h : Option HeadBreak) → o.one.breaks.head ≡ h → FitsAlone da db u v
+          by None is = by_flags (subst (λ (k : Key). AcceptsFlags da db who u k) o.is_key (subst (λ (h : Option HeadBreak). IsHeadBreak da db who u o.one.key h) is o.is.head))
+          by (Some found) is = head_refused q p.place o w.0 w.1 (within_room w.0 w.2) (inr (strange, (none_a, none_b))) found is
+
+      by_stranger : FoundHere q → FitsAlone da db u v
+      by_stranger f = by f.own.breaks refl
+        where
+          by : (b : Bool) → f.own.breaks ≡ b → FitsAlone da db u v
+          by true e = stranger_fits (own_kept da db who u made.lengths made.others made.telling made.outlooks facts.is_telling facts.are_outlooks q f e)
+          by false e = by_flags (subst (λ (k : Key). BreaksNothing da db who u k) f.own_key (f.exact.silent.0 e)).0
+
+    -- ---- each
+
+    found_in : (q : Key) → Contains facts.is_telling.keys q → FoundHere q
+    found_in q there = found da db who u made.lengths made.others made.telling made.outlooks facts.is_telling facts.are_outlooks q there
+
+    pub each_fits : FitsAlone da db u v
+    each_fits = by (entry_of da key) refl (entry_of db key) refl
+      where
+        any : entry_of da key ≡ None → who ≡ Any
+        any none = sends_any da who key v.bytes none (sent_data da who l.level.sent.0 v sent)
+
+        by : (a : Option ℕ) → entry_of da key ≡ a → (b : Option ℕ) → entry_of db key ≡ b → FitsAlone da db u v
+        by (Some i) in_a b in_b = by_found (found_in key (keys_sent.own key (ap (λ (o : Option ℕ). is_some o) in_a)))
+        by None in_a (Some i) in_b = by_found (found_in key (keys_sent.others (any in_a) key (ap (λ (o : Option ℕ). is_some o) in_b)))
+        by None in_a None in_b =
+            let (q, there, strange, vendor) = keys_sent.strange (any in_a) in
+            by_stranger in_a in_b q strange vendor (found_in q there)

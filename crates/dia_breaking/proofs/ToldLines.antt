@@ -1,0 +1,165 @@
+-- What is told of a command is told by a line of its answer.
+use Rattle.std.proofs.Common.{◌≡◌, ℕ, zero, suc, ◌<◌, ◌≤◌, Bool, true, false, List, [], ◌∷◌, ◌++◌, length, map, Option, Some, None, refl, sym, ap, subst, ◌∙◌, arith, inl, inr}
+use Rattle.std.specs.Prelude.{◌⊎◌, ◌==◌, Contains, slice_get, option_and_then, option_to_list, if◌then◌else◌}
+use Rattle.std.specs.Option.{option_map_or}
+use Rattle.std.proofs.lemmas.Bool.{cases_order, eq-eqb, le-leb}
+use Rattle.std.proofs.lemmas.Option.{slice_get_within}
+use Rattle.dia_book.specs.Dictionary.{Dictionary}
+use Rattle.dia_book.proofs.Members.{at_map}
+use Rattle.dia_rules.proofs.Members.{IsIn, at_in, in_filter, in_left, in_right, into_filter}
+use Rattle.dia_breaking_sites.specs.Selection.{max_body}
+use Rattle.dia_breaking_ways.specs.declared.graph.Step.{Step}
+use Rattle.dia_breaking_ways.specs.declared.graph.Reach.{Reach}
+use Rattle.dia_breaking.specs.declared.line.Cause.{Cause}
+use Rattle.dia_breaking.specs.declared.line.Cause.TheVariants as causes
+use Rattle.dia_breaking.specs.declared.line.Line.{Line}
+use Rattle.dia_breaking.specs.declared.own_breaks.OwnBreaks.{OwnBreaks}
+use Rattle.dia_breaking.specs.declared.own_lines.Kind.{Kind}
+use Rattle.dia_breaking.specs.declared.own_lines.Kind.TheVariants as kinds
+use Rattle.dia_breaking.specs.Listing.{Told, Basis, AreInOrder, command_levels, group_levels, header_lines, lines_of, numbers, own_cause, own_line, own_lines, reach_at, reached_line, subject, tells, with_room}
+use Rattle.dia_breaking.specs.Orders.{IsInOrderOf, joined, of_each}
+use Rattle.dia_breaking.specs.OwnKeys.{own_key}
+use Rattle.dia_breaking.specs.Sites.{site_number}
+use Rattle.dia_breaking.proofs.Lists.{contains_at}
+
+-- ---- lists
+
+in_part : {Y : Type 0} (part : ℕ → List Y) (y : Y) (n i : ℕ) → i < n → IsIn y (part i) → IsIn y (joined part n)
+in_part part y zero i lt h = absurd (omega (arith, lt))
+in_part part y (suc n) i lt h = by (cases_order i n) (in_part part y n i)
+  where
+    by : (i ≡ n) ⊎ ((i < n) ⊎ (n < i)) → (i < n → IsIn y (part i) → IsIn y (joined part n)) → IsIn y (joined part n ++ part n)
+    by (inl e) more = in_right (joined part n) (part n) y (subst (λ (m : ℕ). IsIn y (part m)) e h)
+    by (inr (inl less)) more = in_left (joined part n) (part n) y (more less h)
+    by (inr (inr past)) more = absurd (omega (arith, past, lt))
+
+pub in_each : {X Y : Type 0} (f : ℕ → X → List Y) (xs : List X) (i : ℕ) (x : X) (y : Y) → slice_get xs i ≡ Some x → IsIn y (f i x) → IsIn y (of_each f xs)
+in_each {X} f xs i x y at h =
+    in_part (λ i. option_map_or (f i) (slice_get xs i) []) y (length xs) i (slice_get_within xs i x at) (subst (λ (o : Option X). IsIn y (option_map_or (f i) o [])) (sym at) h)
+
+pub in_sorted : {X : Type 0} (number : X → ℕ) (all sorted : List X) (x : X) → IsInOrderOf number all sorted → IsIn x all → IsIn x sorted
+in_sorted {X} number all sorted x order i =
+    let p : X → Bool = λ y. number y == number x in
+    let kept = into_filter p all x i (eq-eqb (number x) (number x) refl) in
+    (in_filter p sorted x (subst (λ (xs : List X). IsIn x xs) (sym (order.each (number x))) kept)).0
+
+-- ---- lines
+
+pub with_enough : (site size : ℕ) (cause : Cause) → size ≤ max_body → with_room site size cause ≡ Some (record { site = site; cause = cause; length = size })
+with_enough site size cause le = ap (λ (b : Bool). if b then Some (record { site = site; cause = cause; length = size }) else None) (le-leb size max_body le)
+
+-- a line tells this
+pub record IsToldIn (lines : List Line) (told : Told) : Type 0 where
+  pub line : Line
+  pub inside : Contains lines line
+  pub site : line.site ≡ told.site
+  pub cause : subject line.cause ≡ told.cause
+
+pub told_in : (lines : List Line) (told : Told) → IsIn told (map tells lines) → IsToldIn lines told
+told_in lines told i =
+    let a = at_in (map tells lines) told i in
+    let (line, at, same) = at_map tells lines a.place told a.at in
+    record { line = line; inside = contains_at lines a.place line at; site = ap (λ (t : Told). t.site) same; cause = ap (λ (t : Told). t.cause) same }
+
+abbrev is_data : Cause → Bool
+is_data (causes.Format key found) = true
+is_data (causes.LevelAsLeaf key) = true
+is_data cause = false
+
+-- but for data, what a line tells is its cause
+pub cause_is : (cause told : Cause) → subject cause ≡ told → is_data told ≡ false → cause ≡ told
+cause_is (causes.Format key found) told e none = absurd (let bad : true ≡ false = ap is_data e ∙ none in cc)
+cause_is (causes.LevelAsLeaf key) told e none = absurd (let bad : true ≡ false = ap is_data e ∙ none in cc)
+cause_is causes.Command told e none = e
+cause_is causes.Application told e none = e
+cause_is (causes.Proxiable set) told e none = e
+cause_is (causes.Level line) told e none = e
+cause_is (causes.Unknown key m) told e none = e
+cause_is (causes.MBit key m) told e none = e
+cause_is (causes.Meaning key) told e none = e
+
+-- the key stays
+pub subject_key : (cause : Cause) → own_key (subject cause) ≡ own_key cause
+subject_key (causes.Format key found) = refl
+subject_key (causes.LevelAsLeaf key) = refl
+subject_key causes.Command = refl
+subject_key causes.Application = refl
+subject_key (causes.Proxiable set) = refl
+subject_key (causes.Level line) = refl
+subject_key (causes.Unknown key m) = refl
+subject_key (causes.MBit key m) = refl
+subject_key (causes.Meaning key) = refl
+
+-- ---- AVPs by themselves
+
+-- what is reached of an AVP is told, if a message has room for it
+pub own_told : (kind : Kind) (first count : ℕ) (owns : List OwnBreaks) (reached : List (Option Reach)) (place : ℕ) (one : OwnBreaks) (reach : Reach) (cause : Cause) (n : ℕ)
+    → slice_get owns place ≡ Some one → slice_get reached place ≡ Some (Some reach) → own_cause kind one reach.length ≡ Some (cause, n) → n ≤ max_body
+    → IsIn (record { site = site_number first count reach.level; cause = cause; length = n }) (own_lines kind first count owns reached)
+own_told kind first count owns reached place one reach cause n here at is room =
+    in_each (reached_line kind first count reached) owns place one line here (subst (λ (xs : List Told). IsIn line xs) (sym part) (inl refl))
+  where
+    site : ℕ
+    site = site_number first count reach.level
+
+    line : Told
+    line = record { site = site; cause = cause; length = n }
+
+    made : own_line kind first count one reach ≡ Some line
+    made = ap (λ (o : Option (Cause × ℕ)). option_and_then (λ (found : Cause × ℕ). with_room site found.1 found.0) o) is ∙ with_enough site n cause room
+
+    there : reach_at reached place ≡ Some reach
+    there = ap (λ (o : Option (Option Reach)). option_and_then (λ (r : Option Reach). r) o) at
+
+    part : reached_line kind first count reached place one ≡ line ∷ []
+    part = ap (λ (o : Option Reach). option_to_list (option_and_then (own_line kind first count one) o)) there ∙ ap (λ (o : Option Told). option_to_list o) made
+
+-- ---- the parts of a listing
+
+module _ (db : Dictionary) (basis : Basis) (first count : ℕ) (steps : List Step) (reached : List (Option Reach)) where
+  abbrev heads : List Told
+  heads = of_each (header_lines db basis.head basis.base) basis.readings
+
+  abbrev own_levels : List Told
+  own_levels = of_each command_levels basis.levels
+
+  abbrev inner_levels : List Told
+  inner_levels = of_each (group_levels count basis.groups) steps
+
+  abbrev by : Kind → List Told
+  by kind = own_lines kind first count basis.own reached
+
+  abbrev pub AllTold : Told → Type 0
+  AllTold told = IsIn told (lines_of db basis (numbers first count) steps reached)
+
+  from_four : (told : Told) → IsIn told (((heads ++ own_levels) ++ inner_levels) ++ by kinds.Unknown) → AllTold told
+  from_four told i =
+      in_left ((((heads ++ own_levels) ++ inner_levels) ++ by kinds.Unknown) ++ by kinds.MBit) (by kinds.Data) told
+      (in_left (((heads ++ own_levels) ++ inner_levels) ++ by kinds.Unknown) (by kinds.MBit) told i)
+
+  from_two : (told : Told) → IsIn told (heads ++ own_levels) → AllTold told
+  from_two told i = from_four told (in_left ((heads ++ own_levels) ++ inner_levels) (by kinds.Unknown) told (in_left (heads ++ own_levels) inner_levels told i))
+
+  pub from_heads : (told : Told) → IsIn told heads → AllTold told
+  from_heads told i = from_two told (in_left heads own_levels told i)
+
+  pub from_levels : (told : Told) → IsIn told own_levels → AllTold told
+  from_levels told i = from_two told (in_right heads own_levels told i)
+
+  pub from_groups : (told : Told) → IsIn told inner_levels → AllTold told
+  from_groups told i = from_four told (in_left ((heads ++ own_levels) ++ inner_levels) (by kinds.Unknown) told (in_right (heads ++ own_levels) inner_levels told i))
+
+  pub from_unknown : (told : Told) → IsIn told (by kinds.Unknown) → AllTold told
+  from_unknown told i = from_four told (in_right ((heads ++ own_levels) ++ inner_levels) (by kinds.Unknown) told i)
+
+  pub from_flags : (told : Told) → IsIn told (by kinds.MBit) → AllTold told
+  from_flags told i =
+      in_left ((((heads ++ own_levels) ++ inner_levels) ++ by kinds.Unknown) ++ by kinds.MBit) (by kinds.Data) told
+      (in_right (((heads ++ own_levels) ++ inner_levels) ++ by kinds.Unknown) (by kinds.MBit) told i)
+
+  pub from_data : (told : Told) → IsIn told (by kinds.Data) → AllTold told
+  from_data told i = in_right ((((heads ++ own_levels) ++ inner_levels) ++ by kinds.Unknown) ++ by kinds.MBit) (by kinds.Data) told i
+
+  -- a line tells each
+  pub told_of : (lines : List Line) → AreInOrder (lines_of db basis (numbers first count) steps reached) (map tells lines) → (told : Told) → AllTold told → IsToldIn lines told
+  told_of lines order told i = told_in lines told (in_sorted (λ (line : Told). line.site) (lines_of db basis (numbers first count) steps reached) (map tells lines) told order i)
