@@ -1,8 +1,6 @@
 //! What is told of a table that is refused.
 
-ghost use Rattle.std.specs.Prelude.{◌≡◌, ℕ, List, IfSome, OnOk, string_bytes};
-ghost use Rattle.dia_explain_places.specs.Places.{line_at};
-ghost use Rattle.dia_explain_places.specs.Words.{AreOnLine};
+ghost use Rattle.std.specs.Prelude.{OnOk, string_bytes};
 ghost use Rattle.dia_explain_inputs.specs.Beginnings.{TableBegins, LineBegins};
 
 use crate::hints::{Sight, hint_of};
@@ -10,7 +8,7 @@ use crate::kinds::kind_of;
 use crate::notes::{Added, push_not_text, push_noted, push_whole};
 use dia_compat::{MAX_NAME, MAX_PAIRS, MAX_TABLE, Table};
 use dia_explain_places::{
-    InputTexts, NamedText, PairWords, Word, back, push_shown, start_of_line, words_of,
+    InputTexts, NamedText, PairPart, Word, back, push_shown, start_of_line, words_of,
 };
 use dia_report::BadTable;
 use std::alloc::{AllocError, Global};
@@ -41,7 +39,9 @@ fn push_syntax(alloc: Global, out: &mut String, table: &NamedText<'_>, line: u32
         (string_bytes out.old) (string_bytes out.new)) }
 {
     let words = words_of(table.text, start_of_line(table.text, line));
-    let ((place, wanted), word) = first_wrong(&words);
+    let part = words.wrong_part();
+    let word = words.part(part);
+    let (place, wanted) = slot_of(part);
     let told = found(alloc, &word, wanted)?;
     let hint = hint_of(&[place], &sight_of(table.text, &word));
     push_noted(out, table, word.at, told.as_str(), hint)
@@ -62,21 +62,17 @@ fn found(alloc: Global, word: &Word<'_>, wanted: &str) -> Result<String, AllocEr
     Ok(told)
 }
 
-fn first_wrong<'a>(words: &PairWords<'a>) -> (Slot, Word<'a>)
-    ensures { (text : List ℕ) (n : ℕ) → AreOnLine text n words.now → line_at text result.1.at ≡ n }
-{
-    let kind = words.kind.text;
-    if kind != b"command".as_slice() && kind != b"avp".as_slice() {
-        let wanted = "command or avp: a line is command A = B, or avp A = B";
-        (("pair", wanted), words.kind)
-    } else if !words.first.is_name() {
-        (("name", "a name of the first dictionary"), words.first)
-    } else if words.sign.text != b"=".as_slice() {
-        (("sign", "= between the two names"), words.sign)
-    } else if !words.second.is_name() {
-        (("name", "a name of the second dictionary"), words.second)
-    } else {
-        (("behind", "the end of the line"), words.more)
+/// The place of a part, and what can stand there.
+fn slot_of(part: PairPart) -> Slot {
+    match part {
+        PairPart::Kind => (
+            "pair",
+            "command or avp: a line is command A = B, or avp A = B",
+        ),
+        PairPart::First => ("name", "a name of the first dictionary"),
+        PairPart::Sign => ("sign", "= between the two names"),
+        PairPart::Second => ("name", "a name of the second dictionary"),
+        PairPart::Behind => ("behind", "the end of the line"),
     }
 }
 
@@ -102,24 +98,26 @@ fn push_limit(alloc: Global, out: &mut String, table: &NamedText<'_>, line: u32)
         (string_bytes out.old) (string_bytes out.new)) }
 {
     let words = words_of(table.text, start_of_line(table.text, line));
-    if let Some(long) = long_name(&words) {
-        let told = format!(in alloc; "the name has more than {MAX_NAME} bytes")?;
-        return push_noted(out, table, long.at, told.as_str(), None);
-    }
-    let told = format!(in alloc; "this pair is one too many: a table has at most {MAX_PAIRS}")?;
-    let hint =
-        "leave out the pairs of what the listed commands don't reach; propose writes the least table";
-    push_noted(out, table, words.kind.at, told.as_str(), Some(hint))
+    let part = words.limit_part();
+    let word = words.part(part);
+    let told = limit_told(alloc, part)?;
+    push_noted(out, table, word.at, told.as_str(), limit_hint(part))
 }
 
-/// The first name that is too long.
-fn long_name<'a>(words: &PairWords<'a>) -> Option<Word<'a>>
-    ensures { (text : List ℕ) (n : ℕ) → AreOnLine text n words.now → IfSome result (λ word. line_at text word.at ≡ n) }
-{
-    if words.first.text.len() > MAX_NAME {
-        Some(words.first)
-    } else if words.second.text.len() > MAX_NAME {
-        Some(words.second)
+/// What is told of a line that passes a limit by this part.
+fn limit_told(alloc: Global, part: PairPart) -> Result<String, AllocError> {
+    if part == PairPart::Kind {
+        format!(in alloc; "this pair is one too many: a table has at most {MAX_PAIRS}")
+    } else {
+        format!(in alloc; "the name has more than {MAX_NAME} bytes")
+    }
+}
+
+fn limit_hint(part: PairPart) -> Option<&'static str> {
+    if part == PairPart::Kind {
+        Some(
+            "leave out the pairs of what the listed commands don't reach; propose writes the least table",
+        )
     } else {
         None
     }

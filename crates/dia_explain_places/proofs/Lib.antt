@@ -1,1 +1,2 @@
 pub mod SameLine
+pub mod TableWords

@@ -1,3 +1,5 @@
 pub mod Places
 pub mod Parts
 pub mod Words
+pub mod Tables
+pub mod Expecting

@@ -5,6 +5,7 @@
 #![tactic(auto)]
 
 mod digits;
+mod expecting;
 mod input_texts;
 mod lines;
 mod nearest;
@@ -12,8 +13,10 @@ mod padding;
 mod place;
 mod runs;
 mod sites;
+mod tables;
 
 pub use digits::{count_digits, place_of_byte};
+pub use expecting::{expected, formats};
 pub use input_texts::{InputTexts, NamedText};
 pub use lines::{PairWords, Word, start_of_line, words_of};
 pub use nearest::{nearest_command, nearest_name};
@@ -23,3 +26,4 @@ pub use place::{
 };
 pub use runs::{front_of_run, is_white};
 pub use sites::{DefSite, Sites, name_from, part_place, sites_of};
+pub use tables::{PairPart, limit_place, syntax_place};

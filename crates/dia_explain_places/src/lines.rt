@@ -1,10 +1,13 @@
 //! The lines of a table, and their words with their places.
 
 ghost use Rattle.std.specs.Prelude.{◌≡◌, ◌<◌, ◌≤◌, ◌+◌, ◌^◌, ℕ, List, length};
-ghost use Rattle.std.specs.List.{prefix_len};
-ghost use Rattle.std.specs.Prelude.{not, ◌==◌};
+ghost use Rattle.std.specs.List.{prefix_len, take_while};
+ghost use Rattle.std.specs.Prelude.{not, ◌-◌, ◌==◌, slice_get};
 ghost use Rattle.dia_explain_places.specs.Places.{line_at};
+ghost use Rattle.dia_explain_places.specs.Tables.{is_blank, is_word_byte, line_from, plain_word, plain_words};
+ghost use Rattle.dia_explain_places.specs.Tables.{start_of_line, unreturned, word_from, words_from};
 ghost use Rattle.dia_explain_places.specs.Words.{AreOnLine, IsOnLine};
+ghost use Rattle.dia_terms.specs.Names.{is_name_run};
 
 use crate::place::{back, front};
 use crate::runs::is_name_run;
@@ -32,14 +35,18 @@ impl Word<'_> {
         self.text.is_empty()
     }
 
-    /// Whether the word is a name.
-    pub fn is_name(&self) -> bool {
+    /// Whether the word is a name, of any length.
+    pub fn is_name(&self) -> bool
+        ensures { result ≡ is_name_run self.now.text.now }
+    {
         is_name_run(self.text)
     }
 
     /// The place behind the word.
     fn end(&self) -> usize
-        ensures { (text : List ℕ) (n : ℕ) → IsOnLine text n self.now → line_at text result ≡ n }
+        ensures on_line { (text : List ℕ) (n : ℕ) → IsOnLine text n self.now → line_at text result ≡ n }
+        ensures place { (text : List ℕ) (n : ℕ) → IsOnLine text n self.now
+            → result ≡ self.now.at + length self.now.text.now }
     {
         self.at.saturating_add(self.text.len())
     }
@@ -47,7 +54,8 @@ impl Word<'_> {
 
 /// The words of the line that begins at a place.
 pub fn words_of(text: &[u8], start: usize) -> PairWords<'_>
-    ensures { AreOnLine text.entry.now (line_at text.entry.now start) result }
+    ensures on_line { AreOnLine text.entry.now (line_at text.entry.now start) result }
+    ensures words { plain_words result ≡ words_from text.entry.now start }
 {
     let kind = next_word(text, start);
     let first = next_word(text, kind.end());
@@ -65,7 +73,8 @@ pub fn words_of(text: &[u8], start: usize) -> PairWords<'_>
 
 /// The first word of a line from a place on. Spaces and tabs separate words, and a semicolon ends the line.
 fn next_word(text: &[u8], from: usize) -> Word<'_>
-    ensures { IsOnLine text.entry.now (line_at text.entry.now from) result }
+    ensures on_line { IsOnLine text.entry.now (line_at text.entry.now from) result }
+    ensures word { plain_word result ≡ word_from text.entry.now from }
 {
     let line = line_from(text, from);
     let blanks = blanks_before(line);
@@ -77,27 +86,41 @@ fn next_word(text: &[u8], from: usize) -> Word<'_>
 }
 
 fn blanks_before(line: &[u8]) -> usize
-    ensures { result ≤ length line.now }
+    ensures count { result ≡ prefix_len is_blank line.now }
+    ensures within { result ≤ length line.now }
 {
     line.iter().take_while(|byte| is_blank(**byte)).count()
 }
 
 fn front_word(rest: &[u8]) -> &[u8]
-    ensures { length result.now ≤ length rest.entry.now }
+    ensures word { result.now ≡ take_while is_word_byte rest.entry.now }
+    ensures within { length result.now ≤ length rest.entry.now }
 {
-    let length = rest
-        .iter()
-        .take_while(|byte| !is_blank(**byte) && **byte != b';')
-        .count();
-    rest.get(..length).unwrap_or(rest)
+    front(rest, word_length(rest))
 }
 
-fn is_blank(byte: u8) -> bool {
+/// How many bytes of a word stand at the front.
+fn word_length(rest: &[u8]) -> usize
+    ensures { result ≡ prefix_len is_word_byte rest.now }
+{
+    rest.iter().take_while(|byte| is_word_byte(**byte)).count()
+}
+
+fn is_blank(byte: u8) -> bool
+    ensures { result ≡ is_blank byte }
+{
     byte == b' ' || byte == b'\t'
+}
+
+fn is_word_byte(byte: u8) -> bool
+    ensures { result ≡ is_word_byte byte }
+{
+    !(is_blank(byte) || byte == b';')
 }
 
 /// What stands on a line from a place on, without the end of the line.
 fn line_from(text: &[u8], from: usize) -> &[u8]
+    ensures line { result.now ≡ line_from text.entry.now from }
     ensures within { from + length result.now < 2 ^ 64 }
     ensures on_line { (k : ℕ) → k ≤ length result.now → line_at text.entry.now (from + k) ≡ line_at text.entry.now from }
 {
@@ -109,7 +132,9 @@ fn line_from(text: &[u8], from: usize) -> &[u8]
 
 /// A line without the carriage return at its end.
 fn without_return(line: &[u8]) -> &[u8]
-    ensures { length result.now ≤ length line.entry.now }
+    ensures line { result.now ≡ unreturned line.entry.now
+        (slice_get line.entry.now (length line.entry.now - 1)) }
+    ensures within { length result.now ≤ length line.entry.now }
 {
     match line {
         [front @ .., b'\r'] => front,
@@ -129,6 +154,7 @@ pub fn start_of_line(text: &[u8], number: u32) -> usize
     ensures line { result < length text.now → line_at text.now result ≡ number }
     ensures there { (k : ℕ) → k ≤ length text.now → line_at text.now k ≡ number → line_at text.now result ≡ number }
     ensures first { (k : ℕ) → k < result → ¬ (line_at text.now k ≡ number) }
+    ensures start { result ≡ start_of_line text.now number }
 {
     let wanted = number as usize;
     let mut line = 1usize;

@@ -1,9 +1,8 @@
-//! What can stand at a place, in the words of the grammar.
+//! What can stand at a place, as it is told, and how hints name the place.
 
-use dia_ccf::{InDeclaration, InDefinition, InHead, InRules, RuleKind, Wanted};
-
-/// A place, as hints name it, and what can stand there. Behind `a data format: ` the words of all formats are told.
-pub type Place = (&'static str, &'static str);
+use crate::notes::Added;
+use dia_ccf::{InDeclaration, InDefinition, InHead, InRules, Wanted};
+use dia_explain_places::{expected, formats};
 
 /// Which number can stand at a place where other tokens can, too.
 pub fn number_at(wanted: Wanted) -> Option<&'static str> {
@@ -21,12 +20,45 @@ pub fn number_at(wanted: Wanted) -> Option<&'static str> {
     }
 }
 
-pub fn place_of(wanted: Wanted) -> Place {
+/// Adds what can stand at a place.
+pub fn push_expected(out: &mut String, wanted: Wanted) -> Added {
+    let items = expected(wanted);
     match wanted {
-        Wanted::Item => (
-            "Item",
-            "%avp, the name of a definition, or the end of the text",
-        ),
+        Wanted::Declaration(InDeclaration::VendorOrFormat) => {
+            out.push_str("vendor, or a data format: ")?;
+            push_items(out, formats(), " or ")
+        }
+        Wanted::Declaration(InDeclaration::Format) => {
+            out.push_str("a data format: ")?;
+            push_items(out, items, " or ")
+        }
+        Wanted::Declaration(InDeclaration::MRule { .. }) => {
+            out.push_str("the rule of the M flag: ")?;
+            push_items(out, items, " or ")
+        }
+        _ => push_items(out, items, ", or "),
+    }
+}
+
+/// Adds items, with this in front of the last of several.
+fn push_items(out: &mut String, items: &[&str], last: &str) -> Added {
+    for (index, item) in items.iter().enumerate() {
+        out.push_str(if index == 0 {
+            ""
+        } else if index == items.len().saturating_sub(1) {
+            last
+        } else {
+            ", "
+        })?;
+        out.push_str(item)?;
+    }
+    Ok(())
+}
+
+/// A place, as hints name it.
+pub fn place_of(wanted: Wanted) -> &'static str {
+    match wanted {
+        Wanted::Item => "Item",
         Wanted::Declaration(place) => place_of_declaration(place),
         Wanted::Definition(place) => place_of_definition(place),
         Wanted::Head(place) => place_of_head(place),
@@ -34,105 +66,55 @@ pub fn place_of(wanted: Wanted) -> Place {
     }
 }
 
-fn place_of_declaration(place: InDeclaration) -> Place {
+fn place_of_declaration(place: InDeclaration) -> &'static str {
     match place {
-        InDeclaration::Name => ("Name", "the name of an AVP"),
-        InDeclaration::Code => ("Code", "the AVP code, a number below 2^32"),
-        InDeclaration::VendorOrFormat => ("VendorOrFormat", "vendor, or a data format: "),
-        InDeclaration::Format => ("Format", "a data format: "),
-        InDeclaration::Vendor => ("Vendor", "the vendor's number, below 2^32"),
-        InDeclaration::MRule { .. } => ("MRule", "the rule of the M flag: must, mustnot or any"),
-        InDeclaration::ValuesOrItem => (
-            "Values",
-            "( and a list of values, %avp, the name of a definition, or the end of the text",
-        ),
-        InDeclaration::FirstValue => ("Value", "a value below 2^31"),
-        InDeclaration::DotsOrValue { .. } => {
-            ("Value", ".. and the end of a range, the next value, or )")
-        }
-        InDeclaration::High { .. } => (
-            "High",
-            "the end of the range: no less than its start, and below 2^31",
-        ),
-        InDeclaration::NextValue => ("Value", "the next value, below 2^31, or )"),
+        InDeclaration::Name => "Name",
+        InDeclaration::Code => "Code",
+        InDeclaration::VendorOrFormat => "VendorOrFormat",
+        InDeclaration::Format => "Format",
+        InDeclaration::Vendor => "Vendor",
+        InDeclaration::MRule { .. } => "MRule",
+        InDeclaration::ValuesOrItem => "Values",
+        InDeclaration::FirstValue | InDeclaration::DotsOrValue { .. } | InDeclaration::NextValue =>
+            "Value",
+        InDeclaration::High { .. } => "High",
     }
 }
 
-fn place_of_definition(place: InDefinition) -> Place {
+fn place_of_definition(place: InDefinition) -> &'static str {
     match place {
-        InDefinition::Name => ("", "the name of a definition"),
-        InDefinition::Close => ("Close", "> behind the name"),
-        InDefinition::Assign => ("Assign", "::= behind the name of a definition"),
-        InDefinition::Head => ("Beginning", "< Diameter Header: .. > or < AVP Header: .. >"),
+        InDefinition::Name => "",
+        InDefinition::Close => "Close",
+        InDefinition::Assign => "Assign",
+        InDefinition::Head => "Beginning",
     }
 }
 
-fn place_of_head(place: InHead) -> Place {
+fn place_of_head(place: InHead) -> &'static str {
     match place {
-        InHead::Word => (
-            "",
-            "Diameter Header for a command, or AVP Header for a group",
-        ),
-        InHead::Header { .. } => ("", "Header"),
-        InHead::Colon { .. } => ("", ": behind Header"),
-        InHead::CommandCode => {
-            (
-                "CommandCode",
-                "the Command Code, a number below 2^24, or code",
-            )
-        }
-        InHead::Flags {
-            request,
-            pxy,
-            comma,
-        } => ("HeadFlags", flags_at(request, pxy, comma)),
-        InHead::ErrorWord { .. } => ("HeadError", "ERR behind code"),
-        InHead::ErrorProxy { comma: false } => ("", "PXY, [, PXY], or >"),
-        InHead::ErrorProxy { comma: true } | InHead::ErrorEither { .. } => ("", "PXY"),
-        InHead::EitherClose => ("", "]"),
-        InHead::GroupCode => ("GroupCode", "the AVP code, a number below 2^32"),
-        InHead::Vendor { comma: false } => ("HeadVendor", "the vendor's number, or >"),
-        InHead::Vendor { comma: true } => ("HeadVendor", "the vendor's number, below 2^32"),
-        InHead::Close => ("HeadClose", "> at the end of the header"),
+        InHead::CommandCode => "CommandCode",
+        InHead::Flags { .. } => "HeadFlags",
+        InHead::ErrorWord { .. } => "HeadError",
+        InHead::GroupCode => "GroupCode",
+        InHead::Vendor { .. } => "HeadVendor",
+        InHead::Close => "HeadClose",
+        InHead::Word
+        | InHead::Header { .. }
+        | InHead::Colon { .. }
+        | InHead::ErrorProxy { .. }
+        | InHead::ErrorEither { .. }
+        | InHead::EitherClose => "",
     }
 }
 
-/// What can stand behind the Command Code and some flags.
-fn flags_at(request: bool, pxy: bool, comma: bool) -> &'static str {
-    match (request, pxy, comma) {
-        (_, true, false) => "the Application-ID, or >",
-        (_, true, true) => "the Application-ID, a number below 2^32",
-        (true, false, false) => "PXY, the Application-ID, or >",
-        (true, false, true) => "PXY or the Application-ID, a number below 2^32",
-        (false, false, false) => "REQ, PXY, the Application-ID, or >",
-        (false, false, true) => "REQ, PXY or the Application-ID, a number below 2^32",
-    }
-}
-
-fn place_of_rules(place: InRules) -> Place {
+fn place_of_rules(place: InRules) -> &'static str {
     match place {
-        InRules::Rule { .. } | InRules::Angled { only_fixed: true } => (
-            "Rule",
-            "a rule, as { X }, [ X ] or *3 [ X ], the next definition, %avp, or the end of the text",
-        ),
-        InRules::Angled { only_fixed: false } => (
-            "Late",
-            "::=, since behind { X } and [ X ] a name in angle brackets begins a definition",
-        ),
-        InRules::Star { .. } => ("Star", "* behind the least count, as in 1*3 { X }"),
-        InRules::Greatest { only_fixed: true } => ("Counted", "a greatest count, or <, { or ["),
-        InRules::Greatest { only_fixed: false } => ("Counted", "a greatest count, or { or ["),
-        InRules::Bracket { only_fixed: true } => ("Counted", "<, { or [ behind the counts"),
-        InRules::Bracket { only_fixed: false } => ("Counted", "{ or [ behind the counts"),
-        InRules::FixedName | InRules::AngledName { only_fixed: true } => {
-            ("Fixed", "the name of an AVP")
-        }
-        InRules::AngledName { only_fixed: false } => ("Late", "the name of a definition"),
-        InRules::FixedClose | InRules::AngledClose { .. } => ("Close", "> behind the name"),
-        InRules::LooseName { .. } => ("", "the name of an AVP, or AVP for any other"),
-        InRules::LooseClose {
-            kind: RuleKind::Optional,
-        } => ("Close", "] behind the name"),
-        InRules::LooseClose { .. } => ("Close", "} behind the name"),
+        InRules::Rule { .. } | InRules::Angled { only_fixed: true } => "Rule",
+        InRules::Angled { only_fixed: false } | InRules::AngledName { only_fixed: false } => "Late",
+        InRules::Star { .. } => "Star",
+        InRules::Greatest { .. } | InRules::Bracket { .. } => "Counted",
+        InRules::FixedName | InRules::AngledName { only_fixed: true } => "Fixed",
+        InRules::FixedClose | InRules::AngledClose { .. } | InRules::LooseClose { .. } => "Close",
+        InRules::LooseName { .. } => "",
     }
 }

@@ -1,7 +1,6 @@
 //! A text that is refused, and the tokens round the place where it is.
 
-use crate::dictionary::expecting::{number_at, place_of};
-use crate::dictionary::formats::push_formats;
+use crate::dictionary::expecting::{number_at, place_of, push_expected};
 use crate::hints::Sight;
 use crate::kinds::kind_of_byte;
 use crate::notes::Added;
@@ -32,11 +31,10 @@ fn token_at(text: &str, at: Option<usize>) -> Option<Lexeme> {
 
 impl<'a> Scene<'a> {
     pub fn new(text: &'a str, misfit: &'a Misfit) -> Self {
-        let (place, _) = place_of(misfit.wanted);
         Scene {
             text: text.as_bytes(),
             misfit,
-            place,
+            place: place_of(misfit.wanted),
             token: token_at(text, Some(misfit.at)),
             last: token_at(text, misfit.last),
             earlier: token_at(text, misfit.earlier),
@@ -79,8 +77,10 @@ impl<'a> Scene<'a> {
             CcfFault::Number { .. } => {
                 self.push_token(out)?;
                 out.push_str(" is out of range; expected ")?;
-                let (_, wanted) = place_of(self.misfit.wanted);
-                out.push_str(number_at(self.misfit.wanted).unwrap_or(wanted))
+                match number_at(self.misfit.wanted) {
+                    Some(number) => out.push_str(number),
+                    None => push_expected(out, self.misfit.wanted),
+                }
             }
             CcfFault::Syntax { .. } | CcfFault::NoMemory => {
                 let is_end = self.token.is_none();
@@ -90,7 +90,8 @@ impl<'a> Scene<'a> {
                     "found "
                 })?;
                 self.push_token(out)?;
-                self.push_expected(out)
+                out.push_str("; expected ")?;
+                push_expected(out, self.misfit.wanted)
             }
         }
     }
@@ -111,16 +112,6 @@ impl<'a> Scene<'a> {
         out.push('"')?;
         push_shown(alloc, out, rest.get(..length).unwrap_or(word))?;
         out.push('"')
-    }
-
-    /// Adds what can stand at the place.
-    fn push_expected(&self, out: &mut String) -> Added {
-        let (_, wanted) = place_of(self.misfit.wanted);
-        write!(out, "; expected {wanted}")?;
-        if self.wants_format() {
-            push_formats(out)?;
-        }
-        Ok(())
     }
 
     /// Whether a data format can stand at the place.

@@ -7,4 +7,4 @@ pub returns : goal.returns
 returns c =
     on_ok_weaker c.push_noted.result
     (line_begins c.args.table.now.name.now c.args.table.now.text.now (string_bytes c.args.out.now) (string_bytes c.push_noted.new.out) c.args.line c.start_of_line.result
-    c.first_wrong.result.1.at (c.first_wrong.ensures _ _ c.words_of-words.ensures) c.start_of_line.ensures.there) c.push_noted.ensures
+    c.part-word.result.at (c.part-word.ensures.on_line _ _ c.words_of-words.ensures.on_line) c.start_of_line.ensures.there) c.push_noted.ensures

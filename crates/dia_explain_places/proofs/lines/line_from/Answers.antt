@@ -10,4 +10,4 @@ returns-clause-on_line c k below =
     let size = ap length c.front-line.ensures ∙ length-take c.line_length-length.result c.back-rest.result.now in
     let most : c.line_length-length.result ≡ prefix_len (λ (n : ℕ). not (n == 10)) (drop c.args.from c.args.text.now)
     = c.line_length-length.ensures ∙ ap (prefix_len (λ (n : ℕ). not (n == 10))) c.back-rest.ensures in
-    same_line c.args.text.now c.args.from k (omega (arith, size, most, c.without_return.ensures))
+    same_line c.args.text.now c.args.from k (omega (arith, size, most, c.without_return.ensures.within))
