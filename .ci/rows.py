@@ -13,8 +13,8 @@ The calls, where POLICY is `kept` or `refused`, LEVELS a number or `any`, and th
     compare POLICY | A | B | TABLE            propose POLICY NAME.. | A | B
     refute POLICY LEVELS | A | B | MESSAGE
 
-`fronts` is a row for the first bytes of the message: for each count of them from FROM on and below TO. Blanks in a MESSAGE count
-for nothing there."""
+`json` before a call is the call with `--json`. `fronts` is a row for the first bytes of the message: for each count of them from
+FROM on and below TO. Blanks in a MESSAGE count for nothing there."""
 
 import itertools
 import pathlib
@@ -97,6 +97,8 @@ INPUTS = {
 
 def row(room, line, call, texts, wanted):
     counts = [None]
+    json = ["--json"] if call[0] == "json" else []
+    call = call[len(json) :]
     if call[0] == "fronts":
         counts = range(*map(int, call[1].split("..")))
         call = call[2:]
@@ -104,12 +106,14 @@ def row(room, line, call, texts, wanted):
     if call[0] in ("take", "open") or (call[0] == "propose" and len(call) == 2):
         return
     files = dict(zip(INPUTS[call[0]], texts + [b""] * 3))
+    verb, *words = words_of(*call)
+    words = [verb, *json, *words]
     for count in counts:
         if count is not None:
             files["m.row"] = files["m.row"].replace(b" ", b"")[: 2 * count]
-            room.answers(words_of(*call), wanted, files, f"{line} (the first {count} bytes)")
+            room.answers(words, wanted, files, f"{line} (the first {count} bytes)")
         else:
-            room.answers(words_of(*call), wanted, files, line)
+            room.answers(words, wanted, files, line)
 
 
 def words_of(verb, policy=None, *more):

@@ -21,7 +21,7 @@ _diacmd() {
             make:-*) words='--quiet --dict -h --help' ;;
             check:-*) words='--quiet --unknown --levels --lines --stream --json -h --help' ;;
             render:-*) words='--quiet -h --help' ;;
-            compare:-*) words='--quiet --unknown -h --help' ;;
+            compare:-*) words='--quiet --unknown --json -h --help' ;;
             refute:-*) words='--quiet --unknown --levels --lines --json -h --help' ;;
             propose:-*) words='--quiet --unknown --json -h --help' ;;
             breaking:-*) words='--quiet --unknown --sends --messages --once --meaning --accepted -h --help' ;;

@@ -41,6 +41,7 @@ complete -c diacmd -n '__fish_seen_subcommand_from compare' -F
 complete -c diacmd -n '__fish_seen_subcommand_from compare' -a @base -d 'The built-in base dictionary'
 complete -c diacmd -n '__fish_seen_subcommand_from compare' -l quiet -d 'Prints no notes on standard error'
 complete -c diacmd -n '__fish_seen_subcommand_from compare' -l unknown -x -a 'kept refused' -d 'Whether an AVP that isn\'t in the dictionary, with its M flag clear, is kept or refused'
+complete -c diacmd -n '__fish_seen_subcommand_from compare' -l json -d 'Prints each answer as a JSON object, a line each'
 complete -c diacmd -n '__fish_seen_subcommand_from compare' -s h -l help -d 'Print help'
 complete -c diacmd -n '__fish_seen_subcommand_from refute' -F
 complete -c diacmd -n '__fish_seen_subcommand_from refute' -a @base -d 'The built-in base dictionary'

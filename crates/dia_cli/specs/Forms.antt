@@ -29,14 +29,14 @@ pub data Telling : Type 0 where
   as_json : Telling
   as_lines : Bool → Option Text → Telling
 
--- a command with its options and the words of its inputs. `--levels`, `--dict`, `--values` and `--accepted` are their words; `check`
+-- a command with its options and the words of its inputs. `--levels`, `--dict`, `--values` and `--accepted` are their words; `check`, `compare`
 -- and `propose` have `--json`, `refute` has `--lines` and `--json`, and `breaking` has `--messages`, `--once` and `--meaning`, or not
 pub data Form : Type 0 where
   show : Telling → Option Text → Text → Form
   make : Option Text → Text → Form
   check : Manner → Bool → Unknown → Option Text → Text → Text → Form
   render : Text → Form
-  compare : Unknown → Text → Text → Text → Form
+  compare : Bool → Unknown → Text → Text → Text → Form
   refute : Bool → Bool → Unknown → Option Text → Text → Text → Text → Form
   propose : Bool → Unknown → Text → Text → Text → List Text → Form
   breaking : Sends → Unknown → Bool → Bool → Bool → Option Text → Text → Text → List Text → Form
@@ -46,7 +46,7 @@ form_name (show telling dictionary message) = codes "show"
 form_name (make dictionary written) = codes "make"
 form_name (check manner json unknown levels dictionary message) = codes "check"
 form_name (render dictionary) = codes "render"
-form_name (compare unknown first second table) = codes "compare"
+form_name (compare json unknown first second table) = codes "compare"
 form_name (refute many json unknown levels first second message) = codes "refute"
 form_name (propose json unknown first second name names) = codes "propose"
 form_name (breaking sends unknown messages once meaning accepted first second names) = codes "breaking"
@@ -97,7 +97,7 @@ form_options (check manner json unknown levels dictionary message) =
     unknown_slot unknown ∷ flag (codes "lines") (is_lines manner) ∷ flag (codes "stream") (is_stream manner)
     ∷ flag (codes "json") json ∷ number (codes "levels") levels ∷ []
 form_options (render dictionary) = []
-form_options (compare unknown first second table) = unknown_slot unknown ∷ []
+form_options (compare json unknown first second table) = unknown_slot unknown ∷ flag (codes "json") json ∷ []
 form_options (refute many json unknown levels first second message) =
     unknown_slot unknown ∷ flag (codes "lines") many ∷ flag (codes "json") json ∷ number (codes "levels") levels ∷ []
 form_options (propose json unknown first second name names) = unknown_slot unknown ∷ flag (codes "json") json ∷ []
@@ -113,7 +113,7 @@ form_inputs (show telling dictionary message) = word (codes "MESSAGE") message �
 form_inputs (make dictionary written) = word (codes "TEXT") written ∷ []
 form_inputs (check manner json unknown levels dictionary message) = word (codes "D") dictionary ∷ word (codes "MESSAGE") message ∷ []
 form_inputs (render dictionary) = word (codes "D") dictionary ∷ []
-form_inputs (compare unknown first second table) = pair_slots first second (word (codes "TABLE") table)
+form_inputs (compare json unknown first second table) = pair_slots first second (word (codes "TABLE") table)
 form_inputs (refute many json unknown levels first second message) = pair_slots first second (word (codes "MESSAGE") message)
 form_inputs (propose json unknown first second name names) = pair_slots first second (words (codes "COMMAND") (name ∷ names))
 form_inputs (breaking sends unknown messages once meaning accepted first second names) = pair_slots first second (words (codes "COMMAND") names)
@@ -130,6 +130,7 @@ abbrev pub form_json : Form → Bool
 form_json (check manner json unknown levels dictionary message) = json
 form_json (refute many json unknown levels first second message) = json
 form_json (show telling dictionary message) = is_json telling
+form_json (compare json unknown first second table) = json
 form_json (propose json unknown first second name names) = json
 form_json form = false
 
@@ -147,7 +148,7 @@ IsTaskOfForm (check in_lines json unknown levels dictionary messages) (CheckLine
 IsTaskOfForm (check in_stream json unknown levels dictionary bytes) (CheckStream policy limit) =
     (policy ≡ unknown) × IsLimitOf levels limit
 IsTaskOfForm (render dictionary) (Whole command.Render) = ⊤
-IsTaskOfForm (compare unknown first second table) (Whole (command.Compare policy)) = policy ≡ unknown
+IsTaskOfForm (compare json unknown first second table) (Whole (command.Compare policy)) = policy ≡ unknown
 IsTaskOfForm (refute false json unknown levels first second message) (Whole (command.Refute policy limit)) =
     (policy ≡ unknown) × IsLimitOf levels limit
 IsTaskOfForm (refute true json unknown levels first second messages) (RefuteLines policy limit) =
@@ -169,7 +170,7 @@ form_words (check alone json unknown levels dictionary message) = record (one_te
 form_words (check in_lines json unknown levels dictionary messages) = record (one_text dictionary) { messages = Some messages }
 form_words (check in_stream json unknown levels dictionary bytes) = record (one_text dictionary) { messages = Some bytes }
 form_words (render dictionary) = one_text dictionary
-form_words (compare unknown first second table) = record (pair_texts first second) { table = Some table }
+form_words (compare json unknown first second table) = record (pair_texts first second) { table = Some table }
 form_words (refute false json unknown levels first second message) = record (pair_texts first second) { message = Some message }
 form_words (refute true json unknown levels first second messages) = record (pair_texts first second) { messages = Some messages }
 form_words (propose json unknown first second name names) = pair_texts first second

@@ -86,7 +86,7 @@ render_row = record { name = codes "render"; options = quiet_option ∷ []; inpu
 abbrev pub compare_row : CommandRow
 compare_row = record {
   name = codes "compare";
-  options = quiet_option ∷ unknown_option ∷ [];
+  options = quiet_option ∷ unknown_option ∷ json_option ∷ [];
   inputs = input (codes "A") one ∷ input (codes "B") one ∷ input (codes "TABLE") one ∷ [];
 }
 

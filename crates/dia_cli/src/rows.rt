@@ -181,7 +181,7 @@ pub(crate) static ROWS: [CommandRow<'static>; 8] = [
     CommandRow {
         name: "compare",
         about: "Tells whether a table of pairs shows that what is valid for A is valid for B",
-        options: &[QUIET, UNKNOWN],
+        options: &[QUIET, UNKNOWN, JSON],
         inputs: &[
             A,
             B,

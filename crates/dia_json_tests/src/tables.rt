@@ -2,7 +2,7 @@
 
 use dia_check::Unknown;
 use dia_io::{Exit, Input, Inputs};
-use dia_json::propose;
+use dia_json::{compare, propose};
 use std::alloc::{AllocError, Global};
 use std::test::Fail;
 
@@ -23,6 +23,24 @@ fn proposes_a_table(rt: HostRuntime) -> Result<(), Fail> {
     assert_eq!(rt; answered.exit, Exit::Yes);
     assert!(rt; answered.text.as_str() == PROPOSED);
     Ok(())
+}
+
+#[test]
+fn compares_by_a_table(rt: HostRuntime) -> Result<(), Fail> {
+    let alloc = rt.alloc();
+    let no = r#"{"verdict":"no","kind":"command","first":"T","second":"T","test":"N2"}"#;
+    assert!(rt; is_compared(alloc, "command T = T\navp X = X\n", Exit::No, no)?);
+    let other = r#"{"verdict":"no","kind":"avp","first":"X","second":"Y","test":"N10"}"#;
+    assert!(rt; is_compared(alloc, "avp X = Y\n", Exit::No, other)?);
+    assert!(rt; is_compared(alloc, "avp X = X\n", Exit::Yes, r#"{"verdict":"yes"}"#)?);
+    Ok(())
+}
+
+/// Whether `compare` by this table answers this object, and ends so.
+fn is_compared(alloc: Global, table: &str, exit: Exit, object: &str) -> Result<bool, AllocError> {
+    let answered = compare(alloc, Unknown::Kept, &inputs(alloc, table)?)?;
+    let line = format!(in alloc; "{object}\n")?;
+    Ok(answered.exit == exit && answered.text == line)
 }
 
 /// Both dictionaries, and this table.

@@ -177,7 +177,7 @@ where
     }
 }
 
-/// Runs a command whose inputs were read whole, and answers as JSON, if the command does.
+/// Runs a command whose inputs were read whole, and answers as JSON. `render` has no such answer.
 fn answer_as_json<'a, R>(rt: &R, command: &Command, inputs: &Inputs) -> Result<Reported, Ending<'a>>
 where
     R: AllocGlobal + Print,
@@ -190,7 +190,8 @@ where
         Command::Propose { unknown, names } => {
             dia_json::propose(alloc, *unknown, names.as_slice(), inputs)
         }
-        Command::Compare { .. } | Command::Render => return answer(rt, command, inputs),
+        Command::Compare { unknown } => dia_json::compare(alloc, *unknown, inputs),
+        Command::Render => return answer(rt, command, inputs),
     };
     put_answer(rt, made)
 }

@@ -28,7 +28,7 @@ form_row (show telling dictionary message) = show_row
 form_row (make dictionary written) = make_row
 form_row (check manner json unknown levels dictionary message) = check_row
 form_row (render dictionary) = render_row
-form_row (compare unknown first second table) = compare_row
+form_row (compare json unknown first second table) = compare_row
 form_row (refute many json unknown levels first second message) = refute_row
 form_row (propose json unknown first second name names) = propose_row
 form_row (breaking sends unknown messages once meaning accepted first second names) = breaking_row
@@ -85,8 +85,8 @@ module _ (policies senders : Bor (List (Bor Text))) (two : texts policies.now â‰
       row_fits check_row _ _ refl (refl, tt, (refl, policy_passes unknown, (refl, tt, (refl, tt, (refl, tt, (refl, tt, tt))))))
       (record { by_index = refl; by_id = refl; next = refl }, (record { by_index = refl; by_id = refl; next = refl }, tt)) refl refl refl refl
   form_fits quiet (render dictionary) = row_fits render_row _ _ refl (refl, tt, tt) (record { by_index = refl; by_id = refl; next = refl }, tt) refl refl refl refl
-  form_fits quiet (compare unknown first second table) =
-      row_fits compare_row _ _ refl (refl, tt, (refl, policy_passes unknown, tt))
+  form_fits quiet (compare json unknown first second table) =
+      row_fits compare_row _ _ refl (refl, tt, (refl, policy_passes unknown, (refl, tt, tt)))
       (record { by_index = refl; by_id = refl; next = refl }, (record { by_index = refl; by_id = refl; next = refl }, (record { by_index = refl; by_id = refl; next = refl }, tt)))
       refl refl refl refl
   form_fits quiet (refute many json unknown levels first second message) =
@@ -108,7 +108,7 @@ module _ (policies senders : Bor (List (Bor Text))) (two : texts policies.now â‰
   form_named (make dictionary written) = record { stops = refl; fine = refl; finds = refl; rest = refl }
   form_named (check manner json unknown levels dictionary message) = record { stops = refl; fine = refl; finds = refl; rest = refl }
   form_named (render dictionary) = record { stops = refl; fine = refl; finds = refl; rest = refl }
-  form_named (compare unknown first second table) = record { stops = refl; fine = refl; finds = refl; rest = refl }
+  form_named (compare json unknown first second table) = record { stops = refl; fine = refl; finds = refl; rest = refl }
   form_named (refute many json unknown levels first second message) = record { stops = refl; fine = refl; finds = refl; rest = refl }
   form_named (propose json unknown first second name names) = record { stops = refl; fine = refl; finds = refl; rest = refl }
   form_named (breaking sends unknown messages once meaning accepted first second names) = record { stops = refl; fine = refl; finds = refl; rest = refl }
@@ -118,7 +118,7 @@ module _ (policies senders : Bor (List (Bor Text))) (two : texts policies.now â‰
   shape_name (make dictionary written) = refl
   shape_name (check manner json unknown levels dictionary message) = refl
   shape_name (render dictionary) = refl
-  shape_name (compare unknown first second table) = refl
+  shape_name (compare json unknown first second table) = refl
   shape_name (refute many json unknown levels first second message) = refl
   shape_name (propose json unknown first second name names) = refl
   shape_name (breaking sends unknown messages once meaning accepted first second names) = refl

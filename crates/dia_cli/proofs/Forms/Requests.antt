@@ -121,7 +121,7 @@ form_is_asked quiet (check manner json unknown levels first second) rows plain s
     (also (also (also (has_policy _ unknown says.1.2) (has_limit _ levels says.1.3 (number_passes levels (form_inputs (check manner json unknown levels first second)) plain)))
     (has_some _ first says.1.4)) (has_some _ second says.1.5))))
 form_is_asked quiet (render first) rows plain says = also (has_flag _ quiet says.0) (has_some _ first says.1)
-form_is_asked quiet (compare unknown first second table) rows plain says =
+form_is_asked quiet (compare json unknown first second table) rows plain says =
     also (has_flag _ quiet says.0) (also (has_policy _ unknown says.1.0.0) (also (pair_passes first second rows says.1.0.1 says.1.0.2) (has_some _ table says.1.1)))
 form_is_asked quiet (refute many json unknown levels first second third) rows plain says =
     also (has_flag _ quiet says.0)
@@ -324,7 +324,7 @@ asked_is (check in_lines json unknown levels first second) rows (Whole (command.
 asked_is (check in_lines json unknown levels first second) rows (CheckStream policy limit) origins says is found = other_flag _ false true is.1 says.0 not_true
 asked_is (check in_stream json unknown levels first second) rows (Whole (command.Check policy limit)) origins says is found = other_flag _ false true is.2 says.1 not_true
 asked_is (check in_stream json unknown levels first second) rows (CheckLines policy limit) origins says is found = other_flag _ false true is.2 says.1 not_true
-asked_is (compare unknown first second table) rows (Whole (command.Compare policy)) origins says is found =
+asked_is (compare json unknown first second table) rows (Whole (command.Compare policy)) origins says is found =
     (same_policy _ _ _ is.1 says.0.0, table_named origins rows first second says.0.1 says.0.2 (codes "TABLE") table says.1 found)
 asked_is (refute false json unknown levels first second third) rows (Whole (command.Refute policy limit)) origins says is found =
     ((same_policy _ _ _ is.2.0 says.0.0, same_limit _ _ limit says.2 is.2.1), pair_message_named origins rows first second says.0.1 says.0.2 third says.3 found)

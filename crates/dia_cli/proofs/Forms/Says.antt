@@ -39,7 +39,7 @@ SaysForm (check manner json unknown levels dictionary message) rows =
     × (first_of (codes "unknown") rows ≡ Some (policy_word unknown)) × (first_of (codes "levels") rows ≡ levels)
     × (first_of (codes "D") rows ≡ Some dictionary) × (first_of (codes "MESSAGE") rows ≡ Some message)
 SaysForm (render dictionary) rows = first_of (codes "D") rows ≡ Some dictionary
-SaysForm (compare unknown first second table) rows = SaysPair unknown first second rows × (first_of (codes "TABLE") rows ≡ Some table)
+SaysForm (compare json unknown first second table) rows = SaysPair unknown first second rows × (first_of (codes "TABLE") rows ≡ Some table)
 SaysForm (refute many json unknown levels first second message) rows =
     SaysPair unknown first second rows × (first_of (codes "lines") rows ≡ Some (flag_word many)) × (first_of (codes "levels") rows ≡ levels)
     × (first_of (codes "MESSAGE") rows ≡ Some message)
@@ -136,8 +136,11 @@ module _ (policies senders : Bor (List (Bor Text))) (quiet : Bool) (rows : List 
     flag_given json (first (codes "json") ∙ flag_found json),
   )
   form_says (render dictionary) first all = (first (codes "quiet") ∙ flag_found quiet, first (codes "D"), not_given (first (codes "json")))
-  form_says (compare unknown one two table) first all =
-      (first (codes "quiet") ∙ flag_found quiet, ((first (codes "unknown") ∙ policy_found unknown, first (codes "A"), first (codes "B")), first (codes "TABLE")), not_given (first (codes "json")))
+  form_says (compare json unknown one two table) first all = (
+    first (codes "quiet") ∙ flag_found quiet,
+    ((first (codes "unknown") ∙ policy_found unknown, first (codes "A"), first (codes "B")), first (codes "TABLE")),
+    flag_given json (first (codes "json") ∙ flag_found json),
+  )
   form_says (refute many json unknown levels one two message) first all = (
     first (codes "quiet") ∙ flag_found quiet,
     (
