@@ -1,7 +1,8 @@
 //! Answers as JSON (RFC 8259): an object a line.
 //!
-//! `check` and `refute` answer for one message, `show` lists it, and `compare` and `propose` answer for two dictionaries. `check_lines`, `refute_lines` and `check_stream` read their messages a piece at a
-//! time, as those of dia_captures do, and put an object for each.
+//! `check` and `refute` answer for one message, `show` lists it, and `compare` and `propose` answer for two dictionaries.
+//! `check_lines`, `refute_lines` and `check_stream` read their messages a piece at a time, as those of dia_captures do, and put an
+//! object for each.
 #![tactic(auto)]
 
 mod answers;

@@ -1,17 +1,17 @@
 //! Inputs that are refused, as JSON.
 
-ghost use Rattle.std.specs.Prelude.{◌≡◌, IfOk, string_bytes};
+ghost use Rattle.std.specs.Prelude.{◌≡◌, IfOk, codes, string_bytes};
 ghost use Rattle.serde_json.specs.Data.{no_members};
 ghost use Rattle.serde_json.specs.Written.{compact_text};
 ghost use Rattle.dia_report.specs.Refusals.{message_fault_word};
 ghost use Rattle.dia_json.specs.Values.{json_line, refused_members};
-ghost use Rattle.dia_json.specs.Refusals.{at_line, at_place, bad_input_json, dictionary_members, message_members};
+ghost use Rattle.dia_json.specs.Refusals.{at_place, bad_input_json, dictionary_members, expecting, message_members};
 ghost use Rattle.dia_json.specs.Refusals.{misfit_members, name_value, on_line, stranger_at, table_members, text_of};
 ghost use Rattle.dia_json.specs.Refusals.{wrong_members};
 
-use crate::strings::quoted;
-use dia_ccf::CcfFault;
-use dia_explain_places::place_of;
+use crate::strings::{quoted, quoted_array};
+use dia_ccf::{CcfFault, Misfit, Wanted};
+use dia_explain_places::{expected, limit_place, place_of, syntax_place};
 use dia_io::Input;
 use dia_report::{BadDictionary, BadInput, BadMessage, BadTable, WrongSource};
 use dia_run::is_white;
@@ -55,9 +55,7 @@ fn dictionary_line(
     match why {
         BadDictionary::TooLong => refused_line(alloc, input, "too long"),
         BadDictionary::NotText { at } => refused_at(alloc, input, "not text", spelt, *at),
-        BadDictionary::NoSource(misfit) => {
-            misfit_line(alloc, input, spelt, misfit.at, misfit.fault)
-        }
+        BadDictionary::NoSource(misfit) => misfit_line(alloc, input, spelt, misfit),
         BadDictionary::Wrong(wrong) => wrong_line(alloc, input, wrong),
     }
 }
@@ -66,20 +64,40 @@ fn misfit_line(
     alloc: Global,
     input: &str,
     spelt: &[u8],
-    at: usize,
-    fault: CcfFault,
+    misfit: &Misfit,
 ) -> Result<String, AllocError>
-    ensures { IfOk result (λ text. string_bytes text
-        ≡ json_line (misfit_members input.now spelt.now at fault)) }
+    ensures { IfOk result (λ text. string_bytes text ≡ json_line
+        (misfit_members input.now spelt.now misfit.now.at misfit.now.wanted misfit.now.fault)) }
 {
-    match fault {
+    let at = misfit.at;
+    match misfit.fault {
         CcfFault::Syntax { line, .. } => {
-            refused_on(alloc, input, "syntax", line as usize, spelt, at)
+            expecting_line(alloc, input, line as usize, spelt, at, misfit.wanted)
         }
         CcfFault::Number { line } => refused_on(alloc, input, "number", line as usize, spelt, at),
         CcfFault::Limit { line } => refused_on(alloc, input, "limit", line as usize, spelt, at),
         CcfFault::NoMemory => refused_line(alloc, input, "no memory"),
     }
+}
+
+/// The line of a text that the grammar refuses at a place, on this line, where other words could stand.
+fn expecting_line(
+    alloc: Global,
+    input: &str,
+    line: usize,
+    spelt: &[u8],
+    at: usize,
+    wanted: Wanted,
+) -> Result<String, AllocError>
+    ensures { IfOk result (λ text. string_bytes text
+        ≡ json_line (refused_members input.now (codes "syntax") (expecting line spelt.now at wanted))) }
+{
+    let column = place_of(spelt, at).column;
+    let input = quoted(alloc, input)?;
+    let items = quoted_array(alloc, expected(wanted))?;
+    format!(in alloc;
+        "{{\"error\":{input},\"kind\":\"syntax\",\"line\":{line},\"column\":{column},\"expected\":{items}}}\n"
+    )
 }
 
 fn table_line(alloc: Global, spelt: &[u8], why: &BadTable) -> Result<String, AllocError>
@@ -88,8 +106,14 @@ fn table_line(alloc: Global, spelt: &[u8], why: &BadTable) -> Result<String, All
     match why {
         BadTable::TooLong => refused_line(alloc, "table", "too long"),
         BadTable::NotText { at } => refused_at(alloc, "table", "not text", spelt, *at),
-        BadTable::Syntax { line } => refused_in(alloc, "table", "syntax", *line),
-        BadTable::Limit { line } => refused_in(alloc, "table", "limit", *line),
+        BadTable::Syntax { line } => {
+            let at = syntax_place(spelt, *line);
+            refused_on(alloc, "table", "syntax", *line as usize, spelt, at)
+        }
+        BadTable::Limit { line } => {
+            let at = limit_place(spelt, *line);
+            refused_on(alloc, "table", "limit", *line as usize, spelt, at)
+        }
     }
 }
 
@@ -181,16 +205,6 @@ fn refused_on(
     let input = quoted(alloc, input)?;
     let kind = quoted(alloc, kind)?;
     format!(in alloc; "{{\"error\":{input},\"kind\":{kind},\"line\":{line},\"column\":{column}}}\n")
-}
-
-/// The line of an input that is refused for what stands on a line of its text.
-fn refused_in(alloc: Global, input: &str, kind: &str, line: u32) -> Result<String, AllocError>
-    ensures { IfOk result (λ text. string_bytes text
-        ≡ json_line (refused_members input.now kind.now (at_line line))) }
-{
-    let input = quoted(alloc, input)?;
-    let kind = quoted(alloc, kind)?;
-    format!(in alloc; "{{\"error\":{input},\"kind\":{kind},\"line\":{line}}}\n")
 }
 
 /// A name as a string, and `null` where there is none.

@@ -36,6 +36,26 @@ fn compares_by_a_table(rt: HostRuntime) -> Result<(), Fail> {
     Ok(())
 }
 
+#[test]
+fn refuses_tables_at_their_places(rt: HostRuntime) -> Result<(), Fail> {
+    let alloc = rt.alloc();
+    let syntax = r#"{"error":"table","kind":"syntax","line":2,"column":11}"#;
+    assert!(rt; is_compared(alloc, "avp X = X\ncommand T T\n", Exit::Bad, syntax)?);
+    let behind = r#"{"error":"table","kind":"syntax","line":1,"column":12}"#;
+    assert!(rt; is_compared(alloc, "\tavp X = X X\n", Exit::Bad, behind)?);
+    let letters = r#"{"error":"table","kind":"syntax","line":1,"column":9}"#;
+    assert!(rt;
+        is_compared(
+            alloc,
+            "avp \u{e4} = X",
+            Exit::Bad,
+            r#"{"error":"table","kind":"syntax","line":1,"column":5}"#
+        )?
+    );
+    assert!(rt; is_compared(alloc, "avp X = \u{e4}", Exit::Bad, letters)?);
+    Ok(())
+}
+
 /// Whether `compare` by this table answers this object, and ends so.
 fn is_compared(alloc: Global, table: &str, exit: Exit, object: &str) -> Result<bool, AllocError> {
     let answered = compare(alloc, Unknown::Kept, &inputs(alloc, table)?)?;
