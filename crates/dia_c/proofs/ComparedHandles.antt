@@ -20,7 +20,7 @@ module _ {A E : Type 0} (P : E → Type 0) where
   of_err r e is p = subst (λ (s : Result A E). IfErr s P) is p
 
 -- the dictionary that is lent by a handle
-pub dict_of : (held lent : Held) (owner : Arc IndexedBook Global) (book : IndexedBook) → lent ≡ held → lent ≡ Dict owner → book ≡ owner.value
+pub dict_of : (held lent : Held) (owner : Arc IndexedBook Global) (book : IndexedBook) → lent ≡ held → lent ≡ Dict owner tt → book ≡ owner.value
     → dict_in (Some held) ≡ Some (ghosts.meaning book)
 dict_of held lent owner book same is at =
     ap (λ (h : Held). dict_in (Some h)) (sym same ∙ is) ∙ ap (λ (b : IndexedBook). Some (ghosts.meaning b)) (sym at)

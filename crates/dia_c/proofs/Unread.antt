@@ -7,7 +7,7 @@ use Rattle.dia_wire.specs.Number.{number}
 use Rattle.dia_wire.specs.Wire.{BeginsMessage, IsMessageLength}
 use Rattle.dia_book.specs.Dictionary.{Dictionary}
 use Rattle.dia_io.specs.declared.Exit.{Exit}
-use Rattle.dia_io.specs.declared.Exit.TheVariants.{Yes, No, Bad}
+use Rattle.dia_io.specs.declared.Exit.TheVariants.{Bad}
 use Rattle.dia_run.specs.Outcome.{IsMessageShown, listing_exit, listing, short, version, bad_length, truncated, trailing}
 use Rattle.dia_c.specs.declared.verdict.Verdict.{Verdict}
 use Rattle.dia_c.specs.declared.listing.Unshown.TheVariants as unshown

@@ -1,8 +1,8 @@
 -- What is answered of what breaks, and why it is not.
 use Rattle.std.proofs.Common.{◌≡◌, ◌≢◌, ◌<◌, ◌≤◌, ℕ, zero, suc, Bool, true, false, List, [], ◌∷◌, ◌++◌, length, map, take, get_or, Bor, Option, Some, None, String, refl, sym, ap, subst, ◌∙◌, arith, inl, inr}
-use Rattle.std.specs.Prelude.{IfSome, IsSome, Contains, is_some, position, slice_get, string_bytes}
+use Rattle.std.specs.Prelude.{IfSome, is_some, position, string_bytes}
 use Rattle.std.specs.Global.{Global, Vec}
-use Rattle.std.specs.Str.{IsUtf8, bytes_eq}
+use Rattle.std.specs.Str.{bytes_eq}
 use Rattle.std.specs.Str.Lines.{lines}
 use Rattle.std.proofs.lemmas.Bool.{cases_lt}
 use Rattle.std.proofs.lemmas.List.{map-append}

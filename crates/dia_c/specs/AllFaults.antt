@@ -1,20 +1,16 @@
 -- All that is wrong with the text of a dictionary.
-use Rattle.std.specs.Prelude.{◌≡◌, ◌<◌, ◌≤◌, ℕ, List, [], ◌∷◌, length, map, Option, Some, None, slice_get}
-use Rattle.std.specs.Option.{option_map, option_and_then}
+use Rattle.std.specs.Prelude.{◌≡◌, ◌<◌, ◌≤◌, ℕ, List, [], ◌∷◌, length, map, Some, None}
 use Rattle.std.specs.Str.{IsUtf8}
 use Rattle.std.specs.Str.Lossy.{utf8_valid_len}
 use Rattle.dia_ccf.specs.declared.source.Source.{Source}
-use Rattle.dia_ccf.specs.declared.source.Def.{Def}
 use Rattle.dia_ccf.specs.declared.refused.Misfit.{Misfit}
 use Rattle.dia_ccf.specs.Limits.{max_text}
 use Rattle.dia_ccf.specs.Plain.{plain_source}
 use Rattle.dia_ccf.specs.Tokens.{tokens}
 use Rattle.dia_ccf.specs.Grammar.{Derives}
 use Rattle.dia_ccf.specs.Refusals.{IsMisfit}
-use Rattle.dia_dict.specs.declared.findings.Part.{Part}
-use Rattle.dia_dict.specs.declared.findings.PartKind.TheVariants as part
 use Rattle.dia_dict.specs.Resolution.{PlainFinding, all_findings}
-use Rattle.dia_explain_places.specs.Places.{name_place}
+use Rattle.dia_explain_places.specs.Parts.{part_place}
 use Rattle.dia_c.specs.Openings.{number_of, problem_of}
 use Rattle.dia_c.specs.PlainFaults.{PlainFault, nameless}
 
@@ -25,25 +21,8 @@ pub data IsUnreadFor (text : List ℕ) (f : PlainFault) : Type 0 where
   misfit : (m : Misfit) → IsUtf8 text → length text ≤ max_text → IsMisfit text m
       → f ≡ nameless (problem_of m.fault).kind (problem_of m.fault).token (Some m.at) → IsUnreadFor text f
 
--- where a definition begins, or this rule of it
-abbrev pub start_in : Def → Option ℕ → Option ℕ
-start_in def None = Some def.at
-start_in def (Some i) = option_map (λ r. r.at) (slice_get def.rules.items i)
-
--- where a part of a source begins, by the places that the source has
-abbrev pub start_of : Source → Part → Option ℕ
-start_of source p = elim p.kind [
-  | part.Declaration ↦ option_map (λ d. d.at) (slice_get source.avps.items p.index)
-  | part.Group ↦ option_and_then (λ d. start_in d p.rule) (slice_get source.groups.items p.index)
-  | part.Command ↦ option_and_then (λ d. start_in d p.rule) (slice_get source.commands.items p.index)
-]
-
--- where a part is told: at its first name
-abbrev pub told_place : List ℕ → Source → Option Part → Option ℕ
-told_place text source p = option_map (name_place text) (option_and_then (start_of source) p)
-
 abbrev pub fault_of : List ℕ → Source → PlainFinding → PlainFault
-fault_of text source f = record { kind = number_of f.wrong.kind; token = 0; at = told_place text source f.part; name = f.wrong.name; slot = f.wrong.slot }
+fault_of text source f = record { kind = number_of f.wrong.kind; token = 0; at = part_place text source f.part; name = f.wrong.name; slot = f.wrong.slot }
 
 -- these are all faults of the text, in the order of docs/FAULTS.md: the one for which it is not read, or all of the source that it is read as
 pub data AreFaultsOf (text : List ℕ) (fs : List PlainFault) : Type 0 where

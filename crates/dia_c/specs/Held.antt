@@ -14,7 +14,7 @@ use Rattle.dia_peer.specs.Outputs.{PlainOutput}
 -- nothing but a dictionary
 abbrev pub MayBeDict : Option Held → Type 0
 MayBeDict None = ⊤
-MayBeDict (Some (Dict owner)) = ⊤
+MayBeDict (Some (Dict owner room)) = ⊤
 MayBeDict (Some (Text text)) = ⊥
 MayBeDict (Some (Faults faults)) = ⊥
 MayBeDict (Some (Peer peer)) = ⊥
@@ -24,7 +24,7 @@ MayBeDict (Some Nothing) = ⊥
 -- nothing but a text
 abbrev pub MayBeText : Option Held → Type 0
 MayBeText None = ⊤
-MayBeText (Some (Dict owner)) = ⊥
+MayBeText (Some (Dict owner room)) = ⊥
 MayBeText (Some (Text text)) = ⊤
 MayBeText (Some (Faults faults)) = ⊥
 MayBeText (Some (Peer peer)) = ⊥
@@ -34,7 +34,7 @@ MayBeText (Some Nothing) = ⊥
 -- nothing but a list of faults
 abbrev pub MayBeFaults : Option Held → Type 0
 MayBeFaults None = ⊤
-MayBeFaults (Some (Dict owner)) = ⊥
+MayBeFaults (Some (Dict owner room)) = ⊥
 MayBeFaults (Some (Text text)) = ⊥
 MayBeFaults (Some (Faults faults)) = ⊤
 MayBeFaults (Some (Peer peer)) = ⊥
@@ -44,7 +44,7 @@ MayBeFaults (Some Nothing) = ⊥
 -- nothing but an end of a connection
 abbrev pub MayBePeer : Option Held → Type 0
 MayBePeer None = ⊤
-MayBePeer (Some (Dict owner)) = ⊥
+MayBePeer (Some (Dict owner room)) = ⊥
 MayBePeer (Some (Text text)) = ⊥
 MayBePeer (Some (Faults faults)) = ⊥
 MayBePeer (Some (Peer peer)) = ⊤
@@ -54,7 +54,7 @@ MayBePeer (Some Nothing) = ⊥
 -- nothing but a message that comes in pieces
 abbrev pub MayBeStream : Option Held → Type 0
 MayBeStream None = ⊤
-MayBeStream (Some (Dict owner)) = ⊥
+MayBeStream (Some (Dict owner room)) = ⊥
 MayBeStream (Some (Text text)) = ⊥
 MayBeStream (Some (Faults faults)) = ⊥
 MayBeStream (Some (Peer peer)) = ⊥
@@ -64,7 +64,7 @@ MayBeStream (Some Nothing) = ⊥
 -- the dictionary that is held
 abbrev pub dict_in : Option Held → Option Dictionary
 dict_in None = None
-dict_in (Some (Dict owner)) = Some (ghosts.meaning owner.value)
+dict_in (Some (Dict owner room)) = Some (ghosts.meaning owner.value)
 dict_in (Some (Text text)) = None
 dict_in (Some (Faults faults)) = None
 dict_in (Some (Peer peer)) = None
@@ -74,7 +74,7 @@ dict_in (Some Nothing) = None
 -- the bytes of the text that is held
 abbrev pub text_in : Option Held → Option (List ℕ)
 text_in None = None
-text_in (Some (Dict owner)) = None
+text_in (Some (Dict owner room)) = None
 text_in (Some (Text text)) = Some text.items
 text_in (Some (Faults faults)) = None
 text_in (Some (Peer peer)) = None
@@ -84,7 +84,7 @@ text_in (Some Nothing) = None
 -- the faults that are held
 abbrev pub faults_in : Option Held → Option (List PlainFault)
 faults_in None = None
-faults_in (Some (Dict owner)) = None
+faults_in (Some (Dict owner room)) = None
 faults_in (Some (Text text)) = None
 faults_in (Some (Faults faults)) = Some (map plain_fault faults.items)
 faults_in (Some (Peer peer)) = None
@@ -94,7 +94,7 @@ faults_in (Some Nothing) = None
 -- the end of a connection that is held
 abbrev pub peer_in : Option Held → Option PlainEnd
 peer_in None = None
-peer_in (Some (Dict owner)) = None
+peer_in (Some (Dict owner room)) = None
 peer_in (Some (Text text)) = None
 peer_in (Some (Faults faults)) = None
 peer_in (Some (Peer peer)) = Some (plain_end peer.value)
@@ -104,7 +104,7 @@ peer_in (Some Nothing) = None
 -- these bytes came of the message that is held, and are checked against this dictionary
 abbrev pub StandsFor : Option Held → Dictionary → Unknown → Levels → List ℕ → Type 0
 StandsFor None d u most bytes = ⊥
-StandsFor (Some (Dict owner)) d u most bytes = ⊥
+StandsFor (Some (Dict owner room)) d u most bytes = ⊥
 StandsFor (Some (Text text)) d u most bytes = ⊥
 StandsFor (Some (Faults faults)) d u most bytes = ⊥
 StandsFor (Some (Peer peer)) d u most bytes = ⊥

@@ -1,5 +1,5 @@
 -- What is told of a message that comes in pieces.
-use Rattle.std.specs.Prelude.{◌≡◌, ◌≢◌, ℕ, ◌++◌, List, drop, length, take, if◌then◌else◌, Option, Result}
+use Rattle.std.specs.Prelude.{◌≡◌, ℕ, ◌++◌, List, drop, length, take, if◌then◌else◌, Option, Result}
 use Rattle.dia_book.specs.Dictionary.{Dictionary}
 use Rattle.dia_policy.specs.declared.Unknown.{Unknown}
 use Rattle.dia_policy.specs.declared.Levels.{Levels}

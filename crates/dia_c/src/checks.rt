@@ -6,9 +6,9 @@ ghost use Rattle.dia_c.specs.Held.{dict_in, text_in};
 ghost use Rattle.dia_c.specs.VerdictLines.{IsVerdictLine};
 ghost use Rattle.dia_c.specs.Verdicts.{Answers, IsHeadVerdict, IsUnknownPolicy, limit_of, policy_of};
 
-use crate::handle::{DictHandle, TextHandle, owner_in};
+use crate::handle::{DictHandle, TextHandle, check_in, owner_in};
 use crate::status::{BAD_ARGUMENT, DONE, IS_CLOSED, IS_OPEN, NO_MEMORY, REFUSED};
-use crate::verdict::{Verdict, checked, limit_of, message_length, policy_of};
+use crate::verdict::{Verdict, limit_of, message_length, policy_of};
 use crate::verdict_line::verdict_line;
 use std::alloc::{AllocError, Global};
 
@@ -36,10 +36,10 @@ pub extern "C" fn dia_check(
         return BAD_ARGUMENT;
     };
     let levels = limit_of(levels);
-    let Some(held) = handle.take(alloc) else {
+    let Some(mut held) = handle.take(alloc) else {
         return IS_CLOSED;
     };
-    let answer = checked(alloc, &**owner_in(&held), unknown, levels, message);
+    let answer = check_in(&mut *held, unknown, levels, message);
     handle.put(held);
     match answer {
         Ok(told) => {

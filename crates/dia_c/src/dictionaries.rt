@@ -14,6 +14,7 @@ use crate::names::{avp_name, command_name, copied};
 use crate::opening::{Problem, Refused, base_opened, opened};
 use crate::status::{DONE, IS_CLOSED, IS_OPEN, NO_MEMORY, NO_ROOM, NONE, REFUSED};
 use dia_book::Key;
+use dia_check::Room;
 use dia_dict::IndexedBook;
 use std::alloc::{AllocError, Global};
 use std::sync::Arc;
@@ -115,11 +116,11 @@ pub extern "C" fn dia_dict_share(
 
 /// Another owner of a dictionary.
 fn owner_of(alloc: Global, owner: &Arc<IndexedBook>) -> Result<Box<Held>, AllocError>
-    ensures { IfOk result (λ held. (dict_in (Some held.value) ≡ dict_in (Some (Held.Dict owner.now)))
+    ensures { IfOk result (λ held. (dict_in (Some held.value) ≡ dict_in (Some (Held.Dict owner.now tt)))
         × ∥ MayBeDict (Some held.value) ∥₁) }
 {
     let other = Arc::try_clone(owner)?;
-    Ok(Box::new(alloc, Held::Dict(other))?)
+    Ok(Box::new(alloc, Held::Dict(other, Room::new(alloc)))?)
 }
 
 /// The name of the command that a verdict's number stands for.

@@ -5,13 +5,13 @@ ghost use Rattle.std.specs.Str.{IsUtf8};
 ghost use Rattle.dia_ccf.specs.Plain.{plain_source};
 ghost use Rattle.dia_dict.specs.Resolution.{all_findings};
 ghost use Rattle.dia_dict.specs.SourceChecks.{plain_finding};
-ghost use Rattle.dia_c.specs.AllFaults.{AreFaultsOf, fault_of, start_in, start_of, told_place};
+ghost use Rattle.dia_c.specs.AllFaults.{AreFaultsOf, fault_of};
 ghost use Rattle.dia_c.specs.PlainFaults.{nameless, plain_fault};
 
 use crate::opening::{kind_number, misfit_numbers};
-use dia_ccf::{Def, Refused, Source, read};
-use dia_dict::{Finding, Part, PartKind, faults};
-use dia_explain_places::name_from;
+use dia_ccf::{Refused, Source, read};
+use dia_dict::{Finding, faults};
+use dia_explain_places::part_place;
 use std::alloc::{AllocError, Global};
 
 /// A fault of a dictionary's text.
@@ -116,37 +116,8 @@ fn fault_of(
     Ok(TextFault {
         kind: kind_number(finding.told.kind),
         token: 0,
-        at: told_place(text, source, finding.part),
+        at: part_place(text, source, finding.part),
         name,
         slot,
     })
-}
-
-/// Where a part is told: at its first name.
-fn told_place(text: &str, source: &Source, part: Option<Part>) -> Option<usize>
-    ensures { result ≡ told_place text.now source.now part }
-{
-    let start = start_of(source, part?)?;
-    Some(name_from(text, start))
-}
-
-/// Where a part of a source begins.
-fn start_of(source: &Source, part: Part) -> Option<usize>
-    ensures { result ≡ start_of source.now part }
-{
-    match part.kind {
-        PartKind::Declaration => Some(source.avps.get(part.index)?.at),
-        PartKind::Group => start_in(source.groups.get(part.index)?, part.rule),
-        PartKind::Command => start_in(source.commands.get(part.index)?, part.rule),
-    }
-}
-
-/// Where a definition begins, or this rule of it.
-fn start_in(def: &Def, rule: Option<usize>) -> Option<usize>
-    ensures { result ≡ start_in def.now rule }
-{
-    match rule {
-        None => Some(def.at),
-        Some(index) => Some(def.rules.get(index)?.at),
-    }
 }

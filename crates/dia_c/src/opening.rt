@@ -11,6 +11,7 @@ ghost use Rattle.dia_c.specs.Openings.{IsTextOf, IsRenderedOf, HasProblem, IsUnr
 use crate::held::Held;
 use dia_book::Book;
 use dia_ccf::{CcfFault, Source, parse, render};
+use dia_check::Room;
 use dia_dict::{DictFault, DictKind, IndexedBook, PlainBook, base_book, resolve};
 use std::alloc::{AllocError, AllocFailed, Global};
 use std::sync::Arc;
@@ -140,7 +141,7 @@ fn indexed(alloc: Global, book: PlainBook) -> Result<Box<Held>, Refused>
 {
     let indexed = IndexedBook::from_plain(alloc, book)?;
     match Arc::new(alloc, indexed) {
-        Ok(owner) => boxed(alloc, Held::Dict(owner)),
+        Ok(owner) => boxed(alloc, Held::Dict(owner, Room::new(alloc))),
         Err(AllocFailed { .. }) => Err(Refused::NoMemory),
     }
 }

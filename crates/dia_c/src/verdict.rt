@@ -5,9 +5,9 @@ ghost use Rattle.dia_check.specs.Faults.{HasLength, IsAnswer, code_of, row_of, s
 ghost use Rattle.dia_c.specs.Verdicts.{IsHeadVerdict, IsUnknownPolicy, IsVerdict, fault_verdict, limit_of, no_message, policy_of};
 
 use dia_book::Book;
-use dia_check::{Fault, Levels, Reason, Refusal, Selected, Subject, Unknown, check};
+use dia_check::{Fault, Levels, Reason, Refusal, Room, Selected, Subject, Unknown, check_in};
 use dia_wire::{HeadFault, MessageFault, read_header};
-use std::alloc::{AllocError, Global};
+use std::alloc::AllocError;
 
 /// What is said of a message.
 #[repr(C)]
@@ -76,7 +76,7 @@ pub fn limit_of(levels: u32) -> Levels
 
 /// The verdict on a message.
 pub fn checked<B: Book>(
-    alloc: Global,
+    room: &mut Room,
     book: &B,
     unknown: Unknown,
     levels: Levels,
@@ -85,7 +85,7 @@ pub fn checked<B: Book>(
     ensures { IfOk result (λ verdict. (answer : Result Selected Refusal)
         × IsAnswer (B.meaning book.now) unknown levels message.now answer × IsVerdict answer verdict) }
 {
-    match verdict_of(check(alloc, book, unknown, levels, message)) {
+    match verdict_of(check_in(room, book, unknown, levels, message)) {
         Ok(verdict) => Ok(verdict),
         Err(Untold::NoMemory) => Err(AllocError),
         Err(Untold::Spent) => unreachable!(),

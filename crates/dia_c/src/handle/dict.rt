@@ -1,13 +1,17 @@
 //! A handle of a dictionary.
 
-ghost use Rattle.std.specs.Prelude.{◌≡◌, ◌↔◌, IfSome, IsSome, IsTrue, None, Option, Some};
+ghost use Rattle.std.specs.Prelude.{◌≡◌, ◌↔◌, IfOk, IfSome, IsSome, IsTrue, None, Option, Result, Some};
+ghost use Rattle.dia_check.specs.Faults.{IsAnswer};
+ghost use Rattle.dia_c.specs.Verdicts.{IsVerdict};
 ghost use Rattle.dia_c.specs.declared.held.Held.{Held as AnyHeld};
 ghost use Rattle.dia_c.specs.Held.{MayBeDict, dict_in};
 
 use crate::handle::slot::Slot;
 use crate::held::Held;
+use crate::verdict::{Verdict, checked};
+use dia_check::{Levels, Refusal, Selected, Unknown};
 use dia_dict::IndexedBook;
-use std::alloc::Global;
+use std::alloc::{AllocError, Global};
 use std::sync::Arc;
 
 /// A dictionary, or nothing: then C has written zero bytes.
@@ -49,10 +53,32 @@ impl DictHandle {
 /// The owner that a handle of a dictionary holds.
 pub fn owner_in(held: &Held) -> &Arc<IndexedBook>
     requires { ∥ MayBeDict (Some held.now) ∥₁ }
-    ensures { held.now ≡ Held.Dict result.now }
+    ensures { held.now ≡ Held.Dict result.now tt }
 {
     match held {
-        Held::Dict(owner) => owner,
+        Held::Dict(owner, _) => owner,
+        Held::Text(_) => unreachable!(),
+        Held::Faults(_) => unreachable!(),
+        Held::Peer(_) => unreachable!(),
+        Held::Stream(_) => unreachable!(),
+        Held::Nothing => unreachable!(),
+    }
+}
+
+/// What the dictionary in a handle says of a message.
+pub fn check_in(
+    held: &mut Held,
+    unknown: Unknown,
+    levels: Levels,
+    message: &[u8],
+) -> Result<Verdict, AllocError>
+    requires { ∥ MayBeDict (Some held.old) ∥₁ }
+    ensures kept { held.new ≡ held.old }
+    ensures told { IfOk result (λ verdict. IfSome (dict_in (Some held.old)) (λ d. (answer : Result Selected Refusal)
+        × IsAnswer d unknown levels message.now answer × IsVerdict answer verdict)) }
+{
+    match held {
+        Held::Dict(owner, room) => checked(room, &**owner, unknown, levels, message),
         Held::Text(_) => unreachable!(),
         Held::Faults(_) => unreachable!(),
         Held::Peer(_) => unreachable!(),

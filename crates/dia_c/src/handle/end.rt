@@ -18,7 +18,7 @@ pub fn peer_in(held: &Held) -> &Peer
 {
     match held {
         Held::Peer(peer) => peer,
-        Held::Dict(_) => unreachable!(),
+        Held::Dict(..) => unreachable!(),
         Held::Text(_) => unreachable!(),
         Held::Faults(_) => unreachable!(),
         Held::Stream(_) => unreachable!(),
@@ -39,7 +39,7 @@ pub fn tell_in(held: &mut Held, event: Event<'_>) -> u32
 {
     match held {
         Held::Peer(peer) => peer.tell(event),
-        Held::Dict(_) => unreachable!(),
+        Held::Dict(..) => unreachable!(),
         Held::Text(_) => unreachable!(),
         Held::Faults(_) => unreachable!(),
         Held::Stream(_) => unreachable!(),
@@ -67,7 +67,7 @@ pub fn give_in(held: &mut Held, out: &mut [u8]) -> Given
 {
     match held {
         Held::Peer(peer) => peer.give(out),
-        Held::Dict(_) => unreachable!(),
+        Held::Dict(..) => unreachable!(),
         Held::Text(_) => unreachable!(),
         Held::Faults(_) => unreachable!(),
         Held::Stream(_) => unreachable!(),

@@ -52,7 +52,7 @@ pub fn faults_in(held: &Held) -> &Vec<TextFault>
 {
     match held {
         Held::Faults(faults) => faults,
-        Held::Dict(_) => unreachable!(),
+        Held::Dict(..) => unreachable!(),
         Held::Text(_) => unreachable!(),
         Held::Peer(_) => unreachable!(),
         Held::Stream(_) => unreachable!(),

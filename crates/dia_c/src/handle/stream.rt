@@ -52,7 +52,7 @@ pub fn feeding_in(held: &mut Box<Held>) -> Feeding
 {
     match Box::replace(held, Held::Nothing) {
         Held::Stream(feeding) => feeding,
-        Held::Dict(_) => unreachable!(),
+        Held::Dict(..) => unreachable!(),
         Held::Text(_) => unreachable!(),
         Held::Faults(_) => unreachable!(),
         Held::Peer(_) => unreachable!(),

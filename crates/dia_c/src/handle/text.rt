@@ -51,7 +51,7 @@ pub fn bytes_in(held: &Held) -> &Vec<u8>
 {
     match held {
         Held::Text(text) => text,
-        Held::Dict(_) => unreachable!(),
+        Held::Dict(..) => unreachable!(),
         Held::Faults(_) => unreachable!(),
         Held::Peer(_) => unreachable!(),
         Held::Stream(_) => unreachable!(),

@@ -1,6 +1,6 @@
 use Rattle.std.proofs.Common.{List, ℕ, subst, Some}
 use Rattle.dia_c.specs.Held.{text_in}
-use Rattle.dia_c.specs.Upgrades.{HasListed, IsNotListed, IsUnlisted}
+use Rattle.dia_c.specs.Upgrades.{IsNotListed, IsUnlisted}
 use Rattle.dia_c.proofs.Told.{if_err, if_ok}
 use Rattle.dia_c.proofs.WhatBreaks.{if_some, is_asked}
 use Rattle.dia_c.proofs.upgrade.listed.Goals as goal
