@@ -1,6 +1,6 @@
 //! The tests of `dia_check`, `dia_compat`, `dia_peer` and `dia_run`, by library: each goes through public calls alone. `rows` has
-//! what both kinds of book answer. Those of `dia_run` are `devices`, which fail, and the `example` of its docs; what its commands
-//! write, `.ci/cases` compares. There is nothing but tests.
+//! what both kinds of book answer. Those of `dia_run` are `devices`, which fail; what its commands write, `.ci/cases` compares.
+//! There is nothing but tests.
 #![tactic(auto)]
 
 #[cfg(test)]
@@ -11,8 +11,6 @@ mod check;
 mod compat;
 #[cfg(test)]
 mod devices;
-#[cfg(test)]
-mod example;
 #[cfg(test)]
 mod peer;
 #[cfg(test)]

@@ -4,7 +4,7 @@ ghost use Rattle.std.specs.Prelude.{◌<◌, ◌≤◌, length};
 
 use super::feed;
 use crate::books::{Task, is_verdict};
-use dia_check::{Levels, Refusal, Selected, Stream, Unknown, check};
+use dia_check::{Levels, Refusal, Room, Selected, Stream, Unknown, check, check_in};
 use dia_dict::Book;
 use std::process::Abort;
 
@@ -23,7 +23,8 @@ fn message_length(bytes: &[u8]) -> usize {
     }
 }
 
-/// A stream that is fed the bytes in two pieces, or one by one, answers what `check` does of the bytes that it takes.
+/// A stream that is fed the bytes in two pieces, or one by one, answers what `check` does of the bytes that it takes; and so does
+/// `check_in`, in memory that was used before.
 pub fn check_pieces<B: Book>(rt: &(impl AllocGlobal + Abort), book: &B, task: Task<'_>) {
     let bytes = task.message;
     let all = message_length(bytes);
@@ -34,6 +35,15 @@ pub fn check_pieces<B: Book>(rt: &(impl AllocGlobal + Abort), book: &B, task: Ta
         is_same(rt, &found, &answer);
     }
     is_same(rt, &in_bytes(rt, book, task, all), &answer);
+    let mut room = Room::new(rt.alloc());
+    for bytes in [bytes, taken] {
+        let found = check_in(&mut room, book, task.unknown, task.levels, bytes);
+        is_same(
+            rt,
+            &found,
+            &check(rt.alloc(), book, task.unknown, task.levels, bytes),
+        );
+    }
 }
 
 /// A stream answers what `check` does.

@@ -27,6 +27,9 @@ check kept any | $base | 0100002ca0000118 $I $OH $OR => 1 fault 5013 at 4 bits -
 check kept any | $base | 0100002cc0000118 $I $OH $OR => 1 fault 3008 at 4 proxiable -\n
 check kept any | $base | 0100002c80000119 $I $OH $OR => 1 fault 3001 at 5 command -\n
 
+# The example of dia_run's docs: a message without AVPs.
+check kept any | $base | 0100001480000118 $I => 1 fault 5005 at 20 missing Origin-Host\n
+
 # Messages of no command.
 check kept any | | $REQUEST => 1 fault 3001 at 5 command -\n
 
