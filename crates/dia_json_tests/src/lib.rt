@@ -1,8 +1,10 @@
-//! The tests of `dia_json`: what is put as JSON. They go through public calls alone. There is nothing but tests.
+//! The tests of `dia_json` and `dia_breaking_json`: what is put as JSON. They go through public calls alone. There is nothing but tests.
 #![tactic(auto)]
 
 #[cfg(test)]
 mod answers;
+#[cfg(test)]
+mod lines;
 #[cfg(test)]
 mod many;
 #[cfg(test)]
