@@ -27,7 +27,7 @@ impl<'a> Keys<'a> {
     ghost use Rattle.std.specs.Prelude.{◌≡◌, IfOk, List, ℕ};
     ghost use Rattle.dia_breaking_json.specs.Keys.{key_in, key_named};
 
-    /// Those of a book.
+    /// The AVPs of a book, by their names.
     pub fn new<B: Book>(alloc: Global, book: &'a B) -> Result<Keys<'a>, AllocError>
         ensures { IfOk result (λ keys. (name : List ℕ) → key_in keys name ≡ key_named (B.meaning book.now) name) }
     {

@@ -76,8 +76,8 @@ pub fn syntax_place(text: &[u8], line: u32) -> usize
     words.part(words.wrong_part()).at
 }
 
-/// The place in a table's text of the line of this number, which passes a limit: that of the first name that is too long, or
-/// that of the pair.
+/// The place in a table's text of the line of this number, which passes a limit: that of the first name that is too long or,
+/// where none is, that of the pair's first word.
 pub fn limit_place(text: &[u8], line: u32) -> usize
     ensures { result ≡ limit_place text.now line }
 {

@@ -6,8 +6,8 @@ use std::alloc::{AllocError, Global};
 
 /// What judges lines.
 pub trait Judge {
-    /// What is found of a line.
-    type Verdict: Copy;
+    /// What is found of a line. It may own memory.
+    type Verdict: Drop;
 
     // Whether a line has this verdict.
     ghost says: { Self → AnyInput → Self.Verdict → Type 0 };
