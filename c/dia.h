@@ -290,6 +290,11 @@ void dia_text_close(dia_text *text);
 dia_status dia_compare(dia_dict *a, dia_dict *b, uint32_t unknown, const uint8_t *table, size_t table_len, dia_text *line,
                        uint32_t *holds, dia_problem *problem);
 
+/* Where dia_compare refuses the text of a table, in bytes, by the kind and the line of its problem: of DIA_SYNTAX the first word
+ * that cannot stand there; of DIA_LIMIT the name that is too long or, where none is, the pair that is one too many, and of line 0
+ * the end of the text. 0 for DIA_NOT_TEXT. dia_line_column tells the column. Takes no memory. */
+size_t dia_table_place(const uint8_t *table, size_t table_len, uint32_t kind, uint32_t line);
+
 /* Which messages a side sends that goes by its dictionary. */
 enum {
     DIA_SENDS_ANY = 0,   /* also AVPs that the dictionary does not know, with M clear, where a rule lets any in */

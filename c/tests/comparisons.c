@@ -37,31 +37,34 @@ static void comparisons_are_told(void) {
     EXPECT(writes(X T "{ X }", Y T "{ Y }", DIA_KEPT, "", "yes\n", 1));
 }
 
-/* Whether the table is refused for this, and nothing is written. */
-static int is_refused(const char *table, size_t len, uint32_t kind, uint32_t line_number) {
+/* Whether the table is refused for this, at this column, and nothing is written. */
+static int is_refused(const char *table, size_t len, uint32_t kind, uint32_t line_number, size_t column_number) {
     dia_dict a = DIA_DICT_INIT, b = DIA_DICT_INIT;
     dia_text line = DIA_TEXT_INIT;
     dia_problem problem = {99, 99, 99};
     uint32_t holds = 99;
     dia_status status = DIA_NONE;
+    size_t at, line_at, column;
     EXPECT(open_text(X, &a, &problem) == DIA_OK && dia_dict_share(&a, &b) == DIA_OK);
     status = dia_compare(&a, &b, DIA_KEPT, (const uint8_t *)table, len, &line, &holds, &problem);
     dia_dict_close(&a);
     dia_dict_close(&b);
+    at = dia_table_place((const uint8_t *)table, len, problem.kind, problem.line);
+    dia_line_column((const uint8_t *)table, len, at, &line_at, &column);
     return status == DIA_REFUSED && holds == 99 && line.dia_private == NULL && line.dia_state == 0 && problem.kind == kind
-        && problem.line == line_number && problem.token == 0;
+        && problem.line == line_number && problem.token == 0 && (line_number == 0 || line_at == line_number) && column == column_number;
 }
 
 static void tables_are_refused(void) {
     static char too_long[(1 << 25) + 1];
     char long_name[160] = "\navp ";
-    EXPECT(is_refused("\xff", 1, DIA_NOT_TEXT, 0));
-    EXPECT(is_refused("command T = T\n; a comment\navp X\n", 32, DIA_SYNTAX, 3));
+    EXPECT(is_refused("\xff", 1, DIA_NOT_TEXT, 0, 1));
+    EXPECT(is_refused("command T = T\n; a comment\navp X\n", 32, DIA_SYNTAX, 3, 6));
     memset(long_name + 5, 'n', DIA_MAX_NAME + 1);
     strcpy(long_name + 5 + DIA_MAX_NAME + 1, " = X");
-    EXPECT(is_refused(long_name, strlen(long_name), DIA_LIMIT, 2));
+    EXPECT(is_refused(long_name, strlen(long_name), DIA_LIMIT, 2, 5));
     memset(too_long, ' ', sizeof too_long);
-    EXPECT(is_refused(too_long, sizeof too_long, DIA_LIMIT, 0));
+    EXPECT(is_refused(too_long, sizeof too_long, DIA_LIMIT, 0, sizeof too_long + 1));
 }
 
 static void handles_are_asked(void) {

@@ -1,5 +1,5 @@
 -- Two dictionaries compared by the text of a table of pairs.
-use Rattle.std.specs.Prelude.{◌≡◌, ◌≢◌, ◌<◌, ◌≤◌, ℕ, List, length}
+use Rattle.std.specs.Prelude.{◌≡◌, ◌≢◌, ◌<◌, ◌≤◌, ◌==◌, if◌then◌else◌, ℕ, List, length}
 use Rattle.std.specs.Str.{IsUtf8}
 use Rattle.dia_policy.specs.declared.Unknown.{Unknown}
 use Rattle.dia_book.specs.Dictionary.{Dictionary}
@@ -8,6 +8,7 @@ use Rattle.dia_compat.specs.declared.TableFault.{TableFault}
 use Rattle.dia_compat.specs.declared.TableFault.TheVariants as table
 use Rattle.dia_compat.specs.TableText.{PlainTable, IsTable, IsTableFault, max_table}
 use Rattle.dia_compat.specs.Closed.{IsIncluded, IsTableAnswer}
+use Rattle.dia_explain_places.specs.Tables.{limit_place, syntax_place}
 use Rattle.dia_io.specs.declared.Exit.{Exit}
 use Rattle.dia_io.specs.declared.Exit.TheVariants.{Yes, No, Bad}
 use Rattle.dia_run.specs.Pairs.{IsAnswerText}
@@ -42,3 +43,7 @@ pub data IsNoTable (text : List ℕ) (p : Problem) : Type 0 where
   not_text : ¬ IsUtf8 text → p ≡ problem 0 0 0 → IsNoTable text p
   too_long : IsUtf8 text → max_table < length text → p ≡ problem 3 0 0 → IsNoTable text p
   fault : (f : TableFault) → IsUtf8 text → length text ≤ max_table → IsTableFault text f → f ≢ table.NoMemory → p ≡ table_problem f → IsNoTable text p
+
+-- where the text of a table is refused, by the kind and the line that are told: 1 is of its syntax, 3 of a limit
+abbrev pub table_place : List ℕ → ℕ → ℕ → ℕ
+table_place text kind n = if kind == 1 then syntax_place text n else (if kind == 3 then limit_place text n else 0)

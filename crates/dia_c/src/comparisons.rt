@@ -1,7 +1,7 @@
 //! Comparisons of two dictionaries.
 
 ghost use Rattle.std.specs.Prelude.{◌⊎◌, ◌≡◌, ◌≢◌, None, IfSome, IsSome};
-ghost use Rattle.dia_c.specs.Comparisons.{HasCompared, IsNoTable};
+ghost use Rattle.dia_c.specs.Comparisons.{HasCompared, IsNoTable, table_place};
 ghost use Rattle.dia_c.specs.Held.{dict_in, text_in};
 ghost use Rattle.dia_c.specs.Verdicts.{IsUnknownPolicy, policy_of};
 
@@ -10,6 +10,7 @@ use crate::handle::{DictHandle, TextHandle, owner_in};
 use crate::opening::{Problem, Refused};
 use crate::status::{BAD_ARGUMENT, DONE, IS_CLOSED, IS_OPEN, NO_MEMORY, REFUSED};
 use crate::verdict::policy_of;
+use dia_explain_places::{limit_place, syntax_place};
 use std::alloc::Global;
 
 /// What `diacmd compare` says of two dictionaries and the text of a table.
@@ -79,5 +80,18 @@ pub extern "C" fn dia_compare(
             }
             Refused::NoMemory => NO_MEMORY,
         },
+    }
+}
+
+/// The place in the text of a table where it is refused, by the kind and the line of the problem that `dia_compare` told: that of
+/// the first word that can't stand there, or of the name that is too long. Other kinds have no place.
+#[unsafe(no_mangle)]
+pub extern "C" fn dia_table_place(table: &[u8], kind: u32, line: u32) -> usize
+    ensures place { result ≡ table_place table.now kind line }
+{
+    match kind {
+        1 => syntax_place(table, line),
+        3 => limit_place(table, line),
+        _ => 0,
     }
 }

@@ -35,7 +35,7 @@ mod verdict_line;
 mod wanted;
 
 pub use checks::{dia_check, dia_check_json, dia_message_length};
-pub use comparisons::dia_compare;
+pub use comparisons::{dia_compare, dia_table_place};
 pub use dictionaries::{
     dia_avp_name, dia_command_name, dia_dict_close, dia_dict_open, dia_dict_open_base,
     dia_dict_share,
