@@ -15,7 +15,7 @@ use Rattle.dia_breaking.specs.Confirmed.{told_of}
 use Rattle.dia_breaking.specs.Free.{IsLineOf, IsFreeLevel, TellsFlags, IsFree, AreValidWhereFree}
 use Rattle.dia_breaking.specs.Headers.{TellsRefusal}
 use Rattle.dia_breaking.specs.Mended.{AreValidOnceMended, IsUnsent}
-use Rattle.dia_breaking.specs.OwnKeys.{own_key}
+use Rattle.dia_breaking.specs.OwnKeys.{data_key, flags_key}
 use Rattle.dia_breaking.specs.Sides.{sides, answer}
 use Rattle.dia_breaking.proofs.Lists.{same_image}
 
@@ -28,7 +28,11 @@ nothing_told da db who u sites lines c valid none bytes sent =
     valid bytes sent (record {
       selects = λ told. absurd (no_member lines told.0 none told.1);
       proxiable = λ other is told. absurd (no_member lines told.0 none told.3);
-      levels = λ other is a b inner lies. record { level = λ line told inside. absurd (no_member lines line none inside); own = λ line key v inside. absurd (no_member lines line none inside) };
+      levels = λ other is a b inner lies. record {
+        level = λ line told inside. absurd (no_member lines line none inside);
+        flags = λ line key v inside. absurd (no_member lines line none inside);
+        content = λ line key v inside. absurd (no_member lines line none inside);
+      };
     })
 
 -- where each is valid, each that is free is
@@ -64,7 +68,8 @@ module _ (da db : Dictionary) (u : Unknown) (sites : List Site) (old new : List 
   free_level : (x y : PlainDefinition) (avps : List PlainAvp) → IsFreeLevel da db u sites new c x y avps → IsFreeLevel da db u sites old c x y avps
   free_level x y avps free = record {
     level = λ line told inside cause of. let t = there line inside in free.level t.other told t.inside (t.cause ∙ cause) (its_levels line t x y of);
-    own = λ line key v inside is. let t = there line inside in free.own t.other key v t.inside (ap own_key t.cause ∙ is);
+    flags = λ line key v inside is. let t = there line inside in free.flags t.other key v t.inside (ap flags_key t.cause ∙ is);
+    content = λ line key v inside is. let t = there line inside in free.content t.other key v t.inside (ap data_key t.cause ∙ is);
   }
 
   refusal : TellsRefusal old → TellsRefusal new

@@ -5,6 +5,7 @@ pub mod Confirmed
 mod Standings
 mod Unchecked
 mod FormatData
+mod DataLines
 pub mod SentKeys
 pub mod Tellings
 mod OwnBreaks

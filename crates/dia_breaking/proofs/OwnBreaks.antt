@@ -22,7 +22,7 @@ use Rattle.dia_breaking_avps.specs.Levels.{empty, IsUndecided}
 use Rattle.dia_breaking_avps.specs.Sent.{HasGroup, TakesAnyData, group_of}
 use Rattle.dia_breaking.specs.Telling.{AreGroups, BreaksNothing, IsDataTaken}
 
-has_group : (d : Dictionary) (key : Key) (n : ℕ) → HasGroup d key n → IsSome (group_of d key)
+pub has_group : (d : Dictionary) (key : Key) (n : ℕ) → HasGroup d key n → IsSome (group_of d key)
 has_group d key n (group, is, at) = ap (λ (o : Option PlainDefinition). is_some o) is
 
 no_leaf : (d : Dictionary) (key : Key) (e : DictEntry) → known d key ≡ Some e → e.group ≡ None → IsSome (group_of d key) → ⊥

@@ -1,8 +1,9 @@
 -- Each AVP of a level that is reached fits B by itself, where the level is free of the lines.
 use Rattle.std.proofs.Common.{◌≡◌, ℕ, ◌+◌, ◌-◌, ◌<◌, ◌≤◌, Bool, true, false, List, [], length, map, Option, Some, None, refl, sym, ap, subst, ◌∙◌, arith, inl, inr}
-use Rattle.std.specs.Prelude.{◌⊎◌, ⊤, is_some, MatchOption, Contains, slice_get, option_and_then}
+use Rattle.std.specs.Prelude.{◌⊎◌, ⊤, is_some, IsSome, MatchOption, Contains, slice_get, option_and_then}
 use Rattle.std.specs.Option.{option_map, option_map_or}
 use Rattle.std.proofs.lemmas.Bool.{cases_lt}
+use Rattle.std.proofs.lemmas.Option.{none-some}
 use Rattle.dia_wire.specs.declared.Key.{Key}
 use Rattle.dia_wire.specs.Wire.{PlainAvp, key_of}
 use Rattle.dia_data.specs.Leaf.{IsLeaf}
@@ -12,10 +13,11 @@ use Rattle.dia_book.proofs.Members.{at_map, into_map}
 use Rattle.dia_policy.specs.declared.Unknown.{Unknown}
 use Rattle.dia_policy.specs.declared.Sends.{Sends}
 use Rattle.dia_policy.specs.declared.Sends.TheVariants.{Any}
-use Rattle.dia_check.specs.Valid.{is_listed, known}
+use Rattle.dia_check.specs.Valid.{Fits as AvpFits, IsAccepted, IsLevel, MHolds, is_listed, known}
+use Rattle.dia_check.specs.Admission.{HasFlags}
 use Rattle.dia_rules.specs.Rules.{rules_in}
 use Rattle.dia_rules.proofs.Members.{IsIn, all_of, in_at, in_contains, some_of}
-use Rattle.dia_breaking_sites.specs.Sent.{IsSentLevel, IsSentWithin}
+use Rattle.dia_breaking_sites.specs.Sent.{AreBytes, IsSentLevel, IsSentWithin, own_policy}
 use Rattle.dia_breaking_sites.specs.Sites.{FitsAlone}
 use Rattle.dia_breaking_sites.specs.Selection.{max_body}
 use Rattle.dia_breaking_sites.proofs.Members.{in_all}
@@ -25,11 +27,11 @@ use Rattle.dia_breaking_avps.specs.declared.breaking.DataBreak.TheVariants.{Fits
 use Rattle.dia_breaking_avps.specs.declared.breaking.HeadBreak.{HeadBreak}
 use Rattle.dia_breaking_avps.specs.declared.breaking.HeadBreak.TheVariants as head_breaks
 use Rattle.dia_breaking_avps.specs.Breaks.{AcceptsFlags, IsDataBreak, IsHeadBreak}
-use Rattle.dia_breaking_avps.specs.Laws.{FitKeyAlone}
-use Rattle.dia_breaking_avps.specs.Sent.{IsSentData, group_of}
-use Rattle.dia_breaking_avps.proofs.Alone.{key_alone, keys_alone, of_data, sent_data, sent_flags}
+use Rattle.dia_breaking_avps.specs.Sent.{IsAcceptedData, IsSentData, group_of}
+use Rattle.dia_breaking_avps.proofs.Alone.{of_data, sent_data, sent_flags}
 use Rattle.dia_breaking_avps.proofs.ShorterData.{shorter_accepted}
 use Rattle.dia_breaking_shortest.specs.Floors.{AreFloors, padded, shortest_head, total}
+use Rattle.dia_breaking_shortest.proofs.BytesOfAvps.{data_bytes}
 use Rattle.dia_breaking_shortest.proofs.FloorsOfAvps.{rounded_more}
 use Rattle.dia_breaking_ways.specs.Walks.{IsWalk, PlainExits}
 use Rattle.dia_breaking_ways.specs.declared.graph.Step.{Step}
@@ -46,32 +48,38 @@ use Rattle.dia_breaking.specs.Free.{IsFreeLevel, StandsIn}
 use Rattle.dia_breaking.specs.LevelCosts.{PicksShortest}
 use Rattle.dia_breaking.specs.Listing.{Told, data_length, head_cause, own_cause, own_lines, with_data}
 use Rattle.dia_breaking.specs.OwnBreaks.{IsOwnBreaks}
-use Rattle.dia_breaking.specs.OwnKeys.{own_key}
+use Rattle.dia_breaking.specs.OwnKeys.{data_key, flags_key}
 use Rattle.dia_breaking.specs.SentKeys.{AreSentKeys, IsStrange}
 use Rattle.dia_breaking.specs.Telling.{AreGroups, BreaksNothing, IsDataTaken}
 use Rattle.dia_breaking.specs.TheLines.{AreFacts, Facts, costs_in}
 use Rattle.dia_breaking.specs.Sides.{sides}
 use Rattle.dia_breaking.proofs.SentPrices.{strange_least}
 use Rattle.dia_breaking.proofs.SentLevels.{data_beside, key_contained, sent_keys}
-use Rattle.dia_breaking.proofs.ReadLevels.{AtLevel, Reaches, def_of, graph, total_has, way_beside, way_of}
+use Rattle.dia_breaking.proofs.ReadLevels.{AtLevel, Reaches, graph, total_has, way_beside, way_of}
 use Rattle.dia_breaking.proofs.Reached.{Found, Kept, found, own_kept}
 use Rattle.dia_breaking.proofs.SentKeys.{sent_of}
 use Rattle.dia_breaking.proofs.Shortest.{unlisted}
-use Rattle.dia_breaking.proofs.Tellings.{strange_alone}
-use Rattle.dia_breaking.proofs.ToldLines.{IsToldIn, own_told, subject_key}
+use Rattle.dia_breaking.proofs.OwnBreaks.{has_group}
+use Rattle.dia_breaking.proofs.Tellings.{any_data, strange_flags}
+use Rattle.dia_breaking.proofs.ToldLines.{IsToldIn, own_told, subject_data, subject_flags}
 
--- what breaks nothing fits alone
-nothing_breaks : (da db : Dictionary) (who : Sends) (u : Unknown) (key : Key) → BreaksNothing da db who u key → FitKeyAlone da db who u key
-nothing_breaks da db who u key (flags, how) = by how
-  where
-    by : AreGroups da db key ⊎ IsDataTaken da db who u key → FitKeyAlone da db who u key
-    by (inl both) =
-        let x = some_of (group_of da key) both.0 in
-        let y = some_of (group_of db key) both.1 in
-        let a = def_of da key x.0 x.1 in
-        let b = def_of db key y.0 y.1 in
-        key_alone da db who u key None (Groups a.0 b.0) flags ((x.0, x.1, a.1), (y.0, y.1, b.1)) (refl, tt)
-    by (inr taken) = key_alone da db who u key None Fits flags taken.0 (refl, tt)
+-- an AVP whose flags B accepts, and whose data it accepts, or in which both dictionaries see a level, fits alone
+module _ (da db : Dictionary) (u : Unknown) (v : PlainAvp) where
+  abbrev IsRead : Type 0
+  IsRead = IsAcceptedData db u (key_of v) v.bytes ⊎ AreGroups da db (key_of v)
+
+  abbrev Inner : List DRule → List ℕ → Type 0
+  Inner rules bytes = IsSome (group_of da (key_of v)) ⊎ IsLevel (AvpFits db u 0) rules bytes
+
+  of_group : IsSome (group_of da (key_of v)) → (y : PlainDefinition) (o : Option DictEntry) → option_and_then (λ e. e.group) o ≡ Some y → MatchOption o (IsAccepted u v.flags) (λ e. MHolds e.rule v.flags)
+      → MatchOption o (IsAccepted u v.flags) (λ e. MHolds e.rule v.flags × MatchOption e.group (IsLeaf e.format v.bytes) (λ group. Inner group.rules v.bytes))
+  of_group sent y None is flags = absurd (none-some y is)
+  of_group sent y (Some e) is flags =
+      (flags, subst (λ (o : Option PlainDefinition). MatchOption o (IsLeaf e.format v.bytes) (λ group. Inner group.rules v.bytes)) (sym is) (inl sent))
+
+  by_parts : HasFlags db u (key_of v) v.flags → IsRead → FitsAlone da db u v
+  by_parts flags (inl accepted) = of_data da db u v (known db (key_of v)) flags accepted
+  by_parts flags (inr both) = let y = some_of (group_of db (key_of v)) both.1 in (0, of_group both.0 y.0 (known db (key_of v)) y.1 flags)
 
 -- the kinds that lines tell
 abbrev pub IsOfLines : Kind → Type 0
@@ -127,25 +135,40 @@ module _ (da db : Dictionary) (who : Sends) (u : Unknown) (made : Facts) (facts 
     sent : IsSentWithin da who l.level.sent.0 v
     sent = in_all (IsSentWithin da who l.level.sent.0) avps v l.level.sent.1 (in_contains avps v comes)
 
-    alone : FitKeyAlone da db who u key → FitsAlone da db u v
-    alone fits = keys_alone da db who u x.rules (max_body - l.stage.way) avps v l.level comes fits
+    are : AreBytes v.bytes
+    are = data_bytes avps l.level.bytes v l.level.spelled l.level.are_bytes (in_contains avps v comes)
 
-    -- what is told of an AVP that is reached doesn't break here
-    refused : (q : Key) (place : ℕ) (o : KeptOwn q place) (reach : Reach) → slice_get reached place ≡ Some (Some reach) → StandsIn da db key q → (kind : Kind) → IsOfLines kind → (cause : Cause) (n : ℕ)
-        → own_cause kind o.one reach.length ≡ Some (cause, n) → n ≤ max_body → own_key cause ≡ Some o.one.key → FitsAlone da db u v
-    refused q place o reach at stands kind of cause n is room its =
+    flags_sent : HasFlags da (own_policy who) key v.flags
+    flags_sent = sent_flags da who l.level.sent.0 v sent
+
+    data_sent : IsSentData da who key v.bytes
+    data_sent = sent_data da who l.level.sent.0 v sent
+
+    abbrev HasFlagsHere : Type 0
+    HasFlagsHere = HasFlags db u key v.flags
+
+    abbrev HasDataHere : Type 0
+    HasDataHere = IsAcceptedData db u key v.bytes
+
+    -- where it is told that flags of an AVP that is reached break, they don't here
+    flags_told : (q : Key) (place : ℕ) (o : KeptOwn q place) (reach : Reach) → slice_get reached place ≡ Some (Some reach) → StandsIn da db key q → (kind : Kind) → IsOfLines kind → (cause : Cause) (n : ℕ)
+        → own_cause kind o.one reach.length ≡ Some (cause, n) → n ≤ max_body → flags_key cause ≡ Some o.one.key → HasFlagsHere
+    flags_told q place o reach at stands kind of cause n is room its =
         let t = told kind _ of (own_told kind first count made.own reached place o.one reach cause n o.at at is room) in
-        free.own t.line q v t.inside (sym (subject_key t.line.cause) ∙ ap own_key t.cause ∙ its ∙ ap (λ (k : Key). Some k) o.is_key) comes stands
+        free.flags t.line q v t.inside (sym (subject_flags t.line.cause) ∙ ap flags_key t.cause ∙ its ∙ ap (λ (k : Key). Some k) o.is_key) comes stands
 
-    -- nor does its head
-    head_refused : (q : Key) (place : ℕ) (o : KeptOwn q place) (reach : Reach) → slice_get reached place ≡ Some (Some reach) → reach.length ≤ max_body → StandsIn da db key q
-        → (found : HeadBreak) → o.one.breaks.head ≡ Some found → FitsAlone da db u v
-    head_refused q place o reach at room stands (head_breaks.Unknown m) is =
-        refused q place o reach at stands kinds.Unknown tt (causes.Unknown o.one.key m) reach.length
+    flags_here : (q : Key) (place : ℕ) (o : KeptOwn q place) (reach : Reach) → slice_get reached place ≡ Some (Some reach) → reach.length ≤ max_body → StandsIn da db key q
+        → (found : HeadBreak) → o.one.breaks.head ≡ Some found → HasFlagsHere
+    flags_here q place o reach at room stands (head_breaks.Unknown m) is =
+        flags_told q place o reach at stands kinds.Unknown tt (causes.Unknown o.one.key m) reach.length
         (ap (λ (h : Option HeadBreak). option_map {U = Cause × ℕ} (λ (cause : Cause). (cause, reach.length)) (option_and_then (head_cause kinds.Unknown o.one.key) h)) is) room refl
-    head_refused q place o reach at room stands (head_breaks.MBit m) is =
-        refused q place o reach at stands kinds.MBit tt (causes.MBit o.one.key m) reach.length
+    flags_here q place o reach at room stands (head_breaks.MBit m) is =
+        flags_told q place o reach at stands kinds.MBit tt (causes.MBit o.one.key m) reach.length
         (ap (λ (h : Option HeadBreak). option_map {U = Cause × ℕ} (λ (cause : Cause). (cause, reach.length)) (option_and_then (head_cause kinds.MBit o.one.key) h)) is) room refl
+
+    -- where nothing is told of its flags, B accepts them all
+    silent_flags : (q : Key) (place : ℕ) (o : KeptOwn q place) → o.one.breaks.head ≡ None → AcceptsFlags da db who u q
+    silent_flags q place o is = subst (λ (k : Key). AcceptsFlags da db who u k) o.is_key (subst (λ (h : Option HeadBreak). IsHeadBreak da db who u o.one.key h) is o.is.head)
 
     -- a message has room for what is reached from this level
     within_room : (reach : Reach) → reach.length ≤ l.stage.way + total floor (map key_of avps) → reach.length ≤ max_body
@@ -158,17 +181,17 @@ module _ (da db : Dictionary) (who : Sends) (u : Unknown) (made : Facts) (facts 
     -- ---- its own key
 
     module _ (p : KeptHere key) (o : KeptOwn key p.place) (reach : Reach) (at : slice_get reached p.place ≡ Some (Some reach)) (short : reach.length ≤ l.stage.way + total floor (map key_of avps))
-        (room : reach.length ≤ max_body) (silent : o.one.breaks.head ≡ None) where
-      flags : AcceptsFlags da db who u key
-      flags = subst (λ (k : Key). AcceptsFlags da db who u k) o.is_key (subst (λ (h : Option HeadBreak). IsHeadBreak da db who u o.one.key h) silent o.is.head)
-
+        (room : reach.length ≤ max_body) where
       breaks : (r : DataBreak) → o.one.breaks.data ≡ r → IsDataBreak da db who u key r
       breaks r is = subst (λ (k : Key). IsDataBreak da db who u k r) o.is_key (subst (λ (d : DataBreak). IsDataBreak da db who u o.one.key d) is o.is.content)
 
-      by_data : (n : ℕ) → data_length o.one reach.length o.one.breaks.data ≡ Some n → n ≤ max_body → FitsAlone da db u v
-      by_data n is fits =
-          refused key p.place o reach at (inl refl) kinds.Data tt (causes.Format o.one.key None) n
-          (ap (λ (h : Option ℕ). option_map {U = Cause × ℕ} (λ (m : ℕ). (causes.Format o.one.key None, m)) h) is) fits refl
+      -- where it is told that its data break, they don't here
+      data_told : (n : ℕ) → data_length o.one reach.length o.one.breaks.data ≡ Some n → n ≤ max_body → HasDataHere
+      data_told n is fits =
+          let cause = causes.Format o.one.key None in
+          let made_of = ap (λ (h : Option ℕ). option_map {U = Cause × ℕ} (λ (m : ℕ). (causes.Format o.one.key None, m)) h) is in
+          let t = told kinds.Data _ tt (own_told kinds.Data first count made.own reached p.place o.one reach cause n o.at at made_of fits) in
+          free.content t.line key v t.inside (sym (subject_data t.line.cause) ∙ ap data_key t.cause ∙ ap (λ (k : Key). Some k) o.is_key) comes refl
 
       -- where a message has no room for the shortest data that break, those of this AVP are shorter
       shorter : (least : List ℕ) → max_body < reach.length - o.one.least + padded (shortest_head o.one.key + length least) → length v.bytes < length least
@@ -185,23 +208,21 @@ module _ (da db : Dictionary) (who : Sends) (u : Unknown) (made : Facts) (facts 
               let fits = l.within in
               absurd (omega (arith, over, more, head, least_is, beside, has, fits, short))
 
-      data_fits : (r : DataBreak) → o.one.breaks.data ≡ r → FitsAlone da db u v
-      data_fits Fits is = alone (key_alone da db who u key None Fits flags (breaks Fits is) (refl, tt))
-      data_fits (Groups a b) is = alone (key_alone da db who u key None (Groups a b) flags (breaks (Groups a b) is) (refl, tt))
-      data_fits LeastLevel is = by_data reach.length (ap (data_length o.one reach.length) is) room
-      data_fits Undecided is = by_data reach.length (ap (data_length o.one reach.length) is) room
-      data_fits (Data w) is = by (cases_lt max_body (with_data o.one reach.length w))
+      data_here : (r : DataBreak) → o.one.breaks.data ≡ r → IsRead da db u v
+      data_here Fits is = inl (breaks Fits is v.bytes are data_sent)
+      data_here (Groups a b) is = let both = breaks (Groups a b) is in inr (has_group da key a both.0, has_group db key b both.1)
+      data_here LeastLevel is = inl (data_told reach.length (ap (data_length o.one reach.length) is) room)
+      data_here Undecided is = inl (data_told reach.length (ap (data_length o.one reach.length) is) room)
+      data_here (Data w) is = inl (by (cases_lt max_body (with_data o.one reach.length w)))
         where
-          by : (max_body < with_data o.one reach.length w) ⊎ (with_data o.one reach.length w ≤ max_body) → FitsAlone da db u v
-          by (inr fits) = by_data (with_data o.one reach.length w) (ap (data_length o.one reach.length) is) fits
+          by : (max_body < with_data o.one reach.length w) ⊎ (with_data o.one reach.length w ≤ max_body) → HasDataHere
+          by (inr fits) = data_told (with_data o.one reach.length w) (ap (data_length o.one reach.length) is) fits
           by (inl over) =
               let h = breaks (Data w) is in
-              let less = shorter (witness_bytes w) (omega (arith, over)) in
-              of_data da db u v (known db key) (flags v.flags (sent_flags da who l.level.sent.0 v sent))
-              (shorter_accepted da db who u key (witness_bytes w) v.bytes h.0 h.1 (sent_data da who l.level.sent.0 v sent) less)
+              shorter_accepted da db who u key (witness_bytes w) v.bytes h.0 h.1 data_sent (shorter (witness_bytes w) (omega (arith, over)))
 
     own_fits : (p : KeptHere key) → FitsAlone da db u v
-    own_fits p = by o.one.breaks.head refl
+    own_fits p = by_parts da db u v (by o.one.breaks.head refl) (data_here p o w.0 w.1 w.2 (within_room w.0 w.2) o.one.breaks.data refl)
       where
         o : KeptOwn key p.place
         o = kept_own key p
@@ -209,16 +230,24 @@ module _ (da db : Dictionary) (who : Sends) (u : Unknown) (made : Facts) (facts 
         w : Reaches da db who u made.lengths made.others made.telling made.outlooks facts.is_telling facts.are_outlooks sa shortest floors start steps reached top under walk x y avps l p.place
         w = way_of da db who u made.lengths made.others made.telling made.outlooks facts.is_telling facts.are_outlooks sa shortest floors start steps reached top under walk x y avps l v comes p
 
-        by : (h : Option HeadBreak) → o.one.breaks.head ≡ h → FitsAlone da db u v
-        by None is = data_fits p o w.0 w.1 w.2 (within_room w.0 w.2) is o.one.breaks.data refl
-        by (Some found) is = head_refused key p.place o w.0 w.1 (within_room w.0 w.2) (inl refl) found is
+        by : (h : Option HeadBreak) → o.one.breaks.head ≡ h → HasFlagsHere
+        by None is = silent_flags key p.place o is v.flags flags_sent
+        by (Some found) is = flags_here key p.place o w.0 w.1 (within_room w.0 w.2) (inl refl) found is
+
+    -- what breaks nothing fits
+    silent_fits : BreaksNothing da db who u key → FitsAlone da db u v
+    silent_fits (flags, how) = by_parts da db u v (flags v.flags flags_sent) (by how)
+      where
+        by : AreGroups da db key ⊎ IsDataTaken da db who u key → IsRead da db u v
+        by (inl both) = inr both
+        by (inr taken) = inl (taken.0 v.bytes are data_sent)
 
     by_found : FoundHere key → FitsAlone da db u v
     by_found f = by f.own.breaks refl
       where
         by : (b : Bool) → f.own.breaks ≡ b → FitsAlone da db u v
         by true e = own_fits (own_kept da db who u made.lengths made.others made.telling made.outlooks facts.is_telling facts.are_outlooks key f e)
-        by false e = alone (nothing_breaks da db who u key (subst (λ (k : Key). BreaksNothing da db who u k) f.own_key (f.exact.silent.0 e)))
+        by false e = silent_fits (subst (λ (k : Key). BreaksNothing da db who u k) f.own_key (f.exact.silent.0 e))
 
     -- ---- a key that neither knows: another stands for it
 
@@ -228,8 +257,11 @@ module _ (da db : Dictionary) (who : Sends) (u : Unknown) (made : Facts) (facts 
           let rules : rules_in da l.def ≡ x.rules = ap (λ (o : Option PlainDefinition). option_map_or (λ (y : PlainDefinition). y.rules) o []) l.at_def in
           subst (λ (rs : List DRule). is_listed rs k ≡ false) rules (unlisted da l.def k sa none)
 
-      by_flags : AcceptsFlags da db who u q → FitsAlone da db u v
-      by_flags accepts = alone (strange_alone da db who u q key strange (none_a, none_b) accepts)
+      by_flags : HasFlagsHere → FitsAlone da db u v
+      by_flags has = by_parts da db u v has (inl (any_data db u key v.bytes none_b))
+
+      by_accepted : AcceptsFlags da db who u q → FitsAlone da db u v
+      by_accepted accepts = by_flags (strange_flags da db who u q key strange (none_a, none_b) accepts v.flags flags_sent)
 
       stranger_fits : KeptHere q → FitsAlone da db u v
       stranger_fits p = by o.one.breaks.head refl
@@ -242,15 +274,15 @@ module _ (da db : Dictionary) (who : Sends) (u : Unknown) (made : Facts) (facts 
               (not_listed key none_a) q p (not_listed q strange.0) (strange_least da who made.lengths q key strange.0 vendor none_a)
 
           by : (h : Option HeadBreak) → o.one.breaks.head ≡ h → FitsAlone da db u v
-          by None is = by_flags (subst (λ (k : Key). AcceptsFlags da db who u k) o.is_key (subst (λ (h : Option HeadBreak). IsHeadBreak da db who u o.one.key h) is o.is.head))
-          by (Some found) is = head_refused q p.place o w.0 w.1 (within_room w.0 w.2) (inr (strange, (none_a, none_b))) found is
+          by None is = by_accepted (silent_flags q p.place o is)
+          by (Some found) is = by_flags (flags_here q p.place o w.0 w.1 (within_room w.0 w.2) (inr (strange, (none_a, none_b))) found is)
 
       by_stranger : FoundHere q → FitsAlone da db u v
       by_stranger f = by f.own.breaks refl
         where
           by : (b : Bool) → f.own.breaks ≡ b → FitsAlone da db u v
           by true e = stranger_fits (own_kept da db who u made.lengths made.others made.telling made.outlooks facts.is_telling facts.are_outlooks q f e)
-          by false e = by_flags (subst (λ (k : Key). BreaksNothing da db who u k) f.own_key (f.exact.silent.0 e)).0
+          by false e = by_accepted (subst (λ (k : Key). BreaksNothing da db who u k) f.own_key (f.exact.silent.0 e)).0
 
     -- ---- each
 
@@ -261,7 +293,7 @@ module _ (da db : Dictionary) (who : Sends) (u : Unknown) (made : Facts) (facts 
     each_fits = by (entry_of da key) refl (entry_of db key) refl
       where
         any : entry_of da key ≡ None → who ≡ Any
-        any none = sends_any da who key v.bytes none (sent_data da who l.level.sent.0 v sent)
+        any none = sends_any da who key v.bytes none data_sent
 
         by : (a : Option ℕ) → entry_of da key ≡ a → (b : Option ℕ) → entry_of db key ≡ b → FitsAlone da db u v
         by (Some i) in_a b in_b = by_found (found_in key (keys_sent.own key (ap (λ (o : Option ℕ). is_some o) in_a)))

@@ -16,11 +16,9 @@ use Rattle.dia_check.specs.Admission.{HasFlags}
 use Rattle.dia_breaking_sites.specs.Sent.{own_policy}
 use Rattle.dia_breaking_avps.specs.declared.breaking.AvpBreaks.{AvpBreaks}
 use Rattle.dia_breaking_avps.specs.declared.breaking.HeadBreak.{HeadBreak}
-use Rattle.dia_breaking_avps.specs.declared.breaking.DataBreak.TheVariants.{Fits}
-use Rattle.dia_breaking_avps.specs.Sent.{group_of}
-use Rattle.dia_breaking_avps.specs.Breaks.{AcceptsFlags, IsDataBreak, IsHeadBreak, IsSilent}
+use Rattle.dia_breaking_avps.specs.Sent.{IsAcceptedData, group_of}
+use Rattle.dia_breaking_avps.specs.Breaks.{AcceptsFlags, IsHeadBreak, IsSilent}
 use Rattle.dia_breaking_avps.specs.Laws.{FitKeyAlone}
-use Rattle.dia_breaking_avps.proofs.Alone.{key_alone}
 use Rattle.dia_rules.proofs.Members.{IsIn, in_contains, contains_in, in_append}
 use Rattle.dia_breaking.specs.declared.keys.Own.{Own}
 use Rattle.dia_breaking.specs.declared.keys.Telling.{Telling}
@@ -42,21 +40,16 @@ none_flags d u key flags none h = subst (λ (o : Option DictEntry). MatchOption 
 pub no_group : (d : Dictionary) (key : Key) → entry_of d key ≡ None → IsSome (group_of d key) → ⊥
 no_group d key none h = both_ways (is_some (group_of d key)) (ap (λ (o : Option DictEntry). is_some (option_and_then (λ e. e.group) o)) (known_none d key none)) h
 
--- one that B doesn't know may have any data
-alone_by_flags : (da db : Dictionary) (who : Sends) (u : Unknown) (key : Key) → AcceptsFlags da db who u key → entry_of db key ≡ None → FitKeyAlone da db who u key
-alone_by_flags da db who u key accepts none = key_alone da db who u key None Fits accepts any_data (refl, tt)
-  where
-    any_data : IsDataBreak da db who u key Fits
-    any_data bytes are sent =
-        subst (λ (o : Option DictEntry). MatchOption o ⊤ (λ e. MatchOption e.group (IsLeaf e.format bytes) (λ group. (n : ℕ) × IsLevel (AvpFits db u n) group.rules bytes)))
-        (sym (known_none db key none)) tt
+-- one that it doesn't know may have any data
+pub any_data : (d : Dictionary) (u : Unknown) (key : Key) (bytes : List ℕ) → entry_of d key ≡ None → IsAcceptedData d u key bytes
+any_data d u key bytes none =
+    subst (λ (o : Option DictEntry). MatchOption o ⊤ (λ e. MatchOption e.group (IsLeaf e.format bytes) (λ group. (n : ℕ) × IsLevel (AvpFits d u n) group.rules bytes)))
+    (sym (known_none d key none)) tt
 
 -- strange keys have the flags of one another
-pub strange_alone : (da db : Dictionary) (who : Sends) (u : Unknown) (own key : Key) → IsStrange da db own → IsStrange da db key → AcceptsFlags da db who u own → FitKeyAlone da db who u key
-strange_alone da db who u own key (none_a, none_b) (key_a, key_b) accepts =
-    alone_by_flags da db who u key
-    (λ flags h. none_flags db u key flags key_b (flags_none db u own flags none_b (accepts flags (none_flags da (own_policy who) own flags none_a (flags_none da (own_policy who) key flags key_a h)))))
-    key_b
+pub strange_flags : (da db : Dictionary) (who : Sends) (u : Unknown) (own key : Key) → IsStrange da db own → IsStrange da db key → AcceptsFlags da db who u own → AcceptsFlags da db who u key
+strange_flags da db who u own key (none_a, none_b) (key_a, key_b) accepts flags h =
+    none_flags db u key flags key_b (flags_none db u own flags none_b (accepts flags (none_flags da (own_policy who) own flags none_a (flags_none da (own_policy who) key flags key_a h))))
 
 -- where nothing breaks, B accepts the flags
 pub silent_of : (da db : Dictionary) (who : Sends) (u : Unknown) (key : Key) (breaks : AvpBreaks) → IsHeadBreak da db who u key breaks.head → (IsSilent breaks → FitKeyAlone da db who u key)

@@ -18,7 +18,7 @@ use Rattle.dia_breaking.specs.declared.own_lines.Kind.{Kind}
 use Rattle.dia_breaking.specs.declared.own_lines.Kind.TheVariants as kinds
 use Rattle.dia_breaking.specs.Listing.{Told, Basis, AreInOrder, command_levels, group_levels, header_lines, lines_of, numbers, own_cause, own_line, own_lines, reach_at, reached_line, subject, tells, with_room}
 use Rattle.dia_breaking.specs.Orders.{IsInOrderOf, joined, of_each}
-use Rattle.dia_breaking.specs.OwnKeys.{own_key}
+use Rattle.dia_breaking.specs.OwnKeys.{data_key, flags_key}
 use Rattle.dia_breaking.specs.Sites.{site_number}
 use Rattle.dia_breaking.proofs.Lists.{contains_at}
 
@@ -78,17 +78,28 @@ cause_is (causes.Unknown key m) told e none = e
 cause_is (causes.MBit key m) told e none = e
 cause_is (causes.Meaning key) told e none = e
 
--- the key stays
-pub subject_key : (cause : Cause) → own_key (subject cause) ≡ own_key cause
-subject_key (causes.Format key found) = refl
-subject_key (causes.LevelAsLeaf key) = refl
-subject_key causes.Command = refl
-subject_key causes.Application = refl
-subject_key (causes.Proxiable set) = refl
-subject_key (causes.Level line) = refl
-subject_key (causes.Unknown key m) = refl
-subject_key (causes.MBit key m) = refl
-subject_key (causes.Meaning key) = refl
+-- the keys stay
+pub subject_flags : (cause : Cause) → flags_key (subject cause) ≡ flags_key cause
+subject_flags (causes.Format key found) = refl
+subject_flags (causes.LevelAsLeaf key) = refl
+subject_flags causes.Command = refl
+subject_flags causes.Application = refl
+subject_flags (causes.Proxiable set) = refl
+subject_flags (causes.Level line) = refl
+subject_flags (causes.Unknown key m) = refl
+subject_flags (causes.MBit key m) = refl
+subject_flags (causes.Meaning key) = refl
+
+pub subject_data : (cause : Cause) → data_key (subject cause) ≡ data_key cause
+subject_data (causes.Format key found) = refl
+subject_data (causes.LevelAsLeaf key) = refl
+subject_data causes.Command = refl
+subject_data causes.Application = refl
+subject_data (causes.Proxiable set) = refl
+subject_data (causes.Level line) = refl
+subject_data (causes.Unknown key m) = refl
+subject_data (causes.MBit key m) = refl
+subject_data (causes.Meaning key) = refl
 
 -- ---- AVPs by themselves
 

@@ -8,10 +8,10 @@ use Rattle.dia_book.specs.Dictionary.{Dictionary, PlainDefinition, definitions, 
 use Rattle.dia_policy.specs.declared.Unknown.{Unknown}
 use Rattle.dia_policy.specs.declared.Levels.TheVariants as levels
 use Rattle.dia_check.specs.Valid.{IsValid}
+use Rattle.dia_check.specs.Admission.{HasFlags}
 use Rattle.dia_breaking_sites.specs.Sent.{IsSent}
-use Rattle.dia_breaking_sites.specs.Sites.{FitsAlone}
 use Rattle.dia_breaking_sites.specs.Selection.{AboutFlags, AreValid, IsAsked}
-use Rattle.dia_breaking_avps.specs.Sent.{group_of}
+use Rattle.dia_breaking_avps.specs.Sent.{group_of, IsAcceptedData}
 use Rattle.dia_breaking_levels.specs.declared.line.Line.{Line as LevelLine}
 use Rattle.dia_breaking_levels.specs.Levels.{ShowsAt}
 use Rattle.dia_breaking.specs.declared.heads.Head.{Head}
@@ -21,7 +21,7 @@ use Rattle.dia_breaking.specs.declared.line.Place.{Place}
 use Rattle.dia_breaking.specs.declared.line.Place.TheVariants as places
 use Rattle.dia_breaking.specs.declared.line.Site.{Site}
 use Rattle.dia_breaking.specs.Headers.{head_in, TellsRefusal}
-use Rattle.dia_breaking.specs.OwnKeys.{own_key}
+use Rattle.dia_breaking.specs.OwnKeys.{data_key, flags_key}
 use Rattle.dia_breaking.specs.SentKeys.{IsStrange}
 use Rattle.dia_breaking.specs.Sides.{Sides, Answer}
 
@@ -46,12 +46,16 @@ IsLineOf da db sites c line x y = (site : Site) × (slice_get sites line.site �
 abbrev pub StandsIn : Dictionary → Dictionary → Key → Key → Type 0
 StandsIn da db key own = (key ≡ own) ⊎ (IsStrange da db own × IsStrange da db key)
 
--- a level that these definitions read breaks in none of the ways that lines of such levels tell; and of AVPs of which a line tells
--- that they break by themselves, those of the level fit
+-- a level that these definitions read breaks in none of the ways that lines of such levels tell. Where a line tells that AVPs of a key break
+-- by their flags, those that stand for them in the level have flags that B accepts. Where one tells that they break by their data, those of
+-- the level have data that B accepts
 pub record IsFreeLevel (da db : Dictionary) (u : Unknown) (sites : List Site) (lines : List Line) (c : ℕ) (x y : PlainDefinition) (avps : List PlainAvp) : Type 0 where
   pub level : (line : Line) (told : LevelLine) → Contains lines line → line.cause ≡ causes.Level told → IsLineOf da db sites c line x y
       → ¬ ShowsAt x.rules y.rules (map key_of avps) told.reason told.key
-  pub own : (line : Line) (key : Key) (v : PlainAvp) → Contains lines line → own_key line.cause ≡ Some key → Contains avps v → StandsIn da db (key_of v) key → FitsAlone da db u v
+  pub flags : (line : Line) (key : Key) (v : PlainAvp) → Contains lines line → flags_key line.cause ≡ Some key → Contains avps v → StandsIn da db (key_of v) key
+      → HasFlags db u (key_of v) v.flags
+  pub content : (line : Line) (key : Key) (v : PlainAvp) → Contains lines line → data_key line.cause ≡ Some key → Contains avps v → key_of v ≡ key
+      → IsAcceptedData db u key v.bytes
 
 -- ---- headers
 

@@ -1,5 +1,6 @@
 pub mod CommandLevels
 pub mod Confirmed
+pub mod DataLines
 pub mod Exits
 pub mod Free
 pub mod Headers

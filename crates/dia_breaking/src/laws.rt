@@ -1,5 +1,6 @@
 //! What holds of the lines and the meanings of a command, and where a table shows inclusion.
 ghost use Rattle.dia_breaking.specs.Confirmed.{IncludedBreakNothing, IncludedHaveNoLines};
+ghost use Rattle.dia_breaking.specs.DataLines.{DataLinesAreApart};
 ghost use Rattle.dia_breaking.specs.Listing.{ListingsAreOne};
 ghost use Rattle.dia_breaking.specs.Messages.{LineMessagesAreOne};
 ghost use Rattle.dia_breaking.specs.TheLines.{TheLinesAreAll, TheLinesAreOne};
@@ -25,6 +26,13 @@ pub fn line_messages_are_one()
 /// The lines of a command tell all that breaks: what is free of them is valid under B, also once its header is mended.
 pub fn the_lines_are_all()
     ensures { TheLinesAreAll }
+{}
+
+/// A line about data tells what breaks, and none is told for another: it names data exactly where the sender's AVPs are no groups, it
+/// is about the format where the receiver refuses each ordinary level, and it is undecided only where it isn't known whether the
+/// receiver accepts all levels.
+pub fn data_lines_are_apart()
+    ensures { DataLinesAreApart }
 {}
 
 /// Two dictionaries have one list of sites and one of lines for a command, by what is sent and by the receiver's policy.

@@ -21,7 +21,7 @@ ghost use Rattle.dia_breaking.specs.Words.{head_at};
 
 use crate::apps::BothApps;
 use crate::exits::{Outlook, outlooks};
-use crate::heads::{Head, head_of};
+use crate::heads::head_of;
 use crate::keys::Telling;
 use crate::lengths::Lengths;
 use crate::line::Breaks;
