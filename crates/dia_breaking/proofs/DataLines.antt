@@ -18,8 +18,6 @@ use Rattle.dia_breaking_avps.specs.declared.breaking.DataBreak.TheVariants.{Data
 use Rattle.dia_breaking.specs.declared.line.Cause.{Cause}
 use Rattle.dia_breaking.specs.declared.line.Cause.TheVariants as causes
 use Rattle.dia_breaking.specs.DataLines.{DataLinesAreApart, IsLineOfData, NamesData}
-use Rattle.dia_breaking.specs.OwnBreaks.{TellsData}
-use Rattle.dia_breaking.specs.OwnKeys.{data_key}
 use Rattle.dia_breaking.specs.Sides.{Sides}
 
 -- ---- a level of 8 bytes
@@ -31,19 +29,25 @@ abbrev least_bytes : List ℕ
 least_bytes = 0 ∷ 0 ∷ 0 ∷ 0 ∷ 0 ∷ 0 ∷ 0 ∷ 8 ∷ []
 
 spelled : SpellsAll (least ∷ []) least_bytes
-spelled = (least_bytes, [], record {
-  code = 0 ∷ 0 ∷ 0 ∷ 0 ∷ [];
-  len = 0 ∷ 0 ∷ 8 ∷ [];
-  vendor = [];
-  padding = [];
-  parts = refl;
-  code_field = record { width = refl; value = refl };
-  length_field = record { width = refl; value = refl };
-  vendor_field = refl;
-  agrees = (λ set. absurd (set refl), λ some. absurd (both_ways false refl some));
-  short_padding = omega arith;
-  aligned = refl;
-}, refl, refl)
+spelled = (
+  least_bytes,
+  [],
+  record {
+    code = 0 ∷ 0 ∷ 0 ∷ 0 ∷ [];
+    len = 0 ∷ 0 ∷ 8 ∷ [];
+    vendor = [];
+    padding = [];
+    parts = refl;
+    code_field = record { width = refl; value = refl };
+    length_field = record { width = refl; value = refl };
+    vendor_field = refl;
+    agrees = (λ set. absurd (set refl), λ some. absurd (both_ways false refl some));
+    short_padding = omega arith;
+    aligned = refl;
+  },
+  refl,
+  refl,
+)
 
 ordinary : IsOrdinary (least ∷ [])
 ordinary = short (least ∷ []) least (0, omega arith, refl) (let size : avp_length least ≡ 8 = refl in omega (arith, size))
