@@ -13,7 +13,7 @@ use Rattle.dia_breaking_data.proofs.BytesOfNumbers.{number_four, four_number, fo
 
 -- ---- numbers
 
-listed_four : (ranges : List (ℕ × ℕ)) (n : ℕ) → Any (IsWithin n) ranges → IsOf (Listed ranges) (four_bytes n)
+pub listed_four : (ranges : List (ℕ × ℕ)) (n : ℕ) → Any (IsWithin n) ranges → IsOf (Listed ranges) (four_bytes n)
 listed_four ranges n any = (refl, subst (λ (m : ℕ). Any (IsWithin m) ranges) (sym (number_four n)) any)
 
 four_listed : (ranges : List (ℕ × ℕ)) (n : ℕ) → IsOf (Listed ranges) (four_bytes n) → Any (IsWithin n) ranges

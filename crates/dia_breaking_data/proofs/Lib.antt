@@ -3,3 +3,4 @@ pub mod DataOfKinds
 pub mod Found
 pub mod RangesOfNumbers
 pub mod TriedData
+pub mod TheData

@@ -1,2 +1,3 @@
 pub mod Shortest
 pub mod Kinds
+pub mod TheData

@@ -5,7 +5,8 @@ ghost use Rattle.dia_data.specs.Leaf.{IsLeaf};
 ghost use Rattle.dia_data.specs.Plain.{plain_format};
 ghost use Rattle.dia_data.specs.Ranges.{AreApart};
 ghost use Rattle.dia_breaking_data.specs.Shortest.{AreBytes, IsShortest, IsShortestLeaf, witness_bytes};
-ghost use Rattle.dia_breaking_data.specs.Kinds.{IsWitness, IsApart, IsKindOf, Four, Listed, shown};
+ghost use Rattle.dia_breaking_data.specs.Kinds.{IsWitness, IsApart, IsKindOf, Four, Listed, four_bytes, shown};
+ghost use Rattle.dia_breaking_data.specs.TheData.{first_number, kind_data, the_data};
 
 use crate::candidates::first_refused;
 use crate::kinds::{Kind, kind_of};
@@ -23,12 +24,41 @@ pub fn witness(f: &Format, g: &Format) -> Option<Witness>
     answer(kind_of(f), kind_of(g), g)
 }
 
-/// Shortest data of the format; none where it has no leaf, as Grouped and a list of no number.
+/// Shortest data of the format; none where it has no leaf, as Grouped and a list of no number. A number is 0, or the least of
+/// its list.
 pub fn shortest(f: &Format) -> Option<Witness>
+    ensures exactly { option_map witness_bytes result ≡ the_data (plain_format f.now) }
     ensures some { IfSome result (λ found. IsShortestLeaf (plain_format f.now) (witness_bytes found)) }
     ensures none { result ≡ None → (bytes : List ℕ) → AreBytes bytes → ¬ IsLeaf (plain_format f.now) bytes }
 {
-    witness(f, &Format::Grouped)
+    data_of(kind_of(f))
+}
+
+/// The data that is kept for a kind.
+fn data_of(kind: Kind<'_>) -> Option<Witness>
+    ensures { option_map witness_bytes result ≡ kind_data (shown kind.entry) }
+{
+    match kind {
+        Kind::Octets => Some(Witness::new(b"")),
+        Kind::Four => Some(Witness::new(&[0; 4])),
+        Kind::Eight => Some(Witness::new(&[0; 8])),
+        Kind::Level => None,
+        Kind::Host => Some(Witness::new(b"\0\0")),
+        Kind::Text => Some(Witness::new(b"")),
+        Kind::Identity => Some(Witness::new(b"a")),
+        Kind::Link => Some(Witness::new(b"aaa://a")),
+        Kind::Listed(ranges) => first_number(ranges),
+    }
+}
+
+/// The first number of the ranges.
+fn first_number(ranges: &[(u32, u32)]) -> Option<Witness>
+    ensures { option_map witness_bytes result ≡ option_map four_bytes (first_number ranges.now) }
+{
+    match ranges.first() {
+        Some(&(low, _)) => Some(Witness::of_number(low)),
+        None => None,
+    }
 }
 
 /// Data of the one kind that the format, which is of the other, doesn't accept.

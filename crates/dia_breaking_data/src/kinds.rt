@@ -1,6 +1,8 @@
 //! Formats by the data that they accept.
+ghost use Rattle.std.specs.Prelude.{◌≡◌};
 ghost use Rattle.dia_data.specs.Plain.{plain_format};
 ghost use Rattle.dia_breaking_data.specs.Kinds.{IsApart, IsKindOf, shown};
+ghost use Rattle.dia_breaking_data.specs.TheData.{kind_data, the_data};
 
 use dia_data::Format;
 
@@ -31,6 +33,7 @@ pub(crate) enum Kind<'a> {
 pub(crate) fn kind_of(format: &Format) -> Kind<'_>
     ensures same { IsKindOf (shown result) (plain_format format.now) }
     ensures apart { IsApart (shown result) }
+    ensures least { kind_data (shown result) ≡ the_data (plain_format format.now) }
 {
     match format {
         Format::OctetString => Kind::Octets,

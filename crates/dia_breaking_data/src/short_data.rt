@@ -1,5 +1,5 @@
 //! A few bytes, kept by value.
-ghost use Rattle.std.specs.Prelude.{◌≡◌, ◌≤◌, length};
+ghost use Rattle.std.specs.Prelude.{◌≡◌, ◌<◌, ◌≤◌, ℕ, length, slice_index};
 
 /// Data of at most 8 bytes.
 #[derive(Clone, Copy, Debug)]
@@ -7,6 +7,7 @@ pub struct Witness {
     count: usize,
     bytes: [u8; 8],
     ghost within: { count ≤ 8 },
+    ghost are_bytes: { (i : ℕ) → slice_index bytes i < 256 },
 }
 
 impl Witness {
