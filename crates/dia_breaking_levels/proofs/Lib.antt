@@ -28,3 +28,4 @@ pub mod PartsOfLevels
 pub mod CutsOfSteps
 pub mod Demands
 pub mod OneLineLevel
+pub mod SomeLineLevel

@@ -247,6 +247,10 @@ IsDemandOf r line d = (cut : Cut) × IsCutFor r line.reason cut × (d ≡ reason
 abbrev pub IsLineLevel : Reads → Line → List Part → Type 0
 IsLineLevel r line parts = (d : PlainDemand) × IsDemandOf r line d × (parts ≡ level_parts r.sent d)
 
--- there is one
+-- no line has two
 abbrev pub LineLevelsAreOne : Type 0
 LineLevelsAreOne = (r : Reads) (line : Line) (xs ys : List Part) → IsLineLevel r line xs → IsLineLevel r line ys → xs ≡ ys
+
+-- and each has one
+abbrev pub EachLineHasALevel : Type 0
+EachLineHasALevel = (r : Reads) (line : Line) → (parts : List Part) × IsLineLevel r line parts

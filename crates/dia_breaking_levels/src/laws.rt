@@ -1,7 +1,7 @@
 //! What holds of the levels of definitions: by it a level is looked at as counts of keys and one order.
 ghost use Rattle.dia_breaking_levels.specs.Laws.{DefinitionsAreSound, PlacedIsInPlace, PlacedOrBreach};
 ghost use Rattle.dia_breaking_levels.specs.Laws.{BreachIsUnplaced, PlanIsPlaced, PlanIsLeast, OnceIsLeast};
-ghost use Rattle.dia_breaking_levels.specs.Chosen.{LineLevelsAreOne};
+ghost use Rattle.dia_breaking_levels.specs.Chosen.{EachLineHasALevel, LineLevelsAreOne};
 ghost use Rattle.dia_breaking_levels.specs.Laws.{LinesAreOne};
 
 /// The rules of a dictionary's definitions are as the other laws want them.
@@ -36,7 +36,8 @@ pub fn lines_are_one()
     ensures { LinesAreOne }
 {}
 
-/// The level that is written for a line is one: which AVPs it has, and their order.
+/// There is one level that is written for a line: which AVPs it has, and their order.
 pub fn line_levels_are_one()
-    ensures { LineLevelsAreOne }
+    ensures one { LineLevelsAreOne }
+    ensures some { EachLineHasALevel }
 {}
