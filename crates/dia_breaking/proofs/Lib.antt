@@ -17,7 +17,6 @@ mod TellingPlaces
 mod LeastNumbers
 mod FoundApps
 mod FoundExits
-pub mod OneOrder
 pub mod FloorsOfEntries
 pub mod KeptFloors
 pub mod ExactFloors

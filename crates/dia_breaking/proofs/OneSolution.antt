@@ -20,7 +20,7 @@ use Rattle.dia_breaking.specs.SentKeys.{AreSentInOrder, IsStranger, entry_keys, 
 use Rattle.dia_breaking.specs.Telling.{AreOwnOf, IsExactlyOwn, IsExactTelling, is_news}
 use Rattle.dia_breaking.specs.ToldApps.{AreOpenApps, AreToldApps, IsLeastUnnamed, selects}
 use Rattle.dia_breaking.specs.Sides.{sides}
-use Rattle.dia_breaking.proofs.OneOrder.{one_sorted}
+use Rattle.dia_breaking_shortest.proofs.OneOrder.{one_sorted}
 
 pub one_stranger : (da db : Dictionary) (key other : Key) → IsStranger da db key → IsStranger da db other → key ≡ other
 one_stranger da db key other is are =

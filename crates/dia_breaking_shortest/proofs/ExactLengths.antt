@@ -76,7 +76,7 @@ module _ (d : Dictionary) (least : Least) (order : List Ranked) (kept : AreKept 
 
 pub are_exact : (d : Dictionary) (least : Least) → AreKept d least → AreSettled d least → AreExact d least.sends least.lengths.items
 are_exact d least kept (order, are, settled) = record {
-  size = kept.whole.0;
+  size = kept.whole;
   leaves = kept.leaves;
   groups = λ e entry group at some.
       let n = filler_length (filler_of least.sends least.unknown order group.rules) in

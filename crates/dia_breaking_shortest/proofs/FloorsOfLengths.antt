@@ -139,7 +139,7 @@ module _ (d : Dictionary) (least : Least) (order : List Ranked) (kept : AreKept 
       by (Some i) e = let same = length_at key (entry_at d key i e) in let more = (kept.within i).0 in omega (arith, same, more)
 
   pub head_is : shortest_head least.unknown ≡ 8
-  head_is = ap (λ (n : ℕ). shortest_head (record { code = least.unknown.code; vendor = n })) kept.vendor
+  head_is = ap (λ (n : ℕ). shortest_head (record { code = least.unknown.code; vendor = n })) kept.unknown.vendor
 
   pub filler_short : (o : Option Ranked) → filler_length o ≤ too_long
   filler_short None = omega arith

@@ -15,6 +15,7 @@ use Rattle.dia_breaking_shortest.specs.declared.lookup.Least.{Least}
 use Rattle.dia_breaking_shortest.specs.Exact.{AreSpellable}
 use Rattle.dia_breaking_shortest.specs.Floors.{IsSpellable, shortest_head, padded}
 use Rattle.dia_breaking_shortest.specs.declared.order.Ranked.{Ranked}
+use Rattle.dia_breaking_shortest.specs.Least.{IsFirstUnknown}
 use Rattle.dia_breaking_shortest.specs.Lengths.{entry_length, rank, IsLeafLength}
 use Rattle.dia_breaking_shortest.specs.Passes.{AreKept}
 use Rattle.dia_breaking_shortest.proofs.FloorsOfAvps.{rounded_up, rounded_more}
@@ -102,11 +103,11 @@ is_grouped : (d : Dictionary) (e : ℕ) (entry : DictEntry) (group : PlainDefini
 is_grouped d e entry group sound at some =
     (all_at (λ (x : DictEntry). (x.format ≡ Grouped) ↔ IsSome x.group) d.entries e entry sound.grouped at).1 (ap (λ (x : Option PlainDefinition). is_some x) some)
 
-pub leaves_kept : (d : Dictionary) (least : Least) → IsDictionary d → length least.lengths.items ≡ length d.entries → length least.fillers.items ≡ length d.entries → least.unknown.vendor ≡ 0
+pub leaves_kept : (d : Dictionary) (least : Least) → IsDictionary d → length least.lengths.items ≡ length d.entries → IsFirstUnknown d least.unknown
     → AreLeafLengths d.entries least.lengths.items (length d.entries) → AreKept d least
-leaves_kept d least sound size fillers vendor all = record {
-  whole = (size, fillers);
-  vendor = vendor;
+leaves_kept d least sound size unknown all = record {
+  whole = size;
+  unknown = unknown;
   within = λ e. by e (cases_lt e (length d.entries));
   leaves = λ e entry at none. all e entry (slice_get_within d.entries e entry at) at;
   above = λ e entry group filler at some floor.

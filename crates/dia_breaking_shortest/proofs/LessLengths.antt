@@ -14,6 +14,7 @@ use Rattle.dia_breaking_levels.specs.LevelTests.{too_long, base_length}
 use Rattle.dia_breaking_shortest.specs.declared.lookup.Least.{Least}
 use Rattle.dia_breaking_shortest.specs.declared.order.Ranked.{Ranked}
 use Rattle.dia_breaking_shortest.specs.Floors.{shortest_head}
+use Rattle.dia_breaking_shortest.specs.Least.{IsFirstUnknown}
 use Rattle.dia_breaking_shortest.specs.Lengths.{entry_length, length_of, IsLeafLength, IsOrder, filler_of, filler_length, group_length}
 use Rattle.dia_breaking_shortest.specs.Passes.{IsWhole, IsLess, IsSettledBy, IsSettled, AreAbove, AreKept, AreNoShorter, AreSettled, length_in, total_length}
 use Rattle.dia_breaking_shortest.proofs.AboveLengths.{TakesNoMore, above_on, value_of}
@@ -53,12 +54,11 @@ set_total xs i n within less =
 
 -- nothing is changed
 pub not_less : (d : Dictionary) (old new : Least) → IsWhole d old → new.sends ≡ old.sends → new.unknown ≡ old.unknown → new.lengths.items ≡ old.lengths.items
-    → length new.fillers.items ≡ length old.fillers.items
     → IsLess d old new false
-not_less d old new whole sends unknown same fillers = record {
+not_less d old new whole sends unknown same = record {
   sends = sends;
   unknown = unknown;
-  whole = (ap length same ∙ whole.0, fillers ∙ whole.1);
+  whole = ap length same ∙ whole;
   no_more = λ e. let own = ap (λ (xs : List ℕ). entry_length xs e) same in omega (arith, own);
   heads = λ all e. subst (λ (xs : List ℕ). 8 ≤ entry_length xs e) (sym same) (all e);
   total = let own = ap (λ (xs : List ℕ). sum_by (λ k. k) xs) same in omega (arith, own);
@@ -70,9 +70,9 @@ not_less d old new whole sends unknown same fillers = record {
 
 -- one length is less
 pub one_less : (d : Dictionary) (old new : Least) (i n : ℕ) → IsWhole d old → new.sends ≡ old.sends → new.unknown ≡ old.unknown → new.lengths.items ≡ slice_set old.lengths.items i n
-    → length new.fillers.items ≡ length old.fillers.items → i < length old.lengths.items → 8 ≤ n → n < entry_length old.lengths.items i
+    → i < length old.lengths.items → 8 ≤ n → n < entry_length old.lengths.items i
     → ((entry : DictEntry) → slice_get d.entries i ≡ Some entry → entry.group ≡ None → ⊥) → TakesNoMore d old.sends old.lengths.items i n → IsLess d old new true
-one_less d old new i n whole sends unknown is fillers within head less no_leaf takes =
+one_less d old new i n whole sends unknown is within head less no_leaf takes =
     let xs = old.lengths.items in
     let sum = set_total xs i n within less in
     let own = ap (λ (ys : List ℕ). sum_by (λ k. k) ys) is in
@@ -82,7 +82,7 @@ one_less d old new i n whole sends unknown is fillers within head less no_leaf t
     record {
       sends = sends;
       unknown = unknown;
-      whole = (ap length is ∙ length-set xs i n ∙ whole.0, fillers ∙ whole.1);
+      whole = ap length is ∙ length-set xs i n ∙ whole;
       no_more = each;
       heads = λ all e. subst (λ (ys : List ℕ). 8 ≤ entry_length ys e) (sym is) (set_heads xs i n within head all e);
       total = omega (arith, sum, own);
@@ -117,7 +117,7 @@ less_and_less d old mid new a b c x y some none = record {
 pub kept_on : (d : Dictionary) (old new : Least) (changed : Bool) → AreKept d old → IsLess d old new changed → AreKept d new
 kept_on d old new changed kept less = record {
   whole = less.whole;
-  vendor = ap (λ k. k.vendor) less.unknown ∙ kept.vendor;
+  unknown = subst (IsFirstUnknown d) (sym less.unknown) kept.unknown;
   within = λ e. (less.heads (λ i. (kept.within i).0) e, let first = (kept.within e).1 in let second = less.no_more e in omega (arith, first, second));
   leaves = λ e entry at none. subst (IsLeafLength entry) (sym (less.leaves e entry at none)) (kept.leaves e entry at none);
   above = less.above kept.above;
@@ -153,12 +153,12 @@ group_heads length filler key rules =
 
 -- a group's length is made less, or is no more than its least level makes it
 pub lowered : (d : Dictionary) (old new : Least) (i n : ℕ) (changed : Bool) → IsWhole d old → i < length d.entries → new.sends ≡ old.sends → new.unknown ≡ old.unknown
-    → new.lengths.items ≡ (if changed then slice_set old.lengths.items i n else old.lengths.items) → length new.fillers.items ≡ length old.fillers.items → 8 ≤ n
+    → new.lengths.items ≡ (if changed then slice_set old.lengths.items i n else old.lengths.items) → 8 ≤ n
     → changed ≡ nat_lt n (entry_length old.lengths.items i)
     → ((entry : DictEntry) → slice_get d.entries i ≡ Some entry → entry.group ≡ None → ⊥) → TakesNoMore d old.sends old.lengths.items i n → IsLess d old new changed
-lowered d old new i n true whole within sends unknown lengths fillers head test no_leaf takes =
-    one_less d old new i n whole sends unknown lengths fillers (let size = whole.0 in omega (arith, within, size)) head (ltb-true n (entry_length old.lengths.items i) (sym test)) no_leaf takes
-lowered d old new i n false whole within sends unknown lengths fillers head test no_leaf takes = not_less d old new whole sends unknown lengths fillers
+lowered d old new i n true whole within sends unknown lengths head test no_leaf takes =
+    one_less d old new i n whole sends unknown lengths (omega (arith, within, whole)) head (ltb-true n (entry_length old.lengths.items i) (sym test)) no_leaf takes
+lowered d old new i n false whole within sends unknown lengths head test no_leaf takes = not_less d old new whole sends unknown lengths
 
 -- a pass goes one entry further
 pub pass_on : (d : Dictionary) (old mid new : Least) (order : List Ranked) (i : ℕ) (a b c : Bool) → IsLess d old mid a → (a ≡ false → (e : ℕ) → e < i → IsSettled d mid order e) → IsLess d mid new b

@@ -7,9 +7,12 @@ pub mod FloorsOfAvps
 pub mod FloorsOfLengths
 pub mod LeafData
 pub mod LeafLengths
+pub mod LeastBytes
 pub mod LessLengths
 pub mod LessLevels
 pub mod MandatoryFlags
+pub mod OneLeast
+pub mod OneOrder
 pub mod OneSolution
 pub mod ShortestAvps
 pub mod ShortestLevels

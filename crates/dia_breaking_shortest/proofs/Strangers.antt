@@ -1,6 +1,6 @@
 -- Some key without vendor is unknown to a dictionary, which has fewer entries than there are codes.
 use Rattle.std.proofs.Common.{◌≡◌, ℕ, zero, suc, ◌^◌, ◌<◌, ◌≤◌, false, true, List, [], ◌∷◌, length, Option, Some, None, refl, sym, ap, subst, ◌∙◌, arith, inl, inr}
-use Rattle.std.specs.Prelude.{◌⊎◌, map, slice_get, option_and_then, IsSome}
+use Rattle.std.specs.Prelude.{◌⊎◌, map, slice_get, option_and_then, IsSome, is_some}
 use Rattle.std.proofs.lemmas.Bool.{cases_lt}
 use Rattle.std.proofs.lemmas.List.{length-map}
 use Rattle.dia_wire.specs.declared.Key.{Key}
@@ -8,6 +8,7 @@ use Rattle.dia_book.specs.Limits.{max_parts}
 use Rattle.dia_book.specs.Dictionary.{Dictionary, DictEntry, IsDictionary, entry_of}
 use Rattle.dia_check.specs.Valid.{known}
 use Rattle.dia_rules.proofs.Members.{in_at, IsIn}
+use Rattle.dia_breaking_shortest.specs.Least.{IsFirstUnknown}
 use Rattle.dia_breaking_shortest.proofs.FloorsOfLengths.{entry_at}
 
 -- a key without vendor that can be spelled, and that the dictionary doesn't know
@@ -56,10 +57,10 @@ key_in d key i is =
     subst (λ (k : Key). IsIn k (map (λ e. e.key) d.entries)) h.own (in_map (λ (e : DictEntry). e.key) d.entries h.entry (in_at d.entries h.place h.entry h.at))
 
 -- the codes below n are known without vendor
-abbrev AreKnown : Dictionary → ℕ → Type 0
+abbrev pub AreKnown : Dictionary → ℕ → Type 0
 AreKnown d n = (code : ℕ) → code < n → IsSome (entry_of d (key_at code))
 
-known_on : (d : Dictionary) (n i : ℕ) → entry_of d (key_at n) ≡ Some i → AreKnown d n → AreKnown d (suc n)
+pub known_on : (d : Dictionary) (n i : ℕ) → entry_of d (key_at n) ≡ Some i → AreKnown d n → AreKnown d (suc n)
 known_on d n i some all = λ code lt. by code (cases_lt code n) lt
   where
     by : (code : ℕ) → (code < n) ⊎ (n ≤ code) → code < suc n → IsSome (entry_of d (key_at code))
@@ -76,19 +77,43 @@ known_or_not d (suc n) = by (entry_of d (key_at n)) refl (known_or_not d n)
     by None e (inl all) = inr (n, omega arith, e)
     by (Some i) e (inl all) = inl (known_on d n i e all)
 
-stranger_below : (d : Dictionary) (n : ℕ) → IsDictionary d → max_parts < n → n < 2 ^ 32 → (key : Key) × IsStranger d key
-stranger_below d n is many small = by (known_or_not d n)
+-- a dictionary doesn't know as many
+pub not_all_known : (d : Dictionary) (n : ℕ) → IsDictionary d → max_parts < n → AreKnown d n → ⊥
+not_all_known d n is many all =
+    let le = at_most n (map (λ e. e.key) d.entries) (λ code lt. there code (entry_of d (key_at code)) refl (all code lt)) in
+    let size = length-map d.entries (λ e. e.key) in
+    let few = is.few in
+    omega (arith, le, size, few, many)
   where
     there : (code : ℕ) (o : Option ℕ) → entry_of d (key_at code) ≡ o → IsSome o → IsIn (key_at code) (map (λ e. e.key) d.entries)
     there code None e some = absurd (let bad : false ≡ true = some in cc)
     there code (Some i) e some = key_in d (key_at code) i e
 
+-- the first that isn't known
+pub first_unknown : (d : Dictionary) (key : Key) (found : Option ℕ) → found ≡ entry_of d key → is_some found ≡ false → key.vendor ≡ 0 → AreKnown d key.code → IsFirstUnknown d key
+first_unknown d key found is none vendor all = record {
+  unknown = missing (entry_of d key) (ap is_some (sym is) ∙ none);
+  vendor = vendor;
+  least = λ other unknown zero_is. by other unknown zero_is (cases_lt other.code key.code);
+}
+  where
+    missing : (o : Option ℕ) → is_some o ≡ false → o ≡ None
+    missing None e = refl
+    missing (Some i) e = absurd (let bad : true ≡ false = e in cc)
+
+    same : (other : Key) → other.vendor ≡ 0 → key_at other.code ≡ other
+    same other zero_is = λ i. record { code = other.code; vendor = sym zero_is i }
+
+    by : (other : Key) → entry_of d other ≡ None → other.vendor ≡ 0 → (other.code < key.code) ⊎ (key.code ≤ other.code) → key.code ≤ other.code
+    by other unknown zero_is (inr le) = le
+    by other unknown zero_is (inl lt) =
+        absurd (let bad : false ≡ true = sym (ap is_some (ap (entry_of d) (same other zero_is) ∙ unknown)) ∙ all other.code lt in cc)
+
+stranger_below : (d : Dictionary) (n : ℕ) → IsDictionary d → max_parts < n → n < 2 ^ 32 → (key : Key) × IsStranger d key
+stranger_below d n is many small = by (known_or_not d n)
+  where
     by : AreKnown d n ⊎ ((code : ℕ) × (code < n) × (entry_of d (key_at code) ≡ None)) → (key : Key) × IsStranger d key
-    by (inl all) =
-        let le = at_most n (map (λ e. e.key) d.entries) (λ code lt. there code (entry_of d (key_at code)) refl (all code lt)) in
-        let size = length-map d.entries (λ e. e.key) in
-        let few = is.few in
-        absurd (omega (arith, le, size, few, many))
+    by (inl all) = absurd (not_all_known d n is many all)
     by (inr (code, lt, none)) = (
       key_at code,
       record { unknown = ap (λ (o : Option ℕ). option_and_then (λ i. slice_get d.entries i) o) none; vendor = refl; code = omega (arith, lt, small) },

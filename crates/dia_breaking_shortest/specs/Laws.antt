@@ -11,8 +11,11 @@ use Rattle.dia_policy.specs.declared.Sends.{Sends}
 use Rattle.dia_policy.specs.declared.Sends.TheVariants.{Any}
 use Rattle.dia_breaking_sites.specs.Sent.{IsSent, IsSentAvp, StandAsSent, AreBytes}
 use Rattle.dia_breaking_levels.specs.LevelTests.{too_long}
+use Rattle.dia_breaking_shortest.specs.declared.lookup.Least.{Least}
+use Rattle.dia_breaking_shortest.specs.Bytes.{least_avp}
 use Rattle.dia_breaking_shortest.specs.Exact.{AreExact, AreSpellable}
 use Rattle.dia_breaking_shortest.specs.Floors.{AreFloors, IsAttained, IsSpellable, padded, shortest_head, total}
+use Rattle.dia_breaking_shortest.specs.Least.{IsLeastOf}
 use Rattle.dia_breaking_shortest.specs.Lengths.{length_of}
 
 -- no AVP that is sent is shorter than its key's floor
@@ -46,3 +49,10 @@ LengthsAreOne = (d : Dictionary) (sends : Sends) (xs ys : List ℕ) → AreExact
 abbrev pub LengthIsAttained : Type 0
 LengthIsAttained = (d : Dictionary) (sends : Sends) (lengths : List ℕ) → IsDictionary d → AreSpellable d → AreExact d sends lengths
     → (key : Key) → IsSpellable key → length_of d sends lengths key < too_long → IsAttained d sends key (length_of d sends lengths key)
+
+-- what shortest AVPs are made of makes one of each key, and its numbers are bytes
+abbrev pub LeastAvpsAreOne : Type 0
+LeastAvpsAreOne = (d : Dictionary) (who : Sends) (least other : Least) → IsLeastOf d who least → IsLeastOf d who other → (key : Key) → least_avp d least key ≡ least_avp d other key
+
+abbrev pub LeastAvpsAreBytes : Type 0
+LeastAvpsAreBytes = (d : Dictionary) (least : Least) (key : Key) → AreBytes (least_avp d least key)

@@ -1,6 +1,7 @@
 -- The lengths that are kept for the entries of a dictionary, and what a level takes by them (RFC 6733 sections 3.2 and 4.1).
 use Rattle.std.specs.Prelude.{◌≡◌, ◌⊎◌, ℕ, ◌+◌, ◌≤◌, Bool, not, List, map, find, length, Option, Some, None, slice_get}
-use Rattle.std.specs.List.Sorted.{IsPermutation, IsNonDecreasingBy}
+use Rattle.std.specs.List.Sorted.{IsPermutation, IsNonDecreasingBy, IsStableByKey}
+use Rattle.std.specs.Ordering.{nat_cmp}
 use Rattle.std.specs.Option.{option_map_or}
 use Rattle.dia_wire.specs.declared.Key.{Key}
 use Rattle.dia_data.specs.Leaf.{IsLeaf}
@@ -32,10 +33,11 @@ length_of d sends lengths key = option_map_or (entry_length lengths) (entry_of d
 abbrev pub rank : (Key → ℕ) → DictEntry → Ranked
 rank length entry = record { key = entry.key; length = length entry.key }
 
--- the entries, by their lengths
+-- the entries, by their lengths, and those of one length in the dictionary's order
 pub record IsOrder (length : Key → ℕ) (entries : List DictEntry) (order : List Ranked) : Type 0 where
   pub sorted : IsNonDecreasingBy (λ r. r.length) order
   pub all : IsPermutation (map (rank length) entries) order
+  pub stable : IsStableByKey (λ r. r.length) nat_cmp (map (rank length) entries) order
 
 abbrev pub is_unlisted : List DRule → Ranked → Bool
 is_unlisted rules r = not (is_listed rules r.key)

@@ -3,6 +3,7 @@ pub mod Exact
 pub mod Floors
 pub mod Kept
 pub mod Laws
+pub mod Least
 pub mod Lengths
 pub mod Passes
 pub mod Waiting

@@ -8,15 +8,16 @@ use Rattle.dia_policy.specs.declared.Sends.{Sends}
 use Rattle.dia_policy.specs.declared.Sends.TheVariants.{Any, Known, Listed}
 use Rattle.dia_breaking_levels.specs.LevelTests.{too_long}
 use Rattle.dia_breaking_shortest.specs.declared.lookup.Least.{Least}
+use Rattle.dia_breaking_shortest.specs.Least.{IsFirstUnknown}
 use Rattle.dia_breaking_shortest.specs.declared.order.Ranked.{Ranked}
 use Rattle.dia_breaking_shortest.specs.Lengths.{IsOrder, IsLeafLength, entry_length, length_of, filler_of, filler_length, group_length}
 
 abbrev pub length_in : Dictionary → Least → Key → ℕ
 length_in d least = length_of d least.sends least.lengths.items
 
--- a length and a filler for each entry
+-- a length for each entry
 abbrev pub IsWhole : Dictionary → Least → Type 0
-IsWhole d least = (length least.lengths.items ≡ length d.entries) × (length least.fillers.items ≡ length d.entries)
+IsWhole d least = length least.lengths.items ≡ length d.entries
 
 -- if the entry is a group, its least level makes it no shorter than its length
 abbrev pub IsSettledBy : Dictionary → Sends → Key → List ℕ → List Ranked → ℕ → Type 0
@@ -61,7 +62,7 @@ pub record IsLess (d : Dictionary) (old new : Least) (changed : Bool) : Type 0 w
 -- no length is less than a head or more than what stands for none, those of leaves are exact, and those of groups are enough
 pub record AreKept (d : Dictionary) (least : Least) : Type 0 where
   pub whole : IsWhole d least
-  pub vendor : least.unknown.vendor ≡ 0
+  pub unknown : IsFirstUnknown d least.unknown
   pub within : (e : ℕ) → (8 ≤ entry_length least.lengths.items e) × (entry_length least.lengths.items e ≤ too_long)
   pub leaves : (e : ℕ) (entry : DictEntry) → slice_get d.entries e ≡ Some entry → entry.group ≡ None → IsLeafLength entry (entry_length least.lengths.items e)
   pub above : AreAbove d least.sends least.lengths.items

@@ -1,7 +1,11 @@
 //! The least lengths of the AVPs that a side sends, as a least fixed point.
 ghost use Rattle.std.specs.Prelude.{◌≡◌, ◌<◌, ℕ, nat_lt, false, length, IfSome, IfOk};
 ghost use Rattle.std.specs.Prelude.{slice_get, slice_set, if◌then◌else◌};
-ghost use Rattle.dia_breaking_shortest.specs.Kept.{AreData, AreDataOf};
+ghost use Rattle.std.specs.Option.{option_map};
+ghost use Rattle.dia_breaking_data.specs.Shortest.{witness_bytes};
+ghost use Rattle.dia_breaking_data.specs.TheData.{the_data};
+ghost use Rattle.dia_breaking_shortest.specs.Kept.{AreData, AreDataOf, kept_at};
+ghost use Rattle.dia_breaking_shortest.specs.Least.{AreFillers, AreTheData, IsFirstUnknown, IsLeastOf, entry_filler};
 ghost use Rattle.dia_breaking_shortest.specs.Lengths.{IsLeafLength, entry_length};
 ghost use Rattle.dia_breaking_shortest.specs.Exact.{AreExact, AreSpellable};
 ghost use Rattle.dia_breaking_shortest.specs.Floors.{AreFloors, IsSpellable};
@@ -25,7 +29,8 @@ const KEYS: u32 = 16_385;
 /// How long the shortest AVPs are that a side sends by this dictionary.
 ///
 /// The groups are gone through as Dijkstra's search settles them, the shortest first. Then passes over all groups look for
-/// shorter ones until one finds none, which is the first.
+/// shorter ones until one finds none, which is the first. The dictionary and what is sent leave no choice of what the shortest
+/// AVPs are made of (`IsLeastOf`).
 pub fn least_lengths<B: Book>(alloc: Global, book: &B, sends: Sends) -> Result<Least, AllocError>
     ensures sends { IfOk result (λ least. least.sends ≡ sends) }
     ensures floors { IfOk result (λ least. AreFloors (B.meaning book.now) sends
@@ -34,17 +39,63 @@ pub fn least_lengths<B: Book>(alloc: Global, book: &B, sends: Sends) -> Result<L
         least.lengths.items) }
     ensures spelled { IfOk result (λ least. AreSpellable (B.meaning book.now)) }
     ensures leaf_data { IfOk result (λ least. AreData (B.meaning book.now) least.leaf_data.items) }
+    ensures least { IfOk result (IsLeastOf (B.meaning book.now) sends) }
 {
     let least = leaves(alloc, book, sends)?;
     let least = search(alloc, book, least)?;
     let least = settled(alloc, book, least)?;
+    let fillers = all_fillers(alloc, book, &least)?;
     let leaf_data = all_data(alloc, book)?;
-    Ok(Least { leaf_data, ..least })
+    Ok(Least {
+        fillers,
+        leaf_data,
+        ..least
+    })
+}
+
+/// For each group the key that its wildcard's least count is met with.
+fn all_fillers<B: Book>(
+    alloc: Global,
+    book: &B,
+    least: &Least,
+) -> Result<Vec<Option<Key>>, AllocError>
+    ensures { IfOk result (λ all. AreFillers (B.meaning book.now) least.now.sends least.now.unknown
+        least.now.lengths.items all.items) }
+{
+    let order = least.order(alloc, book)?;
+    fillers_in(alloc, book, least, &order)
+}
+
+fn fillers_in<B: Book>(
+    alloc: Global,
+    book: &B,
+    least: &Least,
+    order: &[Ranked],
+) -> Result<Vec<Option<Key>>, AllocError>
+    ensures { IfOk result (λ all. (e : ℕ) → e < length (B.meaning book.now).entries → kept_at all.items e
+        ≡ entry_filler (B.meaning book.now) least.now.sends least.now.unknown order.now e) }
+{
+    let mut found = Vec::new(alloc);
+    for index in 0..book.entries() {
+        found.push(entry_filler(book, least, order, book.entry_at(index)))?;
+    }
+    Ok(found)
+}
+
+fn entry_filler<B: Book>(book: &B, least: &Least, order: &[Ranked], entry: Entry) -> Option<Key>
+    requires { entry < length (B.meaning book.now).entries }
+    ensures { result ≡ entry_filler (B.meaning book.now) least.now.sends least.now.unknown order.now entry }
+{
+    match group_of(book, entry) {
+        Some(def) => least.filler(book, def, order).map(|ranked| ranked.key),
+        None => None,
+    }
 }
 
 /// Shortest data of each entry as a leaf, where there are any.
 fn all_data<B: Book>(alloc: Global, book: &B) -> Result<Vec<Option<Witness>>, AllocError>
-    ensures { IfOk result (λ all. AreData (B.meaning book.now) all.items) }
+    ensures shortest { IfOk result (λ all. AreData (B.meaning book.now) all.items) }
+    ensures exactly { IfOk result (λ all. AreTheData (B.meaning book.now) all.items) }
 {
     let mut found = Vec::new(alloc);
     for index in 0..book.entries() {
@@ -55,7 +106,9 @@ fn all_data<B: Book>(alloc: Global, book: &B) -> Result<Vec<Option<Witness>>, Al
 
 fn leaf_data<B: Book>(book: &B, entry: Entry) -> Option<Witness>
     requires { entry < length (B.meaning book.now).entries }
-    ensures { IfSome (slice_get (B.meaning book.now).entries entry) (λ e. AreDataOf e result) }
+    ensures shortest { IfSome (slice_get (B.meaning book.now).entries entry) (λ e. AreDataOf e result) }
+    ensures exactly { IfSome (slice_get (B.meaning book.now).entries entry)
+        (λ e. option_map witness_bytes result ≡ the_data e.format) }
 {
     shortest(book.format(entry))
 }
@@ -83,16 +136,14 @@ fn leaves<B: Book>(alloc: Global, book: &B, sends: Sends) -> Result<Least, Alloc
     ensures spelled { IfOk result (λ least. AreSpellable (B.meaning book.now)) }
 {
     let mut lengths = Vec::new(alloc);
-    let mut fillers = Vec::new(alloc);
     for index in 0..book.entries() {
         lengths.push(leaf_length(book, book.entry_at(index)))?;
-        fillers.push(None)?;
     }
     Ok(Least {
         sends,
         unknown: unknown_key(book),
         lengths,
-        fillers,
+        fillers: Vec::new(alloc),
         leaf_data: Vec::new(alloc),
     })
 }
@@ -111,7 +162,7 @@ fn leaf_length<B: Book>(book: &B, entry: Entry) -> u64
 
 /// The first key without vendor that the dictionary doesn't know.
 fn unknown_key<B: Book>(book: &B) -> Key
-    ensures { result.vendor ≡ 0 }
+    ensures { IsFirstUnknown (B.meaning book.now) result }
 {
     for code in 0..KEYS {
         let key = Key { code, vendor: 0 };
@@ -119,10 +170,7 @@ fn unknown_key<B: Book>(book: &B) -> Key
             return key;
         }
     }
-    Key {
-        code: KEYS,
-        vendor: 0,
-    }
+    unreachable!()
 }
 
 /// Makes the lengths of groups less by their least levels, and says whether some are.
@@ -155,27 +203,24 @@ pub(crate) fn lower<B: Book>(least: &mut Least, book: &B, order: &[Ranked], inde
         Some(def) => {
             let filler = least.filler(book, def, order);
             let length = least.group(book, filler, book.entry_key(entry), def);
-            improve(least, index, length, filler.map(|ranked| ranked.key))
+            improve(least, index, length)
         }
         None => false,
     }
 }
 
-/// Takes the length and the filler for an entry, if the length is less than what it was.
-fn improve(least: &mut Least, index: usize, shorter: u64, filler: Option<Key>) -> bool
-    requires lengths { index < length least.old.lengths.items }
-    requires fillers { index < length least.old.fillers.items }
+/// Takes the length for an entry, if it is less than what it was.
+fn improve(least: &mut Least, index: usize, shorter: u64) -> bool
+    requires { index < length least.old.lengths.items }
     ensures sends { least.new.sends ≡ least.old.sends }
     ensures unknown { least.new.unknown ≡ least.old.unknown }
     ensures lengths { least.new.lengths.items ≡ (if result
         then slice_set least.old.lengths.items index shorter else least.old.lengths.items) }
-    ensures fillers { length least.new.fillers.items ≡ length least.old.fillers.items }
     ensures test { result ≡ nat_lt shorter (entry_length least.old.lengths.items index) }
 {
     if shorter >= least.lengths[index] {
         return false;
     }
     least.lengths[index] = shorter;
-    least.fillers[index] = filler;
     true
 }

@@ -1,7 +1,7 @@
 //! What holds of all that a side sends.
 ghost use Rattle.dia_breaking_shortest.specs.Laws.{GroupIsAttained, LeafIsAttained, LengthIsAttained};
 ghost use Rattle.dia_breaking_shortest.specs.Laws.{LengthsAreOne, NoAvpIsShorter, NoMessageIsShorter};
-ghost use Rattle.dia_breaking_shortest.specs.Laws.{UnknownIsAttained};
+ghost use Rattle.dia_breaking_shortest.specs.Laws.{LeastAvpsAreBytes, LeastAvpsAreOne, UnknownIsAttained};
 
 /// No AVP that is sent is shorter than a floor of its key says, with its padding.
 pub fn no_avp_is_shorter()
@@ -36,4 +36,10 @@ pub fn lengths_are_one()
 /// Some AVP of each key that is sent has the length that is found for it.
 pub fn length_is_attained()
     ensures { LengthIsAttained }
+{}
+
+/// A dictionary and what its side sends have one shortest AVP of each key that is written, whatever found what it is made of.
+pub fn least_avps_are_one()
+    ensures one { LeastAvpsAreOne }
+    ensures bytes { LeastAvpsAreBytes }
 {}

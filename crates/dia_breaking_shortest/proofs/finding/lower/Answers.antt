@@ -19,7 +19,6 @@ returns-in-Some-clause-less g c =
     c.filler-filler.ensures in
     lowered d c.args.least.now c.improve.new.least c.args.index c.group-length.result c.improve.result c.requires.whole c.requires.within c.improve.ensures.sends c.improve.ensures.unknown
     c.improve.ensures.lengths
-    c.improve.ensures.fillers
     (subst (λ (n : ℕ). 8 ≤ n) (sym c.group-length.ensures) (group_heads (length_in d c.args.least.now) (filler_length c.filler-filler.result) c.entry_key.result (rules_in d c.in-Some.def)))
     c.improve.ensures.test
     (λ entry at none. no_leaf d c.args.index c.in-Some.def entry place at none)
