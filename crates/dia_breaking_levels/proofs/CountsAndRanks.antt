@@ -72,7 +72,7 @@ fixed_key rules r sound i f =
     let c = contains_in rules r i in
     subst (λ (t : DRule). IsTrue (is_fixed t) → IsSome t.key) c.2 (sound.fixed_keys c.0 r c.1) f
 
-wild_loose : (rules : List DRule) (w : DRule) → AreSound rules → IsIn w rules → w.key ≡ None → is_fixed w ≡ false
+pub wild_loose : (rules : List DRule) (w : DRule) → AreSound rules → IsIn w rules → w.key ≡ None → is_fixed w ≡ false
 wild_loose rules w sound i e = false_from_ne_true (is_fixed w) (λ f. not_both (is_some w.key) (fixed_key rules w sound i f) (ap (λ (o : Option Key). is_some o) e))
 
 apart_distinct : (rules : List DRule) → AreApart (λ (r : DRule). r.key) rules → AreDistinct rules

@@ -29,3 +29,12 @@ pub mod CutsOfSteps
 pub mod Demands
 pub mod OneLineLevel
 pub mod SomeLineLevel
+pub mod PartKeys
+pub mod ShownFillers
+pub mod ShownFew
+pub mod ShownMany
+pub mod ShownOthers
+pub mod ShownTaken
+pub mod ShownMost
+pub mod ShownOrder
+pub mod ShownLines

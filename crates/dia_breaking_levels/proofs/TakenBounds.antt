@@ -9,11 +9,11 @@ use Rattle.dia_breaking_levels.specs.declared.steps.Step.{Step}
 use Rattle.dia_breaking_levels.specs.LevelTests.{too_long, capped, many}
 use Rattle.dia_breaking_levels.specs.Steps.{take_step, length_taken, saved, IsLeastTaken, IsTakenInOrder}
 
-abbrev next_sum : ℕ → ℕ → Step → ℕ
+abbrev pub next_sum : ℕ → ℕ → Step → ℕ
 next_sum left sum s = capped (sum + many (min left s.count) s.length)
 
 -- what is taken grows, up to what is too long
-taken_grows : (left sum : ℕ) (steps : List Step) → sum ≤ too_long → (sum ≤ length_taken (fold take_step (left, sum) steps)) × (length_taken (fold take_step (left, sum) steps) ≤ too_long)
+pub taken_grows : (left sum : ℕ) (steps : List Step) → sum ≤ too_long → (sum ≤ length_taken (fold take_step (left, sum) steps)) × (length_taken (fold take_step (left, sum) steps) ≤ too_long)
 taken_grows left sum [] within = by (left == 0)
   where
     by : (t : Bool) → (sum ≤ (if t then sum else too_long)) × ((if t then sum else too_long) ≤ too_long)

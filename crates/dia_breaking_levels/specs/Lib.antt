@@ -14,3 +14,4 @@ pub mod Places
 pub mod OrderTests
 pub mod Offers
 pub mod Exact
+pub mod Showing

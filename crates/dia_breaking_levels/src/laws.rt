@@ -3,6 +3,7 @@ ghost use Rattle.dia_breaking_levels.specs.Laws.{DefinitionsAreSound, PlacedIsIn
 ghost use Rattle.dia_breaking_levels.specs.Laws.{BreachIsUnplaced, PlanIsPlaced, PlanIsLeast, OnceIsLeast};
 ghost use Rattle.dia_breaking_levels.specs.Chosen.{EachLineHasALevel, LineLevelsAreOne};
 ghost use Rattle.dia_breaking_levels.specs.Laws.{LinesAreOne};
+ghost use Rattle.dia_breaking_levels.specs.Showing.{LinesAreShown};
 
 /// The rules of a dictionary's definitions are as the other laws want them.
 pub fn definitions_are_sound()
@@ -40,4 +41,9 @@ pub fn lines_are_one()
 pub fn line_levels_are_one()
     ensures one { LineLevelsAreOne }
     ensures some { EachLineHasALevel }
+{}
+
+/// The level that is written for a line shows it.
+pub fn lines_are_shown()
+    ensures { LinesAreShown }
 {}
