@@ -1,3 +1,4 @@
+pub mod OptionsApart
 pub mod Endings
 pub mod Lines
 pub mod Words

@@ -2,29 +2,35 @@
 use Rattle.std.specs.Prelude.{Bool, if◌then◌else◌, Option, Some, None, codes}
 use Rattle.clap.specs.Walk.{Text}
 use Rattle.dia_cli.specs.declared.apart.Apart.{Apart}
-use Rattle.dia_cli.specs.declared.apart.Apart.TheVariants.{LinesAndStream, AsTextAndNames, AsTextAndValues, AsTextAndJson, JsonAndNames, JsonAndValues}
+use Rattle.dia_cli.specs.declared.apart.Apart.TheVariants.{LinesAndStream, AsTextAndNames, AsTextAndValues, AsTextAndLines, AsTextAndJson, JsonAndNames, JsonAndValues, JsonAndLines}
 
 -- the name of the first option
 abbrev pub first_option : Apart → Text
 first_option LinesAndStream = codes "lines"
 first_option AsTextAndNames = codes "as-text"
 first_option AsTextAndValues = codes "as-text"
+first_option AsTextAndLines = codes "as-text"
 first_option AsTextAndJson = codes "as-text"
 first_option JsonAndNames = codes "json"
 first_option JsonAndValues = codes "json"
+first_option JsonAndLines = codes "json"
 
 -- and of the second
 abbrev pub second_option : Apart → Text
 second_option LinesAndStream = codes "stream"
 second_option AsTextAndNames = codes "names"
 second_option AsTextAndValues = codes "values"
+second_option AsTextAndLines = codes "lines"
 second_option AsTextAndJson = codes "json"
 second_option JsonAndNames = codes "names"
 second_option JsonAndValues = codes "values"
+second_option JsonAndLines = codes "lines"
 
--- of the options of `show`: `--as-text` goes with none of the others, and `--json` with `--as-text` neither, nor with `--names` or
--- `--values`; the first two of those that are given
-abbrev pub show_apart : (as_text names values json : Bool) → Option Apart
-show_apart as_text names values json =
-    if as_text then (if names then Some AsTextAndNames else (if values then Some AsTextAndValues else (if json then Some AsTextAndJson else None)))
-    else (if json then (if names then Some JsonAndNames else (if values then Some JsonAndValues else None)) else None)
+-- of the options of `show`: `--as-text` goes with none of the others, and `--json` with none of them either; the first two of
+-- those that are given
+abbrev pub show_apart : (as_text names values lines json : Bool) → Option Apart
+show_apart as_text names values lines json =
+    if as_text then (if names then Some AsTextAndNames else (if values then Some AsTextAndValues
+    else (if lines then Some AsTextAndLines else (if json then Some AsTextAndJson else None))))
+    else (if json then (if names then Some JsonAndNames else (if values then Some JsonAndValues
+    else (if lines then Some JsonAndLines else None))) else None)

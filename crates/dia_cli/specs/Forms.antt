@@ -4,7 +4,7 @@ use Rattle.std.specs.List.{list_all}
 use Rattle.clap.specs.Walk.{Text}
 use Rattle.dia_io.specs.declared.Command.TheVariants as command
 use Rattle.dia_cli.specs.declared.task.Task.{Task}
-use Rattle.dia_cli.specs.declared.task.Task.TheVariants.{Whole, Make, ShowText, ShowNamed, Breaking, CheckLines, RefuteLines, CheckStream}
+use Rattle.dia_cli.specs.declared.task.Task.TheVariants.{Whole, Make, ShowText, ShowNamed, ShowLines, Breaking, CheckLines, RefuteLines, CheckStream}
 use Rattle.dia_policy.specs.declared.Sends.{Sends}
 use Rattle.dia_policy.specs.declared.Sends.TheVariants.{Any, Known, Listed}
 use Rattle.dia_policy.specs.declared.Unknown.{Unknown}
@@ -23,11 +23,11 @@ pub data Manner : Type 0 where
   in_lines : Manner
   in_stream : Manner
 
--- how `show` tells a message: as a text, as JSON, or as lines, with `--names` and `--values` or without
+-- how `show` tells a message: as a text, as JSON, or as a listing, with `--lines`, `--names` and `--values` or without
 pub data Telling : Type 0 where
   as_text : Telling
   as_json : Telling
-  as_lines : Bool → Option Text → Telling
+  as_listing : Bool → Bool → Option Text → Telling
 
 -- a command with its options and the words of its inputs. `--levels`, `--dict`, `--values` and `--accepted` are their words; `check`, `compare`
 -- and `propose` have `--json`, `refute` has `--lines` and `--json`, and `breaking` has `--json`, `--messages`, `--once` and `--meaning`, or not
@@ -78,12 +78,16 @@ is_json as_json = true
 is_json telling = false
 
 abbrev pub has_names : Telling → Bool
-has_names (as_lines names values) = names
+has_names (as_listing many names values) = names
 has_names telling = false
 
 abbrev pub values_given : Telling → Option Text
-values_given (as_lines names values) = values
+values_given (as_listing many names values) = values
 values_given telling = None
+
+abbrev pub has_lines : Telling → Bool
+has_lines (as_listing many names values) = many
+has_lines telling = false
 
 abbrev pub unknown_slot : Unknown → Slot
 unknown_slot unknown = choice (codes "unknown") (policy_given unknown)
@@ -91,7 +95,7 @@ unknown_slot unknown = choice (codes "unknown") (policy_given unknown)
 abbrev pub form_options : Form → List Slot
 form_options (show telling dictionary message) =
     text (codes "dict") dictionary ∷ flag (codes "as-text") (is_text telling) ∷ flag (codes "names") (has_names telling)
-    ∷ text (codes "values") (values_given telling) ∷ flag (codes "json") (is_json telling) ∷ []
+    ∷ text (codes "values") (values_given telling) ∷ flag (codes "lines") (has_lines telling) ∷ flag (codes "json") (is_json telling) ∷ []
 form_options (make dictionary written) = text (codes "dict") dictionary ∷ []
 form_options (check manner json unknown levels dictionary message) =
     unknown_slot unknown ∷ flag (codes "lines") (is_lines manner) ∷ flag (codes "stream") (is_stream manner)
@@ -139,8 +143,9 @@ form_json form = false
 abbrev pub IsTaskOfForm : Form → Task → Type 0
 IsTaskOfForm (show as_text dictionary message) ShowText = ⊤
 IsTaskOfForm (show as_json dictionary message) (Whole command.Show) = ⊤
-IsTaskOfForm (show (as_lines false values) dictionary message) (Whole command.Show) = ⊤
-IsTaskOfForm (show (as_lines true values) dictionary message) ShowNamed = ⊤
+IsTaskOfForm (show (as_listing false false values) dictionary message) (Whole command.Show) = ⊤
+IsTaskOfForm (show (as_listing false true values) dictionary message) ShowNamed = ⊤
+IsTaskOfForm (show (as_listing true names values) dictionary messages) (ShowLines named) = named ≡ names
 IsTaskOfForm (make dictionary written) Make = ⊤
 IsTaskOfForm (check alone json unknown levels dictionary message) (Whole (command.Check policy limit)) =
     (policy ≡ unknown) × IsLimitOf levels limit
@@ -164,6 +169,8 @@ IsTaskOfForm form task = ⊥
 abbrev pub form_words : Form → InputTexts
 form_words (show as_text dictionary message) =
     record (one_text (unwrap_or dictionary (codes "@base"))) { message = Some message }
+form_words (show (as_listing true names values) dictionary messages) =
+    record (one_text (unwrap_or dictionary (codes "@base"))) { table = Some (unwrap_or values (codes "@none")); messages = Some messages }
 form_words (show telling dictionary message) =
     record (one_text (unwrap_or dictionary (codes "@base"))) { table = Some (unwrap_or (values_given telling) (codes "@none")); message = Some message }
 form_words (make dictionary written) = record (one_text (unwrap_or dictionary (codes "@base"))) { message = Some written }

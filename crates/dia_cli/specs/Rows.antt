@@ -65,7 +65,7 @@ abbrev pub show_row : CommandRow
 show_row = record {
   name = codes "show";
   options = quiet_option ∷ dict_option ∷ option (codes "as-text") no_value ∷ option (codes "names") no_value
-      ∷ option (codes "values") (any_word (codes "@none")) ∷ json_option ∷ [];
+      ∷ option (codes "values") (any_word (codes "@none")) ∷ option (codes "lines") no_value ∷ json_option ∷ [];
   inputs = input (codes "MESSAGE") one ∷ [];
 }
 

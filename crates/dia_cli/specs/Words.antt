@@ -8,7 +8,7 @@ use Rattle.clap.specs.Walk.{Row, Text, all_of, first_of, texts}
 use Rattle.clap.specs.Simple.{App, subcommand_of}
 use Rattle.dia_io.specs.declared.Command.TheVariants as command
 use Rattle.dia_cli.specs.declared.task.Task.{Task}
-use Rattle.dia_cli.specs.declared.task.Task.TheVariants.{Whole, Make, ShowText, ShowNamed, Breaking, CheckLines, RefuteLines, CheckStream}
+use Rattle.dia_cli.specs.declared.task.Task.TheVariants.{Whole, Make, ShowText, ShowNamed, ShowLines, Breaking, CheckLines, RefuteLines, CheckStream}
 use Rattle.dia_policy.specs.declared.Levels.{Levels}
 use Rattle.dia_policy.specs.declared.Levels.TheVariants.{Any, AtMost}
 use Rattle.dia_policy.specs.declared.Sends.{Sends}
@@ -79,18 +79,19 @@ is_file word = option_map_or (λ w. not (bytes_eq w (codes "@none"))) word false
 -- two options of `show` that are given, and don't go together
 abbrev pub apart_in : List Row → Option Apart
 apart_in rows = show_apart (is_given (first_of (codes "as-text") rows)) (is_given (first_of (codes "names") rows))
-    (is_file (first_of (codes "values") rows)) (is_given (first_of (codes "json") rows))
+    (is_file (first_of (codes "values") rows)) (is_given (first_of (codes "lines") rows)) (is_given (first_of (codes "json") rows))
 
--- `show` with `--as-text` and `--names`, or without them, and with no two options that don't go together
-abbrev pub IsShow : Bool → Bool → Text × List Row → Type 0
-IsShow as_text names found = (found.0 ≡ codes "show") × (as_text ≡ is_given (first_of (codes "as-text") found.1))
-    × (names ≡ is_given (first_of (codes "names") found.1)) × (apart_in found.1 ≡ None)
+-- `show` with `--as-text`, `--names` and `--lines`, or without them, and with no two options that don't go together
+abbrev pub IsShow : Bool → Bool → Bool → Text × List Row → Type 0
+IsShow as_text names lines found = (found.0 ≡ codes "show") × (as_text ≡ is_given (first_of (codes "as-text") found.1))
+    × (names ≡ is_given (first_of (codes "names") found.1)) × (lines ≡ is_given (first_of (codes "lines") found.1)) × (apart_in found.1 ≡ None)
 
 -- the task that was found: the name of its command, the first values of its options, and all names of commands
 abbrev pub IsTaskOf : Task → Text × List Row → Type 0
-IsTaskOf (Whole command.Show) found = IsShow false false found
-IsTaskOf ShowText found = IsShow true false found
-IsTaskOf ShowNamed found = IsShow false true found
+IsTaskOf (Whole command.Show) found = IsShow false false false found
+IsTaskOf ShowText found = IsShow true false false found
+IsTaskOf ShowNamed found = IsShow false true false found
+IsTaskOf (ShowLines names) found = IsShow false names true found
 IsTaskOf Make found = found.0 ≡ codes "make"
 IsTaskOf (Whole command.Render) found = found.0 ≡ codes "render"
 IsTaskOf (Whole (command.Check unknown levels)) found = IsCheck false false unknown levels found
@@ -112,6 +113,7 @@ IsTaskOf (Breaking sends unknown messages once meaning names) found =
 abbrev pub arguments_of : Task → InputTexts
 arguments_of (Whole command.Show) = record (one_text (codes "dict")) { table = Some (codes "values"); message = Some (codes "MESSAGE") }
 arguments_of ShowNamed = record (one_text (codes "dict")) { table = Some (codes "values"); message = Some (codes "MESSAGE") }
+arguments_of (ShowLines names) = record (one_text (codes "dict")) { table = Some (codes "values"); messages = Some (codes "MESSAGE") }
 arguments_of ShowText = record (one_text (codes "dict")) { message = Some (codes "MESSAGE") }
 arguments_of Make = record (one_text (codes "dict")) { message = Some (codes "TEXT") }
 arguments_of (Whole command.Render) = one_text (codes "D")

@@ -12,12 +12,16 @@ pub enum Apart {
     AsTextAndNames,
     /// `--as-text` and `--values`.
     AsTextAndValues,
+    /// `--as-text` and `--lines`.
+    AsTextAndLines,
     /// `--as-text` and `--json`.
     AsTextAndJson,
     /// `--json` and `--names`.
     JsonAndNames,
     /// `--json` and `--values`.
     JsonAndValues,
+    /// `--json` and `--lines`.
+    JsonAndLines,
 }
 
 impl Apart {
@@ -27,8 +31,11 @@ impl Apart {
     {
         match self {
             Apart::LinesAndStream => "lines",
-            Apart::AsTextAndNames | Apart::AsTextAndValues | Apart::AsTextAndJson => "as-text",
-            Apart::JsonAndNames | Apart::JsonAndValues => "json",
+            Apart::AsTextAndNames
+            | Apart::AsTextAndValues
+            | Apart::AsTextAndLines
+            | Apart::AsTextAndJson => "as-text",
+            Apart::JsonAndNames | Apart::JsonAndValues | Apart::JsonAndLines => "json",
         }
     }
 
@@ -40,21 +47,30 @@ impl Apart {
             Apart::LinesAndStream => "stream",
             Apart::AsTextAndNames | Apart::JsonAndNames => "names",
             Apart::AsTextAndValues | Apart::JsonAndValues => "values",
+            Apart::AsTextAndLines | Apart::JsonAndLines => "lines",
             Apart::AsTextAndJson => "json",
         }
     }
 }
 
 /// The first two of the given options of `show` that don't go together.
-pub(crate) fn show_apart(as_text: bool, names: bool, values: bool, json: bool) -> Option<Apart>
-    ensures { result ≡ show_apart as_text names values json }
+pub(crate) fn show_apart(
+    as_text: bool,
+    names: bool,
+    values: bool,
+    lines: bool,
+    json: bool,
+) -> Option<Apart>
+    ensures { result ≡ show_apart as_text names values lines json }
 {
-    match (as_text, names, values, json) {
-        (true, true, _, _) => Some(Apart::AsTextAndNames),
-        (true, false, true, _) => Some(Apart::AsTextAndValues),
-        (true, false, false, true) => Some(Apart::AsTextAndJson),
-        (false, true, _, true) => Some(Apart::JsonAndNames),
-        (false, false, true, true) => Some(Apart::JsonAndValues),
+    match (as_text, names, values, lines, json) {
+        (true, true, _, _, _) => Some(Apart::AsTextAndNames),
+        (true, false, true, _, _) => Some(Apart::AsTextAndValues),
+        (true, false, false, true, _) => Some(Apart::AsTextAndLines),
+        (true, false, false, false, true) => Some(Apart::AsTextAndJson),
+        (false, true, _, _, true) => Some(Apart::JsonAndNames),
+        (false, false, true, _, true) => Some(Apart::JsonAndValues),
+        (false, false, false, true, true) => Some(Apart::JsonAndLines),
         _ => None,
     }
 }

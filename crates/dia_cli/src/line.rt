@@ -15,7 +15,7 @@ use std::alloc::{AllocError, Global};
 /// What the statuses of the process mean.
 const STATUSES: &str = "Status:
   0  done; for make, the messages made; for check, valid; for compare, yes; for refute, refutes; for breaking, nothing breaks
-  1  for check, not valid; for compare, no; for refute, does not refute; for breaking, something breaks; for show, a bad AVP length
+  1  for check, not valid; for compare, no; for refute, does not refute; for breaking, something breaks; for show, a bad AVP length, or with --lines a line that is no message
   2  bad input, or a bad command line
   3  a file or a device failed, or memory was refused";
 

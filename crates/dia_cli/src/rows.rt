@@ -126,12 +126,17 @@ pub(crate) static ROWS: [CommandRow<'static>; 8] = [
                 },
                 help: "The words of numbers, as lines AVP-NAME NUMBER WORD: a file, @none, or - for standard input",
             },
+            OptionRow {
+                id: "lines",
+                value: Value::Nothing,
+                help: "Prints the message of each line, behind the number of the line",
+            },
             JSON,
         ],
         inputs: &[InputRow {
             id: "MESSAGE",
             count: Count::One,
-            help: "A file of hexadecimal text, white space ignored; - for standard input",
+            help: "A file of hexadecimal text, white space ignored; with --lines, of a message a line; - for standard input",
         }],
     },
     CommandRow {

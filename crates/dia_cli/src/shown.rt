@@ -46,6 +46,7 @@ pub(crate) fn apart_in(found: &ArgMatches<'_>) -> Option<Apart>
         is_given(found, "as-text"),
         is_given(found, "names"),
         is_file(word_of(found, "values")),
+        is_given(found, "lines"),
         is_given(found, "json"),
     )
 }

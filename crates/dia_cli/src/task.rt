@@ -12,6 +12,10 @@ pub enum Task {
     ShowText,
     /// Prints a message, an AVP a line, with names of flags, commands and dates.
     ShowNamed,
+    /// Prints the message of each line behind the line's number, with names or without.
+    ShowLines {
+        names: bool,
+    },
     /// Prints each way in which messages that A's side sends break under B, for these commands of A, or for all.
     Breaking {
         sends: Sends,

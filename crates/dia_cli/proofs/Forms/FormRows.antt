@@ -78,7 +78,7 @@ module _ (policies senders : Bor (List (Bor Text))) (two : texts policies.now â‰
 
   form_fits : (quiet : Bool) (form : Form) â†’ IsRow (shape policies senders (form_row form)) (all_options quiet form) (form_inputs form)
   form_fits quiet (show telling dictionary message) =
-      row_fits show_row _ _ refl (refl, tt, (refl, tt, (refl, tt, (refl, tt, (refl, tt, (refl, tt, tt)))))) (record { by_index = refl; by_id = refl; next = refl }, tt) refl refl refl refl
+      row_fits show_row _ _ refl (refl, tt, (refl, tt, (refl, tt, (refl, tt, (refl, tt, (refl, tt, (refl, tt, tt))))))) (record { by_index = refl; by_id = refl; next = refl }, tt) refl refl refl refl
   form_fits quiet (make dictionary written) =
       row_fits make_row _ _ refl (refl, tt, (refl, tt, tt)) (record { by_index = refl; by_id = refl; next = refl }, tt) refl refl refl refl
   form_fits quiet (check manner json unknown levels dictionary message) =

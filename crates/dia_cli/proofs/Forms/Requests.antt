@@ -10,7 +10,7 @@ use Rattle.clap.specs.Walk.{Row, Text, first_of}
 use Rattle.clap.proofs.WalkLemmas.{both}
 use Rattle.dia_io.specs.declared.Command.TheVariants as command
 use Rattle.dia_cli.specs.declared.task.Task.{Task}
-use Rattle.dia_cli.specs.declared.task.Task.TheVariants.{Whole, Make, ShowText, ShowNamed, Breaking, CheckLines, RefuteLines, CheckStream}
+use Rattle.dia_cli.specs.declared.task.Task.TheVariants.{Whole, Make, ShowText, ShowNamed, ShowLines, Breaking, CheckLines, RefuteLines, CheckStream}
 use Rattle.dia_policy.specs.declared.Levels.{Levels}
 use Rattle.dia_policy.specs.declared.Sends.{Sends}
 use Rattle.dia_policy.specs.declared.Sends.TheVariants.{Any, Known, Listed}
@@ -18,12 +18,12 @@ use Rattle.dia_policy.specs.declared.Unknown.{Unknown}
 use Rattle.dia_policy.specs.declared.Unknown.TheVariants.{Kept, Refused}
 use Rattle.dia_cli.specs.Apart.{show_apart}
 use Rattle.dia_cli.specs.Asking.{HasLinesAndStream, IsApart, has_pair, is_asked, is_flag, is_limit, is_policy, is_sender}
-use Rattle.dia_cli.specs.Forms.{Form, IsOfForm, IsTaskOfForm, alone, as_json, as_lines, as_text, breaking, check, compare, form_inputs, form_json, form_name, form_words, has_names, in_lines, in_stream, is_json, is_lines, is_plain_form, is_stream, is_text, make, propose, refute, render, show, values_given, Telling}
+use Rattle.dia_cli.specs.Forms.{Form, IsOfForm, IsTaskOfForm, alone, as_json, as_listing, as_text, breaking, check, compare, form_inputs, form_json, form_name, form_words, has_lines, has_names, in_lines, in_stream, is_json, is_lines, is_plain_form, is_stream, is_text, make, propose, refute, render, show, values_given, Telling}
 use Rattle.dia_cli.specs.Slots.{Slot, is_plain, is_plain_slot, number}
 use Rattle.dia_cli.specs.InputWords.{AreFound, AreNamed, IsFound, IsNamed, one_text, pair_texts}
 use Rattle.dia_cli.specs.Words.{IsLimitOf, IsRequestOf, IsTaskOf, apart_in, arguments_of, flag_word, is_file, is_given, policy_word, sends_word}
 use Rattle.dia_cli.specs.declared.apart.Apart.{Apart}
-use Rattle.dia_cli.specs.declared.apart.Apart.TheVariants.{LinesAndStream, AsTextAndNames, AsTextAndValues, AsTextAndJson, JsonAndNames, JsonAndValues}
+use Rattle.dia_cli.specs.declared.apart.Apart.TheVariants.{LinesAndStream, AsTextAndNames, AsTextAndValues, AsTextAndLines, AsTextAndJson, JsonAndNames, JsonAndValues, JsonAndLines}
 use Rattle.dia_cli.specs.declared.request.Request.{Request}
 use Rattle.dia_cli.specs.declared.origin.Origin.{Origin}
 use Rattle.dia_cli.specs.declared.origin.Origins.{Origins}
@@ -148,21 +148,23 @@ same_given word true y one two = two ∙ ap is_given one
 
 -- what a form says of `show` goes together
 module _ (rows : List Row) where
-  told_together : (telling : Telling) → show_apart (is_text telling) (has_names telling) (is_file (Some (unwrap_or (values_given telling) (codes "@none")))) (is_json telling) ≡ None
+  told_together : (telling : Telling) → show_apart (is_text telling) (has_names telling) (is_file (Some (unwrap_or (values_given telling) (codes "@none")))) (has_lines telling) (is_json telling) ≡ None
   told_together as_text = refl
   told_together as_json = refl
-  told_together (as_lines names values) = refl
+  told_together (as_listing many names values) = refl
 
   shown_together : (telling : Telling) → first_of (codes "as-text") rows ≡ Some (flag_word (is_text telling)) → first_of (codes "names") rows ≡ Some (flag_word (has_names telling))
-      → first_of (codes "values") rows ≡ Some (unwrap_or (values_given telling) (codes "@none")) → is_json telling ≡ is_given (first_of (codes "json") rows) → apart_in rows ≡ None
-  shown_together telling text names values json =
+      → first_of (codes "values") rows ≡ Some (unwrap_or (values_given telling) (codes "@none")) → first_of (codes "lines") rows ≡ Some (flag_word (has_lines telling))
+      → is_json telling ≡ is_given (first_of (codes "json") rows) → apart_in rows ≡ None
+  shown_together telling text names values lines json =
       let t = same_given (first_of (codes "as-text") rows) (is_text telling) (is_given (first_of (codes "as-text") rows)) text refl in
       let n = same_given (first_of (codes "names") rows) (has_names telling) (is_given (first_of (codes "names") rows)) names refl in
-      let v = ap is_file values in (λ i. show_apart (t i) (n i) (v i) (sym json i)) ∙ told_together telling
+      let l = same_given (first_of (codes "lines") rows) (has_lines telling) (is_given (first_of (codes "lines") rows)) lines refl in
+      let v = ap is_file values in (λ i. show_apart (t i) (n i) (v i) (l i) (sym json i)) ∙ told_together telling
 
   show_goes_together : (quiet : Bool) (form : Form) (apart : Apart) → Says quiet form rows → (form_name form ≡ codes "show") × (apart_in rows ≡ Some apart) → ⊥
   show_goes_together quiet (show telling dictionary message) apart says bad =
-      let none = sym (shown_together telling says.1.2 says.1.3 says.1.4 says.2) ∙ bad.1 in absurd cc
+      let none = sym (shown_together telling says.1.2 says.1.3 says.1.4 says.1.5 says.2) ∙ bad.1 in absurd cc
   show_goes_together quiet form apart says bad = unlike (form_name form) (codes "show") refl bad.0
 
 -- no form has two options that don't go together
@@ -170,9 +172,11 @@ pub form_goes_together : (quiet : Bool) (form : Form) (rows : List Row) → Says
 form_goes_together quiet form rows says LinesAndStream bad = form_reads_one_way quiet form rows says bad
 form_goes_together quiet form rows says AsTextAndNames bad = show_goes_together rows quiet form AsTextAndNames says bad
 form_goes_together quiet form rows says AsTextAndValues bad = show_goes_together rows quiet form AsTextAndValues says bad
+form_goes_together quiet form rows says AsTextAndLines bad = show_goes_together rows quiet form AsTextAndLines says bad
 form_goes_together quiet form rows says AsTextAndJson bad = show_goes_together rows quiet form AsTextAndJson says bad
 form_goes_together quiet form rows says JsonAndNames bad = show_goes_together rows quiet form JsonAndNames says bad
 form_goes_together quiet form rows says JsonAndValues bad = show_goes_together rows quiet form JsonAndValues says bad
+form_goes_together quiet form rows says JsonAndLines bad = show_goes_together rows quiet form JsonAndLines says bad
 
 -- ---- the task
 
@@ -180,6 +184,7 @@ abbrev task_name : Task → Text
 task_name (Whole command.Show) = codes "show"
 task_name ShowText = codes "show"
 task_name ShowNamed = codes "show"
+task_name (ShowLines names) = codes "show"
 task_name Make = codes "make"
 task_name (Whole command.Render) = codes "render"
 task_name (Whole (command.Check unknown levels)) = codes "check"
@@ -195,6 +200,7 @@ name_found : (task : Task) (found : Text × List Row) → IsTaskOf task found �
 name_found (Whole command.Show) found is = is.0
 name_found ShowText found is = is.0
 name_found ShowNamed found is = is.0
+name_found (ShowLines names) found is = is.0
 name_found Make found is = is
 name_found (Whole command.Render) found is = is
 name_found (Whole (command.Check unknown levels)) found is = is.0
@@ -248,6 +254,17 @@ module _ (origins : Origins) (rows : List Row) where
     found.4,
   )
 
+  listings_named : (dictionary messages values : Text) → first_of (codes "dict") rows ≡ Some dictionary → first_of (codes "MESSAGE") rows ≡ Some messages → first_of (codes "values") rows ≡ Some values
+      → AreFound (record (one_text (codes "dict")) { table = Some (codes "values"); messages = Some (codes "MESSAGE") }) origins rows
+      → AreNamed (record (one_text dictionary) { table = Some values; messages = Some messages }) origins
+  listings_named dictionary messages values says text file found = (
+    named _ (codes "dict") dictionary origins.first rows says found.0,
+    found.1,
+    named _ (codes "values") values origins.table rows file found.2,
+    found.3,
+    named _ (codes "MESSAGE") messages origins.messages rows text found.4,
+  )
+
   messages_named : (id dictionary messages : Text) → first_of id rows ≡ Some dictionary → first_of (codes "MESSAGE") rows ≡ Some messages
       → AreFound (record (one_text id) { messages = Some (codes "MESSAGE") }) origins rows → AreNamed (record (one_text dictionary) { messages = Some messages }) origins
   messages_named id dictionary messages says text found =
@@ -297,18 +314,27 @@ asked_is (show as_text dictionary message) rows ShowText origins says is found =
     (tt, message_named origins rows (codes "dict") (unwrap_or dictionary (codes "@base")) (codes "MESSAGE") message says.0 says.1 found)
 asked_is (show as_json dictionary message) rows (Whole command.Show) origins says is found =
     (tt, listing_named origins rows (unwrap_or dictionary (codes "@base")) message (codes "@none") says.0 says.1 says.4 found)
-asked_is (show (as_lines false values) dictionary message) rows (Whole command.Show) origins says is found =
+asked_is (show (as_listing false false values) dictionary message) rows (Whole command.Show) origins says is found =
     (tt, listing_named origins rows (unwrap_or dictionary (codes "@base")) message (unwrap_or values (codes "@none")) says.0 says.1 says.4 found)
-asked_is (show (as_lines true values) dictionary message) rows ShowNamed origins says is found =
+asked_is (show (as_listing false true values) dictionary message) rows ShowNamed origins says is found =
     (tt, listing_named origins rows (unwrap_or dictionary (codes "@base")) message (unwrap_or values (codes "@none")) says.0 says.1 says.4 found)
+asked_is (show (as_listing true names values) dictionary messages) rows (ShowLines named) origins says is found =
+    (same_given _ names named says.3 is.2, listings_named origins rows (unwrap_or dictionary (codes "@base")) messages (unwrap_or values (codes "@none")) says.0 says.1 says.4 found)
 asked_is (show as_text dictionary message) rows (Whole command.Show) origins says is found = other_given _ true false says.2 is.1 not_true
 asked_is (show as_text dictionary message) rows ShowNamed origins says is found = other_given _ true false says.2 is.1 not_true
+asked_is (show as_text dictionary message) rows (ShowLines names) origins says is found = other_given _ true false says.2 is.1 not_true
 asked_is (show as_json dictionary message) rows ShowText origins says is found = other_given _ false true says.2 is.1 not_false
 asked_is (show as_json dictionary message) rows ShowNamed origins says is found = other_given _ false true says.3 is.2 not_false
-asked_is (show (as_lines false values) dictionary message) rows ShowText origins says is found = other_given _ false true says.2 is.1 not_false
-asked_is (show (as_lines false values) dictionary message) rows ShowNamed origins says is found = other_given _ false true says.3 is.2 not_false
-asked_is (show (as_lines true values) dictionary message) rows (Whole command.Show) origins says is found = other_given _ true false says.3 is.2 not_true
-asked_is (show (as_lines true values) dictionary message) rows ShowText origins says is found = other_given _ false true says.2 is.1 not_false
+asked_is (show as_json dictionary message) rows (ShowLines names) origins says is found = other_given _ false true says.5 is.3 not_false
+asked_is (show (as_listing false false values) dictionary message) rows ShowText origins says is found = other_given _ false true says.2 is.1 not_false
+asked_is (show (as_listing false false values) dictionary message) rows ShowNamed origins says is found = other_given _ false true says.3 is.2 not_false
+asked_is (show (as_listing false false values) dictionary message) rows (ShowLines names) origins says is found = other_given _ false true says.5 is.3 not_false
+asked_is (show (as_listing false true values) dictionary message) rows (Whole command.Show) origins says is found = other_given _ true false says.3 is.2 not_true
+asked_is (show (as_listing false true values) dictionary message) rows ShowText origins says is found = other_given _ false true says.2 is.1 not_false
+asked_is (show (as_listing false true values) dictionary message) rows (ShowLines names) origins says is found = other_given _ false true says.5 is.3 not_false
+asked_is (show (as_listing true names values) dictionary message) rows (Whole command.Show) origins says is found = other_given _ true false says.5 is.3 not_true
+asked_is (show (as_listing true names values) dictionary message) rows ShowText origins says is found = other_given _ false true says.2 is.1 not_false
+asked_is (show (as_listing true names values) dictionary message) rows ShowNamed origins says is found = other_given _ true false says.5 is.3 not_true
 asked_is (make dictionary written) rows Make origins says is found =
     (tt, message_named origins rows (codes "dict") (unwrap_or dictionary (codes "@base")) (codes "TEXT") written says.0 says.1 found)
 asked_is (render dictionary) rows (Whole command.Render) origins says is found = (tt, one_named origins rows (codes "D") dictionary says found)

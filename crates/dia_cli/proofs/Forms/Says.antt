@@ -9,7 +9,7 @@ use Rattle.dia_policy.specs.declared.Sends.{Sends}
 use Rattle.dia_policy.specs.declared.Sends.TheVariants.{Any, Known, Listed}
 use Rattle.dia_policy.specs.declared.Unknown.{Unknown}
 use Rattle.dia_policy.specs.declared.Unknown.TheVariants.{Kept, Refused}
-use Rattle.dia_cli.specs.Forms.{Form, breaking, check, compare, form_inputs, form_json, has_names, is_json, is_lines, is_stream, is_text, make, policy_given, propose, refute, render, sender_given, show, values_given}
+use Rattle.dia_cli.specs.Forms.{Form, breaking, check, compare, form_inputs, form_json, has_lines, has_names, is_json, is_lines, is_stream, is_text, make, policy_given, propose, refute, render, sender_given, show, values_given}
 use Rattle.dia_cli.specs.Slots.{Slot}
 use Rattle.dia_cli.specs.Words.{flag_word, is_given, policy_word, sends_word}
 use Rattle.dia_cli.proofs.Forms.Ends.{Finds}
@@ -32,7 +32,7 @@ abbrev pub SaysForm : Form → List Row → Type 0
 SaysForm (show telling dictionary message) rows =
     (first_of (codes "dict") rows ≡ Some (unwrap_or dictionary (codes "@base"))) × (first_of (codes "MESSAGE") rows ≡ Some message)
     × (first_of (codes "as-text") rows ≡ Some (flag_word (is_text telling))) × (first_of (codes "names") rows ≡ Some (flag_word (has_names telling)))
-    × (first_of (codes "values") rows ≡ Some (unwrap_or (values_given telling) (codes "@none")))
+    × (first_of (codes "values") rows ≡ Some (unwrap_or (values_given telling) (codes "@none"))) × (first_of (codes "lines") rows ≡ Some (flag_word (has_lines telling)))
 SaysForm (make dictionary written) rows = (first_of (codes "dict") rows ≡ Some (unwrap_or dictionary (codes "@base"))) × (first_of (codes "TEXT") rows ≡ Some written)
 SaysForm (check manner json unknown levels dictionary message) rows =
     (first_of (codes "lines") rows ≡ Some (flag_word (is_lines manner))) × (first_of (codes "stream") rows ≡ Some (flag_word (is_stream manner)))
@@ -118,6 +118,7 @@ module _ (policies senders : Bor (List (Bor Text))) (quiet : Bool) (rows : List 
       first (codes "as-text") ∙ flag_found (is_text telling),
       first (codes "names") ∙ flag_found (has_names telling),
       first (codes "values") ∙ text_found (values_given telling) (codes "@none"),
+      first (codes "lines") ∙ flag_found (has_lines telling),
     ),
     flag_given (is_json telling) (first (codes "json") ∙ flag_found (is_json telling)),
   )

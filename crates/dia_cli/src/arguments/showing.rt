@@ -1,6 +1,6 @@
 //! The arguments of `show`.
 
-ghost use Rattle.std.specs.Prelude.{◌≡◌, IfErr, IfOk, codes, if◌then◌else◌};
+ghost use Rattle.std.specs.Prelude.{IfErr, IfOk, codes};
 ghost use Rattle.clap.specs.Words.{found_of, rows_of};
 ghost use Rattle.dia_cli.specs.Asking.{IsWanting};
 ghost use Rattle.dia_cli.specs.Words.{IsAsked};
@@ -9,7 +9,7 @@ use crate::arguments::{Asked, Unasked};
 use crate::origin::Origins;
 use crate::shown::apart_in;
 use crate::task::Task;
-use crate::values::{dictionary_of, is_given, message_of, table_of};
+use crate::values::{dictionary_of, is_given, message_of, messages_of, table_of};
 use clap::ArgMatches;
 use dia_io::Command;
 
@@ -21,30 +21,37 @@ pub(super) fn show_of<'a>(found: &ArgMatches<'a>) -> Result<Asked<'a>, Unasked>
 {
     let origins = Origins::of_one(dictionary_of(found, "dict").ok_or(Unasked::Nothing)?);
     let message = message_of(found, "MESSAGE").ok_or(Unasked::Nothing)?;
+    let messages = messages_of(found).ok_or(Unasked::Nothing)?;
     let table = table_of(found, "values").ok_or(Unasked::Nothing)?;
     if let Some(apart) = apart_in(found) {
         return Err(Unasked::Apart(apart));
     }
-    let origins = Origins { message, ..origins };
     if is_given(found, "as-text") {
         return Ok(Asked {
             task: Task::ShowText,
+            origins: Origins { message, ..origins },
+        });
+    }
+    let names = is_given(found, "names");
+    let origins = Origins { table, ..origins };
+    if is_given(found, "lines") {
+        return Ok(Asked {
+            task: Task::ShowLines { names },
+            origins: Origins {
+                messages,
+                ..origins
+            },
+        });
+    }
+    let origins = Origins { message, ..origins };
+    if names {
+        return Ok(Asked {
+            task: Task::ShowNamed,
             origins,
         });
     }
     Ok(Asked {
-        task: listing_of(is_given(found, "names")),
-        origins: Origins { table, ..origins },
+        task: Task::Whole(Command::Show),
+        origins,
     })
-}
-
-/// The task that lists a message, with names or without.
-fn listing_of(names: bool) -> Task
-    ensures { result ≡ (if names then Task.ShowNamed else Task.Whole Command.Show) }
-{
-    if names {
-        Task::ShowNamed
-    } else {
-        Task::Whole(Command::Show)
-    }
 }
