@@ -304,6 +304,12 @@ class Model:
             return level > 0
         return other.format == "UTF8String" or SIZES.get(other.format) == 8 and level == 8
 
+    def are_addresses(self, definition):
+        """Each level is an Address: it isn't empty, and no AVP of it has a code whose first two bytes are 1 or 2."""
+        keys = [rule.key for rule in definition.rules if rule.key is not None] + self.strangers(definition)
+        has_family = any(key != OUTSIDE and (key & 0xffffffff) >> 16 in (1, 2) or key == OUTSIDE for key in keys)
+        return any(rule.low for rule in definition.rules) and not has_family
+
     def breaking_data(self, mine, other):
         f, g = mine.format if mine else "any data", other.format
         listed = mine.listed if mine else None
@@ -311,7 +317,7 @@ class Model:
         if g in ANY_DATA or f == g == "Grouped":
             return None
         if f == "Grouped":
-            return self.least(mine.group), words
+            return None if g == "Address" and self.are_addresses(mine.group) else (self.least(mine.group), words)
         if g == "Grouped":
             size = SHORTEST.get(f, 0)
             return padded(max(size, 0 if any(rule.low for rule in other.group.rules) else 1)), words

@@ -6,18 +6,20 @@ use Rattle.std.proofs.lemmas.Option.{none-some, same_Some}
 use Rattle.std.proofs.lemmas.Str.{IsUtf8-nil}
 use Rattle.dia_wire.specs.declared.Key.{Key}
 use Rattle.dia_wire.specs.Wire.{PlainAvp, SpellsAll, avp_length}
-use Rattle.dia_data.specs.Leaf.{IsAddress}
 use Rattle.dia_data.specs.Plain.{PlainFormat, Integer64, Unsigned64, Float64, Address, Utf8String}
-use Rattle.dia_book.specs.Dictionary.{DictEntry, PlainDefinition}
+use Rattle.dia_book.specs.declared.DRule.{DRule}
+use Rattle.dia_book.specs.Dictionary.{Dictionary, DictEntry, PlainDefinition}
+use Rattle.dia_policy.specs.declared.Sends.{Sends}
 use Rattle.dia_breaking_data.specs.declared.short_data.Witness.{Witness}
 use Rattle.dia_breaking_avps.specs.Breaks.{IsDataBreak}
-use Rattle.dia_breaking_avps.specs.Levels.{IsOrdinary, IsUndecided, RefusesOrdinaryLevels, empty, short}
-use Rattle.dia_breaking_avps.specs.Sent.{group_of}
+use Rattle.dia_breaking_avps.specs.Levels.{HasEightBytes, IsOrdinary, IsUndecided, RefusesLeastLevel, empty, short}
+use Rattle.dia_breaking_avps.specs.Sent.{group_of, group_rules}
 use Rattle.dia_breaking_avps.specs.declared.breaking.DataBreak.{DataBreak}
-use Rattle.dia_breaking_avps.specs.declared.breaking.DataBreak.TheVariants.{Data, LeastLevel, Undecided}
+use Rattle.dia_breaking_avps.specs.declared.breaking.DataBreak.TheVariants.{Data, LeastLevel, EightBytes, Undecided}
 use Rattle.dia_breaking.specs.declared.line.Cause.{Cause}
 use Rattle.dia_breaking.specs.declared.line.Cause.TheVariants as causes
 use Rattle.dia_breaking.specs.DataLines.{DataLinesAreApart, IsLineOfData, NamesData}
+use Rattle.dia_breaking.specs.OwnBreaks.{ReadsEight}
 use Rattle.dia_breaking.specs.Sides.{Sides}
 
 -- ---- a level of 8 bytes
@@ -52,24 +54,18 @@ spelled = (
 ordinary : IsOrdinary (least ∷ [])
 ordinary = short (least ∷ []) least (0, omega arith, refl) (let size : avp_length least ≡ 8 = refl in omega (arith, size))
 
-is_address : IsAddress least_bytes
-is_address = record {
-  family = 0 ∷ 0 ∷ [];
-  rest = 0 ∷ 0 ∷ 0 ∷ 0 ∷ 0 ∷ 8 ∷ [];
-  parts = refl;
-  width = refl;
-  ipv4 = λ e. let p : 0 ≡ 1 = e in absurd (omega (arith, p));
-  ipv6 = λ e. let p : 0 ≡ 2 = e in absurd (omega (arith, p));
-}
+-- each format of eight bytes accepts that level
+accepts_eight : (rules : List DRule) (f : PlainFormat) → HasEightBytes f → RefusesLeastLevel rules f → ⊥
+accepts_eight rules Integer64 may refuses = refuses (least ∷ []) least_bytes spelled ordinary refl
+accepts_eight rules Unsigned64 may refuses = refuses (least ∷ []) least_bytes spelled ordinary refl
+accepts_eight rules Float64 may refuses = refuses (least ∷ []) least_bytes spelled ordinary refl
+accepts_eight rules f may refuses = absurd may
 
--- each undecided format accepts some ordinary level
-accepts_one : (f : PlainFormat) → IsUndecided f → RefusesOrdinaryLevels f → ⊥
-accepts_one Integer64 may refuses = refuses (least ∷ []) least_bytes spelled ordinary refl
-accepts_one Unsigned64 may refuses = refuses (least ∷ []) least_bytes spelled ordinary refl
-accepts_one Float64 may refuses = refuses (least ∷ []) least_bytes spelled ordinary refl
-accepts_one Address may refuses = refuses (least ∷ []) least_bytes spelled ordinary is_address
-accepts_one Utf8String may refuses = refuses [] [] refl empty IsUtf8-nil
-accepts_one f may refuses = absurd may
+-- each undecided format accepts some ordinary level, or no level is empty
+accepts_one : (d : Dictionary) (who : Sends) (rules : List DRule) (f : PlainFormat) → IsUndecided d who rules f → RefusesLeastLevel rules f → ⊥
+accepts_one d who rules Address may refuses = may.0 refuses
+accepts_one d who rules Utf8String may refuses = refuses [] [] refl empty IsUtf8-nil
+accepts_one d who rules f may refuses = absurd may
 
 -- ---- lines
 
@@ -85,9 +81,19 @@ module _ (s : Sides) (key : Key) where
   abbrev Breaks : DataBreak → Type 0
   Breaks found = IsDataBreak s.sender s.receiver s.sends s.unknown key found
 
+  abbrev AsLeaf : Type 0
+  AsLeaf = Breaks LeastLevel ⊎ (Breaks EightBytes ⊎ Breaks Undecided)
+
+  refused_here : (e f : DictEntry) → Some e ≡ Some f → RefusesLeastLevel (group_rules s.sender key) e.format → RefusesLeastLevel (group_rules s.sender key) f.format
+  refused_here e f same refuses = subst (λ (x : DictEntry). RefusesLeastLevel (group_rules s.sender key) x.format) (same_Some e f same) refuses
+
+  not_eight : Breaks LeastLevel → Breaks EightBytes → ⊥
+  not_eight (group, (e, is, leaf, refuses)) (again, (f, at, other, may)) =
+      accepts_eight (group_rules s.sender key) f.format may (refused_here e f (sym is ∙ at) refuses)
+
   not_both : Breaks LeastLevel → Breaks Undecided → ⊥
   not_both (group, (e, is, leaf, refuses)) (again, (f, at, other, may)) =
-      accepts_one f.format may (subst (λ (x : DictEntry). RefusesOrdinaryLevels x.format) (same_Some e f (sym is ∙ at)) refuses)
+      accepts_one s.sender s.sends (group_rules s.sender key) f.format may (refused_here e f (sym is ∙ at) refuses)
 
   no_level : group_of s.sender key ≡ None → IsSome (group_of s.sender key) → ⊥
   no_level none some = both_ways (is_some (group_of s.sender key)) (ap (λ (o : Option PlainDefinition). is_some o) none) some
@@ -104,7 +110,7 @@ module _ (s : Sides) (key : Key) where
   unnamed : (cause : Cause) → names cause ≡ false → NamesData key cause → ⊥
   unnamed cause none (found, e) = let bad : true ≡ false = sym (ap names e) ∙ none in both_ways true bad refl
 
-  of_format : Breaks LeastLevel ⊎ Breaks Undecided → IsSome (group_of s.sender key) → IsLineOfData s key (causes.Format key None)
+  of_format : AsLeaf → IsSome (group_of s.sender key) → IsLineOfData s key (causes.Format key None)
   of_format how some = record {
     leaf = (λ named. absurd (unnamed (causes.Format key None) refl named), λ none. absurd (no_level none some));
     level = λ group. how;
@@ -112,25 +118,30 @@ module _ (s : Sides) (key : Key) where
     undecided = λ e. absurd (let bad : false ≡ true = ap is_undecided e in both_ways false refl bad);
   }
 
-  of_undecided : Breaks Undecided → IsLineOfData s key (causes.LevelAsLeaf key)
-  of_undecided may = record {
-    leaf = (λ named. absurd (unnamed (causes.LevelAsLeaf key) refl named), λ none. absurd (no_level none may.0));
-    level = λ group. inr may;
-    refused = λ h. absurd (not_both h may);
-    undecided = λ e. (may, λ h. not_both h may);
+  of_undecided : ReadsEight s key true ⊎ Breaks Undecided → (Breaks LeastLevel → ⊥) → AsLeaf → IsSome (group_of s.sender key) → IsLineOfData s key (causes.LevelAsLeaf key)
+  of_undecided may not how some = record {
+    leaf = (λ named. absurd (unnamed (causes.LevelAsLeaf key) refl named), λ none. absurd (no_level none some));
+    level = λ group. how;
+    refused = λ h. absurd (not h);
+    undecided = λ e. (may, not);
   }
 
-  has_level : Breaks LeastLevel ⊎ Breaks Undecided → IsSome (group_of s.sender key)
-  has_level (inl h) = h.0
-  has_level (inr h) = h.0
+  of_told : Breaks LeastLevel ⊎ (ReadsEight s key false ⊎ Breaks Undecided) → IsLineOfData s key (causes.Format key None)
+  of_told (inl h) = of_format (inl h) h.0
+  of_told (inr (inl eight)) = of_format (inr (inl eight.0)) eight.0.0
+  of_told (inr (inr may)) = of_format (inr (inr may)) may.0
+
+  of_leaves : ReadsEight s key true ⊎ Breaks Undecided → IsLineOfData s key (causes.LevelAsLeaf key)
+  of_leaves (inl eight) = of_undecided (inl eight) (λ h. not_eight h eight.0) (inr (inl eight.0)) eight.0.0
+  of_leaves (inr may) = of_undecided (inr may) (λ h. not_both h may) (inr (inr may)) may.0
 
 of_key : (s : Sides) (own key : Key) (cause : Cause) → Some own ≡ Some key → IsLineOfData s own cause → IsLineOfData s key cause
 of_key s own key cause e is = subst (λ (k : Key). IsLineOfData s k cause) (same_Some own key e) is
 
 pub apart : DataLinesAreApart
 apart s key (causes.Format own (Some found)) is tells = of_key s own key _ is (of_leaf s own found tells)
-apart s key (causes.Format own None) is tells = of_key s own key _ is (of_format s own tells (has_level s own tells))
-apart s key (causes.LevelAsLeaf own) is tells = of_key s own key _ is (of_undecided s own tells)
+apart s key (causes.Format own None) is tells = of_key s own key _ is (of_told s own tells)
+apart s key (causes.LevelAsLeaf own) is tells = of_key s own key _ is (of_leaves s own tells)
 apart s key causes.Command is tells = absurd (none-some key is)
 apart s key causes.Application is tells = absurd (none-some key is)
 apart s key (causes.Proxiable set) is tells = absurd (none-some key is)

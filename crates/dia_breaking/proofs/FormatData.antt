@@ -14,8 +14,9 @@ use Rattle.dia_policy.specs.declared.Unknown.{Unknown}
 use Rattle.dia_policy.specs.declared.Sends.{Sends}
 use Rattle.dia_breaking_avps.specs.declared.breaking.HeadBreak.{HeadBreak}
 use Rattle.dia_breaking_avps.specs.declared.breaking.HeadBreak.TheVariants as head_breaks
-use Rattle.dia_breaking_avps.specs.declared.breaking.DataBreak.TheVariants.{Undecided}
+use Rattle.dia_breaking_avps.specs.declared.breaking.DataBreak.TheVariants.{EightBytes, Undecided}
 use Rattle.dia_breaking_avps.specs.Breaks.{IsDataBreak}
+use Rattle.dia_breaking_shortest.specs.Exact.{AreExact}
 use Rattle.dia_breaking_levels.specs.declared.line.Line.{Line as LevelLine}
 use Rattle.dia_breaking_ways.specs.declared.graph.Step.{Step}
 use Rattle.dia_breaking.specs.declared.heads.Head.{Head}
@@ -28,7 +29,8 @@ use Rattle.dia_breaking.specs.declared.own_lines.Kind.TheVariants as kinds
 use Rattle.dia_breaking.specs.declared.readings.Reading.{Reading}
 use Rattle.dia_breaking.specs.Listing.{Told, command_levels, flag_causes, group_levels, head_cause, header_causes, header_line, header_lines, level_lines, new_line, refusal, subject, tells, unchecked, with_room}
 use Rattle.dia_breaking.specs.Orders.{IsInOrderOf, joined, of_each}
-use Rattle.dia_breaking.specs.OwnBreaks.{HaveDataBreaks, IsOwnBreaks, TellData, TellsData}
+use Rattle.dia_breaking.specs.Lengths.{AreEntryLengths, listed_length}
+use Rattle.dia_breaking.specs.OwnBreaks.{HasLeast, HaveDataBreaks, IsOwnBreaks, TellData, TellsData, eight_cause, leaves_eight}
 use Rattle.dia_breaking.specs.Sites.{other_head}
 use Rattle.dia_breaking.specs.Sides.{sides}
 use Rattle.dia_breaking.proofs.Lists.{all_in, all_more, contains_at, same_image}
@@ -173,16 +175,23 @@ module _ (da db : Dictionary) (who : Sends) (u : Unknown) where
   with_size None size own = tt
   with_size (Some cause) size own = own
 
-  pub have_data : (length : Key → ℕ) (own : List OwnBreaks) → All (IsOwnBreaks (sides da db who u) length) own → HaveDataBreaks (sides da db who u) own
-  have_data length own all i d within = (all i d within).content
-
-  pub data_at : (own : List OwnBreaks) (place : ℕ) (one : OwnBreaks) → slice_get own place ≡ Some one → HaveDataBreaks (sides da db who u) own → IsDataBreak da db who u one.key one.breaks.data
-  data_at own place one at have = all_in (λ (x : OwnBreaks). IsDataBreak da db who u x.key x.breaks.data) own one have (contains_at own place one at)
+  pub have_data : (least lengths : List ℕ) → AreExact da who least → AreEntryLengths da least lengths → (own : List OwnBreaks)
+      → All (IsOwnBreaks (sides da db who u) (listed_length da who lengths)) own → HaveDataBreaks (sides da db who u) own
+  have_data least lengths exact same own all i d within = let is = all i d within in (is.content, (least, lengths, exact, same, is.least))
 
   -- of a level that B reads as a leaf, where the data of a shortest AVP may have been tried
   pub tried_tells : (key : Key) (cause : Cause) → (cause ≡ causes.Format key None) ⊎ (cause ≡ causes.LevelAsLeaf key) → IsDataBreak da db who u key Undecided → TellsData (sides da db who u) cause
-  tried_tells key cause (inl is) content = subst (TellsData (sides da db who u)) (sym is) (inr content)
-  tried_tells key cause (inr is) content = subst (TellsData (sides da db who u)) (sym is) content
+  tried_tells key cause (inl is) content = subst (TellsData (sides da db who u)) (sym is) (inr (inr content))
+  tried_tells key cause (inr is) content = subst (TellsData (sides da db who u)) (sym is) (inr content)
+
+  -- of a level that B reads as a leaf of eight bytes
+  pub eight_tells : (own : OwnBreaks) (cause : Cause) → cause ≡ eight_cause own → IsDataBreak da db who u own.key EightBytes → HasLeast (sides da db who u) own.key own.least
+      → TellsData (sides da db who u) cause
+  eight_tells own cause is content least = subst (TellsData (sides da db who u)) (sym is) (by (leaves_eight own.key own.least) refl)
+    where
+      by : (b : Bool) → leaves_eight own.key own.least ≡ b → TellsData (sides da db who u) (if b then causes.LevelAsLeaf own.key else causes.Format own.key None)
+      by true e = inl (content, (own.least, least, e))
+      by false e = inr (inl (content, (own.least, least, e)))
 
 pub when_on_ok : {X E : Type 0} (P Q : Type 0) (r : Result X E) → (P → Q) → OnOk r P → OnOk r Q
 when_on_ok P Q (Ok x) f h = f h

@@ -15,9 +15,9 @@ use Rattle.dia_breaking_avps.specs.declared.breaking.AvpBreaks.{AvpBreaks}
 use Rattle.dia_breaking_avps.specs.declared.breaking.HeadBreak.{HeadBreak}
 use Rattle.dia_breaking_avps.specs.declared.breaking.HeadBreak.TheVariants.{Unknown as UnknownAvp, MBit}
 use Rattle.dia_breaking_avps.specs.declared.breaking.DataBreak.{DataBreak}
-use Rattle.dia_breaking_avps.specs.declared.breaking.DataBreak.TheVariants.{Fits, Groups, Data, LeastLevel, Undecided}
-use Rattle.dia_breaking_avps.specs.Breaks.{RefusesFirst, IsDataBreak, IsHeadBreak, IsSilentData}
-use Rattle.dia_breaking_avps.specs.Sent.{TakesAnyData, group_of, IsSentData, IsAcceptedData, IsShortestRefused}
+use Rattle.dia_breaking_avps.specs.declared.breaking.DataBreak.TheVariants.{Fits, Groups, Data, LeastLevel, EightBytes, Undecided}
+use Rattle.dia_breaking_avps.specs.Breaks.{RefusesFirst, IsDataBreak, IsHeadBreak, IsSilentData, TakesLevels}
+use Rattle.dia_breaking_avps.specs.Sent.{group_of, IsSentData, IsAcceptedData, IsShortestRefused}
 use Rattle.dia_breaking_shortest.specs.Floors.{shortest_head, padded}
 use Rattle.dia_breaking_levels.specs.LevelTests.{capped}
 use Rattle.dia_breaking_ways.specs.declared.graph.Step.{Step}
@@ -60,7 +60,7 @@ module _ (da db : Dictionary) (who : Sends) (u : Unknown) (key : Key) where
   one_head (Some (MBit m)) (Some (UnknownAvp n)) first second = absurd (both_ways (is_some (known db key)) (ap (λ (o : Option DictEntry). is_some o) second.0) first.0)
 
   abbrev IsTaken : DataBreak → Type 0
-  IsTaken found = IsSome (group_of da key) → found ≡ Fits → TakesAnyData db key
+  IsTaken found = IsSome (group_of da key) → found ≡ Fits → TakesLevels da db who key
 
   silent_too : (x y : DataBreak) → IsDataBreak da db who u key x → IsTaken x → IsDataBreak da db who u key y → IsSilentData x → IsSilentData y
   silent_too x y first taken second silent = silent_by_taken da db who u key y second (taken_by_silent da db who u key x first taken silent)
@@ -82,6 +82,7 @@ module _ (da db : Dictionary) (who : Sends) (u : Unknown) (key : Key) where
   no_length own size (Groups a b) silent = refl
   no_length own size (Data found) silent = absurd silent
   no_length own size LeastLevel silent = absurd silent
+  no_length own size EightBytes silent = absurd silent
   no_length own size Undecided silent = absurd silent
 
   module _ (least size : ℕ) (b d : AvpBreaks) (reads : Bool) where
@@ -99,16 +100,25 @@ module _ (da db : Dictionary) (who : Sends) (u : Unknown) (key : Key) where
     one_length (Data f) (Data g) first taken second too =
         ap (λ (n : ℕ). Some (capped (size - least + padded (shortest_head key + n)))) (one_shortest (witness_bytes f) (witness_bytes g) first.1 second.1)
     one_length (Data f) LeastLevel first taken second too = absurd (no_group first.0 second.0)
+    one_length (Data f) EightBytes first taken second too = absurd (no_group first.0 second.0)
     one_length (Data f) Undecided first taken second too = absurd (no_group first.0 second.0)
     one_length LeastLevel Fits first taken second too = absurd (silent_too Fits LeastLevel second too first tt)
     one_length LeastLevel (Groups m n) first taken second too = absurd (silent_too (Groups m n) LeastLevel second too first tt)
     one_length LeastLevel (Data g) first taken second too = absurd (no_group second.0 first.0)
     one_length LeastLevel LeastLevel first taken second too = refl
+    one_length LeastLevel EightBytes first taken second too = refl
     one_length LeastLevel Undecided first taken second too = refl
+    one_length EightBytes Fits first taken second too = absurd (silent_too Fits EightBytes second too first tt)
+    one_length EightBytes (Groups m n) first taken second too = absurd (silent_too (Groups m n) EightBytes second too first tt)
+    one_length EightBytes (Data g) first taken second too = absurd (no_group second.0 first.0)
+    one_length EightBytes LeastLevel first taken second too = refl
+    one_length EightBytes EightBytes first taken second too = refl
+    one_length EightBytes Undecided first taken second too = refl
     one_length Undecided Fits first taken second too = absurd (silent_too Fits Undecided second too first tt)
     one_length Undecided (Groups m n) first taken second too = absurd (silent_too (Groups m n) Undecided second too first tt)
     one_length Undecided (Data g) first taken second too = absurd (no_group second.0 first.0)
     one_length Undecided LeastLevel first taken second too = refl
+    one_length Undecided EightBytes first taken second too = refl
     one_length Undecided Undecided first taken second too = refl
 
     one_cause : (kind : Kind) → b.head ≡ d.head → data_length one size b.data ≡ data_length other size d.data → own_cause kind one size ≡ own_cause kind other size

@@ -23,7 +23,7 @@ use Rattle.dia_breaking_sites.specs.Selection.{max_body}
 use Rattle.dia_breaking_sites.proofs.Members.{in_all}
 use Rattle.dia_breaking_data.specs.Shortest.{witness_bytes}
 use Rattle.dia_breaking_avps.specs.declared.breaking.DataBreak.{DataBreak}
-use Rattle.dia_breaking_avps.specs.declared.breaking.DataBreak.TheVariants.{Fits, Groups, Data, LeastLevel, Undecided}
+use Rattle.dia_breaking_avps.specs.declared.breaking.DataBreak.TheVariants.{Fits, Groups, Data, LeastLevel, EightBytes, Undecided}
 use Rattle.dia_breaking_avps.specs.declared.breaking.HeadBreak.{HeadBreak}
 use Rattle.dia_breaking_avps.specs.declared.breaking.HeadBreak.TheVariants as head_breaks
 use Rattle.dia_breaking_avps.specs.Breaks.{AcceptsFlags, IsDataBreak, IsHeadBreak}
@@ -212,6 +212,7 @@ module _ (da db : Dictionary) (who : Sends) (u : Unknown) (made : Facts) (facts 
       data_here Fits is = inl (breaks Fits is v.bytes are data_sent)
       data_here (Groups a b) is = let both = breaks (Groups a b) is in inr (has_group da key a both.0, has_group db key b both.1)
       data_here LeastLevel is = inl (data_told reach.length (ap (data_length o.one reach.length) is) room)
+      data_here EightBytes is = inl (data_told reach.length (ap (data_length o.one reach.length) is) room)
       data_here Undecided is = inl (data_told reach.length (ap (data_length o.one reach.length) is) room)
       data_here (Data w) is = inl (by (cases_lt max_body (with_data o.one reach.length w)))
         where

@@ -10,7 +10,7 @@ use Rattle.dia_breaking_sites.specs.Selection.{max_body}
 use Rattle.dia_breaking_avps.specs.declared.breaking.HeadBreak.{HeadBreak}
 use Rattle.dia_breaking_avps.specs.declared.breaking.HeadBreak.TheVariants as head_breaks
 use Rattle.dia_breaking_avps.specs.declared.breaking.DataBreak.{DataBreak}
-use Rattle.dia_breaking_avps.specs.declared.breaking.DataBreak.TheVariants.{Fits, Groups, Data, LeastLevel, Undecided}
+use Rattle.dia_breaking_avps.specs.declared.breaking.DataBreak.TheVariants.{Fits, Groups, Data, LeastLevel, EightBytes, Undecided}
 use Rattle.dia_breaking_shortest.specs.Floors.{shortest_head, padded}
 use Rattle.dia_breaking_levels.specs.declared.line.Line.{Line as LevelLine}
 use Rattle.dia_breaking_levels.specs.LevelTests.{capped}
@@ -131,6 +131,7 @@ data_length own size Fits = None
 data_length own size (Groups a b) = None
 data_length own size (Data found) = Some (with_data own size found)
 data_length own size LeastLevel = Some size
+data_length own size EightBytes = Some size
 data_length own size Undecided = Some size
 
 -- what there is to tell of this kind, and what a message takes

@@ -1,24 +1,27 @@
 -- What AVPs break by themselves.
-use Rattle.std.specs.Prelude.{◌≡◌, ◌⊎◌, ⊤, ℕ, List, map, All, Option, Some, None, IfSome, IsSome, IsTrue, ◌↔◌}
+use Rattle.std.specs.Prelude.{◌≡◌, ◌==◌, ◌⊎◌, ◌-◌, ⊤, ℕ, Bool, true, false, if◌then◌else◌, List, map, All, Option, Some, None, IfSome, IsSome, IsTrue, ◌↔◌}
 use Rattle.dia_wire.specs.declared.Key.{Key}
-use Rattle.dia_breaking_avps.specs.Breaks.{IsDataBreak, IsHeadBreak}
-use Rattle.dia_breaking_avps.specs.Sent.{TakesAnyData, group_of}
-use Rattle.dia_breaking_avps.specs.declared.breaking.DataBreak.TheVariants.{Fits, Data, LeastLevel, Undecided}
+use Rattle.dia_breaking_avps.specs.Breaks.{IsDataBreak, IsHeadBreak, TakesLevels}
+use Rattle.dia_breaking_avps.specs.Sent.{group_of}
+use Rattle.dia_breaking_avps.specs.declared.breaking.DataBreak.TheVariants.{Fits, Data, LeastLevel, EightBytes, Undecided}
+use Rattle.dia_breaking_shortest.specs.Exact.{AreExact}
+use Rattle.dia_breaking_shortest.specs.Floors.{shortest_head}
 use Rattle.dia_breaking.specs.declared.keys.Own.{Own}
 use Rattle.dia_breaking.specs.declared.line.Cause.{Cause}
 use Rattle.dia_breaking.specs.declared.line.Cause.TheVariants as causes
 use Rattle.dia_breaking.specs.declared.line.Line.{Line}
 use Rattle.dia_breaking.specs.declared.own_breaks.OwnBreaks.{OwnBreaks}
+use Rattle.dia_breaking.specs.Lengths.{AreEntryLengths, listed_length}
 use Rattle.dia_breaking.specs.Meanings.{IsReadAsOther}
 use Rattle.dia_breaking.specs.Sides.{Sides}
 
--- AVPs of the key break so, and have this length at least, where a rule lists them; where A sees levels in them and the data fit, B takes any data;
--- and it is known whether they are read as another format
+-- AVPs of the key break so, and have this length at least, where a rule lists them; where A sees levels in them and the data fit, B takes any data, or
+-- each level is an Address of B's; and it is known whether they are read as another format
 pub record IsOwnBreaks (s : Sides) (length : Key → ℕ) (own : OwnBreaks) : Type 0 where
   pub least : own.least ≡ length own.key
   pub head : IsHeadBreak s.sender s.receiver s.sends s.unknown own.key own.breaks.head
   pub content : IsDataBreak s.sender s.receiver s.sends s.unknown own.key own.breaks.data
-  pub taken : IsSome (group_of s.sender own.key) → own.breaks.data ≡ Fits → TakesAnyData s.receiver own.key
+  pub taken : IsSome (group_of s.sender own.key) → own.breaks.data ≡ Fits → TakesLevels s.sender s.receiver s.sends own.key
   pub other : IsTrue own.is_other ↔ IsReadAsOther s own.key
 
 -- so do those of which there is something to tell
@@ -26,21 +29,35 @@ pub record AreOwnBreaks (s : Sides) (length : Key → ℕ) (told : List Own) (ow
   pub keys : map (λ one. one.key) own ≡ map (λ one. one.key) told
   pub each : All (IsOwnBreaks s length) own
 
--- the data of AVPs of the key break so
+-- a shortest AVP of the key that the sender's side sends has this length, where a rule lists it
+abbrev pub HasLeast : Sides → Key → ℕ → Type 0
+HasLeast s key n = (least : List ℕ) × (lengths : List ℕ) × AreExact s.sender s.sends least × AreEntryLengths s.sender least lengths × (n ≡ listed_length s.sender s.sends lengths key)
+
+-- the data of AVPs of the key break so, and a shortest AVP has this length
 abbrev pub HasDataBreak : Sides → OwnBreaks → Type 0
-HasDataBreak s own = IsDataBreak s.sender s.receiver s.sends s.unknown own.key own.breaks.data
+HasDataBreak s own = IsDataBreak s.sender s.receiver s.sends s.unknown own.key own.breaks.data × HasLeast s own.key own.least
 
 abbrev pub HaveDataBreaks : Sides → List OwnBreaks → Type 0
 HaveDataBreaks s own = All (HasDataBreak s) own
 
 -- ---- what lines tell of data
 
--- the data that are told are shortest that break. Where none are told, B refuses each ordinary level, or it isn't known whether it
--- accepts all levels; that isn't known of a level that B reads as a leaf
+-- whether the data of an AVP of this length, whose head is a shortest one, have eight bytes
+abbrev pub leaves_eight : Key → ℕ → Bool
+leaves_eight key n = n - shortest_head key == 8
+
+-- B reads levels as leaves of eight bytes, and this says whether those of shortest AVPs have as many
+abbrev pub ReadsEight : Sides → Key → Bool → Type 0
+ReadsEight s key has = IsDataBreak s.sender s.receiver s.sends s.unknown key EightBytes × ((n : ℕ) × HasLeast s key n × (leaves_eight key n ≡ has))
+
+-- the data that are told are shortest that break. Where none are told, B refuses those of shortest AVPs: it refuses each ordinary level; or the empty
+-- one, where a level may be empty; or it reads leaves of eight bytes, and those data have another length. Or it isn't known whether it accepts
+-- all levels: that isn't known of levels as leaves where the least have eight bytes, and where some levels may be data and others not
 abbrev pub TellsData : Sides → Cause → Type 0
 TellsData s (causes.Format key (Some found)) = IsDataBreak s.sender s.receiver s.sends s.unknown key (Data found)
-TellsData s (causes.Format key None) = IsDataBreak s.sender s.receiver s.sends s.unknown key LeastLevel ⊎ IsDataBreak s.sender s.receiver s.sends s.unknown key Undecided
-TellsData s (causes.LevelAsLeaf key) = IsDataBreak s.sender s.receiver s.sends s.unknown key Undecided
+TellsData s (causes.Format key None) =
+    IsDataBreak s.sender s.receiver s.sends s.unknown key LeastLevel ⊎ (ReadsEight s key false ⊎ IsDataBreak s.sender s.receiver s.sends s.unknown key Undecided)
+TellsData s (causes.LevelAsLeaf key) = ReadsEight s key true ⊎ IsDataBreak s.sender s.receiver s.sends s.unknown key Undecided
 TellsData s cause = ⊤
 
 -- so each line does
@@ -53,4 +70,9 @@ KeepsData s old new = TellData s old → TellData s new
 
 -- what is found tells data that break, if those of the AVP do
 abbrev pub TellsIfBreaks : Sides → OwnBreaks → Option (Cause × ℕ) → Type 0
-TellsIfBreaks s own found = HasDataBreak s own → IfSome found (λ pair. TellsData s pair.0)
+TellsIfBreaks s own found = IsDataBreak s.sender s.receiver s.sends s.unknown own.key own.breaks.data → HasLeast s own.key own.least
+    → IfSome found (λ pair. TellsData s pair.0)
+
+-- what is told of levels that are read as leaves of eight bytes: B refuses the data of a shortest AVP, unless these have eight bytes
+abbrev pub eight_cause : OwnBreaks → Cause
+eight_cause own = if leaves_eight own.key own.least then causes.LevelAsLeaf own.key else causes.Format own.key None

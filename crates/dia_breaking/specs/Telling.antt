@@ -7,8 +7,8 @@ use Rattle.dia_book.specs.Keys.{same_key}
 use Rattle.dia_book.specs.Dictionary.{Dictionary}
 use Rattle.dia_policy.specs.declared.Unknown.{Unknown}
 use Rattle.dia_policy.specs.declared.Sends.{Sends}
-use Rattle.dia_breaking_avps.specs.Sent.{group_of, AreAccepted, IsAcceptedData, IsSentData, TakesAnyData}
-use Rattle.dia_breaking_avps.specs.Breaks.{AcceptsFlags}
+use Rattle.dia_breaking_avps.specs.Sent.{group_of, AreAccepted, IsAcceptedData, IsSentData}
+use Rattle.dia_breaking_avps.specs.Breaks.{AcceptsFlags, TakesLevels}
 use Rattle.dia_breaking_avps.specs.Laws.{FitKeyAlone}
 use Rattle.dia_breaking.specs.declared.keys.Own.{Own}
 use Rattle.dia_breaking.specs.declared.keys.Telling.{Telling}
@@ -43,9 +43,9 @@ pub record AreTold (s : Sides) (keys : List Key) (telling : Telling) : Type 0 wh
 
 -- ---- exactly these
 
--- B accepts all data of AVPs of the key that A's side sends; and where A sees levels in them, B takes any data
+-- B accepts all data of AVPs of the key that A's side sends; and where A sees levels in them, B takes any data, or each level is an Address of B's
 abbrev pub IsDataTaken : Dictionary → Dictionary → Sends → Unknown → Key → Type 0
-IsDataTaken da db who u key = AreAccepted (IsSentData da who key) (IsAcceptedData db u key) × (IsSome (group_of da key) → TakesAnyData db key)
+IsDataTaken da db who u key = AreAccepted (IsSentData da who key) (IsAcceptedData db u key) × (IsSome (group_of da key) → TakesLevels da db who key)
 
 -- no AVP of the key breaks by itself: B accepts each M flag that is sent, and the data, or both dictionaries see a level in it
 abbrev pub BreaksNothing : Dictionary → Dictionary → Sends → Unknown → Key → Type 0

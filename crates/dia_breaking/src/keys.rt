@@ -73,6 +73,7 @@ fn breaks_data(found: DataBreak) -> bool
         DataBreak::Groups { .. } => false,
         DataBreak::Data(_) => true,
         DataBreak::LeastLevel => true,
+        DataBreak::EightBytes => true,
         DataBreak::Undecided => true,
     }
 }

@@ -67,8 +67,8 @@ pub enum Cause {
     MBit { key: Key, m: bool },
     /// B refuses the data. Without data here, it refuses the data of a shortest AVP.
     Format { key: Key, data: Option<Witness> },
-    /// B reads the AVPs as leaves. Whether it accepts all data isn't known: it accepts those of a shortest AVP, or these are too
-    /// long to be tried.
+    /// The AVPs are Grouped for A, and leaves for B. Whether B accepts all data isn't known: it accepts those of a shortest AVP; or
+    /// they are UTF8String or Address for B, and a shortest AVP takes more than 65,536 bytes, and isn't tried.
     LevelAsLeaf { key: Key },
     /// Nothing breaks: B accepts all data of the AVP, and reads them as another format than A's.
     Meaning { key: Key },

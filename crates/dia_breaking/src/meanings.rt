@@ -28,6 +28,7 @@ pub(crate) fn is_read_as_other<A: Book, B: Book>(
         DataBreak::Groups { .. } => false,
         DataBreak::Data(_) => false,
         DataBreak::LeastLevel => false,
+        DataBreak::EightBytes => false,
         DataBreak::Undecided => false,
     }
 }

@@ -3,7 +3,7 @@ ghost use Rattle.std.specs.Prelude.{◌≡◌, ◌⊎◌, [], None, IfOk, IfSome
 ghost use Rattle.std.specs.Option.{option_map, option_map_or};
 ghost use Rattle.dia_breaking.specs.Listing.{AddsTold, KeepsUnchecked, head_cause, own_cause, own_line};
 ghost use Rattle.dia_breaking.specs.Listing.{own_lines, reach_at, reached_line, subject, subject_with, with_data};
-ghost use Rattle.dia_breaking.specs.OwnBreaks.{HasDataBreak, KeepsData, TellsIfBreaks};
+ghost use Rattle.dia_breaking.specs.OwnBreaks.{HasDataBreak, KeepsData, TellsIfBreaks, eight_cause};
 ghost use Rattle.dia_breaking.specs.Upgrades.{KeepsIfKnown, sides_of};
 
 use crate::books::format_of;
@@ -21,7 +21,7 @@ use dia_breaking_ways::Reach;
 use dia_data::{Leaf, accepts};
 use std::alloc::{AllocError, Global};
 
-/// The most bytes of a group whose data are tried where it is read as a leaf.
+/// The most bytes of a shortest AVP whose data are tried, where it is Grouped for A, and UTF8String or Address for B.
 const MOST_TRIED: u64 = 65_536;
 
 /// What is told of an AVP by itself. The lines of a site stand in this order.
@@ -147,6 +147,7 @@ impl<'a, A: Book, B: Book> Upgrade<'a, A, B> {
                 Ok(Some((cause, with_data(own, length, &data))))
             }
             DataBreak::LeastLevel => Ok(Some((Cause::Format { key, data: None }, length))),
+            DataBreak::EightBytes => Ok(Some((eight_cause(own), length))),
             DataBreak::Undecided => {
                 let cause = self.tried(alloc, key)?;
                 Ok(Some((cause, length)))
@@ -173,6 +174,19 @@ impl<'a, A: Book, B: Book> Upgrade<'a, A, B> {
         } else {
             Ok(Cause::LevelAsLeaf { key })
         }
+    }
+}
+
+/// What breaks of levels that are read as leaves of 8 bytes: the data of a shortest AVP, unless they have 8 bytes.
+fn eight_cause(own: &OwnBreaks) -> Cause
+    ensures told { subject result ≡ Cause.Format own.now.key None }
+    ensures cause { result ≡ eight_cause own.now }
+{
+    let key = own.key;
+    if own.least.saturating_sub(shortest_head(key)) == 8 {
+        Cause::LevelAsLeaf { key }
+    } else {
+        Cause::Format { key, data: None }
     }
 }
 

@@ -18,7 +18,7 @@ use Rattle.dia_breaking_sites.specs.Sites.{FitsAlone}
 use Rattle.dia_breaking_sites.proofs.Members.{IsIn, in_contains, in_all, all_parts}
 use Rattle.dia_breaking_avps.specs.declared.breaking.HeadBreak.{HeadBreak}
 use Rattle.dia_breaking_avps.specs.declared.breaking.DataBreak.{DataBreak}
-use Rattle.dia_breaking_avps.specs.declared.breaking.DataBreak.TheVariants.{Fits, Groups, Data, LeastLevel, Undecided}
+use Rattle.dia_breaking_avps.specs.declared.breaking.DataBreak.TheVariants.{Fits, Groups, Data, LeastLevel, EightBytes, Undecided}
 use Rattle.dia_breaking_avps.specs.Sent.{IsSentData}
 use Rattle.dia_breaking_avps.specs.Breaks.{IsHeadBreak, IsDataBreak, IsSilentData, AcceptsFlags}
 use Rattle.dia_breaking_avps.specs.Laws.{FitKeyAlone, KeysFitAlone}
@@ -90,6 +90,7 @@ module _ (da db : Dictionary) (u : Unknown) (v : PlainAvp) where
       (0, of_group (subst (λ (o : Option PlainDefinition). IsSome o) (sym is_x) refl) y (known db (key_of v)) is_y (flags v.flags (sent_flags da who n v sent)))
   fits_alone who (Data w) flags h silent are sent = absurd silent
   fits_alone who LeastLevel flags h silent are sent = absurd silent
+  fits_alone who EightBytes flags h silent are sent = absurd silent
   fits_alone who Undecided flags h silent are sent = absurd silent
 
 pub key_alone : (da db : Dictionary) (who : Sends) (u : Unknown) (key : Key) (head : Option HeadBreak) (r : DataBreak) → IsHeadBreak da db who u key head → IsDataBreak da db who u key r

@@ -37,7 +37,7 @@ both P p (x ∷ xs) one other = by (p x) one other (both P p xs)
     by true f g later = (f.0, later f.1 g)
     by false f g later = (g.0, later f g.1)
 
-every : {X : Type 0} (P : X → Type 0) (xs : List X) → AllByRecursion P xs → All P xs
+pub every : {X : Type 0} (P : X → Type 0) (xs : List X) → AllByRecursion P xs → All P xs
 every P [] h k d lt = absurd (omega (arith, lt))
 every P (x ∷ xs) h zero d lt = h.0
 every P (x ∷ xs) h (suc k) d lt = every P xs h.1 k d (omega (arith, lt))

@@ -3,7 +3,9 @@ pub mod FirstAvps
 pub mod EmptyLevels
 pub mod NoLevels
 pub mod Heads
-pub mod Readings
 pub mod Alone
+pub mod AddressLevels
+pub mod ShortLevels
+pub mod Readings
 pub mod ShorterData
 mod AnyData

@@ -1,10 +1,11 @@
 -- Data of one form that is read as another.
-use Rattle.std.proofs.Common.{◌≡◌, ℕ, List, Option, Some, None, refl, sym, ap, subst, ◌∙◌}
-use Rattle.std.specs.Prelude.{slice_get, option_and_then, MatchOption, IfSome, IsSome, ⊤}
-use Rattle.std.specs.Option.{option_map}
+use Rattle.std.proofs.Common.{◌≡◌, ℕ, List, [], Option, Some, None, refl, sym, ap, subst, ◌∙◌, inl, inr}
+use Rattle.std.specs.Prelude.{is_some, slice_get, option_and_then, MatchOption, IfSome, ⊤}
+use Rattle.std.specs.Option.{option_map, option_map_or}
 use Rattle.dia_wire.specs.declared.Key.{Key}
 use Rattle.dia_data.specs.Plain.{PlainFormat, OctetString}
 use Rattle.dia_data.specs.Leaf.{IsLeaf}
+use Rattle.dia_book.specs.declared.DRule.{DRule}
 use Rattle.dia_book.specs.Dictionary.{Dictionary, DictEntry, PlainDefinition, IsDictionary, definitions, entry_of, group_place}
 use Rattle.dia_policy.specs.declared.Unknown.{Unknown}
 use Rattle.dia_policy.specs.declared.sends.Sends.{Sends}
@@ -17,9 +18,12 @@ use Rattle.dia_breaking_data.specs.Shortest.{AreBytes as AreWitnessBytes, IsShor
 use Rattle.dia_breaking_avps.specs.declared.breaking.DataBreak.{DataBreak}
 use Rattle.dia_breaking_avps.specs.declared.breaking.DataBreak.TheVariants as found
 use Rattle.dia_breaking_avps.specs.Sent.{IsSentData, IsAcceptedData, IsShortestRefused, group_of}
-use Rattle.dia_breaking_avps.specs.Breaks.{IsDataBreak}
+use Rattle.dia_breaking_avps.specs.Breaks.{IsDataBreak, IsLevelForLeaf}
+use Rattle.dia_breaking_avps.specs.Levels.{HasEightBytes, IsUndecided, RefusesLeastLevel}
 use Rattle.dia_breaking_avps.specs.Answers.{IsShortestBreak, IsEntryData, IsLeafBreak, IsLevelAsLeaf, IsLevelBreak, break_of}
 use Rattle.dia_breaking_avps.proofs.Entries.{group_here, no_group}
+use Rattle.dia_breaking_avps.proofs.AddressLevels.{level_is_address}
+use Rattle.dia_breaking_avps.proofs.ShortLevels.{level_of}
 use Rattle.dia_breaking_avps.proofs.NoLevels.{bytes_of, of_bytes}
 
 -- ---- the same data, said otherwise
@@ -39,6 +43,7 @@ same_break S T P Q st ts pq qp found.Fits h = λ bytes are sent. pq bytes (h byt
 same_break S T P Q st ts pq qp (found.Data w) h = shortest_same S T P Q st ts pq qp (witness_bytes w) h
 same_break S T P Q st ts pq qp (found.Groups a b) h = absurd h
 same_break S T P Q st ts pq qp found.LeastLevel h = absurd h
+same_break S T P Q st ts pq qp found.EightBytes h = absurd h
 same_break S T P Q st ts pq qp found.Undecided h = absurd h
 
 -- ---- what B's entry accepts
@@ -102,13 +107,14 @@ pub level_as_level : (d : Dictionary) (a i n : ℕ) (e : DictEntry) → IsDictio
 level_as_level d a i n e sound at is = (refl, group_here d i n e sound at is)
 
 -- a level that is read as a leaf
-pub level_as_its_leaf : (d : Dictionary) (a i : ℕ) (e : DictEntry) (g : PlainFormat) (r : DataBreak) → slice_get d.entries i ≡ Some e → None ≡ group_place d i
-    → IfSome (slice_get d.entries i) (λ x. g ≡ x.format) → IsLevelAsLeaf g r → IsLevelBreak d a e r
-level_as_its_leaf d a i e g r at none says h = by r (subst (λ (f : PlainFormat). IsLevelAsLeaf f r) (entry_format d i e g at says) h)
+pub level_as_its_leaf : (da d : Dictionary) (who : Sends) (a i : ℕ) (rules : List DRule) (e : DictEntry) (g : PlainFormat) (r : DataBreak) → slice_get d.entries i ≡ Some e → None ≡ group_place d i
+    → IfSome (slice_get d.entries i) (λ x. g ≡ x.format) → IsLevelAsLeaf da who rules g r → IsLevelBreak da d who a rules e r
+level_as_its_leaf da d who a i rules e g r at none says h = by r (subst (λ (f : PlainFormat). IsLevelAsLeaf da who rules f r) (entry_format d i e g at says) h)
   where
-    by : (r : DataBreak) → IsLevelAsLeaf e.format r → IsLevelBreak d a e r
+    by : (r : DataBreak) → IsLevelAsLeaf da who rules e.format r → IsLevelBreak da d who a rules e r
     by found.Fits k = (no_group d i e at none, k)
     by found.LeastLevel k = (no_group d i e at none, k)
+    by found.EightBytes k = (no_group d i e at none, k)
     by found.Undecided k = (no_group d i e at none, k)
     by (found.Groups x y) k = absurd k
     by (found.Data w) k = absurd k
@@ -131,6 +137,7 @@ module _ (da db : Dictionary) (who : Sends) (u : Unknown) (key : Key) (e : DictE
       by (found.Data w) k = (none, k)
       by (found.Groups a b) k = absurd k
       by found.LeastLevel k = absurd k
+      by found.EightBytes k = absurd k
       by found.Undecided k = absurd k
 
   -- A doesn't know the AVP
@@ -166,15 +173,26 @@ module _ (da db : Dictionary) (who : Sends) (u : Unknown) (key : Key) (e : DictE
             (subst (λ (o : Option DictEntry). MatchOption o (who ≡ senders.Any) (λ x. OwnData x bytes)) is_own k))
 
     -- A's AVP is a group
-    pub from_level : (a : ℕ) (x : PlainDefinition) → own.group ≡ Some x → slice_get (definitions da) a ≡ Some x → (r : DataBreak) → IsLevelBreak db a e r → IsDataBreak da db who u key r
-    from_level a x some def found.Fits (none, all) = λ bytes are sent. accepted bytes (leaf_data db u e e.format none refl bytes (all bytes))
+    for_leaf : (x : PlainDefinition) → own.group ≡ Some x → (P : List DRule → PlainFormat → Type 0) → e.group ≡ None → P x.rules e.format → IsLevelForLeaf da db key P
+    for_leaf x some P none h =
+        let has = own_group (Some x) some in (
+          ap (λ (o : Option PlainDefinition). is_some o) has,
+          (e, is, none, subst (λ (o : Option PlainDefinition). P (option_map_or (λ (y : PlainDefinition). y.rules) o []) e.format) (sym has) h),
+        )
+
+    pub from_level : (a : ℕ) (x : PlainDefinition) → own.group ≡ Some x → slice_get (definitions da) a ≡ Some x → (r : DataBreak) → IsLevelBreak da db who a x.rules e r → IsDataBreak da db who u key r
+    from_level a x some def found.Fits (none, inl all) = λ bytes are sent. accepted bytes (leaf_data db u e e.format none refl bytes (all bytes))
+    from_level a x some def found.Fits (none, inr (address, ours)) = λ bytes are sent.
+        let level = level_of da who key bytes x (own_group (Some x) some) sent in
+        accepted bytes (leaf_data db u e e.format none refl bytes (subst (λ (f : PlainFormat). IsLeaf f bytes) (sym address) (level_is_address da who x.rules ours level.0 bytes are level.1)))
     from_level a x some def (found.Groups first second) (same, (group, has, here)) = (
       (x, own_group (Some x) some, subst (λ (n : ℕ). slice_get (definitions da) n ≡ Some x) (sym same) def),
       (group, ap (λ (o : Option DictEntry). option_and_then (λ y. y.group) o) is ∙ has, here),
     )
     from_level a x some def (found.Data w) (none, bad) = absurd bad
-    from_level a x some def found.LeastLevel (none, h) = (subst (λ (o : Option PlainDefinition). IsSome o) (sym (own_group (Some x) some)) refl, (e, is, none, h))
-    from_level a x some def found.Undecided (none, h) = (subst (λ (o : Option PlainDefinition). IsSome o) (sym (own_group (Some x) some)) refl, (e, is, none, h))
+    from_level a x some def found.LeastLevel (none, h) = for_leaf x some RefusesLeastLevel none h
+    from_level a x some def found.EightBytes (none, h) = for_leaf x some (λ rules format. HasEightBytes format) none h
+    from_level a x some def found.Undecided (none, h) = for_leaf x some (IsUndecided da who) none h
 
 -- nothing is sent
 pub from_silent : (da db : Dictionary) (who : Sends) (u : Unknown) (key : Key) → known da key ≡ None → ¬ (who ≡ senders.Any) → IsDataBreak da db who u key found.Fits

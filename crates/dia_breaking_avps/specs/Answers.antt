@@ -1,19 +1,21 @@
 -- What the parts of the answer say: M flags, and data of one form that is read as another.
-use Rattle.std.specs.Prelude.{◌≡◌, ℕ, List, Bool, true, false, Option, Some, None, MatchOption, IsTrue, slice_get, ◌↔◌}
+use Rattle.std.specs.Prelude.{◌≡◌, ◌⊎◌, ℕ, List, Bool, true, false, Option, Some, None, MatchOption, IsTrue, slice_get, ◌↔◌}
 use Rattle.dia_wire.specs.declared.Key.{Key}
-use Rattle.dia_data.specs.Plain.{PlainFormat}
+use Rattle.dia_data.specs.Plain.{PlainFormat, Address}
 use Rattle.dia_data.specs.Leaf.{IsLeaf}
+use Rattle.dia_book.specs.declared.DRule.{DRule}
 use Rattle.dia_book.specs.Dictionary.{Dictionary, DictEntry, PlainDefinition, definitions}
 use Rattle.dia_policy.specs.declared.Unknown.{Unknown}
+use Rattle.dia_policy.specs.declared.sends.Sends.{Sends}
 use Rattle.dia_check.specs.Valid.{Fits as AvpFits, IsLevel}
 use Rattle.dia_check.specs.Admission.{HasFlags}
 use Rattle.dia_breaking_data.specs.declared.short_data.Witness.{Witness}
 use Rattle.dia_breaking_data.specs.Shortest.{witness_bytes}
 use Rattle.dia_breaking_avps.specs.declared.flags.MFlags.{MFlags}
 use Rattle.dia_breaking_avps.specs.declared.breaking.DataBreak.{DataBreak}
-use Rattle.dia_breaking_avps.specs.declared.breaking.DataBreak.TheVariants.{Fits, Groups, Data, LeastLevel, Undecided}
+use Rattle.dia_breaking_avps.specs.declared.breaking.DataBreak.TheVariants.{Fits, Groups, Data, LeastLevel, EightBytes, Undecided}
 use Rattle.dia_breaking_avps.specs.Sent.{HasThisM, IsShortestRefused, AreAccepted}
-use Rattle.dia_breaking_avps.specs.Levels.{RefusesOrdinaryLevels, IsUndecided}
+use Rattle.dia_breaking_avps.specs.Levels.{AreAddresses, HasEightBytes, IsUndecided, RefusesLeastLevel}
 
 -- whether an AVP of the key may have this M flag
 abbrev pub IsAllowed : Dictionary → Unknown → Key → Bool → Bool → Type 0
@@ -45,14 +47,16 @@ IsLeafBreak IsSentHere IsAcceptedHere Fits = AreAccepted IsSentHere IsAcceptedHe
 IsLeafBreak IsSentHere IsAcceptedHere (Data found) = IsShortestRefused IsSentHere IsAcceptedHere (witness_bytes found)
 IsLeafBreak IsSentHere IsAcceptedHere found = ⊥
 
--- what is said of levels that are read as leaves
-abbrev pub IsLevelAsLeaf : PlainFormat → DataBreak → Type 0
-IsLevelAsLeaf format Fits = (bytes : List ℕ) → IsLeaf format bytes
-IsLevelAsLeaf format LeastLevel = RefusesOrdinaryLevels format
-IsLevelAsLeaf format Undecided = IsUndecided format
-IsLevelAsLeaf format found = ⊥
+-- what is said of levels of these rules of A that are read as leaves
+abbrev pub IsLevelAsLeaf : Dictionary → Sends → List DRule → PlainFormat → DataBreak → Type 0
+IsLevelAsLeaf da who rules format Fits = ((bytes : List ℕ) → IsLeaf format bytes) ⊎ ((format ≡ Address) × AreAddresses da who rules)
+IsLevelAsLeaf da who rules format LeastLevel = RefusesLeastLevel rules format
+IsLevelAsLeaf da who rules format EightBytes = HasEightBytes format
+IsLevelAsLeaf da who rules format Undecided = IsUndecided da who rules format
+IsLevelAsLeaf da who rules format found = ⊥
 
--- what is said of levels of a group, by B's entry
-abbrev pub IsLevelBreak : Dictionary → ℕ → DictEntry → DataBreak → Type 0
-IsLevelBreak db a e (Groups first second) = (first ≡ a) × ((group : PlainDefinition) × (e.group ≡ Some group) × (slice_get (definitions db) second ≡ Some group))
-IsLevelBreak db a e found = (e.group ≡ None) × IsLevelAsLeaf e.format found
+-- what is said of levels of the group with this number and these rules, by B's entry
+abbrev pub IsLevelBreak : Dictionary → Dictionary → Sends → ℕ → List DRule → DictEntry → DataBreak → Type 0
+IsLevelBreak da db who a rules e (Groups first second) =
+    (first ≡ a) × ((group : PlainDefinition) × (e.group ≡ Some group) × (slice_get (definitions db) second ≡ Some group))
+IsLevelBreak da db who a rules e found = (e.group ≡ None) × IsLevelAsLeaf da who rules e.format found

@@ -10,7 +10,7 @@ use Rattle.dia_breaking_sites.specs.Sent.{AreBytes, IsSentAvp}
 use Rattle.dia_breaking_sites.specs.Sites.{FitsAlone, IsLevelOf}
 use Rattle.dia_breaking_data.specs.declared.short_data.Witness.{Witness}
 use Rattle.dia_breaking_data.specs.Shortest.{witness_bytes}
-use Rattle.dia_breaking_avps.specs.declared.breaking.DataBreak.TheVariants.{Data}
+use Rattle.dia_breaking_avps.specs.declared.breaking.DataBreak.TheVariants.{Data, EightBytes}
 use Rattle.dia_breaking_avps.specs.Breaks.{IsDataBreak}
 use Rattle.dia_breaking_avps.specs.Sent.{IsAcceptedData, IsSentData}
 
@@ -22,6 +22,11 @@ FitKeyAlone da db who u key = (v : PlainAvp) → key_of v ≡ key → AreBytes v
 abbrev pub ShorterDataAreAccepted : Type 0
 ShorterDataAreAccepted = (da db : Dictionary) (who : Sends) (u : Unknown) (key : Key) (found : Witness) (bytes : List ℕ) → IsDataBreak da db who u key (Data found)
     → IsSentData da who key bytes → length bytes < length (witness_bytes found) → IsAcceptedData db u key bytes
+
+-- levels that B reads as leaves of eight bytes are accepted where they have fewer than 12, and aren't empty
+abbrev pub ShortLevelsAreAccepted : Type 0
+ShortLevelsAreAccepted = (da db : Dictionary) (who : Sends) (u : Unknown) (key : Key) (bytes : List ℕ) → IsDataBreak da db who u key EightBytes
+    → IsSentData da who key bytes → 0 < length bytes → length bytes < 12 → IsAcceptedData db u key bytes
 
 -- so each AVP of a level does, where this holds of its key
 abbrev pub KeysFitAlone : Type 0

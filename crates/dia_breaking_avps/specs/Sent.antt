@@ -1,8 +1,10 @@
 -- What AVPs of one key are sent, and which of them a receiver accepts, by their flags and by their data.
-use Rattle.std.specs.Prelude.{◌≡◌, ℕ, ◌≤◌, List, length, Bool, true, false, Option, Some, None, slice_get, option_and_then, MatchOption, ⊤}
+use Rattle.std.specs.Prelude.{◌≡◌, ℕ, ◌≤◌, List, [], length, Bool, true, false, Option, Some, None, slice_get, option_and_then, MatchOption, ⊤}
+use Rattle.std.specs.Option.{option_map_or}
 use Rattle.dia_wire.specs.declared.Key.{Key}
 use Rattle.dia_wire.specs.Wire.{HasM}
 use Rattle.dia_data.specs.Leaf.{IsLeaf}
+use Rattle.dia_book.specs.declared.DRule.{DRule}
 use Rattle.dia_book.specs.Dictionary.{Dictionary, DictEntry, PlainDefinition, definitions}
 use Rattle.dia_policy.specs.declared.Unknown.{Unknown}
 use Rattle.dia_policy.specs.declared.sends.Sends.{Sends}
@@ -27,6 +29,10 @@ IsAcceptedData d u key bytes = MatchOption (known d key) ⊤ (λ e. MatchOption 
 -- the definition of the group that AVPs of the key are
 abbrev pub group_of : Dictionary → Key → Option PlainDefinition
 group_of d key = option_and_then (λ e. e.group) (known d key)
+
+-- its rules
+abbrev pub group_rules : Dictionary → Key → List DRule
+group_rules d key = option_map_or (λ group. group.rules) (group_of d key) []
 
 -- AVPs of the key are groups, and this is the number of their definition
 abbrev pub HasGroup : Dictionary → Key → ℕ → Type 0

@@ -2,9 +2,9 @@
 ghost use Rattle.std.specs.Prelude.{◌≡◌, IsSome, Some};
 ghost use Rattle.dia_book.specs.Dictionary.{entry_of};
 ghost use Rattle.dia_policy.specs.declared.Unknown.{Unknown as AnyPolicy};
-ghost use Rattle.dia_breaking_avps.specs.Breaks.{IsDataBreak, IsHeadBreak, IsSilent};
+ghost use Rattle.dia_breaking_avps.specs.Breaks.{IsDataBreak, IsHeadBreak, IsSilent, TakesLevels};
 ghost use Rattle.dia_breaking_avps.specs.Laws.{FitKeyAlone};
-ghost use Rattle.dia_breaking_avps.specs.Sent.{TakesAnyData, group_of};
+ghost use Rattle.dia_breaking_avps.specs.Sent.{group_of};
 ghost use Rattle.dia_breaking_avps.specs.declared.breaking.DataBreak.TheVariants.{Fits as NoBreak};
 
 use crate::breaking::{AvpBreaks, DataBreak, HeadBreak};
@@ -26,7 +26,7 @@ pub fn avp_breaks<A: Book, B: Book>(
     ensures head { IsHeadBreak (A.meaning a.now) (B.meaning b.now) sends unknown key result.head }
     ensures content { IsDataBreak (A.meaning a.now) (B.meaning b.now) sends unknown key result.data }
     ensures levels { IsSome (group_of (A.meaning a.now) key) → result.data ≡ NoBreak
-        → TakesAnyData (B.meaning b.now) key }
+        → TakesLevels (A.meaning a.now) (B.meaning b.now) sends key }
     ensures alone { IsSilent result
         → FitKeyAlone (A.meaning a.now) (B.meaning b.now) sends unknown key }
 {
@@ -59,7 +59,7 @@ fn data_break<A: Book, B: Book>(a: &A, b: &B, key: Key, sends: Sends) -> DataBre
     ensures content { (u : AnyPolicy)
         → IsDataBreak (A.meaning a.now) (B.meaning b.now) sends u key result }
     ensures levels { IsSome (group_of (A.meaning a.now) key) → result ≡ NoBreak
-        → TakesAnyData (B.meaning b.now) key }
+        → TakesLevels (A.meaning a.now) (B.meaning b.now) sends key }
 {
     match b.avp(key) {
         Some(entry) => known_break(a, b, key, entry, sends),
@@ -73,11 +73,11 @@ fn known_break<A: Book, B: Book>(a: &A, b: &B, key: Key, entry: Entry, sends: Se
     ensures content { (u : AnyPolicy)
         → IsDataBreak (A.meaning a.now) (B.meaning b.now) sends u key result }
     ensures levels { IsSome (group_of (A.meaning a.now) key) → result ≡ NoBreak
-        → TakesAnyData (B.meaning b.now) key }
+        → TakesLevels (A.meaning a.now) (B.meaning b.now) sends key }
 {
     match a.avp(key) {
         Some(own) => match a.group(own) {
-            Some(group) => sent_level(group, b, entry),
+            Some(group) => sent_level(a, group, sends, b, entry),
             None => sent_leaf(a.format(own), b, entry),
         },
         None => match sends {

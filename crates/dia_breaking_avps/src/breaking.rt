@@ -29,9 +29,12 @@ pub enum DataBreak {
     Groups { a: DefId, b: DefId },
     /// Shortest data that is sent and that B doesn't accept.
     Data(Witness),
-    /// The AVP is Grouped for A, and a leaf for B, of which a level of ordinary lengths is no data.
+    /// The AVP is Grouped for A, and a leaf for B, of which a least level is no data: no level of ordinary lengths is, or it is
+    /// empty and no Address.
     LeastLevel,
-    /// The AVP is Grouped for A, and for B a leaf of which some levels may be data: UTF8String, Address, or a number of 8
-    /// bytes.
+    /// The AVP is Grouped for A, and a number of 8 bytes for B: no level of another length is its data.
+    EightBytes,
+    /// The AVP is Grouped for A, and for B a leaf of which some levels may be data, and others not: UTF8String; or Address, where
+    /// no level is empty and some AVP of it may have the code of a family.
     Undecided,
 }

@@ -1,19 +1,22 @@
 //! Data of one form, which a receiver reads as another: any bytes, leaves of a format, or levels of AVPs.
 
-ghost use Rattle.std.specs.Prelude.{◌≡◌, ◌<◌, ◌↔◌, ℕ, List, Some, All, IsTrue, length, slice_get};
+ghost use Rattle.std.specs.Prelude.{◌≡◌, ◌<◌, ◌↔◌, ℕ, List, Some, IsTrue, length, slice_get};
 ghost use Rattle.std.specs.Option.{option_map};
 ghost use Rattle.dia_data.specs.Leaf.{IsLeaf};
 ghost use Rattle.dia_data.specs.Plain.{plain_format};
-ghost use Rattle.dia_book.specs.Dictionary.{Dictionary, DictEntry};
+ghost use Rattle.dia_book.specs.Dictionary.{Dictionary, DictEntry, PlainDefinition, definitions};
 ghost use Rattle.dia_policy.specs.declared.Unknown.{Unknown as AnyPolicy};
 ghost use Rattle.dia_check.specs.Valid.{Fits, IsLevel};
 ghost use Rattle.dia_breaking_data.specs.Shortest.{witness_bytes};
 ghost use Rattle.dia_breaking_avps.specs.Answers.{IsShortestBreak, IsEntryData, IsLeafBreak};
 ghost use Rattle.dia_breaking_avps.specs.Answers.{IsLevelAsLeaf, IsLevelBreak, break_of};
+ghost use Rattle.dia_breaking_avps.specs.Levels.{AskForNone};
 
+use crate::addresses::level_as_address;
 use crate::breaking::DataBreak;
 use dia_book::{Book, DRule, DefId, Entry, Format};
 use dia_breaking_data::{Witness, shortest, witness};
+use dia_policy::Sends;
 
 /// What breaks of leaves of a format, where B's entry says how they are read.
 pub(crate) fn sent_leaf<B: Book>(format: &Format, b: &B, entry: Entry) -> DataBreak
@@ -36,32 +39,40 @@ fn break_of(found: Option<Witness>) -> DataBreak
     }
 }
 
-/// What breaks of levels of a group, where B's entry says how they are read.
-pub(crate) fn sent_level<B: Book>(group: DefId, b: &B, entry: Entry) -> DataBreak
-    requires { entry < length (B.meaning b.now).entries }
-    ensures { (e : DictEntry) → slice_get (B.meaning b.now).entries entry ≡ Some e
-        → IsLevelBreak (B.meaning b.now) group e result }
+/// What breaks of levels of a group of A, where B's entry says how they are read.
+pub(crate) fn sent_level<A: Book, B: Book>(
+    a: &A,
+    group: DefId,
+    sends: Sends,
+    b: &B,
+    entry: Entry,
+) -> DataBreak
+    requires group { group < length (definitions (A.meaning a.now)) }
+    requires entry { entry < length (B.meaning b.now).entries }
+    ensures { (x : PlainDefinition) (e : DictEntry) → slice_get (definitions (A.meaning a.now)) group ≡ Some x
+        → slice_get (B.meaning b.now).entries entry ≡ Some e
+        → IsLevelBreak (A.meaning a.now) (B.meaning b.now) sends group x.rules e result }
 {
     match b.group(entry) {
         Some(other) => DataBreak::Groups { a: group, b: other },
-        None => level_as_leaf(b.format(entry)),
+        None => level_as_leaf(a, sends, &a.def(group).rules, b.format(entry)),
     }
 }
 
-/// What breaks of levels that are read as leaves of a format.
-fn level_as_leaf(format: &Format) -> DataBreak
-    ensures { IsLevelAsLeaf (plain_format format.now) result }
+/// What breaks of levels of these rules that are read as leaves of a format.
+fn level_as_leaf<A: Book>(a: &A, sends: Sends, rules: &[DRule], format: &Format) -> DataBreak
+    ensures { IsLevelAsLeaf (A.meaning a.now) sends rules.now (plain_format format.now) result }
 {
     match format {
         Format::OctetString => DataBreak::Fits,
         Format::Integer32 => DataBreak::LeastLevel,
-        Format::Integer64 => DataBreak::Undecided,
+        Format::Integer64 => DataBreak::EightBytes,
         Format::Unsigned32 => DataBreak::LeastLevel,
-        Format::Unsigned64 => DataBreak::Undecided,
+        Format::Unsigned64 => DataBreak::EightBytes,
         Format::Float32 => DataBreak::LeastLevel,
-        Format::Float64 => DataBreak::Undecided,
+        Format::Float64 => DataBreak::EightBytes,
         Format::Grouped => DataBreak::LeastLevel,
-        Format::Address => DataBreak::Undecided,
+        Format::Address => level_as_address(a, sends, rules),
         Format::Time => DataBreak::LeastLevel,
         Format::Utf8String => DataBreak::Undecided,
         Format::DiameterIdentity => DataBreak::LeastLevel,
@@ -93,8 +104,8 @@ fn shortest_no_level(format: &Format, rules: &[DRule]) -> Option<Witness>
 }
 
 /// Whether no AVP at all stands as the rules say.
-fn asks_for_none(rules: &[DRule]) -> bool
-    ensures { IsTrue result ↔ All (λ rule. rule.min ≡ 0) rules.now }
+pub(crate) fn asks_for_none(rules: &[DRule]) -> bool
+    ensures { IsTrue result ↔ AskForNone rules.now }
 {
     rules.iter().all(|rule| rule.min == 0)
 }

@@ -1,6 +1,7 @@
 //! Which AVPs of a key break by themselves: by their M flag or by their data, whatever stands around them.
 #![tactic(auto)]
 
+mod addresses;
 mod avp;
 mod breaking;
 mod flags;
@@ -13,4 +14,4 @@ pub use dia_book::{Book, DefId};
 pub use dia_breaking_data::Witness;
 pub use dia_policy::{Sends, Unknown};
 pub use dia_wire::Key;
-pub use laws::{keys_fit_alone, shorter_data_are_accepted};
+pub use laws::{keys_fit_alone, short_levels_are_accepted, shorter_data_are_accepted};

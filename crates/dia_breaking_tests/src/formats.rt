@@ -7,7 +7,7 @@
 //!
 //! Each A and B is a dictionary that has X, or doesn't know it, and a row is asked of each pair of them. DATA is `x` and the
 //! data in hexadecimal, or `-` where all that is sent is accepted. For a group `site` says that B has a group, too, `level` that
-//! a least level isn't accepted, and `undecided` that some levels may be.
+//! a least level isn't accepted, `eight` that those of 8 bytes alone are, and `undecided` that some levels may be.
 
 use crate::books::{X, indexed_of, plain_of, same};
 use dia_breaking_avps::{DataBreak, avp_breaks};
@@ -74,7 +74,9 @@ $URI | $FOUR, $EIGHT, $GROUP => x6161613a2f2f61
 $GROUP | $OCTETS => -
 $GROUP | $GROUP => site
 $GROUP | $FOUR, $IDENTITY, $URI => level
-$GROUP | $EIGHT, $ADDRESS, $TEXT => undecided
+$GROUP | $EIGHT => eight
+$GROUP | $ADDRESS => level
+$GROUP | $TEXT => undecided
 ";
 
 /// Other groups, what a side doesn't know, and Enumerated with lists.
@@ -89,7 +91,16 @@ $IDENTITY | $ASKING => x61
 $URI | $ASKING => x6161613a2f2f61
 $ASKING | $GROUP, $ASKING => site
 $ASKING | $FOUR, $E ( 0 ) => level
-$ASKING | $EIGHT => undecided
+$ASKING | $EIGHT => eight
+
+# A level that isn't empty, as an address: the first two bytes of a code are 1 from 65536 on, and 3 from 196608 on. A wildcard may
+# let in such a code.
+$ASKING | $ADDRESS => -
+let FAMILY = <X> ::= < AVP Header: 9002 > { Y }
+%avp Y 65535 Time any $FAMILY, %avp Y 196608 Time any $FAMILY | $ADDRESS => -
+%avp Y 65536 Time any $FAMILY, %avp Y 196607 Time any $FAMILY | $ADDRESS => undecided
+%avp Y 9003 Time any %avp Z 131072 Time any <X> ::= < AVP Header: 9002 > { Y } [ Z ] | $ADDRESS => undecided
+$ASKING [ AVP ] | $ADDRESS => undecided
 
 # Of an AVP that A doesn't know any bytes are sent. Of one that B doesn't know all are accepted.
 let NONE = %avp Y 9003 Time any
@@ -219,6 +230,7 @@ fn check_pair<A: Book, B: Book>(
         DataBreak::Fits => "-",
         DataBreak::Groups { .. } => "site",
         DataBreak::LeastLevel => "level",
+        DataBreak::EightBytes => "eight",
         DataBreak::Undecided => "undecided",
     };
     same(rt, told, row.wanted, row.line);
