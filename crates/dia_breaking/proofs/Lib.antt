@@ -32,6 +32,8 @@ mod MendedHeaders
 mod MendedLines
 mod Nested
 mod OneMessage
+pub mod SomeMessages
+pub mod MessageBytes
 mod OnceMended
 pub mod FreeOfLines
 mod Paths
@@ -44,6 +46,7 @@ pub mod Listings
 pub mod OneOwn
 pub mod OneStart
 pub mod TheOneList
+mod OneStock
 pub mod ToldLines
 pub mod EachLevelLine
 pub mod LookedHeaders

@@ -41,7 +41,7 @@ same_lengths (x ∷ xs) (y ∷ ys) size each =
     let rest : xs ≡ ys = same_lengths xs ys (omega (arith, size)) (λ e lt. each (suc e) (omega (arith, lt))) in
     λ i. first i ∷ rest i
 
-one_list_of_lengths : (d : Dictionary) (least xs ys : List ℕ) → AreEntryLengths d least xs → AreEntryLengths d least ys → xs ≡ ys
+pub one_list_of_lengths : (d : Dictionary) (least xs ys : List ℕ) → AreEntryLengths d least xs → AreEntryLengths d least ys → xs ≡ ys
 one_list_of_lengths d least xs ys is are =
     let size : length xs ≡ length d.entries = is.0 in
     same_lengths xs ys (is.0 ∙ sym are.0) (λ e lt.

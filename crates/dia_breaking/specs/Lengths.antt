@@ -8,7 +8,9 @@ use Rattle.dia_book.specs.Dictionary.{Dictionary, entry_of}
 use Rattle.dia_policy.specs.declared.Sends.{Sends}
 use Rattle.dia_breaking.specs.SentKeys.{IsStranger, entry_keys}
 use Rattle.dia_policy.specs.declared.Sends.TheVariants.{Any, Known, Listed}
+use Rattle.dia_breaking_shortest.specs.declared.lookup.Least.{Least}
 use Rattle.dia_breaking_shortest.specs.Floors.{shortest_head}
+use Rattle.dia_breaking_shortest.specs.Least.{IsLeastOf}
 use Rattle.dia_breaking_shortest.specs.Lengths.{entry_length}
 use Rattle.dia_breaking_levels.specs.LevelTests.{too_long}
 
@@ -49,6 +51,11 @@ AreExactlyOthers da db Listed lengths keys = keys ≡ []
 -- for each entry its length of the other list
 abbrev pub AreEntryLengths : Dictionary → List ℕ → List ℕ → Type 0
 AreEntryLengths d xs ys = (length ys ≡ length d.entries) × AreSameLengths d xs ys
+
+-- shortest AVPs are made of this, and the entries have these lengths
+pub record IsLeastFor (d : Dictionary) (who : Sends) (least : Least) (lengths : List ℕ) : Type 0 where
+  pub is_least : IsLeastOf d who least
+  pub are_lengths : AreEntryLengths d least.lengths.items lengths
 
 -- ---- what AVPs take in levels
 

@@ -22,6 +22,7 @@ pub mod SentKeys
 pub mod SentLevels
 pub mod Sides
 pub mod Sites
+pub mod Stocks
 pub mod Telling
 pub mod TheLines
 pub mod TheMeanings

@@ -14,6 +14,7 @@ use Rattle.dia_book.specs.declared.MRule.{MRule}
 use Rattle.dia_book.specs.declared.MRule.TheVariants.{Must, MustNot, Any}
 use Rattle.dia_book.specs.Dictionary.{Dictionary, entry_of, group_place, selected}
 use Rattle.dia_rules.specs.Rules.{rules_in}
+use Rattle.dia_breaking_sites.specs.Sent.{AreBytes}
 use Rattle.dia_breaking_levels.specs.declared.line.Part.{Part}
 use Rattle.dia_breaking_levels.specs.Chosen.{IsLineLevel, least_parts, parts_with, reads_between}
 use Rattle.dia_breaking_shortest.specs.declared.lookup.Least.{Least}
@@ -219,7 +220,15 @@ command_head d c = if is_command d c then head_at d c else None
 abbrev pub IsLineMessage : Sides → Stock → ℕ → List Site → Line → List ℕ → Type 0
 IsLineMessage s k c sites line bytes = MatchOption (command_head s.sender c) (bytes ≡ []) (λ head. IsMessageFor s k c sites line head bytes)
 
--- there is one
+-- no line has two
 abbrev pub LineMessagesAreOne : Type 0
 LineMessagesAreOne = (s : Sides) (k : Stock) (c : ℕ) (sites : List Site) (line : Line) (bytes others : List ℕ) → IsLineMessage s k c sites line bytes → IsLineMessage s k c sites line others
     → bytes ≡ others
+
+-- and each has one
+abbrev pub EachLineHasAMessage : Type 0
+EachLineHasAMessage = (s : Sides) (k : Stock) (c : ℕ) (sites : List Site) (line : Line) → (bytes : List ℕ) × IsLineMessage s k c sites line bytes
+
+-- its numbers are bytes
+abbrev pub LineMessagesAreBytes : Type 0
+LineMessagesAreBytes = (s : Sides) (k : Stock) (c : ℕ) (sites : List Site) (line : Line) (bytes : List ℕ) → IsLineMessage s k c sites line bytes → AreBytes bytes

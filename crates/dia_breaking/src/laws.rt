@@ -2,7 +2,8 @@
 ghost use Rattle.dia_breaking.specs.Confirmed.{IncludedBreakNothing, IncludedHaveNoLines};
 ghost use Rattle.dia_breaking.specs.DataLines.{DataLinesAreApart};
 ghost use Rattle.dia_breaking.specs.Listing.{ListingsAreOne};
-ghost use Rattle.dia_breaking.specs.Messages.{LineMessagesAreOne};
+ghost use Rattle.dia_breaking.specs.Messages.{EachLineHasAMessage, LineMessagesAreBytes, LineMessagesAreOne};
+ghost use Rattle.dia_breaking.specs.Stocks.{StocksMakeOneMessage};
 ghost use Rattle.dia_breaking.specs.TheLines.{TheLinesAreAll, TheLinesAreOne};
 ghost use Rattle.dia_breaking.specs.TheMeanings.{TheMeaningsAreOne};
 
@@ -18,9 +19,13 @@ pub fn listings_are_one()
     ensures { ListingsAreOne }
 {}
 
-/// The message that is written for a line is one.
+/// There is one message that is written for a line, and its numbers are bytes. Two dictionaries, what is sent and the line's site
+/// and cause leave no choice of what it is made of.
 pub fn line_messages_are_one()
-    ensures { LineMessagesAreOne }
+    ensures one { LineMessagesAreOne }
+    ensures some { EachLineHasAMessage }
+    ensures bytes { LineMessagesAreBytes }
+    ensures stocks { StocksMakeOneMessage }
 {}
 
 /// The lines of a command tell all that breaks: what is free of them is valid under B, also once its header is mended.

@@ -5,7 +5,7 @@ ghost use Rattle.std.specs.Ordering.{nat_cmp};
 ghost use Rattle.dia_book.specs.Dictionary.{entry_of};
 ghost use Rattle.dia_breaking_shortest.specs.Exact.{AreExact};
 ghost use Rattle.dia_breaking_shortest.specs.Floors.{AreFloors};
-ghost use Rattle.dia_breaking.specs.Lengths.{AreEntryLengths, AreExactlyOthers, listed_length};
+ghost use Rattle.dia_breaking.specs.Lengths.{AreEntryLengths, AreExactlyOthers, IsLeastFor, listed_length};
 ghost use Rattle.dia_breaking.specs.SentKeys.{IsStrange, IsStranger, entry_keys};
 
 use dia_book::{Book, Key};
@@ -25,6 +25,7 @@ pub(crate) struct Lengths<'a, A: Book> {
     /// Keys that a wildcard lets in. The first of them that no rule lists is one of a shortest AVP.
     pub others: Vec<Key>,
     ghost floors: { ∥ AreFloors (A.meaning book.now) sends (listed_length (A.meaning book.now) sends entries.items) ∥₁ },
+    ghost exact: { ∥ IsLeastFor (A.meaning book.now) sends least entries.items ∥₁ },
 }
 
 impl<'a, A: Book> Lengths<'a, A> {

@@ -20,9 +20,9 @@ use std::alloc::{AllocError, Global};
 
 impl<'a, A: Book, B: Book> Upgrade<'a, A, B> {
     /// The message of a line of a command, or of one of its meanings: the levels around the line, from the command inwards, with
-    /// least AVPs beside them. There is one such message (`line_messages_are_one`). That none that breaks so is shorter isn't
-    /// proved; nor that a meaning's breaks nothing. Where A has no such command, there are no bytes. The error comes only where
-    /// memory was refused.
+    /// least AVPs beside them. There is one such message, and one choice of what it is made of (`line_messages_are_one`). That
+    /// none that breaks so is shorter isn't proved; nor that a meaning's breaks nothing. Where A has no such command, there are
+    /// no bytes. The error comes only where memory was refused.
     pub fn message(
         &self,
         alloc: Global,
