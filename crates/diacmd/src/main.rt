@@ -148,7 +148,7 @@ where
                 form: Form::Text,
                 names: names.as_slice(),
             };
-            list(rt, asked, inputs, origins, quiet)
+            list(rt, asked, inputs, origins, manner)
         }
         Task::CheckLines { unknown, levels } => {
             let capture = Capture::new(Lines::Checked, *unknown, *levels);
@@ -219,15 +219,20 @@ fn list<'a, R>(
     asked: Asked<'_>,
     inputs: &Inputs,
     origins: &Origins<'a>,
-    quiet: bool,
+    manner: Manner,
 ) -> Result<Reported, Ending<'a>>
 where
     R: AllocGlobal + Print + Eprint,
 {
     let mut sink = ToWriter::new(io::writer(rt));
-    match breaking(rt.alloc(), asked, inputs, &mut sink) {
+    let found = if manner.json {
+        dia_upgrades_json::breaking(rt.alloc(), asked, inputs, &mut sink)
+    } else {
+        breaking(rt.alloc(), asked, inputs, &mut sink)
+    };
+    match found {
         Ok(listed) => {
-            if !quiet {
+            if !manner.quiet {
                 let texts = texts_of(origins, inputs);
                 note_upgrade(rt, &texts, asked, inputs, &listed.report);
             }

@@ -1,0 +1,3 @@
+mod Forms
+mod Reports
+mod Written
