@@ -1,4 +1,4 @@
-"""Cases of `show --values` and `show --names`, for .ci/cases. Flags and dates are worked out by hand from RFC 6733; the rest of the
+"""Cases of `show --values`, `show --names` and `show --lines`, for .ci/cases. Flags and dates are worked out by hand from RFC 6733; the rest of the
 dates is computed by Python's calendar."""
 
 import datetime
@@ -111,6 +111,36 @@ def refused(room):
     room.check("show --values nofile.txt cause.hex", 3, "", err=missing("nofile.txt"))
 
 
+def lines(room):
+    """A message a line: the number of each line, and what `show` writes for it."""
+    # messages, one of them with white space; half a byte; an empty line
+    text = f"{CAUSE}\n{CAUSE[:7]}\n\n {CAUSE[:9]} {CAUSE[9:]}\t\r"
+    for options, told in {"": CAUSE_LINES, "--names ": CAUSE_NAMED, "--values words.txt --names ": CAUSE_NAMED + " REBOOTING"}.items():
+        wanted = f"line 1\n{told}\nline 2\nmessage: not hexadecimal\nline 3\nmessage: short\nline 4\n{told}"
+        room.check(f"show --lines {options}-", 1, wanted, stdin=text)
+    room.check("show cause.hex --lines", 0, f"line 1\n{CAUSE_LINES}")
+    room.check("show --lines --values - cause.hex", 0, f"line 1\n{CAUSE_LINES} REBOOTING", stdin=WORDS)
+    # each message of many lines, whose text comes in several pieces
+    room.check("show --lines -", 0, "\n".join(f"line {n}\n{CAUSE_LINES}" for n in range(1, 301)), stdin="\n".join(300 * [CAUSE]), shown="show --lines: 300 lines")
+    # a bad AVP length ends a message, and not the lines
+    cut = CAUSE.replace("4000000c", "40000007")
+    bad = "header flags 80 code 282 app 0 hop 1 end 2 length 32\nfault 5014 at 20 avp-length -"
+    room.check("show --lines -", 1, f"line 1\n{bad}\nline 2\n{CAUSE_LINES}", stdin=f"{cut}\n{CAUSE}")
+    # what show says of a message that it refuses
+    refused = {"02" + CAUSE[2:]: "version", CAUSE + "00": "trailing", CAUSE[:-2]: "truncated"}
+    told = "\n".join(f"line {n}\nmessage: {why}" for n, why in enumerate(refused.values(), 1))
+    room.check("show --lines -", 1, told, stdin="\n".join(refused))
+    # no line
+    room.check("show --lines empty.txt", 0, "", err="empty.txt: there is no message\nhint: docs/CAPTURES.md says what to look at where a capture gives none")
+    room.check("show --quiet --lines empty.txt", 0, "", err="")
+    # a dictionary or words that are refused: the lines aren't read
+    room.check("show --lines --dict wrong.txt --values bytes.txt -", 2, "dictionary 1: syntax at line 1", stdin=CAUSE)
+    room.check("show --lines --values twice.txt cause.hex", 2, "values: duplicate at line 2", err="twice.txt:2: a line before has the same AVP and number")
+    room.check("show --quiet --lines --values twice.txt cause.hex", 2, "values: duplicate at line 2", err="")
+    room.check("show --lines nofile.hex", 3, "", err=missing("nofile.hex"))
+    room.check("show --lines --values nofile.txt cause.hex", 3, "", err=missing("nofile.txt"))
+
+
 def named(room):
     room.write("cause.hex", CAUSE + "\n")
     room.write("words.txt", WORDS + "\n")
@@ -128,5 +158,5 @@ def named(room):
     room.check("show cause.hex --names --values words.txt", 0, CAUSE_NAMED + " REBOOTING")
     room.check("show --names request.hex", 0, 'header flags R--- code 280 DWR app 0 hop 1 end 2 length 44\n20 0 264 - -M- 11 Origin-Host "a.b"\n32 0 296 - -M- 9 Origin-Realm "b"')
     room.check("show --names -", 2, "message: version", stdin="02" + REQUEST[2:])
-    for part in (times, texts, levels, refused):
+    for part in (times, texts, levels, refused, lines):
         part(room)

@@ -1,8 +1,8 @@
 //! `show` with words of values and names, over values. `.ci/named.py` has its cases.
 
 use dia_dict::{base_book, base_text};
-use dia_run::{Exit, Input, Inputs, ToWriter};
-use dia_show::{Manner, ValuesFault, read_words, show, show_message};
+use dia_run::{Exit, FromReader, Input, Inputs, ToWriter};
+use dia_show::{Manner, ValuesFault, read_words, show, show_lines, show_message};
 use std::alloc::Global;
 use std::test::Fail;
 
@@ -37,6 +37,43 @@ fn a_message_is_shown_with_words_and_names(rt: HostRuntime) -> Result<(), Fail> 
     let shown = show(alloc, true, &inputs, &mut sink)?;
     assert!(rt; shown.exit == Exit::Yes);
     assert!(rt; sink.writer.as_slice() == LINES.as_bytes());
+    Ok(())
+}
+
+/// The request, half a byte, and the request again without a line feed behind it.
+const MESSAGES: &str = "\
+010000208000011a000000000000000100000002000001114000000c00000000
+0
+010000208000011a000000000000000100000002000001114000000c00000000";
+
+/// What is shown of these lines.
+const NUMBERED: &str = "\
+line 1
+header flags R--- code 282 DPR app 0 hop 1 end 2 length 32
+20 0 273 - -M- 12 Disconnect-Cause 0 REBOOTING
+line 2
+message: not hexadecimal
+line 3
+header flags R--- code 282 DPR app 0 hop 1 end 2 length 32
+20 0 273 - -M- 12 Disconnect-Cause 0 REBOOTING
+";
+
+#[test]
+fn each_line_is_shown_behind_its_number(rt: HostRuntime) -> Result<(), Fail> {
+    let alloc = rt.alloc();
+    let inputs = Inputs {
+        first: input(alloc, base_text())?,
+        second: input(alloc, "")?,
+        table: input(alloc, WORDS)?,
+        message: input(alloc, "")?,
+    };
+    let mut feed = FromReader::new(MESSAGES.as_bytes());
+    let mut sink = ToWriter::new(Vec::new(alloc));
+    let Ok(shown) = show_lines(alloc, true, &inputs, &mut feed, &mut sink) else {
+        return Err(Fail::from("the lines aren't shown"));
+    };
+    assert!(rt; shown.exit == Exit::No);
+    assert!(rt; sink.writer.as_slice() == NUMBERED.as_bytes());
     Ok(())
 }
 

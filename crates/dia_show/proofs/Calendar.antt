@@ -11,7 +11,7 @@ month_more leap n =
     ap (days_of_months leap) e ∙ ap (λ (m : ℕ). days_of_months leap n + days_in_month leap m) (let f : suc n ≡ n + 1 = omega arith in f)
 
 -- a year is its twelve months
-whole_year : (leap : Bool) → days_of_months leap 12 ≡ days_in_year leap
+pub whole_year : (leap : Bool) → days_of_months leap 12 ≡ days_in_year leap
 whole_year true = refl
 whole_year false = refl
 

@@ -4,3 +4,7 @@ pub mod KnownAvps
 pub mod LinesOfLevels
 pub mod Outcomes
 pub mod Plain
+pub mod ShownLines
+pub mod OneDate
+pub mod OneShown
+pub mod OneText

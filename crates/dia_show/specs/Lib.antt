@@ -4,3 +4,4 @@ pub mod Listing
 pub mod Manners
 pub mod Outcome
 pub mod Report
+pub mod Lines

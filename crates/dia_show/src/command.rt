@@ -65,7 +65,7 @@ fn answer(alloc: Global, names: bool, inputs: &Inputs) -> Result<Answered, Alloc
 }
 
 /// The answer of a dictionary or a message that is refused.
-fn refuse(alloc: Global, bad: BadInput) -> Result<Answered, AllocError>
+pub(crate) fn refuse(alloc: Global, bad: BadInput) -> Result<Answered, AllocError>
     ensures text { IfOk result (λ answered. string_bytes answered.text ≡ line (bad_input_text bad)) }
     ensures exit { IfOk result (λ answered. answered.exit ≡ Exit.Bad) }
     ensures report { IfOk result (λ answered. answered.report ≡ Report.OfShow (OfRefusal bad)) }
@@ -91,7 +91,7 @@ fn attempt(alloc: Global, names: bool, inputs: &Inputs) -> Result<Answered, Refu
 }
 
 /// The answer of words of values that are refused.
-fn no_values(alloc: Global, bad: BadValues) -> Result<Answered, AllocError>
+pub(crate) fn no_values(alloc: Global, bad: BadValues) -> Result<Answered, AllocError>
     ensures text { IfOk result (λ answered. string_bytes answered.text ≡ line (values_line bad)) }
     ensures exit { IfOk result (λ answered. answered.exit ≡ Exit.Bad) }
     ensures report { IfOk result (λ answered. answered.report ≡ Report.NoValues bad) }

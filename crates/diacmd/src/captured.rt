@@ -157,20 +157,27 @@ where
             }
             Ok(reported)
         }
-        Err(LinesFault::NoMemory) => Err(Ending::NoMemory),
-        Err(LinesFault::Device | LinesFault::Endless) => {
-            let ending = match sink.failure() {
-                Some(error) => Ending::Device {
-                    name: OUTPUT,
-                    error: Some(error),
-                },
-                None => Ending::Device {
-                    name,
-                    error: feed.feed.failure(),
-                },
-            };
-            Err(ending)
-        }
+        Err(fault) => Err(ending_of(fault, name, sink.failure(), feed.feed.failure())),
+    }
+}
+
+/// How the program ends where lines weren't answered to their end. `name` is the word that names their text, and the errors are
+/// those of standard output and of that text.
+pub(crate) fn ending_of(
+    fault: LinesFault,
+    name: &str,
+    output: Option<io::Error>,
+    input: Option<io::Error>,
+) -> Ending<'_> {
+    match fault {
+        LinesFault::NoMemory => Ending::NoMemory,
+        LinesFault::Device | LinesFault::Endless => match output {
+            Some(error) => Ending::Device {
+                name: OUTPUT,
+                error: Some(error),
+            },
+            None => Ending::Device { name, error: input },
+        },
     }
 }
 
@@ -196,7 +203,7 @@ fn advice(alloc: Global, capture: Capture, origins: &Origins<'_>) -> Result<Stri
 }
 
 /// Tells what a text is whose front shows that it has no messages, or not one a line.
-fn tell_front<R: AllocGlobal + Eprint>(rt: &R, name: &str, lines: Lines, front: &[u8]) {
+pub(crate) fn tell_front<R: AllocGlobal + Eprint>(rt: &R, name: &str, lines: Lines, front: &[u8]) {
     let mut out = String::new(rt.alloc());
     let in_lines = lines != Lines::Placed;
     if push_front(rt.alloc(), &mut out, name, front, in_lines).is_ok() {

@@ -9,6 +9,7 @@ mod advice;
 mod built;
 mod captured;
 mod front;
+mod listing;
 mod notes;
 mod showing;
 mod text;
@@ -27,6 +28,7 @@ use dia_io::put_all;
 use dia_report::{Answered, Report, Reported};
 use dia_run::{Command, Exit, Inputs, RunFault, ToWriter, run_reporting};
 use dia_upgrades::{Asked, Form, breaking};
+use listing::list_lines;
 use notes::{explain, explain_upgrade, unnamed};
 use showing::show_named;
 use std::alloc::AllocError;
@@ -129,6 +131,7 @@ where
         }
         Task::Whole(command) => answer(rt, command, inputs),
         Task::ShowNamed => show_named(rt, true, inputs, origins, quiet),
+        Task::ShowLines { names } => list_lines(rt, *names, inputs, origins, quiet),
         Task::Make => made(rt, inputs, origins.message, quiet),
         Task::ShowText => shown(rt, inputs, origins.message, quiet),
         Task::Breaking {

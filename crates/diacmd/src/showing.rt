@@ -29,7 +29,18 @@ where
         Ok(reported) => reported,
         Err(fault) => return Err(Ending::of_run(fault, "standard output", sink.failure())),
     };
-    let report = match report {
+    let report = told_of(rt, report, origins, quiet);
+    Ok(Reported { exit, report })
+}
+
+/// Explains why words of values are refused, unless it is to be quiet, and answers what else is reported.
+pub(crate) fn told_of<R: AllocGlobal + Eprint>(
+    rt: &R,
+    report: Report,
+    origins: &Origins<'_>,
+    quiet: bool,
+) -> dia_report::Report {
+    match report {
         Report::OfShow(report) => report,
         Report::NoValues(bad) => {
             if !quiet {
@@ -37,8 +48,7 @@ where
             }
             dia_report::Report::Done
         }
-    };
-    Ok(Reported { exit, report })
+    }
 }
 
 /// Tells on standard error why words of values are refused. Where the device fails, nothing is told.

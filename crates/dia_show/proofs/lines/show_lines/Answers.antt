@@ -1,0 +1,63 @@
+use Rattle.std.proofs.Common.{◌∙◌}
+use Rattle.std.proofs.lemmas.Result.{IfOk-weaker}
+use Rattle.dia_show.specs.Manners.{plain_manner_of}
+use Rattle.dia_show.proofs.ShownLines.{all_shown, front_shown, lines_shown, no_front, no_lines, refused_front, refusal_shown}
+use Rattle.dia_show.proofs.lines.show_lines.Goals as goal
+
+pub returns-in_err-opening-clause-front : goal.returns-in_err-opening-clause-front
+returns-in_err-opening-clause-front g c = λ _. no_front c.args.names c.args.inputs.now (g.F.Feed.remaining c.args.feed.now) (g.S.Sink.written c.args.sink.now)
+
+pub returns-in_err-opening-clause-no_memory : goal.returns-in_err-opening-clause-no_memory
+returns-in_err-opening-clause-no_memory g c = λ _. no_lines c.args.names c.args.inputs.now (g.F.Feed.remaining c.args.feed.now) (g.S.Sink.written c.args.sink.now)
+
+pub returns-in-Ready-clause-shown : goal.returns-in-Ready-clause-shown
+returns-in-Ready-clause-shown g c =
+    let opened = rw c.in-Ready.is at c.in_ok-opening.ensures in
+    IfOk-weaker c.list_lines.result _ _
+    (λ reported listed. all_shown c.args.names c.args.inputs.now (plain_manner_of c.in-Ready.manner) _ (rw (← c.deref.ensures) at opened.0) opened.1 opened.2 _ _ _ _ reported.exit listed)
+    c.list_lines.ensures.listed
+
+pub returns-in-Ready-clause-front : goal.returns-in-Ready-clause-front
+returns-in-Ready-clause-front g c = λ err.
+    let opened = rw c.in-Ready.is at c.in_ok-opening.ensures in
+    front_shown c.args.names c.args.inputs.now (plain_manner_of c.in-Ready.manner) _ (rw (← c.deref.ensures) at opened.0) opened.1 opened.2 _ _ _ _ (c.list_lines.ensures.front err)
+
+pub returns-in-Ready-clause-no_memory : goal.returns-in-Ready-clause-no_memory
+returns-in-Ready-clause-no_memory g c = λ e.
+    let opened = rw c.in-Ready.is at c.in_ok-opening.ensures in
+    lines_shown c.args.names c.args.inputs.now (plain_manner_of c.in-Ready.manner) _ (rw (← c.deref.ensures) at opened.0) opened.1 opened.2 _ _ _ _ (c.list_lines.ensures.no_memory e)
+
+pub returns-in-Ready-clause-endless : goal.returns-in-Ready-clause-endless
+returns-in-Ready-clause-endless g c = λ e.
+    let opened = rw c.in-Ready.is at c.in_ok-opening.ensures in
+    lines_shown c.args.names c.args.inputs.now (plain_manner_of c.in-Ready.manner) _ (rw (← c.deref.ensures) at opened.0) opened.1 opened.2 _ _ _ _ (c.list_lines.ensures.endless e)
+
+pub returns-in-Ready-clause-unread : goal.returns-in-Ready-clause-unread
+returns-in-Ready-clause-unread g c = IfOk-weaker c.list_lines.result _ _ (λ reported some bad. absurd (some bad)) c.list_lines.ensures.exit
+
+pub returns-in-Ready-clause-all : goal.returns-in-Ready-clause-all
+returns-in-Ready-clause-all g c = IfOk-weaker c.list_lines.result _ _ (λ reported all some. all) c.list_lines.ensures.all
+
+pub returns-in-Refused-clause-shown : goal.returns-in-Refused-clause-shown
+returns-in-Refused-clause-shown g c =
+    let opened = rw c.in-Refused.is at c.in_ok-opening.ensures in
+    refusal_shown c.args.names c.args.inputs.now (g.F.Feed.remaining c.args.feed.now) _ _ _ _ c.put_refusal.result opened c.put_refusal.ensures.exit c.put_refusal.ensures.put
+
+pub returns-in-Refused-clause-all : goal.returns-in-Refused-clause-all
+returns-in-Refused-clause-all g c =
+    let opened = rw c.in-Refused.is at c.in_ok-opening.ensures in
+    IfOk-weaker c.put_refusal.result _ _ (λ reported is some. absurd (some (is ∙ opened.2.1))) c.put_refusal.ensures.exit
+
+pub returns-in-Refused-clause-front : goal.returns-in-Refused-clause-front
+returns-in-Refused-clause-front g c = λ err.
+    let opened = rw c.in-Refused.is at c.in_ok-opening.ensures in
+    refused_front c.args.names c.args.inputs.now (g.F.Feed.remaining c.args.feed.now) _ _ _ _ opened (c.put_refusal.ensures.front err)
+
+pub returns-in-Refused-clause-no_memory : goal.returns-in-Refused-clause-no_memory
+returns-in-Refused-clause-no_memory g c = λ e. absurd (c.put_refusal.ensures.memory e)
+
+pub returns-in-Refused-clause-endless : goal.returns-in-Refused-clause-endless
+returns-in-Refused-clause-endless g c = λ e. absurd (c.put_refusal.ensures.counted e)
+
+pub returns-in-Refused-clause-pieces : goal.returns-in-Refused-clause-pieces
+returns-in-Refused-clause-pieces g c = λ e. absurd (c.put_refusal.ensures.counted e)

@@ -1,0 +1,96 @@
+//! `show --lines`.
+
+use crate::captured::{ending_of, tell_front};
+use crate::front::Front;
+use crate::showing::told_of;
+use crate::word_of;
+use dia_captures::Lines;
+use dia_cli::{BASE_DICTIONARY, Ending, Origin, Origins, STANDARD_INPUT};
+use dia_io::{Exit, FromReader, Inputs, ToWriter};
+use dia_report::Reported;
+use dia_show::show_lines;
+use std::io::Read;
+use std::rt::Files;
+use std::{fs, io};
+
+/// Shows the message of each line, with names or without, and tells on standard error what came of them, unless it is to be
+/// quiet.
+pub(crate) fn list_lines<'a, R>(
+    rt: &R,
+    names: bool,
+    inputs: &Inputs,
+    origins: &Origins<'a>,
+    quiet: bool,
+) -> Result<Reported, Ending<'a>>
+where
+    R: AllocGlobal + Files + Input + Print + Eprint,
+{
+    let reported = match origins.messages {
+        Origin::File { path, .. } => match fs::open(rt, path) {
+            Ok(file) => list(rt, names, inputs, origins, quiet, file)?,
+            Err(error) => {
+                return Err(Ending::Device {
+                    name: path,
+                    error: Some(error),
+                });
+            }
+        },
+        _ => list(rt, names, inputs, origins, quiet, rt.reader())?,
+    };
+    if !quiet && reported.exit == Exit::No {
+        advise(rt, origins);
+    }
+    Ok(reported)
+}
+
+/// Shows the lines that a reader gives.
+fn list<'a, R, D>(
+    rt: &R,
+    names: bool,
+    inputs: &Inputs,
+    origins: &Origins<'a>,
+    quiet: bool,
+    reader: D,
+) -> Result<Reported, Ending<'a>>
+where
+    R: AllocGlobal + Print + Eprint,
+    D: Read + Drop,
+{
+    let alloc = rt.alloc();
+    let name = word_of(origins.messages);
+    let mut feed = Front::new(alloc, FromReader::new(reader));
+    let mut sink = ToWriter::new(io::writer(rt));
+    match show_lines(alloc, names, inputs, &mut feed, &mut sink) {
+        Ok(dia_show::Reported { exit, report }) => {
+            if !quiet && exit != Exit::Bad && feed.is_telling() {
+                tell_front(rt, name, Lines::Checked, &feed.kept);
+            }
+            let report = told_of(rt, report, origins, quiet);
+            Ok(Reported { exit, report })
+        }
+        Err(fault) => Err(ending_of(fault, name, sink.failure(), feed.feed.failure())),
+    }
+}
+
+/// Tells how one line is explained by itself. Where the device fails, nothing is told.
+fn advise<R: Eprint>(rt: &R, origins: &Origins<'_>) {
+    let messages = word_of(origins.messages);
+    let dictionary = word_of(origins.first);
+    let dict = if dictionary == BASE_DICTIONARY {
+        ""
+    } else {
+        " --dict "
+    };
+    let dictionary = if dictionary == BASE_DICTIONARY {
+        ""
+    } else {
+        dictionary
+    };
+    let _ = if messages == STANDARD_INPUT {
+        eprint!(rt; "hint: of a line alone, `diacmd show{dict}{dictionary} -` explains the fault\n")
+    } else {
+        eprint!(rt;
+            "hint: `sed -n NUMBERp {messages} | diacmd show{dict}{dictionary} -` explains the fault of the line with that number\n"
+        )
+    };
+}
