@@ -60,3 +60,6 @@ pub mod AllLines
 mod WalkGraphs
 mod GapsInRanges
 mod LackingNumbers
+mod CostsOfSides
+mod ToldLevels
+mod ShownLevels

@@ -52,7 +52,7 @@ use Rattle.dia_breaking.proofs.ToldLines.{IsToldIn, cause_is, in_each, with_enou
 -- ---- lists
 
 -- where nothing is left out, each stands at its place
-at_kept : {X Y : Type 0} (f : X → Option Y) (xs : List X) → ((i : ℕ) (x : X) → slice_get xs i ≡ Some x → IsSome (f x)) → (i : ℕ) (x : X) (y : Y) → slice_get xs i ≡ Some x → f x ≡ Some y
+pub at_kept : {X Y : Type 0} (f : X → Option Y) (xs : List X) → ((i : ℕ) (x : X) → slice_get xs i ≡ Some x → IsSome (f x)) → (i : ℕ) (x : X) (y : Y) → slice_get xs i ≡ Some x → f x ≡ Some y
     → slice_get (filter_map f xs) i ≡ Some y
 at_kept f [] all i x y at is = absurd (none-some x at)
 at_kept {X} {Y} f (z ∷ xs) all zero x y at is =

@@ -1,5 +1,5 @@
 -- A command whose least level is longer than a message is not sent; nor is one that is a group.
-use Rattle.std.proofs.Common.{◌≡◌, ℕ, suc, ◌+◌, ◌*◌, ◌%◌, ◌<◌, ◌≤◌, List, [], ◌∷◌, ◌++◌, length, Some, None, sym, ap, subst, ◌∙◌, arith}
+use Rattle.std.proofs.Common.{◌≡◌, ℕ, suc, ◌+◌, ◌*◌, ◌%◌, ◌^◌, ◌<◌, ◌≤◌, List, [], ◌∷◌, ◌++◌, length, Some, None, sym, ap, subst, ◌∙◌, arith}
 use Rattle.std.specs.Prelude.{slice_get}
 use Rattle.std.proofs.lemmas.Option.{same_Some}
 use Rattle.std.proofs.lemmas.List.{length-append}
@@ -41,6 +41,25 @@ head_says h n b s are =
     let second = all_parts IsByte ((1 ∷ s.len) ++ (h.flags ∷ s.code)) s.app third.0 in
     let first = all_parts IsByte (1 ∷ s.len) (h.flags ∷ s.code) second.0 in
     subst (λ (k : ℕ). k < three_bytes) s.length_field.value (below_three_bytes s.len s.length_field.width first.0.1)
+
+below_four_bytes : (a : List ℕ) → length a ≡ 4 → AreBytes a → number a < 2 ^ 32
+below_four_bytes [] e h = absurd (omega (arith, e))
+below_four_bytes (x ∷ []) e h = absurd (omega (arith, e))
+below_four_bytes (x ∷ y ∷ []) e h = absurd (omega (arith, e))
+below_four_bytes (x ∷ y ∷ z ∷ []) e h = absurd (omega (arith, e))
+below_four_bytes (x ∷ y ∷ z ∷ w ∷ []) e h =
+    let less : x * 16777216 + (y * 65536 + (z * 256 + (w * 1 + 0))) < 4294967296 = omega (arith, h.0, h.1.0, h.1.1.0, h.1.1.1.0) in less
+below_four_bytes (x ∷ y ∷ z ∷ w ∷ v ∷ more) e h = absurd (let f : suc (suc (suc (suc (suc (length more))))) ≡ 4 = e in omega (arith, f))
+
+-- an application in four
+pub app_says : (h : Header) (vs : List PlainAvp) (b : List ℕ) (m : IsMessage h vs b) → AreBytes b → h.app < 2 ^ 32
+app_says h vs b m are =
+    let s = m.is_head in
+    let all = subst AreBytes s.parts (all_parts IsByte m.head m.body (subst AreBytes m.parts are)).0 in
+    let fourth = all_parts IsByte ((1 ∷ s.len) ++ (h.flags ∷ s.code) ++ s.app ++ s.hop) s.e2e all in
+    let third = all_parts IsByte ((1 ∷ s.len) ++ (h.flags ∷ s.code) ++ s.app) s.hop fourth.0 in
+    let second = all_parts IsByte ((1 ∷ s.len) ++ (h.flags ∷ s.code)) s.app third.0 in
+    subst (λ (k : ℕ). k < 2 ^ 32) s.app_field.value (below_four_bytes s.app s.app_field.width second.1)
 
 pub head_takes : (h : Header) (n : ℕ) (b : List ℕ) → IsHead h n b → length b ≡ 20
 head_takes h n b s =

@@ -32,3 +32,4 @@ pub mod Upgrades
 pub mod Words
 pub mod Gaps
 pub mod Runs
+pub mod ShownLevels

@@ -3,6 +3,7 @@ ghost use Rattle.dia_breaking.specs.Confirmed.{IncludedBreakNothing, IncludedHav
 ghost use Rattle.dia_breaking.specs.DataLines.{DataLinesAreApart};
 ghost use Rattle.dia_breaking.specs.Listing.{ListingsAreOne};
 ghost use Rattle.dia_breaking.specs.Messages.{EachLineHasAMessage, LineMessagesAreBytes, LineMessagesAreOne};
+ghost use Rattle.dia_breaking.specs.ShownLevels.{LevelLinesAreShown};
 ghost use Rattle.dia_breaking.specs.Stocks.{StocksMakeOneMessage};
 ghost use Rattle.dia_breaking.specs.TheLines.{TheLinesAreAll, TheLinesAreOne};
 ghost use Rattle.dia_breaking.specs.TheMeanings.{TheMeaningsAreOne};
@@ -49,4 +50,9 @@ pub fn the_lines_are_one()
 /// policy.
 pub fn the_meanings_are_one()
     ensures { TheMeaningsAreOne }
+{}
+
+/// The message of a line of levels shows it: at the line's site stands a level that breaks the rules of B's definition, as told.
+pub fn level_lines_are_shown()
+    ensures { LevelLinesAreShown }
 {}
