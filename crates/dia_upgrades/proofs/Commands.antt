@@ -17,7 +17,8 @@ use Rattle.dia_upgrades.specs.declared.asked.Asked.{Asked}
 use Rattle.dia_upgrades.specs.declared.lines.Listing.{Listing}
 use Rattle.dia_upgrades.specs.declared.pending.Pending.{Pending}
 use Rattle.dia_upgrades.specs.Places.{IsEachNew}
-use Rattle.dia_upgrades.specs.Told.{AreBothParts, AreShortest, IsStockOf, IsToldOf}
+use Rattle.dia_breaking.specs.Stocks.{IsStockOf}
+use Rattle.dia_upgrades.specs.Told.{AreBothParts, AreShortest, IsToldOf}
 use Rattle.dia_upgrades.specs.UnderWay.{AreAllPut, AreFirstLines, AreSeen, AreUnderWay, GoesOn, IsPut, IsUnderWay, Stands, StandsBehind, StandsPut, StopsIn, among, before, text_shown}
 use Rattle.dia_upgrades.proofs.Listings.{none_of_place}
 use Rattle.dia_upgrades.proofs.LinesToTell.{left_both, nothing_shown}

@@ -9,6 +9,5 @@ pub mod Outcomes
 pub mod Parts
 pub mod Puts
 pub mod Reports
-pub mod SomeMessages
 pub mod ToldCommands
 pub mod ToldLines

@@ -10,6 +10,7 @@ use Rattle.dia_accepted.specs.declared.told.Told.{Told}
 use Rattle.dia_accepted.specs.Accepted.{PlainEntry, PlainTold, accepts, is_accepted, kept, left_of, plain_told}
 use Rattle.dia_accepted.specs.Seen.{AreCauses, HasSeen, is_command}
 use Rattle.dia_accepted.proofs.Sets.{seen_behind, seen_between}
+use Rattle.dia_breaking_sites.specs.Sent.{AreBytes}
 use Rattle.dia_breaking.specs.declared.line.Standing.{Standing}
 use Rattle.dia_breaking.specs.declared.line.Standing.TheVariants.{Confirmed, Unchecked, Undecided}
 use Rattle.dia_io.specs.Writing.{AppendsFront}
@@ -69,8 +70,8 @@ shown_more asked xs ys = by asked.once
 abbrev pub message_behind : Bool → List ℕ → List ℕ
 message_behind has bytes = cond has (message_line bytes) []
 
-pub stands_behind : (are : List ℕ → Type 0) (has : Bool) (bytes : List ℕ) → are bytes → IsBehind are has (message_behind has bytes)
-stands_behind are true bytes is = (bytes, is, refl)
+pub stands_behind : (are : List ℕ → Type 0) (has : Bool) (bytes : List ℕ) → AreBytes bytes × are bytes → IsBehind are has (message_behind has bytes)
+stands_behind are true bytes is = (bytes, is.0, is.1, refl)
 stands_behind are false bytes is = refl
 
 -- a line whose messages aren't asked for has none

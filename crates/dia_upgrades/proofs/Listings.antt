@@ -9,6 +9,7 @@ use Rattle.dia_io.specs.declared.RunFault.TheVariants.{Device, NoMemory}
 use Rattle.dia_io.specs.Writing.{AppendsFront}
 use Rattle.dia_accepted.specs.Accepted.{PlainEntry, PlainTold, left_of}
 use Rattle.dia_accepted.specs.Seen.{is_command}
+use Rattle.dia_breaking_sites.specs.Sent.{AreBytes}
 use Rattle.dia_breaking.specs.declared.line.Line.{Line}
 use Rattle.dia_breaking.specs.Messages.{Stock}
 use Rattle.dia_breaking.specs.Sides.{Sides}
@@ -111,11 +112,11 @@ module _ (asked : Asked) (place : ℕ) where
 -- ---- among lines
 
 -- each line could be told
-pub could_be : (place : ℕ) (messages : Bool) (words : Line → List ℕ) (are : Line → List ℕ → Type 0) (x : Line) (bytes : List ℕ) → are x bytes
+pub could_be : (place : ℕ) (messages : Bool) (words : Line → List ℕ) (are : Line → List ℕ → Type 0) (x : Line) (bytes : List ℕ) → AreBytes bytes × are x bytes
     → IsLineTold place messages words are x (told_as place (words x) (message_behind (has_message messages x.standing) bytes) ∷ [])
 could_be place messages words are x bytes is = (message_behind (has_message messages x.standing) bytes, stands_behind (are x) _ bytes is, refl)
 
-pub any_told : (place : ℕ) (messages : Bool) (words : Line → List ℕ) (are : Line → List ℕ → Type 0) → ((x : Line) → (bytes : List ℕ) × are x bytes) → (lines : List Line)
+pub any_told : (place : ℕ) (messages : Bool) (words : Line → List ℕ) (are : Line → List ℕ → Type 0) → ((x : Line) → (bytes : List ℕ) × AreBytes bytes × are x bytes) → (lines : List Line)
     → (told : List PlainTold) × AreParts (IsLineTold place messages words are) lines told
 any_told place messages words are some lines =
     all_parts (IsLineTold place messages words are) (λ x. told_as place (words x) (message_behind (has_message messages x.standing) (some x).0) ∷ [])
@@ -125,7 +126,7 @@ from_here : {X : Type 0} (xs : List X) (i : ℕ) (d : X) → i < length xs → t
 from_here xs i d less =
     sym (append_assoc (take i xs) (get_or xs i d ∷ []) (drop (i + 1) xs)) ∙ ap (λ ys. ys ++ drop (i + 1) xs) (sym (take_more xs i d less)) ∙ take-append-drop (i + 1) xs
 
-module _ (asked : Asked) (place : ℕ) (messages : Bool) (words : Line → List ℕ) (are : Line → List ℕ → Type 0) (some : (x : Line) → (bytes : List ℕ) × are x bytes) where
+module _ (asked : Asked) (place : ℕ) (messages : Bool) (words : Line → List ℕ) (are : Line → List ℕ → Type 0) (some : (x : Line) → (bytes : List ℕ) × AreBytes bytes × are x bytes) where
   -- it stops in the line at i
   pub stops_at : (fault : RunFault) (a b c : Option (List ℕ)) (old mid new : Listing) (lines : List Line) (i : ℕ) (x : Line) (told : List PlainTold) → i < length lines → x ≡ get_or lines i x
       → AreParts (IsLineTold place messages words are) (take i lines) told → GoesOn asked place a b old mid told [] → StopsAmong asked place fault b c mid new (IsLineTold place messages words are) (x ∷ [])

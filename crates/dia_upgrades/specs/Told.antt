@@ -5,6 +5,7 @@ use Rattle.hex.specs.Hex.{encode_lower}
 use Rattle.dia_accepted.specs.Accepted.{PlainTold}
 use Rattle.dia_policy.specs.declared.sends.Sends.{Sends}
 use Rattle.dia_book.specs.Dictionary.{Dictionary, groups}
+use Rattle.dia_breaking_sites.specs.Sent.{AreBytes}
 use Rattle.dia_breaking_shortest.specs.Exact.{AreExact}
 use Rattle.dia_breaking.specs.declared.line.Line.{Line}
 use Rattle.dia_breaking.specs.declared.line.Site.{Site}
@@ -12,11 +13,12 @@ use Rattle.dia_breaking.specs.declared.line.Standing.{Standing}
 use Rattle.dia_breaking.specs.declared.line.Standing.TheVariants.{Confirmed, Unchecked, Undecided}
 use Rattle.dia_breaking.specs.Confirmed.{HaveStandings, left_after, most_checked_together}
 use Rattle.dia_breaking.specs.Free.{AreValidWhereFree}
-use Rattle.dia_breaking.specs.Lengths.{AreEntryLengths, AreExactlyOthers, costs_by, other_length}
+use Rattle.dia_breaking.specs.Lengths.{AreEntryLengths, other_length}
 use Rattle.dia_breaking.specs.Listing.{AreUnchecked}
 use Rattle.dia_breaking.specs.Messages.{IsLineMessage, Stock}
 use Rattle.dia_breaking.specs.Orders.{IsInOrderOf}
 use Rattle.dia_breaking.specs.OwnBreaks.{TellData}
+use Rattle.dia_breaking.specs.Stocks.{IsStockOf}
 use Rattle.dia_breaking.specs.TheLines.{HasTheLines}
 use Rattle.dia_breaking.specs.TheMeanings.{AreMeaningsOf, AreMeant, HoldsOfLevels, IsReadAsSent}
 use Rattle.dia_breaking.specs.ToldMessages.{AreConfirmedWhere, BreaksAsTold, IsConfirmedWhere}
@@ -45,7 +47,7 @@ message_line bytes = line (codes "  " ++ encode_lower bytes)
 
 -- the line of a message, of which these are the bytes
 abbrev pub IsMessageLine : (List ℕ → Type 0) → List ℕ → Type 0
-IsMessageLine are text = (bytes : List ℕ) × are bytes × (text ≡ message_line bytes)
+IsMessageLine are text = (bytes : List ℕ) × AreBytes bytes × are bytes × (text ≡ message_line bytes)
 
 -- whether a line has its message behind it: where messages are asked for, each but the undecided ones
 abbrev pub has_message : Bool → Standing → Bool
@@ -86,11 +88,6 @@ words_at s lengths c sites line = words_of s (other_length s.sender s.sends leng
 -- for each of A's entries the length of a shortest AVP that A's side sends
 abbrev pub AreShortest : Dictionary → Sends → List ℕ → Type 0
 AreShortest a who lengths = ∥ ((least : List ℕ) × AreExact a who least × AreEntryLengths a least lengths) ∥₁
-
--- what messages are made of, where A's entries have these lengths: what AVPs take in A's levels, and which of them a wildcard lets in
-pub record IsStockOf (s : Sides) (lengths : List ℕ) (k : Stock) : Type 0 where
-  pub costs_are : k.costs ≡ costs_by s.sender s.sends lengths k.costs.others
-  pub others_are : ∥ AreExactlyOthers s.sender s.receiver s.sends lengths k.costs.others ∥₁
 
 -- a line stands among those of its command at its site
 abbrev pub place_of : Line → ℕ
@@ -141,6 +138,13 @@ pub record AreTold (s : Sides) (messages meaning : Bool) (places : List ℕ) (to
   pub are_shortest : AreShortest s.sender s.sends lengths
   pub is_stock : IsStockOf s lengths stock
   pub each : AreBothParts (IsToldOf s stock messages meaning lengths) places most_checked_together behind told apart
+
+-- ---- behind a line
+
+-- one text stands there, whatever messages are made of
+abbrev pub MessageTextsAreOne : Type 0
+MessageTextsAreOne = (s : Sides) (lengths other_lengths : List ℕ) (k l : Stock) (c : ℕ) (sites : List Site) (line : Line) (text other : List ℕ) → IsStockOf s lengths k → IsStockOf s other_lengths l
+    → IsMessageLine (IsLineMessage s k c sites line) text → IsMessageLine (IsLineMessage s l c sites line) other → text ≡ other
 
 -- ---- behind a confirmed line
 

@@ -23,7 +23,7 @@ pub use counting::lines_left;
 pub use dia_accepted::{MAX_LINES, MAX_LIST, Told};
 pub use dia_breaking_json::{Keys, Names};
 pub use judging::breaking_of;
-pub use laws::confirmed_texts_break;
+pub use laws::{confirmed_texts_break, message_texts_are_one};
 pub use list::BadList;
 pub use naming::named;
 pub use reporting::{Found, Listed, Report, Reported};

@@ -7,7 +7,7 @@ use Rattle.dia_book.specs.Dictionary.{Dictionary}
 use Rattle.dia_breaking.specs.Words.{head_at}
 use Rattle.dia_breaking.specs.Upgrades.{facts_of, sender_of, sides_of, stock_of}
 use Rattle.dia_breaking.specs.ToldMessages.{AreConfirmedWhere}
-use Rattle.dia_upgrades.proofs.SomeMessages.{some_message}
+use Rattle.dia_breaking.proofs.MessageBytes.{some_bytes}
 use Rattle.dia_breaking.specs.declared.line.Line.{Line}
 use Rattle.dia_upgrades.specs.Told.{AreParts, IsToldOf, apart_of, number_at, words_at}
 use Rattle.dia_upgrades.specs.declared.lines.Listing.{Listing}
@@ -62,7 +62,7 @@ returns-in_err-put_each-clause-stops g c =
     let stops = c.in_err-put_each.ensures.stops in
     let mid : Listing = record { seen = c.args.listing.now.seen; pending = c.args.listing.now.pending; budget = c.breaks.new.left } in
     let told = subst (λ (ls : List Line). AreParts (IsToldIn up breaks place asked.messages) ls (stops.more ++ stops.rest)) c.as_slice-lines.ensures.value stops.are_parts in
-    let apart = any_told place false words (IsMessageIn up breaks) (some_message s k breaks.command breaks.sites.items) (apart_of asked.meaning breaks.meanings.items) in
+    let apart = any_told place false words (IsMessageIn up breaks) (some_bytes s k breaks.command breaks.sites.items) (apart_of asked.meaning breaks.meanings.items) in
     rw (p.1, p.2)
     (among c.breaks.new.left stops.more stops.rest apart.0
     (told_so s k asked.messages asked.meaning lengths place breaks.command c.args.listing.now.budget c.breaks.new.left breaks shown (stops.more ++ stops.rest) apart.0 same is_found told apart.1)
@@ -102,7 +102,7 @@ returns-in_err-see_each_apart-clause-stops g c =
     let mid : Listing = record { seen = c.args.listing.now.seen; pending = c.args.listing.now.pending; budget = c.breaks.new.left } in
     let new : Listing = record { seen = c.see_each_apart.new.seen; pending = c.put_each.new.listing.pending; budget = c.put_each.new.listing.budget } in
     let told = subst (λ (ls : List Line). AreParts (IsToldIn up breaks place asked.messages) ls more) c.as_slice-lines.ensures.value parts in
-    let apart = any_told place false words (IsMessageIn up breaks) (some_message s k breaks.command breaks.sites.items) (apart_of asked.meaning breaks.meanings.items) in
+    let apart = any_told place false words (IsMessageIn up breaks) (some_bytes s k breaks.command breaks.sites.items) (apart_of asked.meaning breaks.meanings.items) in
     let is_told = told_so s k asked.messages asked.meaning lengths place breaks.command c.args.listing.now.budget c.breaks.new.left breaks shown more apart.0 same is_found told apart.1 in
     rw (p.1, p.2)
     (among c.breaks.new.left more [] apart.0 (subst (λ (xs : List PlainTold). IsToldOf s k asked.messages asked.meaning lengths place c.args.listing.now.budget c.breaks.new.left xs apart.0) (sym (append-nil more)) is_told)

@@ -4,7 +4,8 @@ use Rattle.std.proofs.lemmas.List.{length-take, take_all}
 use Rattle.std.proofs.lemmas.Result.{err_from_is_err_and}
 use Rattle.dia_breaking.specs.Upgrades.{facts_of, sides_of, stock_of}
 use Rattle.dia_upgrades.specs.declared.lines.Listing.{Listing}
-use Rattle.dia_upgrades.specs.Told.{AreShortest, IsStockOf}
+use Rattle.dia_breaking.specs.Stocks.{IsStockOf}
+use Rattle.dia_upgrades.specs.Told.{AreShortest}
 use Rattle.dia_upgrades.specs.UnderWay.{AreUnderWay}
 use Rattle.dia_upgrades.proofs.Commands.{all_some, goes_next, none_yet, stops_there}
 use Rattle.dia_upgrades.proofs.Listings.{sound_ok}
@@ -56,7 +57,7 @@ returns-in_err-put_command-clause-stops g c =
     (λ list begun place each all way.
     let some = c.loop-place.invariant.some list begun place each all way in
     let shortest : AreShortest s.sender s.sends (facts_of up).lengths = ∥∥₁_map up.known (λ known. (known.least, known.are_least, known.are_lengths)) in
-    let is_stock : IsStockOf s (facts_of up).lengths (stock_of up) = record { costs_are = refl; others_are = ∥∥₁_map up.known (λ known. known.are_others) } in
+    let is_stock : IsStockOf s (facts_of up).lengths (stock_of up) = record { least_is = up.lengths.exact; costs_are = refl; others_are = ∥∥₁_map up.known (λ known. known.are_others) } in
     let stops = c.in_err-put_command.ensures.stops in
     stops_there s (stock_of up) asked lengths c.args.forgets list begun places i d c.loop-place-test.true (g.S.Sink.written c.loop-place.sink) (g.S.Sink.written c.put_command.new.sink) old begin new some
     (λ known others none are. c.begin.ensures asked list some.place _ (length (take i places)) known others none are) refl refl each (omega (arith, length-take i places, c.loop-place-test.true, c.type_inv.places)) shortest is_stock
@@ -68,7 +69,7 @@ returns-clause-all g c = λ list begun place each all way.
     let s = sides_of up in
     let some = c.loop-place.invariant.some list begun place each all way in
     let shortest : AreShortest s.sender s.sends (facts_of up).lengths = ∥∥₁_map up.known (λ known. (known.least, known.are_least, known.are_lengths)) in
-    let is_stock : IsStockOf s (facts_of up).lengths (stock_of up) = record { costs_are = refl; others_are = ∥∥₁_map up.known (λ known. known.are_others) } in
+    let is_stock : IsStockOf s (facts_of up).lengths (stock_of up) = record { least_is = up.lengths.exact; costs_are = refl; others_are = ∥∥₁_map up.known (λ known. known.are_others) } in
     let whole = take_all c.loop-place.place-index c.args.places.now c.loop-place-test.false in
     subst (λ (ps : List ℕ). AreUnderWay s c.args.asked c.args.forgets list ps begun (g.S.Sink.written c.loop-place.sink) c.loop-place.listing) whole
     (all_some s (stock_of up) c.args.asked (facts_of up).lengths c.args.forgets list begun (take c.loop-place.place-index c.args.places.now) (g.S.Sink.written c.loop-place.sink) c.loop-place.listing shortest is_stock some)

@@ -4,7 +4,7 @@ use Rattle.std.proofs.lemmas.Result.{err_from_is_err_and}
 use Rattle.dia_breaking.specs.declared.line.Line.{Line}
 use Rattle.dia_breaking.specs.Words.{words_of}
 use Rattle.dia_breaking.specs.Upgrades.{other_length_of, sides_of, stock_of}
-use Rattle.dia_upgrades.proofs.SomeMessages.{some_message}
+use Rattle.dia_breaking.proofs.MessageBytes.{some_bytes}
 use Rattle.dia_upgrades.specs.Told.{AreParts}
 use Rattle.dia_upgrades.specs.UnderWay.{IsMessageIn, IsToldIn}
 use Rattle.dia_upgrades.proofs.Listings.{goes_both, goes_nothing, sound_ok, stops_at}
@@ -36,7 +36,7 @@ returns-in_err-put_line-clause-stops g c =
     let p = err_from_is_err_and c.from_residual.result c.from_residual.ensures.1 in
     let up = c.args.upgrade.now in
     let words = words_of (sides_of up) (other_length_of up) c.args.breaks.now.command c.args.breaks.now.sites.items in
-    let some = some_message (sides_of up) (stock_of up) c.args.breaks.now.command c.args.breaks.now.sites.items in
+    let some = some_bytes (sides_of up) (stock_of up) c.args.breaks.now.command c.args.breaks.now.sites.items in
     let (told, parts, goes) = c.loop-line.invariant.told in
     rw (p.1, p.2)
     (stops_at c.args.asked c.args.place c.args.asked.messages words (IsMessageIn up c.args.breaks.now) some _ _ _ _ c.args.listing.now c.loop-line.listing c.put_line.new.listing c.args.lines.now c.loop-line.line-index c.line-item.result told

@@ -3,7 +3,8 @@ use Rattle.std.proofs.Math.Logic.{∥∥₁_map}
 use Rattle.std.proofs.lemmas.Result.{err_from_is_err_and, IfErr-weaker, on_ok_weaker}
 use Rattle.dia_accepted.specs.Accepted.{plain_entry}
 use Rattle.dia_breaking.specs.Upgrades.{facts_of, sides_of, stock_of}
-use Rattle.dia_upgrades.specs.Told.{AreShortest, IsStockOf}
+use Rattle.dia_breaking.specs.Stocks.{IsStockOf}
+use Rattle.dia_upgrades.specs.Told.{AreShortest}
 use Rattle.dia_upgrades.proofs.Commands.{all_put, none_first, rest_stands, start}
 use Rattle.dia_upgrades.proofs.Listings.{device_of}
 use Rattle.dia_upgrades.proofs.lines.put_lines.Goals as goal
@@ -13,7 +14,7 @@ returns-in_err-forgets-clause-front g c =
     let p = err_from_is_err_and c.from_residual.result c.from_residual.ensures.1 in
     let up = c.args.upgrade.now in
     let shortest : AreShortest (sides_of up).sender (sides_of up).sends (facts_of up).lengths = ∥∥₁_map up.known (λ known. (known.least, known.are_least, known.are_lengths)) in
-    let is_stock : IsStockOf (sides_of up) (facts_of up).lengths (stock_of up) = record { costs_are = refl; others_are = ∥∥₁_map up.known (λ known. known.are_others) } in
+    let is_stock : IsStockOf (sides_of up) (facts_of up).lengths (stock_of up) = record { least_is = up.lengths.exact; costs_are = refl; others_are = ∥∥₁_map up.known (λ known. known.are_others) } in
     rw (p.1, p.2) (none_first (sides_of up) (stock_of up) c.args.asked (map plain_entry c.args.list.now) (facts_of up).lengths c.args.places.now (g.S.Sink.written c.args.sink.now) shortest is_stock)
 
 pub returns-in_err-seen-clause-front : goal.returns-in_err-seen-clause-front
@@ -21,7 +22,7 @@ returns-in_err-seen-clause-front g c =
     let p = err_from_is_err_and c.from_residual-in_err-seen.result c.from_residual-in_err-seen.ensures.1 in
     let up = c.args.upgrade.now in
     let shortest : AreShortest (sides_of up).sender (sides_of up).sends (facts_of up).lengths = ∥∥₁_map up.known (λ known. (known.least, known.are_least, known.are_lengths)) in
-    let is_stock : IsStockOf (sides_of up) (facts_of up).lengths (stock_of up) = record { costs_are = refl; others_are = ∥∥₁_map up.known (λ known. known.are_others) } in
+    let is_stock : IsStockOf (sides_of up) (facts_of up).lengths (stock_of up) = record { least_is = up.lengths.exact; costs_are = refl; others_are = ∥∥₁_map up.known (λ known. known.are_others) } in
     rw (p.1, p.2) (none_first (sides_of up) (stock_of up) c.args.asked (map plain_entry c.args.list.now) (facts_of up).lengths c.args.places.now (g.S.Sink.written c.args.sink.now) shortest is_stock)
 
 pub returns-in_err-put_rest-clause-front : goal.returns-in_err-put_rest-clause-front

@@ -1,7 +1,7 @@
 use Rattle.std.proofs.Common.{inl, inr, sym, ◌∙◌}
 use Rattle.std.proofs.lemmas.Result.{IfOk-weaker}
 use Rattle.dia_breaking.specs.Upgrades.{sides_of, stock_of}
-use Rattle.dia_upgrades.proofs.SomeMessages.{some_message}
+use Rattle.dia_breaking.proofs.MessageBytes.{some_bytes}
 use Rattle.dia_upgrades.specs.Told.{has_message}
 use Rattle.dia_upgrades.specs.UnderWay.{IsMessageIn, digits_text}
 use Rattle.dia_upgrades.proofs.LinesToTell.{message_behind, stands_behind}
@@ -12,7 +12,7 @@ returns-then-has g c =
     let up = c.args.upgrade.now in
     let line = c.args.line.now in
     let has = has_message c.args.messages line.standing in
-    let some = some_message (sides_of up) (stock_of up) c.args.breaks.now.command c.args.breaks.now.sites.items line in
+    let some = some_bytes (sides_of up) (stock_of up) c.args.breaks.now.command c.args.breaks.now.sites.items line in
     record {
       message = message_behind has some.0;
       is_behind = stands_behind (IsMessageIn up c.args.breaks.now line) has some.0 some.1;

@@ -4,7 +4,7 @@ use Rattle.dia_accepted.specs.Accepted.{bare, kept}
 use Rattle.dia_accepted.specs.Seen.{AreCauses}
 use Rattle.dia_breaking.specs.Words.{words_of}
 use Rattle.dia_breaking.specs.Upgrades.{other_length_of, sides_of, stock_of}
-use Rattle.dia_upgrades.proofs.SomeMessages.{some_message}
+use Rattle.dia_breaking.proofs.MessageBytes.{some_bytes}
 use Rattle.dia_upgrades.specs.Told.{has_message, told_as, written}
 use Rattle.dia_upgrades.specs.Forms.{line_in}
 use Rattle.dia_upgrades.specs.UnderWay.{IsMessageIn, digits_text}
@@ -21,7 +21,7 @@ returns-then-known g c =
     let words = words_of (sides_of up) (other_length_of up) c.args.breaks.now.command c.args.breaks.now.sites.items in
     let made = rw c.new-words.ensures.bytes at c.in_ok-push_words.ensures.words in
     let told = c.as_str-told.ensures.value ∙ made in
-    let some = some_message (sides_of up) (stock_of up) c.args.breaks.now.command c.args.breaks.now.sites.items line in
+    let some = some_bytes (sides_of up) (stock_of up) c.args.breaks.now.command c.args.breaks.now.sites.items line in
     let t = told_as place (words line) (message_behind (has_message asked.messages line.standing) some.0) in
     let judged = c.in_ok-known.ensures in (
       t,
