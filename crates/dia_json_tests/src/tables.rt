@@ -1,8 +1,9 @@
 //! Tables as JSON.
 
 use dia_check::Unknown;
+use dia_compared_json::compare;
 use dia_io::{Exit, Input, Inputs};
-use dia_json::{compare, propose};
+use dia_json::propose;
 use std::alloc::{AllocError, Global};
 use std::test::Fail;
 
@@ -25,13 +26,19 @@ fn proposes_a_table(rt: HostRuntime) -> Result<(), Fail> {
     Ok(())
 }
 
+/// The answer where the counts of X fail a test.
+const COUNTS: &str =
+    r#"{"verdict":"no","kind":"command","first":"T","second":"T","test":"N2","fails":[{"why":"counts","sent":{"number":1,"avp":"X","fixed":false,"min":0,"max":null},"accepted":{"number":1,"avp":"X","fixed":false,"min":0,"max":3}}]}"#;
+
+/// The answer of a name that the second doesn't have.
+const NO_NAME: &str =
+    r#"{"verdict":"no","kind":"avp","first":"X","second":"Y","test":"N10","fails":[{"why":"second-name","sent":null,"accepted":null}]}"#;
+
 #[test]
 fn compares_by_a_table(rt: HostRuntime) -> Result<(), Fail> {
     let alloc = rt.alloc();
-    let no = r#"{"verdict":"no","kind":"command","first":"T","second":"T","test":"N2"}"#;
-    assert!(rt; is_compared(alloc, "command T = T\navp X = X\n", Exit::No, no)?);
-    let other = r#"{"verdict":"no","kind":"avp","first":"X","second":"Y","test":"N10"}"#;
-    assert!(rt; is_compared(alloc, "avp X = Y\n", Exit::No, other)?);
+    assert!(rt; is_compared(alloc, "command T = T\navp X = X\n", Exit::No, COUNTS)?);
+    assert!(rt; is_compared(alloc, "avp X = Y\n", Exit::No, NO_NAME)?);
     assert!(rt; is_compared(alloc, "avp X = X\n", Exit::Yes, r#"{"verdict":"yes"}"#)?);
     Ok(())
 }

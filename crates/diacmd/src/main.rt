@@ -193,7 +193,7 @@ where
         Command::Propose { unknown, names } => {
             dia_json::propose(alloc, *unknown, names.as_slice(), inputs)
         }
-        Command::Compare { unknown } => dia_json::compare(alloc, *unknown, inputs),
+        Command::Compare { unknown } => dia_compared_json::compare(alloc, *unknown, inputs),
         Command::Render => return answer(rt, command, inputs),
     };
     put_answer(rt, made)

@@ -1,0 +1,4 @@
+mod Names
+mod Pairs
+mod Refusing
+mod Texts

@@ -1,0 +1,10 @@
+use Rattle.std.proofs.lemmas.Result.{IfOk-weaker}
+use Rattle.dia_data.specs.Plain.{plain_format}
+use Rattle.dia_compared_json.proofs.Texts.{taken_told}
+use Rattle.dia_compared_json.proofs.declarations.taken_text.Goals as goal
+
+pub returns : goal.returns
+returns c =
+    IfOk-weaker c.format.result _ _
+    (λ text is. taken_told (plain_format c.args.format.now) c.args.rule _ _ _ _ _ _ c.format_word.ensures c.m_word.ensures c.in_ok-word.ensures c.in_ok-m.ensures c.in_ok-values.ensures is)
+    c.format.ensures.ok

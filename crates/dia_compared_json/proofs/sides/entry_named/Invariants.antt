@@ -1,0 +1,8 @@
+use Rattle.std.proofs.Common.{◌≡◌, false, take}
+use Rattle.std.specs.List.{list_any}
+use Rattle.std.specs.Str.{bytes_eq}
+use Rattle.dia_book.specs.Dictionary.{DictEntry}
+use Rattle.dia_compared_json.proofs.sides.entry_named.Given as goal
+
+abbrev pub invariant-loop-index : goal.invariant-loop-index
+invariant-loop-index g l = list_any (λ (e : DictEntry). bytes_eq l.name e.name) (take l.index (g.B.Book.meaning l.book).entries) ≡ false

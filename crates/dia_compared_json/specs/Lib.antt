@@ -1,0 +1,4 @@
+pub mod Compared
+pub mod Failures
+pub mod Objects
+pub mod Parts

@@ -1,0 +1,130 @@
+//! `compare` as JSON.
+
+ghost use Rattle.std.specs.Prelude.{◌≡◌, IfOk, string_bytes};
+ghost use Rattle.dia_compat.specs.Closed.{IsFirstFailure, IsTableAnswer};
+ghost use Rattle.dia_compat.specs.TableText.{plain_table};
+ghost use Rattle.dia_json.specs.Runs.{TellsBad};
+ghost use Rattle.dia_compared_json.specs.Compared.{IsAnswerJson, IsCompareJson, IsFailureJson, TellsComparison};
+
+use crate::failures::{failure_text, pair_at};
+use dia_book::Book;
+use dia_check::Unknown;
+use dia_compat::{Answer, PairKind, Table, Test, check_table, failings};
+use dia_io::{Exit, Input, Inputs};
+use dia_json::bad_input_line;
+use dia_report::{Answered, BothBooks, Compared, Refused, Report};
+use dia_run::{Outcome, read_dictionary, read_table, told};
+use std::alloc::{AllocError, Global};
+
+/// The object of an answer, how the program ends, and the answer.
+#[derive(Drop)]
+struct Found {
+    text: String,
+    exit: Exit,
+    answer: Answer,
+}
+
+/// Whether the table shows inclusion, or else the first pair that fails a test, and all that fails it.
+pub fn compare(alloc: Global, unknown: Unknown, inputs: &Inputs) -> Result<Answered, AllocError>
+    ensures { IfOk result (λ answered. IsCompareJson unknown inputs.now
+        (string_bytes answered.text) answered.exit) }
+{
+    let first = match read_dictionary(alloc, 1, &inputs.first) {
+        Ok(read) => read,
+        Err(refused) => return refuse(alloc, &inputs.first, refused),
+    };
+    let second = match read_dictionary(alloc, 2, &inputs.second) {
+        Ok(read) => read,
+        Err(refused) => return refuse(alloc, &inputs.second, refused),
+    };
+    let table = match read_table(alloc, &inputs.table) {
+        Ok(table) => table,
+        Err(refused) => return refuse(alloc, &inputs.table, refused),
+    };
+    let Found { text, exit, answer } = found_of(alloc, &first.book, &second.book, unknown, &table)?;
+    let report = Report::Compared(Compared {
+        books: BothBooks { first, second },
+        table,
+        unknown,
+        answer,
+    });
+    Ok(Answered { text, exit, report })
+}
+
+/// The answer where this input is refused.
+fn refuse(alloc: Global, input: &Input, refused: Refused) -> Result<Answered, AllocError>
+    ensures { IfOk result (λ answered. TellsBad input.now refused (string_bytes answered.text) answered.exit) }
+{
+    match refused {
+        Refused::Bad(bad) => {
+            let text = bad_input_line(alloc, input, &bad)?;
+            Ok(Answered {
+                text,
+                exit: Exit::Bad,
+                report: Report::Refused(bad),
+            })
+        }
+        Refused::NoMemory => Err(AllocError),
+    }
+}
+
+/// What is found of the table's pairs.
+fn found_of<A: Book, B: Book>(
+    alloc: Global,
+    a: &A,
+    b: &B,
+    unknown: Unknown,
+    table: &Table,
+) -> Result<Found, AllocError>
+    ensures { IfOk result (λ found. TellsComparison unknown (plain_table table.now)
+        (A.meaning a.now) (B.meaning b.now) (string_bytes found.text) found.exit) }
+{
+    let answer = check_table(alloc, a, b, unknown, table)?;
+    let Outcome { text, exit } = told_of(alloc, a, b, unknown, table, answer)?;
+    Ok(Found { text, exit, answer })
+}
+
+/// The object of an answer, and how the program ends.
+fn told_of<A: Book, B: Book>(
+    alloc: Global,
+    a: &A,
+    b: &B,
+    unknown: Unknown,
+    table: &Table,
+    answer: Answer,
+) -> Result<Outcome, AllocError>
+    requires { IsTableAnswer (A.meaning a.now) (B.meaning b.now) unknown (plain_table table.now) answer }
+    ensures { IfOk result (λ outcome. IsAnswerJson (A.meaning a.now) (B.meaning b.now) unknown
+        (plain_table table.now) answer (string_bytes outcome.text) outcome.exit) }
+{
+    match answer {
+        Answer::Yes => told(alloc, "{\"verdict\":\"yes\"}\n", Exit::Yes),
+        Answer::No { kind, pair, reason } => {
+            failure_of(alloc, a, b, unknown, table, kind, pair, reason)
+        }
+    }
+}
+
+/// The outcome where the pair at a place is the first that fails this test.
+fn failure_of<A: Book, B: Book>(
+    alloc: Global,
+    a: &A,
+    b: &B,
+    unknown: Unknown,
+    table: &Table,
+    kind: PairKind,
+    pair: usize,
+    test: Test,
+) -> Result<Outcome, AllocError>
+    requires { IsFirstFailure (A.meaning a.now) (B.meaning b.now) unknown (plain_table table.now) kind pair test }
+    ensures { IfOk result (λ outcome. IsFailureJson (A.meaning a.now) (B.meaning b.now) unknown
+        (plain_table table.now) kind pair test (string_bytes outcome.text) outcome.exit) }
+{
+    let fails = failings(alloc, a, b, unknown, table, kind, pair, test)?;
+    let names = pair_at(table, kind, pair);
+    let text = failure_text(alloc, a, b, kind, names, test, &fails)?;
+    Ok(Outcome {
+        text,
+        exit: Exit::No,
+    })
+}
