@@ -1,25 +1,19 @@
--- What is written where `show`, `propose` and `compare` answer as JSON, and how the program ends.
-use Rattle.std.specs.Prelude.{◌≡◌, ℕ, ◌⊎◌, List, ◌++◌, Some, codes, slice_get}
+-- What is written where `show` and `propose` answer as JSON, and how the program ends.
+use Rattle.std.specs.Prelude.{◌≡◌, ℕ, ◌⊎◌, List, ◌++◌, codes}
 use Rattle.std.specs.List.{flat_map}
 use Rattle.serde_json.specs.Data.{Members, member, no_members, string}
 use Rattle.dia_dict.specs.Dictionary.{Dictionary}
 use Rattle.dia_policy.specs.declared.Unknown.{Unknown}
-use Rattle.dia_compat.specs.declared.Answer.{Answer}
-use Rattle.dia_compat.specs.declared.Answer.TheVariants.{Yes as Passed, No as Failed}
-use Rattle.dia_compat.specs.declared.PairKind.TheVariants as pair
-use Rattle.dia_compat.specs.declared.Test.{Test}
-use Rattle.dia_compat.specs.Closed.{IsTableAnswer as IsCompared}
 use Rattle.dia_compat.specs.Proposed.{IsFirstUnknown, IsProposal}
 use Rattle.dia_compat.specs.TableText.{PlainTable}
 use Rattle.dia_io.specs.declared.Inputs.{Inputs}
 use Rattle.dia_io.specs.declared.Exit.{Exit}
-use Rattle.dia_io.specs.declared.Exit.TheVariants.{Bad, No, Yes}
-use Rattle.dia_run.specs.Outcome.{IsCompareOutcome, IsShowOutcome}
-use Rattle.dia_run.specs.Pairs.{IsTableText, test_word}
+use Rattle.dia_io.specs.declared.Exit.TheVariants.{Bad, Yes}
+use Rattle.dia_run.specs.Outcome.{IsShowOutcome}
 use Rattle.dia_run.specs.Texts.{line, IsDictionaryText, IsMessageText}
 use Rattle.dia_json.specs.Messages.{TellsMessage}
 use Rattle.dia_json.specs.Runs.{IsDictionaryRefusal, IsRefusal, RefusedDictionaries}
-use Rattle.dia_json.specs.Values.{json_line, refused_members, verdict_members}
+use Rattle.dia_json.specs.Values.{json_line, refused_members}
 
 -- the command refuses an input, and tells this as text
 abbrev pub RefusesAs : (List ℕ → Exit → Type 0) → List ℕ → Type 0
@@ -58,35 +52,3 @@ abbrev pub IsProposeJson : Unknown → List (List ℕ) → Inputs → List ℕ �
 IsProposeJson u names inputs text exit =
     ((a : Dictionary) × (b : Dictionary) × IsDictionaryText inputs.first a × IsDictionaryText inputs.second b × TellsProposal u names a b text exit)
     ⊎ RefusedDictionaries inputs text exit
-
--- ---- `compare`
-
--- a pair that fails a test: the pair as `propose` writes it, and the test
-abbrev pub failure_members : List ℕ → List ℕ × List ℕ → Test → Members
-failure_members word p test = verdict_members (codes "no") (member (codes "kind") (string word)
-    (member (codes "first") (string p.0) (member (codes "second") (string p.1) (member (codes "test") (string (test_word test)) no_members))))
-
-abbrev pub failure_json : List ℕ → List ℕ × List ℕ → Test → List ℕ
-failure_json word p test = json_line (failure_members word p test)
-
--- the pair at this place fails the test
-abbrev pub IsFailureJson : List ℕ → List (List ℕ × List ℕ) → ℕ → Test → List ℕ → Exit → Type 0
-IsFailureJson word pairs i test text exit =
-    (p : List ℕ × List ℕ) × (slice_get pairs i ≡ Some p) × (text ≡ failure_json word p test) × (exit ≡ No)
-
--- the object of an answer, and how the program ends
-abbrev pub IsAnswerJson : PlainTable → Answer → List ℕ → Exit → Type 0
-IsAnswerJson t Passed text exit = (text ≡ json_line (verdict_members (codes "yes") no_members)) × (exit ≡ Yes)
-IsAnswerJson t (Failed pair.Command i test) text exit = IsFailureJson (codes "command") t.commands i test text exit
-IsAnswerJson t (Failed pair.Avp i test) text exit = IsFailureJson (codes "avp") t.avps i test text exit
-
--- what is found of the table's pairs
-abbrev pub TellsComparison : Unknown → PlainTable → Dictionary → Dictionary → List ℕ → Exit → Type 0
-TellsComparison u table a b text exit = (answer : Answer) × IsCompared a b u table answer × IsAnswerJson table answer text exit
-
--- `compare` of the inputs: its answer, or a dictionary or the table is refused
-abbrev pub IsCompareJson : Unknown → Inputs → List ℕ → Exit → Type 0
-IsCompareJson u inputs text exit =
-    ((a : Dictionary) × (b : Dictionary) × (table : PlainTable) × IsDictionaryText inputs.first a × IsDictionaryText inputs.second b
-    × IsTableText inputs.table table × TellsComparison u table a b text exit)
-    ⊎ (RefusedDictionaries inputs text exit ⊎ IsRefusal (RefusesAs (IsCompareOutcome u inputs)) inputs.table text exit)

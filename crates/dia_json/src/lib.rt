@@ -1,12 +1,11 @@
 //! Answers as JSON (RFC 8259): an object a line.
 //!
-//! `check` and `refute` answer for one message, `show` lists it, and `compare` and `propose` answer for two dictionaries.
+//! `check` and `refute` answer for one message, `show` lists it, and `propose` answers for two dictionaries.
 //! `check_lines`, `refute_lines` and `check_stream` read their messages a piece at a time, as those of dia_captures do, and put an
 //! object for each.
 #![tactic(auto)]
 
 mod answers;
-mod comparing;
 mod judges;
 mod laws;
 mod listing;
@@ -19,7 +18,6 @@ mod values;
 mod verdicts;
 
 pub use answers::{check, refute};
-pub use comparing::compare;
 pub use judges::{JsonCheck, JsonRefute};
 pub use laws::text_is_value;
 pub use proposing::propose;
