@@ -1,10 +1,10 @@
 -- Levels that are Addresses: they aren't empty, and begin with the code of no family.
-use Rattle.std.proofs.Common.{◌≡◌, ℕ, ◌+◌, ◌*◌, ◌≤◌, ◌<◌, Bool, true, false, List, [], ◌∷◌, ◌++◌, length, map, Option, Some, None, refl, sym, ap, subst, ◌∙◌, arith, inl, inr}
+use Rattle.std.proofs.Common.{◌≡◌, ℕ, ◌+◌, ◌*◌, ◌<◌, true, false, List, [], ◌∷◌, ◌++◌, length, map, Option, Some, None, refl, sym, ap, subst, arith, inl, inr}
 use Rattle.std.specs.Prelude.{◌⊎◌, is_some, not, option_and_then, slice_get, IsTrue, MatchOption}
 use Rattle.std.specs.List.{AllByRecursion}
 use Rattle.std.proofs.lemmas.Bool.{both_ways}
 use Rattle.dia_wire.specs.declared.Key.{Key}
-use Rattle.dia_wire.specs.Wire.{PlainAvp, Spells, SpellsAll, key_of}
+use Rattle.dia_wire.specs.Wire.{PlainAvp, Spells, key_of}
 use Rattle.dia_data.specs.Leaf.{IsAddress, IsLeaf}
 use Rattle.dia_data.specs.Number.{number}
 use Rattle.dia_book.specs.declared.DRule.{DRule}

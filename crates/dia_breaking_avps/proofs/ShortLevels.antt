@@ -8,7 +8,6 @@ use Rattle.dia_wire.specs.Wire.{PlainAvp, SpellsAll}
 use Rattle.dia_data.specs.Plain.{PlainFormat, Integer64, Unsigned64, Float64}
 use Rattle.dia_data.specs.Leaf.{IsLeaf}
 use Rattle.dia_book.specs.Dictionary.{Dictionary, DictEntry, PlainDefinition}
-use Rattle.dia_policy.specs.declared.Unknown.{Unknown}
 use Rattle.dia_policy.specs.declared.sends.Sends.{Sends}
 use Rattle.dia_policy.specs.declared.sends.Sends.TheVariants.{Any}
 use Rattle.dia_check.specs.Valid.{Fits, IsLevel, known}

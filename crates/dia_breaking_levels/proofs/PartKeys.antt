@@ -1,5 +1,5 @@
 -- How often keys stand in the levels that parts make.
-use Rattle.std.proofs.Common.{◌≡◌, ℕ, zero, suc, ◌+◌, ◌-◌, ◌^◌, ◌≤◌, Bool, true, false, cond, List, [], ◌∷◌, ◌++◌, length, filter, Option, Some, None, refl, sym, ap, ◌∙◌, append_assoc, arith}
+use Rattle.std.proofs.Common.{◌≡◌, ℕ, zero, suc, ◌+◌, ◌-◌, ◌^◌, Bool, true, false, cond, List, [], ◌∷◌, ◌++◌, length, filter, Option, Some, None, refl, sym, ap, ◌∙◌, append_assoc, arith}
 use Rattle.std.specs.Prelude.{not, min, max, ◌==◌, count_by, slice_get, if◌then◌else◌}
 use Rattle.std.specs.Option.{option_eq, option_map_or}
 use Rattle.std.proofs.lemmas.Bool.{eqb-true}
@@ -11,7 +11,7 @@ use Rattle.dia_check.specs.Valid.{is_listed}
 use Rattle.dia_rules.proofs.Members.{count_cons, count_append}
 use Rattle.dia_breaking_levels.specs.declared.demand.Wanted.{Wanted}
 use Rattle.dia_breaking_levels.specs.declared.line.Part.{Part}
-use Rattle.dia_breaking_levels.specs.Chosen.{PlainDemand, count_of, extra_at, is_of_kind, kind_parts, level_parts, other_count, other_parts, parts_at, parts_below, parts_by, parts_of, rule_parts, stands, wild_parts}
+use Rattle.dia_breaking_levels.specs.Chosen.{PlainDemand, count_of, extra_at, kind_parts, level_parts, other_count, other_parts, parts_at, parts_below, parts_by, parts_of, rule_parts, stands, wild_parts}
 use Rattle.dia_breaking_levels.specs.LeastLevels.{copies}
 use Rattle.dia_breaking_levels.specs.Showing.{part_keys}
 use Rattle.dia_breaking_levels.proofs.RuleSums.{sum_of}

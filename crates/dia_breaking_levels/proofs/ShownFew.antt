@@ -1,35 +1,32 @@
 -- The levels that are written for lines of too few AVPs have too few.
 use Rattle.std.proofs.Common.{◌≡◌, ℕ, zero, suc, ◌+◌, ◌-◌, ◌*◌, ◌^◌, ◌<◌, ◌≤◌, Bool, true, false, cond, List, [], ◌∷◌, Option, Some, None, refl, sym, ap, subst, ◌∙◌, arith, inl, inr}
-use Rattle.std.specs.Prelude.{◌⊎◌, not, min, max, nat_le, nat_lt, ◌||◌, ◌==◌, is_some, count_by, find, if◌then◌else◌, Contains}
+use Rattle.std.specs.Prelude.{◌⊎◌, not, min, max, nat_le, ◌||◌, ◌==◌, if◌then◌else◌}
 use Rattle.std.specs.Option.{option_eq, option_map_or}
 use Rattle.std.proofs.Math.Nat.{mul-le-mul_left}
-use Rattle.std.proofs.lemmas.Bool.{leb-true, eqb-true}
-use Rattle.std.proofs.lemmas.Option.{none-some}
+use Rattle.std.proofs.lemmas.Bool.{leb-true}
 use Rattle.dia_wire.specs.declared.Key.{Key}
 use Rattle.dia_book.specs.Keys.{same_key}
 use Rattle.dia_book.specs.declared.DRule.{DRule}
 use Rattle.dia_book.proofs.SameKeys.{same_key-refl, same_key-symm, same_key-true}
-use Rattle.dia_check.specs.Valid.{has_wildcard, is_listed}
+use Rattle.dia_check.specs.Valid.{is_listed}
 use Rattle.dia_check.proofs.RuleCounts.{counts_key}
-use Rattle.dia_rules.specs.Rules.{HasRule, rule_of, wildcard_of}
-use Rattle.dia_rules.proofs.Members.{IsIn, contains_in, count_none, none_or_some}
+use Rattle.dia_rules.specs.Rules.{rule_of}
+use Rattle.dia_rules.proofs.Members.{IsIn, contains_in}
 use Rattle.dia_rules.proofs.RulesOfKeys.{is_listed_by}
-use Rattle.dia_breaking_levels.specs.declared.demand.Wanted.{Wanted}
 use Rattle.dia_breaking_levels.specs.declared.floor.Floor.{Floor}
-use Rattle.dia_breaking_levels.specs.declared.line.Reason.TheVariants.{Missing, TooMany, NotAllowed, NotAllowedOther}
-use Rattle.dia_breaking_levels.specs.Chosen.{PlainDemand, Reads, above_greatest, below_least, cheapest_key, count_of, demand, extra_at, level_parts, missing_demand, next_key, not_allowed_demand, outer_key, reads_between, too_many_demand, wants, wild_min}
+use Rattle.dia_breaking_levels.specs.declared.line.Reason.TheVariants.{Missing}
+use Rattle.dia_breaking_levels.specs.Chosen.{PlainDemand, Reads, below_least, cheapest_key, count_of, demand, extra_at, level_parts, missing_demand, next_key, reads_between, wants, wild_min}
 use Rattle.dia_breaking_levels.specs.CountsAndRanks.{AreSound, times}
 use Rattle.dia_breaking_levels.specs.Exact.{first_inner, floor_between}
 use Rattle.dia_breaking_levels.specs.Levels.{ShowsAt}
-use Rattle.dia_breaking_levels.specs.LevelTests.{too_long, capped, at_least, at_most, filler, has_room, is_outside, many, swapped, listed_at_least, listed_at_most, other_at_least, missing_length, too_many_length, not_allowed_length, not_allowed_other_length, outer_length}
-use Rattle.dia_breaking_levels.specs.Showing.{HaveLengths, part_keys}
+use Rattle.dia_breaking_levels.specs.LevelTests.{too_long, at_most, listed_at_most, missing_length}
+use Rattle.dia_breaking_levels.specs.Showing.{part_keys}
 use Rattle.dia_breaking_levels.proofs.CountsAndRanks.{one_rule}
 use Rattle.dia_breaking_levels.proofs.LeastLevels.{by_key, count_apart, not_both, share, shares_within}
-use Rattle.dia_breaking_levels.proofs.LevelBounds.{is_wild}
 use Rattle.dia_breaking_levels.proofs.LineBounds.{is_rule, no_rule}
-use Rattle.dia_breaking_levels.proofs.PartKeys.{of_key, of_other, of_rule, of_rule-key, of_rule-wild, of_wild, passing, passing_plain}
-use Rattle.dia_breaking_levels.proofs.RuleSums.{one_of_sum, shares_sum, sum_of, sums_each}
-use Rattle.dia_breaking_levels.proofs.ShownFillers.{cheapest_found, cheapest_unlisted, next_found, outer_found}
+use Rattle.dia_breaking_levels.proofs.PartKeys.{of_key, of_rule, of_rule-key, of_rule-wild, of_wild, passing_plain}
+use Rattle.dia_breaking_levels.proofs.RuleSums.{shares_sum, sum_of, sums_each}
+use Rattle.dia_breaking_levels.proofs.ShownFillers.{cheapest_found, cheapest_unlisted, next_found}
 
 -- ---- sums and tests
 

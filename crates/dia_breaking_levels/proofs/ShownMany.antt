@@ -1,13 +1,12 @@
 -- The levels that are written for lines of too many AVPs of a key, and of one that is not allowed, have it so often.
-use Rattle.std.proofs.Common.{◌≡◌, ℕ, ◌+◌, ◌-◌, ◌*◌, ◌^◌, ◌<◌, ◌≤◌, Bool, true, false, cond, List, Option, Some, None, refl, sym, ap, subst, ◌∙◌, arith}
+use Rattle.std.proofs.Common.{◌≡◌, ℕ, ◌+◌, ◌-◌, ◌^◌, ◌<◌, ◌≤◌, Bool, true, false, cond, List, Option, Some, None, refl, sym, ap, subst, ◌∙◌, arith}
 use Rattle.std.specs.Prelude.{min, max, ◌||◌, is_some, count_by, if◌then◌else◌, Contains}
 use Rattle.std.specs.Option.{option_map_or}
-use Rattle.std.proofs.lemmas.Option.{none-some}
 use Rattle.dia_wire.specs.declared.Key.{Key}
 use Rattle.dia_book.specs.Keys.{same_key}
 use Rattle.dia_book.specs.declared.DRule.{DRule}
 use Rattle.dia_book.proofs.SameKeys.{same_key-refl, same_key-true}
-use Rattle.dia_check.specs.Valid.{has_wildcard, is_listed}
+use Rattle.dia_check.specs.Valid.{is_listed}
 use Rattle.dia_rules.specs.Rules.{rule_of, wildcard_of}
 use Rattle.dia_rules.proofs.Members.{IsIn, contains_in}
 use Rattle.dia_rules.proofs.RulesOfKeys.{is_listed_by}

@@ -1,6 +1,6 @@
 -- The levels that are written for lines of too many AVPs by the wildcard have too many.
 use Rattle.std.proofs.Common.{◌≡◌, ℕ, zero, suc, ◌+◌, ◌-◌, ◌*◌, ◌^◌, ◌<◌, ◌≤◌, Bool, true, false, cond, List, [], ◌∷◌, ◌++◌, Option, Some, None, refl, sym, ap, subst, ◌∙◌, arith, inl, inr}
-use Rattle.std.specs.Prelude.{not, min, max, nat_lt, ◌||◌, ◌==◌, is_some, find, fold, option_and_then, slice_get, sum_by, unwrap_or, if◌then◌else◌}
+use Rattle.std.specs.Prelude.{not, min, max, nat_lt, ◌||◌, ◌==◌, is_some, find, fold, option_and_then, slice_get, unwrap_or, if◌then◌else◌}
 use Rattle.std.specs.Option.{option_eq, option_map_or}
 use Rattle.std.proofs.Math.Nat.{mul_comm}
 use Rattle.std.proofs.lemmas.Bool.{eqb-true, ltb-true, ne_eqb}
@@ -9,7 +9,6 @@ use Rattle.dia_wire.specs.declared.Key.{Key}
 use Rattle.dia_book.specs.Keys.{same_key}
 use Rattle.dia_book.specs.declared.DRule.{DRule}
 use Rattle.dia_check.specs.Valid.{is_listed}
-use Rattle.dia_rules.specs.Rules.{wildcard_of}
 use Rattle.dia_rules.proofs.Members.{IsIn, contains_in}
 use Rattle.dia_breaking_levels.specs.declared.cut.Cut.{Cut}
 use Rattle.dia_breaking_levels.specs.declared.floor.Floor.{Floor}
@@ -20,7 +19,7 @@ use Rattle.dia_breaking_levels.specs.CountsAndRanks.{AreSound, strangers}
 use Rattle.dia_breaking_levels.specs.Cuts.{IsCut}
 use Rattle.dia_breaking_levels.specs.Exact.{floor_between, least_inner}
 use Rattle.dia_breaking_levels.specs.Levels.{ShowsAt}
-use Rattle.dia_breaking_levels.specs.LevelTests.{too_long, capped, cheapest, filler, inner_length, is_outside, outer_length, rule_floor, swapped, too_many_others_length}
+use Rattle.dia_breaking_levels.specs.LevelTests.{too_long, capped, filler, inner_length, is_outside, outer_length, rule_floor, too_many_others_length}
 use Rattle.dia_breaking_levels.specs.Steps.{IsLeastMost, IsTakenInOrder, greatest, room_above, steps, steps_of}
 use Rattle.dia_breaking_levels.specs.Strangers.{needed, needs}
 use Rattle.dia_breaking_levels.specs.Showing.{HaveLengths, part_keys}

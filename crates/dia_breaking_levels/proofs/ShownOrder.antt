@@ -1,7 +1,7 @@
 -- In the levels that are written for lines of the order the key of the line stands behind the other.
-use Rattle.std.proofs.Common.{◌≡◌, ◌≢◌, ℕ, zero, suc, ◌+◌, ◌-◌, ◌^◌, ◌<◌, ◌≤◌, Bool, true, false, cond, List, [], ◌∷◌, ◌++◌, length, filter, Option, Some, None, refl, sym, ap, subst, ◌∙◌, append_assoc, arith, inl, inr}
-use Rattle.std.specs.Prelude.{◌⊎◌, not, min, max, ◌==◌, nat_lt, count_by, option_and_then, position, slice_get, if◌then◌else◌}
-use Rattle.std.specs.Option.{option_eq, option_map_or}
+use Rattle.std.proofs.Common.{◌≡◌, ◌≢◌, ℕ, zero, suc, ◌+◌, ◌-◌, ◌^◌, ◌<◌, ◌≤◌, Bool, true, false, cond, List, [], ◌∷◌, ◌++◌, length, filter, Option, Some, None, refl, sym, ap, subst, ◌∙◌, arith, inl, inr}
+use Rattle.std.specs.Prelude.{◌⊎◌, not, min, max, nat_lt, option_and_then, position, slice_get, if◌then◌else◌}
+use Rattle.std.specs.Option.{option_map_or}
 use Rattle.std.proofs.lemmas.Bool.{ltb-true, ltb-false, ne_eqb}
 use Rattle.std.proofs.lemmas.Option.{same_Some, slice_get_within}
 use Rattle.dia_wire.specs.declared.Key.{Key}
@@ -15,13 +15,12 @@ use Rattle.dia_book.proofs.SameKeys.{same_key-refl, same_key-true}
 use Rattle.dia_check.specs.Valid.{fixed_rules, is_listed}
 use Rattle.dia_check.proofs.OneKeyMore.{at_position}
 use Rattle.dia_rules.specs.Rules.{rule_of, wildcard_of}
-use Rattle.dia_rules.proofs.Members.{IsIn, at_in, contains_in, in_append, in_at, in_left, in_right}
-use Rattle.dia_breaking_levels.specs.declared.demand.Wanted.{Wanted}
+use Rattle.dia_rules.proofs.Members.{IsIn, at_in, contains_in, in_append, in_left, in_right}
 use Rattle.dia_breaking_levels.specs.declared.floor.Floor.{Floor}
 use Rattle.dia_breaking_levels.specs.declared.line.Part.{Part}
 use Rattle.dia_breaking_levels.specs.declared.line.Reason.TheVariants.{Order}
 use Rattle.dia_breaking_levels.specs.Breaches.{IsLate}
-use Rattle.dia_breaking_levels.specs.Chosen.{PlainDemand, Reads, cheapest_key, count_of, demand, extra_at, kind_parts, level_parts, order_demand, other_count, parts_at, parts_below, parts_by, reads_between, rule_parts, stands, wants}
+use Rattle.dia_breaking_levels.specs.Chosen.{PlainDemand, Reads, count_of, extra_at, kind_parts, level_parts, order_demand, other_count, parts_at, parts_below, parts_by, reads_between, rule_parts, stands, wants}
 use Rattle.dia_breaking_levels.specs.CountsAndRanks.{AreSound, rank}
 use Rattle.dia_breaking_levels.specs.Exact.{floor_between}
 use Rattle.dia_breaking_levels.specs.LeastLevels.{copies}

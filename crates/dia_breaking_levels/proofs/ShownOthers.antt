@@ -1,6 +1,6 @@
 -- The levels that are written for lines of too few AVPs by the wildcard have too few.
 use Rattle.std.proofs.Common.{◌≡◌, ℕ, zero, suc, ◌+◌, ◌-◌, ◌*◌, ◌^◌, ◌<◌, ◌≤◌, Bool, true, false, cond, List, [], ◌∷◌, Option, Some, None, refl, sym, ap, subst, ◌∙◌, arith, inl, inr}
-use Rattle.std.specs.Prelude.{◌⊎◌, not, min, max, nat_le, ◌||◌, ◌==◌, is_some, fold, if◌then◌else◌}
+use Rattle.std.specs.Prelude.{not, min, max, nat_le, ◌||◌, ◌==◌, is_some, fold, if◌then◌else◌}
 use Rattle.std.specs.Option.{option_map_or}
 use Rattle.std.proofs.Math.Nat.{mul-le-mul_left}
 use Rattle.std.proofs.lemmas.Bool.{leb-true}
@@ -26,7 +26,7 @@ use Rattle.dia_breaking_levels.specs.Showing.{HaveLengths, part_keys}
 use Rattle.dia_breaking_levels.proofs.EachLine.{the_wildcard}
 use Rattle.dia_breaking_levels.proofs.FloorBounds.{needed_is}
 use Rattle.dia_breaking_levels.proofs.LeastLevels.{by_key, not_both}
-use Rattle.dia_breaking_levels.proofs.PartKeys.{of_key, of_other, of_rule, of_rule-key, of_rule-wild, of_wild, passing_plain}
+use Rattle.dia_breaking_levels.proofs.PartKeys.{of_other, of_rule, of_rule-key, of_rule-wild, passing_plain}
 use Rattle.dia_breaking_levels.proofs.RuleSums.{sum_of}
 use Rattle.dia_breaking_levels.proofs.ShownFew.{as_many, neither_of, no_key, one_rule_most, unless_false, unless_true}
 use Rattle.dia_breaking_levels.proofs.ShownFillers.{cheapest_unlisted, inner_first_found}

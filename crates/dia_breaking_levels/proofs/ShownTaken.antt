@@ -1,5 +1,5 @@
 -- Where steps are taken up to their cut, so many AVPs are taken as are wanted.
-use Rattle.std.proofs.Common.{◌≡◌, ℕ, zero, suc, ◌+◌, ◌-◌, ◌*◌, ◌<◌, ◌≤◌, Bool, true, false, List, [], ◌∷◌, ◌++◌, refl, sym, ap, subst, ◌∙◌, arith, inl, inr}
+use Rattle.std.proofs.Common.{◌≡◌, ℕ, zero, suc, ◌+◌, ◌-◌, ◌*◌, ◌<◌, ◌≤◌, Bool, true, false, List, [], ◌∷◌, ◌++◌, refl, sym, ap, ◌∙◌, arith, inl, inr}
 use Rattle.std.specs.Prelude.{◌⊎◌, min, max, nat_lt, ◌==◌, fold, sum_by, if◌then◌else◌}
 use Rattle.std.proofs.Math.Nat.{mul-le-mul_left, mul_comm, zero-mul}
 use Rattle.std.proofs.lemmas.Bool.{eqb-true, eq-eqb, ltb-true, ltb-false}
@@ -10,8 +10,8 @@ use Rattle.dia_breaking_levels.specs.declared.cut.Cut.{Cut}
 use Rattle.dia_breaking_levels.specs.declared.steps.Step.{Step}
 use Rattle.dia_breaking_levels.specs.Chosen.{cut_behind, taken_of}
 use Rattle.dia_breaking_levels.specs.Cuts.{IsCut, shorter, steps_at}
-use Rattle.dia_breaking_levels.specs.LevelTests.{too_long, capped, many}
-use Rattle.dia_breaking_levels.specs.Steps.{IsTakenInOrder, length_taken, take_step, taken}
+use Rattle.dia_breaking_levels.specs.LevelTests.{too_long}
+use Rattle.dia_breaking_levels.specs.Steps.{IsTakenInOrder, length_taken, take_step}
 use Rattle.dia_breaking_levels.proofs.TakenBounds.{next_sum, taken_grows}
 
 -- how many AVPs the steps have, and how many of one length

@@ -1,6 +1,6 @@
 use Rattle.std.proofs.Common.{◌≡◌, List, sym, subst, ap, ◌∙◌}
 use Rattle.std.proofs.lemmas.Option.{same_Some}
-use Rattle.dia_data.specs.Plain.{PlainFormat, plain_format}
+use Rattle.dia_data.specs.Plain.{plain_format}
 use Rattle.dia_book.specs.declared.DRule.{DRule}
 use Rattle.dia_book.specs.Dictionary.{PlainDefinition, plain_definition}
 use Rattle.dia_breaking_avps.specs.Answers.{IsLevelAsLeaf}
