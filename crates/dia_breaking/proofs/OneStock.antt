@@ -5,10 +5,8 @@ use Rattle.std.proofs.Props.{props}
 use Rattle.dia_wire.specs.declared.Key.{Key}
 use Rattle.dia_breaking_shortest.proofs.OneLeast.{one_least_avp}
 use Rattle.dia_breaking_shortest.proofs.OneSolution.{lengths_are_one}
-use Rattle.dia_breaking.specs.declared.line.Line.{Line}
-use Rattle.dia_breaking.specs.declared.line.Site.{Site}
-use Rattle.dia_breaking.specs.Lengths.{AreEntryLengths, AreExactlyOthers, Costs, IsLeastFor, costs_by}
-use Rattle.dia_breaking.specs.Messages.{IsLineMessage, Stock, shortest_avp}
+use Rattle.dia_breaking.specs.Lengths.{AreEntryLengths, AreExactlyOthers, IsLeastFor, costs_by}
+use Rattle.dia_breaking.specs.Messages.{Stock, shortest_avp}
 use Rattle.dia_breaking.specs.Sides.{Sides}
 use Rattle.dia_breaking.specs.Stocks.{IsStockOf, StocksMakeOneMessage}
 use Rattle.dia_breaking.proofs.OneMessage.{one_by}
