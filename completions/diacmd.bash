@@ -17,14 +17,14 @@ _diacmd() {
         *:breaking:--unknown) words='kept refused' ;;
         *:breaking:--sends) words='any known listed' ;;
         *) case $command:$word in
-            show:-*) words='--quiet --dict --as-text --names --values --json -h --help' ;;
+            show:-*) words='--quiet --dict --as-text --names --values --lines --json -h --help' ;;
             make:-*) words='--quiet --dict -h --help' ;;
             check:-*) words='--quiet --unknown --levels --lines --stream --json -h --help' ;;
             render:-*) words='--quiet -h --help' ;;
             compare:-*) words='--quiet --unknown --json -h --help' ;;
             refute:-*) words='--quiet --unknown --levels --lines --json -h --help' ;;
             propose:-*) words='--quiet --unknown --json -h --help' ;;
-            breaking:-*) words='--quiet --unknown --sends --messages --once --meaning --accepted -h --help' ;;
+            breaking:-*) words='--quiet --unknown --sends --messages --once --meaning --accepted --json -h --help' ;;
         esac ;;
     esac
     if [ -n "$words" ]; then

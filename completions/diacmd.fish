@@ -18,6 +18,7 @@ complete -c diacmd -n '__fish_seen_subcommand_from show' -l dict -r -F -d 'The d
 complete -c diacmd -n '__fish_seen_subcommand_from show' -l as-text -d 'Prints the message as a text that make reads'
 complete -c diacmd -n '__fish_seen_subcommand_from show' -l names -d 'Prints flags as letters, the name of the command, dates, and texts as texts, with levels indented'
 complete -c diacmd -n '__fish_seen_subcommand_from show' -l values -x -d 'The words of numbers, as lines AVP-NAME NUMBER WORD: a file, @none, or - for standard input'
+complete -c diacmd -n '__fish_seen_subcommand_from show' -l lines -d 'Prints the message of each line, behind the number of the line'
 complete -c diacmd -n '__fish_seen_subcommand_from show' -l json -d 'Prints each answer as a JSON object, a line each'
 complete -c diacmd -n '__fish_seen_subcommand_from show' -s h -l help -d 'Print help'
 complete -c diacmd -n '__fish_seen_subcommand_from make' -F
@@ -66,5 +67,6 @@ complete -c diacmd -n '__fish_seen_subcommand_from breaking' -l messages -d 'Pri
 complete -c diacmd -n '__fish_seen_subcommand_from breaking' -l once -d 'Prints one line a cause, with the number of commands that have it, and the first place'
 complete -c diacmd -n '__fish_seen_subcommand_from breaking' -l meaning -d 'Prints too which AVPs are read as another format'
 complete -c diacmd -n '__fish_seen_subcommand_from breaking' -l accepted -x -d 'Lines that are known, as this command prints them, which aren\'t printed: a file, @none, or - for standard input'
+complete -c diacmd -n '__fish_seen_subcommand_from breaking' -l json -d 'Prints each answer as a JSON object, a line each'
 complete -c diacmd -n '__fish_seen_subcommand_from breaking' -s h -l help -d 'Print help'
 complete -c diacmd -n '__fish_seen_subcommand_from help' -a 'show make check render compare refute propose breaking help'
