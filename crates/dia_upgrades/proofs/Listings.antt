@@ -120,7 +120,7 @@ pub any_told : (place : ℕ) (messages : Bool) (words : Line → List ℕ) (are 
     → (told : List PlainTold) × AreParts (IsLineTold place messages words are) lines told
 any_told place messages words are some lines =
     all_parts (IsLineTold place messages words are) (λ x. told_as place (words x) (message_behind (has_message messages x.standing) (some x).0) ∷ [])
-    (λ x. could_be place messages words are x (some x).0 (some x).1) lines
+    (λ x. could_be place messages words are x (some x).0 ((some x).1, (some x).2)) lines
 
 from_here : {X : Type 0} (xs : List X) (i : ℕ) (d : X) → i < length xs → take i xs ++ (get_or xs i d ∷ drop (i + 1) xs) ≡ xs
 from_here xs i d less =
@@ -150,7 +150,7 @@ module _ (asked : Asked) (place : ℕ) (messages : Bool) (words : Line → List 
       let one = told_as place (words x) (message_behind (has_message messages x.standing) (some x).0) ∷ [] in record {
         more = [];
         rest = one;
-        are_parts = (one, [], could_be place messages words are x (some x).0 (some x).1, refl, sym (append-nil one));
+        are_parts = (one, [], could_be place messages words are x (some x).0 ((some x).1, (some x).2), refl, sym (append-nil one));
         stops = stops_here asked place put old new same;
       }
 

@@ -15,7 +15,7 @@ returns-then-has g c =
     let some = some_bytes (sides_of up) (stock_of up) c.args.breaks.now.command c.args.breaks.now.sites.items line in
     record {
       message = message_behind has some.0;
-      is_behind = stands_behind (IsMessageIn up c.args.breaks.now line) has some.0 some.1;
+      is_behind = stands_behind (IsMessageIn up c.args.breaks.now line) has some.0 (some.1, some.2);
       is_kept = λ forgets told command visits are. inr (sym (c.has.ensures forgets told command visits are) ∙ c.if-has.true);
     }
 

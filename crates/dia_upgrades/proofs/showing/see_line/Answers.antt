@@ -25,7 +25,7 @@ returns-then-known g c =
     let t = told_as place (words line) (message_behind (has_message asked.messages line.standing) some.0) in
     let judged = c.in_ok-known.ensures in (
       t,
-      could_be place asked.messages words (IsMessageIn up c.args.breaks.now) line some.0 some.1,
+      could_be place asked.messages words (IsMessageIn up c.args.breaks.now) line some.0 (some.1, some.2),
       sees_accepted asked place c.args.seen.now c.judge.new.self t c.as_str-told.result.now c.in_ok-known.known (sym told) judged.accepted judged.judged judged.causes judged.meanings c.if-known.true,
     )
 
