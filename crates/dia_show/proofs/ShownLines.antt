@@ -108,7 +108,7 @@ values_or_not input words (bads.Limit n) (text, held, utf8, fine, is) (other, he
 
 same_answers : (answers : List Answer) → map (λ (a : Answer). a) answers ≡ answers
 same_answers [] = refl
-same_answers (a ∷ as) = ap (λ (xs : List Answer). a ∷ xs) (same_answers as)
+same_answers (a ∷ rest) = ap (λ (xs : List Answer). a ∷ xs) (same_answers rest)
 
 module _ (names : Bool) (inputs : Inputs) (m : Manner) (d : Dictionary) (is_d : IsDictionaryText inputs.first d) (are_words : IsValuesText inputs.table m.words) (is_names : m.names ≡ names) where
   stands : (told : List ℕ) → ¬ RefusesInputs inputs told
