@@ -43,7 +43,7 @@ no_place {X} p (y ∷ ys) none = by (position p (y ∷ ys)) refl
 
 -- where no member among so many passes, and there are no more
 pub none_named_at : {X : Type 0} (p : X → Bool) (xs : List X) (i : ℕ) → length xs ≤ i → list_any p (take i xs) ≡ false → position p xs ≡ None
-none_named_at {X} p xs i all none = no_place p xs (subst (λ (ys : List X). list_any p ys ≡ false) (take_all xs i all) none)
+none_named_at {X} p xs i all none = no_place p xs (subst (λ (ys : List X). list_any p ys ≡ false) (take_all i xs all) none)
 
 -- ---- commands
 

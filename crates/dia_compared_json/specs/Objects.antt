@@ -1,5 +1,5 @@
 -- Parts of dictionaries as JSON values (RFC 8259), whose members stand in this order.
-use Rattle.std.specs.Prelude.{ℕ, Bool, true, false, List, [], ◌∷◌, map, Option, None, Some, codes, option_and_then}
+use Rattle.std.specs.Prelude.{ℕ, Bool, false, List, [], ◌∷◌, map, Option, None, Some, codes, option_and_then}
 use Rattle.std.specs.Borrow.{Bor}
 use Rattle.std.specs.Option.{option_map, option_map_or}
 use Rattle.serde_json.specs.Data.{Data, Items, Members, array, boolean, item, member, no_items, no_members, null, number, object, string, unsigned}
@@ -13,7 +13,7 @@ use Rattle.dia_book.specs.declared.Pxy.{Pxy}
 use Rattle.dia_book.specs.declared.Pxy.TheVariants.{Clear, Set, Either}
 use Rattle.dia_book.specs.declared.Class.TheVariants.{Request}
 use Rattle.dia_book.specs.declared.DefHead.{DefHead}
-use Rattle.dia_book.specs.declared.DefHead.TheVariants.{Group, Command, Error}
+use Rattle.dia_book.specs.declared.DefHead.TheVariants.{Command}
 use Rattle.dia_book.specs.declared.DRule.{DRule}
 use Rattle.dia_book.specs.declared.Definition.{Definition}
 use Rattle.dia_book.specs.Dictionary.{Dictionary, DictEntry, PlainDefinition, is_fixed, plain_definition, same_class}

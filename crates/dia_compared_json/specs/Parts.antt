@@ -41,8 +41,11 @@ rules_of s = option_map_or (λ c. c.rules) s.definition []
 -- ---- the text of a part
 
 -- a rule by its place, from 0. Where there is none it is null
+abbrev pub rule_of : Dictionary → List DRule → ℕ → Data
+rule_of d rules i = option_map_or (λ r. object (rule_members d (i + 1) r)) (slice_get rules i) null
+
 abbrev pub rule_value : Side → Option ℕ → Data
-rule_value s place = option_map_or (λ i. option_map_or (λ r. object (rule_members s.dictionary (i + 1) r)) (slice_get (rules_of s) i) null) place null
+rule_value s place = option_map_or (rule_of s.dictionary (rules_of s)) place null
 
 abbrev pub part_value : Side → Part → Data
 part_value s part.Nothing = null

@@ -1,6 +1,6 @@
 //! `compare` as JSON.
 
-ghost use Rattle.std.specs.Prelude.{◌≡◌, IfOk, string_bytes};
+ghost use Rattle.std.specs.Prelude.{IfOk, string_bytes};
 ghost use Rattle.dia_compat.specs.Closed.{IsFirstFailure, IsTableAnswer};
 ghost use Rattle.dia_compat.specs.TableText.{plain_table};
 ghost use Rattle.dia_json.specs.Runs.{TellsBad};

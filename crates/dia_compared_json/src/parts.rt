@@ -3,14 +3,14 @@
 ghost use Rattle.std.specs.Prelude.{◌≡◌, IfOk, slice_get, string_bytes};
 ghost use Rattle.serde_json.specs.Written.{compact_text};
 ghost use Rattle.dia_compared_json.specs.Objects.{command_value};
-ghost use Rattle.dia_compared_json.specs.Parts.{part_value, rule_value};
+ghost use Rattle.dia_compared_json.specs.Parts.{part_value, rule_of, rule_value};
 
 use crate::arrays::null_text;
 use crate::commands::command_or_null;
 use crate::declarations::{avp_text, declared_text};
 use crate::rules::rule_text;
 use crate::sides::Side;
-use dia_book::{Book, Key};
+use dia_book::{Book, DRule, Key};
 use std::alloc::{AllocError, Global};
 
 /// A part of a dictionary that a failing shows. Rules and commands are told by their places, from 0.
@@ -57,14 +57,25 @@ fn rule_or_null<B: Book>(
 ) -> Result<String, AllocError>
     ensures { IfOk result (λ text. string_bytes text ≡ compact_text (rule_value side.now place)) }
 {
-    let Some(place) = place else {
-        return null_text(alloc);
-    };
-    let rules = side.rules();
-    if place < rules.len() {
-        rule_text(alloc, side.book(), place + 1, &rules[place])
-    } else {
-        null_text(alloc)
+    match place {
+        Some(place) => rule_at(alloc, side.book(), side.rules(), place),
+        None => null_text(alloc),
+    }
+}
+
+/// The rule at a place.
+fn rule_at<B: Book>(
+    alloc: Global,
+    book: &B,
+    rules: &[DRule],
+    place: usize,
+) -> Result<String, AllocError>
+    ensures { IfOk result (λ text. string_bytes text
+        ≡ compact_text (rule_of (B.meaning book.now) rules.now place)) }
+{
+    match rules.get(place) {
+        Some(rule) => rule_text(alloc, book, place + 1, rule),
+        None => null_text(alloc),
     }
 }
 
