@@ -151,7 +151,7 @@ where
                 form: Form::Text,
                 names: names.as_slice(),
             };
-            list(rt, asked, inputs, origins, manner)
+            list(rt, asked, inputs, origins, quiet)
         }
         Task::CheckLines { unknown, levels } => {
             let capture = Capture::new(Lines::Checked, *unknown, *levels);
@@ -222,20 +222,15 @@ fn list<'a, R>(
     asked: Asked<'_>,
     inputs: &Inputs,
     origins: &Origins<'a>,
-    manner: Manner,
+    quiet: bool,
 ) -> Result<Reported, Ending<'a>>
 where
     R: AllocGlobal + Print + Eprint,
 {
     let mut sink = ToWriter::new(io::writer(rt));
-    let found = if manner.json {
-        dia_upgrades_json::breaking(rt.alloc(), asked, inputs, &mut sink)
-    } else {
-        breaking(rt.alloc(), asked, inputs, &mut sink)
-    };
-    match found {
+    match breaking(rt.alloc(), asked, inputs, &mut sink) {
         Ok(listed) => {
-            if !manner.quiet {
+            if !quiet {
                 let texts = texts_of(origins, inputs);
                 note_upgrade(rt, &texts, asked, inputs, &listed.report);
             }

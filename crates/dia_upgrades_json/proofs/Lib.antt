@@ -1,3 +1,0 @@
-mod Forms
-mod Reports
-mod Written

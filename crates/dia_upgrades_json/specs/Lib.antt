@@ -1,4 +1,0 @@
-pub mod Begun
-pub mod Objects
-pub mod Outcome
-pub mod UnderWay
