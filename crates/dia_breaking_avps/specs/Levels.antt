@@ -38,10 +38,18 @@ HasEightBytes format = ⊥
 abbrev pub AskForNone : List DRule → Type 0
 AskForNone rules = All (λ rule. rule.min ≡ 0) rules
 
+-- the least code whose first two bytes are 1, the family of IPv4: 0x00010000
+abbrev pub first_family : ℕ
+first_family = 65536
+
+-- the least code behind those whose first two bytes are 2, the family of IPv6: 0x00030000
+abbrev pub past_families : ℕ
+past_families = 196608
+
 -- the first two bytes of the code are 1 or 2: read as an Address, such an AVP begins one of IPv4 or IPv6, of 6 or of 18 bytes (section 4.3.1). No level
 -- has as many
 abbrev pub IsFamily : ℕ → Type 0
-IsFamily code = (65536 ≤ code) × (code < 196608)
+IsFamily code = (first_family ≤ code) × (code < past_families)
 
 -- nor has an AVP that no rule lists such a code, as the dictionary's side sends it
 abbrev pub OthersHaveNone : Dictionary → Sends → Type 0

@@ -61,11 +61,12 @@ fn others_have_none<A: Book>(a: &A, sends: Sends) -> bool
 fn entries_have_none<A: Book>(a: &A) -> bool
     ensures { IsTrue result ↔ All (λ e. ¬ IsFamily e.key.code) (A.meaning a.now).entries }
 {
-    let mut have_none = true;
     for index in 0..a.entries() {
-        have_none = have_none && !is_family(a.entry_key(a.entry_at(index)).code);
+        if is_family(a.entry_key(a.entry_at(index)).code) {
+            return false;
+        }
     }
-    have_none
+    true
 }
 
 /// Whether the first two bytes of the code are the number of a family.

@@ -30,10 +30,9 @@ pub fn avp_breaks<A: Book, B: Book>(
     ensures alone { IsSilent result
         → FitKeyAlone (A.meaning a.now) (B.meaning b.now) sends unknown key }
 {
-    AvpBreaks {
-        head: head_break(a, b, key, sends, unknown),
-        data: data_break(a, b, key, sends),
-    }
+    let head = head_break(a, b, key, sends, unknown);
+    let data = data_break(a, b, key, sends);
+    AvpBreaks { head, data }
 }
 
 /// What breaks of the M flags.
