@@ -38,3 +38,5 @@ pub mod ShownTaken
 pub mod ShownMost
 pub mod ShownOrder
 pub mod ShownLines
+pub mod RoomForKeys
+pub mod RoomForLines

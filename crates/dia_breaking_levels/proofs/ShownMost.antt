@@ -115,7 +115,7 @@ outer_some other keys a b have = by (find (is_outside a b) keys)
 
 -- ---- what a cut takes of a step
 
-taken_longer : (cut : Cut) (size n : ℕ) → cut.length < size → taken_of cut size n ≡ 0
+pub taken_longer : (cut : Cut) (size n : ℕ) → cut.length < size → taken_of cut size n ≡ 0
 taken_longer cut size n longer = by (nat_lt size cut.length) (size == cut.length) refl refl
   where
     by : (t u : Bool) → nat_lt size cut.length ≡ t → (size == cut.length) ≡ u → (if t then n else if u then min n cut.left else 0) ≡ 0
@@ -123,7 +123,7 @@ taken_longer cut size n longer = by (nat_lt size cut.length) (size == cut.length
     by false true e g = let same = eqb-true size cut.length g in absurd (omega (arith, same, longer))
     by false false e g = refl
 
-taken_none : (cut : Cut) (size : ℕ) → taken_of cut size 0 ≡ 0
+pub taken_none : (cut : Cut) (size : ℕ) → taken_of cut size 0 ≡ 0
 taken_none cut size = by (nat_lt size cut.length) (size == cut.length)
   where
     by : (t u : Bool) → (if t then 0 else if u then min 0 cut.left else 0) ≡ 0

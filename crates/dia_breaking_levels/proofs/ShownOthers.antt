@@ -77,7 +77,7 @@ needed_counted listed low a b have room =
     let up = needed_is b a in
     (omega (arith, room, exact, le, up), omega (arith, room, exact, le))
 
-refilled_base : (base low length m : ℕ) (wild : Option DRule) → low ≤ length → refilled base low length m wild < too_long → base < too_long
+pub refilled_base : (base low length m : ℕ) (wild : Option DRule) → low ≤ length → refilled base low length m wild < too_long → base < too_long
 refilled_base base low length m None le short = short
 refilled_base base low length m (Some w) le short =
     let more = mul-le-mul_left (w.min - m) le in

@@ -8,6 +8,7 @@ use Rattle.dia_breaking_levels.specs.declared.line.Part.{Part}
 use Rattle.dia_breaking_levels.specs.Chosen.{IsLineLevel, reads_between}
 use Rattle.dia_breaking_levels.specs.Exact.{AreLevelLines}
 use Rattle.dia_breaking_levels.specs.LeastLevels.{copies}
+use Rattle.dia_breaking_levels.specs.LevelTests.{price, too_long}
 use Rattle.dia_breaking_levels.specs.Levels.{ShowsAt}
 
 -- the keys of the AVPs that parts stand for, in their order
@@ -24,3 +25,9 @@ abbrev pub LinesAreShown : Type 0
 LinesAreShown = (listed other : Key → ℕ) (keys : List Key) (a b : List DRule) (lines : List Line) (line : Line) (parts : List Part)
     → AreRules a → AreRules b → HaveLengths listed → HaveLengths other → AreLevelLines listed other keys a b lines → Contains lines line
     → IsLineLevel (reads_between a b listed other keys) line parts → ShowsAt a b (part_keys parts) line.reason line.key
+
+-- and messages have room for each of its AVPs
+abbrev pub LinesHaveRoom : Type 0
+LinesHaveRoom = (listed other : Key → ℕ) (keys : List Key) (a b : List DRule) (lines : List Line) (line : Line) (parts : List Part)
+    → AreRules a → AreRules b → HaveLengths listed → HaveLengths other → AreLevelLines listed other keys a b lines → Contains lines line
+    → IsLineLevel (reads_between a b listed other keys) line parts → (key : Key) → Contains (part_keys parts) key → price listed other a key < too_long

@@ -3,7 +3,7 @@ ghost use Rattle.dia_breaking_levels.specs.Laws.{DefinitionsAreSound, PlacedIsIn
 ghost use Rattle.dia_breaking_levels.specs.Laws.{BreachIsUnplaced, PlanIsPlaced, PlanIsLeast, OnceIsLeast};
 ghost use Rattle.dia_breaking_levels.specs.Chosen.{EachLineHasALevel, LineLevelsAreOne};
 ghost use Rattle.dia_breaking_levels.specs.Laws.{LinesAreOne};
-ghost use Rattle.dia_breaking_levels.specs.Showing.{LinesAreShown};
+ghost use Rattle.dia_breaking_levels.specs.Showing.{LinesAreShown, LinesHaveRoom};
 
 /// The rules of a dictionary's definitions are as the other laws want them.
 pub fn definitions_are_sound()
@@ -46,4 +46,9 @@ pub fn line_levels_are_one()
 /// The level that is written for a line shows it.
 pub fn lines_are_shown()
     ensures { LinesAreShown }
+{}
+
+/// Messages have room for each AVP of the level that is written for a line.
+pub fn lines_have_room()
+    ensures { LinesHaveRoom }
 {}

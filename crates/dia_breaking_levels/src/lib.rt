@@ -20,7 +20,7 @@ mod steps;
 pub use costs::Costs;
 pub use laws::{
     breaches_are_all, definitions_are_sound, line_levels_are_one, lines_are_one, lines_are_shown,
-    once_is_least, placed_is_in_place, plan_is_least,
+    lines_have_room, once_is_least, placed_is_in_place, plan_is_least,
 };
 pub use lengths::TOO_LONG;
 pub use levels::level_lines;

@@ -26,7 +26,7 @@ ranks : (f : Key → ℕ) (entries : List DictEntry) → AllByRecursion (λ r. r
 ranks f [] = tt
 ranks f (e ∷ entries) = (refl, ranks f entries)
 
-own_lengths : (f : Key → ℕ) (entries : List DictEntry) (order : List Ranked) → IsOrder f entries order → All (λ r. r.length ≡ f r.key) order
+pub own_lengths : (f : Key → ℕ) (entries : List DictEntry) (order : List Ranked) → IsOrder f entries order → All (λ r. r.length ≡ f r.key) order
 own_lengths f entries order are =
     All-permutation (λ (r : Ranked). r.length ≡ f r.key) (map (rank f) entries) order are.all (All-from_recursion (λ (r : Ranked). r.length ≡ f r.key) (map (rank f) entries) (ranks f entries))
 

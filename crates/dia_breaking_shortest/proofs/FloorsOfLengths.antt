@@ -51,7 +51,7 @@ first_is_least f x xs y sorted i =
 rest_sorted : {X : Type 0} (f : X → ℕ) (x : X) (xs : List X) → IsNonDecreasingBy f (x ∷ xs) → IsNonDecreasingBy f xs
 rest_sorted f x xs sorted = λ i j z le within. sorted (suc i) (suc j) z (omega (arith, le)) (omega (arith, within))
 
-found_is_least : (p : Ranked → Bool) (xs : List Ranked) (y : Ranked) → IsNonDecreasingBy (λ r. r.length) xs → IsIn y xs → p y ≡ true → filler_length (find p xs) ≤ y.length
+pub found_is_least : (p : Ranked → Bool) (xs : List Ranked) (y : Ranked) → IsNonDecreasingBy (λ r. r.length) xs → IsIn y xs → p y ≡ true → filler_length (find p xs) ≤ y.length
 found_is_least p [] y sorted i t = absurd i
 found_is_least p (x ∷ xs) y sorted i t = by (p x) refl i (found_is_least p xs y (rest_sorted (λ (r : Ranked). r.length) x xs sorted))
   where

@@ -5,9 +5,11 @@ pub mod BytesOfAvps
 pub mod ExactLengths
 pub mod FloorsOfAvps
 pub mod FloorsOfLengths
+pub mod KeptSizes
 pub mod LeafData
 pub mod LeafLengths
 pub mod LeastBytes
+pub mod LengthsBelow
 pub mod LessLengths
 pub mod LessLevels
 pub mod MandatoryFlags
@@ -16,5 +18,7 @@ pub mod OneOrder
 pub mod OneSolution
 pub mod ShortestAvps
 pub mod ShortestLevels
+pub mod SpelledBytes
+pub mod SpelledLeast
 pub mod Strangers
 pub mod WaitingAvps

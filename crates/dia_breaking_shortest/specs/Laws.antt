@@ -3,7 +3,7 @@ use Rattle.std.specs.Prelude.{◌≡◌, ℕ, ◌+◌, ◌<◌, ◌≤◌, List,
 use Rattle.std.specs.List.{AllByRecursion}
 use Rattle.dia_wire.specs.declared.Key.{Key}
 use Rattle.dia_wire.specs.Lengths.{header_length, three_bytes}
-use Rattle.dia_wire.specs.Wire.{PlainAvp, key_of, padded_length}
+use Rattle.dia_wire.specs.Wire.{PlainAvp, Spells, key_of, padded_length}
 use Rattle.dia_data.specs.Leaf.{IsLeaf}
 use Rattle.dia_book.specs.Dictionary.{Dictionary, DictEntry, PlainDefinition, IsDictionary}
 use Rattle.dia_check.specs.Valid.{known}
@@ -56,3 +56,14 @@ LeastAvpsAreOne = (d : Dictionary) (who : Sends) (least other : Least) → IsLea
 
 abbrev pub LeastAvpsAreBytes : Type 0
 LeastAvpsAreBytes = (d : Dictionary) (least : Least) (key : Key) → AreBytes (least_avp d least key)
+
+-- the bytes of a shortest AVP that a message has room for spell one AVP, of its key and of the length that is computed
+pub record IsOneAvp (key : Key) (n : ℕ) (bytes : List ℕ) : Type 0 where
+  pub avp : PlainAvp
+  pub is_key : key_of avp ≡ key
+  pub spells : Spells avp bytes
+  pub size : length bytes ≡ n
+
+abbrev pub LeastAvpsAreSpelled : Type 0
+LeastAvpsAreSpelled = (d : Dictionary) (who : Sends) (least : Least) → IsLeastOf d who least → (key : Key) → IsSpellable key → length_of d who least.lengths.items key < too_long
+    → IsOneAvp key (length_of d who least.lengths.items key) (least_avp d least key)

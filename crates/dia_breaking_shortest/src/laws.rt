@@ -1,7 +1,7 @@
 //! What holds of all that a side sends.
 ghost use Rattle.dia_breaking_shortest.specs.Laws.{GroupIsAttained, LeafIsAttained, LengthIsAttained};
 ghost use Rattle.dia_breaking_shortest.specs.Laws.{LengthsAreOne, NoAvpIsShorter, NoMessageIsShorter};
-ghost use Rattle.dia_breaking_shortest.specs.Laws.{LeastAvpsAreBytes, LeastAvpsAreOne, UnknownIsAttained};
+ghost use Rattle.dia_breaking_shortest.specs.Laws.{LeastAvpsAreBytes, LeastAvpsAreOne, LeastAvpsAreSpelled, UnknownIsAttained};
 
 /// No AVP that is sent is shorter than a floor of its key says, with its padding.
 pub fn no_avp_is_shorter()
@@ -42,4 +42,9 @@ pub fn length_is_attained()
 pub fn least_avps_are_one()
     ensures one { LeastAvpsAreOne }
     ensures bytes { LeastAvpsAreBytes }
+{}
+
+/// The bytes of a shortest AVP spell one AVP of its key, which has the length that is computed, where a message has room for it.
+pub fn least_avps_are_spelled()
+    ensures { LeastAvpsAreSpelled }
 {}

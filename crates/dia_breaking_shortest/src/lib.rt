@@ -14,8 +14,9 @@ mod writing;
 
 pub use finding::least_lengths;
 pub use laws::{
-    group_is_attained, leaf_is_attained, least_avps_are_one, length_is_attained, lengths_are_one,
-    no_avp_is_shorter, no_message_is_shorter, unknown_is_attained,
+    group_is_attained, leaf_is_attained, least_avps_are_one, least_avps_are_spelled,
+    length_is_attained, lengths_are_one, no_avp_is_shorter, no_message_is_shorter,
+    unknown_is_attained,
 };
 pub use lengths::shortest_head;
 pub use lookup::Least;
