@@ -9,9 +9,9 @@ use Rattle.dia_policy.specs.declared.Sends.{Sends}
 use Rattle.dia_policy.specs.declared.Sends.TheVariants.{Any, Known, Listed}
 use Rattle.dia_breaking_levels.specs.LevelTests.{too_long}
 use Rattle.dia_breaking_levels.specs.Showing.{HaveLengths}
+use Rattle.dia_breaking_shortest.specs.Exact.{AreExact}
 use Rattle.dia_breaking_shortest.proofs.OneSolution.{lengths_are_one}
 use Rattle.dia_breaking.specs.Lengths.{Costs, costs_by, length_of_entry, listed_length, other_length, unknown_length, AreEntryLengths, AreExactlyOthers}
-use Rattle.dia_breaking.specs.ShownLevels.{AreCostsOf}
 use Rattle.dia_breaking.specs.Sides.{Sides}
 use Rattle.dia_breaking.specs.TheLines.{AreFacts, Facts, costs_in}
 use Rattle.dia_breaking.proofs.OneSolution.{one_list_of_others}
@@ -41,6 +41,11 @@ pub have_other : (d : Dictionary) (who : Sends) (lengths : List ℕ) → HaveLen
 have_other d Any lengths key = have_listed d Any lengths key
 have_other d Known lengths key = have_listed d Known lengths key
 have_other d Listed lengths key = omega arith
+
+-- these are what the AVPs of the sender's side take
+abbrev pub AreCostsOf : Sides → Costs → Type 0
+AreCostsOf s k = (least : List ℕ) × (lengths : List ℕ) × (others : List Key) × AreExact s.sender s.sends least × AreEntryLengths s.sender least lengths
+    × AreExactlyOthers s.sender s.receiver s.sends lengths others × (k ≡ costs_by s.sender s.sends lengths others)
 
 -- those that the lines were made by are those of the sender's side
 pub one_costs : (s : Sides) (made : Facts) (k : Costs) → AreFacts s made → AreCostsOf s k → k ≡ costs_in s made

@@ -16,7 +16,9 @@ use Rattle.dia_breaking_avps.specs.declared.breaking.HeadBreak.{HeadBreak}
 use Rattle.dia_breaking_avps.specs.declared.breaking.HeadBreak.TheVariants as head_breaks
 use Rattle.dia_breaking_avps.specs.declared.breaking.DataBreak.TheVariants.{EightBytes, Undecided}
 use Rattle.dia_breaking_avps.specs.Breaks.{IsDataBreak}
-use Rattle.dia_breaking_shortest.specs.Exact.{AreExact}
+use Rattle.dia_breaking_avps.specs.Sent.{IsAcceptedData}
+use Rattle.dia_breaking_shortest.specs.declared.lookup.Least.{Least}
+use Rattle.dia_breaking_shortest.specs.Bytes.{least_avp}
 use Rattle.dia_breaking_levels.specs.declared.line.Line.{Line as LevelLine}
 use Rattle.dia_breaking_ways.specs.declared.graph.Step.{Step}
 use Rattle.dia_breaking.specs.declared.heads.Head.{Head}
@@ -29,11 +31,13 @@ use Rattle.dia_breaking.specs.declared.own_lines.Kind.TheVariants as kinds
 use Rattle.dia_breaking.specs.declared.readings.Reading.{Reading}
 use Rattle.dia_breaking.specs.Listing.{Told, command_levels, flag_causes, group_levels, head_cause, header_causes, header_line, header_lines, level_lines, new_line, refusal, subject, tells, unchecked, with_room}
 use Rattle.dia_breaking.specs.Orders.{IsInOrderOf, joined, of_each}
-use Rattle.dia_breaking.specs.Lengths.{AreEntryLengths, listed_length}
-use Rattle.dia_breaking.specs.OwnBreaks.{HasLeast, HaveDataBreaks, IsOwnBreaks, TellData, TellsData, eight_cause, leaves_eight}
+use Rattle.dia_breaking.specs.Lengths.{IsLeastFor, listed_length}
+use Rattle.dia_breaking.specs.OwnBreaks.{HasLeast, HaveDataBreaks, IsOwnBreaks, OfLeast, TellData, TellsData, eight_cause, leaves_eight}
 use Rattle.dia_breaking.specs.Sites.{other_head}
 use Rattle.dia_breaking.specs.Sides.{sides}
+use Rattle.dia_breaking.specs.Tried.{IsRefusedBy, IsToldOfTry, TakesAsLeaf, data_of}
 use Rattle.dia_breaking.proofs.Lists.{all_in, all_more, contains_at, same_image}
+use Rattle.dia_breaking.proofs.Tried.{accepted_taken, left_open}
 
 -- ---- members
 
@@ -175,23 +179,33 @@ module _ (da db : Dictionary) (who : Sends) (u : Unknown) where
   with_size None size own = tt
   with_size (Some cause) size own = own
 
-  pub have_data : (least lengths : List ℕ) → AreExact da who least → AreEntryLengths da least lengths → (own : List OwnBreaks)
-      → All (IsOwnBreaks (sides da db who u) (listed_length da who lengths)) own → HaveDataBreaks (sides da db who u) own
-  have_data least lengths exact same own all i d within = let is = all i d within in (is.content, (least, lengths, exact, same, is.least))
+  pub have_data : (least : Least) (lengths : List ℕ) → IsLeastFor da who least lengths → (own : List OwnBreaks) → All (IsOwnBreaks (sides da db who u) (listed_length da who lengths)) own
+      → HaveDataBreaks (sides da db who u) least lengths own
+  have_data least lengths is_least own all i d within = let is = all i d within in (is.content, (is_least, is.least))
 
   -- of a level that B reads as a leaf, where the data of a shortest AVP may have been tried
-  pub tried_tells : (key : Key) (cause : Cause) → (cause ≡ causes.Format key None) ⊎ (cause ≡ causes.LevelAsLeaf key) → IsDataBreak da db who u key Undecided → TellsData (sides da db who u) cause
-  tried_tells key cause (inl is) content = subst (TellsData (sides da db who u)) (sym is) (inr (inr content))
-  tried_tells key cause (inr is) content = subst (TellsData (sides da db who u)) (sym is) (inr content)
+  pub tried_tells : (least : Least) (lengths : List ℕ) (own : OwnBreaks) (cause : Cause)
+      → IsToldOfTry (TakesAsLeaf db own.key) own.key (least_avp da least own.key) (listed_length da who lengths own.key) cause → IsDataBreak da db who u own.key Undecided
+      → HasLeast (sides da db who u) least lengths own → TellsData (sides da db who u) cause
+  tried_tells least lengths own cause (inl (is, (short, not))) content of =
+      let refused : IsRefusedBy (IsAcceptedData db u own.key) own.key (least_avp da least own.key) (listed_length da who lengths own.key) =
+      (short, λ accepted. not (accepted_taken da db who u own.key content (data_of own.key (least_avp da least own.key)) accepted)) in
+      subst (TellsData (sides da db who u)) (sym is) (inr (inr (content, (least, lengths, of.0, refused))))
+  tried_tells least lengths own cause (inr (is, left)) content of =
+      let unsure = left_open da db who u own.key content (least_avp da least own.key) (listed_length da who lengths own.key) left in
+      subst (TellsData (sides da db who u)) (sym is) (inr (content, (least, lengths, of.0, unsure)))
 
   -- of a level that B reads as a leaf of eight bytes
-  pub eight_tells : (own : OwnBreaks) (cause : Cause) → cause ≡ eight_cause own → IsDataBreak da db who u own.key EightBytes → HasLeast (sides da db who u) own.key own.least
-      → TellsData (sides da db who u) cause
-  eight_tells own cause is content least = subst (TellsData (sides da db who u)) (sym is) (by (leaves_eight own.key own.least) refl)
+  pub eight_tells : (least : Least) (lengths : List ℕ) (own : OwnBreaks) (cause : Cause) → cause ≡ eight_cause own → IsDataBreak da db who u own.key EightBytes
+      → HasLeast (sides da db who u) least lengths own → TellsData (sides da db who u) cause
+  eight_tells least lengths own cause is content of = subst (TellsData (sides da db who u)) (sym is) (by (leaves_eight own.key own.least) refl)
     where
+      has : (b : Bool) → leaves_eight own.key own.least ≡ b → OfLeast (sides da db who u) own.key (λ bytes n. leaves_eight own.key n ≡ b)
+      has b e = (least, lengths, of.0, ap (leaves_eight own.key) (sym of.1) ∙ e)
+
       by : (b : Bool) → leaves_eight own.key own.least ≡ b → TellsData (sides da db who u) (if b then causes.LevelAsLeaf own.key else causes.Format own.key None)
-      by true e = inl (content, (own.least, least, e))
-      by false e = inr (inl (content, (own.least, least, e)))
+      by true e = inl (content, has true e)
+      by false e = inr (inl (content, has false e))
 
 pub when_on_ok : {X E : Type 0} (P Q : Type 0) (r : Result X E) → (P → Q) → OnOk r P → OnOk r Q
 when_on_ok P Q (Ok x) f h = f h

@@ -4,6 +4,7 @@ pub mod Shortest
 pub mod Confirmed
 mod Standings
 mod Unchecked
+mod Tried
 mod FormatData
 mod DataLines
 pub mod SentKeys
@@ -62,4 +63,10 @@ mod GapsInRanges
 mod LackingNumbers
 mod CostsOfSides
 mod ToldLevels
+mod ReadNumbers
 mod ShownLevels
+mod OwnTold
+mod SpelledLevels
+mod ShownAvps
+mod EachShown
+pub mod StockOfUpgrade

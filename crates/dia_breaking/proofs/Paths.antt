@@ -16,7 +16,7 @@ here sites most s at =
     ∙ ap (λ (o : Option Site). option_map_or (with_outer (path_below sites most)) o []) at
 
 -- no site has a number that is not below
-none_below : (sites : List Site) (most n : ℕ) → most ≤ n → path_below sites most n ≡ []
+pub none_below : (sites : List Site) (most n : ℕ) → most ≤ n → path_below sites most n ≡ []
 none_below sites zero n le = refl
 none_below sites (suc most) n le = past sites most n (λ e. omega (arith, e)) ∙ none_below sites most n (omega arith)
 

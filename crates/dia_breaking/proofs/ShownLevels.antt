@@ -1,6 +1,6 @@
 -- The messages of lines of levels show them.
 use Rattle.std.proofs.Common.{◌≡◌, ℕ, zero, suc, ◌+◌, ◌≤◌, Bool, true, false, take, List, [], ◌∷◌, ◌++◌, length, map, Option, Some, None, refl, sym, ap, subst, ◌∙◌, arith, inl, inr}
-use Rattle.std.specs.Prelude.{◌⊎◌, min, nat_le, is_some, IfSome, IsSome, MatchOption, slice_get, option_and_then, unwrap_or}
+use Rattle.std.specs.Prelude.{◌⊎◌, ◌^◌, ◌<◌, Contains, min, nat_le, is_some, IfSome, IsSome, MatchOption, slice_get, option_and_then, unwrap_or}
 use Rattle.std.specs.List.{filter_map}
 use Rattle.std.specs.Option.{option_map, option_map_or}
 use Rattle.std.proofs.lemmas.List.{length-map}
@@ -8,7 +8,7 @@ use Rattle.std.proofs.lemmas.Option.{none-some, same_Some, slice_get_within}
 use Rattle.dia_wire.specs.declared.Key.{Key}
 use Rattle.dia_book.specs.declared.Class.{Class}
 use Rattle.dia_book.specs.declared.DRule.{DRule}
-use Rattle.dia_book.specs.Dictionary.{Dictionary, DictEntry, PlainDefinition, entry_of, group_place, selected}
+use Rattle.dia_book.specs.Dictionary.{Dictionary, DictEntry, IsDictionary, PlainDefinition, entry_of, group_place, selected}
 use Rattle.dia_book.proofs.Members.{at_map, into_left, into_map, into_right}
 use Rattle.dia_policy.specs.declared.Levels.TheVariants as levels
 use Rattle.dia_policy.specs.declared.Sends.{Sends}
@@ -18,7 +18,7 @@ use Rattle.dia_rules.specs.Rules.{rules_in}
 use Rattle.dia_rules.proofs.GroupNumbers.{group_there}
 use Rattle.dia_rules.proofs.KnownKeys.{known_by_entry}
 use Rattle.dia_rules.proofs.Members.{IsIn, at_in, contains_in, in_append, in_at, in_contains, some_of, there_is}
-use Rattle.dia_breaking_sites.specs.Sent.{own_policy}
+use Rattle.dia_breaking_sites.specs.Sent.{AreBytes, own_policy}
 use Rattle.dia_breaking_sites.specs.Selection.{max_body}
 use Rattle.dia_breaking_avps.specs.Sent.{group_of}
 use Rattle.dia_breaking_levels.specs.declared.line.Line.{Line as LevelLine}
@@ -37,6 +37,7 @@ use Rattle.dia_breaking.specs.declared.exits.Outlook.{Outlook}
 use Rattle.dia_breaking.specs.declared.heads.Head.{Head}
 use Rattle.dia_breaking.specs.declared.line.Cause.{Cause}
 use Rattle.dia_breaking.specs.declared.line.Cause.TheVariants as causes
+use Rattle.dia_breaking.specs.declared.line.Line.{Line}
 use Rattle.dia_breaking.specs.declared.line.Site.{Site}
 use Rattle.dia_breaking.specs.declared.own_breaks.OwnBreaks.{OwnBreaks}
 use Rattle.dia_breaking.specs.declared.own_lines.Kind.{Kind}
@@ -48,21 +49,23 @@ use Rattle.dia_breaking.specs.Headers.{HasHead, head_in}
 use Rattle.dia_breaking.specs.Lengths.{Costs}
 use Rattle.dia_breaking.specs.Listing.{Told, Basis, IsListing, IsWalkFrom, basis_of, command_levels, group_levels, header_causes, header_line, header_lines, level_lines, lines_in, lines_of, numbers, own_lines, start_of, subject, tells}
 use Rattle.dia_breaking.specs.Mended.{BreaksOnceMended, is_of_header}
-use Rattle.dia_breaking.specs.Messages.{AreParts, IsAlone, IsInnermost, IsMessageFor, IsShowingLevel, command_head, group_number, header_bytes, levels_on, read_number, sent_number, shortest_avp}
+use Rattle.dia_breaking.specs.Messages.{AreParts, IsAlone, IsInnermost, IsMessageFor, IsShowingLevel, Stock, command_head, group_number, header_bytes, levels_on, read_number, sent_number, shortest_avp}
 use Rattle.dia_breaking.specs.Nodes.{node_in}
 use Rattle.dia_breaking.specs.Orders.{of_each}
 use Rattle.dia_breaking.specs.Outlooks.{group_rules}
 use Rattle.dia_breaking.specs.Readings.{AreReadings}
-use Rattle.dia_breaking.specs.ShownLevels.{LevelLinesAreShown, ShowsTold}
+use Rattle.dia_breaking.specs.ShownLines.{ShowsTold}
 use Rattle.dia_breaking.specs.Sides.{Sides, sides}
 use Rattle.dia_breaking.specs.Sites.{command_site, command_sites, group_site, group_sites, other_head, read_site, refused_site}
-use Rattle.dia_breaking.specs.TheLines.{AreFacts, AreIfRoom, AreLevels, AreLinesBetween, AreLinesOf, Facts, HasLevelLines, IsCommandLevel, IsStartOf, costs_in}
+use Rattle.dia_breaking.specs.TheLines.{AreFacts, AreIfRoom, AreLevels, AreLinesBetween, AreLinesOf, AreTheLines, Facts, HasLevelLines, IsCommandLevel, IsStartOf, costs_in}
+use Rattle.dia_breaking.specs.ToldMessages.{BreaksAsTold}
 use Rattle.dia_breaking.specs.Words.{head_at, path_to}
-use Rattle.dia_breaking.proofs.CostsOfSides.{have_listed, have_other, one_costs}
+use Rattle.dia_breaking.proofs.CostsOfSides.{AreCostsOf, have_listed, have_other, one_costs}
 use Rattle.dia_breaking.proofs.Lists.{all_in, contains_at}
 use Rattle.dia_breaking.proofs.LookedHeaders.{IsLookedAt, looked_at, reading_sent}
 use Rattle.dia_breaking.proofs.Outlooks.{rules_of_group}
 use Rattle.dia_breaking.proofs.PlacedLevels.{at_kept}
+use Rattle.dia_breaking.proofs.ReadNumbers.{read_by_numbers}
 use Rattle.dia_breaking.proofs.ToldLevels.{from_each, from_sorted, level_in, no_head_level, no_own_level, of_levels}
 use Rattle.dia_breaking.proofs.TooLong.{app_says}
 
@@ -314,7 +317,9 @@ module _ (da db : Dictionary) (who : Sends) (u : Unknown) (made : Facts) (start 
 
 -- ---- the message
 
-pub level_lines_shown : LevelLinesAreShown
+pub level_lines_shown : (s : Sides) (k : Stock) (c : ℕ) (sites : List Site) (lines : List Line) (line : Line) (told : LevelLine) (bytes : List ℕ)
+    → IsDictionary s.sender → IsDictionary s.receiver → length sites < 2 ^ 64 → AreTheLines s c sites (map tells lines) → AreCostsOf s k.costs
+    → Contains lines line → line.cause ≡ causes.Level told → AreBytes bytes → BreaksAsTold s k c sites line bytes → ShowsTold s k c sites line told bytes
 level_lines_shown s k c sites lines line told bytes sa sb few all costs inside cause are broken = by (command_head s.sender c) broken.message
   where
     behind : (site : Site) × (slice_get (path_to sites line.site) 0 ≡ Some site) × BreaksOnceMended s c site.place bytes
@@ -351,19 +356,22 @@ level_lines_shown s k c sites lines line told bytes sa sb few all costs inside c
 
     of_parts : (head : Head) (inner : List ℕ) (parts : List Part) → AreParts s k c here.site.place here.sent (causes.Level told) parts → inner ≡ parts_bytes (shortest_avp s k) parts
         → bytes ≡ header_bytes head line (slice_get (path_to sites line.site) 0) ++ levels_on s k c line.length (path_to sites line.site) inner → ShowsTold s k c sites line told bytes
-    of_parts head inner parts made inner_is bytes_are = record {
-      head = head;
-      site = here.site;
-      sent = here.sent;
-      read = here.read;
-      parts = parts;
-      is_site = here.is_site;
-      is_sent = here.is_sent;
-      is_read = here.is_read;
-      message = bytes_are ∙ ap (λ (xs : List ℕ). header_bytes head line (slice_get (path_to sites line.site) 0) ++ levels_on s k c line.length (path_to sites line.site) xs) inner_is;
-      shows = shown parts (subst (λ (o : Option ℕ). MatchOption o (parts ≡ least_parts k.costs.others (rules_in s.sender here.sent))
-          (λ other. IsLineLevel (reads_between (rules_in s.sender here.sent) (rules_in s.receiver other) k.costs.listed k.costs.other k.costs.others) told parts)) here.is_read made);
-    }
+    of_parts head inner parts made inner_is bytes_are =
+        let numbers = read_by_numbers s c here.site.place here.sent here.read here.is_sent here.is_read in
+        let shows = shown parts (subst (λ (o : Option ℕ). MatchOption o (parts ≡ least_parts k.costs.others (rules_in s.sender here.sent))
+        (λ other. IsLineLevel (reads_between (rules_in s.sender here.sent) (rules_in s.receiver other) k.costs.listed k.costs.other k.costs.others) told parts)) here.is_read made) in
+        record {
+          head = head;
+          site = here.site;
+          own = numbers.own;
+          other = numbers.other;
+          parts = parts;
+          is_site = here.is_site;
+          are_read = numbers.are_read;
+          message = bytes_are ∙ ap (λ (xs : List ℕ). header_bytes head line (slice_get (path_to sites line.site) 0) ++ levels_on s k c line.length (path_to sites line.site) xs) inner_is;
+          shows = subst (λ (rs : List DRule). ShowsAt rs numbers.other.rules (part_keys parts) told.reason told.key) numbers.own_rules
+              (subst (λ (rs : List DRule). ShowsAt (rules_in s.sender here.sent) rs (part_keys parts) told.reason told.key) numbers.other_rules shows);
+        }
 
     of_message : (head : Head) → IsMessageFor s k c sites line head bytes → ShowsTold s k c sites line told bytes
     of_message head (inner, innermost, bytes_are) =

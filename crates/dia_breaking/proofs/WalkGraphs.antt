@@ -205,38 +205,44 @@ module _ (da db : Dictionary) (who : Sends) (u : Unknown) (lengths : List ℕ) (
       (subst (λ (xs : List Key). slice_get xs place ≡ Some outlook.key) are.0 (into_map (λ (o : Outlook). o.key) outlooks place outlook is)) in
       sym alike ∙ key_at da db who u lengths others telling outlooks tells are place q own at here
 
-  longer : (rules : List DRule) (own : Exits) → AreExits telling costs rules own → (place n : ℕ) (level : PlainLevel) → LevelAt place level → Leads (map node_in outlooks) (exits_in own) place n
-      → level.least < n
-  longer rules own exits place n level l (By_rule lists) =
+  -- an AVP takes no more than a level that has it
+  takes : (rules : List DRule) (own : Exits) → AreExits telling costs rules own → (place n : ℕ) (outlook : Outlook) → slice_get outlooks place ≡ Some outlook
+      → Leads (map node_in outlooks) (exits_in own) place n → length_of outlook.key ≤ n
+  takes rules own exits place n outlook at (By_rule lists) =
       let r = rule_of_place rules own exits place n lists in
-      let same : length_of l.outlook.key ≡ length_of r.key = ap length_of (same_keys place r.key l.outlook r.is_place l.is_outlook) in
+      let same : length_of outlook.key ≡ length_of r.key = ap length_of (same_keys place r.key outlook r.is_place at) in
       let more = with_own rules r.rule r.key r.is_rule r.is_key in
-      let short = less place level l in
       let is = r.is_length in
-      omega (arith, same, more, short, is)
-  longer rules own exits place n level l (By_wildcard node is_node unlisted is_length) =
-      let (outlook, here, alike) = at_map node_in outlooks place node is_node in
-      let one : outlook ≡ l.outlook = same_Some outlook l.outlook (sym here ∙ l.is_outlook) in
-      let has = all_in (IsOutlook da db telling costs) outlooks outlook are.1 (contains_at outlooks place outlook here) in
-      let its : outlook.other ≡ other_length da who lengths outlook.key = has.other_is in
-      let own_other : outlook.other ≡ node.other = ap (λ (x : PlainNode). x.other) alike in
-      let key : length_of outlook.key ≡ length_of l.outlook.key = ap (λ (o : Outlook). length_of o.key) one in
-      let more = other_more da who lengths outlook.key in
-      let short = less place level l in
-      omega (arith, is_length, its, own_other, key, more, short)
+      omega (arith, same, more, is)
+  takes rules own exits place n outlook at (By_wildcard node is_node unlisted is_length) =
+      let (found, here, alike) = at_map node_in outlooks place node is_node in
+      let one : found ≡ outlook = same_Some found outlook (sym here ∙ at) in
+      let has = all_in (IsOutlook da db telling costs) outlooks found are.1 (contains_at outlooks place found here) in
+      let its : found.other ≡ other_length da who lengths found.key = has.other_is in
+      let own_other : found.other ≡ node.other = ap (λ (x : PlainNode). x.other) alike in
+      let key : length_of found.key ≡ length_of outlook.key = ap (λ (o : Outlook). length_of o.key) one in
+      let more = other_more da who lengths found.key in
+      omega (arith, is_length, its, own_other, key, more)
 
-  pub levels_shorter : (rules : List DRule) (first : Exits) (start : PlainExits) (room : ℕ) → AreExits telling costs rules first → start ≡ exits_in first
-      → AreLevelsShorter (record { nodes = map node_in outlooks; start = start; room = room })
-  levels_shorter rules first start room exits is from place n level has leads at = by has
+  -- also one to which a level of the graph leads
+  pub lead_takes : (rules : List DRule) (first : Exits) (start from : PlainExits) (room place n : ℕ) (outlook : Outlook) → AreExits telling costs rules first → start ≡ exits_in first
+      → HasExits (record { nodes = map node_in outlooks; start = start; room = room }) from → Leads (map node_in outlooks) from place n → slice_get outlooks place ≡ Some outlook
+      → length_of outlook.key ≤ n
+  lead_takes rules first start from room place n outlook exits is has leads at = by has
     where
-      here : LevelAt place level
-      here = level_kept place level at
-
       led : (own : Exits) → from ≡ exits_in own → Leads (map node_in outlooks) (exits_in own) place n
       led own e = subst (λ (x : PlainExits). Leads (map node_in outlooks) x place n) e leads
 
-      by : HasExits (record { nodes = map node_in outlooks; start = start; room = room }) from → level.least < n
-      by (inl e) = longer rules first exits place n level here (led first (e ∙ is))
+      by : HasExits (record { nodes = map node_in outlooks; start = start; room = room }) from → length_of outlook.key ≤ n
+      by (inl e) = takes rules first exits place n outlook at (led first (e ∙ is))
       by (inr (p, outer, at_p, e)) =
           let l = level_kept p outer at_p in
-          longer (group_rules da l.outlook.key) l.inner.exits l.is_inner.exits place n level here (led l.inner.exits (e ∙ ap (λ (x : PlainLevel). x.exits) (sym l.is_level)))
+          takes (group_rules da l.outlook.key) l.inner.exits l.is_inner.exits place n outlook at (led l.inner.exits (e ∙ ap (λ (x : PlainLevel). x.exits) (sym l.is_level)))
+
+  pub levels_shorter : (rules : List DRule) (first : Exits) (start : PlainExits) (room : ℕ) → AreExits telling costs rules first → start ≡ exits_in first
+      → AreLevelsShorter (record { nodes = map node_in outlooks; start = start; room = room })
+  levels_shorter rules first start room exits is from place n level has leads at =
+      let l = level_kept place level at in
+      let more = lead_takes rules first start from room place n l.outlook exits is has leads l.is_outlook in
+      let short = less place level l in
+      omega (arith, more, short)

@@ -1,5 +1,5 @@
 -- Which line tells of data that break.
-use Rattle.std.specs.Prelude.{◌≡◌, ◌⊎◌, ◌↔◌, true, Some, None, IsSome}
+use Rattle.std.specs.Prelude.{◌≡◌, ◌⊎◌, ◌↔◌, Some, None, IsSome}
 use Rattle.dia_wire.specs.declared.Key.{Key}
 use Rattle.dia_breaking_data.specs.declared.short_data.Witness.{Witness}
 use Rattle.dia_breaking_avps.specs.Breaks.{IsDataBreak}
@@ -7,7 +7,7 @@ use Rattle.dia_breaking_avps.specs.Sent.{group_of}
 use Rattle.dia_breaking_avps.specs.declared.breaking.DataBreak.TheVariants.{LeastLevel, EightBytes, Undecided}
 use Rattle.dia_breaking.specs.declared.line.Cause.{Cause}
 use Rattle.dia_breaking.specs.declared.line.Cause.TheVariants as causes
-use Rattle.dia_breaking.specs.OwnBreaks.{ReadsEight, TellsData}
+use Rattle.dia_breaking.specs.OwnBreaks.{LeavesOpen, RefusesShortest, TellsData}
 use Rattle.dia_breaking.specs.OwnKeys.{data_key}
 use Rattle.dia_breaking.specs.Sides.{Sides}
 
@@ -16,15 +16,14 @@ abbrev pub NamesData : Key → Cause → Type 0
 NamesData key cause = (found : Witness) × (cause ≡ causes.Format key (Some found))
 
 -- what a line about the data of AVPs of the key tells: it names data exactly where A sees no levels in them. Where A does, B reads the levels
--- as leaves: where it refuses the least level by its format, the line is about the format; and the line is undecided only where B reads leaves of
--- eight bytes and the least levels have as many, or where it isn't known whether B accepts all levels
+-- as leaves, and the line is about the format exactly where B refuses those of shortest AVPs, and undecided exactly where it isn't known whether B
+-- refuses any
 pub record IsLineOfData (s : Sides) (key : Key) (cause : Cause) : Type 0 where
   pub leaf : NamesData key cause ↔ (group_of s.sender key ≡ None)
   pub level : IsSome (group_of s.sender key) → IsDataBreak s.sender s.receiver s.sends s.unknown key LeastLevel
       ⊎ (IsDataBreak s.sender s.receiver s.sends s.unknown key EightBytes ⊎ IsDataBreak s.sender s.receiver s.sends s.unknown key Undecided)
-  pub refused : IsDataBreak s.sender s.receiver s.sends s.unknown key LeastLevel → cause ≡ causes.Format key None
-  pub undecided : cause ≡ causes.LevelAsLeaf key
-      → (ReadsEight s key true ⊎ IsDataBreak s.sender s.receiver s.sends s.unknown key Undecided) × (¬ IsDataBreak s.sender s.receiver s.sends s.unknown key LeastLevel)
+  pub refused : (cause ≡ causes.Format key None) ↔ RefusesShortest s key
+  pub undecided : (cause ≡ causes.LevelAsLeaf key) ↔ LeavesOpen s key
 
 -- so it is with each line of data that tells what breaks
 abbrev pub DataLinesAreApart : Type 0

@@ -28,8 +28,9 @@ pub mod TheLines
 pub mod TheMeanings
 pub mod ToldApps
 pub mod ToldMessages
+pub mod Tried
 pub mod Upgrades
 pub mod Words
 pub mod Gaps
 pub mod Runs
-pub mod ShownLevels
+pub mod ShownLines

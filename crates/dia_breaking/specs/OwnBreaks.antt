@@ -2,18 +2,20 @@
 use Rattle.std.specs.Prelude.{◌≡◌, ◌==◌, ◌⊎◌, ◌-◌, ⊤, ℕ, Bool, true, false, if◌then◌else◌, List, map, All, Option, Some, None, IfSome, IsSome, IsTrue, ◌↔◌}
 use Rattle.dia_wire.specs.declared.Key.{Key}
 use Rattle.dia_breaking_avps.specs.Breaks.{IsDataBreak, IsHeadBreak, TakesLevels}
-use Rattle.dia_breaking_avps.specs.Sent.{group_of}
+use Rattle.dia_breaking_avps.specs.Sent.{IsAcceptedData, group_of}
 use Rattle.dia_breaking_avps.specs.declared.breaking.DataBreak.TheVariants.{Fits, Data, LeastLevel, EightBytes, Undecided}
-use Rattle.dia_breaking_shortest.specs.Exact.{AreExact}
+use Rattle.dia_breaking_shortest.specs.declared.lookup.Least.{Least}
+use Rattle.dia_breaking_shortest.specs.Bytes.{least_avp}
 use Rattle.dia_breaking_shortest.specs.Floors.{shortest_head}
 use Rattle.dia_breaking.specs.declared.keys.Own.{Own}
 use Rattle.dia_breaking.specs.declared.line.Cause.{Cause}
 use Rattle.dia_breaking.specs.declared.line.Cause.TheVariants as causes
 use Rattle.dia_breaking.specs.declared.line.Line.{Line}
 use Rattle.dia_breaking.specs.declared.own_breaks.OwnBreaks.{OwnBreaks}
-use Rattle.dia_breaking.specs.Lengths.{AreEntryLengths, listed_length}
+use Rattle.dia_breaking.specs.Lengths.{IsLeastFor, listed_length}
 use Rattle.dia_breaking.specs.Meanings.{IsReadAsOther}
 use Rattle.dia_breaking.specs.Sides.{Sides}
+use Rattle.dia_breaking.specs.Tried.{IsLeftOpenBy, IsRefusedBy}
 
 -- AVPs of the key break so, and have this length at least, where a rule lists them; where A sees levels in them and the data fit, B takes any data, or
 -- each level is an Address of B's; and it is known whether they are read as another format
@@ -29,16 +31,21 @@ pub record AreOwnBreaks (s : Sides) (length : Key → ℕ) (told : List Own) (ow
   pub keys : map (λ one. one.key) own ≡ map (λ one. one.key) told
   pub each : All (IsOwnBreaks s length) own
 
--- a shortest AVP of the key that the sender's side sends has this length, where a rule lists it
-abbrev pub HasLeast : Sides → Key → ℕ → Type 0
-HasLeast s key n = (least : List ℕ) × (lengths : List ℕ) × AreExact s.sender s.sends least × AreEntryLengths s.sender least lengths × (n ≡ listed_length s.sender s.sends lengths key)
+-- so it is with the bytes of a shortest AVP of the key that the sender's side sends, and with its length, where a rule lists it
+abbrev pub OfLeast : Sides → Key → (List ℕ → ℕ → Type 0) → Type 0
+OfLeast s key Holds =
+    (least : Least) × (lengths : List ℕ) × IsLeastFor s.sender s.sends least lengths × Holds (least_avp s.sender least key) (listed_length s.sender s.sends lengths key)
 
--- the data of AVPs of the key break so, and a shortest AVP has this length
-abbrev pub HasDataBreak : Sides → OwnBreaks → Type 0
-HasDataBreak s own = IsDataBreak s.sender s.receiver s.sends s.unknown own.key own.breaks.data × HasLeast s own.key own.least
+-- shortest AVPs that the sender's side sends are made of this, A's entries have these lengths, and so this AVP has its own
+abbrev pub HasLeast : Sides → Least → List ℕ → OwnBreaks → Type 0
+HasLeast s least lengths own = IsLeastFor s.sender s.sends least lengths × (own.least ≡ listed_length s.sender s.sends lengths own.key)
 
-abbrev pub HaveDataBreaks : Sides → List OwnBreaks → Type 0
-HaveDataBreaks s own = All (HasDataBreak s) own
+-- the data of AVPs of the key break so, and a shortest one has its length
+abbrev pub HasDataBreak : Sides → Least → List ℕ → OwnBreaks → Type 0
+HasDataBreak s least lengths own = IsDataBreak s.sender s.receiver s.sends s.unknown own.key own.breaks.data × HasLeast s least lengths own
+
+abbrev pub HaveDataBreaks : Sides → Least → List ℕ → List OwnBreaks → Type 0
+HaveDataBreaks s least lengths own = All (HasDataBreak s least lengths) own
 
 -- ---- what lines tell of data
 
@@ -48,16 +55,33 @@ leaves_eight key n = n - shortest_head key == 8
 
 -- B reads levels as leaves of eight bytes, and this says whether those of shortest AVPs have as many
 abbrev pub ReadsEight : Sides → Key → Bool → Type 0
-ReadsEight s key has = IsDataBreak s.sender s.receiver s.sends s.unknown key EightBytes × ((n : ℕ) × HasLeast s key n × (leaves_eight key n ≡ has))
+ReadsEight s key has = IsDataBreak s.sender s.receiver s.sends s.unknown key EightBytes × OfLeast s key (λ bytes n. leaves_eight key n ≡ has)
 
--- the data that are told are shortest that break. Where none are told, B refuses those of shortest AVPs: it refuses each ordinary level; or the empty
--- one, where a level may be empty; or it reads leaves of eight bytes, and those data have another length. Or it isn't known whether it accepts
--- all levels: that isn't known of levels as leaves where the least have eight bytes, and where some levels may be data and others not
+-- it isn't known whether B accepts all levels. A shortest AVP isn't too long to be tried, and B refuses its data
+abbrev pub ReadsRefused : Sides → Key → Type 0
+ReadsRefused s key =
+    IsDataBreak s.sender s.receiver s.sends s.unknown key Undecided × OfLeast s key (IsRefusedBy (IsAcceptedData s.receiver s.unknown key) key)
+
+-- it isn't known whether B accepts all levels. A shortest AVP is too long to be tried, or B accepts its data
+abbrev pub ReadsOpen : Sides → Key → Type 0
+ReadsOpen s key =
+    IsDataBreak s.sender s.receiver s.sends s.unknown key Undecided × OfLeast s key (IsLeftOpenBy (IsAcceptedData s.receiver s.unknown key) key)
+
+-- B reads levels as leaves, and refuses those of shortest AVPs: each ordinary level; or the empty one, where a level may be empty; or it reads leaves of
+-- eight bytes, and those data have another length; or it isn't known whether it accepts all levels, and those data are tried and refused
+abbrev pub RefusesShortest : Sides → Key → Type 0
+RefusesShortest s key = IsDataBreak s.sender s.receiver s.sends s.unknown key LeastLevel ⊎ (ReadsEight s key false ⊎ ReadsRefused s key)
+
+-- B reads levels as leaves, and it isn't known whether it refuses any: the least ones have eight bytes, as its leaves; or it isn't known whether it accepts
+-- all, and a shortest AVP is too long to be tried, or its data are accepted
+abbrev pub LeavesOpen : Sides → Key → Type 0
+LeavesOpen s key = ReadsEight s key true ⊎ ReadsOpen s key
+
+-- the data that are told are shortest that break. Where none are told, B refuses those of shortest AVPs, or it isn't known whether it refuses any
 abbrev pub TellsData : Sides → Cause → Type 0
 TellsData s (causes.Format key (Some found)) = IsDataBreak s.sender s.receiver s.sends s.unknown key (Data found)
-TellsData s (causes.Format key None) =
-    IsDataBreak s.sender s.receiver s.sends s.unknown key LeastLevel ⊎ (ReadsEight s key false ⊎ IsDataBreak s.sender s.receiver s.sends s.unknown key Undecided)
-TellsData s (causes.LevelAsLeaf key) = ReadsEight s key true ⊎ IsDataBreak s.sender s.receiver s.sends s.unknown key Undecided
+TellsData s (causes.Format key None) = RefusesShortest s key
+TellsData s (causes.LevelAsLeaf key) = LeavesOpen s key
 TellsData s cause = ⊤
 
 -- so each line does
@@ -69,8 +93,8 @@ abbrev pub KeepsData : Sides → List Line → List Line → Type 0
 KeepsData s old new = TellData s old → TellData s new
 
 -- what is found tells data that break, if those of the AVP do
-abbrev pub TellsIfBreaks : Sides → OwnBreaks → Option (Cause × ℕ) → Type 0
-TellsIfBreaks s own found = IsDataBreak s.sender s.receiver s.sends s.unknown own.key own.breaks.data → HasLeast s own.key own.least
+abbrev pub TellsIfBreaks : Sides → Least → List ℕ → OwnBreaks → Option (Cause × ℕ) → Type 0
+TellsIfBreaks s least lengths own found = IsDataBreak s.sender s.receiver s.sends s.unknown own.key own.breaks.data → HasLeast s least lengths own
     → IfSome found (λ pair. TellsData s pair.0)
 
 -- what is told of levels that are read as leaves of eight bytes: B refuses the data of a shortest AVP, unless these have eight bytes

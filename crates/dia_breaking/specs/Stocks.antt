@@ -12,6 +12,10 @@ pub record IsStockOf (s : Sides) (lengths : List ℕ) (k : Stock) : Type 0 where
   pub costs_are : k.costs ≡ costs_by s.sender s.sends lengths k.costs.others
   pub others_are : ∥ AreExactlyOthers s.sender s.receiver s.sends lengths k.costs.others ∥₁
 
+-- messages are made of what the two sides have
+abbrev pub IsStock : Sides → Stock → Type 0
+IsStock s k = ∥ ((lengths : List ℕ) × IsStockOf s lengths k) ∥₁
+
 -- a line has one message, whatever it is made of
 abbrev pub StocksMakeOneMessage : Type 0
 StocksMakeOneMessage = (s : Sides) (lengths others_lengths : List ℕ) (k l : Stock) (c : ℕ) (sites : List Site) (line : Line) (bytes others : List ℕ) → IsStockOf s lengths k → IsStockOf s others_lengths l

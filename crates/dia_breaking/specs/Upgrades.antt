@@ -42,7 +42,7 @@ module _ {A B : Type 0} {a : Reads A} {b : Reads B} where
 
   -- where the old lines tell data that break, the new ones do, if all is as it is kept
   abbrev pub KeepsIfKnown : Upgrade A B a b → List Line → List Line → Type 0
-  KeepsIfKnown up old new = HaveDataBreaks (sides_of up) up.own.items → KeepsData (sides_of up) old new
+  KeepsIfKnown up old new = HaveDataBreaks (sides_of up) up.lengths.least up.lengths.entries.items up.own.items → KeepsData (sides_of up) old new
 
   -- the lines that a walk finds from this start
   abbrev pub lines_for : Upgrade A B a b → Start → Numbers → Walk → List Told

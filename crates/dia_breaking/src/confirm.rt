@@ -4,18 +4,20 @@ ghost use Rattle.dia_wire.specs.Lengths.{header_length};
 ghost use Rattle.dia_policy.specs.declared.Levels.TheVariants.{Any};
 ghost use Rattle.dia_check.specs.Valid.{IsValid, IsValidOf};
 ghost use Rattle.dia_breaking_sites.specs.Sent.{own_policy};
+ghost use Rattle.dia_breaking_shortest.specs.Floors.{IsSpellable};
 ghost use Rattle.dia_breaking.specs.Confirmed.{EachConfirmedBreaks, HaveStandings, IsConfirmed};
 ghost use Rattle.dia_breaking.specs.Confirmed.{IsStandingOf, has_no_message, is_checked, left_after, left_behind};
 ghost use Rattle.dia_breaking.specs.Listing.{unchecked};
 ghost use Rattle.dia_breaking.specs.Mended.{BreaksBehind, EachHasMessage, HasMessage};
 ghost use Rattle.dia_breaking.specs.Messages.{IsLineMessage};
+ghost use Rattle.dia_breaking.specs.ShownLines.{HasSpellableKey, HaveSpellableKeys};
 ghost use Rattle.dia_breaking.specs.TheLines.{HaveSameSites};
 ghost use Rattle.dia_breaking.specs.ToldMessages.{AreConfirmedWhere, BreaksAsTold, IsBroken, IsConfirmedWhere};
 ghost use Rattle.dia_breaking.specs.Upgrades.{sides_of, stock_of};
 
 use crate::line::{Breaks, Cause, Line, Standing};
 use crate::upgrade::Upgrade;
-use dia_book::{Book, DefId};
+use dia_book::{Book, DefId, Key};
 use dia_check::{Levels, Refusal, check};
 use dia_policy::{Sends, Unknown};
 use dia_wire::HEADER_LENGTH;
@@ -116,11 +118,13 @@ impl<'a, A: Book, B: Book> Upgrade<'a, A, B> {
         ensures standings { IfOk result (λ told. HaveStandings left.old told.lines.items) }
         ensures exactly { IfOk result (λ told. AreConfirmedWhere (sides_of self.now) (stock_of self.now)
             breaks.command breaks.sites.items left.old told.lines.items) }
+        ensures spellable { IfOk result (λ told. HaveSpellableKeys told.lines.items) }
         ensures left { IfOk result (λ told. left.new ≡ left_after left.old told.lines.items) }
     {
         let mut lines = Vec::new(alloc);
         for line in &breaks.lines {
             let standing = self.standing(alloc, &breaks, line, *left)?;
+            spell_key(&line.cause);
             lines.push(Line { standing, ..*line })?;
             *left = left_behind(line, *left);
         }
@@ -244,3 +248,24 @@ pub(crate) fn is_valid<B: Book>(
         Err(Refusal::Spent) => Ok(false),
     }
 }
+
+/// Fields can say the key of the AVP of which a line tells.
+fn spell_key(cause: &Cause)
+    ensures { HasSpellableKey cause.now }
+{
+    match *cause {
+        Cause::Command => (),
+        Cause::Application => (),
+        Cause::Proxiable { .. } => (),
+        Cause::Level(_) => (),
+        Cause::Unknown { key, .. } => spelled(key),
+        Cause::MBit { key, .. } => spelled(key),
+        Cause::Format { key, .. } => spelled(key),
+        Cause::LevelAsLeaf { key } => spelled(key),
+        Cause::Meaning { .. } => (),
+    }
+}
+
+fn spelled(key: Key)
+    ensures { IsSpellable key }
+{}

@@ -3,7 +3,7 @@ ghost use Rattle.dia_breaking.specs.Confirmed.{IncludedBreakNothing, IncludedHav
 ghost use Rattle.dia_breaking.specs.DataLines.{DataLinesAreApart};
 ghost use Rattle.dia_breaking.specs.Listing.{ListingsAreOne};
 ghost use Rattle.dia_breaking.specs.Messages.{EachLineHasAMessage, LineMessagesAreBytes, LineMessagesAreOne};
-ghost use Rattle.dia_breaking.specs.ShownLevels.{LevelLinesAreShown};
+ghost use Rattle.dia_breaking.specs.ShownLines.{LinesAreShown};
 ghost use Rattle.dia_breaking.specs.Stocks.{StocksMakeOneMessage};
 ghost use Rattle.dia_breaking.specs.TheLines.{TheLinesAreAll, TheLinesAreOne};
 ghost use Rattle.dia_breaking.specs.TheMeanings.{TheMeaningsAreOne};
@@ -35,8 +35,8 @@ pub fn the_lines_are_all()
 {}
 
 /// A line about data tells what breaks, and none is told for another: it names data exactly where the sender's AVPs are no groups, it
-/// is about the format where the receiver refuses each ordinary level, and it is undecided only where it isn't known whether the
-/// receiver accepts all levels.
+/// is about the format exactly where the receiver is known to refuse the data of a shortest one, and it is undecided exactly where
+/// the receiver isn't known to refuse any.
 pub fn data_lines_are_apart()
     ensures { DataLinesAreApart }
 {}
@@ -52,7 +52,8 @@ pub fn the_meanings_are_one()
     ensures { TheMeaningsAreOne }
 {}
 
-/// The message of a line of levels shows it: at the line's site stands a level that breaks the rules of B's definition, as told.
-pub fn level_lines_are_shown()
-    ensures { LevelLinesAreShown }
+/// The message of a line that breaks as the line tells shows it: at the line's site stands a level that breaks the rules of B's
+/// definition, as told, or one with an AVP whose flags or data are those that are told, and that B refuses.
+pub fn lines_are_shown()
+    ensures { LinesAreShown }
 {}

@@ -12,6 +12,7 @@ ghost use Rattle.dia_breaking.specs.Listing.{tells, with_room};
 ghost use Rattle.dia_breaking.specs.Mended.{AreValidOnceMended, EachHasMessage};
 ghost use Rattle.dia_breaking.specs.Orders.{IsInOrderOf, of_each};
 ghost use Rattle.dia_breaking.specs.OwnBreaks.{TellData};
+ghost use Rattle.dia_breaking.specs.ShownLines.{EachIsShown};
 ghost use Rattle.dia_breaking.specs.Sides.{answer_of};
 ghost use Rattle.dia_breaking.specs.Sites.{group_sites};
 ghost use Rattle.dia_breaking.specs.TheLines.{HasTheLines, IsOfHead, IsStartOf};
@@ -56,6 +57,8 @@ impl<'a, A: Book, B: Book> Upgrade<'a, A, B> {
         ensures standings { IfOk result (λ breaks. HaveStandings left.old breaks.lines.items) }
         ensures exactly { IfOk result (λ breaks. AreConfirmedWhere (sides_of self.now) (stock_of self.now)
             command breaks.sites.items left.old breaks.lines.items) }
+        ensures shown { IfOk result (λ breaks. ∥ EachIsShown (sides_of self.now) (stock_of self.now)
+            command breaks.sites.items breaks.lines.items ∥₁) }
         ensures left { IfOk result (λ breaks. left.new ≡ left_after left.old breaks.lines.items) }
         ensures formats { IfOk result (λ breaks. ∥ TellData (sides_of self.now) breaks.lines.items ∥₁) }
         ensures lines { IfOk result (λ breaks. HasTheLines (sides_of self.now) (answer_of breaks)) }
@@ -74,6 +77,7 @@ impl<'a, A: Book, B: Book> Upgrade<'a, A, B> {
         requires { HasHead (sides_of self.now).sender command head.now }
         ensures command { IfOk result (λ breaks. breaks.command ≡ command) }
         ensures head { IfOk result (λ breaks. IsOfHead breaks head.now) }
+        ensures few { IfOk result (λ breaks. length breaks.sites.items < 2 ^ 64) }
         ensures free { IfOk result (λ breaks. ∥ AreValidWhereFree (sides_of self.now) (answer_of breaks) ∥₁) }
         ensures mended { IfOk result (λ breaks. ∥ AreValidOnceMended (sides_of self.now) (answer_of breaks) ∥₁) }
         ensures lines { IfOk result (λ breaks. HasTheLines (sides_of self.now) (answer_of breaks)) }

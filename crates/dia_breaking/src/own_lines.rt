@@ -1,9 +1,14 @@
 //! The lines of AVPs that break by themselves.
-ghost use Rattle.std.specs.Prelude.{◌≡◌, ◌⊎◌, [], None, IfOk, IfSome, OnOk, option_to_list, slice_get};
+ghost use Rattle.std.specs.Prelude.{◌≡◌, [], None, IfOk, IfSome, MatchBool, OnOk, drop, option_to_list, slice_get};
 ghost use Rattle.std.specs.Option.{option_map, option_map_or};
+ghost use Rattle.dia_data.specs.Leaf.{IsLeafAnswer};
+ghost use Rattle.dia_data.specs.Plain.{plain_format};
+ghost use Rattle.dia_breaking_shortest.specs.Bytes.{least_avp};
 ghost use Rattle.dia_breaking.specs.Listing.{AddsTold, KeepsUnchecked, head_cause, own_cause, own_line};
 ghost use Rattle.dia_breaking.specs.Listing.{own_lines, reach_at, reached_line, subject, subject_with, with_data};
 ghost use Rattle.dia_breaking.specs.OwnBreaks.{HasDataBreak, KeepsData, TellsIfBreaks, eight_cause};
+ghost use Rattle.dia_breaking.specs.Sender.{costs_of};
+ghost use Rattle.dia_breaking.specs.Tried.{IsToldOfTry, TakesAsLeaf};
 ghost use Rattle.dia_breaking.specs.Upgrades.{KeepsIfKnown, sides_of};
 
 use crate::books::format_of;
@@ -94,7 +99,8 @@ impl<'a, A: Book, B: Book> Upgrade<'a, A, B> {
         ensures told { OnOk result (AddsTold lines.old.items lines.new.items
             (option_to_list (own_line kind numbers.first numbers.count own.now reach.now))) }
         ensures formats { OnOk result
-            (HasDataBreak (sides_of self.now) own.now → KeepsData (sides_of self.now) lines.old.items lines.new.items) }
+            (HasDataBreak (sides_of self.now) self.now.lengths.least self.now.lengths.entries.items own.now
+            → KeepsData (sides_of self.now) lines.old.items lines.new.items) }
         ensures unchecked { OnOk result (KeepsUnchecked lines.old.items lines.new.items) }
     {
         match self.own_cause(alloc, kind, own, reach.length)? {
@@ -114,7 +120,8 @@ impl<'a, A: Book, B: Book> Upgrade<'a, A, B> {
         length: u64,
     ) -> Result<Option<(Cause, u64)>, AllocError>
         ensures told { IfOk result (λ found. option_map subject_with found ≡ own_cause kind own.now length) }
-        ensures formats { IfOk result (TellsIfBreaks (sides_of self.now) own.now) }
+        ensures formats { IfOk result (TellsIfBreaks (sides_of self.now)
+            self.now.lengths.least self.now.lengths.entries.items own.now) }
     {
         match kind {
             Kind::Data => self.data_cause(alloc, own, length),
@@ -133,7 +140,8 @@ impl<'a, A: Book, B: Book> Upgrade<'a, A, B> {
         length: u64,
     ) -> Result<Option<(Cause, u64)>, AllocError>
         ensures told { IfOk result (λ found. option_map subject_with found ≡ own_cause Kind.Data own.now length) }
-        ensures formats { IfOk result (TellsIfBreaks (sides_of self.now) own.now) }
+        ensures formats { IfOk result (TellsIfBreaks (sides_of self.now)
+            self.now.lengths.least self.now.lengths.entries.items own.now) }
     {
         let key = own.key;
         match own.breaks.data {
@@ -155,10 +163,11 @@ impl<'a, A: Book, B: Book> Upgrade<'a, A, B> {
         }
     }
 
-    /// Whether B's leaf refuses the data of a shortest AVP.
+    /// Whether B's leaf refuses the data of a shortest AVP, if that isn't too long.
     fn tried(&self, alloc: Global, key: Key) -> Result<Cause, AllocError>
         ensures told { IfOk result (λ cause. subject cause ≡ Cause.Format key None) }
-        ensures either { IfOk result (λ cause. (cause ≡ Cause.Format key None) ⊎ (cause ≡ Cause.LevelAsLeaf key)) }
+        ensures exact { IfOk result (IsToldOfTry (TakesAsLeaf (sides_of self.now).receiver key) key
+            (least_avp (sides_of self.now).sender self.now.lengths.least key) ((costs_of self.now.lengths).listed key)) }
     {
         let Some(format) = format_of(self.b, key) else {
             return Ok(Cause::LevelAsLeaf { key });
@@ -221,10 +230,10 @@ fn head_cause(kind: Kind, key: Key, found: HeadBreak) -> Option<Cause>
 }
 
 /// What a message takes with these data in the place of a shortest AVP.
-fn with_data(own: &OwnBreaks, length: u64, data: &Witness) -> u64
-    ensures { result ≡ with_data own.now length data.now }
+fn with_data(own: &OwnBreaks, length: u64, found: &Witness) -> u64
+    ensures { result ≡ with_data own.now length found.now }
 {
-    let size = shortest_head(own.key).saturating_add(data.as_slice().len() as u64);
+    let size = shortest_head(own.key).saturating_add(found.as_slice().len() as u64);
     let padded = size.saturating_add(3) / 4 * 4;
     length
         .saturating_sub(own.least)
@@ -233,9 +242,19 @@ fn with_data(own: &OwnBreaks, length: u64, data: &Witness) -> u64
 }
 
 /// Whether the format refuses what stands behind so many bytes.
-fn is_refused(format: &Format, bytes: &[u8], head: usize) -> bool {
-    match bytes.get(head..) {
-        Some(data) => accepts(format, data) != Leaf::Fine,
-        None => false,
+fn is_refused(format: &Format, bytes: &[u8], head: usize) -> bool
+    ensures { MatchBool result (¬ IsLeafAnswer Leaf.Fine (plain_format format.now) (drop head bytes.now))
+        (IsLeafAnswer Leaf.Fine (plain_format format.now) (drop head bytes.now)) }
+{
+    match accepts(format, behind(bytes, head)) {
+        Leaf::Fine => false,
+        Leaf::BadLength => true,
+        Leaf::BadValue => true,
     }
+}
+
+fn behind(bytes: &[u8], head: usize) -> &[u8]
+    ensures { result.now ≡ drop head bytes.now }
+{
+    bytes.get(head..).unwrap_or(b"".as_slice())
 }

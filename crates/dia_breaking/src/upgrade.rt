@@ -60,6 +60,8 @@ pub struct Upgrade<'a, A: Book, B: Book> {
 }
 
 impl<'a, A: Book, B: Book> Upgrade<'a, A, B> {
+    ghost use Rattle.dia_breaking.specs.ShownLines.{EachIsShown};
+    ghost use Rattle.dia_breaking.specs.Stocks.{IsStock};
     ghost use Rattle.dia_breaking.specs.ToldMessages.{AreConfirmedWhere};
     ghost use Rattle.dia_breaking.specs.Upgrades.{receiver_of, sender_of, sides_of, stock_of};
 
@@ -122,6 +124,10 @@ impl<'a, A: Book, B: Book> Upgrade<'a, A, B> {
     /// the line tells (`BreaksAsTold`): it has the length that is told, it is valid under A, as one of the command, and not under
     /// B (`IsConfirmed`), and, unless the line is of the header, not once its header is mended, too (`BreaksBehind`).
     ///
+    /// The message of a confirmed line shows it (`ShowsCause`): at the line's site stands a level that breaks B's rules as the line
+    /// tells, or one with an AVP whose flags or data are those that are told, and that B refuses. Of a format without data it has
+    /// an AVP of the key.
+    ///
     /// The meanings are the one list of AVPs that B's side reads as another format, though it accepts all of their data
     /// (`AreTheMeanings`). Each key stands once, at the site to which the shortest way leads. They are no lines, and break
     /// nothing; their messages aren't checked. They are all: each AVP of a level that both sides read, and that B's side reads as
@@ -142,6 +148,9 @@ impl<'a, A: Book, B: Book> Upgrade<'a, A, B> {
         ensures standings { IfOk result (λ breaks. HaveStandings left.old breaks.lines.items) }
         ensures exactly { IfOk result (λ breaks. AreConfirmedWhere (sides_of self.now) (stock_of self.now)
             command breaks.sites.items left.old breaks.lines.items) }
+        ensures stock { IsStock (sides_of self.now) (stock_of self.now) }
+        ensures shown { IfOk result (λ breaks. ∥ EachIsShown (sides_of self.now) (stock_of self.now)
+            command breaks.sites.items breaks.lines.items ∥₁) }
         ensures left { IfOk result (λ breaks. left.new ≡ left_after left.old breaks.lines.items) }
         ensures formats { IfOk result (λ breaks. ∥ TellData (sides_of self.now) breaks.lines.items ∥₁) }
         ensures command { IfOk result (λ breaks. breaks.command ≡ command) }

@@ -9,6 +9,7 @@ use Rattle.dia_breaking.specs.Free.{AllAreValid}
 use Rattle.dia_breaking.specs.Headers.{head_in}
 use Rattle.dia_breaking.specs.Mended.{HasMessage}
 use Rattle.dia_breaking.specs.OwnBreaks.{TellsData}
+use Rattle.dia_breaking.specs.ShownLines.{IsShown}
 use Rattle.dia_breaking.specs.TheLines.{IsOfHead}
 use Rattle.dia_breaking.specs.ToldMessages.{AreConfirmedWhere}
 use Rattle.dia_breaking.specs.Upgrades.{sides_of, stock_of}
@@ -19,6 +20,7 @@ use Rattle.dia_breaking.proofs.AllMeanings.{none_meant}
 use Rattle.dia_breaking.proofs.FoundLines.{head_there, none_there}
 use Rattle.dia_breaking.proofs.FreeOfLines.{all_valid, nothing_told, unsent_mended, unsent_valid}
 use Rattle.dia_breaking.proofs.Lists.{none_of, when_ok, when_two}
+use Rattle.dia_breaking.proofs.StockOfUpgrade.{stock_is}
 use Rattle.dia_breaking.proofs.TooLong.{no_message_of_group}
 use Rattle.dia_breaking.proofs.upgrade.Upgrade.breaks.Goals as goal
 
@@ -62,6 +64,9 @@ returns-in-Some-clause-none g c = λ none.
     let at = head_there da c.args.command c.head_of.result c.requires c.head_of.ensures ∙ c.in-Some.is in
     absurd (true≢false (ap (λ (o : Option Head). is_some o) (sym at ∙ none)))
 
+pub returns-in-Some-clause-stock : goal.returns-in-Some-clause-stock
+returns-in-Some-clause-stock g c = stock_is c.args.self.now
+
 pub returns-in-None : goal.returns-in-None
 returns-in-None g c =
     let s = sides_of c.args.self.now in
@@ -79,6 +84,9 @@ returns-in-None g c =
       each_mended = none_of (λ (line : Line). line.standing ≡ Confirmed → HasMessage s c.args.command c.new.result.items line) c.new-lines.result.items c.new-lines.ensures.items;
       standings = subst (HaveStandings c.args.left.now) (sym c.new-lines.ensures.items) tt;
       exactly = subst (AreConfirmedWhere s (stock_of c.args.self.now) c.args.command c.new.result.items c.args.left.now) (sym c.new-lines.ensures.items) tt;
+      stock = stock_is c.args.self.now;
+      shown = ∣ none_of (λ (line : Line). line.standing ≡ Confirmed → IsShown s (stock_of c.args.self.now) c.args.command c.new.result.items line) c.new-lines.result.items
+          c.new-lines.ensures.items ∣₁;
       left = ap (left_after c.args.left.now) (sym c.new-lines.ensures.items);
       formats = ∣ none_of (λ (line : Line). TellsData s line.cause) c.new-lines.result.items c.new-lines.ensures.items ∣₁;
       command = refl;

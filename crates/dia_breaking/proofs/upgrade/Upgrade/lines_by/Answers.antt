@@ -1,5 +1,5 @@
 use Rattle.std.proofs.Common.{List, Option, ◌++◌, map, refl, ap, subst, ◌∙◌}
-use Rattle.std.proofs.Math.Logic.{∥∥₁_map}
+use Rattle.std.proofs.Math.Logic.{∥∥₁_map₂}
 use Rattle.dia_breaking_ways.specs.declared.graph.Reach.{Reach}
 use Rattle.dia_breaking_ways.specs.declared.graph.Step.{Step}
 use Rattle.dia_breaking.specs.declared.line.Line.{Line}
@@ -41,8 +41,8 @@ returns g c =
       order = subst (λ told. IsInOrderOf (λ (line : Told). line.site) told (map tells c.sort_by_site.new.lines.items))
           (adds ∙ ap (λ (lines : List Line). map tells lines ++ all) c.new-lines.ensures.items)
           (image_in_order tells (λ (line : Line). line.site) (λ (line : Told). line.site) (λ x. refl) (new_line 0 causes.Command 0) _ _ c.in_ok-sort_by_site.ensures);
-      formats = ∥∥₁_map up.known (λ known.
-          let have = have_data s.sender s.receiver s.sends s.unknown known.least up.lengths.entries.items known.are_least known.are_lengths up.own.items known.are_own.each in
+      formats = ∥∥₁_map₂ up.known up.lengths.exact (λ known least.
+          let have = have_data s.sender s.receiver s.sends s.unknown up.lengths.least up.lengths.entries.items least up.own.items known.are_own.each in
           data_in_order s.sender s.receiver s.sends s.unknown c.push_own_lines-3.new.lines.items c.sort_by_site.new.lines.items c.in_ok-sort_by_site.ensures
           (c.in_ok-push_own_lines-3.ensures.formats have (c.in_ok-push_own_lines-2.ensures.formats have (c.in_ok-push_own_lines.ensures.formats have plain))));
     }

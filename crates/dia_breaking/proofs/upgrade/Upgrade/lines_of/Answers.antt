@@ -2,25 +2,31 @@ use Rattle.std.proofs.Common.{ℕ, List, map, subst, sym, ◌∙◌}
 use Rattle.std.proofs.Math.Logic.{∥∥₁_map}
 use Rattle.dia_breaking.specs.Confirmed.{EachConfirmedBreaks}
 use Rattle.dia_breaking.specs.Free.{AreValidWhereFree}
+use Rattle.dia_breaking.specs.declared.line.Breaks.{Breaks}
 use Rattle.dia_breaking.specs.declared.line.Line.{Line}
 use Rattle.dia_breaking.specs.declared.line.Site.{Site}
 use Rattle.dia_breaking.specs.Listing.{AreUnchecked}
 use Rattle.dia_breaking.specs.Mended.{AreValidOnceMended, EachHasMessage}
 use Rattle.dia_breaking.specs.Listing.{Told, tells}
+use Rattle.dia_breaking.specs.ShownLines.{EachIsShown, HaveSpellableKeys}
 use Rattle.dia_breaking.specs.Sides.{answer, answer_of}
 use Rattle.dia_breaking.specs.TheLines.{AreTheLines, HasTheLines}
 use Rattle.dia_breaking.specs.TheMeanings.{AreMeaningsOf, AreMeant, AreTheMeanings, HoldsOfLevels}
 use Rattle.dia_breaking.specs.ToldMessages.{AreConfirmedWhere}
 use Rattle.dia_breaking.specs.Upgrades.{sides_of, stock_of}
+use Rattle.dia_breaking.proofs.EachShown.{each_shown}
 use Rattle.dia_breaking.proofs.FormatData.{data_kept}
 use Rattle.dia_breaking.proofs.FreeOfLines.{still_mended, still_valid}
-use Rattle.dia_breaking.proofs.Lists.{when_ok, when_two}
+use Rattle.dia_breaking.proofs.Lists.{when_ok, when_three, when_two}
+use Rattle.dia_breaking.proofs.StockOfUpgrade.{stock_is}
 use Rattle.dia_breaking.proofs.ToldLists.{tells_kept, told_kept}
 use Rattle.dia_breaking.proofs.upgrade.Upgrade.lines_of.Goals as goal
 
 pub returns : goal.returns
 returns g c =
     let s = sides_of c.args.self.now in
+    let up = c.args.self.now in
+    let k = stock_of up in
     let found = c.in_ok-found.found in
     let own = c.in_ok-found.ensures.command in
     let head = c.in_ok-found.ensures.head in
@@ -65,6 +71,17 @@ returns g c =
           (λ told same are. subst (λ (at : List Site). AreConfirmedWhere s (stock_of c.args.self.now) c.args.command at c.args.left.now told.lines.items) (sym same.3)
           (subst (λ (number : ℕ). AreConfirmedWhere s (stock_of c.args.self.now) number found.sites.items c.args.left.now told.lines.items) own are))
           c.with_standings.ensures.same c.with_standings.ensures.exactly;
+      shown = when_three _ _ _ _ c.with_standings.result
+          (λ told same kept found_so.
+          let lines = subst (λ (list : List Told). ∥ AreTheLines s found.command found.sites.items list ∥₁) (sym (tells_kept told.lines.items found.lines.items kept)) c.in_ok-found.ensures.lines in
+          let formats = ∥∥₁_map c.in_ok-found.ensures.formats (data_kept s.sender s.receiver s.sends s.unknown found.lines.items told.lines.items kept) in
+          let shown = each_shown s k found.command found.sites.items told.lines.items (g.met.A.Book.sound up.lengths.book.now) (g.met.B.Book.sound up.b.now) (stock_is up) c.in_ok-found.ensures.few lines
+          formats found_so.1 c.args.left.now found_so.0 in
+          subst (λ (at : List Site). ∥ EachIsShown s k c.args.command at told.lines.items ∥₁) (sym same.3)
+          (subst (λ (number : ℕ). ∥ EachIsShown s k number found.sites.items told.lines.items ∥₁) own shown))
+          c.with_standings.ensures.same c.with_standings.ensures.kept
+          (when_two _ _ (λ (told : Breaks). AreConfirmedWhere s k found.command found.sites.items c.args.left.now told.lines.items × HaveSpellableKeys told.lines.items) c.with_standings.result
+          (λ told are spellable. (are, spellable)) c.with_standings.ensures.exactly c.with_standings.ensures.spellable);
       left = c.with_standings.ensures.left;
       unchecked = when_ok _ _ c.with_standings.result (λ told same. subst AreUnchecked (sym same.4) c.in_ok-found.ensures.unchecked) c.with_standings.ensures.same;
       formats = when_ok _ _ c.with_standings.result

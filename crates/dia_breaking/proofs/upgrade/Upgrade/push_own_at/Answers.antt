@@ -16,7 +16,8 @@ pub returns-in-Some-reach_at-clause-formats : goal.returns-in-Some-reach_at-clau
 returns-in-Some-reach_at-clause-formats g c =
     let s = sides_of c.args.self.now in
     let own = c.in-Some.own.now in
+    let Has = HasDataBreak s c.args.self.now.lengths.least c.args.self.now.lengths.entries.items in
     let there = c.in-Some.ensures.lookup.3 in
     when_on_ok _ _ c.push_own.result
-    (λ keeps have. keeps (subst (HasDataBreak s) (sym (there.1 own)) (subst (All (HasDataBreak s)) (sym c.deref.ensures.value) have c.args.place own there.0)))
+    (λ keeps have. keeps (subst Has (sym (there.1 own)) (subst (All Has) (sym c.deref.ensures.value) have c.args.place own there.0)))
     c.push_own.ensures.formats

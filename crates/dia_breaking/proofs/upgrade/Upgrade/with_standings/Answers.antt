@@ -5,6 +5,7 @@ use Rattle.dia_breaking.specs.Listing.{unchecked}
 use Rattle.dia_breaking.specs.Mended.{HasMessage}
 use Rattle.dia_breaking.specs.declared.line.Line.{Line}
 use Rattle.dia_breaking.specs.declared.line.Standing.TheVariants.{Confirmed}
+use Rattle.dia_breaking.specs.ShownLines.{HasSpellableKey}
 use Rattle.dia_breaking.specs.ToldMessages.{AreConfirmedWhere, IsConfirmedWhere}
 use Rattle.dia_breaking.specs.Upgrades.{sides_of, stock_of}
 use Rattle.dia_breaking.proofs.Lists.{all_more, image_more, none_of}
@@ -22,6 +23,7 @@ loop-line-init g c =
       each_mended = none_of (λ (line : Line). line.standing ≡ Confirmed → HasMessage (sides_of up) c.args.breaks.command c.args.breaks.sites.items line) c.new-lines.result.items none;
       standings = subst (HaveStandings c.args.left.now) (sym none) tt;
       exactly = subst (AreConfirmedWhere (sides_of up) (stock_of up) c.args.breaks.command c.args.breaks.sites.items c.args.left.now) (sym none) tt;
+      spellable = none_of (λ (line : Line). HasSpellableKey line.cause) c.new-lines.result.items none;
       left = ap (left_after c.args.left.now) (sym none);
     }
 
@@ -46,6 +48,7 @@ loop-line-preserved g c =
           (where_more (sides_of up) (stock_of up) c.args.breaks.command c.args.breaks.sites.items c.args.left.now old told c.loop-line.invariant.exactly
           (subst (λ left. IsConfirmedWhere (sides_of up) (stock_of up) c.args.breaks.command c.args.breaks.sites.items left told told.standing) c.loop-line.invariant.left
           (so_where (sides_of up) (stock_of up) c.args.breaks.command c.args.breaks.sites.items c.loop-line.left line told.standing c.in_ok-standing.ensures.exactly)));
+      spellable = all_more (λ (line : Line). HasSpellableKey line.cause) old _ _ is c.loop-line.invariant.spellable c.spell_key.ensures;
       left = c.left_behind.ensures ∙ ap (λ left. left_behind left line) c.loop-line.invariant.left
           ∙ sym (left_more c.args.left.now old told) ∙ ap (left_after c.args.left.now) (sym is);
     }
@@ -64,6 +67,9 @@ returns-clause-standings g c = c.loop-line.invariant.standings
 
 pub returns-clause-exactly : goal.returns-clause-exactly
 returns-clause-exactly g c = c.loop-line.invariant.exactly
+
+pub returns-clause-spellable : goal.returns-clause-spellable
+returns-clause-spellable g c = c.loop-line.invariant.spellable
 
 pub returns-clause-left : goal.returns-clause-left
 returns-clause-left g c = c.loop-line.invariant.left

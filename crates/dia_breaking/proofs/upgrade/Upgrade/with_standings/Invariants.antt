@@ -2,6 +2,7 @@ use Rattle.std.proofs.Common.{◌≡◌, map, take}
 use Rattle.dia_breaking.specs.Confirmed.{EachConfirmedBreaks, HaveStandings, left_after}
 use Rattle.dia_breaking.specs.Listing.{unchecked}
 use Rattle.dia_breaking.specs.Mended.{EachHasMessage}
+use Rattle.dia_breaking.specs.ShownLines.{HaveSpellableKeys}
 use Rattle.dia_breaking.specs.ToldMessages.{AreConfirmedWhere}
 use Rattle.dia_breaking.specs.Upgrades.{sides_of, stock_of}
 use Rattle.dia_breaking.proofs.upgrade.Upgrade.with_standings.Given as goal
@@ -13,5 +14,6 @@ invariant-loop-line g l = record {
   each_mended : EachHasMessage (sides_of l.self) l.fn.breaks.command l.fn.breaks.sites.items l.lines.items;
   standings : HaveStandings l.fn.left l.lines.items;
   exactly : AreConfirmedWhere (sides_of l.self) (stock_of l.self) l.fn.breaks.command l.fn.breaks.sites.items l.fn.left l.lines.items;
+  spellable : HaveSpellableKeys l.lines.items;
   left : l.left ≡ left_after l.fn.left l.lines.items;
 }
