@@ -1,5 +1,5 @@
 -- How the program ends where there is nothing to run, or a run didn't end.
-use Rattle.std.specs.Prelude.{◌≡◌, ◌≢◌, ◌⊎◌, ℕ, Bool, true, false, List, [], ◌∷◌, ◌++◌, Option, None, Some, ⊤, codes}
+use Rattle.std.specs.Prelude.{◌≡◌, ◌≢◌, ◌↔◌, ◌⊎◌, ℕ, Bool, true, false, List, [], ◌∷◌, ◌++◌, Option, None, Some, ⊤, codes}
 use Rattle.std.specs.Io.KnownBytes.{Appends}
 use Rattle.std.specs.Borrow.{Bor}
 use Rattle.std.specs.declared.io.Error.{Error}
@@ -46,6 +46,11 @@ EndsWith ending.ReadTwice status = status ≡ 2
 EndsWith (ending.Apart apart) status = status ≡ 2
 EndsWith (ending.Device name error) status = status ≡ 3
 EndsWith ending.NoMemory status = status ≡ 3
+
+-- two endings have one status, and both show help or neither
+pub record EndsAlike (made other : Ending) : Type 0 where
+  pub status : (n : ℕ) → EndsWith made n ↔ EndsWith other n
+  pub help : ShowsHelp made ↔ ShowsHelp other
 
 -- line feeds
 abbrev pub try_help : List ℕ

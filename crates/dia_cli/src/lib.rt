@@ -31,6 +31,7 @@ mod request;
 mod rows;
 mod shown;
 mod task;
+mod tips;
 mod values;
 
 pub use apart::Apart;
@@ -41,3 +42,4 @@ pub use opener::{OfProcess, Opener};
 pub use origin::{BASE_DICTIONARY, Origin, Origins, STANDARD_INPUT};
 pub use request::Request;
 pub use task::Task;
+pub use tips::advised;

@@ -1,22 +1,9 @@
-//! What is told beside an ending, and in its place.
+//! What is told beside an ending.
 
-use crate::tips::better_fault;
 use dia_cli::{BASE_DICTIONARY, Ending};
 use dia_explain_places::nearest_name;
 use dia_run::Exit;
-use std::alloc::Global;
 use std::io;
-
-/// An ending of words, told in better words where there are some.
-pub(crate) fn advised<'a>(alloc: Global, words: &[String], ending: Ending<'a>) -> Ending<'a> {
-    match ending {
-        Ending::Told(fault) => match better_fault(alloc, words, &fault) {
-            Some(better) => Ending::Told(better),
-            None => Ending::Told(fault),
-        },
-        other => other,
-    }
-}
 
 /// Whether a pipe that was written to is read by nobody any more.
 pub(crate) fn is_unread(ended: &Result<Exit, Ending<'_>>) -> bool {

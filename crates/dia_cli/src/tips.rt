@@ -1,6 +1,12 @@
 //! Tips about words that clap refuses, where its own tip leads astray: `--dict` belongs to `show` and `make`, and the
 //! dictionaries of the other commands are words.
 
+ghost use Rattle.std.specs.Prelude.{◌≡◌, IfSome};
+ghost use Rattle.clap.specs.declared.error.kind.ErrorKind.TheVariants.{UnknownArgument};
+ghost use Rattle.clap.specs.Words.{kind_of};
+ghost use Rattle.dia_cli.specs.Ending.{EndsAlike};
+
+use crate::ending::Ending;
 use clap::error::ErrorKind;
 use std::alloc::{AllocError, Global};
 
@@ -20,13 +26,25 @@ static DICT_USAGES: [(&str, &str); 2] = [
     ("make", "diacmd make [OPTIONS] <TEXT>"),
 ];
 
-/// A fault in other words, of the same kind, where words give a dictionary in the way of another command. `None` too where memory
-/// is refused.
-pub(crate) fn better_fault(
-    alloc: Global,
-    words: &[String],
-    fault: &clap::Error,
-) -> Option<clap::Error> {
+/// An ending, in better words where the words of the process give a dictionary in the way of another command. It stays as it is
+/// where memory for them is refused.
+pub fn advised<'a>(alloc: Global, words: &[String], ending: Ending<'a>) -> Ending<'a>
+    ensures { EndsAlike ending.entry result }
+{
+    match ending {
+        Ending::Told(fault) => match better_fault(alloc, words, &fault) {
+            Some(better) => Ending::Told(better),
+            None => Ending::Told(fault),
+        },
+        other => other,
+    }
+}
+
+/// A fault in other words, if there are better ones.
+fn better_fault(alloc: Global, words: &[String], fault: &clap::Error) -> Option<clap::Error>
+    ensures same { IfSome result (λ better. kind_of better ≡ kind_of fault.now) }
+    ensures kind { IfSome result (λ better. kind_of better ≡ UnknownArgument) }
+{
     match fault.kind() {
         ErrorKind::UnknownArgument => unexpected(alloc, words),
         _ => None,
@@ -34,7 +52,9 @@ pub(crate) fn better_fault(
 }
 
 /// What is told of an argument that isn't expected.
-fn unexpected(alloc: Global, words: &[String]) -> Option<clap::Error> {
+fn unexpected(alloc: Global, words: &[String]) -> Option<clap::Error>
+    ensures { IfSome result (λ fault. kind_of fault ≡ UnknownArgument) }
+{
     let command = words.get(1)?.as_str();
     let rest = words.get(2..)?;
     if let Some(usage) = DICT_USAGES.iter().find(|row| row.0 == command) {
@@ -54,7 +74,9 @@ fn is_dict(word: &str) -> bool {
 }
 
 /// What is told of `show D MESSAGE`, and of `make D TEXT`.
-fn given(alloc: Global, command: &str, usage: &str, rest: &[String]) -> Option<clap::Error> {
+fn given(alloc: Global, command: &str, usage: &str, rest: &[String]) -> Option<clap::Error>
+    ensures { IfSome result (λ fault. kind_of fault ≡ UnknownArgument) }
+{
     if rest.iter().any(|word| word.as_str().starts_with("--")) {
         return None;
     }
@@ -68,7 +90,9 @@ fn given(alloc: Global, command: &str, usage: &str, rest: &[String]) -> Option<c
 }
 
 /// What is told of `--dict` for a command whose dictionaries are words.
-fn worded(alloc: Global, command: &str, usage: &str) -> Option<clap::Error> {
+fn worded(alloc: Global, command: &str, usage: &str) -> Option<clap::Error>
+    ensures { IfSome result (λ fault. kind_of fault ≡ UnknownArgument) }
+{
     let told = format!(in alloc;
         "unexpected argument '--dict' found\n\n  tip: only show and make have --dict, and \
          {command} takes each dictionary as a word"
@@ -77,7 +101,9 @@ fn worded(alloc: Global, command: &str, usage: &str) -> Option<clap::Error> {
 }
 
 /// The fault with this text, and a usage.
-fn fault(alloc: Global, told: Result<String, AllocError>, usage: &str) -> Option<clap::Error> {
+fn fault(alloc: Global, told: Result<String, AllocError>, usage: &str) -> Option<clap::Error>
+    ensures { IfSome result (λ fault. kind_of fault ≡ UnknownArgument) }
+{
     let told = told.ok()?;
     let mut line = clap::Command::new(alloc, "diacmd").override_usage(usage);
     line.error(ErrorKind::UnknownArgument, &told).ok()
