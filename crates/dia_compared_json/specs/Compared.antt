@@ -48,3 +48,8 @@ IsCompareJson u inputs text exit =
     ((a : Dictionary) × (b : Dictionary) × (table : PlainTable) × IsDictionaryText inputs.first a × IsDictionaryText inputs.second b
     × IsTableText inputs.table table × TellsComparison u table a b text exit)
     ⊎ (RefusedDictionaries inputs text exit ⊎ IsRefusal (RefusesAs (IsCompareOutcome u inputs)) inputs.table text exit)
+
+-- two dictionaries, a policy and a table have one text, and one way to end
+abbrev pub ComparisonHasOneText : Type 0
+ComparisonHasOneText = (a b : Dictionary) (u : Unknown) (table : PlainTable) (text other : List ℕ) (exit ending : Exit)
+    → TellsComparison u table a b text exit → TellsComparison u table a b other ending → (text ≡ other) × (exit ≡ ending)

@@ -11,6 +11,7 @@ mod failing_parts;
 mod failing_words;
 mod failings;
 mod failures;
+mod laws;
 mod parts;
 mod quoting;
 mod rules;
@@ -18,3 +19,4 @@ mod sides;
 mod words;
 
 pub use comparing::compare;
+pub use laws::one_comparison_text;
