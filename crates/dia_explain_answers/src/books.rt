@@ -5,7 +5,7 @@ ghost use Rattle.dia_book.specs.Dictionary.{definitions};
 
 use crate::rule_text::{format_word, m_word, push_code, push_vendor};
 use crate::texts::{Added, Scene};
-use dia_book::{Book, Class, DefHead, DefId, Definition, Format, Key, MRule, Slot};
+use dia_book::{Book, Class, DRule, DefHead, DefId, Definition, Format, Key, MRule, Slot};
 use dia_wire::Header;
 
 /// An AVP that a dictionary has.
@@ -33,12 +33,50 @@ pub fn avp_of<B: Book>(book: &B, key: Key) -> Option<Known<'_>> {
 impl Scene for Known<'_> {
     fn push_word(&self, out: &mut String, word: &str) -> Added {
         match word {
-            "format" => out.push_str(format_word(self.format)),
-            "m" => out.push_str(m_word(self.rule)),
+            "name" => out.push_str(self.name),
             "code" => push_code(out, self.key),
             "vendor" => push_vendor(out, self.key.vendor),
-            _ => out.push_str(self.name),
+            _ => out.push_str(self.declared_word(word)),
         }
+    }
+}
+
+impl Known<'_> {
+    /// What a word about the format or the rule stands for.
+    fn declared_word(&self, word: &str) -> &'static str {
+        match word {
+            "format" => format_word(self.format),
+            "m" => m_word(self.rule),
+            "sends" => sent_flag(self.rule),
+            "takes" => taken_flag(self.rule),
+            _ => values_of(self.format),
+        }
+    }
+}
+
+/// What a rule of the M flag says of the AVPs that are sent.
+fn sent_flag(rule: MRule) -> &'static str {
+    match rule {
+        MRule::Must => ": it is sent with the M flag",
+        MRule::MustNot => ": it is sent without the M flag",
+        MRule::Any => ": it may be sent with the M flag, and without",
+    }
+}
+
+/// What it says of the AVPs that are taken.
+fn taken_flag(rule: MRule) -> &'static str {
+    match rule {
+        MRule::Must => ": without the M flag it is refused",
+        MRule::MustNot => ": with the M flag it is refused",
+        MRule::Any => "",
+    }
+}
+
+/// Which values an Enumerated AVP may have.
+fn values_of(format: &Format) -> &'static str {
+    match format {
+        Format::Enumerated(values) if values.list().is_some() => "has these values here",
+        _ => "may have any value here",
     }
 }
 
@@ -102,6 +140,16 @@ fn def_of<B: Book>(book: &B, level: Level) -> Option<DefId>
         Level::Body { code, class, app } => book.select(code, class, app),
         Level::Group(key) => group_of(book, key),
     }
+}
+
+/// The place of the rule for AVP.
+pub fn wildcard_among(rules: &[DRule]) -> Option<usize> {
+    for (place, rule) in rules.iter().enumerate() {
+        if rule.key.is_none() {
+            return Some(place);
+        }
+    }
+    None
 }
 
 /// The definition of the group with this key.

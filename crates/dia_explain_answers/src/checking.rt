@@ -1,12 +1,11 @@
 //! How messages are checked, and what is told of one that isn't valid.
 
 use crate::faults::{Message, push_refusal};
-use crate::sides::{Side, sites_of};
+use crate::sides::Side;
 use crate::texts::Added;
 use dia_check::{Levels, Unknown};
 use dia_explain_places::InputTexts;
 use dia_report::Invalid;
-use std::alloc::Global;
 
 /// How messages are checked.
 #[derive(Clone, Copy)]
@@ -39,14 +38,8 @@ pub fn policy_words(unknown: Unknown) -> &'static str {
 }
 
 /// Adds the first fault of a message.
-pub fn push_check(
-    alloc: Global,
-    out: &mut String,
-    texts: &InputTexts<'_>,
-    found: &Invalid,
-) -> Added {
-    let sites = sites_of(alloc, &texts.first, &found.first)?;
-    let side = Side::of(&texts.first, &found.first, &sites);
+pub fn push_check(out: &mut String, texts: &InputTexts<'_>, found: &Invalid) -> Added {
+    let side = Side::of(&texts.first, &found.first);
     let message = Message::of(&texts.message, &found.message);
     let asked = Asked::new(found.unknown, found.levels);
     push_refusal(out, &side, &message, &asked, &found.refusal)

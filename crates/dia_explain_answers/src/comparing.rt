@@ -1,20 +1,19 @@
 //! What is told of a pair that fails a test.
 
-mod failings;
 mod pair;
 mod pairing;
 mod parts;
-mod says;
+mod reasons;
 
-use crate::sides::{Side, sites_of};
-use crate::texts::{Added, push_hint};
+use crate::sides::Side;
+use crate::texts::Added;
 use dia_compat::{Answer, Failing, PairKind, Test, failings};
 use dia_explain_places::{InputTexts, push_start};
 use dia_report::Compared;
-use failings::{hint_of, lines_of};
 use pair::Pair;
 use pairing::{Pairing, place_of_pair};
-use parts::push_line;
+use parts::push_lines;
+use reasons::{lines_of, more_of};
 use std::alloc::{AllocError, Global};
 
 /// Adds the note of the first pair of a table that fails a test.
@@ -27,11 +26,9 @@ pub fn push_compare(
     let Answer::No { kind, pair, reason } = found.answer else {
         return Ok(());
     };
-    let first = sites_of(alloc, &texts.first, &found.books.first)?;
-    let second = sites_of(alloc, &texts.second, &found.books.second)?;
     let pairing = Pairing {
-        a: Side::of(&texts.first, &found.books.first, &first),
-        b: Side::of(&texts.second, &found.books.second, &second),
+        a: Side::of(&texts.first, &found.books.first),
+        b: Side::of(&texts.second, &found.books.second),
         unknown: found.unknown,
         table: &found.table,
         name: texts.table.name,
@@ -111,21 +108,36 @@ fn push_pair(
     number: usize,
     failing: Failing,
 ) -> Added {
-    let Some(pair) = Pair::of(pairing, kind, number, failing) else {
-        return Ok(());
+    let pairs = match kind {
+        PairKind::Command => &pairing.table.commands,
+        PairKind::Avp => &pairing.table.avps,
     };
-    for line in lines_of(&pair) {
-        push_line(out, &pair, line)?;
-    }
-    push_hint(out, &pair, hint_of(&pair))?;
-    push_hint(
-        out,
-        &pair,
-        match kind {
-            PairKind::Command =>
-                "`diacmd breaking{policy} {a} {b} {x}` lists all that breaks, if anything does",
-            PairKind::Avp =>
-                "`diacmd breaking{policy} {a} {b}` lists all that breaks, if anything does",
+    match (pairs.get(number), failing) {
+        (None, _) | (_, Failing::FirstName | Failing::SecondName) => Ok(()),
+        (Some(names), _) => match kind {
+            PairKind::Command => push_failed(
+                out,
+                &Pair::of_commands(pairing, failing, names),
+                kind,
+            ),
+            PairKind::Avp => push_failed(out, &Pair::of_avps(pairing, failing, names), kind),
         },
-    )
+    }
+}
+
+/// Adds what shows that a pair fails the test, and what to do.
+fn push_failed(out: &mut String, pair: &Pair<'_>, kind: PairKind) -> Added {
+    push_lines(out, pair, lines_of(pair.failing))?;
+    push_lines(out, pair, more_of(pair))?;
+    push_lines(out, pair, listed_by(kind))
+}
+
+/// What lists all that breaks.
+fn listed_by(kind: PairKind) -> &'static str {
+    match kind {
+        PairKind::Command =>
+            "hint: `diacmd breaking{policy} {a} {b} {x}` lists all that breaks, if anything does",
+        PairKind::Avp =>
+            "hint: `diacmd breaking{policy} {a} {b}` lists all that breaks, if anything does",
+    }
 }

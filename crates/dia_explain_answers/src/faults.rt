@@ -56,20 +56,46 @@ pub fn push_refusal(
     asked: &Asked,
     refusal: &Refusal,
 ) -> Added {
-    let (Refusal::Fault(fault), Ok((header, _))) = (refusal, read_header(message.bytes)) else {
-        return Ok(());
-    };
-    match fault.reason {
-        Reason::Bits | Reason::Command | Reason::Application | Reason::Proxiable => {
-            message.push_spot(out, fault.place as usize)?;
-            push_header_fault(out, side, &header, fault.reason)?;
+    match (refusal, read_header(message.bytes)) {
+        (Refusal::Fault(fault), Ok((header, _))) => {
+            push_fault(out, side, message, asked, &header, fault)
         }
-        _ => push_in_body(out, side, message, asked, &header, fault)?,
+        _ => Ok(()),
     }
+}
+
+/// Adds a fault, and that a request looks like an answer, where it may be the cause.
+fn push_fault(
+    out: &mut String,
+    side: &Side<'_>,
+    message: &Message<'_>,
+    asked: &Asked,
+    header: &Header,
+    fault: &Fault,
+) -> Added {
     match fault.reason {
-        Reason::Bits | Reason::Proxiable => Ok(()),
-        _ => push_result(out, side, &header, message.bytes),
+        Reason::Bits | Reason::Proxiable => push_in_header(out, side, message, header, fault),
+        Reason::Command | Reason::Application => {
+            push_in_header(out, side, message, header, fault)?;
+            push_result(out, side, header, message.bytes)
+        }
+        _ => {
+            push_in_body(out, side, message, asked, header, fault)?;
+            push_result(out, side, header, message.bytes)
+        }
     }
+}
+
+/// Adds the note of a fault in the header of a message.
+fn push_in_header(
+    out: &mut String,
+    side: &Side<'_>,
+    message: &Message<'_>,
+    header: &Header,
+    fault: &Fault,
+) -> Added {
+    message.push_spot(out, fault.place as usize)?;
+    push_header_fault(out, side, header, fault.reason)
 }
 
 /// Adds the note of a fault in the body of a message.

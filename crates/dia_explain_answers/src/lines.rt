@@ -1,10 +1,20 @@
 //! What is told of messages that stand a line each, and aren't kept: how one is explained by itself.
 
 use crate::checking::{Asked, push_options};
-use crate::texts::Added;
+use crate::texts::{Added, Scene, push_text};
 
 /// The word of standard input.
 const STANDARD_INPUT: &str = "-";
+
+/// The words of a command that explains one line.
+#[derive(Clone, Copy)]
+struct Alone<'a> {
+    /// The word that names the text of all messages.
+    messages: &'a str,
+    asked: Asked,
+    first: &'a str,
+    second: &'a str,
+}
 
 /// Adds the command that explains one line of `check`. `messages` is the word that names the text of all.
 pub fn push_check_alone(
@@ -13,10 +23,22 @@ pub fn push_check_alone(
     asked: &Asked,
     dictionary: &str,
 ) -> Added {
-    push_command(out, messages, "check")?;
-    push_options(out, asked)?;
-    write!(out, " {dictionary} -` explains the fault")?;
-    push_line(out, messages)
+    let scene = Alone {
+        messages,
+        asked: *asked,
+        first: dictionary,
+        second: "",
+    };
+    push_text(
+        out,
+        &scene,
+        if messages == STANDARD_INPUT {
+            "hint: of a line alone, `diacmd check{options} {first} -` explains the fault\n"
+        } else {
+            "hint: `sed -n NUMBERp {messages} | diacmd check{options} {first} -` explains the fault \
+             of the line with that number\n"
+        },
+    )
 }
 
 /// Adds the command that explains one line of `refute`. `messages` is the word that names the text of all.
@@ -27,26 +49,31 @@ pub fn push_refute_alone(
     first: &str,
     second: &str,
 ) -> Added {
-    push_command(out, messages, "refute")?;
-    push_options(out, asked)?;
-    write!(out, " {first} {second} -` explains the answer")?;
-    push_line(out, messages)
+    let scene = Alone {
+        messages,
+        asked: *asked,
+        first,
+        second,
+    };
+    push_text(
+        out,
+        &scene,
+        if messages == STANDARD_INPUT {
+            "hint: of a line alone, `diacmd refute{options} {first} {second} -` explains the answer\n"
+        } else {
+            "hint: `sed -n NUMBERp {messages} | diacmd refute{options} {first} {second} -` explains the answer \
+             of the line with that number\n"
+        },
+    )
 }
 
-/// Begins the command for one line.
-fn push_command(out: &mut String, messages: &str, command: &str) -> Added {
-    if messages == STANDARD_INPUT {
-        write!(out, "hint: of a line alone, `diacmd {command}")
-    } else {
-        write!(out, "hint: `sed -n NUMBERp {messages} | diacmd {command}")
-    }
-}
-
-/// Ends the hint: of the text of all a line is taken by its number.
-fn push_line(out: &mut String, messages: &str) -> Added {
-    if messages == STANDARD_INPUT {
-        out.push('\n')
-    } else {
-        out.push_str(" of the line with that number\n")
+impl Scene for Alone<'_> {
+    fn push_word(&self, out: &mut String, word: &str) -> Added {
+        match word {
+            "messages" => out.push_str(self.messages),
+            "first" => out.push_str(self.first),
+            "second" => out.push_str(self.second),
+            _ => push_options(out, &self.asked),
+        }
     }
 }

@@ -52,27 +52,23 @@ fn push_qualifier(out: &mut String, rule: &DRule, plain: u32, starred: u32) -> A
     }
 }
 
-/// Adds counts: `3`, `0..1` or `1..*`.
-fn push_counts(out: &mut String, min: u32, max: Option<u32>) -> Added {
+/// Adds the counts of a rule: `3`, `0..1` or `1..*`.
+pub fn push_counts(out: &mut String, rule: &DRule) -> Added {
+    let DRule { min, max, .. } = *rule;
+    write!(out, "{min}")?;
     match max {
-        Some(max) if max == min => write!(out, "{min}"),
-        Some(max) => write!(out, "{min}..{max}"),
-        None => write!(out, "{min}..*"),
+        Some(max) if max == min => Ok(()),
+        Some(max) => write!(out, "..{max}"),
+        None => out.push_str("..*"),
     }
 }
 
-/// Adds counts of what a rule is for, and the rule: `0..* of X, by * [ X ]`.
+/// Adds what a rule counts.
 pub fn push_counted(out: &mut String, side: &Side<'_>, rule: &DRule) -> Added {
-    push_counts(out, rule.min, rule.max)?;
     match rule.key {
-        Some(_) => {
-            out.push_str(" of ")?;
-            push_slot(out, side, rule)?;
-        }
-        None => out.push_str(" of what no rule names")?,
+        Some(key) => side.push_name(out, key),
+        None => out.push_str("what no rule names"),
     }
-    out.push_str(", by ")?;
-    push_rule(out, side, rule)
 }
 
 /// A rule with the counts of two.
@@ -97,10 +93,10 @@ pub fn widened(rule: &DRule, other: &DRule) -> DRule {
 /// Adds a code, and behind it the vendor, where there is one. `between` is the word between the two.
 pub fn push_key(out: &mut String, key: Key, between: &str) -> Added {
     let Key { code, vendor } = key;
-    if vendor == 0 {
-        write!(out, "{code}")
-    } else {
-        write!(out, "{code}{between}{vendor}")
+    write!(out, "{code}")?;
+    match vendor {
+        0 => Ok(()),
+        _ => write!(out, "{between}{vendor}"),
     }
 }
 

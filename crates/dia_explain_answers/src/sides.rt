@@ -3,38 +3,28 @@
 use crate::books::avp_of;
 use crate::texts::{Added, Scene, push_text};
 use dia_book::{DefHead, Definition, Key};
+use dia_ccf::{Def, Source};
 use dia_dict::IndexedBook;
-use dia_explain_places::{DefSite, NamedText, Sites, back, front_of_run, push_excerpt, push_start};
+use dia_explain_places::{NamedText, name_from, push_excerpt, push_start};
 use dia_report::ReadBook;
-use std::alloc::{AllocError, Global};
 
-/// A dictionary, the word that names its text, the text, and the places of its parts.
+/// A dictionary, the word that names its text, the text, and what the text says.
 #[derive(Clone, Copy)]
 pub struct Side<'a> {
     pub book: &'a IndexedBook,
     pub name: &'a str,
-    pub text: &'a [u8],
-    pub sites: &'a Sites,
-}
-
-/// The places of the parts of a dictionary's text.
-pub fn sites_of(
-    alloc: Global,
-    dictionary: &NamedText<'_>,
-    read: &ReadBook,
-) -> Result<Sites, AllocError> {
-    let text = str::from_utf8(dictionary.text).unwrap_or("");
-    dia_explain_places::sites_of(alloc, text, &read.source)
+    pub text: &'a str,
+    pub source: &'a Source,
 }
 
 impl<'a> Side<'a> {
     /// A dictionary that was read from a text.
-    pub fn of(dictionary: &NamedText<'a>, read: &'a ReadBook, sites: &'a Sites) -> Self {
+    pub fn of(dictionary: &NamedText<'a>, read: &'a ReadBook) -> Self {
         Side {
             book: &read.book,
             name: dictionary.name,
-            text: dictionary.text,
-            sites,
+            text: str::from_utf8(dictionary.text).unwrap_or(""),
+            source: &read.source,
         }
     }
 
@@ -46,11 +36,11 @@ impl<'a> Side<'a> {
         scene: &S,
         told: &str,
     ) -> Added {
-        push_start(out, self.name, self.text, at)?;
+        push_start(out, self.name, self.text.as_bytes(), at)?;
         push_text(out, scene, told)?;
         out.push('\n')?;
         match at {
-            Some(at) => push_excerpt(*out.allocator(), out, self.text, at),
+            Some(at) => push_excerpt(*out.allocator(), out, self.text.as_bytes(), at),
             None => Ok(()),
         }
     }
@@ -65,37 +55,44 @@ impl<'a> Side<'a> {
 
     /// The place of the name of a definition.
     pub fn definition_at(&self, def: &Definition) -> Option<usize> {
-        Some(self.site_of(def)?.at)
+        Some(self.place(self.def_of(def)?.at))
     }
 
     /// The place of the name in a rule of a definition.
     pub fn rule_at(&self, def: &Definition, index: usize) -> Option<usize> {
-        let site = self.site_of(def)?;
-        let place = site.first_rule.checked_add(index)?;
-        self.sites.rules.get(place).copied()
+        Some(self.place(self.def_of(def)?.rules.get(index)?.at))
     }
 
     /// The place of the name in the declaration of an AVP, or in its definition where it has no declaration.
     pub fn avp_at(&self, name: &str) -> Option<usize> {
-        let mut declarations = self.sites.decls.iter().copied();
-        match declarations.find(|at| names_at(self.text, *at, name)) {
-            Some(at) => Some(at),
-            None => Some(self.named_site(name, true)?.at),
+        for decl in &self.source.avps {
+            if decl.name.as_str() == name {
+                return Some(self.place(decl.at));
+            }
         }
+        Some(self.place(def_named(&self.source.groups, name)?.at))
     }
 
-    fn site_of(&self, def: &Definition) -> Option<DefSite> {
-        let is_group = matches!(def.head, DefHead::Group(_));
-        self.named_site(def.name.as_str(), is_group)
+    /// The place of the first name of what begins at a place.
+    fn place(&self, at: usize) -> usize {
+        name_from(self.text, at)
     }
 
-    fn named_site(&self, name: &str, is_group: bool) -> Option<DefSite> {
-        self.sites.defs.iter().copied().find(|site| site.is_group == is_group
-            && names_at(self.text, site.at, name))
+    /// What the text says of a definition.
+    fn def_of(&self, def: &Definition) -> Option<&'a Def> {
+        let defs = match def.head {
+            DefHead::Group(_) => &self.source.groups,
+            DefHead::Command { .. } | DefHead::Error { .. } => &self.source.commands,
+        };
+        def_named(defs, def.name.as_str())
     }
 }
 
-/// Whether the word at a place of a text is this name.
-fn names_at(text: &[u8], at: usize, name: &str) -> bool {
-    front_of_run(back(text, at)) == name.as_bytes()
+fn def_named<'a>(defs: &'a [Def], name: &str) -> Option<&'a Def> {
+    for def in defs {
+        if def.name.as_str() == name {
+            return Some(def);
+        }
+    }
+    None
 }

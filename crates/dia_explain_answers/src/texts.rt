@@ -25,6 +25,11 @@ pub fn push_text<S: Scene>(out: &mut String, scene: &S, text: &str) -> Added {
     Ok(())
 }
 
+/// What is wrong, and what to do: the two lines of a text.
+pub fn fault_and_hint(text: &str) -> (&str, &str) {
+    text.split_once('\n').unwrap_or((text, ""))
+}
+
 /// Adds what to do.
 pub fn push_hint<S: Scene>(out: &mut String, scene: &S, text: &str) -> Added {
     out.push_str("hint: ")?;

@@ -124,17 +124,19 @@ pub fn push_empty(out: &mut String, dictionary: &NamedText<'_>) -> Added {
         return Ok(());
     }
     let is_cut = is_cut_by_comment(text);
-    if is_empty(text) {
-        let told = "the dictionary is empty: it has no declaration and no definition";
-        write!(out, "{name}: {told}\n")?;
+    let told = if is_empty(text) {
+        "the dictionary is empty: it has no declaration and no definition"
     } else if is_cut {
-        let told = "what stands behind the first ; of the dictionary is a comment";
-        write!(out, "{name}: {told}\n")?;
-    }
+        "what stands behind the first ; of the dictionary is a comment"
+    } else {
+        return Ok(());
+    };
+    write!(out, "{name}: {told}\n")?;
     if is_cut {
-        return push_hint(out, RETURNS);
+        push_hint(out, RETURNS)
+    } else {
+        Ok(())
     }
-    Ok(())
 }
 
 /// Whether a text has no token.

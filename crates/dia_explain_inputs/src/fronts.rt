@@ -1,7 +1,7 @@
 //! What is told of a text of many messages whose front shows that it is none.
 
-use crate::kinds::{first_line, is_capture};
-use crate::messages::{bytes_of, dump_of, first_bad, push_bad};
+use crate::kinds::{first_bad, first_line, is_capture};
+use crate::messages::{bytes_of, dump_of, push_bad};
 use crate::notes::{Added, push_whole};
 use dia_explain_places::{NamedText, count_digits};
 use std::alloc::{AllocError, Global};

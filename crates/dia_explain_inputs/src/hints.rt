@@ -1,7 +1,8 @@
 //! What to do about what stands in the place of something else: a row for each hint.
 //!
 //! `PLACE: SIGN => HINT`: at this place the hint is told where the sign is seen. A row has several places with a space between
-//! them, and several signs with ` or `. The first row that fits is told.
+//! them, and several signs with ` or `. The first row that fits is told. A line with `#` in front says what the rows below it are
+//! about.
 //!
 //! | Sign | Is seen where |
 //! |---|---|
@@ -13,162 +14,162 @@
 
 use crate::kinds::has_part;
 
-static HINTS: [&str; 128] = [
-    // whole texts
-    "dictionary message: \u{feff}.. => the text begins with a byte order mark: save it as UTF-8 without one",
-    "dictionary: <!doctype html.. or <!DOCTYPE html.. or <!DOCTYPE HTML.. or <html.. or <HTML.. => this is a web page: save it \
-     as text, and take the declarations and definitions from there",
-    "dictionary: {.. or [.. => this looks like JSON, or like a program: `diacmd render @base` prints what a dictionary looks \
-     like",
-    "dictionary: <?xml.. or <!.. or <dictionary.. or <base.. or <application.. or <vendor.. or <avp .. or <command .. or \
+static HINTS: &str = "\
+    # whole texts\n\
+    dictionary message: \u{feff}.. => the text begins with a byte order mark: save it as UTF-8 without one\n\
+    dictionary: <!doctype html.. or <!DOCTYPE html.. or <!DOCTYPE HTML.. or <html.. or <HTML.. => this is a web page: save it \
+     as text, and take the declarations and definitions from there\n\
+    dictionary: {.. or [.. => this looks like JSON, or like a program: `diacmd render @base` prints what a dictionary looks \
+     like\n\
+    dictionary: <?xml.. or <!.. or <dictionary.. or <base.. or <application.. or <vendor.. or <avp .. or <command .. or \
      <define.. or <pdml.. => this looks like XML: dictionaries/from_wireshark.py makes a dictionary text of wireshark's \
-     dictionary.xml",
-    "dictionary: @base.. => @base names the built-in dictionary on the command line, and not in a text",
-    "dictionary: @.. => this looks like a .dia file: dictionaries/from_dia.py makes a dictionary text of it",
-    "dictionary: dictionary 1: .. => this isn't a dictionary, but what render wrote where it refused one: run it again, and \
-     read what it says",
-    "dictionary: a table => this looks like a table of pairs: the order of the words is A B TABLE",
-    "dictionary: a message => this looks like a message in hexadecimal: the dictionary stands before the message",
-    "message: a dictionary => this looks like a dictionary: the dictionary stands before the message",
-    "message: @base.. => a message stands here, and @base names a dictionary",
-    "message: a table => this looks like a table of pairs, and a message is wanted here",
-    "message: header flags .. => this is what `show` wrote, and it isn't read back: keep the digits of the message",
-    "message: <.. or {\".. or [.. => this looks like XML or JSON: docs/CAPTURES.md says how to take the messages out of a \
-     capture",
-    "message: base64 => this looks like base64: `base64 -d FILE | xxd -p` writes the digits",
-    // what stands for a digit of a message
-    "digit: x.. or X.. or \\.. => write the digits without 0x or \\x",
-    "digit: ;.. or #.. => the text of a message has no comments",
-    "digit: :.. or ,.. or -.. or {.. or [.. or \".. or '.. => write the digits with nothing but white space between them",
-    "digit: o => this is the letter O: write the digit 0",
-    "digit: l.. or I.. => this is a letter: write the digit 1",
-    "digit: not ASCII => this character isn't ASCII: write the digits with nothing but spaces between them",
-    "digit: anything => a message is its bytes as hexadecimal digits, as `xxd -p FILE` prints them",
-    // words of a table
-    "pair name sign behind: #.. or //.. => a comment begins with ;",
-    "pair: \u{feff}.. => the text begins with a byte order mark: save it as UTF-8 without one",
-    "pair: propose: or dictionary => this isn't a table, but what propose wrote where it was refused: run it again, and read \
-     what it says",
-    "pair: @base => a table stands here, and @base names a dictionary",
-    "pair: command or avp => command and avp are written in small letters",
-    "pair: commands or avps => a line has one pair: command A = B, or avp A = B",
-    "pair: %avp or <.. => this looks like a dictionary: the order of the words is A B TABLE",
-    "pair: %.. => command and avp stand without %",
-    "pair: ..,.. => spaces stand between the words, and no commas: a line is command A = B",
-    "pair: a message => this looks like a message in hexadecimal, and a table is wanted here",
-    "name: ..=.. => write a space on each side of =, as in command A = B",
-    "name: .._.. => a name has letters, digits and dashes: write - for _",
-    "name: ..,.. => a line has one pair",
-    "name: \".. or <.. => names stand without quotes and brackets",
-    "name: a number => a pair has the names of the two dictionaries, and no codes",
-    "name: anything or the end => a line is command A = B, or avp A = B",
-    "sign: the end => a line is command A = B, or avp A = B",
-    "sign: anything => the sign between two names is =, with a space on each side",
-    "behind: anything => a line has one pair",
-    // what goes before the hints on the token of a dictionary
-    "MustNot: anything or the end => the rule mustnot is one word",
-    "Longer: anything or the end => a declaration begins with %avp and a space, as in %avp Session-Id 263 UTF8String must",
-    "Commented: anything or the end => a ; begins a comment, up to the end of its line: commas stand in a header",
-    "HeadFlags HeadError HeadVendor HeadClose: {.. or [.. or <.. => a header ends with >, as < Diameter Header: 272, REQ >",
-    "HeadFlags HeadError HeadVendor HeadClose: vendor => a group has the number of its vendor in the header, as < AVP Header: \
-     1400 10415 >",
-    "HeadFlags HeadError HeadVendor HeadClose: REQ => REQ stands behind the Command Code, before PXY and the Application-ID",
-    "HeadFlags HeadError HeadVendor HeadClose: ERR => the answers with an error of all commands have one definition: < \
-     Diameter Header: code, ERR >",
-    // characters and runs that may stand in comments alone, wherever they stand
-    "Token: \u{a0}.. => this is a no-break space: write a space",
-    "Token: \u{ad}.. => this is a soft hyphen, which isn't always shown: take it out, or write -",
-    "Token: \u{200b}.. or \u{feff}.. => this is a character without width: take it out",
-    "Token: \u{2010}.. or \u{2011}.. or \u{2012}.. or \u{2013}.. or \u{2014}.. or \u{2015}.. or \u{2212}.. => this is a dash \
-     that isn't ASCII: write -",
-    "Token: \u{2018}.. or \u{2019}.. or \u{201a}.. or \u{201b}.. or \u{201c}.. or \u{201d}.. or \u{201e}.. or \u{201f}.. or \
-     \".. or '.. => names stand without quotes",
-    "Token: \u{2026}.. => these dots are one character: write two dots, as 0..3",
-    "Token: not ASCII => this character isn't ASCII, and such characters may stand in comments alone",
-    "Token: _.. => a name has letters, digits and dashes: write - for _",
-    "Token: \x0c.. => this is a form feed, as at the end of a page of an RFC: take out the page breaks with their headers and \
-     footers",
-    "Token: \0.. => this is a NUL character: if the file is UTF-16, save it as UTF-8, else take it out",
-    "Token: `.. => take out the lines with ```, and quotes around names",
-    "Token: &.. => this is text of a web page (&lt; is <): save the page as text, and take its parts from there",
-    "Token: @.. => a line with @ is one of a .dia file: dictionaries/from_dia.py makes a dictionary text of it",
-    "Token: #include.. => a text has no includes: `cat` makes one dictionary of several files",
-    "Token: #.. or //.. or /*.. => a comment begins with ;",
-    "Token: %AVP.. or %Avp.. => a declaration begins with %avp, in small letters",
-    "Token: % => the only word with % is %avp; `cat` makes one dictionary of several files",
-    // declarations
-    "Name Code VendorOrFormat Vendor Format MRule: , => the words of a declaration stand without commas",
-    "Name: a number => a declaration is %avp NAME CODE [vendor N] FORMAT RULE: the name stands before the code",
-    "Name: AVP => AVP in a rule is the wildcard, and no AVP may have this name",
-    "Code CommandCode GroupCode: 0x.. or 0X.. => codes are decimal",
-    "Code: AVP or Code => the code is its number alone, as in %avp Session-Id 263 UTF8String must",
-    "Code: vendor => the vendor stands behind the code, as %avp NAME CODE vendor 10415 FORMAT RULE",
-    "Code: a name => a name has no spaces: join its words by a dash; the code stands behind it",
-    "Code: . => a name has letters, digits and dashes",
-    "Vendor: a name => the vendor is told by its number, as vendor 10415 for 3GPP",
-    "VendorOrFormat Format: String or Text => did you mean UTF8String?",
-    "VendorOrFormat Format: Octets or Bytes or Binary => did you mean OctetString?",
-    "VendorOrFormat Format: DiamIdent => did you mean DiameterIdentity?",
-    "VendorOrFormat Format: DiamURI or URI => did you mean DiameterURI?",
-    "VendorOrFormat Format: Enum => did you mean Enumerated?",
-    "VendorOrFormat Format: UInt32 => did you mean Unsigned32?",
-    "VendorOrFormat Format: UInt64 => did you mean Unsigned64?",
-    "VendorOrFormat Format: Int32 => did you mean Integer32?",
-    "VendorOrFormat Format: Int64 => did you mean Integer64?",
-    "VendorOrFormat Format: Date => did you mean Time?",
-    "VendorOrFormat: a number => write vendor before the number of the vendor",
-    "VendorOrFormat Vendor: ( => a vendor stands without brackets, as vendor 10415",
-    "VendorOrFormat Vendor: : or = or / => a vendor is written behind the code, as vendor 10415",
-    "VendorOrFormat: vendor => vendor is written in small letters",
-    "VendorOrFormat: must or mustnot or any => the data format stands before the rule of the M flag",
-    "MRule: must or mustnot or any => the rules of the M flag are written in small letters: must, mustnot, any",
-    "MRule: may or should => where an RFC says that M may or should be set, the rule is any",
-    "MRule: ( => a list of values stands behind the rule of an Enumerated AVP, as Enumerated any ( 0 1 )",
-    "MRule: a name => where an RFC's table has M under MUST, the rule is must; where it has it under MUST NOT, mustnot; else \
-     any",
-    "Name Code VendorOrFormat Vendor Format MRule: anything or the end => a declaration is %avp NAME CODE [vendor N] FORMAT \
-     RULE, as %avp Session-Id 263 UTF8String must",
-    "Values: a number or { or [ or : => a list of values stands in round brackets, as Enumerated any ( 0 1 4..7 )",
-    "Value: , => the values of a list stand without commas, as in ( 0 1 4..7 )",
-    "Value: ) => a list has one value at least: where there is none, leave out the brackets",
-    "Value High: a name or = or | or / => a list has the numbers of the values, without their names",
-    "High: a number => a range is LOW..HIGH",
-    "Value High: -.. => a list has values from 0 to 2147483647, and no negative ones: leave the list out, if the AVP has such \
-     a value",
-    "Value High: ..-.. => a range of values is written with two dots, as 0..3",
-    // definitions
-    "Item: ( => only an Enumerated AVP has a list of values, and it stands behind the rule of the M flag",
-    "Item: AVP => an AVP is declared as %avp NAME CODE [vendor N] FORMAT RULE, and a table of an RFC isn't read",
-    "Item: , => declarations and definitions stand without commas between them: take it out",
-    "Item: a number => this looks like the number of a line or of a section: take such numbers out, and put ; before prose",
-    "Assign: :=.. or ::.. or : =.. => the sign of a definition is ::=",
-    "Assign: after avp => a declaration begins with %avp",
-    "Beginning: anything => behind ::= stands a header: < Diameter Header: CODE, REQ > for a request, without REQ for an \
-     answer, or < AVP Header: CODE > for a group",
-    "CommandCode: a name => a command has its number in the header, as 272 for Credit-Control",
-    "GroupCode: a name => a group has the code of its AVP in the header, as 279 for Failed-AVP",
-    "HeadFlags: a name => a request has REQ, and an answer has no word for it; PXY is there where the P flag is set",
-    "HeadError: anything => the answers with an error of all commands have one definition: < Diameter Header: code, ERR >",
-    "HeadClose: a number or , => a command has one Application-ID, and a group one vendor: define the command once for each \
-     application",
-    "Late: anything or the end => a fixed rule < X > stands before all rules { X } and [ X ]",
-    "Rule: ( => a rule has no round brackets, and its counts stand before it, as 1*3 { X }",
-    "Rule: +.. => one or more of X is 1* { X }, and any number * [ X ]",
-    "Rule: ..-.. => the counts of a rule are LEAST*GREATEST, as 0*1 { X }",
-    "Star: anything => counts are LEAST*GREATEST: from 1 to 3 is 1*3, and just 2 is 2*2",
-    "Counted: the end => the counts of a rule stand before it, as * [ X ] or 1*3 { X }",
-    "Counted: anything => a rule is [LEAST]*[GREATEST] and then < X >, { X } or [ X ], as 1*3 { X }",
-    "Fixed: AVP => AVP in a rule is the wildcard, and can't be fixed: write { AVP } or [ AVP ]",
-    "Close: a name => a name has no spaces: join its words by a dash",
-    // what goes behind the hints on the token of a dictionary
-    "Assign Token: =.. => a definition is <NAME> ::= < Diameter Header: .. >, and its sign is ::=",
-    "Table: anything => this looks like prose or a table of an RFC: an AVP is declared as %avp NAME CODE [vendor N] FORMAT \
-     RULE",
-    "Token: |.. or /.. => a definition has no alternatives: make each an optional rule, as [ X ] [ Y ]",
-    "Prose: after RFC => this looks like a page header or footer of an RFC, or like prose: take it out, or put ; before it",
-    "Prose: a number => a declaration begins with %avp, and a definition with <NAME> ::=",
-    "Prose: anything => this looks like a page header or footer of an RFC, or like prose: take it out, or put ; before it",
-];
+     dictionary.xml\n\
+    dictionary: @base.. => @base names the built-in dictionary on the command line, and not in a text\n\
+    dictionary: @.. => this looks like a .dia file: dictionaries/from_dia.py makes a dictionary text of it\n\
+    dictionary: dictionary 1: .. => this isn't a dictionary, but what render wrote where it refused one: run it again, and \
+     read what it says\n\
+    dictionary: a table => this looks like a table of pairs: the order of the words is A B TABLE\n\
+    dictionary: a message => this looks like a message in hexadecimal: the dictionary stands before the message\n\
+    message: a dictionary => this looks like a dictionary: the dictionary stands before the message\n\
+    message: @base.. => a message stands here, and @base names a dictionary\n\
+    message: a table => this looks like a table of pairs, and a message is wanted here\n\
+    message: header flags .. => this is what `show` wrote, and it isn't read back: keep the digits of the message\n\
+    message: <.. or {\".. or [.. => this looks like XML or JSON: docs/CAPTURES.md says how to take the messages out of a \
+     capture\n\
+    message: base64 => this looks like base64: `base64 -d FILE | xxd -p` writes the digits\n\
+    # what stands for a digit of a message\n\
+    digit: x.. or X.. or \\.. => write the digits without 0x or \\x\n\
+    digit: ;.. or #.. => the text of a message has no comments\n\
+    digit: :.. or ,.. or -.. or {.. or [.. or \".. or '.. => write the digits with nothing but white space between them\n\
+    digit: o => this is the letter O: write the digit 0\n\
+    digit: l.. or I.. => this is a letter: write the digit 1\n\
+    digit: not ASCII => this character isn't ASCII: write the digits with nothing but spaces between them\n\
+    digit: anything => a message is its bytes as hexadecimal digits, as `xxd -p FILE` prints them\n\
+    # words of a table\n\
+    pair name sign behind: #.. or //.. => a comment begins with ;\n\
+    pair: \u{feff}.. => the text begins with a byte order mark: save it as UTF-8 without one\n\
+    pair: propose: or dictionary => this isn't a table, but what propose wrote where it was refused: run it again, and read \
+     what it says\n\
+    pair: @base => a table stands here, and @base names a dictionary\n\
+    pair: command or avp => command and avp are written in small letters\n\
+    pair: commands or avps => a line has one pair: command A = B, or avp A = B\n\
+    pair: %avp or <.. => this looks like a dictionary: the order of the words is A B TABLE\n\
+    pair: %.. => command and avp stand without %\n\
+    pair: ..,.. => spaces stand between the words, and no commas: a line is command A = B\n\
+    pair: a message => this looks like a message in hexadecimal, and a table is wanted here\n\
+    name: ..=.. => write a space on each side of =, as in command A = B\n\
+    name: .._.. => a name has letters, digits and dashes: write - for _\n\
+    name: ..,.. => a line has one pair\n\
+    name: \".. or <.. => names stand without quotes and brackets\n\
+    name: a number => a pair has the names of the two dictionaries, and no codes\n\
+    name: anything or the end => a line is command A = B, or avp A = B\n\
+    sign: the end => a line is command A = B, or avp A = B\n\
+    sign: anything => the sign between two names is =, with a space on each side\n\
+    behind: anything => a line has one pair\n\
+    # what goes before the hints on the token of a dictionary\n\
+    MustNot: anything or the end => the rule mustnot is one word\n\
+    Longer: anything or the end => a declaration begins with %avp and a space, as in %avp Session-Id 263 UTF8String must\n\
+    Commented: anything or the end => a ; begins a comment, up to the end of its line: commas stand in a header\n\
+    HeadFlags HeadError HeadVendor HeadClose: {.. or [.. or <.. => a header ends with >, as < Diameter Header: 272, REQ >\n\
+    HeadFlags HeadError HeadVendor HeadClose: vendor => a group has the number of its vendor in the header, as < AVP Header: \
+     1400 10415 >\n\
+    HeadFlags HeadError HeadVendor HeadClose: REQ => REQ stands behind the Command Code, before PXY and the Application-ID\n\
+    HeadFlags HeadError HeadVendor HeadClose: ERR => the answers with an error of all commands have one definition: < \
+     Diameter Header: code, ERR >\n\
+    # characters and runs that may stand in comments alone, wherever they stand\n\
+    Token: \u{a0}.. => this is a no-break space: write a space\n\
+    Token: \u{ad}.. => this is a soft hyphen, which isn't always shown: take it out, or write -\n\
+    Token: \u{200b}.. or \u{feff}.. => this is a character without width: take it out\n\
+    Token: \u{2010}.. or \u{2011}.. or \u{2012}.. or \u{2013}.. or \u{2014}.. or \u{2015}.. or \u{2212}.. => this is a dash \
+     that isn't ASCII: write -\n\
+    Token: \u{2018}.. or \u{2019}.. or \u{201a}.. or \u{201b}.. or \u{201c}.. or \u{201d}.. or \u{201e}.. or \u{201f}.. or \
+     \".. or '.. => names stand without quotes\n\
+    Token: \u{2026}.. => these dots are one character: write two dots, as 0..3\n\
+    Token: not ASCII => this character isn't ASCII, and such characters may stand in comments alone\n\
+    Token: _.. => a name has letters, digits and dashes: write - for _\n\
+    Token: \x0c.. => this is a form feed, as at the end of a page of an RFC: take out the page breaks with their headers and \
+     footers\n\
+    Token: \0.. => this is a NUL character: if the file is UTF-16, save it as UTF-8, else take it out\n\
+    Token: `.. => take out the lines with ```, and quotes around names\n\
+    Token: &.. => this is text of a web page (&lt; is <): save the page as text, and take its parts from there\n\
+    Token: @.. => a line with @ is one of a .dia file: dictionaries/from_dia.py makes a dictionary text of it\n\
+    Token: #include.. => a text has no includes: `cat` makes one dictionary of several files\n\
+    Token: #.. or //.. or /*.. => a comment begins with ;\n\
+    Token: %AVP.. or %Avp.. => a declaration begins with %avp, in small letters\n\
+    Token: % => the only word with % is %avp; `cat` makes one dictionary of several files\n\
+    # declarations\n\
+    Name Code VendorOrFormat Vendor Format MRule: , => the words of a declaration stand without commas\n\
+    Name: a number => a declaration is %avp NAME CODE [vendor N] FORMAT RULE: the name stands before the code\n\
+    Name: AVP => AVP in a rule is the wildcard, and no AVP may have this name\n\
+    Code CommandCode GroupCode: 0x.. or 0X.. => codes are decimal\n\
+    Code: AVP or Code => the code is its number alone, as in %avp Session-Id 263 UTF8String must\n\
+    Code: vendor => the vendor stands behind the code, as %avp NAME CODE vendor 10415 FORMAT RULE\n\
+    Code: a name => a name has no spaces: join its words by a dash; the code stands behind it\n\
+    Code: . => a name has letters, digits and dashes\n\
+    Vendor: a name => the vendor is told by its number, as vendor 10415 for 3GPP\n\
+    VendorOrFormat Format: String or Text => did you mean UTF8String?\n\
+    VendorOrFormat Format: Octets or Bytes or Binary => did you mean OctetString?\n\
+    VendorOrFormat Format: DiamIdent => did you mean DiameterIdentity?\n\
+    VendorOrFormat Format: DiamURI or URI => did you mean DiameterURI?\n\
+    VendorOrFormat Format: Enum => did you mean Enumerated?\n\
+    VendorOrFormat Format: UInt32 => did you mean Unsigned32?\n\
+    VendorOrFormat Format: UInt64 => did you mean Unsigned64?\n\
+    VendorOrFormat Format: Int32 => did you mean Integer32?\n\
+    VendorOrFormat Format: Int64 => did you mean Integer64?\n\
+    VendorOrFormat Format: Date => did you mean Time?\n\
+    VendorOrFormat: a number => write vendor before the number of the vendor\n\
+    VendorOrFormat Vendor: ( => a vendor stands without brackets, as vendor 10415\n\
+    VendorOrFormat Vendor: : or = or / => a vendor is written behind the code, as vendor 10415\n\
+    VendorOrFormat: vendor => vendor is written in small letters\n\
+    VendorOrFormat: must or mustnot or any => the data format stands before the rule of the M flag\n\
+    MRule: must or mustnot or any => the rules of the M flag are written in small letters: must, mustnot, any\n\
+    MRule: may or should => where an RFC says that M may or should be set, the rule is any\n\
+    MRule: ( => a list of values stands behind the rule of an Enumerated AVP, as Enumerated any ( 0 1 )\n\
+    MRule: a name => where an RFC's table has M under MUST, the rule is must; where it has it under MUST NOT, mustnot; else \
+     any\n\
+    Name Code VendorOrFormat Vendor Format MRule: anything or the end => a declaration is %avp NAME CODE [vendor N] FORMAT \
+     RULE, as %avp Session-Id 263 UTF8String must\n\
+    Values: a number or { or [ or : => a list of values stands in round brackets, as Enumerated any ( 0 1 4..7 )\n\
+    Value: , => the values of a list stand without commas, as in ( 0 1 4..7 )\n\
+    Value: ) => a list has one value at least: where there is none, leave out the brackets\n\
+    Value High: a name or = or | or / => a list has the numbers of the values, without their names\n\
+    High: a number => a range is LOW..HIGH\n\
+    Value High: -.. => a list has values from 0 to 2147483647, and no negative ones: leave the list out, if the AVP has such \
+     a value\n\
+    Value High: ..-.. => a range of values is written with two dots, as 0..3\n\
+    # definitions\n\
+    Item: ( => only an Enumerated AVP has a list of values, and it stands behind the rule of the M flag\n\
+    Item: AVP => an AVP is declared as %avp NAME CODE [vendor N] FORMAT RULE, and a table of an RFC isn't read\n\
+    Item: , => declarations and definitions stand without commas between them: take it out\n\
+    Item: a number => this looks like the number of a line or of a section: take such numbers out, and put ; before prose\n\
+    Assign: :=.. or ::.. or : =.. => the sign of a definition is ::=\n\
+    Assign: after avp => a declaration begins with %avp\n\
+    Beginning: anything => behind ::= stands a header: < Diameter Header: CODE, REQ > for a request, without REQ for an \
+     answer, or < AVP Header: CODE > for a group\n\
+    CommandCode: a name => a command has its number in the header, as 272 for Credit-Control\n\
+    GroupCode: a name => a group has the code of its AVP in the header, as 279 for Failed-AVP\n\
+    HeadFlags: a name => a request has REQ, and an answer has no word for it; PXY is there where the P flag is set\n\
+    HeadError: anything => the answers with an error of all commands have one definition: < Diameter Header: code, ERR >\n\
+    HeadClose: a number or , => a command has one Application-ID, and a group one vendor: define the command once for each \
+     application\n\
+    Late: anything or the end => a fixed rule < X > stands before all rules { X } and [ X ]\n\
+    Rule: ( => a rule has no round brackets, and its counts stand before it, as 1*3 { X }\n\
+    Rule: +.. => one or more of X is 1* { X }, and any number * [ X ]\n\
+    Rule: ..-.. => the counts of a rule are LEAST*GREATEST, as 0*1 { X }\n\
+    Star: anything => counts are LEAST*GREATEST: from 1 to 3 is 1*3, and just 2 is 2*2\n\
+    Counted: the end => the counts of a rule stand before it, as * [ X ] or 1*3 { X }\n\
+    Counted: anything => a rule is [LEAST]*[GREATEST] and then < X >, { X } or [ X ], as 1*3 { X }\n\
+    Fixed: AVP => AVP in a rule is the wildcard, and can't be fixed: write { AVP } or [ AVP ]\n\
+    Close: a name => a name has no spaces: join its words by a dash\n\
+    # what goes behind the hints on the token of a dictionary\n\
+    Assign Token: =.. => a definition is <NAME> ::= < Diameter Header: .. >, and its sign is ::=\n\
+    Table: anything => this looks like prose or a table of an RFC: an AVP is declared as %avp NAME CODE [vendor N] FORMAT \
+     RULE\n\
+    Token: |.. or /.. => a definition has no alternatives: make each an optional rule, as [ X ] [ Y ]\n\
+    Prose: after RFC => this looks like a page header or footer of an RFC, or like prose: take it out, or put ; before it\n\
+    Prose: a number => a declaration begins with %avp, and a definition with <NAME> ::=\n\
+    Prose: anything => this looks like a page header or footer of an RFC, or like prose: take it out, or put ; before it\n\
+    ";
 
 /// What stands at a place of a text.
 #[derive(Clone, Copy)]
@@ -184,7 +185,7 @@ pub struct Sight<'a> {
 
 /// The first hint for one of these places of which a sign is seen.
 pub fn hint_of(places: &[&str], sight: &Sight<'_>) -> Option<&'static str> {
-    for row in HINTS.iter().copied() {
+    for row in HINTS.lines() {
         if let Some(hint) = hint_in(row, places, sight) {
             return Some(hint);
         }

@@ -63,17 +63,27 @@ fn begins_pair(text: &[u8]) -> bool {
 
 /// Whether all of a text is hexadecimal, as that of a message: it begins with the version 1, or is long.
 fn is_message(text: &[u8]) -> bool {
-    let is_all = text
-        .iter()
-        .all(|byte| byte.is_ascii_hexdigit() || is_white(*byte));
-    is_all && (text.starts_with(b"01") || text.len() >= 16)
+    first_bad(text).is_none() && (text.starts_with(b"01") || text.len() >= 16)
+}
+
+/// The place of the first byte that is neither a digit nor white space.
+pub fn first_bad(text: &[u8]) -> Option<usize> {
+    text.iter()
+        .position(|byte| !byte.is_ascii_hexdigit() && !is_white(*byte))
 }
 
 /// Whether all of a text has the letters of base64, and more of them than an eighth aren't hexadecimal.
 fn is_base64(text: &[u8]) -> bool {
-    let others = text.iter().filter(|byte| !byte.is_ascii_hexdigit()).count();
-    let is_all = text.iter().all(|byte| byte.is_ascii_alphanumeric() || b"+/=\r\n".contains(byte));
-    is_all && text.len() >= 16 && others > text.len() / 8
+    let mut others = 0usize;
+    for byte in text {
+        if !byte.is_ascii_alphanumeric() && !b"+/=\r\n".contains(byte) {
+            return false;
+        }
+        if !byte.is_ascii_hexdigit() {
+            others = others.saturating_add(1);
+        }
+    }
+    text.len() >= 16 && others > text.len() / 8
 }
 
 /// Whether a part stands in a text.

@@ -1,7 +1,7 @@
 //! What is told of a message that is refused.
 
 use crate::hints::{Sight, hint_of};
-use crate::kinds::{first_line, hint_of_text, is_capture, kind_of_byte};
+use crate::kinds::{first_bad, first_line, hint_of_text, is_capture, kind_of_byte};
 use crate::notes::{Added, SAVE, push_noted, push_whole};
 use dia_explain_places::{
     NamedText, Unpadded, back, count_digits, find_unpadded, is_white, place_of_byte,
@@ -44,12 +44,6 @@ pub fn push_message(
             push_length(out, message, &bytes)
         }
     }
-}
-
-/// The place of the first byte that is neither a digit nor white space.
-pub fn first_bad(text: &[u8]) -> Option<usize> {
-    text.iter()
-        .position(|byte| !byte.is_ascii_hexdigit() && !is_white(*byte))
 }
 
 fn push_odd(out: &mut String, message: &NamedText<'_>) -> Added {

@@ -50,16 +50,20 @@ fn push_syntax(alloc: Global, out: &mut String, table: &NamedText<'_>, line: u32
 /// What is told of a word in the place of another.
 fn found(alloc: Global, word: &Word<'_>, wanted: &str) -> Result<String, AllocError> {
     let mut told = String::new(alloc);
-    if word.is_empty() {
-        told.push_str("the line ends here")?;
-    } else {
-        told.push_str("found \"")?;
-        let shown = word.text.get(..SHOWN).unwrap_or(word.text);
-        push_shown(alloc, &mut told, shown)?;
-        told.push('"')?;
-    }
+    push_found(&mut told, word)?;
     write!(told, "; expected {wanted}")?;
     Ok(told)
+}
+
+/// Adds what stands in the place of another word.
+fn push_found(told: &mut String, word: &Word<'_>) -> Added {
+    if word.is_empty() {
+        return told.push_str("the line ends here");
+    }
+    let shown = word.text.get(..SHOWN).unwrap_or(word.text);
+    told.push_str("found \"")?;
+    push_shown(*told.allocator(), told, shown)?;
+    told.push('"')
 }
 
 /// The place of a part, and what can stand there.

@@ -24,6 +24,6 @@ pub use padding::{Unpadded, find_unpadded};
 pub use place::{
     Place, back, place_of, push_excerpt, push_line_column, push_place, push_shown, push_start,
 };
-pub use runs::{front_of_run, is_white};
-pub use sites::{DefSite, Sites, name_from, part_place, sites_of};
+pub use runs::is_white;
+pub use sites::{name_from, part_place};
 pub use tables::{PairPart, limit_place, syntax_place};

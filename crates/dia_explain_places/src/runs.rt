@@ -13,12 +13,6 @@ pub fn is_white(byte: u8) -> bool
     byte == b' ' || byte == b'\t' || byte == b'\r' || byte == b'\n'
 }
 
-/// The run of letters, digits and dashes at the front.
-pub fn front_of_run(rest: &[u8]) -> &[u8] {
-    let length = rest.iter().take_while(|byte| is_run_byte(**byte)).count();
-    rest.get(..length).unwrap_or(rest)
-}
-
 /// Whether all of a word is a run that begins with a letter or a digit and holds a letter, as names do.
 pub fn is_name_run(word: &[u8]) -> bool
     ensures { result ≡ is_name_run word.now }

@@ -8,7 +8,7 @@ use crate::lines::{PairWords, Word, start_of_line, words_of};
 use dia_terms::MAX_NAME;
 
 /// A part of a line `command A = B`, or what stands behind it.
-#[derive(Clone, Copy, Debug, PartialEq, Eq)]
+#[derive(Clone, Copy, PartialEq, Eq)]
 pub enum PairPart {
     /// `command` or `avp`.
     Kind,

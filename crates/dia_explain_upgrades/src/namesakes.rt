@@ -16,7 +16,7 @@ pub struct Side<'a> {
 }
 
 /// The code of an AVP, and its vendor or 0.
-#[derive(Clone, Copy, Debug, PartialEq, Eq)]
+#[derive(Clone, Copy, PartialEq, Eq)]
 struct Number {
     code: u32,
     vendor: u32,

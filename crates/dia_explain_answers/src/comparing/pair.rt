@@ -2,110 +2,107 @@
 
 use crate::books::{
     Known, Level, Wanted, avp_of, command_at, definition, find_avp, find_command, name_of,
+    wildcard_among,
 };
 use crate::checking::policy_words;
 use crate::comparing::pairing::Pairing;
 use crate::rule_text::{m_word, push_key, push_loose, push_rule, push_slot, widened};
+use crate::sides::Side;
 use crate::texts::{Added, Scene, push_number};
-use dia_book::{DRule, DefHead, Definition, Key};
+use dia_book::{DRule, DefHead, Definition, Format, Key};
 use dia_breaking_data::witness;
-use dia_compat::{Failing, PairKind};
+use dia_compat::Failing;
 use dia_data::push_value;
 
 /// A pair of commands or of AVPs, and what of it fails a test.
 #[derive(Clone, Copy)]
 pub struct Pair<'a> {
-    pub pairing: Pairing<'a>,
+    pub pairing: &'a Pairing<'a>,
     pub failing: Failing,
     /// The definitions of the commands, or of AVPs that are groups. Where a command of the second isn't beside that of the first,
     /// it is the second here.
     pub x: Option<&'a Definition>,
     pub y: Option<&'a Definition>,
-    pub avps: Option<(Known<'a>, Known<'a>)>,
+    /// The AVPs of a pair of AVPs.
+    pub first_avp: Option<Known<'a>>,
+    pub second_avp: Option<Known<'a>>,
 }
 
 impl<'a> Pair<'a> {
-    /// A pair of a table, by its number among those of its kind. `None` where a dictionary has nothing of its name.
-    pub fn of(
-        pairing: &Pairing<'a>,
-        kind: PairKind,
-        number: usize,
+    /// A pair of commands of these names.
+    pub fn of_commands(
+        pairing: &'a Pairing<'a>,
         failing: Failing,
-    ) -> Option<Self> {
-        let pairs = match kind {
-            PairKind::Command => &pairing.table.commands,
-            PairKind::Avp => &pairing.table.avps,
-        };
-        let (first, second) = pairs.get(number)?;
-        let names = (first.as_str(), second.as_str());
-        match kind {
-            PairKind::Command => Pair::of_commands(*pairing, failing, names),
-            PairKind::Avp => Pair::of_avps(*pairing, failing, names),
+        names: &(String, String),
+    ) -> Self {
+        Pair {
+            pairing,
+            failing,
+            x: find_command(pairing.a.book, Wanted::Name(&names.0)),
+            y: second_command(pairing, failing, &names.1),
+            first_avp: None,
+            second_avp: None,
         }
     }
 
-    fn of_commands(pairing: Pairing<'a>, failing: Failing, names: (&str, &str)) -> Option<Self> {
-        let x = find_command(pairing.a.book, Wanted::Name(names.0))?;
-        let y = match failing {
-            Failing::NotBeside { second } => command_at(pairing.b.book, second)?,
-            _ => find_command(pairing.b.book, Wanted::Name(names.1))?,
-        };
-        Some(Pair {
+    /// A pair of AVPs of these names.
+    pub fn of_avps(pairing: &'a Pairing<'a>, failing: Failing, names: &(String, String)) -> Self {
+        let first_avp = find_avp(pairing.a.book, Wanted::Name(&names.0));
+        let second_avp = find_avp(pairing.b.book, Wanted::Name(&names.1));
+        Pair {
             pairing,
             failing,
-            x: Some(x),
-            y: Some(y),
-            avps: None,
-        })
+            x: group_of(&pairing.a, first_avp),
+            y: group_of(&pairing.b, second_avp),
+            first_avp,
+            second_avp,
+        }
     }
 
-    fn of_avps(pairing: Pairing<'a>, failing: Failing, names: (&str, &str)) -> Option<Self> {
-        let first = find_avp(pairing.a.book, Wanted::Name(names.0))?;
-        let second = find_avp(pairing.b.book, Wanted::Name(names.1))?;
-        Some(Pair {
-            pairing,
-            failing,
-            x: definition(pairing.a.book, Level::Group(first.key)),
-            y: definition(pairing.b.book, Level::Group(second.key)),
-            avps: Some((first, second)),
-        })
-    }
-
-    /// The places of the rules that hints speak of, in the first's definition and in the second's.
-    fn places(&self) -> (Option<usize>, Option<usize>) {
+    /// The places of the rules that lines and hints speak of, in the first's definition and in the second's.
+    pub fn places(&self) -> (Option<usize>, Option<usize>) {
         match self.failing {
-            Failing::Fixed { first, second } => (first, Some(second)),
-            Failing::Counts { first, second } => (Some(first), Some(second)),
-            Failing::Unlisted { first } | Failing::Uncovered { first } => (Some(first), None),
-            Failing::Required { second } | Failing::Crowded { second, .. } => (None, Some(second)),
+            Failing::Fixed { first, second } | Failing::WildcardLeast { first, second } => (
+                first,
+                Some(second),
+            ),
+            Failing::Counts { first, second }
+            | Failing::Crowded { first, second }
+            | Failing::WildcardMost { first, second }
+            | Failing::CountsAsOther {
+                first,
+                wildcard: second,
+            } => (Some(first), Some(second)),
+            Failing::Unlisted { first }
+            | Failing::Uncovered { first }
+            | Failing::NoWildcard { first }
+            | Failing::Stranger { first, .. }
+            | Failing::LetIn { first, .. } => (Some(first), None),
+            Failing::Required { second } => (None, Some(second)),
+            Failing::NotCounted { second, .. } => (wildcard_of(self.x), Some(second)),
             _ => (None, None),
         }
     }
 
     pub fn first_rule(&self) -> Option<DRule> {
-        self.x?.rules.get(self.places().0?).copied()
+        rule_at(self.x, self.places().0)
     }
 
     fn second_rule(&self) -> Option<DRule> {
-        self.y?.rules.get(self.places().1?).copied()
+        rule_at(self.y, self.places().1)
     }
 
-    /// The place of the first's wildcard.
-    pub fn wildcard_of_first(&self) -> Option<usize> {
-        self.x?.rules.iter().position(|rule| rule.key.is_none())
-    }
-
-    /// The key of the AVP that needs a pair.
+    /// The key of the AVP that the failing is about.
     fn key(&self) -> Option<Key> {
         match self.failing {
-            Failing::LetIn { key, .. } => Some(key),
+            Failing::LetIn { key, .. } | Failing::Stranger { key, .. } => Some(key),
             _ => self.first_rule()?.key,
         }
     }
 
-    /// That key, where the second dictionary has the AVP.
-    pub fn uncovered(&self) -> Option<Key> {
-        Some(avp_of(self.pairing.b.book, self.key()?)?.key)
+    /// That AVP, where a dictionary has it.
+    pub fn known_in(&self, side: &Side<'a>) -> Option<Known<'a>> {
+        avp_of(side.book, self.key()?)
     }
 
     /// The Application-ID of a command of the first.
@@ -118,48 +115,91 @@ impl<'a> Pair<'a> {
 
     fn push_rule_word(&self, out: &mut String, word: &str) -> Added {
         let (a, b) = (&self.pairing.a, &self.pairing.b);
-        match (word, self.first_rule(), self.second_rule()) {
-            ("sent", Some(rule), _) => push_slot(out, a, &rule),
-            ("wanted", _, Some(rule)) => push_slot(out, b, &rule),
-            ("loose", _, Some(rule)) => push_loose(out, b, &rule),
-            ("wide", Some(own), Some(rule)) => push_rule(out, b, &widened(&own, &rule)),
-            _ => Ok(()),
+        let Some(rule) = self.rule_of(word) else {
+            return Ok(());
+        };
+        match word {
+            "sent" => push_slot(out, a, &rule),
+            "wanted" => push_slot(out, b, &rule),
+            "loose" => push_loose(out, b, &rule),
+            _ => push_rule(out, b, &rule),
         }
     }
 
-    /// Adds what a word about the AVP that needs a pair stands for: its code and vendor, or its name in one of the dictionaries.
+    /// The rule that a word is about: the first's or the second's, or one with the counts of both.
+    fn rule_of(&self, word: &str) -> Option<DRule> {
+        match word {
+            "sent" => self.first_rule(),
+            "wide" => Some(widened(&self.first_rule()?, &self.second_rule()?)),
+            _ => self.second_rule(),
+        }
+    }
+
+    /// Adds what a word about the AVP of the failing stands for: its code and vendor, or its name in one of the dictionaries.
     fn push_key_word(&self, out: &mut String, word: &str) -> Added {
-        match self.key() {
-            Some(key) if word == "code" => push_key(out, key, " and vendor "),
-            Some(key) if word == "first" => self.pairing.a.push_name(out, key),
-            Some(key) if word == "second" => self.pairing.b.push_name(out, key),
+        let Some(key) = self.key() else {
+            return self.push_rule_word(out, word);
+        };
+        match word {
+            "code" => push_key(out, key, " and vendor "),
+            "first" => self.pairing.a.push_name(out, key),
+            "second" => self.pairing.b.push_name(out, key),
             _ => self.push_rule_word(out, word),
         }
     }
 
     /// Adds what a word about two AVPs stands for: the rule of the second's M flag, or a value that it doesn't accept.
     fn push_avp_word(&self, out: &mut String, word: &str) -> Added {
-        let Some((first, second)) = self.avps else {
+        let (Some(first), Some(second)) = (self.first_avp, self.second_avp) else {
             return self.push_key_word(out, word);
         };
         match word {
             "m" => out.push_str(m_word(second.rule)),
-            "value" => match witness(first.format, second.format) {
-                Some(value) => push_value(out, first.format, value.as_slice()),
-                None => Ok(()),
-            },
+            "value" => push_witness(out, first.format, second.format),
             _ => self.push_key_word(out, word),
         }
     }
 }
 
+/// The command of the second dictionary with this name, or the one that isn't beside that of the first.
+fn second_command<'a>(
+    pairing: &Pairing<'a>,
+    failing: Failing,
+    name: &str,
+) -> Option<&'a Definition> {
+    match failing {
+        Failing::NotBeside { second } => command_at(pairing.b.book, second),
+        _ => find_command(pairing.b.book, Wanted::Name(name)),
+    }
+}
+
+/// The definition of an AVP that is a group.
+fn group_of<'a>(side: &Side<'a>, avp: Option<Known<'a>>) -> Option<&'a Definition> {
+    definition(side.book, Level::Group(avp?.key))
+}
+
+/// Adds a value that the first of two formats accepts, and the second doesn't.
+fn push_witness(out: &mut String, first: &Format, second: &Format) -> Added {
+    match witness(first, second) {
+        Some(value) => push_value(out, first, value.as_slice()),
+        None => Ok(()),
+    }
+}
+
 impl Scene for Pair<'_> {
     fn push_word(&self, out: &mut String, word: &str) -> Added {
+        let Pairing {
+            a,
+            b,
+            unknown,
+            name,
+            ..
+        } = *self.pairing;
         match word {
-            "a" => out.push_str(self.pairing.a.name),
-            "b" => out.push_str(self.pairing.b.name),
-            "table" => out.push_str(self.pairing.name),
-            "policy" => out.push_str(policy_words(self.pairing.unknown)),
+            "a" => out.push_str(a.name),
+            "b" => out.push_str(b.name),
+            "table" => out.push_str(name),
+            "policy" => out.push_str(policy_words(unknown)),
             "x" => out.push_str(name_of(self.x)),
             "y" => out.push_str(name_of(self.y)),
             "app" => push_number(out, self.app().unwrap_or(0) as usize),
@@ -168,6 +208,16 @@ impl Scene for Pair<'_> {
             _ => self.push_avp_word(out, word),
         }
     }
+}
+
+/// The rule at a place of a definition.
+fn rule_at(def: Option<&Definition>, place: Option<usize>) -> Option<DRule> {
+    def?.rules.get(place?).copied()
+}
+
+/// The place of a definition's rule for AVP.
+pub fn wildcard_of(def: Option<&Definition>) -> Option<usize> {
+    wildcard_among(&def?.rules)
 }
 
 fn from_one(place: Option<usize>) -> usize {

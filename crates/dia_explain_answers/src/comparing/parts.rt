@@ -1,47 +1,64 @@
 //! Lines about parts of the two dictionaries.
 
-use crate::books::{Known, avp_of};
-use crate::comparing::pair::Pair;
-use crate::comparing::says::Says;
-use crate::rule_text::push_counted;
+use crate::books::Known;
+use crate::comparing::pair::{Pair, wildcard_of};
+use crate::rule_text::{push_counted, push_counts, push_rule};
 use crate::sides::Side;
-use crate::texts::{Added, Scene};
-use dia_book::{Class, DRule, DefHead, Definition, Key, Pxy};
+use crate::texts::{Added, Scene, push_hint};
+use dia_book::{Class, DRule, DefHead, Definition, Pxy};
 
-/// A line: what it is about, and what it says of that.
-pub type Line = (Spot, Says);
-
-/// A part of one of the two dictionaries. A rule is told by its place.
-#[derive(Clone, Copy)]
-pub enum Spot {
-    /// The definitions of the pair.
-    X,
-    Y,
-    /// A rule of the first's definition, and of the second's.
-    First(usize),
-    Second(usize),
-    /// An AVP of the first, and of the second.
-    A(Key),
-    B(Key),
-    /// The second dictionary.
-    Whole,
-    Nothing,
+/// Adds lines `PART: TEXT`, where there is what they are about.
+pub fn push_lines(out: &mut String, pair: &Pair<'_>, lines: &str) -> Added {
+    for line in lines.lines() {
+        push_line(out, pair, line)?;
+    }
+    Ok(())
 }
 
-/// Adds a line, where there is what it is about.
-pub fn push_line(out: &mut String, pair: &Pair<'_>, line: Line) -> Added {
-    let (spot, says) = line;
-    let told = says.text();
+fn push_line(out: &mut String, pair: &Pair<'_>, line: &str) -> Added {
+    let Some((part, told)) = line.split_once(": ") else {
+        return Ok(());
+    };
+    match part {
+        "hint" => push_hint(out, pair, told),
+        "x" | "sent" | "unsent" => push_of_first(out, pair, part, told),
+        "y" | "taken" | "wildcard" => push_of_second(out, pair, part, told),
+        _ => push_of_avps(out, pair, part, told),
+    }
+}
+
+/// Adds a line about the first's definition, or about a rule of it.
+fn push_of_first(out: &mut String, pair: &Pair<'_>, part: &str, told: &str) -> Added {
+    let sent = pair.places().0;
+    let is_of_rule = part == "sent";
+    if part == "x" || is_of_rule == sent.is_some() {
+        let rule = if is_of_rule { sent } else { None };
+        push_defined(out, &pair.pairing.a, pair.x, rule, told)
+    } else {
+        Ok(())
+    }
+}
+
+/// Adds a line about the second's definition, or about a rule of it.
+fn push_of_second(out: &mut String, pair: &Pair<'_>, part: &str, told: &str) -> Added {
+    let rule = match part {
+        "taken" => pair.places().1,
+        "wildcard" => wildcard_of(pair.y),
+        _ => None,
+    };
+    push_defined(out, &pair.pairing.b, pair.y, rule, told)
+}
+
+/// Adds a line about AVPs.
+fn push_of_avps(out: &mut String, pair: &Pair<'_>, part: &str, told: &str) -> Added {
     let (a, b) = (&pair.pairing.a, &pair.pairing.b);
-    match spot {
-        Spot::X => push_defined(out, a, pair.x, None, told),
-        Spot::Y => push_defined(out, b, pair.y, None, told),
-        Spot::First(place) => push_defined(out, a, pair.x, Some(place), told),
-        Spot::Second(place) => push_defined(out, b, pair.y, Some(place), told),
-        Spot::A(key) => push_avp(out, a, pair, key, told),
-        Spot::B(key) => push_avp(out, b, pair, key, told),
-        Spot::Whole => b.push_part(out, None, pair, told),
-        Spot::Nothing => Ok(()),
+    match part {
+        "own" => push_avp(out, a, pair, pair.known_in(a), told),
+        "other" => push_avp(out, b, pair, pair.known_in(b), told),
+        "a" => push_avp(out, a, pair, pair.first_avp, told),
+        "b" => push_avp(out, b, pair, pair.second_avp, told),
+        "lack" if pair.known_in(b).is_none() => b.push_part(out, None, pair, told),
+        _ => Ok(()),
     }
 }
 
@@ -53,6 +70,7 @@ struct Defined<'a> {
     rule: Option<DRule>,
 }
 
+/// Adds a line about a definition, or about the rule at a place of it.
 fn push_defined<'a>(
     out: &mut String,
     side: &Side<'a>,
@@ -73,11 +91,24 @@ fn push_defined<'a>(
 
 impl Scene for Defined<'_> {
     fn push_word(&self, out: &mut String, word: &str) -> Added {
-        match self.rule {
-            _ if word == "name" => out.push_str(self.def.name.as_str()),
-            Some(rule) => push_counted(out, &self.side, &rule),
-            None if word == "flag" => out.push_str(flag_words(self.def.head)),
-            None => push_messages(out, self.def.head),
+        match word {
+            "name" => out.push_str(self.def.name.as_str()),
+            "flag" => out.push_str(flag_words(self.def.head)),
+            "messages" => push_messages(out, self.def.head),
+            _ => self.push_rule_word(out, word),
+        }
+    }
+}
+
+impl Defined<'_> {
+    fn push_rule_word(&self, out: &mut String, word: &str) -> Added {
+        let Some(rule) = self.rule else {
+            return Ok(());
+        };
+        match word {
+            "counts" => push_counts(out, &rule),
+            "counted" => push_counted(out, &self.side, &rule),
+            _ => push_rule(out, &self.side, &rule),
         }
     }
 }
@@ -89,8 +120,15 @@ struct Declared<'p, 'a> {
     avp: Known<'a>,
 }
 
-fn push_avp<'a>(out: &mut String, side: &Side<'a>, pair: &Pair<'a>, key: Key, told: &str) -> Added {
-    match avp_of(side.book, key) {
+/// Adds a line about an AVP, where a dictionary has it.
+fn push_avp<'a>(
+    out: &mut String,
+    side: &Side<'a>,
+    pair: &Pair<'a>,
+    avp: Option<Known<'a>>,
+    told: &str,
+) -> Added {
+    match avp {
         Some(avp) => side.push_part(out, side.avp_at(avp.name), &Declared { pair, avp }, told),
         None => Ok(()),
     }

@@ -12,77 +12,59 @@ use dia_check::{Reason, Unknown};
 use dia_data::push_value;
 use dia_wire::next_avp;
 
-/// What to do about data that isn't of its format.
-const OCTETS: &str = "mend the sender, or declare OctetString, which accepts any data";
-
-/// What is wrong, and what to do.
-pub fn texts_of_avp(scene: &InBody<'_>) -> (&'static str, &'static str) {
+/// What is wrong, and on the line behind it what to do.
+pub fn text_of_avp(scene: &InBody<'_>) -> &'static str {
     match scene.fault.reason {
-        Reason::Unknown => texts_of_unknown(scene),
-        Reason::MBit => (
-            "the M flag of {subject} is {flag}, and its rule is {m}",
-            "write any as the rule in the declaration, or mend the sender",
-        ),
-        Reason::LeafLength => (
-            "{subject} has {bytes} bytes of data, and {format} has {lengths}",
-            "mend the sender, or declare a format with such data{fits}",
-        ),
+        Reason::Unknown => text_of_unknown(scene),
+        Reason::MBit => "the M flag of {subject} is {flag}, and its rule is {m}\n\
+             write any as the rule in the declaration, or mend the sender",
+        Reason::LeafLength => "{subject} has {bytes} bytes of data, and {format} has {lengths}\n\
+             mend the sender, or declare a format with such data{fits}",
         Reason::LeafValue => match scene.avp() {
-            Some(avp) => texts_of_value(avp.format, data_of(scene)),
-            None => ("", ""),
+            Some(avp) => text_of_value(avp.format, data_of(scene)),
+            None => "",
         },
-        _ => (
-            "{subject} is a group in {depth} groups, and --levels {levels} opens no more",
-            "allow more levels, or leave --levels out",
-        ),
+        _ => "{subject} is a group in {depth} groups, and --levels {levels} opens no more\n\
+             allow more levels, or leave --levels out",
     }
 }
 
-fn texts_of_unknown(scene: &InBody<'_>) -> (&'static str, &'static str) {
-    let (fault, hint) = match scene.asked.unknown {
-        Unknown::Refused => (
-            "the dictionary has no AVP of code {key}, and unknown AVPs are refused",
-            "declare it, as %avp NAME {declared} OctetString any",
-        ),
-        Unknown::Kept => (
-            "the dictionary has no AVP of code {key}, and the M flag says that the receiver has to know it",
-            "declare it, as %avp NAME {declared} OctetString any; or have the sender clear the M flag",
-        ),
-    };
-    match same_code(scene) {
-        Some(_) => (
-            fault,
-            "that AVP has this code, and {vendor}: compare the V flag and the Vendor-ID",
-        ),
-        None => (fault, hint),
+fn text_of_unknown(scene: &InBody<'_>) -> &'static str {
+    match (scene.asked.unknown, same_code(scene)) {
+        (Unknown::Refused, Some(_)) =>
+            "the dictionary has no AVP of code {key}, and unknown AVPs are refused\n\
+             that AVP has this code, and {vendor}: compare the V flag and the Vendor-ID",
+        (Unknown::Refused, None) =>
+            "the dictionary has no AVP of code {key}, and unknown AVPs are refused\n\
+             declare it, as %avp NAME {declared} OctetString any",
+        (Unknown::Kept, Some(_)) =>
+            "the dictionary has no AVP of code {key}, and the M flag says that the receiver has to know it\n\
+             that AVP has this code, and {vendor}: compare the V flag and the Vendor-ID",
+        (Unknown::Kept, None) =>
+            "the dictionary has no AVP of code {key}, and the M flag says that the receiver has to know it\n\
+             declare it, as %avp NAME {declared} OctetString any; or have the sender clear the M flag",
     }
 }
 
-fn texts_of_value(format: &Format, data: &[u8]) -> (&'static str, &'static str) {
+fn text_of_value(format: &Format, data: &[u8]) -> &'static str {
     match format {
-        Format::Enumerated(_) => (
-            "{subject} has the value {value}, which isn't in its list",
-            "add the number to the list of the declaration, or mend the sender",
-        ),
-        Format::Utf8String => (
-            "{subject} has data that isn't UTF-8: from byte {bad} of the data on, {rest}",
-            OCTETS,
-        ),
-        Format::DiameterIdentity if data.is_empty() => (
-            "{subject} has no data, and a DiameterIdentity has at least one byte",
-            OCTETS,
-        ),
-        Format::DiameterIdentity => (
+        Format::Enumerated(_) => "{subject} has the value {value}, which isn't in its list\n\
+             add the number to the list of the declaration, or mend the sender",
+        Format::Utf8String =>
+            "{subject} has data that isn't UTF-8: from byte {bad} of the data on, {rest}\n\
+             mend the sender, or declare OctetString, which accepts any data",
+        Format::DiameterIdentity if data.is_empty() =>
+            "{subject} has no data, and a DiameterIdentity has at least one byte\n\
+             mend the sender, or declare OctetString, which accepts any data",
+        Format::DiameterIdentity =>
             "{subject} has data that is no DiameterIdentity: byte {bad} of the data is {byte}, \
-             and each has to be from 21 to 7e",
-            OCTETS,
-        ),
-        Format::DiameterUri => (
-            "{subject} has data that is no DiameterURI: aaa:// or aaas://, \
-             and behind it characters of ASCII without spaces",
-            OCTETS,
-        ),
-        _ => ("{subject} has data that isn't of its format", OCTETS),
+             and each has to be from 21 to 7e\n\
+             mend the sender, or declare OctetString, which accepts any data",
+        Format::DiameterUri => "{subject} has data that is no DiameterURI: aaa:// or aaas://, \
+             and behind it characters of ASCII without spaces\n\
+             mend the sender, or declare OctetString, which accepts any data",
+        _ => "{subject} has data that isn't of its format\n\
+             mend the sender, or declare OctetString, which accepts any data",
     }
 }
 
@@ -110,16 +92,26 @@ fn data_of<'a>(scene: &InBody<'a>) -> &'a [u8] {
 
 /// Adds what a word about the AVP of a fault stands for.
 pub fn push_avp_word(out: &mut String, scene: &InBody<'_>, word: &str) -> Added {
-    match scene.key() {
-        Some(key) if word == "key" => push_key(out, key, " and vendor "),
-        Some(key) if word == "declared" => push_key(out, key, " vendor "),
-        Some(_) if word == "vendor" => match same_code(scene) {
+    let Some(key) = scene.key() else {
+        return push_level_word(out, scene, word);
+    };
+    match word {
+        "key" => push_key(out, key, " and vendor "),
+        "declared" => push_key(out, key, " vendor "),
+        "vendor" => match same_code(scene) {
             Some(other) => push_vendor(out, other.key.vendor),
             None => Ok(()),
         },
-        Some(_) => push_data_word(out, scene, word),
-        None if scene.fault.reason == Reason::AvpLength => push_length_word(out, scene, word),
-        None => push_rule_word(out, scene, word),
+        _ => push_data_word(out, scene, word),
+    }
+}
+
+/// Adds what a word of a fault that is about no AVP stands for.
+fn push_level_word(out: &mut String, scene: &InBody<'_>, word: &str) -> Added {
+    if scene.fault.reason == Reason::AvpLength {
+        push_length_word(out, scene, word)
+    } else {
+        push_rule_word(out, scene, word)
     }
 }
 
@@ -127,8 +119,11 @@ pub fn push_avp_word(out: &mut String, scene: &InBody<'_>, word: &str) -> Added 
 fn push_data_word(out: &mut String, scene: &InBody<'_>, word: &str) -> Added {
     let data = data_of(scene);
     match word {
-        "flag" if is_mandatory(scene.own()) => out.push_str("set"),
-        "flag" => out.push_str("clear"),
+        "flag" => out.push_str(if is_mandatory(scene.own()) {
+            "set"
+        } else {
+            "clear"
+        }),
         "bytes" => push_number(out, data.len()),
         "fits" => out.push_str(fitting_formats(data.len())),
         "value" => push_value(out, &Format::Integer32, data),
@@ -157,11 +152,18 @@ fn push_declared_word(out: &mut String, scene: &InBody<'_>, data: &[u8], word: &
 fn bad_place(format: &Format, data: &[u8]) -> usize {
     match (format, str::from_utf8(data)) {
         (Format::Utf8String, Err(error)) => error.valid_up_to(),
-        _ => data
-            .iter()
-            .take_while(|byte| byte.is_ascii_graphic())
-            .count(),
+        _ => graphic_front(data),
     }
+}
+
+/// How many bytes at the front are characters of ASCII without spaces.
+fn graphic_front(data: &[u8]) -> usize {
+    for (at, byte) in data.iter().enumerate() {
+        if !byte.is_ascii_graphic() {
+            return at;
+        }
+    }
+    data.len()
 }
 
 /// The lengths that data of a format may have.

@@ -1,11 +1,14 @@
 //! The bytes of an AVP and of a header, by their fields (RFC 6733 sections 3 and 4.1).
 
-use crate::texts::Added;
+use crate::texts::{Added, Scene, push_text};
 use dia_data::push_hex_byte;
 use dia_wire::{
     AVP_HEAD_LENGTH, AVP_MANDATORY, AVP_PROTECTED, AVP_VENDOR, COMMAND_ERROR, COMMAND_PROXIABLE,
     COMMAND_REQUEST, COMMAND_RETRANSMITTED, Header, VENDOR_AVP_HEAD_LENGTH,
 };
+
+/// How many bytes an AVP has up to its flags, and with them.
+const FLAGS_END: usize = 5;
 
 /// How many bytes of data are shown.
 const SHOWN: usize = 16;
@@ -23,26 +26,39 @@ static COMMAND_FLAGS: [(u8, &str); 4] = [
     (COMMAND_RETRANSMITTED, " T"),
 ];
 
-/// Adds the fields of the AVP at the front of some bytes, as far as they are there: in decimal, and in hexadecimal.
-pub fn push_avp(out: &mut String, bytes: &[u8]) -> Added {
-    let Some(flags) = bytes.get(4) else {
-        out.push_str("bytes ")?;
-        return push_hex(out, bytes);
-    };
-    push_front(out, *flags, bytes)?;
-    let head = head_of(bytes);
-    if head == VENDOR_AVP_HEAD_LENGTH {
-        push_field(out, ", vendor ", part(bytes, 8, 12))?;
-    }
-    push_data(out, part(bytes, head, length_of(bytes)))
+/// The bytes of an AVP, and what may stand behind it.
+#[derive(Clone, Copy)]
+struct AvpBytes<'a> {
+    bytes: &'a [u8],
 }
 
-/// Adds the code, the flags and the AVP Length.
-fn push_front(out: &mut String, flags: u8, bytes: &[u8]) -> Added {
-    push_field(out, "code ", part(bytes, 0, 4))?;
-    out.push_str(", ")?;
-    push_flags(out, flags, &AVP_FLAGS)?;
-    push_field(out, ", length ", part(bytes, 5, 8))
+/// Adds the fields of the AVP at the front of some bytes, as far as they are there: in decimal, and in hexadecimal.
+pub fn push_avp(out: &mut String, bytes: &[u8]) -> Added {
+    push_text(out, &AvpBytes { bytes }, fields_of(bytes))
+}
+
+fn fields_of(bytes: &[u8]) -> &'static str {
+    if bytes.len() < FLAGS_END {
+        "bytes {bytes}"
+    } else if head_of(bytes) == VENDOR_AVP_HEAD_LENGTH {
+        "code {code}, flags {flags}, length {length}, vendor {vendor}{data}"
+    } else {
+        "code {code}, flags {flags}, length {length}{data}"
+    }
+}
+
+impl Scene for AvpBytes<'_> {
+    fn push_word(&self, out: &mut String, word: &str) -> Added {
+        let bytes = self.bytes;
+        match word {
+            "code" => push_field(out, part(bytes, 0, 4)),
+            "flags" => push_flags(out, flags_of(bytes), &AVP_FLAGS),
+            "length" => push_field(out, part(bytes, 5, 8)),
+            "vendor" => push_field(out, part(bytes, 8, 12)),
+            "data" => push_data(out, part(bytes, head_of(bytes), length_of(bytes))),
+            _ => push_hex(out, bytes),
+        }
+    }
 }
 
 fn push_data(out: &mut String, bytes: &[u8]) -> Added {
@@ -51,23 +67,16 @@ fn push_data(out: &mut String, bytes: &[u8]) -> Added {
     }
     out.push_str(", data ")?;
     push_hex(out, part(bytes, 0, SHOWN))?;
-    if bytes.len() > SHOWN {
-        out.push_str("..")?;
-    }
-    Ok(())
+    out.push_str(if bytes.len() > SHOWN { ".." } else { "" })
 }
 
-/// Adds the fields of a header by which its command is found.
-pub fn push_header(out: &mut String, header: &Header) -> Added {
-    let Header { code, app, .. } = *header;
-    out.push_str("\n  header: ")?;
-    push_flags(out, header.flags, &COMMAND_FLAGS)?;
-    write!(out, ", code {code}, application {app}\n")
+/// Adds the flags of a header, with the names of those that are set.
+pub fn push_command_flags(out: &mut String, header: &Header) -> Added {
+    push_flags(out, header.flags, &COMMAND_FLAGS)
 }
 
 /// Adds flags, with the names of those that are set.
 fn push_flags(out: &mut String, flags: u8, names: &[(u8, &'static str)]) -> Added {
-    out.push_str("flags ")?;
     push_hex_byte(out, flags)?;
     for (bit, name) in names {
         if flags & *bit != 0 {
@@ -77,10 +86,10 @@ fn push_flags(out: &mut String, flags: u8, names: &[(u8, &'static str)]) -> Adde
     Ok(())
 }
 
-/// Adds a number behind its name, and its bytes.
-fn push_field(out: &mut String, name: &str, bytes: &[u8]) -> Added {
+/// Adds a number, and its bytes.
+fn push_field(out: &mut String, bytes: &[u8]) -> Added {
     let value = value_of(bytes);
-    write!(out, "{name}{value} (")?;
+    write!(out, "{value} (")?;
     push_hex(out, bytes)?;
     out.push(')')
 }
@@ -118,17 +127,23 @@ pub fn vendor_of(own: &[u8]) -> u32 {
 
 /// How many bytes the AVP at the front of some bytes has before its data.
 pub fn head_of(own: &[u8]) -> usize {
-    match own.get(4) {
-        Some(flags) if flags & AVP_VENDOR != 0 => VENDOR_AVP_HEAD_LENGTH,
-        _ => AVP_HEAD_LENGTH,
+    if flags_of(own) & AVP_VENDOR != 0 {
+        VENDOR_AVP_HEAD_LENGTH
+    } else {
+        AVP_HEAD_LENGTH
     }
 }
 
 /// Whether the M flag of the AVP at the front of some bytes is set.
 pub fn is_mandatory(own: &[u8]) -> bool {
+    flags_of(own) & AVP_MANDATORY != 0
+}
+
+/// The flags of the AVP at the front of some bytes, or 0.
+fn flags_of(own: &[u8]) -> u8 {
     match own.get(4) {
-        Some(flags) => flags & AVP_MANDATORY != 0,
-        None => false,
+        Some(flags) => *flags,
+        None => 0,
     }
 }
 

@@ -2,15 +2,18 @@
 
 use crate::applications::{Application, application_of};
 use crate::books::{Level, Wanted, class_of, command_at, definition, find_command, name_of};
-use crate::faults::avp_bytes::push_header;
+use crate::faults::avp_bytes::push_command_flags;
 use crate::sides::Side;
-use crate::texts::{Added, Scene, push_hint, push_number, push_text};
+use crate::texts::{Added, Scene, fault_and_hint, push_hint, push_number, push_text};
 use dia_book::{Book, Class, DefHead, Definition};
 use dia_check::Reason;
 use dia_wire::Header;
 
 /// How many applications are told.
 const TOLD: usize = 5;
+
+/// The fields by which a command is found.
+const HEADER: &str = "\n  header: flags {flags}, code {code}, application {app}\n";
 
 /// A header, and a command that its texts speak of.
 #[derive(Clone, Copy)]
@@ -36,9 +39,9 @@ pub fn push_header_fault(
         header: *header,
         command,
     };
-    let (fault, hint) = scene.texts_of(reason);
+    let (fault, hint) = fault_and_hint(scene.text_of(reason));
     push_text(out, &scene, fault)?;
-    push_header(out, header)?;
+    push_text(out, &scene, HEADER)?;
     scene.push_commands(out, reason)?;
     push_hint(out, &scene, hint)?;
     scene.push_dictionary(out, reason)
@@ -49,42 +52,30 @@ impl InHeader<'_> {
         class_of(&self.header)
     }
 
-    /// What is wrong, and what to do.
-    fn texts_of(&self, reason: Reason) -> (&'static str, &'static str) {
+    /// What is wrong, and on the line behind it what to do.
+    fn text_of(&self, reason: Reason) -> &'static str {
         match (reason, self.class(), self.command) {
-            (Reason::Bits, Class::Request, _) => (
-                "a request has the E flag",
-                "mend the sender: only an answer may have E, and only a request R",
-            ),
-            (Reason::Bits, _, _) => (
-                "a message that is no request has the T flag",
-                "mend the sender: only a request is sent again with T",
-            ),
-            (Reason::Command, Class::Error, _) => (
-                "the dictionary has no definition for answers with the E flag",
-                "add one with the header < Diameter Header: code, ERR >; it serves the errors of all commands",
-            ),
-            (Reason::Command, _, Some(_)) => (
-                "the dictionary has no {class} with Command Code {code}",
-                "a definition with REQ serves requests alone, and one without answers alone: add the other one",
-            ),
-            (Reason::Command, _, None) => (
-                "the dictionary has no {class} with Command Code {code}",
-                "add the definition, < Diameter Header: {code}{req}{pxy} >",
-            ),
-            (Reason::Application, _, _) => (
-                "the dictionary has no {class} with Command Code {code} for application {app}",
-                "add a definition for application {app}, or leave the Application-ID out of the header of one: \
+            (Reason::Bits, Class::Request, _) => "a request has the E flag\n\
+                 mend the sender: only an answer may have E, and only a request R",
+            (Reason::Bits, _, _) => "a message that is no request has the T flag\n\
+                 mend the sender: only a request is sent again with T",
+            (Reason::Command, Class::Error, _) =>
+                "the dictionary has no definition for answers with the E flag\n\
+                 add one with the header < Diameter Header: code, ERR >; it serves the errors of all commands",
+            (Reason::Command, _, Some(_)) =>
+                "the dictionary has no {class} with Command Code {code}\n\
+                 a definition with REQ serves requests alone, and one without answers alone: add the other one",
+            (Reason::Command, _, None) => "the dictionary has no {class} with Command Code {code}\n\
+                 add the definition, < Diameter Header: {code}{req}{pxy} >",
+            (Reason::Application, _, _) =>
+                "the dictionary has no {class} with Command Code {code} for application {app}\n\
+                 add a definition for application {app}, or leave the Application-ID out of the header of one: \
                  it then serves all",
-            ),
-            _ if self.header.is_proxiable() => (
-                "the P flag is set, and the header of {name} has no PXY",
-                "add PXY to the header, or mend the sender",
-            ),
-            _ => (
-                "the P flag is clear, and the header of {name} has PXY",
-                "take PXY out of the header, or mend the sender",
-            ),
+            _ if self.header.is_proxiable() =>
+                "the P flag is set, and the header of {name} has no PXY\n\
+                 add PXY to the header, or mend the sender",
+            _ => "the P flag is clear, and the header of {name} has PXY\n\
+                 take PXY out of the header, or mend the sender",
         }
     }
 
@@ -162,11 +153,8 @@ impl Scene for InHeader<'_> {
     fn push_word(&self, out: &mut String, word: &str) -> Added {
         let header = &self.header;
         match word {
-            "class" => out.push_str(match self.class() {
-                Class::Request => "request",
-                Class::Answer => "answer",
-                Class::Error => "answer with the E flag",
-            }),
+            "class" => out.push_str(class_word(self.class())),
+            "flags" => push_command_flags(out, header),
             "code" => push_number(out, header.code as usize),
             "app" => push_number(out, header.app as usize),
             "req" => out.push_str(if header.is_request() { ", REQ" } else { "" }),
@@ -174,5 +162,13 @@ impl Scene for InHeader<'_> {
             "theirs" => push_number(out, self.application().unwrap_or(0) as usize),
             _ => out.push_str(name_of(self.command)),
         }
+    }
+}
+
+fn class_word(class: Class) -> &'static str {
+    match class {
+        Class::Request => "request",
+        Class::Answer => "answer",
+        Class::Error => "answer with the E flag",
     }
 }

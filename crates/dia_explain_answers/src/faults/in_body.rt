@@ -3,14 +3,14 @@
 use crate::books::{Known, Level, avp_of, name_of};
 use crate::checking::Asked;
 use crate::faults::Message;
-use crate::faults::avp::{push_avp_word, shown_avp, texts_of_avp};
+use crate::faults::avp::{push_avp_word, shown_avp, text_of_avp};
 use crate::faults::avp_bytes::{part, push_avp};
-use crate::faults::lengths::texts_of_length;
+use crate::faults::lengths::text_of_length;
 use crate::faults::level::Counting;
-use crate::faults::rules::texts_of_rule;
+use crate::faults::rules::text_of_rule;
 use crate::faults::walk::{Group, walk_to};
 use crate::sides::Side;
-use crate::texts::{Added, Scene, push_hint, push_number, push_text};
+use crate::texts::{Added, Scene, fault_and_hint, push_hint, push_number, push_text};
 use dia_book::Key;
 use dia_check::{Fault, Levels, Reason, Subject};
 
@@ -63,15 +63,19 @@ impl<'a> InBody<'a> {
 
     /// Adds what is wrong, where in the message and in the dictionary, and what to do.
     pub fn push(&self, out: &mut String) -> Added {
-        let (fault, hint) = match self.fault.reason {
-            Reason::AvpLength => texts_of_length(self),
-            _ if self.is_of_rule() => texts_of_rule(self),
-            _ => texts_of_avp(self),
-        };
+        let (fault, hint) = fault_and_hint(self.text());
         self.message.push_spot(out, self.place())?;
         push_text(out, self, fault)?;
         self.push_places(out)?;
         push_hint(out, self, hint)
+    }
+
+    fn text(&self) -> &'static str {
+        match self.fault.reason {
+            Reason::AvpLength => text_of_length(self),
+            _ if self.is_of_rule() => text_of_rule(self),
+            _ => text_of_avp(self),
+        }
     }
 
     /// Adds where in the message and in the dictionary.

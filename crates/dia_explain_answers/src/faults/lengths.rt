@@ -7,44 +7,21 @@ use dia_book::Key;
 use dia_explain_places::{Unpadded, find_unpadded};
 use dia_wire::AVP_HEAD_LENGTH;
 
-/// What is wrong, and what to do.
-pub fn texts_of_length(scene: &InBody<'_>) -> (&'static str, &'static str) {
+/// What is wrong, and on the line behind it what to do.
+pub fn text_of_length(scene: &InBody<'_>) -> &'static str {
     let own = scene.own();
     let length = length_of(own);
     if own.len() < AVP_HEAD_LENGTH {
-        (
-            "no AVP begins here: {left} bytes are left of {level}, and an AVP has at least 8",
-            hint_of_length(scene),
-        )
+        "no AVP begins here: {left} bytes are left of {level}, and an AVP has at least 8\n{length-hint}"
     } else if length < head_of(own) {
-        (
-            "no AVP begins here: the AVP Length is {length}, and the head alone has {head} bytes",
-            hint_of_length(scene),
-        )
+        "no AVP begins here: the AVP Length is {length}, and the head alone has {head} bytes\n{length-hint}"
     } else if length > own.len() {
-        (
-            "no AVP begins here: the AVP Length is {length}, and with {left} bytes left of {level} it may be at most {most}",
-            hint_of_length(scene),
-        )
+        "no AVP begins here: the AVP Length is {length}, and with {left} bytes left of {level} it may be at most {most}\n\
+         {length-hint}"
     } else {
-        (
-            "no AVP begins here: the AVP Length is {length}, and with {left} bytes left of {level} it may be at most {most}, \
-             since the padding to a multiple of four has to be there",
-            "the last AVP of a group is padded as well, and the group's AVP Length counts that padding: mend the sender",
-        )
-    }
-}
-
-fn hint_of_length(scene: &InBody<'_>) -> &'static str {
-    match find_unpadded(scene.bytes().1) {
-        Some(_) => {
-            "{unpadded} has the AVP Length {unpadded-length}, and what follows stands right behind it, without its padding: \
-             mend the sender"
-        }
-        None => {
-            "mend the sender; either this AVP's Length is wrong, \
-             or the padding or the Length of the AVP in front of it, or that of the group"
-        }
+        "no AVP begins here: the AVP Length is {length}, and with {left} bytes left of {level} it may be at most {most}, \
+         since the padding to a multiple of four has to be there\n\
+         the last AVP of a group is padded as well, and the group's AVP Length counts that padding: mend the sender"
     }
 }
 
@@ -56,20 +33,31 @@ pub fn push_length_word(out: &mut String, scene: &InBody<'_>, word: &str) -> Add
         "most" => push_number(out, own.len() / 4 * 4),
         "length" => push_number(out, length_of(own)),
         "head" => push_number(out, head_of(own)),
-        _ => match find_unpadded(scene.bytes().1) {
-            Some(found) if word == "unpadded-length" => push_number(out, found.length),
-            Some(found) => push_unpadded(out, scene, &found),
-            None => Ok(()),
-        },
+        _ => push_length_hint(out, scene),
     }
 }
 
-/// Adds an AVP without padding, and its place.
+/// Adds what to do about a length, by the AVP without padding that may have led here.
+fn push_length_hint(out: &mut String, scene: &InBody<'_>) -> Added {
+    match find_unpadded(scene.bytes().1) {
+        Some(found) => push_unpadded(out, scene, &found),
+        None => out.push_str(
+            "mend the sender; either this AVP's Length is wrong, \
+             or the padding or the Length of the AVP in front of it, or that of the group",
+        ),
+    }
+}
+
+/// Adds an AVP without padding, its place, and its length.
 fn push_unpadded(out: &mut String, scene: &InBody<'_>, found: &Unpadded) -> Added {
-    let Unpadded { at, code, .. } = *found;
+    let Unpadded { at, code, length } = *found;
     let (begin, bytes) = scene.bytes();
     let vendor = vendor_of(part(bytes, at, bytes.len()));
     let place = begin.saturating_add(at);
     scene.side.push_name(out, Key { code, vendor })?;
-    write!(out, " at {place}")
+    write!(
+        out,
+        " at {place} has the AVP Length {length}, and what follows stands right behind it, without its padding: \
+         mend the sender"
+    )
 }

@@ -1,6 +1,6 @@
 //! The level of a fault, and the rule that counts its AVP there.
 
-use crate::books::{Level, definition, slot};
+use crate::books::{Level, definition, slot, wildcard_among};
 use crate::faults::avp_bytes::{head_of, part};
 use crate::faults::in_body::InBody;
 use dia_book::{DRule, Definition, Key, Slot};
@@ -101,7 +101,7 @@ impl<'a> InBody<'a> {
 fn place_of(rules: &[DRule], slot: Slot) -> Option<usize> {
     match slot {
         Slot::Fixed(place) | Slot::Loose(place) => Some(place),
-        Slot::Unlisted => rules.iter().position(|rule| rule.key.is_none()),
+        Slot::Unlisted => wildcard_among(rules),
     }
 }
 

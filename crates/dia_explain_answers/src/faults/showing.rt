@@ -6,7 +6,7 @@ use crate::checking::Asked;
 use crate::faults::Message;
 use crate::faults::in_body::InBody;
 use crate::faults::walk::walk_to;
-use crate::sides::{Side, sites_of};
+use crate::sides::Side;
 use crate::texts::Added;
 use dia_book::Book;
 use dia_check::{Fault, Levels, Reason, Subject, Unknown};
@@ -26,8 +26,7 @@ pub fn push_show(
     let Ok((header, _)) = read_header(&cut.message) else {
         return Ok(());
     };
-    let sites = sites_of(alloc, &texts.first, &cut.first)?;
-    let side = Side::of(&texts.first, &cut.first, &sites);
+    let side = Side::of(&texts.first, &cut.first);
     let message = Message::of(&texts.message, &cut.message);
     push_end(alloc, out, &side, &message, Level::body(&header))
 }
@@ -70,21 +69,25 @@ pub fn push_unnamed(alloc: Global, out: &mut String, message: &[u8], sign: &str)
     let Ok((header, _)) = read_header(message) else {
         return Ok(());
     };
-    if !has_unnamed(alloc, message)? {
-        return Ok(());
+    if has_unnamed(alloc, message)? {
+        push_naming(out, sign, header.app)
+    } else {
+        Ok(())
     }
-    write!(
-        out,
-        "hint: {sign} is an AVP that the base dictionary doesn't have; --dict "
-    )?;
-    match application_of(header.app) {
-        Some(Application { id, name, file }) => {
-            write!(
-                out,
-                "{file} names those of application {id} ({name}), see docs/CAPTURES.md\n"
-            )
-        }
-        None => out.push_str("D names those of the dictionary D\n"),
+}
+
+/// Adds which dictionary names the AVPs of messages of an application.
+fn push_naming(out: &mut String, sign: &str, app: u32) -> Added {
+    let what = "is an AVP that the base dictionary doesn't have; --dict";
+    match application_of(app) {
+        Some(Application { id, name, file }) => write!(
+            out,
+            "hint: {sign} {what} {file} names those of application {id} ({name}), see docs/CAPTURES.md\n"
+        ),
+        None => write!(
+            out,
+            "hint: {sign} {what} D names those of the dictionary D\n"
+        ),
     }
 }
 

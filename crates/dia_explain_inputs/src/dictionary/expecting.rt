@@ -22,21 +22,26 @@ pub fn number_at(wanted: Wanted) -> Option<&'static str> {
 
 /// Adds what can stand at a place.
 pub fn push_expected(out: &mut String, wanted: Wanted) -> Added {
-    let items = expected(wanted);
+    let sort = sort_of(wanted);
+    let last = if sort.is_empty() { ", or " } else { " or " };
+    out.push_str(sort)?;
+    push_items(out, items_at(wanted), last)
+}
+
+/// What the words that can stand at a place have in common.
+fn sort_of(wanted: Wanted) -> &'static str {
     match wanted {
-        Wanted::Declaration(InDeclaration::VendorOrFormat) => {
-            out.push_str("vendor, or a data format: ")?;
-            push_items(out, formats(), " or ")
-        }
-        Wanted::Declaration(InDeclaration::Format) => {
-            out.push_str("a data format: ")?;
-            push_items(out, items, " or ")
-        }
-        Wanted::Declaration(InDeclaration::MRule { .. }) => {
-            out.push_str("the rule of the M flag: ")?;
-            push_items(out, items, " or ")
-        }
-        _ => push_items(out, items, ", or "),
+        Wanted::Declaration(InDeclaration::VendorOrFormat) => "vendor, or a data format: ",
+        Wanted::Declaration(InDeclaration::Format) => "a data format: ",
+        Wanted::Declaration(InDeclaration::MRule { .. }) => "the rule of the M flag: ",
+        _ => "",
+    }
+}
+
+fn items_at(wanted: Wanted) -> &'static [&'static str] {
+    match wanted {
+        Wanted::Declaration(InDeclaration::VendorOrFormat) => formats(),
+        _ => expected(wanted),
     }
 }
 

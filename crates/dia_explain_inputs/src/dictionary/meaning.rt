@@ -16,7 +16,7 @@ use dia_report::WrongSource;
 use notes::{Note, notes_of};
 use parts::Parts;
 use std::alloc::{AllocError, Global};
-use texts::{push_filled, texts_of};
+use texts::{push_filled, text_of};
 
 /// The most faults that are told.
 const MOST: usize = 50;
@@ -93,7 +93,8 @@ fn push_note(
     note: &Note<'_>,
     advised: Option<DictKind>,
 ) -> Result<Option<DictKind>, AllocError> {
-    let (fault, advice) = texts_of(parts, note);
+    let text = text_of(parts, note);
+    let (fault, advice) = text.split_once('\n').unwrap_or((text, ""));
     let kind = note.finding.told.kind;
     push_fault(out, parts, note, fault)?;
     if push_meant(out, names, note)? || advised == Some(kind) && kind != DictKind::NoGroupFormat {

@@ -74,26 +74,30 @@ impl<'a> Scene<'a> {
     pub fn push_fault(&self, out: &mut String) -> Added {
         match self.misfit.fault {
             CcfFault::Limit { .. } => out.push_str("the name has more than 128 bytes"),
-            CcfFault::Number { .. } => {
-                self.push_token(out)?;
-                out.push_str(" is out of range; expected ")?;
-                match number_at(self.misfit.wanted) {
-                    Some(number) => out.push_str(number),
-                    None => push_expected(out, self.misfit.wanted),
-                }
-            }
-            CcfFault::Syntax { .. } | CcfFault::NoMemory => {
-                let is_end = self.token.is_none();
-                out.push_str(if is_end {
-                    "the text ends here"
-                } else {
-                    "found "
-                })?;
-                self.push_token(out)?;
-                out.push_str("; expected ")?;
-                push_expected(out, self.misfit.wanted)
-            }
+            CcfFault::Number { .. } => self.push_number(out),
+            CcfFault::Syntax { .. } | CcfFault::NoMemory => self.push_syntax(out),
         }
+    }
+
+    /// Adds that a number is out of range, and which can stand there.
+    fn push_number(&self, out: &mut String) -> Added {
+        self.push_token(out)?;
+        out.push_str(" is out of range; expected ")?;
+        match number_at(self.misfit.wanted) {
+            Some(number) => out.push_str(number),
+            None => push_expected(out, self.misfit.wanted),
+        }
+    }
+
+    /// Adds what stands at the place, and what can stand there.
+    fn push_syntax(&self, out: &mut String) -> Added {
+        out.push_str(match self.token {
+            None => "the text ends here",
+            Some(_) => "found ",
+        })?;
+        self.push_token(out)?;
+        out.push_str("; expected ")?;
+        push_expected(out, self.misfit.wanted)
     }
 
     /// Adds the token in quotes, if there is one. Of a character that no text has all bytes are told.

@@ -15,33 +15,40 @@ pub fn push_value(out: &mut String, parts: &Parts<'_>, note: &Note<'_>, word: &s
         "slot" => out.push_str(told.slot),
         "first" => out.push_str(parts.name(other).unwrap_or("")),
         "declared" => push_coded(out, parts.key(other)),
-        "key" => push_coded(out, parts.key(part)),
-        "header" => push_header(out, parts.key(part)),
-        "messages" => push_messages(out, parts.head(part)),
         "more" => push_more(out, note.more),
-        _ => push_number(out, parts, part, word),
+        _ => push_part_value(out, parts, part, word),
     }
 }
 
-/// Adds a place, a count or a limit that a word stands for.
-fn push_number(out: &mut String, parts: &Parts<'_>, part: Option<Part>, word: &str) -> Added {
+/// Adds what a word about the part at fault stands for.
+fn push_part_value(out: &mut String, parts: &Parts<'_>, part: Option<Part>, word: &str) -> Added {
+    match word {
+        "key" => push_coded(out, parts.key(part)),
+        "header" => push_header(out, parts.key(part)),
+        "messages" => push_messages(out, parts.head(part)),
+        "place" => push_place_of(out, parts, part),
+        _ => push_count(out, count_of(parts, part, word)),
+    }
+}
+
+fn push_count(out: &mut String, count: usize) -> Added {
+    write!(out, "{count}")
+}
+
+/// The count or the limit that a word stands for.
+fn count_of(parts: &Parts<'_>, part: Option<Part>, word: &str) -> usize {
     let (low, high) = counts_of(parts.rule(part));
     let (rules, limit) = match parts.def(part) {
         Some(def) => (def.rules.len(), MAX_RULES),
         None => (0, MAX_PARTS),
     };
     match word {
-        "place" => push_place_of(out, parts, part),
-        "parts" => push_count(out, parts.count()),
-        "rules" => push_count(out, rules),
-        "limit" => push_count(out, limit),
-        "low" => push_count(out, low as usize),
-        _ => push_count(out, high as usize),
+        "parts" => parts.count(),
+        "rules" => rules,
+        "limit" => limit,
+        "low" => low as usize,
+        _ => high as usize,
     }
-}
-
-fn push_count(out: &mut String, count: usize) -> Added {
-    write!(out, "{count}")
 }
 
 /// Adds the line and the column of the definition of a rule.
