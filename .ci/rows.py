@@ -11,9 +11,9 @@ The calls, where POLICY is `kept` or `refused`, LEVELS a number or `any`, and th
     show | D | MESSAGE                        check POLICY LEVELS | D | MESSAGE
     render | D                                fronts FROM..TO check POLICY LEVELS | D | MESSAGE
     compare POLICY | A | B | TABLE            propose POLICY NAME.. | A | B
-    refute POLICY LEVELS | A | B | MESSAGE
+    refute POLICY LEVELS | A | B | MESSAGE    breaking WORD.. | A | B | ACCEPTED
 
-`json` before a call is the call with `--json`. `fronts` is a row for the first bytes of the message: for each count of them from
+`json` before a call is the call with `--json`. The words of `breaking` are options and names. `fronts` is a row for the first bytes of the message: for each count of them from
 FROM on and below TO. Blanks in a MESSAGE count for nothing there."""
 
 import itertools
@@ -91,6 +91,7 @@ INPUTS = {
     "compare": ("a.row", "b.row", "t.row"),
     "propose": ("a.row", "b.row"),
     "refute": ("a.row", "b.row", "m.row"),
+    "breaking": ("a.row", "b.row", "l.row"),
 }
 """The files of the inputs of a call, in the order of its fields."""
 
@@ -116,12 +117,17 @@ def row(room, line, call, texts, wanted):
             room.answers(words, wanted, files, line)
 
 
-def words_of(verb, policy=None, *more):
+def words_of(verb, *more):
     """The words of the command line that a call stands for."""
+    if verb == "breaking":
+        first, second, accepted = INPUTS[verb]
+        options, names = ([word for word in more if word.startswith("--") == is_option] for is_option in (True, False))
+        return [verb, *options, "--accepted", accepted, first, second, *names]
+    policy, *more = more or [None]
     unknown = ["--unknown", policy] if policy else []
     if verb == "show":
         return ["show", "--dict", *INPUTS[verb]]
-    if verb in ("check", "refute") and more != ("any",):
+    if verb in ("check", "refute") and more != ["any"]:
         return [verb, *unknown, "--levels", *more, *INPUTS[verb]]
     names = ["" if name == "-" else name for name in more] if verb == "propose" else []
     return [verb, *unknown, *INPUTS[verb], *names]

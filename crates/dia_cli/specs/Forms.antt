@@ -30,7 +30,7 @@ pub data Telling : Type 0 where
   as_listing : Bool → Bool → Option Text → Telling
 
 -- a command with its options and the words of its inputs. `--levels`, `--dict`, `--values` and `--accepted` are their words; `check`, `compare`
--- and `propose` have `--json`, `refute` has `--lines` and `--json`, and `breaking` has `--messages`, `--once` and `--meaning`, or not
+-- and `propose` have `--json`, `refute` has `--lines` and `--json`, and `breaking` has `--json`, `--messages`, `--once` and `--meaning`, or not
 pub data Form : Type 0 where
   show : Telling → Option Text → Text → Form
   make : Option Text → Text → Form
@@ -39,7 +39,7 @@ pub data Form : Type 0 where
   compare : Bool → Unknown → Text → Text → Text → Form
   refute : Bool → Bool → Unknown → Option Text → Text → Text → Text → Form
   propose : Bool → Unknown → Text → Text → Text → List Text → Form
-  breaking : Sends → Unknown → Bool → Bool → Bool → Option Text → Text → Text → List Text → Form
+  breaking : Bool → Sends → Unknown → Bool → Bool → Bool → Option Text → Text → Text → List Text → Form
 
 abbrev pub form_name : Form → Text
 form_name (show telling dictionary message) = codes "show"
@@ -49,7 +49,7 @@ form_name (render dictionary) = codes "render"
 form_name (compare json unknown first second table) = codes "compare"
 form_name (refute many json unknown levels first second message) = codes "refute"
 form_name (propose json unknown first second name names) = codes "propose"
-form_name (breaking sends unknown messages once meaning accepted first second names) = codes "breaking"
+form_name (breaking json sends unknown messages once meaning accepted first second names) = codes "breaking"
 
 -- a word of an option is left out where it says what holds without it
 abbrev pub policy_given : Unknown → Option Text
@@ -105,9 +105,9 @@ form_options (compare json unknown first second table) = unknown_slot unknown �
 form_options (refute many json unknown levels first second message) =
     unknown_slot unknown ∷ flag (codes "lines") many ∷ flag (codes "json") json ∷ number (codes "levels") levels ∷ []
 form_options (propose json unknown first second name names) = unknown_slot unknown ∷ flag (codes "json") json ∷ []
-form_options (breaking sends unknown messages once meaning accepted first second names) =
+form_options (breaking json sends unknown messages once meaning accepted first second names) =
     unknown_slot unknown ∷ choice (codes "sends") (sender_given sends) ∷ flag (codes "messages") messages
-    ∷ flag (codes "once") once ∷ flag (codes "meaning") meaning ∷ text (codes "accepted") accepted ∷ []
+    ∷ flag (codes "once") once ∷ flag (codes "meaning") meaning ∷ flag (codes "json") json ∷ text (codes "accepted") accepted ∷ []
 
 abbrev pub pair_slots : Text → Text → Slot → List Slot
 pair_slots first second third = word (codes "A") first ∷ word (codes "B") second ∷ third ∷ []
@@ -120,7 +120,7 @@ form_inputs (render dictionary) = word (codes "D") dictionary ∷ []
 form_inputs (compare json unknown first second table) = pair_slots first second (word (codes "TABLE") table)
 form_inputs (refute many json unknown levels first second message) = pair_slots first second (word (codes "MESSAGE") message)
 form_inputs (propose json unknown first second name names) = pair_slots first second (words (codes "COMMAND") (name ∷ names))
-form_inputs (breaking sends unknown messages once meaning accepted first second names) = pair_slots first second (words (codes "COMMAND") names)
+form_inputs (breaking json sends unknown messages once meaning accepted first second names) = pair_slots first second (words (codes "COMMAND") names)
 
 -- the words behind the command's name, with `--quiet` or without it
 abbrev pub words_of : Bool → Form → List Text
@@ -136,6 +136,7 @@ form_json (refute many json unknown levels first second message) = json
 form_json (show telling dictionary message) = is_json telling
 form_json (compare json unknown first second table) = json
 form_json (propose json unknown first second name names) = json
+form_json (breaking json sends unknown messages once meaning accepted first second names) = json
 form_json form = false
 
 -- the task is the form's
@@ -160,7 +161,7 @@ IsTaskOfForm (refute true json unknown levels first second messages) (RefuteLine
     (policy ≡ unknown) × IsLimitOf levels limit
 IsTaskOfForm (propose json unknown first second name names) (Whole (command.Propose policy commands)) =
     (policy ≡ unknown) × (map string_bytes commands.items ≡ name ∷ names)
-IsTaskOfForm (breaking sends unknown messages once meaning accepted first second names) (Breaking sender policy shown counted meant commands) =
+IsTaskOfForm (breaking json sends unknown messages once meaning accepted first second names) (Breaking sender policy shown counted meant commands) =
     (sender ≡ sends) × (policy ≡ unknown) × (shown ≡ messages) × (counted ≡ once) × (meant ≡ meaning) × (map string_bytes commands.items ≡ names)
 IsTaskOfForm form task = ⊥
 
@@ -181,7 +182,7 @@ form_words (compare json unknown first second table) = record (pair_texts first 
 form_words (refute false json unknown levels first second message) = record (pair_texts first second) { message = Some message }
 form_words (refute true json unknown levels first second messages) = record (pair_texts first second) { messages = Some messages }
 form_words (propose json unknown first second name names) = pair_texts first second
-form_words (breaking sends unknown messages once meaning accepted first second names) =
+form_words (breaking json sends unknown messages once meaning accepted first second names) =
     record (pair_texts first second) { table = Some (unwrap_or accepted (codes "@none")) }
 
 -- the request is the form's, and its inputs come from where the words say

@@ -269,6 +269,7 @@ pub(crate) static ROWS: [CommandRow<'static>; 8] = [
                 },
                 help: "Lines that are known, as this command prints them, which aren't printed: a file, @none, or - for standard input",
             },
+            JSON,
         ],
         inputs: &[
             A,

@@ -1,5 +1,5 @@
-//! The tests of `dia_json`, `dia_compared_json` and `dia_breaking_json`: what is put as JSON. They go through public calls
-//! alone. There is nothing but tests.
+//! The tests of `dia_json`, `dia_compared_json`, `dia_breaking_json` and `dia_upgrades_json`: what is put as JSON. They go
+//! through public calls alone. There is nothing but tests.
 #![tactic(auto)]
 
 #[cfg(test)]
@@ -12,3 +12,5 @@ mod many;
 mod shown;
 #[cfg(test)]
 mod tables;
+#[cfg(test)]
+mod upgrades;

@@ -24,7 +24,7 @@ use std::alloc::{AllocError, Global};
 /// Writes what stands behind all lines, and answers what was found.
 pub(crate) fn ended<S: Sink>(
     alloc: Global,
-    asked: Asked<'_>,
+    asked: Asked<'_, '_>,
     seen: &Seen<'_>,
     sink: &mut S,
 ) -> Result<Listed, RunFault>
@@ -58,7 +58,7 @@ fn exit_of(lines: usize) -> Exit
 /// Writes that no line is left, or the causes where each is told once. Where memory is refused, nothing is written.
 fn put_end<S: Sink>(
     alloc: Global,
-    asked: Asked<'_>,
+    asked: Asked<'_, '_>,
     lines: usize,
     is_some: bool,
     causes: &[Told],
@@ -86,7 +86,7 @@ fn put_end<S: Sink>(
 /// Writes the causes, of which each is told once.
 fn put_once<S: Sink>(
     alloc: Global,
-    asked: Asked<'_>,
+    asked: Asked<'_, '_>,
     causes: &[Told],
     sink: &mut S,
 ) -> Result<(), RunFault>
@@ -139,7 +139,7 @@ fn push_cause(
     write!(text, "{object}\n")
 }
 
-fn nothing_text(form: Form<'_>, is_some: bool, meaning: bool) -> &'static str
+fn nothing_text(form: Form<'_, '_>, is_some: bool, meaning: bool) -> &'static str
     ensures { result.now ≡ said form.entry (nothing_for meaning is_some) }
 {
     match form {

@@ -41,7 +41,7 @@ pub(crate) fn put_lines<'l, A: Book, B: Book, S: Sink>(
     sink: &mut S,
     upgrade: &Upgrade<'_, A, B>,
     places: &[usize],
-    asked: Asked<'_>,
+    asked: Asked<'_, '_>,
     list: &'l [Entry],
 ) -> Result<Seen<'l>, RunFault>
     requires sound { ¬ IsTrue (S.has_failed sink.old) }
@@ -97,7 +97,7 @@ fn put_commands<A: Book, B: Book, S: Sink>(
     sink: &mut S,
     upgrade: &Upgrade<'_, A, B>,
     places: &[usize],
-    asked: Asked<'_>,
+    asked: Asked<'_, '_>,
     forgets: bool,
 ) -> Result<(), RunFault>
     requires sound { ¬ IsTrue (S.has_failed sink.old) }
@@ -127,7 +127,7 @@ fn put_command<A: Book, B: Book, S: Sink>(
     sink: &mut S,
     upgrade: &Upgrade<'_, A, B>,
     place: usize,
-    asked: Asked<'_>,
+    asked: Asked<'_, '_>,
 ) -> Result<(), RunFault>
     requires sound { ¬ IsTrue (S.has_failed sink.old) }
     requires place { place < length (sides_of upgrade.now).sender.commands }
@@ -158,7 +158,7 @@ fn put_each<A: Book, B: Book, S: Sink>(
     breaks: &Breaks,
     lines: &[Line],
     place: usize,
-    asked: Asked<'_>,
+    asked: Asked<'_, '_>,
 ) -> Result<(), RunFault>
     requires { ¬ IsTrue (S.has_failed sink.old) }
     ensures all { OnOk result ((told : List PlainTold)
@@ -184,7 +184,7 @@ fn put_line<A: Book, B: Book, S: Sink>(
     breaks: &Breaks,
     line: &Line,
     place: usize,
-    asked: Asked<'_>,
+    asked: Asked<'_, '_>,
 ) -> Result<(), RunFault>
     requires { ¬ IsTrue (S.has_failed sink.old) }
     ensures all { OnOk result ((t : PlainTold)

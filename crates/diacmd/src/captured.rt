@@ -161,8 +161,8 @@ where
     }
 }
 
-/// How the program ends where lines weren't answered to their end. `name` is the word that names their text, and the errors are
-/// those of standard output and of that text.
+/// How the program ends where lines weren't answered to their end. `name` is the word that names their text; `output` and `input`
+/// are the errors that writing and reading met.
 pub(crate) fn ending_of(
     fault: LinesFault,
     name: &str,

@@ -13,15 +13,14 @@ mod listing;
 mod notes;
 mod showing;
 mod text;
-mod tips;
 
-use advice::{advised, is_unread, means_base};
+use advice::{is_unread, means_base};
 use built::version;
 use captured::{Capture, captured};
 use dia_captures::Lines;
 use dia_cli::{
-    BASE_DICTIONARY, Ending, OfProcess, Origin, Origins, Request, STANDARD_INPUT, Task, finish,
-    open_inputs, parse_words,
+    BASE_DICTIONARY, Ending, OfProcess, Origin, Origins, Request, STANDARD_INPUT, Task, advised,
+    finish, open_inputs, parse_words,
 };
 use dia_explain_places::{InputTexts, NamedText};
 use dia_io::put_all;
@@ -151,7 +150,7 @@ where
                 form: Form::Text,
                 names: names.as_slice(),
             };
-            list(rt, asked, inputs, origins, quiet)
+            list(rt, asked, inputs, origins, manner)
         }
         Task::CheckLines { unknown, levels } => {
             let capture = Capture::new(Lines::Checked, *unknown, *levels);
@@ -219,18 +218,23 @@ where
 /// Lists what breaks, and explains it. What is answered has nothing more to explain.
 fn list<'a, R>(
     rt: &R,
-    asked: Asked<'_>,
+    asked: Asked<'_, '_>,
     inputs: &Inputs,
     origins: &Origins<'a>,
-    quiet: bool,
+    manner: Manner,
 ) -> Result<Reported, Ending<'a>>
 where
     R: AllocGlobal + Print + Eprint,
 {
     let mut sink = ToWriter::new(io::writer(rt));
-    match breaking(rt.alloc(), asked, inputs, &mut sink) {
+    let found = if manner.json {
+        dia_upgrades_json::breaking(rt.alloc(), asked, inputs, &mut sink)
+    } else {
+        breaking(rt.alloc(), asked, inputs, &mut sink)
+    };
+    match found {
         Ok(listed) => {
-            if !quiet {
+            if !manner.quiet {
                 let texts = texts_of(origins, inputs);
                 note_upgrade(rt, &texts, asked, inputs, &listed.report);
             }
@@ -246,7 +250,7 @@ where
 fn note_upgrade<R: AllocGlobal + Eprint>(
     rt: &R,
     texts: &InputTexts<'_>,
-    asked: Asked<'_>,
+    asked: Asked<'_, '_>,
     inputs: &Inputs,
     report: &dia_upgrades::Report,
 ) {

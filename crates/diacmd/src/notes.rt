@@ -52,7 +52,7 @@ pub(crate) fn explain(
 pub(crate) fn explain_upgrade(
     alloc: Global,
     texts: &InputTexts<'_>,
-    asked: Asked<'_>,
+    asked: Asked<'_, '_>,
     inputs: &Inputs,
     report: &dia_upgrades::Report,
 ) -> Result<String, AllocError> {
@@ -82,7 +82,7 @@ fn push_found(
     alloc: Global,
     out: &mut String,
     texts: &InputTexts<'_>,
-    asked: Asked<'_>,
+    asked: Asked<'_, '_>,
     inputs: &Inputs,
     books: &BothBooks,
     found: &Found,
@@ -114,7 +114,7 @@ fn push_found(
 fn push_less(
     alloc: Global,
     out: &mut String,
-    asked: Asked<'_>,
+    asked: Asked<'_, '_>,
     inputs: &Inputs,
     books: &BothBooks,
 ) -> Result<(), AllocError> {
@@ -134,7 +134,7 @@ fn push_left(
     alloc: Global,
     out: &mut String,
     sends: Sends,
-    asked: Asked<'_>,
+    asked: Asked<'_, '_>,
     inputs: &Inputs,
     books: &BothBooks,
 ) -> Result<(), AllocError> {
@@ -158,7 +158,7 @@ fn sends_less(sends: Sends, than: Sends) -> bool {
     }
 }
 
-fn is_long(asked: Asked<'_>, books: &BothBooks) -> bool {
+fn is_long(asked: Asked<'_, '_>, books: &BothBooks) -> bool {
     let source = &books.first.source;
     let commands = if asked.names.is_empty() {
         source.commands.len()

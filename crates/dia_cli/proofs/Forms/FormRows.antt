@@ -31,7 +31,7 @@ form_row (render dictionary) = render_row
 form_row (compare json unknown first second table) = compare_row
 form_row (refute many json unknown levels first second message) = refute_row
 form_row (propose json unknown first second name names) = propose_row
-form_row (breaking sends unknown messages once meaning accepted first second names) = breaking_row
+form_row (breaking json sends unknown messages once meaning accepted first second names) = breaking_row
 
 -- the options with `--quiet` or without it
 abbrev pub all_options : Bool → Form → List Slot
@@ -97,8 +97,8 @@ module _ (policies senders : Bor (List (Bor Text))) (two : texts policies.now �
       row_fits propose_row _ _ refl (refl, tt, (refl, policy_passes unknown, (refl, tt, tt)))
       (record { by_index = refl; by_id = refl; next = refl }, (record { by_index = refl; by_id = refl; next = refl }, (true, record { by_index = refl; by_id = refl; next = refl })))
       refl refl refl refl
-  form_fits quiet (breaking sends unknown messages once meaning accepted first second names) =
-      row_fits breaking_row _ _ refl (refl, tt, (refl, policy_passes unknown, (refl, sender_passes sends, (refl, tt, (refl, tt, (refl, tt, (refl, tt, tt)))))))
+  form_fits quiet (breaking json sends unknown messages once meaning accepted first second names) =
+      row_fits breaking_row _ _ refl (refl, tt, (refl, policy_passes unknown, (refl, sender_passes sends, (refl, tt, (refl, tt, (refl, tt, (refl, tt, (refl, tt, tt))))))))
       (record { by_index = refl; by_id = refl; next = refl }, (record { by_index = refl; by_id = refl; next = refl }, (false, record { by_index = refl; by_id = refl; next = refl })))
       refl refl refl refl
 
@@ -111,7 +111,7 @@ module _ (policies senders : Bor (List (Bor Text))) (two : texts policies.now �
   form_named (compare json unknown first second table) = record { stops = refl; fine = refl; finds = refl; rest = refl }
   form_named (refute many json unknown levels first second message) = record { stops = refl; fine = refl; finds = refl; rest = refl }
   form_named (propose json unknown first second name names) = record { stops = refl; fine = refl; finds = refl; rest = refl }
-  form_named (breaking sends unknown messages once meaning accepted first second names) = record { stops = refl; fine = refl; finds = refl; rest = refl }
+  form_named (breaking json sends unknown messages once meaning accepted first second names) = record { stops = refl; fine = refl; finds = refl; rest = refl }
 
   shape_name : (form : Form) → (shape policies senders (form_row form)).name ≡ form_name form
   shape_name (show telling dictionary message) = refl
@@ -121,7 +121,7 @@ module _ (policies senders : Bor (List (Bor Text))) (two : texts policies.now �
   shape_name (compare json unknown first second table) = refl
   shape_name (refute many json unknown levels first second message) = refl
   shape_name (propose json unknown first second name names) = refl
-  shape_name (breaking sends unknown messages once meaning accepted first second names) = refl
+  shape_name (breaking json sends unknown messages once meaning accepted first second names) = refl
 
   -- the words of a form are taken
   pub form_taken : (program : Text) (quiet : Bool) (form : Form) → is_plain_form form ≡ true

@@ -129,7 +129,7 @@ form_is_asked quiet (refute many json unknown levels first second third) rows pl
     (also (pair_passes first second rows says.1.0.1 says.1.0.2) (also (has_flag _ many says.1.1) (has_some _ third says.1.3))))
 form_is_asked quiet (propose json unknown first second name names) rows plain says =
     also (has_flag _ quiet says.0) (also (has_policy _ unknown says.1.0.0) (also (pair_passes first second rows says.1.0.1 says.1.0.2) (has_some _ (name ∷ names) says.1.1)))
-form_is_asked quiet (breaking sends unknown messages once meaning accepted first second names) rows plain says =
+form_is_asked quiet (breaking json sends unknown messages once meaning accepted first second names) rows plain says =
     also (has_flag _ quiet says.0) (also (has_policy _ unknown says.1.0.0) (also (pair_passes first second rows says.1.0.1 says.1.0.2)
     (also (has_sender _ sends says.1.1)
     (also (also (has_flag _ messages says.1.2) (also (has_flag _ once says.1.5) (has_flag _ meaning says.1.6))) (has_some _ (unwrap_or accepted (codes "@none")) says.1.4)))))
@@ -360,7 +360,7 @@ asked_is (refute false json unknown levels first second third) rows (RefuteLines
 asked_is (refute true json unknown levels first second third) rows (Whole (command.Refute policy limit)) origins says is found = other_flag _ false true is.1 says.1 not_true
 asked_is (propose json unknown first second name names) rows (Whole (command.Propose policy commands)) origins says is found =
     ((same_policy _ _ _ is.1 says.0.0, sym (same_value _ _ _ says.1 is.2)), pair_named origins rows first second says.0.1 says.0.2 found)
-asked_is (breaking sends unknown messages once meaning accepted first second names) rows (Breaking sender policy shown counted meant commands) origins says is found = (
+asked_is (breaking json sends unknown messages once meaning accepted first second names) rows (Breaking sender policy shown counted meant commands) origins says is found = (
   (
     same_sender _ _ _ is.2 says.1,
     same_policy _ _ _ is.1 says.0.0,
@@ -371,7 +371,7 @@ asked_is (breaking sends unknown messages once meaning accepted first second nam
   ),
   table_named origins rows first second says.0.1 says.0.2 (codes "accepted") (unwrap_or accepted (codes "@none")) says.4 found,
 )
-asked_is (breaking sends unknown messages once meaning accepted first second names) rows (Whole command.Show) origins says is found = unlike (codes "breaking") (codes "show") refl is.0
+asked_is (breaking json sends unknown messages once meaning accepted first second names) rows (Whole command.Show) origins says is found = unlike (codes "breaking") (codes "show") refl is.0
 asked_is (make dictionary written) rows (Whole command.Show) origins says is found = unlike (codes "make") (codes "show") refl is.0
 asked_is form rows task origins says is found = unlike (form_name form) (task_name task) refl (name_found task (form_name form, rows) is)
 

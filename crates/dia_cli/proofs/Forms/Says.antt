@@ -44,7 +44,7 @@ SaysForm (refute many json unknown levels first second message) rows =
     SaysPair unknown first second rows × (first_of (codes "lines") rows ≡ Some (flag_word many)) × (first_of (codes "levels") rows ≡ levels)
     × (first_of (codes "MESSAGE") rows ≡ Some message)
 SaysForm (propose json unknown first second name names) rows = SaysPair unknown first second rows × (all_of (codes "COMMAND") rows ≡ Some (name ∷ names))
-SaysForm (breaking sends unknown messages once meaning accepted first second names) rows =
+SaysForm (breaking json sends unknown messages once meaning accepted first second names) rows =
     SaysPair unknown first second rows × (first_of (codes "sends") rows ≡ Some (sends_word sends)) × (first_of (codes "messages") rows ≡ Some (flag_word messages))
     × (all_of (codes "COMMAND") rows ≡ some_names names) × (first_of (codes "accepted") rows ≡ Some (unwrap_or accepted (codes "@none")))
     × (first_of (codes "once") rows ≡ Some (flag_word once)) × (first_of (codes "meaning") rows ≡ Some (flag_word meaning))
@@ -157,7 +157,7 @@ module _ (policies senders : Bor (List (Bor Text))) (quiet : Bool) (rows : List 
     ((first (codes "unknown") ∙ policy_found unknown, first (codes "A"), first (codes "B")), all (codes "COMMAND")),
     flag_given json (first (codes "json") ∙ flag_found json),
   )
-  form_says (breaking sends unknown messages once meaning accepted one two names) first all = (
+  form_says (breaking json sends unknown messages once meaning accepted one two names) first all = (
     first (codes "quiet") ∙ flag_found quiet,
     (
       (first (codes "unknown") ∙ policy_found unknown, first (codes "A"), first (codes "B")),
@@ -168,7 +168,7 @@ module _ (policies senders : Bor (List (Bor Text))) (quiet : Bool) (rows : List 
       first (codes "once") ∙ flag_found once,
       first (codes "meaning") ∙ flag_found meaning,
     ),
-    not_given (first (codes "json")),
+    flag_given json (first (codes "json") ∙ flag_found json),
   )
 
   pub found_says : (form : Form) → Finds (shape policies senders (form_row form)) (all_options quiet form ++ form_inputs form) rows → Says quiet form rows

@@ -1,0 +1,4 @@
+mod Forms
+mod Refusals
+mod Reports
+mod Written

@@ -1,0 +1,4 @@
+pub mod Begun
+pub mod Objects
+pub mod Outcome
+pub mod UnderWay

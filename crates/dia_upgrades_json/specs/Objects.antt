@@ -1,0 +1,99 @@
+-- The objects of `breaking` as JSON: those of lines, and the one behind them.
+use Rattle.std.specs.Prelude.{◌≡◌, ℕ, Bool, List, [], ◌++◌, codes, length}
+use Rattle.std.specs.Borrow.{Bor}
+use Rattle.std.specs.List.{flat_map}
+use Rattle.serde_json.specs.Written.{compact_text}
+use Rattle.dia_accepted.specs.Accepted.{PlainTold}
+use Rattle.dia_book.specs.Dictionary.{Dictionary}
+use Rattle.dia_breaking_json.specs.declared.Names.{Names}
+use Rattle.dia_breaking_json.specs.Fields.{Field, object_of, text_field}
+use Rattle.dia_breaking_json.specs.Keys.{key_in, key_named}
+use Rattle.dia_breaking_json.specs.Lines.{line_json, unsigned_field}
+use Rattle.dia_compat.specs.Proposed.{IsFirstUnknown}
+use Rattle.dia_explain_places.specs.Places.{column_at, line_at}
+use Rattle.dia_io.specs.declared.Input.{Input}
+use Rattle.dia_json.specs.Refusals.{text_of}
+use Rattle.dia_run.specs.Texts.{line}
+use Rattle.dia_upgrades.specs.declared.asked.Asked.{Asked}
+use Rattle.dia_upgrades.specs.declared.asked.Form.TheVariants.{Json}
+use Rattle.dia_upgrades.specs.declared.list.BadList.{BadList}
+use Rattle.dia_upgrades.specs.declared.list.BadList.TheVariants.{TooLong, NotText, Syntax, Limit}
+use Rattle.dia_upgrades.specs.declared.reporting.Found.{Found}
+use Rattle.dia_upgrades.specs.declared.reporting.Found.TheVariants as found
+
+-- ---- lines
+
+-- the look-ups by name are those of the two dictionaries
+pub record AreNamesOf (a b : Dictionary) (names : Names) : Type 0 where
+  pub first_are : (name : List ℕ) → key_in names.first name ≡ key_named a name
+  pub second_are : (name : List ℕ) → key_in names.second name ≡ key_named b name
+
+-- the same is asked, and lines are objects
+abbrev pub as_json : Asked → Bor Names → Asked
+as_json asked names = record {
+  sends = asked.sends;
+  unknown = asked.unknown;
+  messages = asked.messages;
+  once = asked.once;
+  meaning = asked.meaning;
+  form = Json names;
+  names = asked.names;
+}
+
+-- the object of a line over two dictionaries, or of one of `--once`
+abbrev pub object_over : Dictionary → Dictionary → Bool → PlainTold → List ℕ
+object_over a b once t = line (line_json (key_named a) (key_named b) once t.words t.message)
+
+abbrev pub objects_over : Dictionary → Dictionary → Bool → List PlainTold → List ℕ
+objects_over a b once told = flat_map (object_over a b once) told
+
+-- ---- behind them
+
+-- the object of these members, on a line
+abbrev pub object_line : List Field → List ℕ
+object_line fields = line (compact_text (object_of fields))
+
+-- how many lines are left, of how many causes, and how many lines are accepted
+abbrev pub counts_fields : (lines causes accepted : ℕ) → List Field
+counts_fields lines causes accepted =
+    unsigned_field (codes "lines") lines ++ unsigned_field (codes "causes") causes ++ unsigned_field (codes "accepted") accepted
+
+-- an input that is refused, and the kind of what is wrong
+abbrev pub refused_fields : (input kind : List ℕ) → List Field
+refused_fields input kind = text_field (codes "error") input ++ text_field (codes "kind") kind
+
+abbrev pub list_kind : BadList → List ℕ
+list_kind TooLong = codes "too long"
+list_kind (NotText at) = codes "not text"
+list_kind (Syntax n) = codes "syntax"
+list_kind (Limit n) = codes "limit"
+
+-- a place of a text: its line and its column
+abbrev pub place_fields : List ℕ → ℕ → List Field
+place_fields text at = unsigned_field (codes "line") (line_at text at) ++ unsigned_field (codes "column") (column_at text at)
+
+-- where the text of a list is refused
+abbrev pub where_fields : List ℕ → BadList → List Field
+where_fields text TooLong = []
+where_fields text (NotText at) = place_fields text at
+where_fields text (Syntax n) = unsigned_field (codes "line") n
+where_fields text (Limit n) = unsigned_field (codes "line") n
+
+-- a list that is refused
+abbrev pub list_fields : List ℕ → BadList → List Field
+list_fields text bad = refused_fields (codes "accepted") (list_kind bad) ++ where_fields text bad
+
+-- a dictionary without commands
+abbrev pub no_commands_fields : List Field
+no_commands_fields = refused_fields (codes "breaking") (codes "no command")
+
+-- a name that is no command's
+abbrev pub no_command_fields : List ℕ → List Field
+no_command_fields name = no_commands_fields ++ text_field (codes "name") name
+
+-- the text of the object behind those of lines, for what was found
+abbrev pub IsEnding : List (List ℕ) → Input → Dictionary → Found → List ℕ → Type 0
+IsEnding names input a (found.Listed stale lines accepted causes meanings) text = text ≡ object_line (counts_fields lines (length causes.items) accepted)
+IsEnding names input a (found.NoList bad) text = text ≡ object_line (list_fields (text_of input) bad)
+IsEnding names input a found.NoCommands text = text ≡ object_line no_commands_fields
+IsEnding names input a found.NoCommand text = (name : List ℕ) × IsFirstUnknown a names name × (text ≡ object_line (no_command_fields name))

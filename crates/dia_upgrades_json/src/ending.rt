@@ -1,0 +1,157 @@
+//! The object behind those of lines: how many there are; or why nothing was compared.
+
+ghost use Rattle.std.specs.Prelude.{◌≡◌, IfOk, List, OnOk, map, string_bytes, ℕ};
+ghost use Rattle.dia_breaking_json.specs.Fields.{Adds, Field, fields_text};
+ghost use Rattle.dia_compat.specs.Proposed.{IsFirstUnknown};
+ghost use Rattle.dia_json.specs.Refusals.{text_of};
+ghost use Rattle.dia_upgrades.specs.Asking.{AreCommands};
+ghost use Rattle.dia_upgrades_json.specs.Objects.{IsEnding, counts_fields, list_fields, list_kind, no_command_fields};
+ghost use Rattle.dia_upgrades_json.specs.Objects.{no_commands_fields, object_line, place_fields, refused_fields, where_fields};
+
+use dia_breaking_json::{object_text, push_text, push_unsigned};
+use dia_dict::Book;
+use dia_explain_places::place_of;
+use dia_io::Input;
+use dia_upgrades::{BadList, Found, named};
+use std::alloc::{AllocError, Global};
+
+/// The object for what was found.
+pub(crate) fn ending<A: Book>(
+    alloc: Global,
+    names: &[String],
+    list: &Input,
+    a: &A,
+    found: &Found,
+) -> Result<String, AllocError>
+    requires { found.now ≡ Found.NoCommand → ¬ AreCommands (A.meaning a.now) (map (λ name. string_bytes name) names.now) }
+    ensures { IfOk result (λ text. IsEnding (map (λ name. string_bytes name) names.now) list.now (A.meaning a.now) found.now
+        (string_bytes text)) }
+{
+    match found {
+        Found::Listed {
+            lines,
+            accepted,
+            causes,
+            ..
+        } => counts_line(alloc, *lines, causes.len(), *accepted),
+        Found::NoList(bad) => bad_list_line(alloc, text_of(list), *bad),
+        Found::NoCommands => no_commands_line(alloc),
+        Found::NoCommand => unknown_line(alloc, names, a),
+    }
+}
+
+fn counts_line(
+    alloc: Global,
+    lines: usize,
+    causes: usize,
+    accepted: usize,
+) -> Result<String, AllocError>
+    ensures { IfOk result (λ text. string_bytes text ≡ object_line (counts_fields lines causes accepted)) }
+{
+    let mut fields = String::new(alloc);
+    push_unsigned(alloc, &mut fields, "lines", lines as u64)?;
+    push_unsigned(alloc, &mut fields, "causes", causes as u64)?;
+    push_unsigned(alloc, &mut fields, "accepted", accepted as u64)?;
+    object_line(alloc, fields.as_str())
+}
+
+/// The object of a list that is refused.
+fn bad_list_line(alloc: Global, list: &[u8], bad: BadList) -> Result<String, AllocError>
+    ensures { IfOk result (λ text. string_bytes text ≡ object_line (list_fields list.now bad)) }
+{
+    let mut fields = String::new(alloc);
+    push_refused(alloc, &mut fields, "accepted", list_kind(bad))?;
+    push_where(alloc, &mut fields, list, bad)?;
+    object_line(alloc, fields.as_str())
+}
+
+/// The text of an input. One that is too long has none.
+fn text_of(input: &Input) -> &[u8]
+    ensures { result.now ≡ text_of input.entry.now }
+{
+    match input {
+        Input::Bytes(bytes) => bytes.as_slice(),
+        Input::TooLong => b"".as_slice(),
+    }
+}
+
+fn list_kind(bad: BadList) -> &'static str
+    ensures { result.now ≡ list_kind bad }
+{
+    match bad {
+        BadList::TooLong => "too long",
+        BadList::NotText { .. } => "not text",
+        BadList::Syntax { .. } => "syntax",
+        BadList::Limit { .. } => "limit",
+    }
+}
+
+/// Adds where a list is refused.
+fn push_where(alloc: Global, out: &mut String, list: &[u8], bad: BadList) -> Result<(), AllocError>
+    ensures { OnOk result (Adds out.old out.new (where_fields list.now bad)) }
+{
+    match bad {
+        BadList::TooLong => Ok(()),
+        BadList::NotText { at } => push_place(alloc, out, list, at),
+        BadList::Syntax { line } => push_unsigned(alloc, out, "line", u64::from(line)),
+        BadList::Limit { line } => push_unsigned(alloc, out, "line", u64::from(line)),
+    }
+}
+
+/// Adds the line and the column of a place.
+fn push_place(alloc: Global, out: &mut String, text: &[u8], at: usize) -> Result<(), AllocError>
+    ensures { OnOk result (Adds out.old out.new (place_fields text.now at)) }
+{
+    let place = place_of(text, at);
+    push_unsigned(alloc, out, "line", place.line as u64)?;
+    push_unsigned(alloc, out, "column", place.column as u64)
+}
+
+/// The object of a dictionary without commands.
+fn no_commands_line(alloc: Global) -> Result<String, AllocError>
+    ensures { IfOk result (λ text. string_bytes text ≡ object_line no_commands_fields) }
+{
+    let mut fields = String::new(alloc);
+    push_refused(alloc, &mut fields, "breaking", "no command")?;
+    object_line(alloc, fields.as_str())
+}
+
+/// The object of the first name that no command has.
+fn unknown_line<A: Book>(alloc: Global, names: &[String], a: &A) -> Result<String, AllocError>
+    requires { ¬ AreCommands (A.meaning a.now) (map (λ name. string_bytes name) names.now) }
+    ensures { IfOk result (λ text. (name : List ℕ)
+        × IsFirstUnknown (A.meaning a.now) (map (λ name. string_bytes name) names.now) name
+        × (string_bytes text ≡ object_line (no_command_fields name))) }
+{
+    match named(alloc, a, names)? {
+        Err(name) => no_command_line(alloc, name),
+        Ok(_) => unreachable!(),
+    }
+}
+
+/// The object of a name that no command has.
+fn no_command_line(alloc: Global, name: &str) -> Result<String, AllocError>
+    ensures { IfOk result (λ text. string_bytes text ≡ object_line (no_command_fields name.now)) }
+{
+    let mut fields = String::new(alloc);
+    push_refused(alloc, &mut fields, "breaking", "no command")?;
+    push_text(alloc, &mut fields, "name", name)?;
+    object_line(alloc, fields.as_str())
+}
+
+/// Adds which input is refused, and the kind of what is wrong.
+fn push_refused(alloc: Global, out: &mut String, input: &str, kind: &str) -> Result<(), AllocError>
+    ensures { OnOk result (Adds out.old out.new (refused_fields input.now kind.now)) }
+{
+    push_text(alloc, out, "error", input)?;
+    push_text(alloc, out, "kind", kind)
+}
+
+/// The object of these members, on a line.
+fn object_line(alloc: Global, fields: &str) -> Result<String, AllocError>
+    ensures { IfOk result (λ text. (members : List Field) → fields.now ≡ fields_text members
+        → string_bytes text ≡ object_line members) }
+{
+    let object = object_text(alloc, fields)?;
+    format!(in alloc; "{object}\n")
+}
