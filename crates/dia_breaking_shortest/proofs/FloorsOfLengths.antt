@@ -77,7 +77,7 @@ entry_at d key i is =
     record { place = i; entry = p.0; is_place = is; at = p.1; own = sym (same_key-true key p.0.key p.2) }
 
 -- a key that is known
-of_known : (d : Dictionary) (key : Key) (x : DictEntry) → known d key ≡ Some x → (h : HasEntry d key) × (h.entry ≡ x)
+pub of_known : (d : Dictionary) (key : Key) (x : DictEntry) → known d key ≡ Some x → (h : HasEntry d key) × (h.entry ≡ x)
 of_known d key x is = by (entry_of d key) refl
   where
     by : (o : Option ℕ) → entry_of d key ≡ o → (h : HasEntry d key) × (h.entry ≡ x)

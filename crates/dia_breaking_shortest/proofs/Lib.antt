@@ -20,5 +20,6 @@ pub mod ShortestAvps
 pub mod ShortestLevels
 pub mod SpelledBytes
 pub mod SpelledLeast
+pub mod SpelledParts
 pub mod Strangers
 pub mod WaitingAvps

@@ -1,9 +1,10 @@
 -- The bytes of a shortest AVP are those of one AVP, which has the length that is computed.
-use Rattle.std.proofs.Common.{◌≡◌, ℕ, zero, suc, ◌+◌, ◌-◌, ◌*◌, ◌%◌, ◌<◌, ◌≤◌, Bool, true, false, List, [], ◌∷◌, ◌++◌, length, take, Option, Some, None, refl, sym, ap, subst, ◌∙◌, arith, append-nil, length-append, inl, inr}
+use Rattle.std.proofs.Common.{◌≡◌, ℕ, zero, suc, ◌+◌, ◌-◌, ◌*◌, ◌%◌, ◌<◌, ◌≤◌, Bool, true, false, List, [], ◌∷◌, ◌++◌, drop, length, take, Option, Some, None, refl, sym, ap, subst, ◌∙◌, arith, append-nil, length-append, inl, inr}
 use Rattle.std.specs.Prelude.{◌⊎◌, ◌==◌, nat_le, not, find, map, slice_get, option_and_then, is_some, nat_lt, if◌then◌else◌, vec_len}
 use Rattle.std.specs.List.{flat_map}
 use Rattle.std.specs.Option.{option_map, option_map_or, option_or}
 use Rattle.std.proofs.lemmas.Bool.{cases_lt, eqb-true, le-leb, le-ltb, leb-true, lt-ltb}
+use Rattle.std.proofs.Math.Seq.{drop-append_seam}
 use Rattle.std.proofs.lemmas.List.Concat.{flat_map-append}
 use Rattle.std.proofs.lemmas.List.Sorted.{Contains-permutation}
 use Rattle.std.proofs.lemmas.Option.{none-some, same_Some, slice_get_within}
@@ -32,15 +33,16 @@ use Rattle.dia_breaking_shortest.specs.Exact.{IsFillerLength}
 use Rattle.dia_breaking_shortest.specs.Floors.{padded, shortest_head}
 use Rattle.dia_breaking_shortest.specs.Least.{IsFirstUnknown, IsLeastOf}
 use Rattle.dia_breaking_shortest.specs.Kept.{kept_at}
-use Rattle.dia_breaking_shortest.specs.Laws.{LeastAvpsAreSpelled}
+use Rattle.dia_breaking_shortest.specs.Laws.{LeastAvpsAreSpelled, LeastLevelsAreSpelled}
 use Rattle.dia_breaking_shortest.specs.Lengths.{IsLeafLength, IsOrder, entry_length, filler_of, is_unlisted, length_of, rank, unknown_length}
 use Rattle.dia_breaking_shortest.proofs.ExactLengths.{own_lengths}
-use Rattle.dia_breaking_shortest.proofs.FloorsOfLengths.{entry_at, found_is_least, in_map}
+use Rattle.dia_breaking_shortest.proofs.FloorsOfLengths.{entry_at, found_is_least, in_map, of_known}
 use Rattle.dia_breaking_shortest.proofs.KeptSizes.{kept_size}
 use Rattle.dia_breaking_shortest.proofs.LengthsBelow.{below, below_all, below_less}
 use Rattle.dia_breaking_shortest.proofs.LessLevels.{level_within}
 use Rattle.dia_breaking_shortest.proofs.ShortestLevels.{asked_within}
-use Rattle.dia_breaking_shortest.proofs.SpelledBytes.{avp_size, avp_spelled, said_avp, said_key}
+use Rattle.dia_breaking_shortest.proofs.SpelledBytes.{avp_size, avp_spelled, head_size, said_avp, said_key}
+use Rattle.dia_breaking_shortest.proofs.SpelledParts.{IsSpelled, repeated_spelled, spells_both, spells_one}
 
 -- the bytes are those of an AVP of the key, and as many
 pub record IsWhole (key : Key) (size : ℕ) (b : List ℕ) : Type 0 where
@@ -51,6 +53,21 @@ pub record IsWhole (key : Key) (size : ℕ) (b : List ℕ) : Type 0 where
 
 pub whole_size : (key : Key) (size : ℕ) (b : List ℕ) → IsWhole key size b → length b ≡ size
 whole_size key size b w = ap length w.are ∙ avp_size key w.m w.content ∙ w.takes
+
+-- they spell it
+whole_spelled : (key : Key) (size : ℕ) (b : List ℕ) → IsWhole key size b → size < too_long → IsSpelled b
+whole_spelled key size b w short =
+    let own = said_avp key w.m w.content in
+    let takes = w.takes in
+    (own ∷ [], spells_one own b (subst (Spells own) (sym w.are) (avp_spelled key w.m w.content (omega (arith, takes, short)))))
+
+-- they are those of a group with these rules: its data spell AVPs, and there are none where the rules ask for none
+pub record IsGroup (rules : List DRule) (key : Key) (size : ℕ) (b : List ℕ) : Type 0 where
+  pub whole : IsWhole key size b
+  pub level : IsSpelled whole.content
+  pub behind : drop (shortest_head key) b ≡ whole.content
+  pub sum : shortest_head key + length whole.content ≡ size
+  pub empty : ((r : DRule) → IsIn r rules → r.min ≡ 0) → whole.content ≡ []
 
 -- ---- what a wildcard's least count is met with
 
@@ -126,7 +143,7 @@ at_least_one (suc n) e = omega arith
 module _ (f : Key → ℕ) (avp : Key → List ℕ) (a : ℕ) (filler : Option Key) where
   -- the AVP of a rule is whole, and takes what is computed
   abbrev IsAsked : DRule → Type 0
-  IsAsked r = (q : Key) × (option_or r.key filler ≡ Some q) × IsWhole q (f q) (avp q) × (f q ≡ option_map_or f r.key a)
+  IsAsked r = (q : Key) × (option_or r.key filler ≡ Some q) × IsWhole q (f q) (avp q) × (f q ≡ option_map_or f r.key a) × (f q < too_long)
 
   -- so many bytes, and a multiple of four
   abbrev Takes : ℕ → List ℕ → Type 0
@@ -160,7 +177,7 @@ module _ (f : Key → ℕ) (avp : Key → List ℕ) (a : ℕ) (filler : Option K
           let none : r.min ≡ 0 = eqb-true r.min 0 e in
           let sum : rule_floor f a r ≡ 0 * option_map_or f r.key a = ap (λ (n : ℕ). n * option_map_or f r.key a) none in
           (omega (arith, sum), refl)
-      by false e = let (q, is, whole, same) = asked (at_least_one r.min e) in some q is whole same
+      by false e = let (q, is, whole, same, short) = asked (at_least_one r.min e) in some q is whole same
 
   pub rules_take : (rules : List DRule) → ((r : DRule) → IsIn r rules → 1 ≤ r.min → IsAsked r) → Takes (sum_of (rule_floor f a) rules) (parts_bytes avp (flat_map (rule_parts filler) rules))
   rules_take [] each = (refl, refl)
@@ -171,6 +188,37 @@ module _ (f : Key → ℕ) (avp : Key → List ℕ) (a : ℕ) (filler : Option K
       let all = length-append (parts_bytes avp (rule_parts filler r)) (parts_bytes avp (flat_map (rule_parts filler) rules)) in
       subst (Takes (sum_of (rule_floor f a) (r ∷ rules))) (sym cut)
       (let x = here.0 in let y = ih.0 in omega (arith, x, y, all), let x = here.1 in let y = ih.1 in omega (arith, x, y, all))
+
+  rule_spelled : (r : DRule) → (1 ≤ r.min → IsAsked r) → IsSpelled (parts_bytes avp (rule_parts filler r))
+  rule_spelled r asked = by (r.min == 0) refl
+    where
+      some : (q : Key) → option_or r.key filler ≡ Some q → IsWhole q (f q) (avp q) → f q < too_long
+          → IsSpelled (parts_bytes avp (option_map_or (λ key. part_of key r.min ∷ []) (option_or r.key filler) []))
+      some q is whole short =
+          let all = repeated_spelled r.min (avp q) (whole_spelled q (f q) (avp q) whole short) in
+          subst (λ (o : Option Key). IsSpelled (parts_bytes avp (option_map_or (λ key. part_of key r.min ∷ []) o []))) (sym is)
+          (subst IsSpelled (sym (append-nil (repeated r.min (avp q)))) all)
+
+      by : (t : Bool) → (r.min == 0) ≡ t → IsSpelled (parts_bytes avp (if t then [] else option_map_or (λ key. part_of key r.min ∷ []) (option_or r.key filler) []))
+      by true e = ([], refl)
+      by false e = let (q, is, whole, same, short) = asked (at_least_one r.min e) in some q is whole short
+
+  -- so are all of a group
+  pub rules_spelled : (rules : List DRule) → ((r : DRule) → IsIn r rules → 1 ≤ r.min → IsAsked r) → IsSpelled (parts_bytes avp (flat_map (rule_parts filler) rules))
+  rules_spelled [] each = ([], refl)
+  rules_spelled (r ∷ rules) each =
+      let here = rule_spelled r (each r (inl refl)) in
+      let ih = rules_spelled rules (λ s i. each s (inr i)) in
+      let cut = flat_map-append (λ (p : Part). repeated p.count (avp p.key)) (rule_parts filler r) (flat_map (rule_parts filler) rules) in
+      subst IsSpelled (sym cut) (here.0 ++ ih.0, spells_both here.0 ih.0 (parts_bytes avp (rule_parts filler r)) (parts_bytes avp (flat_map (rule_parts filler) rules)) here.1 ih.1)
+
+  -- where no rule asks for any, there are none
+  pub rules_nothing : (rules : List DRule) → ((r : DRule) → IsIn r rules → r.min ≡ 0) → parts_bytes avp (flat_map (rule_parts filler) rules) ≡ []
+  rules_nothing [] none = refl
+  rules_nothing (r ∷ rules) none =
+      let here : rule_parts filler r ≡ [] =
+      ap (λ (n : ℕ). if n == 0 then [] else option_map_or (λ key. part_of key n ∷ []) (option_or r.key filler) []) (none r (inl refl)) in
+      ap (λ (ps : List Part). parts_bytes avp (ps ++ flat_map (rule_parts filler) rules)) here ∙ rules_nothing rules (λ s i. none s (inr i))
 
 -- ---- shortest AVPs
 
@@ -184,19 +232,25 @@ head_four key = by key.vendor
 no_padding : (n : ℕ) → n % 4 ≡ 0 → padding n ≡ []
 no_padding n even = ap (λ (k : ℕ). take ((4 - k) % 4) (0 ∷ 0 ∷ 0 ∷ [])) even
 
--- a head in front of AVPs is an AVP
-group_whole : (key : Key) (m : Bool) (n size : ℕ) (content : List ℕ) → length content ≡ size → length content % 4 ≡ 0 → n ≡ capped (padded (shortest_head key + size)) → n < too_long
-    → IsWhole key n (head_bytes key m n ++ content)
-group_whole key m n size content is even all short =
+-- a head in front of AVPs is a group
+group_whole : (rules : List DRule) (key : Key) (m : Bool) (n size : ℕ) (content : List ℕ) → length content ≡ size → length content % 4 ≡ 0 → IsSpelled content
+    → (((r : DRule) → IsIn r rules → r.min ≡ 0) → content ≡ []) → n ≡ capped (padded (shortest_head key + size)) → n < too_long → IsGroup rules key n (head_bytes key m n ++ content)
+group_whole rules key m n size content is even spelled nothing all short =
     let own = head_four key in
     let up : n ≡ shortest_head key + length content = omega (arith, is, even, all, short, own) in
     let none = no_padding (length content) even in
     record {
-      m = m;
-      content = content;
-      are = ap (λ (k : ℕ). head_bytes key m k ++ content) up ∙ sym (append-nil (head_bytes key m (shortest_head key + length content) ++ content))
-          ∙ ap (λ (bs : List ℕ). head_bytes key m (shortest_head key + length content) ++ content ++ bs) (sym none);
-      takes = omega (arith, up, own, even);
+      whole = record {
+        m = m;
+        content = content;
+        are = ap (λ (k : ℕ). head_bytes key m k ++ content) up ∙ sym (append-nil (head_bytes key m (shortest_head key + length content) ++ content))
+            ∙ ap (λ (bs : List ℕ). head_bytes key m (shortest_head key + length content) ++ content ++ bs) (sym none);
+        takes = omega (arith, up, own, even);
+      };
+      level = spelled;
+      behind = subst (λ (j : ℕ). drop j (head_bytes key m n ++ content) ≡ content) (head_size key m n) (drop-append_seam (head_bytes key m n) content);
+      sum = sym up;
+      empty = nothing;
     }
 
 leaf_whole : (key : Key) (m : Bool) (n : ℕ) (content : List ℕ) → n ≡ capped (padded (shortest_head key + length content)) → n < too_long → IsWhole key n (avp_bytes key m content)
@@ -259,8 +313,8 @@ module _ (d : Dictionary) (who : Sends) (least : Least) (is : IsLeastOf d who le
     group_asked group a some is_a base r i asked = by r.key refl (asked_within f a group.rules (omega (arith, base, short)) r i asked)
       where
         by : (o : Option Key) → r.key ≡ o → option_map_or f o a ≤ base_length f a group.rules
-            → (q : Key) × (option_or o (kept_at least.fillers.items e) ≡ Some q) × IsWhole q (f q) (avp_within d least n q) × (f q ≡ option_map_or f o a)
-        by (Some q) k low = (q, refl, inner_whole q (omega (arith, low, base)), refl)
+            → (q : Key) × (option_or o (kept_at least.fillers.items e) ≡ Some q) × IsWhole q (f q) (avp_within d least n q) × (f q ≡ option_map_or f o a) × (f q < too_long)
+        by (Some q) k low = (q, refl, inner_whole q (omega (arith, low, base)), refl, omega (arith, low, base, short))
         by None k low =
             let (r, filled, same) = met d lengths least.unknown is.unknown is.fillers.order group.rules a (omega (arith, low, base, short)) who is.fillers.is_order is_a in
             let place = group_there d e entry group at some in
@@ -269,10 +323,10 @@ module _ (d : Dictionary) (who : Sends) (least : Least) (is : IsLeastOf d who le
             ∙ ap (λ (o : Option ℕ). option_and_then (λ def. option_map (λ (r : Ranked). r.key) (filler_of who least.unknown is.fillers.order (rules_in d def))) o) place.0
             ∙ ap (λ (rs : List DRule). option_map (λ (r : Ranked). r.key) (filler_of who least.unknown is.fillers.order rs)) rules
             ∙ ap (λ (o : Option Ranked). option_map (λ (r : Ranked). r.key) o) filled in
-            (r.key, kept, inner_whole r.key (omega (arith, same, low, base)), same)
+            (r.key, kept, inner_whole r.key (omega (arith, same, low, base)), same, omega (arith, same, low, base, short))
 
     entry_group : (key : Key) (group : PlainDefinition) → entry.key ≡ key → entry.group ≡ Some group
-        → IsWhole key (entry_length lengths e) (entry_front d least key e ++ parts_bytes (avp_within d least n) (entry_parts d least e))
+        → IsGroup group.rules key (entry_length lengths e) (entry_front d least key e ++ parts_bytes (avp_within d least n) (entry_parts d least e))
     entry_group key group own some =
         let (a, is_a, is_n) = is.lengths.groups e entry group at some in
         let base = level_within f a (entry_length lengths e) entry.key group.rules is_n short in
@@ -283,20 +337,22 @@ module _ (d : Dictionary) (who : Sends) (least : Least) (is : IsLeastOf d who le
         let exact = base_exact f a group.rules in
         let head : shortest_head entry.key ≡ shortest_head key = ap shortest_head own in
         let content = parts_bytes (avp_within d least n) (flat_map (rule_parts filler) group.rules) in
+        let spelled = rules_spelled f (avp_within d least n) a filler group.rules (group_asked group a some is_a base) in
         let size : length content ≡ base_length f a group.rules = let sum = take_all.0 in omega (arith, sum, exact, base, short) in
-        let whole = group_whole key (needs_m d e) (entry_length lengths e) (base_length f a group.rules) content size take_all.1
+        let whole = group_whole group.rules key (needs_m d e) (entry_length lengths e) (base_length f a group.rules) content size take_all.1 spelled
+        (rules_nothing f (avp_within d least n) a filler group.rules)
         (is_n ∙ ap (λ (k : ℕ). capped (padded (k + base_length f a group.rules))) head) short in
-        subst (λ (o : Option ℕ). IsWhole key (entry_length lengths e)
+        subst (λ (o : Option ℕ). IsGroup group.rules key (entry_length lengths e)
         ((if is_some o then head_bytes key (needs_m d e) (entry_length lengths e) else leaf_bytes key (needs_m d e) (option_map witness_bytes (kept_at least.leaf_data.items e)))
         ++ parts_bytes (avp_within d least n) (option_map_or (λ def. flat_map (rule_parts filler) (rules_in d def)) o []))) (sym place.0)
-        (subst (λ (rs : List DRule). IsWhole key (entry_length lengths e)
+        (subst (λ (rs : List DRule). IsGroup group.rules key (entry_length lengths e)
         (head_bytes key (needs_m d e) (entry_length lengths e) ++ parts_bytes (avp_within d least n) (flat_map (rule_parts filler) rs))) (sym rules) whole)
 
     entry_whole : (key : Key) → entry.key ≡ key → IsWhole key (entry_length lengths e) (entry_front d least key e ++ parts_bytes (avp_within d least n) (entry_parts d least e))
     entry_whole key own = by entry.group refl
       where
         by : (o : Option PlainDefinition) → entry.group ≡ o → IsWhole key (entry_length lengths e) (entry_front d least key e ++ parts_bytes (avp_within d least n) (entry_parts d least e))
-        by (Some group) some = entry_group key group own some
+        by (Some group) some = (entry_group key group own some).whole
         by None none =
             let place = group_missing d e entry at none in
             subst (λ (o : Option ℕ). IsWhole key (entry_length lengths e)
@@ -324,6 +380,21 @@ module _ (d : Dictionary) (who : Sends) (least : Least) (is : IsLeastOf d who le
       is_short_here : (o : Option ℕ) → entry_of d key ≡ o → option_map_or (entry_length lengths) o (unknown_length who key) < too_long → is_short d least key ≡ true
       is_short_here None e lt = ap (λ (o : Option ℕ). option_map_or (λ e. nat_lt (entry_length lengths e) too_long) o true) e
       is_short_here (Some i) e lt = ap (λ (o : Option ℕ). option_map_or (λ e. nat_lt (entry_length lengths e) too_long) o true) e ∙ lt-ltb (entry_length lengths i) too_long lt
+
+  -- of a key that is a group's they spell a level
+  pub least_group : (key : Key) (i : ℕ) (entry : DictEntry) (group : PlainDefinition) → entry_of d key ≡ Some i → slice_get d.entries i ≡ Some entry → entry.key ≡ key → entry.group ≡ Some group
+      → f key < too_long → IsGroup group.rules key (f key) (least_avp d least key)
+  least_group key i entry group e at own some short =
+      let all = below_all (f key) lengths in
+      let same : f key ≡ entry_length lengths i = ap (λ (o : Option ℕ). option_map_or (entry_length lengths) o (unknown_length who key)) e in
+      let here : entry_length lengths i < too_long = omega (arith, same, short) in
+      let few : below (entry_length lengths i) lengths < suc (vec_len least.lengths) =
+      subst (λ (m : ℕ). below m lengths < suc (vec_len least.lengths)) same (let kept = least.lengths.ok.0 in omega (arith, all, kept)) in
+      subst (λ (b : Bool). IsGroup group.rules key (f key) (if b then avp_within d least (suc (vec_len least.lengths)) key else []))
+      (sym (ap (λ (o : Option ℕ). option_map_or (λ e. nat_lt (entry_length lengths e) too_long) o true) e ∙ lt-ltb (entry_length lengths i) too_long here))
+      (subst (λ (o : Option ℕ). IsGroup group.rules key (option_map_or (entry_length lengths) o (unknown_length who key))
+      (option_map_or (entry_front d least key) o (head_bytes key false (shortest_head key)) ++ parts_bytes (avp_within d least (vec_len least.lengths)) (option_map_or (entry_parts d least) o [])))
+      (sym e) (entry_group (vec_len least.lengths) (whole_within (vec_len least.lengths)) i entry at here few key group own some))
 
   -- the bytes of a key's AVP are those of one AVP, or there are none
   pub least_either : (key : Key) → (least_avp d least key ≡ []) ⊎ ((n : ℕ) × (n < too_long) × IsWhole key n (least_avp d least key))
@@ -363,4 +434,21 @@ least_spelled d who least is key small short =
       is_key = said_key key w.m w.content small;
       spells = subst (Spells (said_avp key w.m w.content)) (sym w.are) (avp_spelled key w.m w.content (omega (arith, takes, short)));
       size = whole_size key (length_of d who least.lengths.items key) (least_avp d least key) w;
+    }
+
+pub levels_spelled : LeastLevelsAreSpelled
+levels_spelled d who least is key entry group knows some short =
+    let (h, same) = of_known d key entry knows in
+    let all = least_group d who least is key h.place h.entry group h.is_place h.at h.own (ap (λ (x : DictEntry). x.group) same ∙ some) short in
+    let w = all.whole in
+    let takes = w.takes in
+    record {
+      avp = said_avp key w.m w.content;
+      avps = all.level.0;
+      is_key = said_key key w.m w.content;
+      spells = subst (Spells (said_avp key w.m w.content)) (sym w.are) (avp_spelled key w.m w.content (omega (arith, takes, short)));
+      level = all.level.1;
+      behind = all.behind;
+      sum = all.sum;
+      empty = λ none. all.empty (λ r i. none r (contains_in group.rules r i));
     }

@@ -1,10 +1,11 @@
 -- What holds of all that a side sends.
-use Rattle.std.specs.Prelude.{◌≡◌, ℕ, ◌+◌, ◌<◌, ◌≤◌, List, length, map, Some, None}
+use Rattle.std.specs.Prelude.{◌≡◌, ℕ, ◌+◌, ◌<◌, ◌≤◌, List, [], Contains, drop, length, map, Some, None}
 use Rattle.std.specs.List.{AllByRecursion}
 use Rattle.dia_wire.specs.declared.Key.{Key}
 use Rattle.dia_wire.specs.Lengths.{header_length, three_bytes}
-use Rattle.dia_wire.specs.Wire.{PlainAvp, Spells, key_of, padded_length}
+use Rattle.dia_wire.specs.Wire.{PlainAvp, Spells, SpellsAll, key_of, padded_length}
 use Rattle.dia_data.specs.Leaf.{IsLeaf}
+use Rattle.dia_book.specs.declared.DRule.{DRule}
 use Rattle.dia_book.specs.Dictionary.{Dictionary, DictEntry, PlainDefinition, IsDictionary}
 use Rattle.dia_check.specs.Valid.{known}
 use Rattle.dia_policy.specs.declared.Sends.{Sends}
@@ -67,3 +68,20 @@ pub record IsOneAvp (key : Key) (n : ℕ) (bytes : List ℕ) : Type 0 where
 abbrev pub LeastAvpsAreSpelled : Type 0
 LeastAvpsAreSpelled = (d : Dictionary) (who : Sends) (least : Least) → IsLeastOf d who least → (key : Key) → IsSpellable key → length_of d who least.lengths.items key < too_long
     → IsOneAvp key (length_of d who least.lengths.items key) (least_avp d least key)
+
+-- the bytes spell an AVP of the key of this length, whose data are a level: they spell AVPs, and there are none where the rules ask for none
+pub record IsOneGroup (rules : List DRule) (key : Key) (n : ℕ) (bytes : List ℕ) : Type 0 where
+  pub avp : PlainAvp
+  pub avps : List PlainAvp
+  pub is_key : IsSpellable key → key_of avp ≡ key
+  pub spells : Spells avp bytes
+  pub level : SpellsAll avps avp.bytes
+  pub behind : drop (shortest_head key) bytes ≡ avp.bytes
+  pub sum : shortest_head key + length avp.bytes ≡ n
+  pub empty : ((r : DRule) → Contains rules r → r.min ≡ 0) → avp.bytes ≡ []
+
+-- so does a group's shortest AVP that a message has room for
+abbrev pub LeastLevelsAreSpelled : Type 0
+LeastLevelsAreSpelled = (d : Dictionary) (who : Sends) (least : Least) → IsLeastOf d who least → (key : Key) (entry : DictEntry) (group : PlainDefinition) → known d key ≡ Some entry
+    → entry.group ≡ Some group → length_of d who least.lengths.items key < too_long
+    → IsOneGroup group.rules key (length_of d who least.lengths.items key) (least_avp d least key)

@@ -1,7 +1,7 @@
 //! What holds of all that a side sends.
 ghost use Rattle.dia_breaking_shortest.specs.Laws.{GroupIsAttained, LeafIsAttained, LengthIsAttained};
 ghost use Rattle.dia_breaking_shortest.specs.Laws.{LengthsAreOne, NoAvpIsShorter, NoMessageIsShorter};
-ghost use Rattle.dia_breaking_shortest.specs.Laws.{LeastAvpsAreBytes, LeastAvpsAreOne, LeastAvpsAreSpelled, UnknownIsAttained};
+ghost use Rattle.dia_breaking_shortest.specs.Laws.{LeastAvpsAreBytes, LeastAvpsAreOne, LeastAvpsAreSpelled, LeastLevelsAreSpelled, UnknownIsAttained};
 
 /// No AVP that is sent is shorter than a floor of its key says, with its padding.
 pub fn no_avp_is_shorter()
@@ -44,7 +44,9 @@ pub fn least_avps_are_one()
     ensures bytes { LeastAvpsAreBytes }
 {}
 
-/// The bytes of a shortest AVP spell one AVP of its key, which has the length that is computed, where a message has room for it.
+/// The bytes of a shortest AVP spell one AVP of its key, which has the length that is computed, where a message has room for it. Its
+/// data spell AVPs, where it is a group.
 pub fn least_avps_are_spelled()
-    ensures { LeastAvpsAreSpelled }
+    ensures one { LeastAvpsAreSpelled }
+    ensures level { LeastLevelsAreSpelled }
 {}
