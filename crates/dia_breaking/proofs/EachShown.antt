@@ -48,7 +48,7 @@ module _ (s : Sides) (k : Stock) (c : ℕ) (sites : List Site) where
     shows_cause (causes.Unknown key m) is = unknown_shown s k c sites lines line bytes broken made.lengths made.least all inside key m is spellable
     shows_cause (causes.MBit key m) is = m_bit_shown s k c sites lines line bytes broken made.lengths made.least all inside key m is spellable
     shows_cause (causes.Format key (Some found)) is = data_shown s k c sites lines line bytes broken made.lengths made.least all inside key found is spellable told
-    shows_cause (causes.Format key None) is = format_shown s k c sites lines line bytes broken made.lengths made.least all inside key is spellable
+    shows_cause (causes.Format key None) is = format_shown s k c sites lines line bytes broken made.lengths made.least all inside key is spellable told
     shows_cause causes.Command is = tt
     shows_cause causes.Application is = tt
     shows_cause (causes.Proxiable set) is = tt

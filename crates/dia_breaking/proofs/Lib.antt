@@ -64,6 +64,7 @@ mod LackingNumbers
 mod CostsOfSides
 mod ToldLevels
 mod ReadNumbers
+mod RefusedLevels
 mod ShownLevels
 mod OwnTold
 mod SpelledLevels

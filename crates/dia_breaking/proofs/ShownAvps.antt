@@ -1,6 +1,7 @@
 -- The messages of lines of AVPs by themselves have the AVP at the line's site.
-use Rattle.std.proofs.Common.{◌≡◌, ℕ, ◌<◌, ◌≤◌, Bool, false, List, [], length, map, Option, Some, None, sym, ap, subst, ◌∙◌, arith, inl, inr}
-use Rattle.std.specs.Prelude.{◌⊎◌, ⊤, MatchOption, slice_get, Contains}
+use Rattle.std.proofs.Common.{◌≡◌, ℕ, ◌<◌, ◌≤◌, Bool, false, List, [], length, map, Option, Some, None, sym, ap, subst, ◌∙◌, arith, length-append, inl, inr}
+use Rattle.std.proofs.lemmas.List.{length-drop}
+use Rattle.std.specs.Prelude.{◌⊎◌, MatchOption, slice_get, Contains}
 use Rattle.std.proofs.lemmas.Bool.{cases_lt}
 use Rattle.std.proofs.lemmas.Option.{none-some}
 use Rattle.dia_wire.specs.declared.Key.{Key}
@@ -12,9 +13,10 @@ use Rattle.dia_rules.proofs.Members.{in_contains, there_is}
 use Rattle.dia_breaking_avps.specs.Breaks.{RefusesFlag}
 use Rattle.dia_breaking_avps.specs.Sent.{HasThisM, IsAcceptedData}
 use Rattle.dia_breaking_shortest.specs.Bytes.{avp_bytes}
-use Rattle.dia_breaking_shortest.specs.Floors.{IsSpellable}
+use Rattle.dia_breaking_shortest.specs.Floors.{IsSpellable, shortest_head}
 use Rattle.dia_breaking_shortest.proofs.FloorsOfLengths.{in_map}
 use Rattle.dia_breaking_shortest.proofs.OneSolution.{lengths_are_one}
+use Rattle.dia_breaking_shortest.proofs.SpelledLeast.{levels_spelled}
 use Rattle.dia_breaking.specs.declared.heads.Head.{Head}
 use Rattle.dia_breaking.specs.declared.line.Cause.{Cause}
 use Rattle.dia_breaking.specs.declared.line.Cause.TheVariants as causes
@@ -23,16 +25,17 @@ use Rattle.dia_breaking.specs.declared.line.Site.{Site}
 use Rattle.dia_breaking.specs.Lengths.{AreEntryLengths, IsLeastFor, listed_length}
 use Rattle.dia_breaking.specs.Listing.{subject, tells}
 use Rattle.dia_breaking.specs.Mended.{BreaksOnceMended, is_of_header}
-use Rattle.dia_breaking.specs.Messages.{IsAlone, IsInnermost, IsMessageFor, Shown, Stock, command_head, level_round, shortest_avp, shown, shown_avp, wants_m, with_m}
-use Rattle.dia_breaking.specs.OwnBreaks.{TellsData}
-use Rattle.dia_breaking.specs.ShownLines.{HasAvpAt, HasRefusedData, HasRefusedFlags, HasSpellableKey}
+use Rattle.dia_breaking.specs.Messages.{IsAlone, IsInnermost, IsMessageFor, Shown, Stock, command_head, header_bytes, level_round, levels_on, shortest_avp, shown, shown_avp, wants_m, with_m}
+use Rattle.dia_breaking.specs.OwnBreaks.{RefusesShortest, TellsData}
+use Rattle.dia_breaking.specs.ShownLines.{HasAvpAt, HasRefusedData, HasRefusedFlags, HasRefusedLevel, HasSpellableKey}
 use Rattle.dia_breaking.specs.Sides.{Sides}
 use Rattle.dia_breaking.specs.TheLines.{AreFacts, AreTheLines, Facts}
 use Rattle.dia_breaking.specs.ToldMessages.{BreaksAsTold}
 use Rattle.dia_breaking.specs.Words.{path_to}
 use Rattle.dia_breaking.proofs.OwnTold.{IsOwnLine, RefusesTold, own_key, own_told}
 use Rattle.dia_breaking.proofs.Paths.{none_below}
-use Rattle.dia_breaking.proofs.SpelledLevels.{data_spelled, flag_spelled, flags_have, least_there, round_spelled}
+use Rattle.dia_breaking.proofs.RefusedLevels.{on_long, refused, refused_group, round_long}
+use Rattle.dia_breaking.proofs.SpelledLevels.{data_spelled, flag_spelled, flags_have, round_spelled, short_there}
 
 -- where a path has a site, its last one is there
 site_there : (sites : List Site) (n : ℕ) (first : Site) → slice_get (path_to sites n) 0 ≡ Some first → (site : Site) × (slice_get sites n ≡ Some site)
@@ -46,7 +49,7 @@ module _ (s : Sides) (k : Stock) (c : ℕ) (sites : List Site) (line : Line) (by
     (least : IsLeastFor s.sender s.sends k.least lengths) where
   -- the message has the AVP that these bytes spell
   avp_at : is_of_header line.cause ≡ false → (key : Key) (avp : List ℕ) → shown_avp s k line.cause ≡ Some (shown key avp) → (v : PlainAvp) → Spells v avp → key_of v ≡ key
-      → (IsSuch : PlainAvp → Type 0) → IsSuch v → HasAvpAt s k c sites line bytes key IsSuch
+      → (IsSuch : PlainAvp → Type 0) → (length avp ≤ length bytes → IsSuch v) → HasAvpAt s k c sites line bytes key IsSuch
   avp_at inner_line key avp is v spells its_key IsSuch such = by (command_head s.sender c) broken.message
     where
       behind : (site : Site) × (slice_get (path_to sites line.site) 0 ≡ Some site) × BreaksOnceMended s c site.place bytes
@@ -72,7 +75,13 @@ module _ (s : Sides) (k : Stock) (c : ℕ) (sites : List Site) (line : Line) (by
             spelled = subst (SpellsAll avps) (sym level_is) spelled;
             inside = inside;
             is_key = its_key;
-            is_such = such;
+            is_such = such (
+                let round = round_long s k c here.0.place key avp in
+                let own = ap length level_is in
+                let on = on_long s k c line.length (path_to sites line.site) level in
+                let all = ap length bytes_are in
+                let front = length-append (header_bytes head line (slice_get (path_to sites line.site) 0)) (levels_on s k c line.length (path_to sites line.site) level) in
+                omega (arith, round, own, on, all, front));
           }
 
       by : (o : Option Head) → MatchOption o (bytes ≡ []) (λ head. IsMessageFor s k c sites line head bytes) → HasAvpAt s k c sites line bytes key IsSuch
@@ -84,20 +93,26 @@ module _ (s : Sides) (k : Stock) (c : ℕ) (sites : List Site) (line : Line) (by
   flag_at key m inner_line is small room refuses =
       let (v, spells, its_key, flags) = flag_spelled s k least.is_least lengths least key m small (omega (arith, room)) in
       let has = subst (HasThisM m) (sym flags) (flags_have key.vendor m) in
-      avp_at inner_line key (with_m m (shortest_avp s k key)) is v spells its_key (HasRefusedFlags s key m) (has, (refuses v.flags has).1)
+      avp_at inner_line key (with_m m (shortest_avp s k key)) is v spells its_key (HasRefusedFlags s key m) (λ fits. (has, (refuses v.flags has).1))
 
   data_at : (key : Key) (found : Witness) → is_of_header line.cause ≡ false → shown_avp s k line.cause ≡ Some (shown key (avp_bytes key (wants_m s key) (witness_bytes found))) → IsSpellable key
       → (¬ IsAcceptedData s.receiver s.unknown key (witness_bytes found)) → HasAvpAt s k c sites line bytes key (HasRefusedData s key found)
   data_at key found inner_line is small refused =
       let (v, spells, its_key, same) = data_spelled key (wants_m s key) found small in
       avp_at inner_line key (avp_bytes key (wants_m s key) (witness_bytes found)) is v spells its_key (HasRefusedData s key found)
-      (same, subst (λ (bs : List ℕ). ¬ IsAcceptedData s.receiver s.unknown key bs) (sym same) refused)
+      (λ fits. (same, subst (λ (bs : List ℕ). ¬ IsAcceptedData s.receiver s.unknown key bs) (sym same) refused))
 
   least_at : (key : Key) → is_of_header line.cause ≡ false → shown_avp s k line.cause ≡ Some (shown key (shortest_avp s k key)) → IsSpellable key
-      → listed_length s.sender s.sends lengths key ≤ max_body → HasAvpAt s k c sites line bytes key (λ v. ⊤)
-  least_at key inner_line is small room =
-      let (v, spells, its_key) = least_there s k least.is_least lengths least key small (omega (arith, room)) in
-      avp_at inner_line key (shortest_avp s k key) is v spells its_key (λ v. ⊤) tt
+      → listed_length s.sender s.sends lengths key ≤ max_body → RefusesShortest s key → HasAvpAt s k c sites line bytes key (HasRefusedLevel s line key)
+  least_at key inner_line is small room refuses =
+      let own = refused_group s key refuses in
+      let short = short_there s k least.is_least lengths least key (omega (arith, room)) in
+      let one = levels_spelled s.sender s.sends k.least least.is_least key own.entry own.group own.knows own.some short in
+      let within = length-drop (shortest_head key) (shortest_avp s k key) in
+      let rest = ap length one.behind in
+      avp_at inner_line key (shortest_avp s k key) is one.avp one.spells (one.is_key small) (HasRefusedLevel s line key) (λ fits checked.
+      let size = broken.size in
+      refused s k.least lengths least key own.entry own.group own.knows own.some short one (omega (arith, fits, checked, size, within, rest)) refuses)
 
 -- the lengths by which the lines are told are those of what messages are made of
 least_for : (s : Sides) (k : Stock) (lengths : List ℕ) (made : Facts) → IsLeastFor s.sender s.sends k.least lengths → AreFacts s made → IsLeastFor s.sender s.sends k.least made.lengths
@@ -134,8 +149,8 @@ module _ (s : Sides) (k : Stock) (c : ℕ) (sites : List Site) (lines : List Lin
       let small = subst HasSpellableKey is spellable in
       data_at s k c sites line bytes broken all.made.lengths least key found (ap is_of_header is) (ap (shown_avp s k) is) small.1 (subst (TellsData s) is told).1.refused
 
-  pub format_shown : (key : Key) → line.cause ≡ causes.Format key None → HasSpellableKey line.cause → HasAvpAt s k c sites line bytes key (λ v. ⊤)
-  format_shown key is spellable =
+  pub format_shown : (key : Key) → line.cause ≡ causes.Format key None → HasSpellableKey line.cause → TellsData s line.cause → HasAvpAt s k c sites line bytes key (HasRefusedLevel s line key)
+  format_shown key is spellable tells_data =
       let small = subst HasSpellableKey is spellable in
       let told = own key (ap (λ (q : Cause). own_key (subject q)) is) in
-      least_at s k c sites line bytes broken all.made.lengths least key (ap is_of_header is) (ap (shown_avp s k) is) small.1 told.room
+      least_at s k c sites line bytes broken all.made.lengths least key (ap is_of_header is) (ap (shown_avp s k) is) small.1 told.room (subst (TellsData s) is tells_data)

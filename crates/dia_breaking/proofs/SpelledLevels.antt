@@ -1,5 +1,5 @@
 -- What is written for a level spells AVPs, and among them the one that its line tells of.
-use Rattle.std.proofs.Common.{◌≡◌, ℕ, zero, suc, ◌+◌, ◌<◌, ◌≤◌, Bool, true, false, List, [], ◌∷◌, ◌++◌, length, take, Option, Some, None, refl, sym, ap, subst, ◌∙◌, append_assoc, append-nil, arith, inl, inr}
+use Rattle.std.proofs.Common.{◌≡◌, ℕ, zero, suc, ◌+◌, ◌<◌, ◌≤◌, Bool, true, false, List, [], ◌∷◌, ◌++◌, length, take, Option, Some, None, refl, sym, ap, subst, ◌∙◌, arith, inl, inr}
 use Rattle.std.specs.Prelude.{◌⊎◌, Contains, min, max, if◌then◌else◌, slice_get, slice_index, slice_set}
 use Rattle.std.specs.Option.{option_map_or}
 use Rattle.std.proofs.lemmas.Bool.{lt-ltb}
@@ -14,44 +14,19 @@ use Rattle.dia_policy.specs.declared.Sends.{Sends}
 use Rattle.dia_policy.specs.declared.Sends.TheVariants.{Any, Known, Listed}
 use Rattle.dia_rules.proofs.Members.{contains_in, in_left, in_right}
 use Rattle.dia_breaking_avps.specs.Sent.{HasThisM}
-use Rattle.dia_breaking_levels.specs.declared.line.Part.{Part}
 use Rattle.dia_breaking_levels.specs.LevelTests.{too_long}
-use Rattle.dia_breaking_shortest.specs.Bytes.{avp_bytes, avp_flags, parts_bytes, repeated}
+use Rattle.dia_breaking_shortest.specs.Bytes.{avp_bytes, avp_flags, parts_bytes}
 use Rattle.dia_breaking_shortest.specs.Floors.{IsSpellable, shortest_head}
 use Rattle.dia_breaking_shortest.specs.Least.{IsLeastOf}
 use Rattle.dia_breaking_shortest.specs.Lengths.{entry_length, length_of, unknown_length}
 use Rattle.dia_breaking_shortest.proofs.FloorsOfLengths.{entry_at}
 use Rattle.dia_breaking_shortest.proofs.SpelledBytes.{avp_size, avp_spelled, flags_there, said_avp, said_key}
 use Rattle.dia_breaking_shortest.proofs.SpelledLeast.{IsWhole, least_either, least_whole}
+use Rattle.dia_breaking_shortest.proofs.SpelledParts.{IsSpelled, parts_spelled, spells_both, spells_one}
 use Rattle.dia_breaking.specs.declared.line.Place.{Place}
 use Rattle.dia_breaking.specs.Lengths.{IsLeastFor, length_of_entry, listed_length, unknown_length as unlisted_length}
 use Rattle.dia_breaking.specs.Messages.{Stock, flags_with, front_parts, level_round, parts_round, rest_parts, shortest_avp, with_m}
 use Rattle.dia_breaking.specs.Sides.{Sides}
-
--- ---- bytes that spell AVPs
-
--- they spell some AVPs
-abbrev pub IsSpelled : List ℕ → Type 0
-IsSpelled bytes = (avps : List PlainAvp) × SpellsAll avps bytes
-
-spells_both : (xs ys : List PlainAvp) (a b : List ℕ) → SpellsAll xs a → SpellsAll ys b → SpellsAll (xs ++ ys) (a ++ b)
-spells_both [] ys a b first second = subst (SpellsAll ys) (sym (ap (λ (bs : List ℕ). bs ++ b) first)) second
-spells_both (x ∷ xs) ys a b (front, rest, own, is, later) second =
-    (front, rest ++ b, own, ap (λ (bs : List ℕ). bs ++ b) is ∙ append_assoc front rest b, spells_both xs ys rest b later second)
-
-spells_one : (v : PlainAvp) (bytes : List ℕ) → Spells v bytes → SpellsAll (v ∷ []) bytes
-spells_one v bytes own = (bytes, [], own, sym (append-nil bytes), refl)
-
-repeated_spelled : (n : ℕ) (bytes : List ℕ) → IsSpelled bytes → IsSpelled (repeated n bytes)
-repeated_spelled zero bytes one = ([], refl)
-repeated_spelled (suc n) bytes one = let rest = repeated_spelled n bytes one in (one.0 ++ rest.0, spells_both one.0 rest.0 bytes (repeated n bytes) one.1 rest.1)
-
-parts_spelled : (avp : Key → List ℕ) → ((key : Key) → IsSpelled (avp key)) → (parts : List Part) → IsSpelled (parts_bytes avp parts)
-parts_spelled avp each [] = ([], refl)
-parts_spelled avp each (part ∷ parts) =
-    let first = repeated_spelled part.count (avp part.key) (each part.key) in
-    let rest = parts_spelled avp each parts in
-    (first.0 ++ rest.0, spells_both first.0 rest.0 (repeated part.count (avp part.key)) (parts_bytes avp parts) first.1 rest.1)
 
 -- ---- the M flag
 
@@ -104,8 +79,8 @@ module _ (s : Sides) (k : Stock) (is : IsLeastOf s.sender s.sends k.least) where
   pub round_spelled : (c : ℕ) (place : Place) (key : Key) (v : PlainAvp) (bytes : List ℕ) → Spells v bytes
       → (avps : List PlainAvp) × SpellsAll avps (level_round s k c place key bytes) × Contains avps v
   round_spelled c place key v bytes own =
-      let front = parts_spelled (shortest_avp s k) one_spelled (front_parts key (parts_round s k c place key)) in
-      let rest = parts_spelled (shortest_avp s k) one_spelled (rest_parts key (parts_round s k c place key)) in
+      let front = parts_spelled (shortest_avp s k) (front_parts key (parts_round s k c place key)) (λ p i. one_spelled p.key) in
+      let rest = parts_spelled (shortest_avp s k) (rest_parts key (parts_round s k c place key)) (λ p i. one_spelled p.key) in
       let first = parts_bytes (shortest_avp s k) (front_parts key (parts_round s k c place key)) in
       let last = parts_bytes (shortest_avp s k) (rest_parts key (parts_round s k c place key)) in (
         (front.0 ++ v ∷ []) ++ rest.0,
@@ -115,7 +90,7 @@ module _ (s : Sides) (k : Stock) (is : IsLeastOf s.sender s.sends k.least) where
 
   -- ---- the AVP of a line
 
-  short_there : (lengths : List ℕ) → IsLeastFor s.sender s.sends k.least lengths → (key : Key) → listed_length s.sender s.sends lengths key < too_long
+  pub short_there : (lengths : List ℕ) → IsLeastFor s.sender s.sends k.least lengths → (key : Key) → listed_length s.sender s.sends lengths key < too_long
       → length_of s.sender s.sends k.least.lengths.items key < too_long
   short_there lengths are key = by (entry_of s.sender key) refl
     where
@@ -151,15 +126,6 @@ module _ (s : Sides) (k : Stock) (is : IsLeastOf s.sender s.sends k.least) where
         said_key key m w.content small,
         refl,
       )
-
-  -- any shortest one
-  pub least_there : (lengths : List ℕ) → IsLeastFor s.sender s.sends k.least lengths → (key : Key) → IsSpellable key → listed_length s.sender s.sends lengths key < too_long
-      → (v : PlainAvp) × Spells v (shortest_avp s k key) × (key_of v ≡ key)
-  least_there lengths are key small short =
-      let w = least_whole s.sender s.sends k.least is key (short_there lengths are key short) in
-      let takes = w.takes in
-      let room = short_there lengths are key short in
-      (said_avp key w.m w.content, subst (Spells (said_avp key w.m w.content)) (sym w.are) (avp_spelled key w.m w.content (omega (arith, takes, room))), said_key key w.m w.content small)
 
 -- one with data that are told
 pub data_spelled : (key : Key) (m : Bool) (found : Witness) → IsSpellable key

@@ -1,5 +1,5 @@
 -- The message of a line shows what the line tells: at the line's site stands a level that breaks so, or one that has the AVP that does.
-use Rattle.std.specs.Prelude.{◌≡◌, ⊤, ℕ, ◌^◌, ◌<◌, Bool, List, ◌++◌, length, map, All, Contains, Some, None, slice_get, IfSome}
+use Rattle.std.specs.Prelude.{◌≡◌, ⊤, ℕ, ◌^◌, ◌<◌, ◌≤◌, Bool, List, ◌++◌, length, map, All, Contains, Some, None, slice_get, IfSome}
 use Rattle.dia_wire.specs.declared.Key.{Key}
 use Rattle.dia_wire.specs.Wire.{PlainAvp, SpellsAll, key_of}
 use Rattle.dia_book.specs.Dictionary.{IsDictionary, PlainDefinition}
@@ -19,6 +19,7 @@ use Rattle.dia_breaking.specs.declared.line.Cause.TheVariants as causes
 use Rattle.dia_breaking.specs.declared.line.Line.{Line}
 use Rattle.dia_breaking.specs.declared.line.Site.{Site}
 use Rattle.dia_breaking.specs.declared.line.Standing.TheVariants.{Confirmed}
+use Rattle.dia_breaking.specs.Confirmed.{most_checked}
 use Rattle.dia_breaking.specs.Free.{IsReadBy}
 use Rattle.dia_breaking.specs.Listing.{tells}
 use Rattle.dia_breaking.specs.Messages.{Stock, header_bytes, levels_on, shortest_avp}
@@ -69,15 +70,19 @@ HasRefusedFlags s key m v = HasThisM m v.flags × (¬ HasFlags s.receiver s.unkn
 abbrev pub HasRefusedData : Sides → Key → Witness → PlainAvp → Type 0
 HasRefusedData s key found v = (v.bytes ≡ witness_bytes found) × (¬ IsAcceptedData s.receiver s.unknown key v.bytes)
 
+-- B refuses its data, where the message isn't longer than those that are checked
+abbrev pub HasRefusedLevel : Sides → Line → Key → PlainAvp → Type 0
+HasRefusedLevel s line key v = line.length ≤ most_checked → ¬ IsAcceptedData s.receiver s.unknown key v.bytes
+
 -- ---- lines
 
--- what the message shows, by what the line tells. A line of the header is shown by the header alone, and one of the format without data has an AVP of the key
+-- what the message shows, by what the line tells. A line of the header is shown by the header alone
 abbrev pub ShowsCause : Sides → Stock → ℕ → List Site → Line → List ℕ → Cause → Type 0
 ShowsCause s k c sites line bytes (causes.Level told) = ShowsTold s k c sites line told bytes
 ShowsCause s k c sites line bytes (causes.Unknown key m) = HasAvpAt s k c sites line bytes key (HasRefusedFlags s key m)
 ShowsCause s k c sites line bytes (causes.MBit key m) = HasAvpAt s k c sites line bytes key (HasRefusedFlags s key m)
 ShowsCause s k c sites line bytes (causes.Format key (Some found)) = HasAvpAt s k c sites line bytes key (HasRefusedData s key found)
-ShowsCause s k c sites line bytes (causes.Format key None) = HasAvpAt s k c sites line bytes key (λ v. ⊤)
+ShowsCause s k c sites line bytes (causes.Format key None) = HasAvpAt s k c sites line bytes key (HasRefusedLevel s line key)
 ShowsCause s k c sites line bytes cause = ⊤
 
 -- the line's message breaks as the line tells, and shows it
