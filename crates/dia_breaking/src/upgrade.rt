@@ -125,8 +125,8 @@ impl<'a, A: Book, B: Book> Upgrade<'a, A, B> {
     /// B (`IsConfirmed`), and, unless the line is of the header, not once its header is mended, too (`BreaksBehind`).
     ///
     /// The message of a confirmed line shows it (`ShowsCause`): at the line's site stands a level that breaks B's rules as the line
-    /// tells, or one with an AVP whose flags or data are those that are told, and that B refuses. Where no data are told, B refuses
-    /// those of an AVP of the key.
+    /// tells, or one with an AVP whose flags or data are those that are told, and that B refuses. Where no data are told, the level
+    /// has an AVP of the key whose data B refuses.
     ///
     /// The meanings are the one list of AVPs that B's side reads as another format, though it accepts all of their data
     /// (`AreTheMeanings`). Each key stands once, at the site to which the shortest way leads. They are no lines, and break

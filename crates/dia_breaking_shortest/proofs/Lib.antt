@@ -13,6 +13,7 @@ pub mod LengthsBelow
 pub mod LessLengths
 pub mod LessLevels
 pub mod MandatoryFlags
+pub mod MetCounts
 pub mod OneLeast
 pub mod OneOrder
 pub mod OneSolution

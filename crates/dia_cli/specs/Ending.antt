@@ -1,5 +1,5 @@
 -- How the program ends where there is nothing to run, or a run didn't end.
-use Rattle.std.specs.Prelude.{◌≡◌, ◌≢◌, ◌↔◌, ◌⊎◌, ℕ, Bool, true, false, List, [], ◌∷◌, ◌++◌, Option, None, Some, ⊤, codes}
+use Rattle.std.specs.Prelude.{◌≡◌, ◌≢◌, ◌⊎◌, ℕ, Bool, true, false, List, [], ◌∷◌, ◌++◌, Option, None, Some, ⊤, codes}
 use Rattle.std.specs.Io.KnownBytes.{Appends}
 use Rattle.std.specs.Borrow.{Bor}
 use Rattle.std.specs.declared.io.Error.{Error}
@@ -47,10 +47,10 @@ EndsWith (ending.Apart apart) status = status ≡ 2
 EndsWith (ending.Device name error) status = status ≡ 3
 EndsWith ending.NoMemory status = status ≡ 3
 
--- two endings have one status, and both show help or neither
-pub record EndsAlike (made other : Ending) : Type 0 where
-  pub status : (n : ℕ) → EndsWith made n ↔ EndsWith other n
-  pub help : ShowsHelp made ↔ ShowsHelp other
+-- words that are refused may be told in better ones, of the same kind and so with the same status; other endings stay
+abbrev pub IsAdvised : Ending → Ending → Type 0
+IsAdvised (ending.Told fault) told = (better : WordsError) × (told ≡ ending.Told better) × (kind_of better ≡ kind_of fault)
+IsAdvised made told = told ≡ made
 
 -- line feeds
 abbrev pub try_help : List ℕ

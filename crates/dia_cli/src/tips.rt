@@ -4,7 +4,7 @@
 ghost use Rattle.std.specs.Prelude.{◌≡◌, IfSome};
 ghost use Rattle.clap.specs.declared.error.kind.ErrorKind.TheVariants.{UnknownArgument};
 ghost use Rattle.clap.specs.Words.{kind_of};
-ghost use Rattle.dia_cli.specs.Ending.{EndsAlike};
+ghost use Rattle.dia_cli.specs.Ending.{IsAdvised};
 
 use crate::ending::Ending;
 use clap::error::ErrorKind;
@@ -29,7 +29,7 @@ static DICT_USAGES: [(&str, &str); 2] = [
 /// An ending, in better words where the words of the process give a dictionary in the way of another command. It stays as it is
 /// where memory for them is refused.
 pub fn advised<'a>(alloc: Global, words: &[String], ending: Ending<'a>) -> Ending<'a>
-    ensures { EndsAlike ending.entry result }
+    ensures { IsAdvised ending.entry result }
 {
     match ending {
         Ending::Told(fault) => match better_fault(alloc, words, &fault) {

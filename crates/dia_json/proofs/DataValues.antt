@@ -140,9 +140,6 @@ long_told f bytes text is fine (shown, is_shown, is_text) =
     of_kind f bytes text kind.LongNumber is
     (is_text ∙ ap quoted (is_shown.accepted (leaf_of f bytes kind.LongNumber is refl fine) ∙ shown_integer f bytes (ap is_numeric is)))
 
-pub text_told : (f : PlainFormat) (bytes spelt text : List ℕ) → kind_of f ≡ kind.Text → spelt ≡ bytes → text ≡ quoted spelt → text ≡ compact_text (value_as (kind_of f) f bytes)
-text_told f bytes spelt text is same is_text = of_kind f bytes text kind.Text is (is_text ∙ ap quoted same)
-
 pub octets_told : (f : PlainFormat) (bytes text : List ℕ) → kind_of f ≡ kind.Octets → text ≡ compact_text (hex_value bytes) → text ≡ compact_text (value_as (kind_of f) f bytes)
 octets_told f bytes text is is_text = of_kind f bytes text kind.Octets is is_text
 
