@@ -13,7 +13,7 @@ pub const MAX_LIST: usize = 1_048_576;
 pub const MAX_LINES: u32 = 65_536;
 
 /// A line of a list that counts.
-#[derive(Debug, Drop)]
+#[derive(Drop)]
 pub struct Entry {
     /// Its number in the text, from 1.
     pub line: u32,
@@ -22,7 +22,7 @@ pub struct Entry {
 }
 
 /// Why a text is no list. Lines count from 1.
-#[derive(Clone, Copy, Debug, PartialEq, Eq)]
+#[derive(Clone, Copy, PartialEq, Eq)]
 pub enum ListFault {
     /// The line has neither form of the lines that `breaking` writes.
     Syntax { line: u32 },

@@ -6,7 +6,7 @@ use dia_terms::{Pxy, RuleKind};
 use dia_wire::Key;
 
 /// The class of a message, by its R and E flags (RFC 6733 section 3).
-#[derive(Clone, Copy, Debug, PartialEq, Eq, Hash)]
+#[derive(Clone, Copy, PartialEq, Eq, Hash)]
 pub enum Class {
     /// R is set, and E is clear.
     Request,
@@ -17,7 +17,7 @@ pub enum Class {
 }
 
 /// What a definition is for.
-#[derive(Clone, Copy, Debug, PartialEq, Eq)]
+#[derive(Clone, Copy, PartialEq, Eq)]
 pub enum DefHead {
     /// The data of a Grouped AVP.
     Group(Key),
@@ -38,7 +38,7 @@ pub enum DefHead {
 /// A rule of a definition (RFC 6733 section 3.2): how often an AVP may stand there, with no greatest count where `max` is
 /// none, and never where it is 0. One without a key is the wildcard, for all AVPs that the definition does not list; its
 /// counts are of them all together (our profile).
-#[derive(Clone, Copy, Debug, PartialEq, Eq)]
+#[derive(Clone, Copy, PartialEq, Eq)]
 pub struct DRule {
     pub kind: RuleKind,
     pub key: Option<Key>,
@@ -47,7 +47,7 @@ pub struct DRule {
 }
 
 /// A group or a command: what its level of AVPs is made of.
-#[derive(Debug, Drop)]
+#[derive(Drop)]
 pub struct Definition {
     pub name: String,
     pub head: DefHead,
@@ -58,7 +58,7 @@ pub struct Definition {
 }
 
 /// Where a key stands in a definition, by its rule's place from 0.
-#[derive(Clone, Copy, Debug, PartialEq, Eq)]
+#[derive(Debug, Clone, Copy, PartialEq, Eq)]
 pub enum Slot {
     /// Among the fixed rules, whose AVPs come first and in order.
     Fixed(usize),

@@ -3,7 +3,7 @@ ghost use Rattle.std.specs.Prelude.{◌≡◌, ◌<◌, ◌^◌};
 use std::marker::Model;
 
 /// An entry of a dictionary, by its place.
-#[derive(Clone, Copy, Debug, PartialEq, Eq)]
+#[derive(Clone, Copy, PartialEq, Eq)]
 pub struct Entry {
     index: u32,
 }
@@ -19,7 +19,7 @@ impl Model for Entry {
 }
 
 /// A definition of a dictionary, by its place among the groups, in the order of their entries, and the commands behind them.
-#[derive(Clone, Copy, Debug, PartialEq, Eq)]
+#[derive(Clone, Copy, PartialEq, Eq)]
 pub struct DefId {
     index: u32,
 }

@@ -9,7 +9,7 @@ use dia_terms::RuleKind;
 use std::alloc::{AllocError, Global};
 
 /// What the rules of a definition say of each of its levels. Rules are told by their places.
-#[derive(Debug, Drop)]
+#[derive(Drop)]
 pub struct Shape {
     /// How many rules are fixed.
     pub fixed: usize,

@@ -6,7 +6,7 @@ use dia_book::DRule;
 use std::alloc::AllocError;
 
 /// How often an AVP may stand in a level.
-#[derive(Clone, Copy, Debug)]
+#[derive(Clone, Copy)]
 pub(crate) struct Bounds {
     pub min: u32,
     pub max: Option<u32>,

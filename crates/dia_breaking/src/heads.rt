@@ -11,7 +11,7 @@ use dia_book::{Book, Class, DefHead, DefId, Pxy};
 use std::alloc::{AllocError, Global};
 
 /// The head of a command.
-#[derive(Clone, Copy, Debug)]
+#[derive(Clone, Copy)]
 pub(crate) struct Head {
     pub code: u32,
     pub class: Class,

@@ -23,7 +23,7 @@ use std::alloc::{AllocError, Global};
 use std::collections::HashMap;
 
 /// The AVPs of a key of which there is something to tell.
-#[derive(Clone, Copy, Debug)]
+#[derive(Clone, Copy)]
 pub(crate) struct Own {
     pub key: Key,
     /// Whether both dictionaries see a level in it.

@@ -12,7 +12,7 @@ use dia_book::{Book, DRule, DefId, Key};
 use dia_breaking_levels::{Costs, TOO_LONG, length_least};
 
 /// The least lengths of a definition's levels.
-#[derive(Clone, Copy, Debug)]
+#[derive(Clone, Copy)]
 pub(crate) struct LevelCost {
     /// The length of a least level.
     pub base: u64,

@@ -8,7 +8,7 @@ use dia_breaking_levels::Line as LevelLine;
 use std::alloc::{AllocError, Global};
 
 /// Where a level of a message is read: by a definition of A and one of B.
-#[derive(Clone, Copy, Debug, PartialEq, Eq)]
+#[derive(Clone, Copy, PartialEq, Eq)]
 pub enum Place {
     /// The level of the command itself, in messages of this application.
     Command {
@@ -42,7 +42,7 @@ impl Place {
 }
 
 /// A place, and what a message with a level there takes at least around that level, without the message's header.
-#[derive(Clone, Copy, Debug, PartialEq, Eq)]
+#[derive(Clone, Copy, PartialEq, Eq)]
 pub struct Site {
     pub place: Place,
     pub way: u64,
@@ -51,7 +51,7 @@ pub struct Site {
 }
 
 /// What breaks.
-#[derive(Clone, Copy, Debug)]
+#[derive(Clone, Copy)]
 pub enum Cause {
     /// B has no command of the code and the class.
     Command,
@@ -75,7 +75,7 @@ pub enum Cause {
 }
 
 /// What is known of a line.
-#[derive(Clone, Copy, Debug, PartialEq, Eq)]
+#[derive(Clone, Copy, PartialEq, Eq)]
 pub enum Standing {
     /// Its message was checked: it is valid under A, and B's side refuses it. For `Sends::Listed` it isn't checked that A's rules
     /// list each of its AVPs.
@@ -87,7 +87,7 @@ pub enum Standing {
 }
 
 /// A way to break the messages of a command, or an AVP that is read as another format.
-#[derive(Clone, Copy, Debug)]
+#[derive(Clone, Copy)]
 pub struct Line {
     /// The place of its site among those of the command.
     pub site: usize,
@@ -99,7 +99,7 @@ pub struct Line {
 
 /// What can break the messages of a command: the lines in their order, and the sites, of which the ones with the shortest way
 /// come first.
-#[derive(Debug, Drop)]
+#[derive(Drop)]
 pub struct Breaks {
     /// The command of A.
     pub command: DefId,

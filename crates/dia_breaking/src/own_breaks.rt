@@ -14,7 +14,7 @@ use dia_policy::Unknown;
 use std::alloc::{AllocError, Global};
 
 /// An AVP of which there is something to tell.
-#[derive(Clone, Copy, Debug)]
+#[derive(Clone, Copy)]
 pub(crate) struct OwnBreaks {
     pub key: Key,
     /// The length of a shortest AVP of the key, where a rule lists it.

@@ -30,7 +30,7 @@ use std::alloc::{AllocError, Global};
 const MOST_TRIED: u64 = 65_536;
 
 /// What is told of an AVP by itself. The lines of a site stand in this order.
-#[derive(Clone, Copy, Debug)]
+#[derive(Clone, Copy)]
 pub(crate) enum Kind {
     /// B doesn't know it.
     Unknown,

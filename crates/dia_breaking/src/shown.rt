@@ -17,7 +17,7 @@ use dia_wire::AVP_MANDATORY;
 use std::alloc::{AllocError, Global};
 
 /// An AVP, and its key.
-#[derive(Debug, Drop)]
+#[derive(Drop)]
 pub(crate) struct ShownAvp {
     pub key: Key,
     pub bytes: Vec<u8>,

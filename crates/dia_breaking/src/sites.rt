@@ -111,7 +111,7 @@ pub(crate) fn first_read(sites: &[Site]) -> Option<usize>
 }
 
 /// How the sites are numbered: those of the command come first.
-#[derive(Clone, Copy, Debug)]
+#[derive(Clone, Copy)]
 pub(crate) struct Numbers {
     /// The first site of the command at which B's side reads a level.
     pub first: usize,

@@ -4,7 +4,7 @@ use dia_book::DefId;
 use dia_breaking_data::Witness;
 
 /// What the AVPs of a key that A's side sends break by themselves under B.
-#[derive(Clone, Copy, Debug)]
+#[derive(Clone, Copy)]
 pub struct AvpBreaks {
     /// None where B accepts each M flag that is sent.
     pub head: Option<HeadBreak>,
@@ -12,7 +12,7 @@ pub struct AvpBreaks {
 }
 
 /// An M flag that is sent, and that B doesn't accept: clear, where both are so.
-#[derive(Clone, Copy, Debug, PartialEq, Eq)]
+#[derive(Clone, Copy, PartialEq, Eq)]
 pub enum HeadBreak {
     /// B doesn't know the AVP, and refuses it with this M flag.
     Unknown { m: bool },
@@ -21,7 +21,7 @@ pub enum HeadBreak {
 }
 
 /// Which data of the AVP break.
-#[derive(Clone, Copy, Debug)]
+#[derive(Clone, Copy)]
 pub enum DataBreak {
     /// None: B accepts all that is sent.
     Fits,

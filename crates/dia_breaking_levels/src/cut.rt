@@ -13,7 +13,7 @@ use dia_book::{Book, DRule};
 use std::alloc::{AllocError, Global};
 
 /// Where the steps that are taken end: those that are shorter are taken whole, and of those of this length so many AVPs.
-#[derive(Clone, Copy, Debug)]
+#[derive(Clone, Copy)]
 pub(crate) struct Cut {
     pub length: u64,
     pub left: u64,

@@ -19,14 +19,14 @@ use dia_book::{Book, DRule, Key};
 use std::alloc::{AllocError, Global};
 
 /// A key that is to stand so many times or more.
-#[derive(Clone, Copy, Debug)]
+#[derive(Clone, Copy)]
 pub(crate) struct Wanted {
     pub key: Key,
     pub count: u64,
 }
 
 /// What a level is to have beyond the least counts of its rules.
-#[derive(Debug, Drop)]
+#[derive(Drop)]
 pub(crate) struct Demand {
     pub first: Option<Wanted>,
     pub second: Option<Wanted>,
@@ -40,7 +40,7 @@ pub(crate) struct Demand {
 }
 
 /// The keys of shortest AVPs by the wildcard.
-#[derive(Clone, Copy, Debug)]
+#[derive(Clone, Copy)]
 struct Fillers {
     /// Of all.
     cheapest: Option<Key>,

@@ -13,7 +13,7 @@ use crate::rules::Rules;
 use dia_book::{Book, DRule, Key};
 
 /// What the levels of a definition of A take at least.
-#[derive(Clone, Copy, Debug)]
+#[derive(Clone, Copy)]
 pub(crate) struct Floor {
     /// The length of the least level.
     pub base: u64,

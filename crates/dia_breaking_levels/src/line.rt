@@ -3,7 +3,7 @@ use dia_book::Key;
 use std::fmt;
 
 /// What the AVPs of a level do that the rules of a definition of B forbid.
-#[derive(Clone, Copy, Debug, PartialEq, Eq)]
+#[derive(Clone, Copy, PartialEq, Eq)]
 pub enum Reason {
     /// There are too few of a key that the definition lists.
     Missing,
@@ -38,7 +38,7 @@ impl fmt::Display for Reason {
 }
 
 /// A way in which levels of a definition of A break the rules of one of B.
-#[derive(Clone, Copy, Debug, PartialEq, Eq)]
+#[derive(Clone, Copy, PartialEq, Eq)]
 pub struct Line {
     pub reason: Reason,
     /// The key of the AVP that is told, and none where the wildcard counts.
@@ -50,7 +50,7 @@ pub struct Line {
 }
 
 /// AVPs of one key that stand in a row.
-#[derive(Clone, Copy, Debug, PartialEq, Eq)]
+#[derive(Clone, Copy, PartialEq, Eq)]
 pub struct Part {
     pub key: Key,
     pub count: u32,

@@ -8,7 +8,7 @@ use dia_book::Key;
 use std::alloc::{AllocError, Global};
 
 /// One AVP more, of a key that may stand before another.
-#[derive(Clone, Copy, Debug)]
+#[derive(Clone, Copy)]
 pub(crate) struct Offer {
     /// What it takes beyond the least level.
     pub length: u64,
@@ -19,7 +19,7 @@ pub(crate) struct Offer {
 }
 
 /// What is offered before the keys that come next.
-#[derive(Debug, Drop)]
+#[derive(Drop)]
 pub(crate) struct Offers {
     /// A tree of the offers of keys that the sender's definition lists. The second half has the least offer of each place. Node
     /// `n` of the first half has the lesser offer of the nodes `2n` and `2n + 1`.

@@ -12,7 +12,7 @@ use dia_book::{Book, DRule};
 use std::alloc::{AllocError, Global};
 
 /// A way to more AVPs: how long each makes the level, and how many there can be.
-#[derive(Clone, Copy, Debug)]
+#[derive(Clone, Copy)]
 pub(crate) struct Step {
     pub length: u64,
     pub count: u64,

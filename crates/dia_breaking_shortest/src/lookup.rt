@@ -18,7 +18,7 @@ use dia_policy::Sends;
 use std::alloc::{AllocError, Global};
 
 /// How long the shortest AVPs are that a side sends, and what they are made of.
-#[derive(Debug, Drop)]
+#[derive(Drop)]
 pub struct Least {
     pub sends: Sends,
     /// A key that the dictionary doesn't know, without vendor.

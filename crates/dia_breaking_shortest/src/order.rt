@@ -8,7 +8,7 @@ ghost use Rattle.dia_breaking_shortest.specs.Lengths.{is_unlisted};
 use dia_book::{Book, DRule, DefId, Entry, Key, Slot};
 
 /// An AVP, and how long a shortest one of its key is.
-#[derive(Clone, Copy, Debug)]
+#[derive(Clone, Copy)]
 pub(crate) struct Ranked {
     pub key: Key,
     pub length: u64,

@@ -18,7 +18,7 @@ use dia_wire::{AVP_MANDATORY, AVP_VENDOR};
 use std::alloc::{AllocError, Global};
 
 /// AVPs that are still to be written, each with at most so many levels of groups in one another.
-#[derive(Clone, Copy, Debug)]
+#[derive(Clone, Copy)]
 pub(crate) struct Waiting {
     part: Part,
     levels: usize,

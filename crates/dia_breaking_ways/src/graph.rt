@@ -1,7 +1,7 @@
 //! Levels and AVPs as a graph: where levels lead, and the shortest ways through them.
 
 /// Where the levels of a definition lead.
-#[derive(Debug, Drop)]
+#[derive(Drop)]
 pub struct Exits {
     /// The AVPs that a rule lists, by their places among the nodes, and the length of a least level that has one.
     pub listed: Vec<(usize, u64)>,
@@ -10,7 +10,7 @@ pub struct Exits {
 }
 
 /// The level of an AVP that is Grouped for both sides.
-#[derive(Debug, Drop)]
+#[derive(Drop)]
 pub struct Level {
     /// The length of a least one.
     pub least: u64,
@@ -18,7 +18,7 @@ pub struct Level {
 }
 
 /// An AVP of which there is something to tell. It is named by its place in the list of nodes.
-#[derive(Debug, Drop)]
+#[derive(Drop)]
 pub struct Node {
     /// The length of a shortest one that comes through a wildcard.
     pub other: u64,
@@ -26,7 +26,7 @@ pub struct Node {
 }
 
 /// The level of a group in a shortest message that has one.
-#[derive(Clone, Copy, Debug, PartialEq, Eq)]
+#[derive(Clone, Copy, PartialEq, Eq)]
 pub struct Step {
     /// The place of the group's AVP.
     pub place: usize,
@@ -37,7 +37,7 @@ pub struct Step {
 }
 
 /// A shortest way to an AVP.
-#[derive(Clone, Copy, Debug, PartialEq, Eq)]
+#[derive(Clone, Copy, PartialEq, Eq)]
 pub struct Reach {
     /// The level in which the AVP stands, numbered as in `Step`.
     pub level: usize,
@@ -46,7 +46,7 @@ pub struct Reach {
 }
 
 /// The shortest ways from a start to the levels of groups, and to AVPs.
-#[derive(Debug, Drop)]
+#[derive(Drop)]
 pub struct Walk {
     /// The levels of groups, those with the shortest way first.
     pub steps: Vec<Step>,

@@ -7,7 +7,7 @@ use std::collections::{BinaryHeap, HashMap, HashSet};
 use std::mem;
 
 /// What a search comes to next. A level is named by the place of its group, or `None` for the start.
-#[derive(Clone, Copy, Debug)]
+#[derive(Clone, Copy)]
 enum Event {
     /// The level of a group.
     Enter(usize),

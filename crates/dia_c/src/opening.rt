@@ -18,7 +18,7 @@ use std::sync::Arc;
 
 /// Why a text is no dictionary.
 #[repr(C)]
-#[derive(Clone, Copy, Debug, PartialEq, Eq)]
+#[derive(Clone, Copy, PartialEq, Eq)]
 pub struct Problem {
     /// Which kind it is.
     pub kind: u32,

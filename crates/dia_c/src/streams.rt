@@ -18,7 +18,7 @@ use std::sync::Arc;
 
 /// What was done with a piece.
 #[repr(C)]
-#[derive(Clone, Copy, Debug, PartialEq, Eq)]
+#[derive(Clone, Copy, PartialEq, Eq)]
 pub struct Fed {
     /// How many of its first bytes belong to the message.
     pub taken: usize,

@@ -11,7 +11,7 @@ use std::alloc::AllocError;
 
 /// What is said of a message.
 #[repr(C)]
-#[derive(Clone, Copy, Debug, PartialEq, Eq)]
+#[derive(Clone, Copy, PartialEq, Eq)]
 pub struct Verdict {
     /// 0: valid. 1: a fault. 2: truncated. 3: trailing.
     pub outcome: u32,

@@ -6,7 +6,7 @@ ghost use Rattle.dia_captures.specs.Ending.{is_yes};
 use dia_io::Exit;
 
 /// How the messages ended.
-#[derive(Clone, Copy, Debug, PartialEq, Eq)]
+#[derive(Clone, Copy, PartialEq, Eq)]
 pub struct Ended {
     /// Each message ended with `Exit::Yes`.
     pub each: bool,

@@ -11,14 +11,14 @@ use std::alloc::Global;
 const MOST_REASONS: usize = 100;
 
 /// How often something was met, and where first.
-#[derive(Clone, Copy, Debug)]
+#[derive(Clone, Copy)]
 pub struct Seen {
     pub times: u64,
     pub first: u64,
 }
 
 /// A flaw that was met, of which the place of a fault doesn't count.
-#[derive(Clone, Copy, Debug)]
+#[derive(Clone, Copy)]
 pub struct Met {
     pub flaw: Flaw,
     pub seen: Seen,

@@ -12,7 +12,7 @@ use dia_run::{push_subject, reason_word};
 use std::alloc::AllocError;
 
 /// Which messages are judged, and how.
-#[derive(Clone, Copy, Debug, PartialEq, Eq)]
+#[derive(Clone, Copy, PartialEq, Eq)]
 pub enum Lines {
     /// By `check`, one in each line.
     Checked,

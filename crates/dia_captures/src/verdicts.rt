@@ -12,7 +12,7 @@ use dia_run::{push_subject, reason_word};
 use std::alloc::AllocError;
 
 /// What `check` finds of a message.
-#[derive(Clone, Copy, Debug, PartialEq, Eq)]
+#[derive(Clone, Copy, PartialEq, Eq)]
 pub enum Checked {
     /// It is valid, and this is its command.
     Valid(Selected),
@@ -20,7 +20,7 @@ pub enum Checked {
 }
 
 /// What is wrong with a message, or with its text.
-#[derive(Clone, Copy, Debug, PartialEq, Eq)]
+#[derive(Clone, Copy, PartialEq, Eq)]
 pub enum Flaw {
     /// Its first fault.
     Fault(Fault),
@@ -35,7 +35,7 @@ pub enum Flaw {
 }
 
 /// What `refute` finds of a message.
-#[derive(Clone, Copy, Debug, PartialEq, Eq)]
+#[derive(Clone, Copy, PartialEq, Eq)]
 pub struct Refuted {
     /// Under the first dictionary.
     pub first: Checked,

@@ -8,7 +8,7 @@ ghost use Rattle.dia_ccf.specs.Lexemes.{IsLexeme, kind_of, is_named};
 use crate::lexer::{Token, next_token};
 
 /// What a token is.
-#[derive(Clone, Copy, Debug, PartialEq, Eq)]
+#[derive(Clone, Copy, PartialEq, Eq)]
 pub enum Kind {
     /// A bracket, `*`, `,`, `..`, `::=`, `:` or `%avp`.
     Sign,
@@ -20,7 +20,7 @@ pub enum Kind {
 }
 
 /// A token: what it is, and the places in bytes where it begins and where it ends.
-#[derive(Clone, Copy, Debug, PartialEq, Eq)]
+#[derive(Clone, Copy, PartialEq, Eq)]
 pub struct Lexeme {
     pub kind: Kind,
     pub at: usize,

@@ -7,7 +7,7 @@ ghost use Rattle.dia_ccf.specs.Names.{fits_values, is_head, fixed_first, is_grou
 use dia_terms::{MRule, Pxy, RuleKind};
 
 /// The formats by their names (RFC 6733 sections 4.2 and 4.3, and QoSFilterRule of RFC 3588 section 4.3).
-#[derive(Clone, Copy, Debug, PartialEq, Eq)]
+#[derive(Clone, Copy, PartialEq, Eq)]
 pub enum FormatName {
     OctetString,
     Integer32,
@@ -28,7 +28,7 @@ pub enum FormatName {
 }
 
 /// A declared AVP (our profile).
-#[derive(Debug, Drop)]
+#[derive(Drop)]
 pub struct Decl {
     /// The place in bytes of its first token, `%avp`.
     pub at: usize,
@@ -47,7 +47,7 @@ pub struct Decl {
 }
 
 /// The head of a definition (RFC 6733 section 3.2).
-#[derive(Clone, Copy, Debug, PartialEq, Eq)]
+#[derive(Clone, Copy, PartialEq, Eq)]
 pub enum Head {
     /// The group of an AVP.
     Group {
@@ -70,7 +70,7 @@ pub enum Head {
 }
 
 /// How often the AVP of a rule stands (RFC 6733 section 3.2).
-#[derive(Clone, Copy, Debug, PartialEq, Eq)]
+#[derive(Clone, Copy, PartialEq, Eq)]
 pub struct Qual {
     /// The least count. `None` is 1 in braces and 0 elsewhere.
     pub min: Option<u32>,
@@ -79,7 +79,7 @@ pub struct Qual {
 }
 
 /// A rule of a definition (RFC 6733 section 3.2).
-#[derive(Debug, Drop)]
+#[derive(Drop)]
 pub struct Rule {
     /// The place in bytes of its first token, a count, a `*` or a bracket.
     pub at: usize,
@@ -109,7 +109,7 @@ impl Rule {
 }
 
 /// A group or a command, with its rules in the order of the text.
-#[derive(Debug, Drop)]
+#[derive(Drop)]
 pub struct Def {
     /// The place in bytes of its first token, a `<` or its name.
     pub at: usize,
@@ -122,7 +122,7 @@ pub struct Def {
 }
 
 /// What a text says, each list in the order of the text.
-#[derive(Debug, Drop)]
+#[derive(Drop)]
 pub struct Source {
     pub avps: Vec<Decl>,
     pub groups: Vec<Def>,

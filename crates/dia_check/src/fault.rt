@@ -4,14 +4,14 @@ use std::alloc::AllocError;
 use thiserror::Error;
 
 /// The command of a valid message.
-#[derive(Clone, Copy, Debug, PartialEq, Eq)]
+#[derive(Clone, Copy, PartialEq, Eq)]
 pub struct Selected {
     pub def: DefId,
 }
 
 /// What is wrong with a message, with its result code (RFC 6733 section 7.1), in the order in which faults at one place are
 /// told. Which code each gives, and the order, are our profile.
-#[derive(Clone, Copy, Debug, PartialEq, Eq)]
+#[derive(Debug, Clone, Copy, PartialEq, Eq)]
 pub enum Reason {
     /// 5011: the version isn't 1.
     Version,
@@ -46,7 +46,7 @@ pub enum Reason {
 }
 
 /// What a fault is about.
-#[derive(Clone, Copy, Debug, PartialEq, Eq)]
+#[derive(Debug, Clone, Copy, PartialEq, Eq)]
 pub enum Subject {
     Nothing,
     Avp(Key),
@@ -55,7 +55,7 @@ pub enum Subject {
 }
 
 /// A fault of a message, at a place in bytes from its first.
-#[derive(Clone, Copy, Debug, PartialEq, Eq)]
+#[derive(Debug, Clone, Copy, PartialEq, Eq)]
 pub struct Fault {
     pub place: u32,
     /// The result code (RFC 6733 section 7.1).

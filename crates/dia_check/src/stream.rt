@@ -42,7 +42,7 @@ pub struct Stream<'a, B: Book> {
 }
 
 /// What a stream did with a piece.
-#[derive(Clone, Copy, Debug, PartialEq, Eq)]
+#[derive(Clone, Copy, PartialEq, Eq)]
 pub struct Progress {
     /// How many of its first bytes belong to the message.
     pub taken: usize,

@@ -110,7 +110,7 @@ struct Asked<'a> {
 }
 
 /// Why arguments that clap found are no request.
-#[derive(Clone, Copy, Debug, PartialEq, Eq)]
+#[derive(Clone, Copy, PartialEq, Eq)]
 enum Unasked {
     /// They are no subcommand with its arguments.
     Nothing,

@@ -14,7 +14,7 @@ use std::io;
 use std::io::Write;
 
 /// Why the program ends without an outcome.
-#[derive(Debug, Drop)]
+#[derive(Drop)]
 pub enum Ending<'a> {
     /// What clap tells: help or the version, with status 0, or a fault of the command line, with status 2.
     Told(clap::Error),

@@ -3,7 +3,7 @@
 use crate::origin::{BASE_DICTIONARY, NO_TABLE};
 
 /// A command: its options and its inputs, in the order in which help tells them.
-#[derive(Clone, Copy, Debug)]
+#[derive(Clone, Copy)]
 pub(crate) struct CommandRow<'a> {
     pub name: &'a str,
     pub about: &'a str,
@@ -12,7 +12,7 @@ pub(crate) struct CommandRow<'a> {
 }
 
 /// An option `--id`.
-#[derive(Clone, Copy, Debug)]
+#[derive(Clone, Copy)]
 pub(crate) struct OptionRow<'a> {
     pub id: &'a str,
     pub value: Value<'a>,
@@ -20,7 +20,7 @@ pub(crate) struct OptionRow<'a> {
 }
 
 /// The value that an option takes.
-#[derive(Clone, Copy, Debug)]
+#[derive(Clone, Copy)]
 pub(crate) enum Value<'a> {
     Nothing,
     /// A policy for AVPs that the dictionary doesn't know, which is `kept` without the option.
@@ -34,7 +34,7 @@ pub(crate) enum Value<'a> {
 }
 
 /// An input, which is a word, or the words that are left.
-#[derive(Clone, Copy, Debug)]
+#[derive(Clone, Copy)]
 pub(crate) struct InputRow<'a> {
     pub id: &'a str,
     pub count: Count,
@@ -42,7 +42,7 @@ pub(crate) struct InputRow<'a> {
 }
 
 /// How many words an input has.
-#[derive(Clone, Copy, Debug)]
+#[derive(Clone, Copy)]
 pub(crate) enum Count {
     One,
     /// One or more.

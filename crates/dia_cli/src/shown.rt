@@ -11,7 +11,7 @@ use crate::values::{flag_of, is_given, word_of};
 use clap::ArgMatches;
 
 /// What `breaking` prints beside its lines, or in their place.
-#[derive(Clone, Copy, Debug, PartialEq, Eq)]
+#[derive(Clone, Copy, PartialEq, Eq)]
 pub(crate) struct Shown {
     pub messages: bool,
     pub once: bool,

@@ -75,7 +75,7 @@ fn an_input_that_cannot_be_read_is_a_failed_device(rt: HostRuntime) {
 }
 
 /// A file of this name, and standard input.
-#[derive(Debug, Drop)]
+#[derive(Drop)]
 struct Shelf<'a> {
     name: &'a str,
     file: &'a [u8],

@@ -7,7 +7,7 @@ use std::io;
 use std::io::Write;
 
 /// Fails at each write.
-#[derive(Debug, Drop)]
+#[derive(Drop)]
 pub struct Broken;
 
 impl Write for Broken {

@@ -14,7 +14,7 @@ use dia_book::{Book, DRule, Key};
 use std::alloc::{AllocError, Global};
 
 /// A part of a dictionary that a failing shows. Rules and commands are told by their places, from 0.
-#[derive(Clone, Copy, Debug, PartialEq, Eq)]
+#[derive(Clone, Copy, PartialEq, Eq)]
 pub enum Part {
     Nothing,
     /// A rule of the definition that the pair names.

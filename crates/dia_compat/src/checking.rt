@@ -11,7 +11,7 @@ use dia_check::{Levels, Refusal, Unknown, check};
 use std::alloc::{AllocError, Global};
 
 /// A test of a pair of definitions; the tenth is of the pair itself.
-#[derive(Clone, Copy, Debug, PartialEq, Eq)]
+#[derive(Debug, Clone, Copy, PartialEq, Eq)]
 pub enum Test {
     N1,
     N2,
@@ -25,13 +25,13 @@ pub enum Test {
     N10,
 }
 
-#[derive(Clone, Copy, Debug, PartialEq, Eq)]
+#[derive(Clone, Copy, PartialEq, Eq)]
 pub enum PairKind {
     Command,
     Avp,
 }
 
-#[derive(Clone, Copy, Debug, PartialEq, Eq)]
+#[derive(Clone, Copy, PartialEq, Eq)]
 pub enum Answer {
     Yes,
     No {

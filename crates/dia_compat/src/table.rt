@@ -22,7 +22,7 @@ pub const MAX_PAIRS: usize = 65_536;
 
 /// Pairs of names, each of the first dictionary and of the second: what stands for what. Both lists are in order, and
 /// a pair may stand in them more than once.
-#[derive(Debug, Drop, PartialEq, Eq)]
+#[derive(Drop, PartialEq, Eq)]
 pub struct Table {
     pub commands: Vec<(String, String)>,
     pub avps: Vec<(String, String)>,
@@ -90,7 +90,7 @@ pub fn parse_table(alloc: Global, text: &str) -> Result<Table, TableFault>
 }
 
 /// Why a line adds no pair.
-#[derive(Clone, Copy, Debug, PartialEq, Eq)]
+#[derive(Clone, Copy, PartialEq, Eq)]
 enum LineFault {
     Syntax,
     Limit,

@@ -8,7 +8,7 @@ use byteorder::{BigEndian, ByteOrder};
 use std::str;
 
 /// What a format says of data.
-#[derive(Clone, Copy, Debug, PartialEq, Eq)]
+#[derive(Clone, Copy, PartialEq, Eq)]
 pub enum Leaf {
     /// The format accepts the data.
     Fine,

@@ -10,7 +10,7 @@ use crate::seen_text::Text;
 const FRONT_LENGTH: usize = 20;
 
 /// What is kept of all bytes, for the formats whose front alone does not decide.
-#[derive(Clone, Copy, Debug)]
+#[derive(Clone, Copy)]
 enum Seen {
     /// Nothing.
     Nothing,
@@ -24,7 +24,7 @@ enum Seen {
 ///
 /// It keeps the first [`FRONT_LENGTH`] bytes. Each length that a format fixes, and each scheme of a URI, is shorter, so
 /// that one byte too many is still seen.
-#[derive(Clone, Copy, Debug)]
+#[derive(Clone, Copy)]
 pub struct LeafState<'a> {
     format: &'a Format,
     front: Front<FRONT_LENGTH>,
@@ -32,7 +32,7 @@ pub struct LeafState<'a> {
 }
 
 /// What has been seen of data, apart from its format.
-#[derive(Clone, Copy, Debug)]
+#[derive(Clone, Copy)]
 pub struct SeenData {
     front: Front<FRONT_LENGTH>,
     seen: Seen,

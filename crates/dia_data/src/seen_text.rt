@@ -6,7 +6,7 @@ use crate::front::Front;
 use std::str;
 
 /// What has been seen of a text.
-#[derive(Clone, Copy, Debug)]
+#[derive(Clone, Copy)]
 pub(crate) enum Text {
     /// Whole characters, and then these bytes, fewer than four, which no character begins.
     Open(Front<4>),

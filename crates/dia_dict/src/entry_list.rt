@@ -8,7 +8,7 @@ use dia_wire::Key;
 use std::alloc::{AllocError, Global};
 
 /// An AVP; a Grouped one names its definition among the groups.
-#[derive(Debug, Drop)]
+#[derive(Drop)]
 pub(crate) struct Row {
     pub name: String,
     pub key: Key,
@@ -35,7 +35,7 @@ impl Clone for Row {
 }
 
 /// The entries of a dictionary in order, with the definitions of the Grouped ones.
-#[derive(Debug, Drop)]
+#[derive(Drop)]
 pub(crate) struct EntryList {
     pub rows: Vec<Row>,
     pub groups: Vec<Definition>,

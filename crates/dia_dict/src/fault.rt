@@ -3,7 +3,7 @@ use std::fmt;
 use thiserror::Error;
 
 /// What is wrong with a source, in the order in which it is told.
-#[derive(Clone, Copy, Debug, PartialEq, Eq)]
+#[derive(Debug, Clone, Copy, PartialEq, Eq)]
 pub enum DictKind {
     /// A definition has more than 1,024 rules, and is named; or, where none has, the source has more than 16,384
     /// declarations, groups and commands together, and no name is told (our profile).

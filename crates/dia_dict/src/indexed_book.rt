@@ -22,7 +22,7 @@ use indexmap::IndexSet;
 use std::alloc::{AllocError, Global};
 
 /// A dictionary with tables for its look-ups. A look-up of a key takes log n steps at most among n keys, whichever they are.
-#[derive(Debug, Drop)]
+#[derive(Drop)]
 pub struct IndexedBook {
     book: PlainBook,
     avps: KeyTable,

@@ -13,7 +13,7 @@ use std::alloc::{AllocError, Global};
 
 /// Places of keys, in the order of the keys' ranks, which are cut into buckets, more than four for each row. A
 /// look-up searches the rows of one bucket only: none or one for most keys.
-#[derive(Debug, Drop)]
+#[derive(Drop)]
 pub(crate) struct KeyTable {
     pub rows: Vec<KeyRow>,
     buckets: u32,

@@ -14,7 +14,7 @@ use dia_wire::Key;
 use std::alloc::AllocError;
 
 /// A dictionary in lists, which every look-up scans.
-#[derive(Debug, Drop)]
+#[derive(Drop)]
 pub struct PlainBook {
     pub(crate) entries: EntryList,
     pub(crate) commands: Vec<Definition>,

@@ -5,7 +5,7 @@ ghost use Rattle.dia_dict.specs.Selectors.{app_key, general_key, general_selecto
 use dia_book::{Class, DefHead, Key};
 
 /// Which messages a command is for.
-#[derive(Clone, Copy, Debug, PartialEq, Eq, Hash)]
+#[derive(Clone, Copy, PartialEq, Eq, Hash)]
 pub(crate) enum Selector {
     /// Requests or answers of a command code, for an application or for all that no other command names.
     Command {
@@ -60,7 +60,7 @@ impl Selector {
 }
 
 /// Which messages a command is for, whatever the application.
-#[derive(Clone, Copy, Debug, PartialEq, Eq, Hash)]
+#[derive(Clone, Copy, PartialEq, Eq, Hash)]
 pub(crate) enum Service {
     /// Requests or answers of a command code.
     Command { code: u32, request: bool },

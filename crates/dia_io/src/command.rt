@@ -8,7 +8,7 @@ use std::alloc::AllocError;
 use thiserror::Error;
 
 /// What the program is to do.
-#[derive(Debug, PartialEq, Eq, Drop)]
+#[derive(PartialEq, Eq, Drop)]
 pub enum Command {
     /// Prints a message, an AVP a line.
     Show,
@@ -37,7 +37,7 @@ pub enum Command {
 }
 
 /// A text that was read whole.
-#[derive(Debug, Drop)]
+#[derive(Drop)]
 pub enum Input {
     Bytes(Vec<u8>),
     /// More bytes than the text may have.
@@ -58,7 +58,7 @@ impl Input {
 }
 
 /// The texts of a command. One that the command doesn't use isn't looked at.
-#[derive(Debug, Drop)]
+#[derive(Drop)]
 pub struct Inputs {
     /// The first or only dictionary.
     pub first: Input,
@@ -71,7 +71,7 @@ pub struct Inputs {
 }
 
 /// How a command ended.
-#[derive(Clone, Copy, Debug, PartialEq, Eq)]
+#[derive(Debug, Clone, Copy, PartialEq, Eq)]
 pub enum Exit {
     /// Status 0.
     Yes,

@@ -8,14 +8,14 @@ use std::io;
 use std::io::{Read, Write};
 
 /// A reader of std. Each `Err` of it is a failure, that of an interrupted call too.
-#[derive(Debug, Drop)]
+#[derive(Drop)]
 pub struct FromReader<R: Read> {
     pub reader: R,
     failure: Option<io::Error>,
 }
 
 /// A writer of std. Each `Err` of it is a failure, and so is a write that takes nothing.
-#[derive(Debug, Drop)]
+#[derive(Drop)]
 pub struct ToWriter<W: Write> {
     pub writer: W,
     failure: Option<io::Error>,

@@ -17,7 +17,7 @@ use std::alloc::{AllocError, Global};
 use std::str;
 
 /// What the data of a format is told as.
-#[derive(Clone, Copy, Debug, PartialEq, Eq)]
+#[derive(Clone, Copy, PartialEq, Eq)]
 pub enum ValueKind {
     /// A number of 32 bits.
     Number,

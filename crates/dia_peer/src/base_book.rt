@@ -12,7 +12,7 @@ use dia_check::{Levels, Refusal, Unknown, check};
 use dia_dict::{Book, IndexedBook, base_book};
 use std::alloc::{AllocError, Global};
 
-#[derive(Debug, Drop)]
+#[derive(Drop)]
 pub(crate) struct BaseBook {
     book: IndexedBook,
     ghost is_base: { ⟦<IndexedBook as Book>⟧.meaning book ≡ base } by { Prim.hlevel (props, ⊎_set) },

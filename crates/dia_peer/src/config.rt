@@ -4,21 +4,21 @@ use std::alloc::AllocError;
 use thiserror::Error;
 
 /// Which end of a connection a core is: the one that sends the CER, or the one that answers it (RFC 6733 section 5.3).
-#[derive(Clone, Copy, Debug, PartialEq, Eq)]
+#[derive(Clone, Copy, PartialEq, Eq)]
 pub enum Role {
     Initiator,
     Responder,
 }
 
 /// Whether an application is for authentication and authorization, or for accounting (RFC 6733 section 2.4).
-#[derive(Clone, Copy, Debug, PartialEq, Eq)]
+#[derive(Debug, Clone, Copy, PartialEq, Eq)]
 pub enum Kind {
     Auth,
     Acct,
 }
 
 /// An application that an end advertises.
-#[derive(Clone, Copy, Debug, PartialEq, Eq)]
+#[derive(Clone, Copy, PartialEq, Eq)]
 pub struct App {
     pub kind: Kind,
     /// The Application-ID.
@@ -28,14 +28,14 @@ pub struct App {
 }
 
 /// An IP address, in network byte order.
-#[derive(Clone, Copy, Debug, PartialEq, Eq)]
+#[derive(Clone, Copy, PartialEq, Eq)]
 pub enum Ip {
     V4([u8; 4]),
     V6([u8; 16]),
 }
 
 /// What an end says of itself in its messages (RFC 6733 section 5.3), and the identifiers that it begins with.
-#[derive(Debug, Drop)]
+#[derive(Drop)]
 pub struct Config {
     /// Origin-Host: 1 to 255 bytes, each from `!` to `~`.
     pub host: String,

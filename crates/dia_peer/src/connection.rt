@@ -15,7 +15,7 @@ use std::marker::Model;
 /// One end of a connection.
 ///
 /// It is told what happens by `step`, which answers what is to be done. It has no socket and no clock.
-#[derive(Debug, Drop)]
+#[derive(Drop)]
 pub struct Core {
     node: Node,
     role: Role,

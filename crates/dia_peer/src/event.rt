@@ -1,7 +1,7 @@
 //! What happens to a core, and what it wants done.
 
 /// Where one end of a connection stands.
-#[derive(Clone, Copy, Debug, PartialEq, Eq)]
+#[derive(Debug, Clone, Copy, PartialEq, Eq)]
 pub enum State {
     /// Before `Event::Start`.
     Idle,
@@ -17,7 +17,7 @@ pub enum State {
 }
 
 /// Why a connection is given up, as Disconnect-Cause says it (RFC 6733 section 5.4.3).
-#[derive(Clone, Copy, Debug, PartialEq, Eq)]
+#[derive(Clone, Copy, PartialEq, Eq)]
 pub enum Cause {
     /// REBOOTING (0).
     Rebooting,
@@ -27,7 +27,7 @@ pub enum Cause {
     DoNotWant,
 }
 
-#[derive(Clone, Copy, Debug)]
+#[derive(Clone, Copy)]
 pub enum Event<'a> {
     /// The transport connection is there.
     Start,
@@ -42,7 +42,7 @@ pub enum Event<'a> {
 }
 
 /// Why a core closes the connection.
-#[derive(Clone, Copy, Debug, PartialEq, Eq)]
+#[derive(Debug, Clone, Copy, PartialEq, Eq)]
 pub enum Why {
     /// What came is no message, or no valid one of the three commands.
     Invalid,
@@ -60,7 +60,7 @@ pub enum Why {
     Stopped,
 }
 
-#[derive(Debug, Drop)]
+#[derive(Drop)]
 pub enum Output {
     /// Send these bytes, which are one message.
     Send(Vec<u8>),

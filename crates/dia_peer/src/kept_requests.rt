@@ -1,14 +1,14 @@
 //! What a core keeps of messages.
 
 /// The Hop-by-Hop and End-to-End Identifiers of a request (RFC 6733 section 3).
-#[derive(Clone, Copy, Debug, PartialEq, Eq)]
+#[derive(Clone, Copy, PartialEq, Eq)]
 pub(crate) struct Ids {
     pub hop: u32,
     pub e2e: u32,
 }
 
 /// The CER that was taken: its bytes, and the identifiers that its CEA repeats.
-#[derive(Debug, Drop)]
+#[derive(Drop)]
 pub(crate) struct Taken {
     pub bytes: Vec<u8>,
     pub ids: Ids,

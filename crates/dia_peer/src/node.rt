@@ -35,7 +35,7 @@ use dia_wire::AVP_MANDATORY;
 use std::alloc::{AllocError, Global};
 
 /// A configuration that is accepted, its applications in order, and the base dictionary.
-#[derive(Debug, Drop)]
+#[derive(Drop)]
 pub(crate) struct Node {
     pub alloc: Global,
     pub base: BaseBook,

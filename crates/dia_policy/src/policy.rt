@@ -1,5 +1,5 @@
 /// What happens to an AVP that the dictionary does not know.
-#[derive(Clone, Copy, Debug, PartialEq, Eq)]
+#[derive(Clone, Copy, PartialEq, Eq)]
 pub enum Unknown {
     /// It is accepted where its M flag is clear.
     Kept,
@@ -7,7 +7,7 @@ pub enum Unknown {
 }
 
 /// How deep groups may stand in one another.
-#[derive(Clone, Copy, Debug, PartialEq, Eq)]
+#[derive(Clone, Copy, PartialEq, Eq)]
 pub enum Levels {
     Any,
     AtMost(u32),

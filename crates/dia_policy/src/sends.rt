@@ -1,5 +1,5 @@
 /// Which messages a sender that goes by its dictionary sends.
-#[derive(Clone, Copy, Debug, PartialEq, Eq)]
+#[derive(Clone, Copy, PartialEq, Eq)]
 pub enum Sends {
     /// Also AVPs that the dictionary doesn't know, with M clear, wherever a wildcard lets them in.
     Any,

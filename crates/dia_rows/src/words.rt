@@ -4,7 +4,7 @@ use crate::fault::RowFault;
 use std::alloc::{AllocError, Global};
 
 /// A call, and what it is to answer.
-#[derive(Clone, Copy, Debug)]
+#[derive(Clone, Copy)]
 pub struct Row<'a> {
     pub line: &'a str,
     pub call: &'a str,

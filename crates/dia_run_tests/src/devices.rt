@@ -12,7 +12,7 @@ use std::io::{Read, Write};
 use std::process::Abort;
 
 /// Takes seven bytes a call, and fails at a call.
-#[derive(Debug, Drop)]
+#[derive(Drop)]
 struct FailingSink {
     taken: Vec<u8>,
     calls_left: usize,
@@ -97,7 +97,7 @@ fn stops_at_the_call_that_fails(rt: HostRuntime) {
 }
 
 /// Gives a thousand bytes a call, and fails at a call.
-#[derive(Debug, Drop)]
+#[derive(Drop)]
 struct FailingFeed {
     bytes_left: usize,
     calls_left: usize,

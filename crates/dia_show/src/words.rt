@@ -20,7 +20,7 @@ pub struct Words<'t> {
 }
 
 /// Why a text is none of words. Lines count from 1.
-#[derive(Clone, Copy, Debug, PartialEq, Eq)]
+#[derive(Clone, Copy, PartialEq, Eq)]
 pub enum ValuesFault {
     /// The line isn't `NAME NUMBER WORD`.
     Syntax { line: u32 },

@@ -8,7 +8,7 @@ use dia_lines::{LinesFault, Watch};
 use std::alloc::{AllocError, Global};
 
 /// The lines of the messages that are whole.
-#[derive(Drop)]
+#[derive(Debug, Drop)]
 pub struct Told {
     /// Where the next message begins, in bytes of the stream.
     pub at: u64,

@@ -5,7 +5,7 @@
 pub const MAX_NAME: usize = 128;
 
 /// Whether the M flag is to be set.
-#[derive(Clone, Copy, Debug, PartialEq, Eq)]
+#[derive(Clone, Copy, PartialEq, Eq)]
 pub enum MRule {
     Must,
     MustNot,
@@ -13,7 +13,7 @@ pub enum MRule {
 }
 
 /// Which P flag a message of a class may have.
-#[derive(Clone, Copy, Debug, PartialEq, Eq)]
+#[derive(Clone, Copy, PartialEq, Eq)]
 pub enum Pxy {
     Clear,
     Set,
@@ -21,7 +21,7 @@ pub enum Pxy {
 }
 
 /// The brackets of a rule (RFC 6733 section 3.2).
-#[derive(Clone, Copy, Debug, PartialEq, Eq)]
+#[derive(Clone, Copy, PartialEq, Eq)]
 pub enum RuleKind {
     /// In angle brackets: the AVPs come first, in the order of the rules.
     Fixed,

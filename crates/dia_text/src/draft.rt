@@ -17,7 +17,7 @@ use dia_wire::{AVP_HEAD_LENGTH, VENDOR_AVP_HEAD_LENGTH};
 use std::alloc::{AllocError, Global};
 
 /// A group that is open: where it begins, and what its line says.
-#[derive(Clone, Copy, Debug)]
+#[derive(Clone, Copy)]
 pub struct Opened {
     pub place: usize,
     pub head: Head,

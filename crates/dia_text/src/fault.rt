@@ -5,7 +5,7 @@ use std::fmt;
 use thiserror::Error;
 
 /// What is wrong with a line.
-#[derive(Clone, Copy, Debug, PartialEq, Eq)]
+#[derive(Debug, Clone, Copy, PartialEq, Eq)]
 pub enum Kind {
     /// A word is missing, or one stands where none may.
     Syntax,

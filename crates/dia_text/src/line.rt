@@ -3,7 +3,7 @@
 use crate::keys::AvpCode;
 
 /// What the line of an AVP says in front of its value.
-#[derive(Clone, Copy, Debug, PartialEq, Eq)]
+#[derive(Clone, Copy, PartialEq, Eq)]
 pub struct Head {
     pub code: AvpCode,
     pub flags: u8,
@@ -12,7 +12,7 @@ pub struct Head {
 }
 
 /// What a line behind the header says.
-#[derive(Debug, Drop)]
+#[derive(Drop)]
 pub enum Line {
     Blank,
     Leaf(Head, Vec<u8>, Option<Vec<u8>>),

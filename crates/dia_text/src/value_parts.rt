@@ -12,7 +12,7 @@ use crate::numbers::{hex_byte_of, number_below};
 use hex::decode_to_slice;
 
 /// What parts of a value write.
-#[derive(Clone, Copy, Debug)]
+#[derive(Clone, Copy)]
 pub(crate) enum Part {
     /// A number below 256.
     Decimal,

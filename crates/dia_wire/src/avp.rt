@@ -17,7 +17,7 @@ pub const AVP_MANDATORY: u8 = 0x40;
 pub const AVP_PROTECTED: u8 = 0x20;
 
 /// An AVP (RFC 6733 section 4.1) whose data lies in a message.
-#[derive(Clone, Copy, Debug)]
+#[derive(Clone, Copy)]
 pub struct Avp<'a> {
     pub code: u32,
     /// The AVP Flags: V, M and P. The other bits are kept and mean nothing.
@@ -29,7 +29,7 @@ pub struct Avp<'a> {
 }
 
 /// The fields of an AVP in front of its data.
-#[derive(Clone, Copy, Debug, PartialEq, Eq)]
+#[derive(Clone, Copy, PartialEq, Eq)]
 pub struct AvpHead {
     pub code: u32,
     pub flags: u8,

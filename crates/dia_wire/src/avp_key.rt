@@ -7,7 +7,7 @@ use std::fmt;
 /// A missing Vendor-ID and the Vendor-ID 0 are one space, vendor 0.
 ///
 /// It is displayed as `CODE:VENDOR`, both in decimal.
-#[derive(Clone, Copy, Debug, PartialEq, Eq, Hash)]
+#[derive(Debug, Clone, Copy, PartialEq, Eq, Hash)]
 pub struct Key {
     pub code: u32,
     pub vendor: u32,

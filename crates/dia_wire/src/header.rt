@@ -20,7 +20,7 @@ pub const COMMAND_ERROR: u8 = 0x20;
 pub const COMMAND_RETRANSMITTED: u8 = 0x10;
 
 /// The header of a message (RFC 6733 section 3) without its version, which is 1, and its Message Length.
-#[derive(Clone, Copy, Debug, PartialEq, Eq)]
+#[derive(Clone, Copy, PartialEq, Eq)]
 pub struct Header {
     /// The Command Flags: R, P, E and T. The other bits are kept and mean nothing.
     pub flags: u8,

@@ -15,7 +15,7 @@ use indexmap::IndexSet;
 use std::alloc::{AllocError, Global};
 
 /// The places of commands, by the messages that they are for.
-#[derive(Debug, Drop)]
+#[derive(Drop)]
 pub(crate) struct CommandTables {
     /// Requests for an application.
     pub requests: KeyTable,

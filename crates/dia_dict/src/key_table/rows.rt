@@ -6,7 +6,7 @@ use dia_wire::Key;
 use std::alloc::{AllocError, Global};
 
 /// The place of the key with this rank.
-#[derive(Clone, Copy, Debug)]
+#[derive(Clone, Copy)]
 pub(crate) struct KeyRow {
     pub rank: u64,
     pub place: u32,
