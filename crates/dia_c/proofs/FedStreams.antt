@@ -18,7 +18,7 @@ use Rattle.dia_c.specs.declared.held.Held.TheVariants.{Stream}
 use Rattle.dia_c.specs.declared.streams.Fed.{Fed}
 use Rattle.dia_c.specs.Feedings.{FeedsFor}
 use Rattle.dia_c.specs.Held.{StandsFor}
-use Rattle.dia_c.specs.Streams.{HasFed, HasLevels, IsSpent, OpensIn, fed_of}
+use Rattle.dia_c.specs.Streams.{HasFed, HasLevels, OpensIn, StandsForNone, fed_of}
 
 pub err_is : {A E : Type 0} (r : Result A E) (e f : E) → r ≡ Err e → e ≡ f → r ≡ Err f
 err_is r e f is same = subst (λ x. r ≡ Err x) same is
@@ -51,10 +51,10 @@ module _ (old : Option Held) (before : Held) (f : Feeding) (is_old : old ≡ Som
   pub has_levels : (n : ℕ) → ((d : Dictionary) (u : Unknown) (most : Levels) (bytes : List ℕ) → FeedsFor f d u most bytes → CountsLevels d u most bytes n) → HasLevels old n
   has_levels n counts d u most bytes stands = counts d u most bytes (feeds_in d u most bytes stands)
 
-  pub is_spent : (r : Result Progress StreamFault) → r ≡ Err fault.Spent
-      → ((d : Dictionary) (u : Unknown) (most : Levels) (bytes : List ℕ) → FeedsFor f d u most bytes → r ≢ Err fault.Spent) → IsSpent old
-  is_spent r is never d u most bytes stands = never d u most bytes (feeds_in d u most bytes stands) is
+  pub stands_for_none : (r : Result Progress StreamFault) → r ≡ Err fault.Spent
+      → ((d : Dictionary) (u : Unknown) (most : Levels) (bytes : List ℕ) → FeedsFor f d u most bytes → r ≢ Err fault.Spent) → StandsForNone old
+  stands_for_none r is never d u most bytes stands = never d u most bytes (feeds_in d u most bytes stands) is
 
   pub has_no_answer : (answer : Result Selected Refusal) → ((d : Dictionary) (u : Unknown) (most : Levels) (bytes : List ℕ) → FeedsFor f d u most bytes → IsAnswer d u most bytes answer)
-      → answer ≡ Err refusal.Spent → IsSpent old
+      → answer ≡ Err refusal.Spent → StandsForNone old
   has_no_answer answer answers is d u most bytes stands = subst (λ r. IsAnswer d u most bytes r) is (answers d u most bytes (feeds_in d u most bytes stands))

@@ -1,5 +1,5 @@
 -- What is told of a message that comes in pieces.
-use Rattle.std.specs.Prelude.{◌≡◌, ℕ, ◌++◌, List, drop, length, take, if◌then◌else◌, Option, Result}
+use Rattle.std.specs.Prelude.{◌≡◌, ℕ, ◌++◌, List, drop, length, take, if◌then◌else◌, Option, None, Some, Result}
 use Rattle.dia_book.specs.Dictionary.{Dictionary}
 use Rattle.dia_policy.specs.declared.Unknown.{Unknown}
 use Rattle.dia_policy.specs.declared.Levels.{Levels}
@@ -7,8 +7,10 @@ use Rattle.dia_check.specs.declared.Progress.{Progress}
 use Rattle.dia_check.specs.declared.Refusal.{Refusal}
 use Rattle.dia_check.specs.declared.Selected.{Selected}
 use Rattle.dia_check.specs.Faults.{IsAnswer}
+use Rattle.dia_check.specs.Pauses.{WasSpent}
 use Rattle.dia_check.specs.Streaming.{CountsLevels, OpensLevel, Takes, taken_of}
 use Rattle.dia_c.specs.declared.held.Held.{Held}
+use Rattle.dia_c.specs.declared.held.Held.TheVariants.{Dict, Text, Faults, Peer, Stream, Nothing}
 use Rattle.dia_c.specs.declared.streams.Fed.{Fed}
 use Rattle.dia_c.specs.declared.verdict.Verdict.{Verdict}
 use Rattle.dia_c.specs.Held.{StandsFor}
@@ -42,6 +44,16 @@ HasLevels held n = OfMessage held (λ d u most bytes. CountsLevels d u most byte
 abbrev pub IsKept : Option Held → Option Held → Type 0
 IsKept old new = OfMessage old (λ d u most bytes. StandsFor new d u most bytes)
 
--- it stands for no message: memory was refused before
+-- it is a message to which memory was refused
 abbrev pub IsSpent : Option Held → Type 0
-IsSpent held = (d : Dictionary) (u : Unknown) (most : Levels) (bytes : List ℕ) → ¬ StandsFor held d u most bytes
+IsSpent None = ⊥
+IsSpent (Some (Dict owner room)) = ⊥
+IsSpent (Some (Text text)) = ⊥
+IsSpent (Some (Faults faults)) = ⊥
+IsSpent (Some (Peer peer)) = ⊥
+IsSpent (Some (Stream feeding)) = WasSpent feeding.paused
+IsSpent (Some Nothing) = ⊥
+
+-- it stands for no message
+abbrev pub StandsForNone : Option Held → Type 0
+StandsForNone held = (d : Dictionary) (u : Unknown) (most : Levels) (bytes : List ℕ) → ¬ StandsFor held d u most bytes

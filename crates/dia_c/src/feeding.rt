@@ -1,11 +1,11 @@
 //! A message that comes in pieces, beside an owner of its dictionary.
 
-ghost use Rattle.std.specs.Prelude.{◌≡◌, ◌≢◌, ◌++◌, ◌↔◌, ℕ, List, [], Err, IfOk, IsTrue, drop, length, take};
+ghost use Rattle.std.specs.Prelude.{◌≡◌, ◌≢◌, ◌++◌, ◌↔◌, ℕ, List, [], Err, IfOk, OnErr, OnOk, drop, length, take};
 ghost use Rattle.dia_book.specs.Dictionary.{Dictionary};
 ghost use Rattle.dia_policy.specs.declared.Unknown.{Unknown as AnyPolicy};
 ghost use Rattle.dia_policy.specs.declared.Levels.{Levels as AnyLevels};
 ghost use Rattle.dia_check.specs.Faults.{IsAnswer};
-ghost use Rattle.dia_check.specs.Pauses.{HasPaused, IsPausedFor};
+ghost use Rattle.dia_check.specs.Pauses.{HasPaused, IsPausedFor, WasSpent};
 ghost use Rattle.dia_check.specs.Streaming.{CountsLevels, OpensLevel, Takes, taken_of};
 
 use dia_book::Book;
@@ -42,8 +42,11 @@ impl Feeding {
             → (d : Dictionary) (u : AnyPolicy) (most : AnyLevels) (bytes : List ℕ)
             → FeedsFor self d u most bytes
             → OpensLevel d most bytes (drop (length bytes) (taken_of (bytes ++ piece.now))) }
-        ensures spent { (d : Dictionary) (u : AnyPolicy) (most : AnyLevels) (bytes : List ℕ)
+        ensures never { (d : Dictionary) (u : AnyPolicy) (most : AnyLevels) (bytes : List ℕ)
             → FeedsFor self d u most bytes → result.1 ≢ Err StreamFault.Spent }
+        ensures spent { (result.1 ≡ Err StreamFault.Spent) ↔ WasSpent self.paused }
+        ensures goes_on { OnOk result.1 (¬ WasSpent result.0.paused) }
+        ensures err { OnErr result.1 (WasSpent result.0.paused) }
     {
         let Feeding { owner, paused } = self;
         let (paused, answer) = fed_to(&*owner, paused, piece);
@@ -56,6 +59,7 @@ impl Feeding {
             → FeedsFor self d u most bytes → CountsLevels d u most bytes result.1 }
         ensures kept { (d : Dictionary) (u : AnyPolicy) (most : AnyLevels) (bytes : List ℕ)
             → FeedsFor self d u most bytes → FeedsFor result.0 d u most bytes }
+        ensures spent { WasSpent result.0.paused ↔ WasSpent self.paused }
     {
         let Feeding { owner, paused } = self;
         let (paused, levels) = levels_of(&*owner, paused);
@@ -66,6 +70,7 @@ impl Feeding {
     pub fn finished(self) -> Result<Selected, Refusal>
         ensures answer { (d : Dictionary) (u : AnyPolicy) (most : AnyLevels) (bytes : List ℕ)
             → FeedsFor self d u most bytes → IsAnswer d u most bytes result }
+        ensures spent { WasSpent self.paused → result ≡ Err Refusal.Spent }
         ensures memory { result ≢ Err Refusal.NoMemory }
     {
         let Feeding { owner, paused } = self;
@@ -94,8 +99,11 @@ fn fed_to<B: Book>(
         → (d : Dictionary) (u : AnyPolicy) (most : AnyLevels) (bytes : List ℕ)
         → HasPaused paused d u most bytes → B.meaning book.now ≡ d
         → OpensLevel d most bytes (drop (length bytes) (taken_of (bytes ++ piece.now))) }
-    ensures spent { (d : Dictionary) (u : AnyPolicy) (most : AnyLevels) (bytes : List ℕ)
+    ensures never { (d : Dictionary) (u : AnyPolicy) (most : AnyLevels) (bytes : List ℕ)
         → HasPaused paused d u most bytes → B.meaning book.now ≡ d → result.1 ≢ Err StreamFault.Spent }
+    ensures spent { (result.1 ≡ Err StreamFault.Spent) ↔ WasSpent paused }
+    ensures goes_on { OnOk result.1 (¬ WasSpent result.0) }
+    ensures err { OnErr result.1 (WasSpent result.0) }
     ensures fits { ∥ IsPausedFor (B.meaning book.now) result.0 ∥₁ }
 {
     let mut stream = paused.resume(book);
@@ -109,6 +117,7 @@ fn levels_of<B: Book>(book: &B, paused: Paused) -> (Paused, usize)
         → HasPaused paused d u most bytes → B.meaning book.now ≡ d → CountsLevels d u most bytes result.1 }
     ensures kept { (d : Dictionary) (u : AnyPolicy) (most : AnyLevels) (bytes : List ℕ)
         → HasPaused paused d u most bytes → B.meaning book.now ≡ d → HasPaused result.0 d u most bytes }
+    ensures spent { WasSpent result.0 ↔ WasSpent paused }
     ensures fits { ∥ IsPausedFor (B.meaning book.now) result.0 ∥₁ }
 {
     let stream = paused.resume(book);
@@ -120,6 +129,7 @@ fn finish_of<B: Book>(book: &B, paused: Paused) -> Result<Selected, Refusal>
     requires fits { ∥ IsPausedFor (B.meaning book.now) paused ∥₁ }
     ensures answer { (d : Dictionary) (u : AnyPolicy) (most : AnyLevels) (bytes : List ℕ)
         → HasPaused paused d u most bytes → B.meaning book.now ≡ d → IsAnswer d u most bytes result }
+    ensures spent { WasSpent paused → result ≡ Err Refusal.Spent }
     ensures memory { result ≢ Err Refusal.NoMemory }
 {
     paused.resume(book).finish()

@@ -1,8 +1,9 @@
 //! Messages that come in pieces: opened, fed, asked, finished, closed.
 
-ghost use Rattle.std.specs.Prelude.{◌⊎◌, ◌≡◌, ◌≢◌, [], None, IfOk, IfSome, IsSome, Some};
+ghost use Rattle.std.specs.Prelude.{◌⊎◌, ◌≡◌, ◌≢◌, ◌↔◌, [], None, IfOk, IfSome, IsSome, Some};
 ghost use Rattle.dia_c.specs.Held.{MayBeStream, StandsFor, dict_in};
-ghost use Rattle.dia_c.specs.Streams.{HasFed, HasFinished, HasLevels, IsKept, IsSpent, OpensIn, fed_of};
+ghost use Rattle.dia_c.specs.Streams.{HasFed, HasFinished, HasLevels, IsKept, IsSpent, OpensIn, StandsForNone};
+ghost use Rattle.dia_c.specs.Streams.{fed_of};
 ghost use Rattle.dia_c.specs.Verdicts.{IsUnknownPolicy, limit_of, policy_of};
 
 use crate::feeding::Feeding;
@@ -95,7 +96,10 @@ pub extern "C" fn dia_stream_feed(
     ensures ends { (result ≡ DONE) ⊎ (result ≡ NO_MEMORY) ⊎ (result ≡ IS_CLOSED) ⊎ (result ≡ SPENT) }
     ensures done { result ≡ DONE → HasFed stream.old.slot.seal.held stream.new.slot.seal.held piece.now fed.new }
     ensures no_memory { result ≡ NO_MEMORY → OpensIn stream.old.slot.seal.held piece.now }
-    ensures spent { result ≡ SPENT → IsSpent stream.old.slot.seal.held }
+    ensures spent { (result ≡ SPENT) ↔ IsSpent stream.old.slot.seal.held }
+    ensures goes_on { result ≡ DONE → ¬ IsSpent stream.new.slot.seal.held }
+    ensures refused { (result ≡ NO_MEMORY) ⊎ (result ≡ SPENT) → IsSpent stream.new.slot.seal.held }
+    ensures nothing { result ≡ SPENT → StandsForNone stream.old.slot.seal.held }
     ensures is_open { result ≢ IS_CLOSED → IsSome stream.new.slot.seal.held }
     ensures only { result ≢ DONE → fed.new ≡ fed.old }
     ensures closed { result ≡ IS_CLOSED → (stream.old.slot.seal.held ≡ None) × (stream.new.slot.seal.held ≡ None) }
@@ -138,6 +142,7 @@ pub extern "C" fn dia_stream_levels(
     ensures ends { (result ≡ DONE) ⊎ (result ≡ IS_CLOSED) }
     ensures done { result ≡ DONE → HasLevels stream.old.slot.seal.held levels.new }
     ensures kept { IsKept stream.old.slot.seal.held stream.new.slot.seal.held }
+    ensures spent { IsSpent stream.new.slot.seal.held ↔ IsSpent stream.old.slot.seal.held }
     ensures only { result ≡ IS_CLOSED → levels.new ≡ levels.old }
     ensures closed { result ≡ IS_CLOSED → (stream.old.slot.seal.held ≡ None) × (stream.new.slot.seal.held ≡ None) }
     ensures was_open { result ≡ DONE → IsSome stream.old.slot.seal.held × IsSome stream.new.slot.seal.held }
@@ -161,7 +166,8 @@ pub extern "C" fn dia_stream_finish(
 ) -> u32
     ensures ends { (result ≡ DONE) ⊎ (result ≡ IS_CLOSED) ⊎ (result ≡ SPENT) }
     ensures done { result ≡ DONE → HasFinished stream.old.slot.seal.held verdict.new }
-    ensures spent { result ≡ SPENT → IsSpent stream.old.slot.seal.held }
+    ensures spent { IsSpent stream.old.slot.seal.held → result ≡ SPENT }
+    ensures nothing { result ≡ SPENT → StandsForNone stream.old.slot.seal.held }
     ensures is_closed { stream.new.slot.seal.held ≡ None }
     ensures only { result ≢ DONE → verdict.new ≡ verdict.old }
     ensures closed { result ≡ IS_CLOSED → stream.old.slot.seal.held ≡ None }

@@ -1,6 +1,6 @@
 //! What is said of a message.
 
-ghost use Rattle.std.specs.Prelude.{◌≡◌, None, Err, IfOk, IfErr, IfSome, Result};
+ghost use Rattle.std.specs.Prelude.{◌≡◌, ◌↔◌, None, Err, IfOk, IfErr, IfSome, Result};
 ghost use Rattle.dia_check.specs.Faults.{HasLength, IsAnswer, code_of, row_of, simple};
 ghost use Rattle.dia_c.specs.Verdicts.{IsHeadVerdict, IsUnknownPolicy, IsVerdict, fault_verdict, limit_of, no_message, policy_of};
 
@@ -104,7 +104,7 @@ pub enum Untold {
 pub fn verdict_of(answer: Result<Selected, Refusal>) -> Result<Verdict, Untold>
     ensures told { IfOk result (IsVerdict answer) }
     ensures no_memory { result ≡ Err Untold.NoMemory → answer ≡ Err Refusal.NoMemory }
-    ensures spent { result ≡ Err Untold.Spent → answer ≡ Err Refusal.Spent }
+    ensures spent { (result ≡ Err Untold.Spent) ↔ (answer ≡ Err Refusal.Spent) }
 {
     match answer {
         Ok(found) => Ok(Verdict {

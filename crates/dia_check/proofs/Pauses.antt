@@ -1,5 +1,5 @@
 -- A stream that was paused and resumed has taken what it had taken.
-use Rattle.std.proofs.Common.{◌≡◌, ℕ, ◌+◌, ◌-◌, ◌<◌, List, take, subst, sym, ap, ◌∙◌}
+use Rattle.std.proofs.Common.{◌≡◌, ℕ, ◌+◌, ◌-◌, ◌<◌, ◌↔◌, List, take, subst, sym, ap, ◌∙◌}
 use Rattle.dia_book.specs.Dictionary.{Dictionary}
 use Rattle.dia_policy.specs.declared.Unknown.{Unknown}
 use Rattle.dia_policy.specs.declared.Levels.{Levels}
@@ -11,6 +11,7 @@ use Rattle.dia_check.specs.declared.stream.parts.Part.{Part}
 use Rattle.dia_check.specs.declared.stream.parts.Part.TheVariants as part
 use Rattle.dia_check.specs.declared.stream.parts.DataPart.{DataPart}
 use Rattle.dia_check.specs.declared.stream.paused.PausedStage.{PausedStage}
+use Rattle.dia_check.specs.declared.stream.paused.PausedStage.TheVariants as paused
 use Rattle.dia_check.specs.declared.stream.paused.PausedData.{PausedData}
 use Rattle.dia_wire.specs.Wire.{head_length}
 use Rattle.dia_check.specs.declared.stream.paused.PausedBody.{PausedBody}
@@ -19,7 +20,7 @@ use Rattle.dia_check.specs.declared.stream.paused.PausedPart.TheVariants as piec
 use Rattle.dia_check.specs.Faults.{HasGoodHeader}
 use Rattle.dia_check.specs.Reading.{HasSeen, IsInHead, IsInData, IsInPart}
 use Rattle.dia_check.specs.Streaming.{HasRead, HasTaken, IsReading, IsSpentStage, IsStage}
-use Rattle.dia_check.specs.Pauses.{HasSeenPaused, IsPauseOf, IsPauseOfBody, IsPauseOfData, IsPauseOfPart, IsResumeOf, IsResumeOfBody, IsResumeOfData, IsResumeOfPart}
+use Rattle.dia_check.specs.Pauses.{HasSeenPaused, IsPauseOf, IsPauseOfBody, IsPauseOfData, IsPauseOfPart, IsResumeOf, IsResumeOfBody, IsResumeOfData, IsResumeOfPart, IsSpentPaused}
 
 leaf_goes : (d : Dictionary) (x : DataPart) (p : PausedData) (y : DataPart) (read : List ℕ) → IsPauseOfData d x p → IsResumeOfData d p y → HasSeen d x.leaf x.key read → HasSeen d y.leaf x.key read
 leaf_goes d x p y read pause resume seen =
@@ -103,3 +104,16 @@ not_spent d u most bytes stage.NoMemory read spent = absurd read
 not_spent d u most bytes (stage.Header x) read spent = absurd spent
 not_spent d u most bytes (stage.Over x) read spent = absurd spent
 not_spent d u most bytes (stage.InBody x) read spent = absurd spent
+
+-- a stream is spent while it is put aside exactly where it was, and is afterwards where it was meanwhile
+pub pause_spent : (d : Dictionary) (x : Stage) (p : PausedStage) → IsPauseOf d x p → IsSpentPaused p ↔ IsSpentStage x
+pause_spent d (stage.Header x) p is = subst (λ q. IsSpentPaused q ↔ IsSpentStage (stage.Header x)) (sym is) (λ h. h, λ h. h)
+pause_spent d (stage.Over x) p is = subst (λ q. IsSpentPaused q ↔ IsSpentStage (stage.Over x)) (sym is) (λ h. h, λ h. h)
+pause_spent d stage.NoMemory p is = subst (λ q. IsSpentPaused q ↔ IsSpentStage stage.NoMemory) (sym is) (λ h. h, λ h. h)
+pause_spent d (stage.InBody x) p (b, is, of) = subst (λ q. IsSpentPaused q ↔ IsSpentStage (stage.InBody x)) (sym is) (λ h. h, λ h. h)
+
+pub resume_spent : (d : Dictionary) (p : PausedStage) (x : Stage) → IsResumeOf d p x → IsSpentStage x ↔ IsSpentPaused p
+resume_spent d (paused.Header p) x is = subst (λ q. IsSpentStage q ↔ IsSpentPaused (paused.Header p)) (sym is) (λ h. h, λ h. h)
+resume_spent d (paused.Over p) x is = subst (λ q. IsSpentStage q ↔ IsSpentPaused (paused.Over p)) (sym is) (λ h. h, λ h. h)
+resume_spent d paused.NoMemory x is = subst (λ q. IsSpentStage q ↔ IsSpentPaused paused.NoMemory) (sym is) (λ h. h, λ h. h)
+resume_spent d (paused.InBody p) x (b, is, of) = subst (λ q. IsSpentStage q ↔ IsSpentPaused (paused.InBody p)) (sym is) (λ h. h, λ h. h)

@@ -1,5 +1,5 @@
 -- A stream apart from its dictionary, and what it stands for.
-use Rattle.std.specs.Prelude.{◌≡◌, ◌≢◌, ℕ, List, Option, Some, None, MatchOption}
+use Rattle.std.specs.Prelude.{◌≡◌, ◌≢◌, ℕ, List, Option, Some, None, MatchOption, ⊤}
 use Rattle.dia_wire.specs.declared.Key.{Key}
 use Rattle.dia_data.specs.Plain.{Grouped}
 use Rattle.dia_data.specs.State.{HasSeenData}
@@ -85,3 +85,13 @@ pub record IsPausedFor (d : Dictionary) (p : Paused) : Type 0 where
   pub before : Stage
   pub is_pause : IsPauseOf d before p.stage
   pub is_stage : IsStage d p.unknown p.levels p.taken p.wanted before
+
+-- the stream was refused memory before it was put aside
+abbrev pub IsSpentPaused : PausedStage → Type 0
+IsSpentPaused paused.NoMemory = ⊤
+IsSpentPaused (paused.Header x) = ⊥
+IsSpentPaused (paused.InBody x) = ⊥
+IsSpentPaused (paused.Over x) = ⊥
+
+abbrev pub WasSpent : Paused → Type 0
+WasSpent p = IsSpentPaused p.stage

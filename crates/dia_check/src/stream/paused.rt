@@ -1,13 +1,13 @@
 //! A stream that is put aside, without the dictionary that it checks by.
 
-ghost use Rattle.std.specs.Prelude.{◌≡◌, ℕ, List};
+ghost use Rattle.std.specs.Prelude.{◌≡◌, ◌↔◌, ℕ, List};
 ghost use Rattle.dia_book.specs.Dictionary.{Dictionary};
 ghost use Rattle.dia_policy.specs.declared.Unknown.{Unknown as AnyPolicy};
 ghost use Rattle.dia_policy.specs.declared.Levels.{Levels as AnyLevels};
 ghost use Rattle.dia_check.specs.Pauses.{HasPaused, HasSeenPaused, IsPauseOf, IsPauseOfPart};
-ghost use Rattle.dia_check.specs.Pauses.{IsPausedFor, IsResumeOf, IsResumeOfPart};
+ghost use Rattle.dia_check.specs.Pauses.{IsPausedFor, IsResumeOf, IsResumeOfPart, WasSpent};
 ghost use Rattle.dia_check.specs.Reading.{HasSeen};
-ghost use Rattle.dia_check.specs.Streams.{StandsFor, dictionary_of};
+ghost use Rattle.dia_check.specs.Streams.{IsSpent, StandsFor, dictionary_of};
 
 use crate::basis::Basis;
 use crate::fault::{Refusal, Selected};
@@ -72,6 +72,7 @@ impl<'a, B: Book> Stream<'a, B> {
         ensures paused { (d : Dictionary) (u : AnyPolicy) (most : AnyLevels) (bytes : List ℕ)
             → StandsFor B.meaning self.entry d u most bytes → HasPaused result d u most bytes }
         ensures fits { ∥ IsPausedFor (dictionary_of B.meaning self.entry) result ∥₁ }
+        ensures spent { WasSpent result ↔ IsSpent self.entry }
     {
         Paused {
             alloc: self.alloc,
@@ -92,6 +93,7 @@ impl Paused {
         ensures stands { (d : Dictionary) (u : AnyPolicy) (most : AnyLevels) (bytes : List ℕ)
             → HasPaused self d u most bytes → B.meaning book.now ≡ d
             → StandsFor B.meaning result d u most bytes }
+        ensures spent { IsSpent result ↔ WasSpent self }
     {
         Stream {
             alloc: self.alloc,

@@ -14,3 +14,9 @@ returns-clause-kept g c d u most bytes paused same = c.pause.ensures.paused d u 
 
 pub returns-clause-fits : goal.returns-clause-fits
 returns-clause-fits g c = ∥∥₁_map c.pause.ensures.fits (λ x. subst (λ d. IsPausedFor d c.pause.result) c.resume-stream.ensures.dictionary x)
+
+pub returns-clause-spent : goal.returns-clause-spent
+returns-clause-spent g c = (
+  λ was. c.resume-stream.ensures.spent.0 (c.pause.ensures.spent.0 was),
+  λ was. c.pause.ensures.spent.1 (c.resume-stream.ensures.spent.1 was),
+)

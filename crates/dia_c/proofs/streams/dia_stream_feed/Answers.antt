@@ -1,4 +1,4 @@
-use Rattle.dia_c.proofs.FedStreams.{err_is, has_fed, is_spent, opens_in}
+use Rattle.dia_c.proofs.FedStreams.{err_is, has_fed, opens_in, stands_for_none}
 use Rattle.dia_c.proofs.streams.dia_stream_feed.Goals as goal
 
 pub returns-in-Ok-clause-done : goal.returns-in-Ok-clause-done
@@ -11,6 +11,6 @@ returns-in-NoMemory-clause-no_memory c is =
     opens_in _ _ _ c.in-Some.ensures.some c.feeding_in.ensures c.args.piece.now
     (c.fed-feeding.ensures.no_memory (err_is _ _ _ c.in-Err.is c.in-NoMemory.is))
 
-pub returns-in-Spent-clause-spent : goal.returns-in-Spent-clause-spent
-returns-in-Spent-clause-spent c is =
-    is_spent _ _ _ c.in-Some.ensures.some c.feeding_in.ensures _ (err_is _ _ _ c.in-Err.is c.in-Spent.is) c.fed-feeding.ensures.spent
+pub returns-in-Spent-clause-nothing : goal.returns-in-Spent-clause-nothing
+returns-in-Spent-clause-nothing c is =
+    stands_for_none _ _ _ c.in-Some.ensures.some c.feeding_in.ensures _ (err_is _ _ _ c.in-Err.is c.in-Spent.is) c.fed-feeding.ensures.never

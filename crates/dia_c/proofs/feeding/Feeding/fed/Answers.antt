@@ -13,5 +13,5 @@ returns-clause-taken c d u most bytes feeds =
 pub returns-clause-no_memory : goal.returns-clause-no_memory
 returns-clause-no_memory c is d u most bytes feeds = c.fed_to-paused.ensures.no_memory is d u most bytes feeds.1 (ap ghosts.meaning c.deref.ensures ∙ feeds.0)
 
-pub returns-clause-spent : goal.returns-clause-spent
-returns-clause-spent c d u most bytes feeds = c.fed_to-paused.ensures.spent d u most bytes feeds.1 (ap ghosts.meaning c.deref.ensures ∙ feeds.0)
+pub returns-clause-never : goal.returns-clause-never
+returns-clause-never c d u most bytes feeds = c.fed_to-paused.ensures.never d u most bytes feeds.1 (ap ghosts.meaning c.deref.ensures ∙ feeds.0)

@@ -1,7 +1,7 @@
 use Rattle.std.proofs.Common.{subst}
 use Rattle.std.proofs.Math.Logic.{∥∥₁_map}
 use Rattle.dia_check.specs.Pauses.{IsResumeOf}
-use Rattle.dia_check.proofs.Pauses.{stage_goes, taken_goes}
+use Rattle.dia_check.proofs.Pauses.{resume_spent, stage_goes, taken_goes}
 use Rattle.dia_check.proofs.stream.paused.Paused.resume.Goals as goal
 
 pub invariant_of-result : goal.invariant_of-result
@@ -17,3 +17,6 @@ returns-clause-stands g c d u most bytes paused same = record {
   taken = taken_goes d u most c.args.self.taken c.args.self.wanted bytes paused.before c.args.self.stage c.resume_stage.result paused.is_pause
       (subst (λ e. IsResumeOf e c.args.self.stage c.resume_stage.result) same c.resume_stage.ensures) paused.taken;
 }
+
+pub returns-clause-spent : goal.returns-clause-spent
+returns-clause-spent g c = resume_spent _ c.args.self.stage c.resume_stage.result c.resume_stage.ensures
