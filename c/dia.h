@@ -319,7 +319,8 @@ enum {
  * DIA_REFUSED: *problem says why, and is written on no other status. Of `accepted` it is DIA_NOT_TEXT; DIA_SYNTAX, of the line;
  * or DIA_LIMIT, of the line, or of line 0 where the text is too long. Else it is DIA_NO_COMMANDS or DIA_NO_COMMAND. Its token
  * is 0.
- * DIA_BAD_ARGUMENT: `sends`, `unknown` or `options` has none of its values. */
+ * DIA_BAD_ARGUMENT: `sends`, `unknown` or `options` has none of its values.
+ * It stands in libdia.a, and in a shared object of its own, libdia-breaking. */
 dia_status dia_breaking(dia_dict *a, dia_dict *b, uint32_t sends, uint32_t unknown, uint32_t options, const uint8_t *commands,
                         size_t commands_len, const uint8_t *accepted, size_t accepted_len, dia_text *text, uint32_t *safe,
                         dia_problem *problem);

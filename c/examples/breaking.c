@@ -1,6 +1,6 @@
 /* breaking A B [ACCEPTED]: lists what breaks where a side with the dictionary of file A sends and one with that of file B reads,
  * but for the lines of file ACCEPTED. The status is 0 where nothing does, 1 where something does, and 2 where a file is refused.
- *     cc breaking.c $(pkg-config --cflags --libs dia) */
+ *     cc breaking.c $(pkg-config --cflags --libs dia-breaking) */
 #include <dia.h>
 #include <stdio.h>
 
