@@ -19,7 +19,7 @@ use Rattle.dia_dict.specs.declared.fault.DictKind.TheVariants as kind
 use Rattle.dia_dict.specs.declared.fault.DictKind.{DictKind}
 use Rattle.dia_dict.specs.declared.findings.Part.{Part}
 use Rattle.dia_dict.specs.declared.findings.PartKind.TheVariants as part
-use Rattle.dia_dict.specs.Resolution.{Wrong, wrong, PlainFinding, finding, all_findings, all_wrong, wrong_limits, wrong_names, wrong_entries, wrong_rules, too_many}
+use Rattle.dia_dict.specs.Resolution.{Wrong, wrong, PlainFinding, finding, all_findings, all_wrong, first_wrong, wrong_limits, wrong_names, wrong_entries, wrong_rules, too_many}
 use Rattle.dia_dict.specs.Resolution.{part_at, rule_at, placed_avps, placed_groups, placed_commands, placed_defs, placed_rules, placed_names, first_decls, first_defs, firsts, alone, again, repeats}
 use Rattle.dia_dict.specs.Resolution.{duplicate_avps, duplicate_defs, same_decl_name, same_def_name, no_groups, header_mismatches, mismatch_of, duplicate_keys, duplicate_commands, bad_rules, bad_in}
 use Rattle.dia_dict.specs.Resolution.{repeated_slots, repeated_in, same_slot, slot_name, lacks_group, is_mismatched, is_long, is_bad, is_bare, bare_groups, key_of_decl, group_key}
@@ -27,7 +27,7 @@ use Rattle.dia_dict.proofs.Duplicates.{same_named, same_command}
 use Rattle.dia_dict.proofs.Firsts.{firsts-all}
 use Rattle.dia_dict.proofs.Placing.{placed-members}
 use Rattle.dia_dict.proofs.Repeats.{both, repeats-map}
-use Rattle.dia_book.proofs.Members.{append-none, map-none, filter-none_at, flat_map-none_at, list_all_at, at_map, at_append}
+use Rattle.dia_book.proofs.Members.{append-none, first-none, map-none, filter-none_at, flat_map-none_at, list_all_at, at_map, at_append}
 
 -- groups and then commands
 abbrev pub all_defs : PlainSource → List PlainDef
@@ -235,3 +235,6 @@ module _ (s : PlainSource) where
 
 pub clean : (s : PlainSource) → all_wrong s ≡ [] → IsClean s
 clean s none = no_findings s (map-none (λ (f : PlainFinding). f.wrong) (all_findings s) none)
+
+pub none_found : (s : PlainSource) → first_wrong s ≡ None → all_findings s ≡ []
+none_found s none = map-none (λ (f : PlainFinding). f.wrong) (all_findings s) (first-none (all_wrong s) none)

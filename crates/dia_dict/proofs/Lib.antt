@@ -7,6 +7,7 @@ pub mod KeyTables
 pub mod BookRows
 pub mod Repeats
 pub mod Firsts
+pub mod Made
 pub mod Placing
 pub mod RepeatsTold
 pub mod FirstNamed

@@ -3,7 +3,8 @@ ghost use Rattle.std.specs.Prelude.{◌≡◌, None, IfOk, IfErr, map};
 ghost use Rattle.dia_ccf.specs.Plain.{plain_source};
 ghost use Rattle.dia_dict.specs.Resolution.{resolved, all_findings, all_wrong, first_wrong};
 ghost use Rattle.dia_dict.specs.Resolution.{IsToldOf};
-ghost use Rattle.dia_dict.specs.SourceChecks.{IsRefused, plain_finding};
+ghost use Rattle.std.specs.Option.{option_map};
+ghost use Rattle.dia_dict.specs.SourceChecks.{IsRefused, told, plain_finding};
 
 mod building;
 mod checks;
@@ -15,7 +16,7 @@ mod rules;
 mod soundness;
 
 use crate::fault::DictFault;
-use crate::findings::Finding;
+use crate::findings::{Finding, Told};
 use crate::plain_book::PlainBook;
 pub use checks::{MAX_PARTS, MAX_RULES};
 use dia_book::Book;
@@ -72,9 +73,28 @@ fn checked(alloc: Global, source: &Source) -> Result<PlainBook, Refusal<'_>>
     ensures err { IfErr result (IsRefused (all_wrong (plain_source source.now))) }
 {
     let names = Names::new(alloc, source)?;
-    let findings = finding::found(alloc, &names)?;
+    named(alloc, &names)
+}
+
+/// The dictionary of a source with these names, where nothing is wrong.
+fn named<'a>(alloc: Global, names: &Names<'a>) -> Result<PlainBook, Refusal<'a>>
+    ensures ok { IfOk result (λ book. (first_wrong (plain_source names.now.source.now) ≡ None)
+        × (⟦<PlainBook as Book>⟧.meaning book ≡ resolved (plain_source names.now.source.now))) }
+    ensures err { IfErr result (IsRefused (all_wrong (plain_source names.now.source.now))) }
+{
+    match first_found(alloc, names)? {
+        Some(told) => Err(Refusal::Stands(told)),
+        None => Ok(building::book(alloc, names)?),
+    }
+}
+
+/// The first of what is wrong.
+fn first_found<'a>(alloc: Global, names: &Names<'a>) -> Result<Option<Told<'a>>, AllocError>
+    ensures { IfOk result (λ first. option_map told first ≡ first_wrong (plain_source names.now.source.now)) }
+{
+    let findings = finding::found(alloc, names)?;
     match findings.first() {
-        Some(first) => Err(Refusal::Stands(first.told)),
-        None => Ok(building::book(alloc, &names)?),
+        Some(first) => Ok(Some(first.told)),
+        None => Ok(None),
     }
 }
