@@ -5,7 +5,7 @@ use Rattle.std.specs.List.{enumerate_from, list_any, flat_map}
 use Rattle.std.specs.Option.{option_map}
 use Rattle.std.proofs.lemmas.Grind.{flat_map-append}
 use Rattle.std.proofs.lemmas.Simd.{map-map}
-use Rattle.std.proofs.lemmas.List.{append_assoc, length-map, map-append, take_more, length-take-le}
+use Rattle.std.proofs.lemmas.List.{append_assoc, length-map, map-append, map_more, flat_map_more, take_more, length-take-le}
 use Rattle.std.proofs.lemmas.List.Elements.{filter-append}
 use Rattle.dia_book.proofs.Lists.{list_any-map}
 use Rattle.dia_book.proofs.LookUpsByName.{find-map}
@@ -107,6 +107,14 @@ chosen-more {X} {Y} test tell view xs i x before told next within read so more =
     by : (b : Bool) → map tell (cond b (view x ∷ []) []) ≡ (if b then tell (view x) ∷ [] else [])
     by true = refl
     by false = refl
+
+-- what is told of each part, in a loop over the parts
+pub told-more : {X Y : Type 0} (f : Y → List PlainFinding) (view : X → Y) (xs : List X) (i : ℕ) (x : X) (before told next : List PlainFinding) → i < length xs → x ≡ get_or xs i x
+    → told ≡ before ++ flat_map f (map view (take i xs)) → next ≡ told ++ f (view x) → next ≡ before ++ flat_map f (map view (take (i + 1) xs))
+told-more f view xs i x before told next within read so more =
+    let seen = map view (take i xs) in
+    let longer = map_more view xs i x within ∙ ap (λ y. seen ++ view y ∷ []) (sym read) in
+    more ∙ ap (λ (fs : List PlainFinding). fs ++ f (view x)) so ∙ flat_map_more f before seen (view x) ∙ ap (λ ys. before ++ flat_map f ys) (sym longer)
 
 -- ---- groups and then commands
 

@@ -55,7 +55,7 @@ impl fmt::Display for DictKind {
 }
 
 /// Why a source is no dictionary. It prints as `required-min: DEFINITION AVP`, with the names that there are.
-#[derive(Debug, Drop, PartialEq, Eq, Error)]
+#[derive(Debug, Drop, Error)]
 pub enum DictFault {
     /// The first fault, by kind and then in the order declarations, groups, commands, each in the order of the text.
     /// `name` names a definition or an AVP. `slot` names the AVP of a rule, with `AVP` for the wildcard. Either is empty

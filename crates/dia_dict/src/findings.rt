@@ -7,7 +7,7 @@ use crate::fault::{DictFault, DictKind};
 use std::alloc::{AllocError, Global};
 
 /// What a part of a source is.
-#[derive(Clone, Copy, PartialEq, Eq)]
+#[derive(Clone, Copy)]
 pub enum PartKind {
     Declaration,
     Group,
@@ -15,7 +15,7 @@ pub enum PartKind {
 }
 
 /// A part of a source by its index among those of its kind, or a rule of it by the rule's index.
-#[derive(Clone, Copy, PartialEq, Eq)]
+#[derive(Clone, Copy)]
 pub struct Part {
     pub kind: PartKind,
     pub index: usize,
@@ -49,7 +49,7 @@ impl Part {
 }
 
 /// What is told of a fault: the names are those of `DictFault`, and parts of the source.
-#[derive(Debug, Clone, Copy, PartialEq, Eq)]
+#[derive(Debug, Clone, Copy)]
 pub struct Told<'a> {
     pub kind: DictKind,
     pub name: &'a str,
@@ -57,7 +57,7 @@ pub struct Told<'a> {
 }
 
 /// A fault of a source.
-#[derive(Clone, Copy, PartialEq, Eq)]
+#[derive(Clone, Copy)]
 pub struct Finding<'a> {
     pub told: Told<'a>,
     /// What has the fault. A source with too many parts has it as a whole.
