@@ -1,9 +1,11 @@
-use Rattle.std.proofs.Common.{ap, sym, ◌∙◌, subst}
+use Rattle.std.proofs.Common.{List, map, ap, sym, ◌∙◌, subst}
+use Rattle.std.proofs.lemmas.List.{take_all}
 use Rattle.std.specs.Prelude.{not}
 use Rattle.dia_ccf.specs.Names.{is_group}
 use Rattle.dia_book.specs.declared.DefHead.{DefHead}
 use Rattle.dia_book.specs.Dictionary.{IsCommandHead}
 use Rattle.dia_dict.specs.declared.resolving.parts.PlacedDef.{PlacedDef}
+use Rattle.dia_dict.specs.SourceChecks.{placed_def, told_selector}
 use Rattle.dia_dict.proofs.BaseRows.{row_passes}
 use Rattle.dia_dict.proofs.SoundSources.{head_of-command}
 use Rattle.dia_dict.proofs.resolving.finding.entries.selecting.Goals as goal
@@ -14,3 +16,7 @@ of-selector-requires c =
     let is_command = row_passes (λ (d : PlacedDef). not (is_group d.def.now.head)) c.args.commands.now c.loop-command.command-index command c.requires c.loop-command-test.true in
     subst (λ (h : DefHead). IsCommandHead h) (sym c.head.ensures)
     (head_of-command command.def.now.head (ap (λ (d : PlacedDef). not (is_group d.def.now.head)) c.command-item.is ∙ is_command))
+
+pub returns : goal.returns
+returns c =
+    c.loop-command.invariant ∙ ap (λ (ds : List PlacedDef). map told_selector (map placed_def ds)) (take_all c.loop-command.command-index c.args.commands.now c.loop-command-test.false)
