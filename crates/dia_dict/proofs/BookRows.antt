@@ -1,6 +1,6 @@
 -- What the rows of a plain book mean, where its groups are numbered in the order of the rows.
 use Rattle.std.proofs.Common.{◌≡◌, ℕ, zero, suc, ◌+◌, ◌<◌, ◌≤◌, List, [], ◌∷◌, ◌++◌, length, map, take, Option, Some, None, refl, sym, ap, ◌∙◌, subst, get_or, arith}
-use Rattle.std.specs.Prelude.{slice_get, option_and_then, position}
+use Rattle.std.specs.Prelude.{slice_get, option_and_then, position, IfSome}
 use Rattle.std.specs.Option.{option_map, option_or}
 use Rattle.std.specs.List.{filter_map, range_with_len, list_any}
 use Rattle.std.proofs.lemmas.List.{take-map, length-map, length-append, map-append}
@@ -20,6 +20,13 @@ first_member : {X : Type 0} (xs : List X) (k : ℕ) → k < length xs → (x : X
 first_member [] k h = absurd (omega arith)
 first_member (x ∷ xs) zero h = (x, refl)
 first_member (x ∷ xs) (suc k) h = first_member xs k (omega arith)
+
+-- what holds of a row's entry holds of the entry at its place
+pub at_row : (P : DictEntry → Type 0) (gs : List PlainDefinition) (rows : List Row) (i entry : ℕ) (row : Row) → i ≡ entry → entry < length (map (entry_of_row gs) rows) → row ≡ get_or rows i row
+    → P (entry_of_row gs row) → IfSome (slice_get (map (entry_of_row gs) rows) entry) P
+at_row P gs rows i entry row same within read holds =
+    let there = slice_get_read rows (length rows) entry row refl (omega (arith, within, length-map rows (entry_of_row gs))) (read ∙ ap (λ n. get_or rows n row) same) in
+    subst (λ (o : Option DictEntry). IfSome o P) (sym (slice_get-map (entry_of_row gs) rows entry ∙ ap (option_map (entry_of_row gs)) there)) holds
 
 module _ (rows : List Row) (gs cs : List PlainDefinition) (numbered : numbers rows ≡ range_with_len 0 (length gs)) where
   pub groups-dictionary_of : groups_of (dictionary_of rows gs cs) ≡ gs
