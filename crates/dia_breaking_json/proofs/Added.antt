@@ -1,5 +1,5 @@
 -- Members that are added one by one.
-use Rattle.std.proofs.Common.{◌≡◌, ◌∙◌, ℕ, true, List, [], ◌∷◌, ◌++◌, Result, Ok, Err, append_assoc, ap, refl, sym, codes}
+use Rattle.std.proofs.Common.{◌≡◌, ◌∙◌, ℕ, true, List, [], ◌∷◌, ◌++◌, Bool, cond, Result, Ok, Err, append_assoc, ap, subst, refl, sym, codes}
 use Rattle.std.specs.Prelude.{OnOk}
 use Rattle.std.specs.List.{flat_map}
 use Rattle.std.proofs.lemmas.Grind.{flat_map-append}
@@ -28,6 +28,17 @@ both_added xs ys old mid new first second =
 pub last_added : {U E : Type 0} (r : Result U E) (xs ys : List Field) (old mid new : List ℕ) → mid ≡ old ++ fields_text xs → OnOk r (new ≡ mid ++ fields_text ys) → OnOk r (new ≡ old ++ fields_text (xs ++ ys))
 last_added (Ok u) xs ys old mid new first second = both_added xs ys old mid new first second
 last_added (Err e) xs ys old mid new first second = tt
+
+-- and adds a member of which the text of the value is known
+pub field_added : {U E : Type 0} (r : Result U E) (xs : List Field) (name : List ℕ) (told : Data) (old mid new value : List ℕ) → mid ≡ old ++ fields_text xs → value ≡ compact_text told
+    → OnOk r ((d : Data) → value ≡ compact_text d → new ≡ mid ++ fields_text ((name, d) ∷ [])) → OnOk r (new ≡ old ++ fields_text (xs ++ ((name, told) ∷ [])))
+field_added (Ok u) xs name told old mid new value first is more = both_added xs ((name, told) ∷ []) old mid new first (more told is)
+field_added (Err e) xs name told old mid new value first is more = tt
+
+-- either members or others
+pub chosen_added : {U E : Type 0} (r : Result U E) (by chosen : Bool) (xs ys zs : List Field) (old new : List ℕ) → by ≡ chosen → zs ≡ cond chosen xs ys → OnOk r (new ≡ old ++ fields_text zs)
+    → OnOk r (new ≡ old ++ fields_text (cond by xs ys))
+chosen_added r by chosen xs ys zs old new is are added = subst (λ (fields : List Field). OnOk r (new ≡ old ++ fields_text fields)) (are ∙ sym (ap (λ (b : Bool). cond b xs ys) is)) added
 
 -- where nothing was there before
 pub from_nothing : (old new : List ℕ) (xs : List Field) → old ≡ [] → new ≡ old ++ fields_text xs → new ≡ fields_text xs

@@ -57,11 +57,15 @@ known_fields key = option_map_or key_fields key []
 abbrev pub avp_fields : List ℕ → Option Key → Option Key → List Field
 avp_fields name first second = text_field (codes "name") name ++ known_fields (option_or first second) ++ second_field first second
 
--- no AVP is `-`; with the reason `application` the subject is the application that is refused
+-- no AVP is `-`
+abbrev pub avp_field : (first second : List ℕ → Option Key) → (subject : List ℕ) → List Field
+avp_field first second subject = if bytes_eq subject (codes "-") then [] else (codes "avp", object_of (avp_fields subject (first subject) (second subject))) ∷ []
+
+-- with the reason `application` the subject is the application that is refused
 abbrev pub subject_field : (first second : List ℕ → Option Key) → (reason subject : List ℕ) → List Field
 subject_field first second reason subject =
     if bytes_eq reason (codes "application") then number_field (codes "refused_application") subject
-    else (if bytes_eq subject (codes "-") then [] else (codes "avp", object_of (avp_fields subject (first subject) (second subject))) ∷ [])
+    else avp_field first second subject
 
 abbrev pub reason_field : List ℕ → List Field
 reason_field reason = if nat_lt 0 (length reason) then text_field (codes "reason") reason else []

@@ -36,7 +36,7 @@ fn push_parts(alloc: Global, out: &mut String, reason: &str, detail: &str) -> Re
 fn is_refused(reason: &str) -> bool
     ensures { result ≡ is_refused reason.now }
 {
-    reason == "command" || reason == "application"
+    matches!(reason, "command" | "application")
 }
 
 /// Adds a part of a detail: what is sent, accepted or read.
@@ -123,7 +123,7 @@ fn push_counts(
 fn is_counted(reason: &str) -> bool
     ensures { result ≡ is_counted reason.now }
 {
-    reason == "missing" || reason == "too-many" || reason == "not-allowed"
+    matches!(reason, "missing" | "too-many" | "not-allowed")
 }
 
 /// Adds the greatest count, and `null` where there is none.

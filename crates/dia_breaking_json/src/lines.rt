@@ -5,7 +5,7 @@ ghost use Rattle.dia_breaking_json.specs.Parts.{after, before, detail_of};
 ghost use Rattle.dia_breaking_json.specs.Fields.{Adds};
 ghost use Rattle.dia_breaking_json.specs.Keys.{key_in};
 ghost use Rattle.dia_breaking_json.specs.Lines.{is_in_header, line_fields, line_json, matter_fields};
-ghost use Rattle.dia_breaking_json.specs.Lines.{message_field, undecided_field, where_fields};
+ghost use Rattle.dia_breaking_json.specs.Lines.{message_field, reason_field, subject_field, undecided_field, where_fields};
 
 use crate::details::push_detail;
 use crate::fields::{object_text, push_bool, push_text};
@@ -99,16 +99,29 @@ fn push_matter(
     ensures { OnOk result (Adds out.old out.new
         (matter_fields (key_in names.now.first) (key_in names.now.second) reason.now subject.now detail.now)) }
 {
-    push_reason(alloc, out, reason)?;
-    push_subject(alloc, out, names, reason, subject)?;
+    push_about(alloc, out, names, reason, subject)?;
     push_detail(alloc, out, reason, detail)?;
     push_bool(alloc, out, "in_header", is_in_header(reason))
+}
+
+fn push_about(
+    alloc: Global,
+    out: &mut String,
+    names: &Names<'_>,
+    reason: &str,
+    subject: &str,
+) -> Result<(), AllocError>
+    ensures { OnOk result (Adds out.old out.new (reason_field reason.now
+        ++ subject_field (key_in names.now.first) (key_in names.now.second) reason.now subject.now)) }
+{
+    push_reason(alloc, out, reason)?;
+    push_subject(alloc, out, names, reason, subject)
 }
 
 fn is_in_header(reason: &str) -> bool
     ensures { result ≡ is_in_header reason.now }
 {
-    reason == "command" || reason == "application" || reason == "proxiable"
+    matches!(reason, "command" | "application" | "proxiable")
 }
 
 fn push_message(alloc: Global, out: &mut String, message: &str) -> Result<(), AllocError>

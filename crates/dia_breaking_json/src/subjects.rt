@@ -4,7 +4,7 @@ ghost use Rattle.std.specs.Prelude.{◌≡◌, ◌∷◌, [], IfOk, OnOk, codes,
 ghost use Rattle.serde_json.specs.Written.{compact_text};
 ghost use Rattle.dia_breaking_json.specs.Fields.{Adds, object_of};
 ghost use Rattle.dia_breaking_json.specs.Keys.{key_in};
-ghost use Rattle.dia_breaking_json.specs.Lines.{avp_fields, key_fields, known_fields, reason_field, second_field, subject_field};
+ghost use Rattle.dia_breaking_json.specs.Lines.{avp_field, avp_fields, key_fields, known_fields, reason_field, second_field, subject_field};
 
 use crate::fields::{object_text, push_field, push_number, push_text, push_u32};
 use crate::keys::Names;
@@ -34,30 +34,41 @@ pub(crate) fn push_subject(
         (subject_field (key_in names.now.first) (key_in names.now.second) reason.now subject.now)) }
 {
     if reason == "application" {
-        return push_number(alloc, out, "refused_application", subject);
+        push_number(alloc, out, "refused_application", subject)
+    } else {
+        push_if_avp(alloc, out, names, subject)
     }
+}
+
+fn push_if_avp(
+    alloc: Global,
+    out: &mut String,
+    names: &Names<'_>,
+    subject: &str,
+) -> Result<(), AllocError>
+    ensures { OnOk result (Adds out.old out.new
+        (avp_field (key_in names.now.first) (key_in names.now.second) subject.now)) }
+{
     if subject == "-" {
-        return Ok(());
+        Ok(())
+    } else {
+        push_avp(alloc, out, names, subject)
     }
-    push_avp(
-        alloc,
-        out,
-        subject,
-        names.first.get(subject),
-        names.second.get(subject),
-    )
 }
 
 fn push_avp(
     alloc: Global,
     out: &mut String,
+    names: &Names<'_>,
     name: &str,
-    first: Option<Key>,
-    second: Option<Key>,
 ) -> Result<(), AllocError>
-    ensures { OnOk result (Adds out.old out.new ((codes "avp", object_of (avp_fields name.now first second)) ∷ [])) }
+    ensures { OnOk result (Adds out.old out.new ((
+      codes "avp",
+      object_of
+          (avp_fields name.now (key_in names.now.first name.now) (key_in names.now.second name.now)),
+    ) ∷ [])) }
 {
-    let avp = avp_text(alloc, name, first, second)?;
+    let avp = avp_text(alloc, name, names.first.get(name), names.second.get(name))?;
     push_field(alloc, out, "avp", avp.as_str())
 }
 
@@ -71,10 +82,22 @@ fn avp_text(
     ensures { IfOk result (λ text. string_bytes text ≡ compact_text (object_of (avp_fields name.now first second))) }
 {
     let mut fields = String::new(alloc);
-    push_text(alloc, &mut fields, "name", name)?;
-    push_known(alloc, &mut fields, first.or(second))?;
-    push_second(alloc, &mut fields, first, second)?;
+    push_avp_fields(alloc, &mut fields, name, first, second)?;
     object_text(alloc, fields.as_str())
+}
+
+fn push_avp_fields(
+    alloc: Global,
+    out: &mut String,
+    name: &str,
+    first: Option<Key>,
+    second: Option<Key>,
+) -> Result<(), AllocError>
+    ensures { OnOk result (Adds out.old out.new (avp_fields name.now first second)) }
+{
+    push_text(alloc, out, "name", name)?;
+    push_known(alloc, out, first.or(second))?;
+    push_second(alloc, out, first, second)
 }
 
 /// Adds a code and a vendor, if they are known.
