@@ -23,6 +23,7 @@ pub mod OrderLines
 pub mod AloneBounds
 pub mod Places
 pub mod LeastNodes
+pub mod HeldOffers
 pub mod OfferedKeys
 pub mod PartsOfLevels
 pub mod CutsOfSteps

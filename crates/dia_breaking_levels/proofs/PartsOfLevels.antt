@@ -1,9 +1,12 @@
 -- Parts of a level that are added one behind the other.
-use Rattle.std.proofs.Common.{◌≡◌, ℕ, ◌+◌, Bool, List, [], ◌++◌, length, Option, Some, None, sym, ap, ◌∙◌, add-one, append_assoc}
+use Rattle.std.proofs.Common.{◌≡◌, ℕ, ◌+◌, ◌<◌, Bool, List, [], ◌∷◌, ◌++◌, filter, get_or, length, take, Option, Some, None, sym, ap, ◌∙◌, add-one, append_assoc}
 use Rattle.std.specs.Prelude.{slice_get}
 use Rattle.std.specs.Option.{option_map_or}
 use Rattle.std.proofs.lemmas.List.{append-nil}
+use Rattle.std.proofs.lemmas.List.Elements.{filter-append}
+use Rattle.std.proofs.lemmas.Option.{slice_get-get_or}
 use Rattle.dia_book.specs.declared.DRule.{DRule}
+use Rattle.dia_rules.proofs.Members.{taken}
 use Rattle.dia_breaking_levels.specs.declared.line.Part.{Part}
 use Rattle.dia_breaking_levels.specs.Chosen.{PlainDemand, extra_at, kind_parts, parts_at, parts_below, parts_by}
 
@@ -30,3 +33,11 @@ parts_more rules demand fixed n old new is more =
 
 pub parts_all : (rules : List DRule) (demand : PlainDemand) (fixed : Bool) (n : ℕ) (all : List Part) → n ≡ length rules → all ≡ parts_below rules demand fixed n → all ≡ kind_parts rules demand fixed
 parts_all rules demand fixed n all end is = is ∙ ap (parts_below rules demand fixed) end
+
+-- those of the parts up to one more
+pub parts_put : (p : Part → Bool) (start old new parts : List Part) (i : ℕ) (d : Part) → i < length parts → old ≡ start ++ filter p (take i parts) → new ≡ old ++ filter p (get_or parts i d ∷ [])
+    → new ≡ start ++ filter p (take (i + 1) parts)
+parts_put p start old new parts i d within before is =
+    is ∙ ap (λ (r : List Part). r ++ filter p (get_or parts i d ∷ [])) before ∙ append_assoc start (filter p (take i parts)) (filter p (get_or parts i d ∷ []))
+    ∙ ap (λ (r : List Part). start ++ r) (sym (filter-append p (take i parts) (get_or parts i d ∷ [])))
+    ∙ ap (λ (r : List Part). start ++ filter p r) (sym (taken parts i (get_or parts i d) (slice_get-get_or parts i d within)))

@@ -1,9 +1,9 @@
 //! The lines of the levels of two definitions.
-ghost use Rattle.std.specs.Prelude.{◌≡◌, ◌<◌, IfOk, length};
+ghost use Rattle.std.specs.Prelude.{◌≡◌, ◌<◌, IfOk, find, length};
 ghost use Rattle.dia_book.specs.Dictionary.{AreRules, definitions};
 ghost use Rattle.dia_rules.specs.Rules.{rules_in};
-ghost use Rattle.dia_breaking_levels.specs.LevelTests.{price, needed_up, lines_of};
-ghost use Rattle.dia_breaking_levels.specs.Exact.{AreLevelLines};
+ghost use Rattle.dia_breaking_levels.specs.LevelTests.{is_outside, price, needed_up, lines_of};
+ghost use Rattle.dia_breaking_levels.specs.Exact.{AreLevelLines, HasOrderLines};
 ghost use Rattle.dia_breaking_levels.specs.Levels.{HasEachLine, FirstIsShortest};
 ghost use Rattle.dia_breaking_levels.specs.Steps.{greatest, IsLeastOver, IsLeastMost, IsLongUnbounded};
 
@@ -58,10 +58,30 @@ pub fn level_lines<A: Book, B: Book, C: Costs>(
         floor,
         most,
     };
-    let outer = first_outside(&level.a, &level.b, costs.others());
-    let lines = all_lines(alloc, &level)?;
-    let all = level.with_order_lines(alloc, lines, outer)?;
-    Ok(all)
+    lines_at(alloc, &level)
+}
+
+/// The lines of counts, and behind them those of the order.
+fn lines_at<A: Book, B: Book, C: Costs>(
+    alloc: Global,
+    level: &Level<'_, A, B, C>,
+) -> Result<Vec<Line>, AllocError>
+    requires first { AreRules (rules_in (A.meaning level.now.a.book.now) level.now.a.def) }
+    requires second { AreRules (rules_in (B.meaning level.now.b.book.now) level.now.b.def) }
+    ensures { IfOk result (λ all. HasOrderLines level.now.floor
+        (C.listed_length level.now.costs.now) (C.other_length level.now.costs.now)
+        (rules_in (A.meaning level.now.a.book.now) level.now.a.def)
+        (rules_in (B.meaning level.now.b.book.now) level.now.b.def)
+        (find (is_outside (rules_in (A.meaning level.now.a.book.now) level.now.a.def)
+        (rules_in (B.meaning level.now.b.book.now) level.now.b.def)) (C.other_keys level.now.costs.now))
+        (lines_of level.now.floor level.now.most
+        (C.listed_length level.now.costs.now) (C.other_length level.now.costs.now)
+        (rules_in (A.meaning level.now.a.book.now) level.now.a.def)
+        (rules_in (B.meaning level.now.b.book.now) level.now.b.def)) all.items) }
+{
+    let outer = first_outside(&level.a, &level.b, level.costs.others());
+    let lines = all_lines(alloc, level)?;
+    level.with_order_lines(alloc, lines, outer)
 }
 
 /// The rules of the definitions of two dictionaries are sound.

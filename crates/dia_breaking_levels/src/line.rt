@@ -1,4 +1,7 @@
 //! The ways in which a level breaks the rules of a definition.
+ghost use Rattle.std.specs.Prelude.{◌≡◌};
+ghost use Rattle.dia_breaking_levels.specs.Words.{reason_word};
+
 use dia_book::Key;
 use std::fmt;
 
@@ -28,12 +31,18 @@ impl fmt::Display for Reason {
     ghost output = { λ reason. Some (reason_word reason) };
 
     fn fmt<W: fmt::Write>(&self, f: &mut fmt::Formatter<W>) -> fmt::Result {
-        match self {
-            Reason::Missing | Reason::MissingOthers => write!(f, "missing"),
-            Reason::TooMany | Reason::TooManyOthers => write!(f, "too-many"),
-            Reason::NotAllowed | Reason::NotAllowedOther => write!(f, "not-allowed"),
-            Reason::Order => write!(f, "order"),
-        }
+        f.write_str(word(*self))
+    }
+}
+
+fn word(reason: Reason) -> &'static str
+    ensures { result.now ≡ reason_word reason }
+{
+    match reason {
+        Reason::Missing | Reason::MissingOthers => "missing",
+        Reason::TooMany | Reason::TooManyOthers => "too-many",
+        Reason::NotAllowed | Reason::NotAllowedOther => "not-allowed",
+        Reason::Order => "order",
     }
 }
 

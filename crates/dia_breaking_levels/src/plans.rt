@@ -43,9 +43,25 @@ pub fn line_level<A: Book, B: Book, C: Costs>(
         book: b,
         def: b_def,
     };
-    let floor = floor_of(&a, &b, costs);
-    let demand = demand_of_line(alloc, &a, &b, costs, &floor, line)?;
-    level_parts(alloc, &a, &demand)
+    parts_for(alloc, &a, &b, costs, line)
+}
+
+/// The AVPs that the line demands, in their order.
+fn parts_for<A: Book, B: Book, C: Costs>(
+    alloc: Global,
+    a: &Rules<'_, A>,
+    b: &Rules<'_, B>,
+    costs: &C,
+    line: &Line,
+) -> Result<Vec<Part>, AllocError>
+    ensures { IfOk result (λ parts. IsLineLevel
+        (reads_between (rules_in (A.meaning a.now.book.now) a.now.def) (rules_in (B.meaning b.now.book.now) b.now.def)
+        (C.listed_length costs.now) (C.other_length costs.now) (C.other_keys costs.now))
+        line.now parts.items) }
+{
+    let floor = floor_of(a, b, costs);
+    let demand = demand_of_line(alloc, a, b, costs, &floor, line)?;
+    level_parts(alloc, a, &demand)
 }
 
 /// The key of a shortest AVP by the wildcard.

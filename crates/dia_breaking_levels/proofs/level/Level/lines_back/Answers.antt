@@ -1,5 +1,6 @@
 use Rattle.std.proofs.Common.{◌≡◌, ℕ, ◌+◌, ◌-◌, ◌<◌, List, None, length, get_or, drop, sym, ap, subst, ◌∙◌, arith, inl, inr}
 use Rattle.std.specs.Prelude.{slice_get, reverse, Some}
+use Rattle.std.proofs.lemmas.List.{drop_all}
 use Rattle.std.proofs.lemmas.Option.{slice_get-get_or}
 use Rattle.dia_book.specs.declared.DRule.{DRule}
 use Rattle.dia_book.specs.declared.RuleKind.TheVariants.{Fixed}
@@ -21,6 +22,35 @@ told_at-requires-clause-place g c =
     let within = c.loop-left.invariant.within in
     let at : slice_get b i ≡ Some (get_or rules i d) = ap (λ (rs : List DRule). slice_get rs i) (sym c.list-rules.ensures) ∙ slice_get-get_or rules i d (omega (arith, some, same, within)) in
     at_or_last b i (get_or rules i d) c.requires.second at
+
+pub loop-left-init : goal.loop-left-init
+loop-left-init g c =
+    let self = c.args.self.now in
+    let a = rules_in (g.A.Book.meaning self.a.book.now) self.a.def in
+    let b = rules_in (g.B.Book.meaning self.b.book.now) self.b.def in
+    let listed = g.C.Costs.listed_length self.costs.now in
+    let other = g.C.Costs.other_length self.costs.now in
+    let outer = c.args.outer in
+    let offers = c.in_ok-offers.offers in
+    let all = length c.list-rules.result.now in
+    let same : all ≡ length b = ap length c.list-rules.ensures in
+    record {
+      within = omega (arith, same);
+      offers = c.in_ok-offers.ensures.offers;
+      offered = subst (λ (n : ℕ). AreOfferedFrom listed other a b outer n offers) (sym same) c.in_ok-offers.ensures.offered;
+      true_from = subst (λ (n : ℕ). AreTrueFrom listed other a b outer n offers) (sym same) c.in_ok-offers.ensures.true_still;
+      lines = subst (λ (rs : List DRule). AreOrderLines self.floor listed other a b outer rs (reverse c.new-lines.result.items)) (sym (drop_all all b (omega (arith, same)))) (ap reverse c.new-lines.ensures.items);
+    }
+
+pub returns : goal.returns
+returns g c =
+    let self = c.args.self.now in
+    let a = rules_in (g.A.Book.meaning self.a.book.now) self.a.def in
+    let b = rules_in (g.B.Book.meaning self.b.book.now) self.b.def in
+    let listed = g.C.Costs.listed_length self.costs.now in
+    let other = g.C.Costs.other_length self.costs.now in
+    let none : c.loop-left.left ≡ 0 = omega (arith, c.loop-left-test.false) in
+    subst (λ (n : ℕ). AreOrderLines self.floor listed other a b c.args.outer (drop n b) (reverse c.loop-left.lines.items)) none c.loop-left.invariant.lines
 
 pub loop-left-preserved : goal.loop-left-preserved
 loop-left-preserved g c =
