@@ -1,13 +1,12 @@
 -- The bytes of a shortest AVP are those of one AVP, which has the length that is computed.
 use Rattle.std.proofs.Common.{◌≡◌, ℕ, zero, suc, ◌+◌, ◌-◌, ◌*◌, ◌%◌, ◌<◌, ◌≤◌, Bool, true, false, List, [], ◌∷◌, ◌++◌, drop, length, take, Option, Some, None, refl, sym, ap, subst, ◌∙◌, arith, append-nil, length-append, inl, inr}
-use Rattle.std.specs.Prelude.{◌⊎◌, ◌==◌, not, find, map, slice_get, option_and_then, is_some, nat_lt, if◌then◌else◌, vec_len}
+use Rattle.std.specs.Prelude.{◌⊎◌, ◌==◌, slice_get, option_and_then, is_some, nat_lt, if◌then◌else◌, vec_len}
 use Rattle.std.specs.List.{flat_map}
 use Rattle.std.specs.Option.{option_map, option_map_or, option_or}
 use Rattle.std.proofs.lemmas.Bool.{cases_lt, eqb-true, le-ltb, lt-ltb}
 use Rattle.std.proofs.Math.Seq.{drop-append_seam}
 use Rattle.std.proofs.lemmas.List.Concat.{flat_map-append}
-use Rattle.std.proofs.lemmas.List.Sorted.{Contains-permutation}
-use Rattle.std.proofs.lemmas.Option.{none-some, same_Some, slice_get_within}
+use Rattle.std.proofs.lemmas.Option.{slice_get_within}
 use Rattle.dia_wire.specs.declared.Key.{Key}
 use Rattle.dia_wire.specs.Wire.{Spells}
 use Rattle.dia_wire.specs.Written.{padding}
@@ -16,12 +15,11 @@ use Rattle.dia_breaking_data.specs.Shortest.{witness_bytes}
 use Rattle.dia_breaking_data.specs.TheData.{the_data}
 use Rattle.dia_book.specs.declared.DRule.{DRule}
 use Rattle.dia_book.specs.Dictionary.{Dictionary, DictEntry, PlainDefinition, definitions, entry_of}
-use Rattle.dia_check.specs.Valid.{is_listed}
 use Rattle.dia_policy.specs.declared.Sends.{Sends}
 use Rattle.dia_policy.specs.declared.Sends.TheVariants.{Any, Known, Listed}
 use Rattle.dia_rules.specs.Rules.{rules_in}
 use Rattle.dia_rules.proofs.GroupNumbers.{group_missing, group_there, number_of}
-use Rattle.dia_rules.proofs.Members.{IsIn, all_of, contains_in, in_at, in_contains}
+use Rattle.dia_rules.proofs.Members.{IsIn, contains_in, in_at}
 use Rattle.dia_breaking_levels.specs.declared.line.Part.{Part}
 use Rattle.dia_breaking_levels.specs.LevelTests.{too_long, base_length, capped, rule_floor}
 use Rattle.dia_breaking_levels.proofs.RuleSums.{sum_of}
@@ -31,12 +29,11 @@ use Rattle.dia_breaking_shortest.specs.declared.order.Ranked.{Ranked}
 use Rattle.dia_breaking_shortest.specs.Bytes.{avp_bytes, avp_within, entry_front, entry_parts, head_bytes, is_short, leaf_bytes, least_avp, needs_m, part_of, parts_bytes, repeated, rule_parts}
 use Rattle.dia_breaking_shortest.specs.Exact.{IsFillerLength}
 use Rattle.dia_breaking_shortest.specs.Floors.{padded, shortest_head}
-use Rattle.dia_breaking_shortest.specs.Least.{IsFirstUnknown, IsLeastOf}
+use Rattle.dia_breaking_shortest.specs.Least.{IsLeastOf}
 use Rattle.dia_breaking_shortest.specs.Kept.{kept_at}
 use Rattle.dia_breaking_shortest.specs.Laws.{LeastAvpsAreSpelled, LeastLevelsAreSpelled}
-use Rattle.dia_breaking_shortest.specs.Lengths.{IsLeafLength, IsOrder, entry_length, filler_of, is_unlisted, length_of, rank, unknown_length}
-use Rattle.dia_breaking_shortest.proofs.ExactLengths.{own_lengths}
-use Rattle.dia_breaking_shortest.proofs.FloorsOfLengths.{entry_at, found_is_least, in_map, of_known}
+use Rattle.dia_breaking_shortest.specs.Lengths.{IsLeafLength, entry_length, filler_of, length_of, unknown_length}
+use Rattle.dia_breaking_shortest.proofs.FloorsOfLengths.{entry_at, of_known}
 use Rattle.dia_breaking_shortest.proofs.KeptSizes.{kept_size}
 use Rattle.dia_breaking_shortest.proofs.LengthsBelow.{below, below_all, below_less}
 use Rattle.dia_breaking_shortest.proofs.LessLevels.{level_within}
