@@ -1,10 +1,11 @@
 -- What is kept of the members of a list.
-use Rattle.std.proofs.Common.{◌≡◌, ℕ, ◌+◌, ◌<◌, get_or, List, [], ◌∷◌, ◌++◌, length, map, take, Option, Some, Result, Ok, Err, sym, ap, subst, ◌∙◌}
+use Rattle.std.proofs.Common.{◌≡◌, ℕ, ◌+◌, ◌<◌, get_or, List, [], ◌∷◌, ◌++◌, length, map, take, Option, Some, Result, Ok, Err, sym, ap, subst, ◌∙◌, append_assoc}
 use Rattle.std.specs.Prelude.{All, Contains, IfOk, slice_get}
-use Rattle.std.specs.List.{filter_map}
+use Rattle.std.specs.List.{filter_map, flat_map}
 use Rattle.std.specs.Option.{option_map}
+use Rattle.std.proofs.lemmas.Grind.{flat_map-append}
 use Rattle.std.proofs.lemmas.Option.{same_Some, slice_get_within, slice_get-get_or, slice_get-map}
-use Rattle.std.proofs.lemmas.List.{map-append, take_more}
+use Rattle.std.proofs.lemmas.List.{append-nil, map-append, take_more}
 use Rattle.std.proofs.lemmas.List.Elements.{All-nil, All-push, filter_map-append}
 use Rattle.dia_book.proofs.Members.{at_Contains, at_map}
 use Rattle.dia_breaking_sites.proofs.Members.{in_at, contains_in}
@@ -22,6 +23,14 @@ filter_map_more f xs i x at = ap (filter_map f) (one_more xs i x at) ∙ filter_
 pub added : {X Y : Type 0} (f : X → Option Y) (xs : List X) (i : ℕ) (x : X) (old new : List Y) → new ≡ old ++ filter_map f (x ∷ []) → old ≡ filter_map f (take i xs) → slice_get xs i ≡ Some x
     → new ≡ filter_map f (take (i + 1) xs)
 added {X} {Y} f xs i x old new is before at = is ∙ ap (λ (ys : List Y). ys ++ filter_map f (x ∷ [])) before ∙ sym (filter_map_more f xs i x at)
+
+-- what is written of one member more
+pub written_more : {X Y : Type 0} (f : X → List Y) (start old new : List Y) (xs : List X) (i : ℕ) (d : X) → i < length xs → new ≡ old ++ f (get_or xs i d) → old ≡ start ++ flat_map f (take i xs)
+    → new ≡ start ++ flat_map f (take (i + 1) xs)
+written_more {X} {Y} f start old new xs i d within is before =
+    is ∙ ap (λ (ys : List Y). ys ++ f (get_or xs i d)) before ∙ append_assoc start (flat_map f (take i xs)) (f (get_or xs i d))
+    ∙ ap (λ (ys : List Y). start ++ (flat_map f (take i xs) ++ ys)) (sym (append-nil (f (get_or xs i d))))
+    ∙ ap (λ (ys : List Y). start ++ ys) (sym (flat_map-append f (take i xs) (get_or xs i d ∷ []))) ∙ ap (λ (zs : List X). start ++ flat_map f zs) (sym (take_more xs i d within))
 
 -- what follows from two facts of a value
 pub when_two : {X E : Type 0} (P R Q : X → Type 0) (r : Result X E) → ((x : X) → P x → R x → Q x) → IfOk r P → IfOk r R → IfOk r Q

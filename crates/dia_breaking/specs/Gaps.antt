@@ -1,5 +1,5 @@
 -- What is left of ranges that are in order and apart where others are taken out.
-use Rattle.std.specs.Prelude.{ℕ, suc, ◌-◌, nat_lt, nat_le, if◌then◌else◌, List, [], ◌∷◌, ◌++◌}
+use Rattle.std.specs.Prelude.{ℕ, suc, ◌-◌, nat_lt, nat_le, if◌then◌else◌, List, [], ◌∷◌, ◌++◌, Option, Some, None}
 use Rattle.std.specs.List.{flat_map}
 
 -- the numbers from `low` on that stand before `from`
@@ -13,6 +13,11 @@ gaps low high (r ∷ rest) =
     if nat_lt r.1 low then gaps low high rest
     else (if nat_lt high r.0 then (low, high) ∷ []
     else front low r.0 ++ (if nat_le high r.1 then [] else gaps (suc r.1) high rest))
+
+-- of what begins here, if anything is left
+abbrev pub gaps_from : Option ℕ → ℕ → List (ℕ × ℕ) → List (ℕ × ℕ)
+gaps_from None high rest = []
+gaps_from (Some low) high rest = gaps low high rest
 
 -- of each
 abbrev pub all_gaps : List (ℕ × ℕ) → List (ℕ × ℕ) → List (ℕ × ℕ)

@@ -1,9 +1,9 @@
 //! The numbers of lists as canonical ranges: in order, and none touch.
-ghost use Rattle.std.specs.Prelude.{◌≡◌, ◌≤◌, ◌++◌, ◌∷◌, [], IfOk, MatchOption, None, OnOk, Some};
+ghost use Rattle.std.specs.Prelude.{◌≡◌, ◌≤◌, ◌++◌, ◌∷◌, [], IfOk, IfSome, List, MatchOption, None, OnOk, Some, ℕ};
 ghost use Rattle.std.specs.Option.{option_map};
 ghost use Rattle.dia_data.specs.Plain.{plain_format};
 ghost use Rattle.dia_data.specs.Ranges.{AreApart, IsSetOf};
-ghost use Rattle.dia_breaking.specs.Gaps.{all_gaps, front, gaps};
+ghost use Rattle.dia_breaking.specs.Gaps.{all_gaps, front, gaps, gaps_from};
 ghost use Rattle.dia_breaking.specs.Runs.{canonical, lacking_of, ranges_in};
 
 use dia_book::Format;
@@ -89,19 +89,41 @@ fn push_gaps(
     ensures { OnOk result (found.new.items ≡ found.old.items ++ gaps low high others.now) }
 {
     let mut first = low;
-    for &(from, to) in others {
-        if first <= to {
-            if high < from {
-                return push(found, first, high);
-            }
-            push_front(found, first, from)?;
-            if high <= to {
-                return Ok(());
-            }
-            first = to + 1;
+    for other in others {
+        match push_before(found, first, high, *other)? {
+            Some(next) => first = next,
+            None => return Ok(()),
         }
     }
     push(found, first, high)
+}
+
+/// Adds what is left in front of one of the others. The answer is where the numbers behind it begin, if any are left.
+fn push_before(
+    found: &mut Vec<(u32, u32)>,
+    first: u32,
+    high: u32,
+    other: (u32, u32),
+) -> Result<Option<u32>, AllocError>
+    requires { first ≤ high }
+    ensures within { IfOk result (λ next. IfSome next (λ n. n ≤ high)) }
+    ensures left { IfOk result (λ next. (rest : List (ℕ × ℕ))
+        → found.new.items ++ gaps_from next high rest ≡ found.old.items ++ gaps first high (other ∷ rest)) }
+{
+    let (from, to) = other;
+    if to < first {
+        return Ok(Some(first));
+    }
+    if high < from {
+        push(found, first, high)?;
+        return Ok(None);
+    }
+    push_front(found, first, from)?;
+    if high <= to {
+        Ok(None)
+    } else {
+        Ok(Some(to + 1))
+    }
 }
 
 /// Adds the numbers from `low` on that stand before `from`.

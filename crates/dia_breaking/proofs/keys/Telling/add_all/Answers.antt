@@ -1,10 +1,23 @@
-use Rattle.std.proofs.Common.{sym, subst, take}
-use Rattle.std.proofs.lemmas.List.{take_more}
+use Rattle.std.proofs.Common.{List, sym, subst, take, arith}
+use Rattle.std.proofs.lemmas.List.{take_all, take_more}
+use Rattle.dia_wire.specs.declared.Key.{Key}
 use Rattle.dia_breaking.specs.Telling.{AreExactlyTold, AreTold}
 use Rattle.dia_breaking.specs.Sides.{sides}
 use Rattle.dia_breaking.proofs.Tellings.{one_more_told}
 use Rattle.dia_breaking.proofs.TellingPlaces.{one_more_exactly}
 use Rattle.dia_breaking.proofs.keys.Telling.add_all.Goals as goal
+
+pub loop-key-init : goal.loop-key-init
+loop-key-init g c = (c.requires.told, c.requires.exact)
+
+pub returns : goal.returns
+returns g c =
+    let s = sides (g.A.Book.meaning c.args.a.now) (g.B.Book.meaning c.args.b.now) c.args.sends c.args.unknown in
+    let all = take_all c.loop-key.key-index c.args.keys.now (omega (arith, c.loop-key-test.false)) in
+    record {
+      told = subst (λ (ks : List Key). AreTold s ks c.loop-key.self) all c.loop-key.invariant.0;
+      exact = subst (λ (ks : List Key). AreExactlyTold s ks c.loop-key.self) all c.loop-key.invariant.1;
+    }
 
 pub loop-key-preserved : goal.loop-key-preserved
 loop-key-preserved g c =
