@@ -20,11 +20,21 @@ pub fn push_unknown_commands(
     second: &NamedSource<'_>,
 ) -> Added {
     let known = Vocabulary::of(alloc, first)?;
-    if push_all_missing(out, &known, names)? == 0 {
+    push_unknown(out, names, &known, second)
+}
+
+fn push_unknown(
+    out: &mut String,
+    names: &[String],
+    known: &Vocabulary<'_>,
+    second: &NamedSource<'_>,
+) -> Added {
+    if push_all_missing(out, known, names)? == 0 {
         return Ok(());
     }
-    push_list(out, first.name, &first.source.commands)?;
-    push_found(out, names.get(..MOST).unwrap_or(names), &known, second)
+    let NamedSource { name, source } = known.dictionary;
+    push_list(out, name, &source.commands)?;
+    push_found(out, names.get(..MOST).unwrap_or(names), known, second)
 }
 
 /// Adds the first names that no command has. Answers how many these are.
@@ -57,18 +67,24 @@ fn push_list(out: &mut String, dictionary: &str, commands: &[Def]) -> Added {
         let what = "a command is <NAME> ::= < Diameter Header: CODE, REQ > and its rules";
         return write!(out, "hint: {dictionary} has no commands; {what}\n");
     }
+    push_names(out, commands.get(..MOST_LISTED).unwrap_or(commands))?;
+    match commands.len().saturating_sub(MOST_LISTED) {
+        0 => write!(out, "; `diacmd render {dictionary}` prints them\n"),
+        more => write!(
+            out,
+            " and {more} more; `diacmd render {dictionary}` prints them\n"
+        ),
+    }
+}
+
+fn push_names(out: &mut String, commands: &[Def]) -> Added {
     let mut between = "hint: its commands are ";
-    let listed = commands.get(..MOST_LISTED).unwrap_or(commands);
-    for command in listed {
-        out.push_str(between)?;
-        out.push_str(&command.name)?;
+    for command in commands {
+        let name = command.name.as_str();
+        write!(out, "{between}{name}")?;
         between = ", ";
     }
-    let more = commands.len().saturating_sub(MOST_LISTED);
-    if more > 0 {
-        write!(out, " and {more} more")?;
-    }
-    write!(out, "; `diacmd render {dictionary}` prints them\n")
+    Ok(())
 }
 
 /// Adds the first command of the second dictionary that is among the names, and is none of the first.

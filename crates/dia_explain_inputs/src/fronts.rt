@@ -18,23 +18,44 @@ pub fn push_front(
     in_lines: bool,
 ) -> Added {
     let input = NamedText { name, text: front };
-    let line = first_line(front);
     if count_digits(front) == 0 && (front.is_empty() || !in_lines) {
-        let hint = "docs/CAPTURES.md says what to look at where a capture gives none";
-        return push_whole(out, &input, "there is no message", hint);
+        return push_none(out, &input);
     }
-    if let Some(at) = bad_in_front(front, line) {
-        return push_bad(out, &input, "the hexadecimal text of messages", at);
+    let line = first_line(front);
+    match bad_in_front(front, line) {
+        Some(at) => push_bad(out, &input, "the hexadecimal text of messages", at),
+        None => push_digits(alloc, out, &input, line, in_lines),
     }
-    if let Some(hint) = dump_of(front) {
+}
+
+fn push_none(out: &mut String, input: &NamedText<'_>) -> Added {
+    let hint = "docs/CAPTURES.md says what to look at where a capture gives none";
+    push_whole(out, input, "there is no message", hint)
+}
+
+/// Adds what a text is whose first line is of digits.
+fn push_digits(
+    alloc: Global,
+    out: &mut String,
+    input: &NamedText<'_>,
+    line: &[u8],
+    in_lines: bool,
+) -> Added {
+    let NamedText { name, text } = *input;
+    if let Some(hint) = dump_of(text) {
         return write!(out, "{name}: {hint}\n");
     }
-    if !in_lines || line.len() == front.len() || !is_cut(alloc, line)? {
-        return Ok(());
+    if in_lines && line.len() != text.len() && is_cut(alloc, line)? {
+        push_cut_line(out, input)
+    } else {
+        Ok(())
     }
+}
+
+fn push_cut_line(out: &mut String, input: &NamedText<'_>) -> Added {
     push_whole(
         out,
-        &input,
+        input,
         "the first line ends in the middle of its message, and with --lines each message stands on one line",
         "without --lines a message may have several lines, as `xxd -p` writes it; --stream takes many such messages",
     )

@@ -197,7 +197,7 @@ pub fn hint_of(places: &[&str], sight: &Sight<'_>) -> Option<&'static str> {
 fn hint_in(row: &'static str, places: &[&str], sight: &Sight<'_>) -> Option<&'static str> {
     let (named, rest) = row.split_once(": ")?;
     let (signs, hint) = rest.split_once(" => ")?;
-    if is_named(places, named) && signs.split(" or ").any(|sign| is_seen(sign, sight)) {
+    if is_named(places, named) && is_any_seen(signs, sight) {
         Some(hint)
     } else {
         None
@@ -205,7 +205,21 @@ fn hint_in(row: &'static str, places: &[&str], sight: &Sight<'_>) -> Option<&'st
 }
 
 fn is_named(places: &[&str], named: &str) -> bool {
-    named.split(' ').any(|place| places.contains(&place))
+    for place in named.split(' ') {
+        if (&*places).contains(&place) {
+            return true;
+        }
+    }
+    false
+}
+
+fn is_any_seen(signs: &str, sight: &Sight<'_>) -> bool {
+    for sign in signs.split(" or ") {
+        if is_seen(sign, sight) {
+            return true;
+        }
+    }
+    false
 }
 
 fn is_seen(sign: &str, sight: &Sight<'_>) -> bool {

@@ -20,8 +20,7 @@ pub fn is_capture(bytes: &[u8]) -> bool {
 
 /// What is told of a whole text at the place of an input.
 pub fn hint_of_text(place: &str, text: &[u8]) -> Option<&'static str> {
-    let blanks = text.iter().take_while(|byte| is_white(**byte)).count();
-    let rest = back(text, blanks);
+    let rest = without_blanks(text);
     let none = b"".as_slice();
     let sight = Sight {
         kind: kind_of(rest),
@@ -30,6 +29,16 @@ pub fn hint_of_text(place: &str, text: &[u8]) -> Option<&'static str> {
         before: none,
     };
     hint_of(&[place], &sight)
+}
+
+/// The text from its first byte on that isn't white space.
+fn without_blanks(text: &[u8]) -> &[u8] {
+    for (at, byte) in text.iter().enumerate() {
+        if !is_white(*byte) {
+            return back(text, at);
+        }
+    }
+    b"".as_slice()
 }
 
 /// What a text or a word is, as signs of hints name it.
@@ -68,8 +77,12 @@ fn is_message(text: &[u8]) -> bool {
 
 /// The place of the first byte that is neither a digit nor white space.
 pub fn first_bad(text: &[u8]) -> Option<usize> {
-    text.iter()
-        .position(|byte| !byte.is_ascii_hexdigit() && !is_white(*byte))
+    for (at, byte) in text.iter().enumerate() {
+        if !byte.is_ascii_hexdigit() && !is_white(*byte) {
+            return Some(at);
+        }
+    }
+    None
 }
 
 /// Whether all of a text has the letters of base64, and more of them than an eighth aren't hexadecimal.
@@ -88,12 +101,21 @@ fn is_base64(text: &[u8]) -> bool {
 
 /// Whether a part stands in a text.
 pub fn has_part(text: &[u8], part: &[u8]) -> bool {
-    text.windows(part.len().max(1)).any(|front| front == part)
+    for front in text.windows(part.len().max(1)) {
+        if front == part {
+            return true;
+        }
+    }
+    false
 }
 
 pub fn first_line(text: &[u8]) -> &[u8] {
-    let length = text.iter().take_while(|byte| **byte != b'\n').count();
-    text.get(..length).unwrap_or(text)
+    for (at, byte) in text.iter().enumerate() {
+        if *byte == b'\n' {
+            return text.get(..at).unwrap_or(text);
+        }
+    }
+    text
 }
 
 /// Whether the lines of a text end in CR alone, and a comment begins in it: all behind this is of the comment.

@@ -79,8 +79,12 @@ pub fn push_capture(out: &mut String, name: &str, wanted: &str, hint: &str) -> A
 
 /// Whether bytes are no text: they have a control character that isn't white space, or aren't UTF-8.
 fn is_binary(text: &[u8]) -> bool {
+    for byte in text {
+        if *byte < b' ' && !is_white(*byte) && *byte != b'\x0c' {
+            return true;
+        }
+    }
     str::from_utf8(text).is_err()
-        || text.iter().any(|byte| *byte < b' ' && !is_white(*byte) && *byte != b'\x0c')
 }
 
 /// Adds what bytes are that aren't text.
@@ -133,10 +137,7 @@ fn hint_at(text: &[u8], at: usize) -> Option<&'static str> {
 /// What to do about a dump with offsets: the text begins with a small offset, and a colon or two spaces stand behind it, or its
 /// second line begins with an offset, too.
 pub fn dump_of(text: &[u8]) -> Option<&'static str> {
-    let digits = text
-        .iter()
-        .take_while(|byte| byte.is_ascii_hexdigit())
-        .count();
+    let digits = front_digits(text);
     let rest = back(text, digits);
     let second = back(rest, first_line(rest).len().saturating_add(1));
     if digits < 4 || !text.starts_with(b"00") {
@@ -148,6 +149,16 @@ pub fn dump_of(text: &[u8]) -> Option<&'static str> {
     } else {
         None
     }
+}
+
+/// How many hexadecimal digits stand at the front.
+fn front_digits(text: &[u8]) -> usize {
+    for (at, byte) in text.iter().enumerate() {
+        if !byte.is_ascii_hexdigit() {
+            return at;
+        }
+    }
+    text.len()
 }
 
 /// Adds the note of a text whose bytes are no message, or are more or fewer than one.

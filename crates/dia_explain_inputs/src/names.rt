@@ -1,6 +1,6 @@
 //! The names that a dictionary has.
 
-use dia_ccf::{Decl, Source};
+use dia_ccf::{Decl, Def, Source};
 use dia_explain_places::{nearest_command, nearest_name};
 use indexmap::IndexSet;
 use std::alloc::{AllocError, Global};
@@ -33,10 +33,15 @@ pub fn names_of<'a>(
     source: &'a Source,
     named: Named,
 ) -> Result<Vec<&'a str>, AllocError> {
-    let (mut names, defs) = match named {
-        Named::Command => (Vec::new(alloc), &source.commands),
-        Named::Avp => (declared(alloc, &source.avps)?, &source.groups),
-    };
+    match named {
+        Named::Command => defined(Vec::new(alloc), &source.commands),
+        Named::Avp => defined(declared(alloc, &source.avps)?, &source.groups),
+    }
+}
+
+/// These names, and those of definitions.
+fn defined<'a>(names: Vec<&'a str>, defs: &'a [Def]) -> Result<Vec<&'a str>, AllocError> {
+    let mut names = names;
     for def in defs {
         names.push(def.name.as_str())?;
     }
@@ -73,10 +78,11 @@ impl<'a> Vocabulary<'a> {
     }
 
     pub fn has(&self, named: Named, name: &str) -> bool {
-        match named {
-            Named::Command => self.commands.contains(&name),
-            Named::Avp => self.avps.contains(&name),
-        }
+        let names = match named {
+            Named::Command => &self.commands,
+            Named::Avp => &self.avps,
+        };
+        names.contains(&name)
     }
 
     /// Adds what is meant by a name that isn't there, and tells whether that is known. `instead` says what it is where it is one
@@ -102,14 +108,22 @@ impl<'a> Vocabulary<'a> {
     /// Adds the name that is nearest, and tells whether there is one.
     fn push_near(&self, out: &mut String, named: Named, name: &str) -> Result<bool, AllocError> {
         let names = names_of(*out.allocator(), self.dictionary.source, named)?;
-        let near = match named {
-            Named::Command => nearest_command(name, &names),
-            Named::Avp => nearest_name(name, &names),
-        };
-        match near {
-            Some(near) => write!(out, "hint: did you mean {near}?\n")?,
-            None => return Ok(false),
+        match near_of(named, name, &names) {
+            Some(near) => push_near(out, near),
+            None => Ok(false),
         }
-        Ok(true)
     }
+}
+
+/// The name that is nearest to another.
+fn near_of<'a>(named: Named, name: &str, names: &[&'a str]) -> Option<&'a str> {
+    match named {
+        Named::Command => nearest_command(name, names),
+        Named::Avp => nearest_name(name, names),
+    }
+}
+
+fn push_near(out: &mut String, near: &str) -> Result<bool, AllocError> {
+    write!(out, "hint: did you mean {near}?\n")?;
+    Ok(true)
 }

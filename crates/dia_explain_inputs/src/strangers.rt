@@ -44,30 +44,60 @@ fn push_side_of(
     dictionary: &NamedSource<'_>,
 ) -> Result<bool, AllocError> {
     let known = Vocabulary::of(alloc, dictionary)?;
-    let (count, is_odd) = push_side(out, table, is_first, &known)?;
-    push_rest(out, dictionary.name, count)?;
+    push_all(out, table, is_first, &known)
+}
+
+fn push_all(
+    out: &mut String,
+    table: &NamedText<'_>,
+    is_first: bool,
+    known: &Vocabulary<'_>,
+) -> Result<bool, AllocError> {
+    let Strangers { count, is_odd } = push_side(out, table, is_first, known)?;
+    push_rest(out, known.dictionary.name, count)?;
     Ok(is_odd)
 }
 
-/// Adds the first of these names. Answers how many there are, and whether one that is told is like no other.
+/// How many names the dictionary doesn't have, and whether one that is told is like no other.
+#[derive(Clone, Copy)]
+struct Strangers {
+    count: usize,
+    is_odd: bool,
+}
+
+/// Adds the first of these names.
 fn push_side(
     out: &mut String,
     table: &NamedText<'_>,
     is_first: bool,
     known: &Vocabulary<'_>,
-) -> Result<(usize, bool), AllocError> {
+) -> Result<Strangers, AllocError> {
     let mut start = 0usize;
-    let mut count = 0usize;
-    let mut is_odd = false;
+    let mut strangers = Strangers {
+        count: 0,
+        is_odd: false,
+    };
     for line in table.text.split(|byte| *byte == b'\n') {
         let words = words_of(table.text, start);
         if let Some(stranger) = stranger_in(&words, is_first, known) {
-            count = count.saturating_add(1);
-            is_odd = count <= MOST && push_stranger(out, table, known, &stranger)? || is_odd;
+            strangers = push_next(out, table, known, &stranger, strangers)?;
         }
         start = start.saturating_add(line.len()).saturating_add(1);
     }
-    Ok((count, is_odd))
+    Ok(strangers)
+}
+
+/// Adds a name behind others, if there aren't too many. Answers what they are with it.
+fn push_next(
+    out: &mut String,
+    table: &NamedText<'_>,
+    known: &Vocabulary<'_>,
+    stranger: &Stranger<'_>,
+    before: Strangers,
+) -> Result<Strangers, AllocError> {
+    let count = before.count.saturating_add(1);
+    let is_odd = count <= MOST && push_stranger(out, table, known, stranger)? || before.is_odd;
+    Ok(Strangers { count, is_odd })
 }
 
 /// The name of a side in the words of a line, if the dictionary doesn't have it.
@@ -78,16 +108,20 @@ fn stranger_in<'a>(
 ) -> Option<Stranger<'a>> {
     let word = if is_first { words.first } else { words.second };
     let name = str::from_utf8(word.text).ok()?;
-    let named = if words.kind.text == b"command".as_slice() {
-        Named::Command
-    } else {
-        Named::Avp
-    };
+    let named = named_by(words.kind.text);
     if words.kind.is_empty() || known.has(named, name) {
         return None;
     }
     let at = word.at;
     Some(Stranger { named, name, at })
+}
+
+fn named_by(kind: &[u8]) -> Named {
+    if kind == b"command".as_slice() {
+        Named::Command
+    } else {
+        Named::Avp
+    }
 }
 
 /// Adds a name that the dictionary doesn't have. Answers whether it is like no other.
@@ -98,15 +132,26 @@ fn push_stranger(
     stranger: &Stranger<'_>,
 ) -> Result<bool, AllocError> {
     let Stranger { named, name, at } = *stranger;
-    let dictionary = known.dictionary.name;
     push_place(out, table.name, table.text, at)?;
-    let (what, instead) = match named {
-        Named::Command => ("command", "an AVP there: write avp for command"),
-        Named::Avp => ("AVP", "a command there: write command for avp"),
-    };
-    write!(out, "{dictionary} has no {what} {name}\n")?;
-    let is_known = known.push_meant(out, named, name, instead)?;
+    push_lacking(out, known.dictionary.name, named, name)?;
+    let is_known = known.push_meant(out, named, name, instead_of(named))?;
     Ok(!is_known)
+}
+
+fn push_lacking(out: &mut String, dictionary: &str, named: Named, name: &str) -> Added {
+    let what = match named {
+        Named::Command => "command",
+        Named::Avp => "AVP",
+    };
+    write!(out, "{dictionary} has no {what} {name}\n")
+}
+
+/// What a name is that is one of the other names.
+fn instead_of(named: Named) -> &'static str {
+    match named {
+        Named::Command => "an AVP there: write avp for command",
+        Named::Avp => "a command there: write command for avp",
+    }
 }
 
 /// Adds how many names more there are.

@@ -5,7 +5,7 @@ ghost use Rattle.dia_explain_inputs.specs.Beginnings.{TableBegins, LineBegins};
 
 use crate::hints::{Sight, hint_of};
 use crate::kinds::kind_of;
-use crate::notes::{Added, push_not_text, push_noted, push_whole};
+use crate::notes::{Added, push_not_text, push_noted};
 use dia_compat::{MAX_NAME, MAX_PAIRS, MAX_TABLE, Table};
 use dia_explain_places::{
     InputTexts, NamedText, PairPart, Word, back, push_shown, start_of_line, words_of,
@@ -83,7 +83,7 @@ fn slot_of(part: PairPart) -> Slot {
 fn sight_of<'a>(text: &'a [u8], word: &Word<'a>) -> Sight<'a> {
     let kind = if word.is_empty() {
         "the end"
-    } else if word.text.iter().all(|byte| byte.is_ascii_digit()) {
+    } else if is_number(word.text) {
         "a number"
     } else {
         kind_of(word.text)
@@ -94,6 +94,15 @@ fn sight_of<'a>(text: &'a [u8], word: &Word<'a>) -> Sight<'a> {
         rest: back(text, word.at),
         before: b"".as_slice(),
     }
+}
+
+fn is_number(word: &[u8]) -> bool {
+    for byte in word {
+        if !byte.is_ascii_digit() {
+            return false;
+        }
+    }
+    true
 }
 
 /// Adds which limit a line passes.
@@ -132,12 +141,10 @@ pub fn push_no_pairs(out: &mut String, texts: &InputTexts<'_>, table: &Table) ->
     if !table.commands.is_empty() {
         return Ok(());
     }
-    let alloc = *out.allocator();
-    let first = texts.first.name;
-    let second = texts.second.name;
-    let hint = format!(in alloc;
-        "`diacmd propose {first} {second} COMMAND..` writes the table for these commands of {first}"
-    )?;
-    let told = "the table lists no command, so this yes says nothing";
-    push_whole(out, &texts.table, told, hint.as_str())
+    let (name, first, second) = (texts.table.name, texts.first.name, texts.second.name);
+    write!(
+        out,
+        "{name}: the table lists no command, so this yes says nothing\n\
+         hint: `diacmd propose {first} {second} COMMAND..` writes the table for these commands of {first}\n"
+    )
 }

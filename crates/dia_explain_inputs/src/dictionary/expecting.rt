@@ -47,15 +47,12 @@ fn items_at(wanted: Wanted) -> &'static [&'static str] {
 
 /// Adds items, with this in front of the last of several.
 fn push_items(out: &mut String, items: &[&str], last: &str) -> Added {
-    for (index, item) in items.iter().enumerate() {
-        out.push_str(if index == 0 {
-            ""
-        } else if index == items.len().saturating_sub(1) {
-            last
-        } else {
-            ", "
-        })?;
-        out.push_str(item)?;
+    let mut left = items.len();
+    let mut between = "";
+    for item in items {
+        write!(out, "{between}{item}")?;
+        left = left.saturating_sub(1);
+        between = if left == 1 { last } else { ", " };
     }
     Ok(())
 }

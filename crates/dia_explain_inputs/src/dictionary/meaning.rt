@@ -75,14 +75,21 @@ fn push_notes(out: &mut String, parts: &Parts<'_>, names: &[&str], notes: &[Note
 /// Adds the first faults one by one, the place of the very first left out. What helps with each fault of a kind is told once.
 fn push_first(out: &mut String, parts: &Parts<'_>, names: &[&str], notes: &[Note<'_>]) -> Added {
     let mut advised = None;
-    for (index, note) in notes.iter().take(MOST).enumerate() {
-        if index > 0 {
-            let at = parts.at(note.finding.part);
-            push_start(out, parts.name, parts.text.as_bytes(), at)?;
+    let mut is_first = true;
+    for note in notes.get(..MOST).unwrap_or(notes) {
+        if !is_first {
+            push_start_of(out, parts, note)?;
         }
+        is_first = false;
         advised = push_note(out, parts, names, note, advised)?;
     }
     Ok(())
+}
+
+/// Begins the note of a fault: its place.
+fn push_start_of(out: &mut String, parts: &Parts<'_>, note: &Note<'_>) -> Added {
+    let at = parts.at(note.finding.part);
+    push_start(out, parts.name, parts.text.as_bytes(), at)
 }
 
 /// Adds a fault, and what helps, unless faults of the kind have it already. Answers the kind that has it.
@@ -95,13 +102,18 @@ fn push_note(
 ) -> Result<Option<DictKind>, AllocError> {
     let text = text_of(parts, note);
     let (fault, advice) = text.split_once('\n').unwrap_or((text, ""));
-    let kind = note.finding.told.kind;
     push_fault(out, parts, note, fault)?;
-    if push_meant(out, names, note)? || advised == Some(kind) && kind != DictKind::NoGroupFormat {
+    let kind = note.finding.told.kind;
+    if push_meant(out, names, note)? || is_advised(kind, advised) {
         return Ok(advised);
     }
     push_advice(out, parts, note, advice)?;
     Ok(Some(kind))
+}
+
+/// Whether what helps with faults of a kind was told.
+fn is_advised(kind: DictKind, advised: Option<DictKind>) -> bool {
+    kind != DictKind::NoGroupFormat && advised == Some(kind)
 }
 
 /// Adds a fault, and the place of what it doesn't go with.
@@ -122,22 +134,28 @@ fn push_advice(out: &mut String, parts: &Parts<'_>, note: &Note<'_>, advice: &st
 
 /// Adds where an undefined name may come from, the base dictionary or a slip, and tells whether that is known.
 fn push_meant(out: &mut String, names: &[&str], note: &Note<'_>) -> Result<bool, AllocError> {
-    let name = note.finding.told.slot;
     if note.finding.told.kind != DictKind::UndefinedName {
         return Ok(false);
     }
-    if let Some(line) = line_of_base("%avp ", name, " ") {
-        write!(out, "hint: the base dictionary declares it: {line}\n")?;
-    } else if line_of_base("<", name, "> ::= < AVP ").is_some() {
-        out.push_str(
-            "hint: the base dictionary has this group: `diacmd render @base` prints it\n",
-        )?;
-    } else if let Some(near) = nearest_name(name, names) {
-        write!(out, "hint: did you mean {near}?\n")?;
-    } else {
-        return Ok(false);
+    match origin_of(names, note.finding.told.slot) {
+        Some((told, name, behind)) => {
+            write!(out, "hint: {told}{name}{behind}\n")?;
+            Ok(true)
+        }
+        None => Ok(false),
     }
-    Ok(true)
+}
+
+/// Where an undefined name may come from: what is told in front of a line or a name, this, and what stands behind it.
+fn origin_of<'a>(names: &[&'a str], name: &str) -> Option<(&'static str, &'a str, &'static str)> {
+    if let Some(line) = line_of_base("%avp ", name, " ") {
+        return Some(("the base dictionary declares it: ", line, ""));
+    }
+    if line_of_base("<", name, "> ::= < AVP ").is_some() {
+        let told = "the base dictionary has this group: `diacmd render @base` prints it";
+        return Some((told, "", ""));
+    }
+    Some(("did you mean ", nearest_name(name, names)?, "?"))
 }
 
 /// The line of the base dictionary that has this in front of a name, and this behind it.
@@ -162,34 +180,37 @@ fn is_line_of(line: &str, front: &str, name: &str, behind: &str) -> bool {
 
 /// Adds how many faults more there are, and which names are undefined besides.
 fn push_rest(out: &mut String, name: &str, notes: &[Note<'_>]) -> Added {
-    let more = notes.len().saturating_sub(MOST);
-    if more == 0 {
-        return Ok(());
+    match notes.get(MOST..) {
+        Some(rest) if !rest.is_empty() => push_more(out, name, rest),
+        _ => Ok(()),
     }
+}
+
+/// Adds how many faults these are, and their undefined names.
+fn push_more(out: &mut String, name: &str, notes: &[Note<'_>]) -> Added {
+    let more = notes.len();
     write!(
         out,
         "{name}: these are the first {MOST} faults, and there are {more} more\n"
     )?;
-    push_undefined(out, notes)
-}
-
-/// Adds the undefined names of the faults that aren't told one by one.
-fn push_undefined(out: &mut String, notes: &[Note<'_>]) -> Added {
-    let mut count: usize = 0;
-    for note in notes.iter().skip(MOST) {
-        if note.finding.told.kind == DictKind::UndefinedName && count < MOST_NAMES {
-            out.push_str(if count == 0 {
-                "hint: these names aren't defined either: "
-            } else {
-                ", "
-            })?;
-            out.push_str(note.finding.told.slot)?;
-            count = count.saturating_add(1);
-        }
-    }
-    match count {
+    match push_undefined(out, notes)? {
         0 => Ok(()),
         MOST_NAMES => out.push_str(", ..\n"),
         _ => out.push('\n'),
     }
+}
+
+/// Adds the first undefined names of faults. Answers how many these are.
+fn push_undefined(out: &mut String, notes: &[Note<'_>]) -> Result<usize, AllocError> {
+    let mut count: usize = 0;
+    let mut between = "hint: these names aren't defined either: ";
+    for note in notes {
+        if note.finding.told.kind == DictKind::UndefinedName && count < MOST_NAMES {
+            let name = note.finding.told.slot;
+            write!(out, "{between}{name}")?;
+            between = ", ";
+            count = count.saturating_add(1);
+        }
+    }
+    Ok(count)
 }

@@ -1,4 +1,5 @@
-//! What is told of each fault of meaning, and on the line behind it what helps. A word behind `$` stands for a value of the fault.
+//! What is told of each fault of meaning, and on the line behind it what helps. A word between two `$` stands for a value of the
+//! fault.
 
 use super::notes::Note;
 use super::parts::Parts;
@@ -10,41 +11,41 @@ use dia_dict::{DictKind, Finding, Part, PartKind};
 pub fn text_of(parts: &Parts<'_>, note: &Note<'_>) -> &'static str {
     let Finding { told, part, other } = note.finding;
     let Some(Part { kind, .. }) = part else {
-        return "$parts declarations, groups and commands; a dictionary has at most $limit\n\
+        return "$parts$ declarations, groups and commands; a dictionary has at most $limit$\n\
                 leave out what the comparison doesn't need";
     };
     match told.kind {
-        DictKind::Limit => "$name has $rules rules; a definition has at most $limit\n\
+        DictKind::Limit => "$name$ has $rules$ rules; a definition has at most $limit$\n\
              leave out what the comparison doesn't need",
         DictKind::DuplicateName => text_of_name(kind),
-        DictKind::NoGroupFormat => "$name is declared as Grouped, and there is no group <$name>\n\
-             define it: <$name> ::= < AVP Header: $header > and its rules, or * [ AVP ] where any AVP may stand in it",
+        DictKind::NoGroupFormat => "$name$ is declared as Grouped, and there is no group <$name$>\n\
+             define it: <$name$> ::= < AVP Header: $header$ > and its rules, or * [ AVP ] where any AVP may stand in it",
         DictKind::HeaderMismatch => text_of_group(parts.decl(other)),
-        DictKind::DuplicateKey => "$name has $key, as $first has\n\
+        DictKind::DuplicateKey => "$name$ has $key$, as $first$ has\n\
              correct the code or the vendor of one: an AVP of a vendor is declared with vendor N behind its code",
         DictKind::DuplicateCommand => text_of_head(parts.head(part)),
         DictKind::UndefinedName =>
-            "$name ($place) has a rule for $slot, which is neither declared nor a group$more\n\
-             declare it, as in %avp $slot CODE FORMAT RULE, or define it as a group; dictionaries/ has those of many RFCs and of \
-             3GPP",
-        DictKind::RepeatedSlot => "$name ($place) has two rules for $slot, first\n\
-             make it one rule with a qualifier, as 1*2 { $slot }",
+            "$name$ ($place$) has a rule for $slot$, which is neither declared nor a group$more$\n\
+             declare it, as in %avp $slot$ CODE FORMAT RULE, or define it as a group; dictionaries/ has those of many RFCs and \
+             of 3GPP",
+        DictKind::RepeatedSlot => "$name$ ($place$) has two rules for $slot$, first\n\
+             make it one rule with a qualifier, as 1*2 { $slot$ }",
         DictKind::MinOverMax => text_of_counts(parts.rule(part)),
         DictKind::RequiredMin =>
-            "$name ($place) requires $slot by { $slot }, with a least count of 0\n\
-             write [ $slot ], or a least count of 1 or more",
+            "$name$ ($place$) requires $slot$ by { $slot$ }, with a least count of 0\n\
+             write [ $slot$ ], or a least count of 1 or more",
         DictKind::OptionalMin =>
-            "$name ($place) has [ $slot ], which is optional, with a least count of $low\n\
-             write { $slot }, or leave out the least count",
+            "$name$ ($place$) has [ $slot$ ], which is optional, with a least count of $low$\n\
+             write { $slot$ }, or leave out the least count",
     }
 }
 
 /// Of a part with the name of another.
 fn text_of_name(kind: PartKind) -> &'static str {
     match kind {
-        PartKind::Declaration => "$name is declared twice, first\ndrop one, or rename it",
-        PartKind::Group => "the group $name is defined twice, first\ndrop one, or rename it",
-        PartKind::Command => "the command $name is defined twice, first\n\
+        PartKind::Declaration => "$name$ is declared twice, first\ndrop one, or rename it",
+        PartKind::Group => "the group $name$ is defined twice, first\ndrop one, or rename it",
+        PartKind::Command => "the command $name$ is defined twice, first\n\
              drop one, or rename it: a request and its answer have a name each, as CCR and CCA",
     }
 }
@@ -53,9 +54,9 @@ fn text_of_name(kind: PartKind) -> &'static str {
 fn text_of_group(declaration: Option<&Decl>) -> &'static str {
     match declaration {
         Some(decl) if decl.format == FormatName::Grouped =>
-            "the group $name has $key, and its declaration has $declared\n\
+            "the group $name$ has $key$, and its declaration has $declared$\n\
              declare it as Grouped with the code and the vendor of the group, or drop the declaration: a group needs none",
-        _ => "$name is a group here, and isn't declared as Grouped\n\
+        _ => "$name$ is a group here, and isn't declared as Grouped\n\
              declare it as Grouped with the code and the vendor of the group, or drop the declaration: a group needs none",
     }
 }
@@ -63,11 +64,11 @@ fn text_of_group(declaration: Option<&Decl>) -> &'static str {
 /// Of a command that is for the messages of another.
 fn text_of_head(head: Option<Head>) -> &'static str {
     match head {
-        Some(Head::Command { request: false, .. }) => "$name is for $messages, as is $first\n\
+        Some(Head::Command { request: false, .. }) => "$name$ is for $messages$, as is $first$\n\
              if one is the request, write REQ behind its code; else give each its Application-ID, or drop one",
-        Some(Head::Command { request: true, .. }) => "$name is for $messages, as is $first\n\
+        Some(Head::Command { request: true, .. }) => "$name$ is for $messages$, as is $first$\n\
              if one is the answer, leave out REQ; else give each its Application-ID, or drop one",
-        _ => "$name is for errors, as is $first\n\
+        _ => "$name$ is for errors, as is $first$\n\
              one definition with code, ERR serves the errors of all commands: drop one",
     }
 }
@@ -81,21 +82,24 @@ fn text_of_counts(rule: Option<&Rule>) -> &'static str {
                 qual: None | Some(Qual { min: None, .. }),
                 ..
             },
-        ) => "$name ($place) asks for at least $low $slot, and for at most $high\n\
-             { $slot } without a least count asks for 1",
-        _ => "$name ($place) asks for at least $low $slot, and for at most $high\n\
+        ) => "$name$ ($place$) asks for at least $low$ $slot$, and for at most $high$\n\
+             { $slot$ } without a least count asks for 1",
+        _ => "$name$ ($place$) asks for at least $low$ $slot$, and for at most $high$\n\
              the counts of a rule are LEAST*GREATEST",
     }
 }
 
 /// Adds a text with the values of a fault.
 pub fn push_filled(out: &mut String, parts: &Parts<'_>, note: &Note<'_>, text: &str) -> Added {
-    for (index, piece) in text.split('$').enumerate() {
-        let rest = piece.trim_start_matches(|c: char| c.is_ascii_lowercase());
-        if index > 0 {
-            push_value(out, parts, note, piece.strip_suffix(rest).unwrap_or(""))?;
-        }
-        out.push_str(if index > 0 { rest } else { piece })?;
+    let mut is_word = false;
+    for piece in text.split('$') {
+        let added = if is_word {
+            push_value(out, parts, note, piece)
+        } else {
+            out.push_str(piece)
+        };
+        added?;
+        is_word = !is_word;
     }
     Ok(())
 }

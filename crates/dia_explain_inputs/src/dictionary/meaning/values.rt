@@ -102,10 +102,15 @@ fn push_messages(out: &mut String, head: Option<Head>) -> Added {
         return Ok(());
     };
     let what = if request { "requests" } else { "answers" };
-    write!(out, "the {what} with the code {code}")?;
     match app {
-        Some(app) => write!(out, " and the Application-ID {app}"),
-        None => out.push_str(", without an Application-ID"),
+        Some(app) => write!(
+            out,
+            "the {what} with the code {code} and the Application-ID {app}"
+        ),
+        None => write!(
+            out,
+            "the {what} with the code {code}, without an Application-ID"
+        ),
     }
 }
 
