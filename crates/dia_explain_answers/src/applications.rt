@@ -8,25 +8,25 @@ pub struct Application {
     pub file: &'static str,
 }
 
-static APPLICATIONS: [(u32, &str, &str); 10] = [
-    (0, "the base", "rfc6733.txt"),
-    (1, "NASREQ", "nas.txt"),
-    (3, "Rf", "ro.txt"),
-    (4, "credit control", "credit-control.txt"),
-    (16_777_216, "Cx", "cx.txt"),
-    (16_777_217, "Sh", "sh.txt"),
-    (16_777_236, "Rx", "rx.txt"),
-    (16_777_238, "Gx", "gx.txt"),
-    (16_777_251, "S6a", "s6a.txt"),
-    (16_777_252, "S13", "s6a.txt"),
-];
-
 /// The application with this Application-ID, if there is a dictionary for it.
 pub fn application_of(id: u32) -> Option<Application> {
-    for (known, name, file) in APPLICATIONS.iter().copied() {
-        if known == id {
-            return Some(Application { id, name, file });
-        }
+    let (name, file) = name_and_file(id).split_once('\n')?;
+    Some(Application { id, name, file })
+}
+
+/// The name of an application and, behind a line feed, the dictionary.
+fn name_and_file(id: u32) -> &'static str {
+    match id {
+        0 => "the base\nrfc6733.txt",
+        1 => "NASREQ\nnas.txt",
+        3 => "Rf\nro.txt",
+        4 => "credit control\ncredit-control.txt",
+        16_777_216 => "Cx\ncx.txt",
+        16_777_217 => "Sh\nsh.txt",
+        16_777_236 => "Rx\nrx.txt",
+        16_777_238 => "Gx\ngx.txt",
+        16_777_251 => "S6a\ns6a.txt",
+        16_777_252 => "S13\ns6a.txt",
+        _ => "",
     }
-    None
 }

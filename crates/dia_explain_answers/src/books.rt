@@ -43,7 +43,7 @@ impl Scene for Known<'_> {
 
 impl Known<'_> {
     /// What a word about the format or the rule stands for.
-    fn declared_word(&self, word: &str) -> &'static str {
+    pub fn declared_word(&self, word: &str) -> &'static str {
         match word {
             "format" => format_word(self.format),
             "m" => m_word(self.rule),

@@ -5,7 +5,7 @@ use crate::checking::{Asked, policy_words};
 use crate::faults::{Message, push_refusal};
 use crate::sides::Side;
 use crate::texts::{Added, Scene, push_text};
-use dia_check::Refusal;
+use dia_check::{Fault, Refusal};
 use dia_dict::IndexedBook;
 use dia_explain_places::InputTexts;
 use dia_report::Unrefuting;
@@ -95,13 +95,18 @@ fn push_second(out: &mut String, second: &str) -> Added {
 }
 
 fn push_verdict(out: &mut String, message: &str, first: &str, refusal: &Refusal) -> Added {
-    write!(out, "{message}: the message isn't valid under {first}: ")?;
-    match refusal {
-        Refusal::Fault(fault) => {
-            let (code, place) = (fault.code, fault.place);
-            write!(out, "fault {code} at {place}\n")
+    let what = match refusal {
+        Refusal::Fault(Fault { code, place, .. }) => {
+            return write!(
+                out,
+                "{message}: the message isn't valid under {first}: fault {code} at {place}\n"
+            );
         }
-        Refusal::Truncated => out.push_str("truncated\n"),
-        _ => out.push_str("trailing\n"),
-    }
+        Refusal::Truncated => "truncated",
+        _ => "trailing",
+    };
+    write!(
+        out,
+        "{message}: the message isn't valid under {first}: {what}\n"
+    )
 }

@@ -14,15 +14,20 @@ pub trait Scene {
 /// Adds a text, with the values of its words.
 pub fn push_text<S: Scene>(out: &mut String, scene: &S, text: &str) -> Added {
     for piece in text.split('{') {
-        match piece.split_once('}') {
-            Some((word, rest)) => {
-                scene.push_word(out, word)?;
-                out.push_str(rest)?;
-            }
-            None => out.push_str(piece)?,
-        }
+        push_piece(out, scene, piece)?;
     }
     Ok(())
+}
+
+/// Adds the value of a word, and the text behind it, or the text in front of the first word.
+fn push_piece<S: Scene>(out: &mut String, scene: &S, piece: &str) -> Added {
+    match piece.split_once('}') {
+        Some((word, rest)) => {
+            scene.push_word(out, word)?;
+            out.push_str(rest)
+        }
+        None => out.push_str(piece),
+    }
 }
 
 /// What is wrong, and what to do: the two lines of a text.

@@ -5,7 +5,7 @@ use crate::faults::avp_bytes::{is_mandatory, part, push_hex};
 use crate::faults::in_body::InBody;
 use crate::faults::lengths::push_length_word;
 use crate::faults::rules::push_rule_word;
-use crate::rule_text::{format_word, m_word, push_key, push_vendor};
+use crate::rule_text::{push_key, push_vendor};
 use crate::texts::{Added, push_number};
 use dia_book::Format;
 use dia_check::{Reason, Unknown};
@@ -119,11 +119,7 @@ fn push_level_word(out: &mut String, scene: &InBody<'_>, word: &str) -> Added {
 fn push_data_word(out: &mut String, scene: &InBody<'_>, word: &str) -> Added {
     let data = data_of(scene);
     match word {
-        "flag" => out.push_str(if is_mandatory(scene.own()) {
-            "set"
-        } else {
-            "clear"
-        }),
+        "flag" => out.push_str(m_flag(scene.own())),
         "bytes" => push_number(out, data.len()),
         "fits" => out.push_str(fitting_formats(data.len())),
         "value" => push_value(out, &Format::Integer32, data),
@@ -131,20 +127,30 @@ fn push_data_word(out: &mut String, scene: &InBody<'_>, word: &str) -> Added {
     }
 }
 
+/// What the M flag of an AVP is.
+fn m_flag(avp: &[u8]) -> &'static str {
+    if is_mandatory(avp) { "set" } else { "clear" }
+}
+
 /// Adds what a word about the declaration of that AVP stands for, or about data that isn't as it says.
 fn push_declared_word(out: &mut String, scene: &InBody<'_>, data: &[u8], word: &str) -> Added {
     let Some(avp) = scene.avp() else {
         return push_rule_word(out, scene, word);
     };
-    let bad = bad_place(avp.format, data);
     match word {
-        "m" => out.push_str(m_word(avp.rule)),
-        "format" => out.push_str(format_word(avp.format)),
+        "m" | "format" => out.push_str(avp.declared_word(word)),
         "lengths" => out.push_str(lengths_of(avp.format)),
+        "bad" | "byte" | "rest" => push_bad_word(out, data, bad_place(avp.format, data), word),
+        _ => push_rule_word(out, scene, word),
+    }
+}
+
+/// Adds what a word about a place in some data stands for.
+fn push_bad_word(out: &mut String, data: &[u8], bad: usize, word: &str) -> Added {
+    match word {
         "bad" => push_number(out, bad),
         "byte" => push_hex(out, part(data, bad, bad.saturating_add(1))),
-        "rest" => push_hex(out, part(data, bad, bad.saturating_add(4))),
-        _ => push_rule_word(out, scene, word),
+        _ => push_hex(out, part(data, bad, bad.saturating_add(4))),
     }
 }
 

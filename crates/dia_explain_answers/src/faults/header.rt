@@ -39,15 +39,24 @@ pub fn push_header_fault(
         header: *header,
         command,
     };
-    let (fault, hint) = fault_and_hint(scene.text_of(reason));
-    push_text(out, &scene, fault)?;
-    push_text(out, &scene, HEADER)?;
-    scene.push_commands(out, reason)?;
-    push_hint(out, &scene, hint)?;
-    scene.push_dictionary(out, reason)
+    scene.push(out, reason)
 }
 
 impl InHeader<'_> {
+    fn push(&self, out: &mut String, reason: Reason) -> Added {
+        let (fault, hint) = fault_and_hint(self.text_of(reason));
+        self.push_fault(out, fault)?;
+        self.push_commands(out, reason)?;
+        push_hint(out, self, hint)?;
+        self.push_dictionary(out, reason)
+    }
+
+    /// Adds what is wrong, and the fields of the header.
+    fn push_fault(&self, out: &mut String, fault: &str) -> Added {
+        push_text(out, self, fault)?;
+        push_text(out, self, HEADER)
+    }
+
     fn class(&self) -> Class {
         class_of(&self.header)
     }
@@ -130,37 +139,58 @@ impl InHeader<'_> {
 
     /// Adds which dictionary has the commands of an application of which this one has none.
     fn push_dictionary(&self, out: &mut String, reason: Reason) -> Added {
-        let is_missing = match reason {
-            Reason::Command => self.command.is_none() && self.class() != Class::Error,
-            _ => reason == Reason::Application,
-        };
-        let app = self.header.app;
-        let own = find_command(self.side.book, Wanted::Application(app));
-        match application_of(app) {
-            Some(Application { id, name, file }) if is_missing && own.is_none() => {
+        if !self.lacks(reason) {
+            return Ok(());
+        }
+        match application_of(self.header.app) {
+            Some(Application { id, name, file }) => {
                 write!(
                     out,
                     "hint: application {id} is {name}, and this dictionary has no command of it; {file} has them, \
                      see docs/CAPTURES.md\n"
                 )
             }
-            _ => Ok(()),
+            None => Ok(()),
+        }
+    }
+
+    /// Whether the dictionary has no command for the header, and none of its application.
+    fn lacks(&self, reason: Reason) -> bool {
+        let is_missing = match reason {
+            Reason::Command => self.command.is_none() && self.class() != Class::Error,
+            _ => reason == Reason::Application,
+        };
+        let own = find_command(self.side.book, Wanted::Application(self.header.app));
+        is_missing && own.is_none()
+    }
+
+    /// The number that a word stands for.
+    fn number_of(&self, word: &str) -> u32 {
+        match word {
+            "code" => self.header.code,
+            "app" => self.header.app,
+            _ => self.application().unwrap_or(0),
+        }
+    }
+
+    /// The text that a word stands for.
+    fn text_for(&self, word: &str) -> &str {
+        match word {
+            "class" => class_word(self.class()),
+            "req" if self.header.is_request() => ", REQ",
+            "pxy" if self.header.is_proxiable() => ", PXY",
+            "req" | "pxy" => "",
+            _ => name_of(self.command),
         }
     }
 }
 
 impl Scene for InHeader<'_> {
     fn push_word(&self, out: &mut String, word: &str) -> Added {
-        let header = &self.header;
         match word {
-            "class" => out.push_str(class_word(self.class())),
-            "flags" => push_command_flags(out, header),
-            "code" => push_number(out, header.code as usize),
-            "app" => push_number(out, header.app as usize),
-            "req" => out.push_str(if header.is_request() { ", REQ" } else { "" }),
-            "pxy" => out.push_str(if header.is_proxiable() { ", PXY" } else { "" }),
-            "theirs" => push_number(out, self.application().unwrap_or(0) as usize),
-            _ => out.push_str(name_of(self.command)),
+            "flags" => push_command_flags(out, &self.header),
+            "code" | "app" | "theirs" => push_number(out, self.number_of(word) as usize),
+            _ => out.push_str(self.text_for(word)),
         }
     }
 }

@@ -21,23 +21,29 @@ const EXPERIMENTAL: Key = Key {
 
 /// Adds that a request has an AVP of answers, where it has one that its command doesn't list.
 pub fn push_result(out: &mut String, side: &Side<'_>, header: &Header, message: &[u8]) -> Added {
-    let body = message.get(HEADER_LENGTH..).unwrap_or(b"".as_slice());
-    match find_key(body, &[RESULT, EXPERIMENTAL]) {
-        Some((before, key))
-            if header.is_request() && slot(side.book, Level::body(header), key) == Slot::Unlisted =>
-            {
-                let place = before.saturating_add(HEADER_LENGTH);
-                let name = if key == RESULT {
-                    "Result-Code"
-                } else {
-                    "Experimental-Result"
-                };
-                write!(
-                    out,
-                    "hint: {name} at {place} is for answers, and the R flag says that this is a request: \
+    match result_in(side, header, message) {
+        Some((place, key)) => {
+            let name = if key == RESULT {
+                "Result-Code"
+            } else {
+                "Experimental-Result"
+            };
+            write!(
+                out,
+                "hint: {name} at {place} is for answers, and the R flag says that this is a request: \
                  if it is an answer, the sender has to clear R\n"
-                )
-            }
-        _ => Ok(()),
+            )
+        }
+        None => Ok(()),
+    }
+}
+
+/// The place and the key of the first AVP of answers in a request, if its command doesn't list it.
+fn result_in(side: &Side<'_>, header: &Header, message: &[u8]) -> Option<(usize, Key)> {
+    let (before, key) = find_key(message.get(HEADER_LENGTH..)?, &[RESULT, EXPERIMENTAL])?;
+    if header.is_request() && slot(side.book, Level::body(header), key) == Slot::Unlisted {
+        Some((before.saturating_add(HEADER_LENGTH), key))
+    } else {
+        None
     }
 }

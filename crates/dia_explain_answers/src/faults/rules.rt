@@ -66,13 +66,22 @@ pub fn push_rule_word(out: &mut String, scene: &InBody<'_>, word: &str) -> Added
         return Ok(());
     };
     match word {
-        "found" => push_number(out, found as usize),
-        "count" => push_number(out, found.saturating_add(1) as usize),
+        "found" | "count" => push_number(out, number_of(found, word)),
         "behind" => push_number(out, place_behind(scene).unwrap_or(0)),
         "wanted" | "most" => push_count_word(out, &rule, word),
         "loose" => push_loose(out, &scene.side, &rule),
         _ => push_rule(out, &scene.side, &rule_for(&rule, word)),
     }
+}
+
+/// How many AVPs stand in front of the place, or with the one at it.
+fn number_of(found: u32, word: &str) -> usize {
+    let count = if word == "count" {
+        found.saturating_add(1)
+    } else {
+        found
+    };
+    count as usize
 }
 
 /// The rule as it is, or as it would have to be.
