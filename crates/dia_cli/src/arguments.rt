@@ -3,7 +3,7 @@
 ghost use Rattle.std.specs.Prelude.{◌≡◌, IfOk, IfSome, IsSomeAnd, Some, codes};
 ghost use Rattle.std.specs.Prelude.{[], ◌∷◌, true, Bool, ℕ, IfErr, List, None, Option, false, map, option_map, string_bytes, unwrap_or};
 ghost use Rattle.clap.specs.Walk.{Row, Text, texts};
-ghost use Rattle.clap.specs.Words.{all_of, found_of, first_of, rows_of, subcommand_rows_of};
+ghost use Rattle.clap.specs.Words.{all_of, app_of, found_of, first_of, rows_of, subcommand_rows_of};
 ghost use Rattle.dia_cli.specs.Asking.{IsApart, IsRefused, IsUnasked, IsUnrun, IsWanting, has_judged, has_pair};
 ghost use Rattle.dia_cli.specs.Asking.{has_compared, has_made, has_refuted, has_word, is_asked, is_judged};
 ghost use Rattle.dia_cli.specs.Asking.{is_policy, is_sender};
@@ -11,7 +11,7 @@ ghost use Rattle.dia_cli.specs.Forms.{Form, IsAccepted, form_name, is_plain_form
 ghost use Rattle.dia_cli.specs.Origins.{reads_twice};
 ghost use Rattle.dia_cli.specs.InputWords.{AreFound, one_text, pair_texts};
 ghost use Rattle.dia_cli.specs.Request.{read_once};
-ghost use Rattle.dia_cli.specs.Words.{IsAsked, IsAskedBy, IsPolicy, IsRequestOf};
+ghost use Rattle.dia_cli.specs.Words.{IsAsked, IsAskedBy, IsPolicy, IsProgram, IsRequestOf};
 ghost use Rattle.dia_cli.specs.Words.{AreJudged, sends_word};
 
 use crate::apart::Apart;
@@ -20,7 +20,7 @@ use crate::ending::Ending;
 use crate::line::{Words, command_line};
 use crate::origin::Origins;
 use crate::request::Request;
-use crate::rows::ROWS;
+use crate::rows::command_rows;
 use crate::shown::{Shown, shown_of};
 use crate::task::Task;
 use crate::values::{
@@ -73,9 +73,23 @@ fn parsed<'a, S: AsStr>(
         policies: POLICIES.as_slice(),
         senders: SENDERS.as_slice(),
     };
-    let mut line = command_line(alloc, values, ROWS.as_slice())?;
+    let mut line = command_line(alloc, values, command_rows())?;
+    asked_by(alloc, &mut line, words)
+}
+
+/// What the words ask for, by what clap makes of them with this line.
+fn asked_by<'a, S: AsStr>(
+    alloc: Global,
+    line: &mut clap::Command<'a>,
+    words: &'a [S],
+) -> Result<Request<'a>, Ending<'a>>
+    ensures words { IsProgram (app_of line.old)
+        → IfOk result (λ request. IsAskedBy (map S.text words.entry.now) request) }
+    ensures once { IfOk result (λ request. reads_twice request.origins ≡ false) }
+    ensures refused { IsProgram (app_of line.old) → IfErr result (IsRefused (map S.text words.entry.now)) }
+{
     let matches = line.try_get_matches_from_mut(words)?;
-    requested(alloc, &mut line, &matches)
+    requested(alloc, line, &matches)
 }
 
 /// What the arguments ask for that clap found.

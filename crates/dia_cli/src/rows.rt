@@ -1,5 +1,9 @@
 //! The commands of the program, a row each. The command line is made of them.
 
+ghost use Rattle.std.specs.Prelude.{◌≡◌, map};
+ghost use Rattle.dia_cli.specs.Lines.{command_of};
+ghost use Rattle.dia_cli.specs.Rows.{command_rows};
+
 use crate::origin::{BASE_DICTIONARY, NO_TABLE};
 
 /// A command: its options and its inputs, in the order in which help tells them.
@@ -101,7 +105,7 @@ const B: InputRow<'static> = InputRow {
     help: "The second dictionary text: a file, @base, or - for standard input",
 };
 
-pub(crate) static ROWS: [CommandRow<'static>; 8] = [
+static ROWS: [CommandRow<'static>; 8] = [
     CommandRow {
         name: "show",
         about: "Prints a message: its header, and a line for each AVP",
@@ -282,3 +286,10 @@ pub(crate) static ROWS: [CommandRow<'static>; 8] = [
         ],
     },
 ];
+
+/// The commands of the program. It stands alone, since each function that reads the rows is proved with all of them.
+pub(crate) fn command_rows<'a>() -> &'a [CommandRow<'a>]
+    ensures { map command_of result.now ≡ command_rows }
+{
+    ROWS.as_slice()
+}

@@ -10,22 +10,6 @@ use crate::ending::Ending;
 use clap::error::ErrorKind;
 use std::alloc::{AllocError, Global};
 
-/// The commands that take their dictionaries as words, and their usage.
-static USAGES: [(&str, &str); 6] = [
-    ("check", "diacmd check [OPTIONS] <D> <MESSAGE>"),
-    ("render", "diacmd render [OPTIONS] <D>"),
-    ("compare", "diacmd compare [OPTIONS] <A> <B> <TABLE>"),
-    ("refute", "diacmd refute [OPTIONS] <A> <B> <MESSAGE>"),
-    ("propose", "diacmd propose [OPTIONS] <A> <B> <COMMAND>..."),
-    ("breaking", "diacmd breaking [OPTIONS] <A> <B> [COMMAND]..."),
-];
-
-/// The commands whose dictionary is given by `--dict`, and their usage.
-static DICT_USAGES: [(&str, &str); 2] = [
-    ("show", "diacmd show [OPTIONS] <MESSAGE>"),
-    ("make", "diacmd make [OPTIONS] <TEXT>"),
-];
-
 /// An ending, in better words where the words of the process give a dictionary in the way of another command. It stays as it is
 /// where memory for them is refused.
 pub fn advised<'a>(alloc: Global, words: &[String], ending: Ending<'a>) -> Ending<'a>
@@ -57,27 +41,61 @@ fn unexpected(alloc: Global, words: &[String]) -> Option<clap::Error>
 {
     let command = words.get(1)?.as_str();
     let rest = words.get(2..)?;
-    if let Some(usage) = DICT_USAGES.iter().find(|row| row.0 == command) {
-        return given(alloc, command, usage.1, rest);
-    }
-    let usage = USAGES.iter().find(|row| row.0 == command)?;
-    if rest.iter().any(|word| is_dict(word.as_str())) {
-        worded(alloc, command, usage.1)
+    let usage = usage_of(command)?;
+    if has_dict(command) {
+        given(alloc, command, usage, rest)
+    } else if is_given_dict(rest) {
+        worded(alloc, command, usage)
     } else {
         None
     }
 }
 
+/// The usage of a command.
+fn usage_of(command: &str) -> Option<&'static str> {
+    match command {
+        "show" => Some("diacmd show [OPTIONS] <MESSAGE>"),
+        "make" => Some("diacmd make [OPTIONS] <TEXT>"),
+        "check" => Some("diacmd check [OPTIONS] <D> <MESSAGE>"),
+        "render" => Some("diacmd render [OPTIONS] <D>"),
+        "compare" => Some("diacmd compare [OPTIONS] <A> <B> <TABLE>"),
+        "refute" => Some("diacmd refute [OPTIONS] <A> <B> <MESSAGE>"),
+        "propose" => Some("diacmd propose [OPTIONS] <A> <B> <COMMAND>..."),
+        "breaking" => Some("diacmd breaking [OPTIONS] <A> <B> [COMMAND]..."),
+        _ => None,
+    }
+}
+
+/// Whether the dictionary of a command is given by `--dict`. The others take their dictionaries as words.
+fn has_dict(command: &str) -> bool {
+    command == "show" || command == "make"
+}
+
 /// Whether a word is the option `--dict`.
-fn is_dict(word: &str) -> bool {
-    word == "--dict" || word.starts_with("--dict=")
+fn is_given_dict(words: &[String]) -> bool {
+    for word in words {
+        if word.as_str() == "--dict" || word.as_str().starts_with("--dict=") {
+            return true;
+        }
+    }
+    false
+}
+
+/// Whether a word is an option.
+fn is_given_option(words: &[String]) -> bool {
+    for word in words {
+        if word.as_str().starts_with("--") {
+            return true;
+        }
+    }
+    false
 }
 
 /// What is told of `show D MESSAGE`, and of `make D TEXT`.
 fn given(alloc: Global, command: &str, usage: &str, rest: &[String]) -> Option<clap::Error>
     ensures { IfSome result (λ fault. kind_of fault ≡ UnknownArgument) }
 {
-    if rest.iter().any(|word| word.as_str().starts_with("--")) {
+    if is_given_option(rest) {
         return None;
     }
     let first = rest.first()?.as_str();
@@ -104,7 +122,15 @@ fn worded(alloc: Global, command: &str, usage: &str) -> Option<clap::Error>
 fn fault(alloc: Global, told: Result<String, AllocError>, usage: &str) -> Option<clap::Error>
     ensures { IfSome result (λ fault. kind_of fault ≡ UnknownArgument) }
 {
-    let told = told.ok()?;
+    match told {
+        Ok(told) => fault_of(alloc, told.as_str(), usage),
+        Err(_) => None,
+    }
+}
+
+fn fault_of(alloc: Global, told: &str, usage: &str) -> Option<clap::Error>
+    ensures { IfSome result (λ fault. kind_of fault ≡ UnknownArgument) }
+{
     let mut line = clap::Command::new(alloc, "diacmd").override_usage(usage);
-    line.error(ErrorKind::UnknownArgument, &told).ok()
+    line.error(ErrorKind::UnknownArgument, told).ok()
 }
