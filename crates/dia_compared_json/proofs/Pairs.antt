@@ -1,6 +1,6 @@
 -- The pairs of a table, and what is told of them.
-use Rattle.std.proofs.Common.{◌≡◌, ◌∙◌, ℕ, ◌<◌, List, Result, Ok, Err, Some, refl, sym, ap, ap₂, subst, codes, arith, get_or, length, map}
-use Rattle.std.specs.Prelude.{IfOk, String, option_map, slice_get, string_bytes}
+use Rattle.std.proofs.Common.{◌≡◌, ◌∙◌, ℕ, ◌<◌, List, [], Result, Ok, Err, Some, refl, sym, ap, ap₂, subst, codes, arith, get_or, length, map}
+use Rattle.std.specs.Prelude.{◌≢◌, ◌↔◌, IfOk, String, option_map, slice_get, string_bytes}
 use Rattle.std.specs.Global.{Global}
 use Rattle.std.proofs.lemmas.List.{length-map}
 use Rattle.std.proofs.lemmas.Option.{slice_get-map, slice_get_read}
@@ -10,12 +10,14 @@ use Rattle.serde_json.proofs.OnLiterals.{serde_json_on_literals}
 use Rattle.dia_dict.specs.Dictionary.{Dictionary}
 use Rattle.dia_policy.specs.declared.Unknown.{Unknown}
 use Rattle.dia_compat.specs.declared.Answer.{Answer}
-use Rattle.dia_compat.specs.declared.Answer.TheVariants.{Yes}
+use Rattle.dia_compat.specs.declared.Answer.TheVariants.{Yes, No}
 use Rattle.dia_compat.specs.declared.Failing.{Failing}
 use Rattle.dia_compat.specs.declared.PairKind.{PairKind}
 use Rattle.dia_compat.specs.declared.PairKind.TheVariants as kind
 use Rattle.dia_compat.specs.declared.Table.{Table}
+use Rattle.dia_compat.specs.declared.Test.{Test}
 use Rattle.dia_compat.specs.Closed.{pairs_of}
+use Rattle.dia_compat.specs.Failings.{AreFailingsFor, AreFailingsOf}
 use Rattle.dia_compat.specs.TableText.{PlainTable, plain_pair, plain_table}
 use Rattle.dia_io.specs.declared.Exit.TheVariants as exits
 use Rattle.dia_run.specs.declared.commands.Outcome.{Outcome}
@@ -48,6 +50,18 @@ avp_there t k i p is_k within is =
 pub listed_within : (k : PairKind) (t : PlainTable) (i : ℕ) → i < pairs_of k t → i < length (pairs_listed k t)
 listed_within kind.Command t i within = within
 listed_within kind.Avp t i within = within
+
+-- ---- what an answer of no comes with
+
+pub fails_of_pair : (a b : Dictionary) (u : Unknown) (table : PlainTable) (answer : Answer) (k : PairKind) (i : ℕ) (t : Test) (all fails : List Failing) → answer ≡ No k i t → fails ≡ all
+    → AreFailingsFor a b u table answer all → AreFailingsOf a b u table k i t fails
+fails_of_pair a b u table answer k i t all fails is same h =
+    subst (AreFailingsOf a b u table k i t) (sym same) (subst (λ (x : Answer). AreFailingsFor a b u table x all) is h)
+
+pub not_none : (answer : Answer) (k : PairKind) (i : ℕ) (t : Test) (all fails : List Failing) → answer ≡ No k i t → fails ≡ all → (all ≡ []) ↔ (answer ≡ Yes) → fails ≢ []
+not_none answer k i t all fails is same none e = let no : No k i t ≡ Yes = sym is ∙ none.0 (sym same ∙ e) in cc
+
+-- ---- texts
 
 -- the same of the same sides
 pub fails_told : (x y a b : Side) (fails : List Failing) (text : List ℕ) → x ≡ a → y ≡ b → text ≡ compact_text (array (items_of (map (failing_value x y) fails)))

@@ -1,27 +1,29 @@
 //! `compare` as JSON.
 
-ghost use Rattle.std.specs.Prelude.{IfOk, string_bytes};
-ghost use Rattle.dia_compat.specs.Closed.{IsFirstFailure, IsTableAnswer};
+ghost use Rattle.std.specs.Prelude.{◌≡◌, ◌≢◌, ◌<◌, ◌↔◌, [], IfOk, length, string_bytes};
+ghost use Rattle.dia_compat.specs.Closed.{IsTableAnswer};
+ghost use Rattle.dia_compat.specs.Failings.{AreFailingsFor, AreFailingsOf};
 ghost use Rattle.dia_compat.specs.TableText.{plain_table};
 ghost use Rattle.dia_json.specs.Runs.{TellsBad};
 ghost use Rattle.dia_compared_json.specs.Compared.{IsAnswerJson, IsCompareJson, IsFailureJson, TellsComparison};
+ghost use Rattle.dia_compared_json.specs.Failures.{pairs_listed};
 
 use crate::failures::{failure_text, pair_at};
 use dia_book::Book;
 use dia_check::Unknown;
-use dia_compat::{Answer, PairKind, Table, Test, check_table, failings};
+use dia_compat::{Answer, Failing, PairKind, Table, Test, Verdict, judge_table};
 use dia_io::{Exit, Input, Inputs};
 use dia_json::bad_input_line;
 use dia_report::{Answered, BothBooks, Compared, Refused, Report};
 use dia_run::{Outcome, read_dictionary, read_table, told};
 use std::alloc::{AllocError, Global};
 
-/// The object of an answer, how the program ends, and the answer.
+/// The object of an answer, how the program ends, and the answer with what fails.
 #[derive(Drop)]
 struct Found {
     text: String,
     exit: Exit,
-    answer: Answer,
+    verdict: Verdict,
 }
 
 /// Whether the table shows inclusion, or else the first pair that fails a test, and all that fails it.
@@ -41,12 +43,18 @@ pub fn compare(alloc: Global, unknown: Unknown, inputs: &Inputs) -> Result<Answe
         Ok(table) => table,
         Err(refused) => return refuse(alloc, &inputs.table, refused),
     };
-    let Found { text, exit, answer } = found_of(alloc, &first.book, &second.book, unknown, &table)?;
+    let Found {
+        text,
+        exit,
+        verdict,
+    } = found_of(alloc, &first.book, &second.book, unknown, &table)?;
+    let Verdict { answer, failings } = verdict;
     let report = Report::Compared(Compared {
         books: BothBooks { first, second },
         table,
         unknown,
         answer,
+        failings,
     });
     Ok(Answered { text, exit, report })
 }
@@ -79,9 +87,13 @@ fn found_of<A: Book, B: Book>(
     ensures { IfOk result (λ found. TellsComparison unknown (plain_table table.now)
         (A.meaning a.now) (B.meaning b.now) (string_bytes found.text) found.exit) }
 {
-    let answer = check_table(alloc, a, b, unknown, table)?;
-    let Outcome { text, exit } = told_of(alloc, a, b, unknown, table, answer)?;
-    Ok(Found { text, exit, answer })
+    let verdict = judge_table(alloc, a, b, unknown, table)?;
+    let Outcome { text, exit } = told_of(alloc, a, b, unknown, table, &verdict)?;
+    Ok(Found {
+        text,
+        exit,
+        verdict,
+    })
 }
 
 /// The object of an answer, and how the program ends.
@@ -91,21 +103,25 @@ fn told_of<A: Book, B: Book>(
     b: &B,
     unknown: Unknown,
     table: &Table,
-    answer: Answer,
+    verdict: &Verdict,
 ) -> Result<Outcome, AllocError>
-    requires { IsTableAnswer (A.meaning a.now) (B.meaning b.now) unknown (plain_table table.now) answer }
+    requires answer { IsTableAnswer (A.meaning a.now) (B.meaning b.now) unknown (plain_table table.now) verdict.now.answer }
+    requires failings { AreFailingsFor (A.meaning a.now) (B.meaning b.now) unknown (plain_table table.now)
+        verdict.now.answer verdict.now.failings.items }
+    requires none { (verdict.now.failings.items ≡ []) ↔ (verdict.now.answer ≡ Answer.Yes) }
     ensures { IfOk result (λ outcome. IsAnswerJson (A.meaning a.now) (B.meaning b.now) unknown
-        (plain_table table.now) answer (string_bytes outcome.text) outcome.exit) }
+        (plain_table table.now) verdict.now.answer (string_bytes outcome.text) outcome.exit) }
 {
-    match answer {
+    match verdict.answer {
         Answer::Yes => told(alloc, "{\"verdict\":\"yes\"}\n", Exit::Yes),
         Answer::No { kind, pair, reason } => {
-            failure_of(alloc, a, b, unknown, table, kind, pair, reason)
+            let fails = verdict.failings.as_slice();
+            failure_of(alloc, a, b, unknown, table, kind, pair, reason, fails)
         }
     }
 }
 
-/// The outcome where the pair at a place is the first that fails this test.
+/// The outcome where the pair at a place is the first that fails this test, for all of these.
 fn failure_of<A: Book, B: Book>(
     alloc: Global,
     a: &A,
@@ -115,14 +131,16 @@ fn failure_of<A: Book, B: Book>(
     kind: PairKind,
     pair: usize,
     test: Test,
+    fails: &[Failing],
 ) -> Result<Outcome, AllocError>
-    requires { IsFirstFailure (A.meaning a.now) (B.meaning b.now) unknown (plain_table table.now) kind pair test }
+    requires within { pair < length (pairs_listed kind (plain_table table.now)) }
+    requires are_all { AreFailingsOf (A.meaning a.now) (B.meaning b.now) unknown (plain_table table.now) kind pair test fails.now }
+    requires not_none { fails.now ≢ [] }
     ensures { IfOk result (λ outcome. IsFailureJson (A.meaning a.now) (B.meaning b.now) unknown
         (plain_table table.now) kind pair test (string_bytes outcome.text) outcome.exit) }
 {
-    let fails = failings(alloc, a, b, unknown, table, kind, pair, test)?;
     let names = pair_at(table, kind, pair);
-    let text = failure_text(alloc, a, b, kind, names, test, &fails)?;
+    let text = failure_text(alloc, a, b, kind, names, test, fails)?;
     Ok(Outcome {
         text,
         exit: Exit::No,

@@ -1,6 +1,6 @@
 -- Nothing fails a test of a pair of the table exactly where the pair passes it.
 use Rattle.std.proofs.Common.{◌≡◌, ℕ, ◌+◌, Bool, true, false, List, [], ◌∷◌, ◌++◌, Option, Some, None, refl, sym, ap, subst, ◌∙◌, Decides}
-use Rattle.std.specs.Prelude.{◌↔◌, ◌&&◌, Result, Ok, Err, IfOk, IfSome, MatchOption, slice_get, is_some, option_to_list}
+use Rattle.std.specs.Prelude.{◌↔◌, ◌&&◌, IfSome, MatchOption, slice_get, is_some, option_to_list}
 use Rattle.std.specs.List.{filter_map, enumerate_from, list_any, list_all}
 use Rattle.std.specs.Option.{option_map_or}
 use Rattle.std.proofs.lemmas.Bool.Decides.{Decides-and, Decides-like}
@@ -284,8 +284,3 @@ module _ (all : Compared) (sa : IsDictionary all.sides.first) (sb : IsDictionary
 pub none_where_passed : (da db : Dictionary) (u : Unknown) (table : PlainTable) → IsDictionary da → IsDictionary db → (k : PairKind) (i : ℕ) (t : Test) (l : List Failing)
     → AreFailingsOf da db u table k i t l → (l ≡ []) ↔ PassesAt da db u table k i t
 none_where_passed a b u pairs sa sb k i t l h = none_at (compared (record { first = a; second = b; unknown = u }) pairs) sa sb k i t l h
-
-pub none_of_answer : {V E : Type 0} (items : V → List Failing) (da db : Dictionary) (u : Unknown) (table : PlainTable) → IsDictionary da → IsDictionary db → (k : PairKind) (i : ℕ) (t : Test)
-    (r : Result V E) → IfOk r (λ v. AreFailingsOf da db u table k i t (items v)) → IfOk r (λ v. (items v ≡ []) ↔ PassesAt da db u table k i t)
-none_of_answer items a b u pairs sa sb k i t (Err e) h = tt
-none_of_answer items a b u pairs sa sb k i t (Ok v) h = none_where_passed a b u pairs sa sb k i t (items v) h

@@ -14,7 +14,6 @@ pub mod LeastProposal
 pub mod OneAnswer
 pub mod FirstFailedTest
 pub mod FailedPairs
-pub mod ComparisonAnswers
 pub mod WordsOfLines
 pub mod TableLines
 pub mod TableReadBack
@@ -27,3 +26,4 @@ pub mod WritableProposal
 pub mod ListsOfFailings
 pub mod FailingTests
 pub mod FailingPairs
+pub mod ComparisonAnswers

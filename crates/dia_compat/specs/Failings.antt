@@ -10,6 +10,8 @@ use Rattle.dia_book.specs.declared.DRule.{DRule}
 use Rattle.dia_book.specs.Keys.{same_key}
 use Rattle.dia_book.specs.Dictionary.{Dictionary, DictEntry, PlainDefinition, lists_key, is_fixed, group_place}
 use Rattle.dia_check.specs.Valid.{is_listed, is_wildcard, has_wildcard}
+use Rattle.dia_compat.specs.declared.checking.Answer.{Answer}
+use Rattle.dia_compat.specs.declared.checking.Answer.TheVariants.{Yes, No}
 use Rattle.dia_compat.specs.declared.checking.PairKind.{PairKind}
 use Rattle.dia_compat.specs.declared.checking.PairKind.TheVariants as kind
 use Rattle.dia_compat.specs.declared.checking.Test.{Test}
@@ -178,3 +180,13 @@ AreFailingsAt c k i t all = MatchOption (slice_get (pairs_in k c) i) (all ≡ []
 
 abbrev pub AreFailingsOf : Dictionary → Dictionary → Unknown → PlainTable → PairKind → ℕ → Test → List Failing → Type 0
 AreFailingsOf da db u table k i t all = AreFailingsAt (compared (record { first = da; second = db; unknown = u }) table) k i t all
+
+-- of the pair and the test that an answer names; none where it names none
+
+abbrev pub AreFailingsIn : Compared → Answer → List Failing → Type 0
+AreFailingsIn c Yes all = all ≡ []
+AreFailingsIn c (No k i t) all = AreFailingsAt c k i t all
+
+abbrev pub AreFailingsFor : Dictionary → Dictionary → Unknown → PlainTable → Answer → List Failing → Type 0
+AreFailingsFor da db u table Yes all = all ≡ []
+AreFailingsFor da db u table (No k i t) all = AreFailingsOf da db u table k i t all

@@ -1,10 +1,12 @@
 //! Whether a table shows inclusion, and whether a message is valid under the first dictionary alone.
-ghost use Rattle.std.specs.Prelude.{◌≡◌, ◌↔◌, IfOk, IsTrue};
+ghost use Rattle.std.specs.Prelude.{◌≡◌, ◌↔◌, [], IfOk, IsTrue};
 ghost use Rattle.dia_check.specs.Valid.{IsValid};
 ghost use Rattle.dia_compat.specs.TableText.{plain_table};
 ghost use Rattle.dia_compat.specs.Closed.{IsIncluded, IsTableAnswer};
+ghost use Rattle.dia_compat.specs.Failings.{AreFailingsFor};
 
 use crate::comparing::{Comparison, Sides};
+use crate::reasons::Failing;
 use crate::table::Table;
 use dia_book::Book;
 use dia_check::{Levels, Refusal, Unknown, check};
@@ -41,6 +43,15 @@ pub enum Answer {
     },
 }
 
+/// What the tests of a table's pairs find.
+#[derive(Drop)]
+pub struct Verdict {
+    pub answer: Answer,
+    /// All that fails the test that the answer names, of the pair that it names, in the order of the rules, AVPs and commands
+    /// that the test goes over.
+    pub failings: Vec<Failing>,
+}
+
 /// Whether every pair of the table passes every test, or else which pair is the first that doesn't. Where each does, each message
 /// that is valid under the first dictionary, of a command that the table lists, is valid under the second, as a message of a
 /// command beside it.
@@ -64,6 +75,35 @@ pub fn check_table<A: Book, B: Book>(
     };
     let comparison = Comparison::new(alloc, &sides, table)?;
     comparison.answer(alloc)
+}
+
+/// The answer of `check_table`, with all that fails the test that it names.
+pub fn judge_table<A: Book, B: Book>(
+    alloc: Global,
+    a: &A,
+    b: &B,
+    unknown: Unknown,
+    table: &Table,
+) -> Result<Verdict, AllocError>
+    ensures answer { IfOk result (λ verdict. IsTableAnswer (A.meaning a.now) (B.meaning b.now)
+        unknown (plain_table table.now) verdict.answer) }
+    ensures inclusion { IfOk result
+        (λ verdict. verdict.answer ≡ Answer.Yes
+        → IsIncluded (A.meaning a.now) (B.meaning b.now) unknown (plain_table table.now)) }
+    // What the test says all of, and what of it fails.
+    ensures failings { IfOk result (λ verdict. AreFailingsFor (A.meaning a.now) (B.meaning b.now)
+        unknown (plain_table table.now) verdict.answer verdict.failings.items) }
+    // There are some exactly where a pair fails a test.
+    ensures none { IfOk result
+        (λ verdict. (verdict.failings.items ≡ []) ↔ (verdict.answer ≡ Answer.Yes)) }
+{
+    let sides = Sides {
+        first: a,
+        second: b,
+        unknown,
+    };
+    let comparison = Comparison::new(alloc, &sides, table)?;
+    comparison.verdict(alloc)
 }
 
 /// Whether the bytes are valid under the first dictionary and not under the second.

@@ -11,6 +11,7 @@ mod heads;
 mod keys;
 mod named_book;
 mod nine_tests;
+mod pair_tests;
 mod pairs;
 mod rules;
 mod sides;

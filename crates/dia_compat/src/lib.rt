@@ -8,11 +8,11 @@ mod proposing;
 mod reasons;
 mod table;
 
-pub use checking::{Answer, PairKind, Test, check_table, refutes};
+pub use checking::{Answer, PairKind, Test, Verdict, check_table, judge_table, refutes};
 pub use laws::{
     closed_is_included, level_is_included, level_is_placed, no_table_passes, one_comparison,
     one_proposal, one_table, one_table_fault, read_tables_are_writable,
 };
 pub use proposing::{ProposeFault, propose};
-pub use reasons::{Failing, failings};
+pub use reasons::Failing;
 pub use table::{MAX_NAME, MAX_PAIRS, MAX_TABLE, Table, TableFault, parse_table, render_table};

@@ -1,15 +1,6 @@
 //! Why a pair of definitions fails a test.
-ghost use Rattle.std.specs.Prelude.{◌≡◌, ◌↔◌, IfOk, []};
-ghost use Rattle.dia_compat.specs.TableText.{plain_table};
-ghost use Rattle.dia_compat.specs.Closed.{PassesAt};
-ghost use Rattle.dia_compat.specs.Failings.{AreFailingsOf};
 
-use crate::checking::{PairKind, Test};
-use crate::comparing::{Comparison, Sides};
-use crate::table::Table;
-use dia_book::{Book, Key};
-use dia_check::Unknown;
-use std::alloc::{AllocError, Global};
+use dia_book::Key;
 
 /// What fails a test. `first` and `second` are rules of the first and of the second dictionary's definition, by their places
 /// among its rules, from 0.
@@ -62,34 +53,4 @@ pub enum Failing {
     /// N10: the second dictionary may read messages of the command by this one of its commands, and the table doesn't have the
     /// pair. Commands count from 0.
     NotBeside { second: usize },
-}
-
-/// All that fails a test of a pair of the table, in the order of the rules, AVPs and commands that the test goes over. A pair
-/// that the table doesn't have fails nothing, and neither do names that no definition has, but for the test N10.
-pub fn failings<A: Book, B: Book>(
-    alloc: Global,
-    a: &A,
-    b: &B,
-    unknown: Unknown,
-    table: &Table,
-    kind: PairKind,
-    pair: usize,
-    test: Test,
-) -> Result<Vec<Failing>, AllocError>
-    // What the test says all of, and what of it fails.
-    ensures all { IfOk result
-        (λ all. AreFailingsOf (A.meaning a.now) (B.meaning b.now) unknown
-        (plain_table table.now) kind pair test all.items) }
-    // There are some exactly where the pair fails the test.
-    ensures none { IfOk result
-        (λ all. (all.items ≡ []) ↔ PassesAt (A.meaning a.now) (B.meaning b.now) unknown
-        (plain_table table.now) kind pair test) }
-{
-    let sides = Sides {
-        first: a,
-        second: b,
-        unknown,
-    };
-    let comparison = Comparison::new(alloc, &sides, table)?;
-    comparison.failings(alloc, kind, pair, test)
 }

@@ -20,7 +20,7 @@ pub fn push_answer(
         Report::Cut(listing) => push_show(alloc, out, texts, listing),
         Report::Invalid(found) => push_check(out, texts, found),
         Report::Unrefuting(found) => push_refute(out, texts, found),
-        Report::Compared(found) => push_compare(alloc, out, texts, found),
+        Report::Compared(found) => push_compare(out, texts, found),
         Report::Done | Report::Refused(_) | Report::NoCommand(_) => Ok(()),
     }
 }

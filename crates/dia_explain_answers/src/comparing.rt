@@ -7,22 +7,16 @@ mod reasons;
 
 use crate::sides::Side;
 use crate::texts::Added;
-use dia_compat::{Answer, Failing, PairKind, Test, failings};
+use dia_compat::{Answer, Failing, PairKind, Test};
 use dia_explain_places::{InputTexts, push_start};
 use dia_report::Compared;
 use pair::Pair;
 use pairing::{Pairing, place_of_pair};
 use parts::push_lines;
 use reasons::{lines_of, more_of};
-use std::alloc::{AllocError, Global};
 
 /// Adds the note of the first pair of a table that fails a test.
-pub fn push_compare(
-    alloc: Global,
-    out: &mut String,
-    texts: &InputTexts<'_>,
-    found: &Compared,
-) -> Added {
+pub fn push_compare(out: &mut String, texts: &InputTexts<'_>, found: &Compared) -> Added {
     let Answer::No { kind, pair, reason } = found.answer else {
         return Ok(());
     };
@@ -34,21 +28,9 @@ pub fn push_compare(
         name: texts.table.name,
         text: texts.table.text,
     };
-    push_failing(alloc, out, &pairing, kind, pair, reason)
-}
-
-/// Adds the place of the pair in the table, what the test asks, and the first that fails it.
-fn push_failing(
-    alloc: Global,
-    out: &mut String,
-    pairing: &Pairing<'_>,
-    kind: PairKind,
-    pair: usize,
-    test: Test,
-) -> Added {
-    push_asked(out, pairing, kind, pair, test)?;
-    match first_failing(alloc, pairing, kind, pair, test)? {
-        Some(failing) => push_pair(out, pairing, kind, pair, failing),
+    push_asked(out, &pairing, kind, pair, reason)?;
+    match found.failings.first() {
+        Some(failing) => push_pair(out, &pairing, kind, pair, *failing),
         None => Ok(()),
     }
 }
@@ -65,20 +47,6 @@ fn push_asked(
     let asked = asked_by(test, kind);
     push_start(out, pairing.name, pairing.text, at)?;
     write!(out, "this pair fails the test {asked}\n")
-}
-
-/// The first that fails a test of the pair.
-fn first_failing(
-    alloc: Global,
-    pairing: &Pairing<'_>,
-    kind: PairKind,
-    pair: usize,
-    test: Test,
-) -> Result<Option<Failing>, AllocError> {
-    let (a, b) = (pairing.a.book, pairing.b.book);
-    let (unknown, table) = (pairing.unknown, pairing.table);
-    let failings = failings(alloc, a, b, unknown, table, kind, pair, test)?;
-    Ok(failings.first().copied())
 }
 
 /// What a test is about.

@@ -3,7 +3,7 @@
 use crate::bad_input::BadInput;
 use dia_ccf::Source;
 use dia_check::{Levels, Refusal, Selected, Unknown};
-use dia_compat::{Answer, Table};
+use dia_compat::{Answer, Failing, Table};
 use dia_dict::IndexedBook;
 use dia_io::Exit;
 
@@ -71,6 +71,8 @@ pub struct Compared {
     pub table: Table,
     pub unknown: Unknown,
     pub answer: Answer,
+    /// All that fails the test that the answer names, of the pair that it names.
+    pub failings: Vec<Failing>,
 }
 
 /// What a command read of its inputs, and what it found: all by which its answer is explained.

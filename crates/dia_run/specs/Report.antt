@@ -7,6 +7,7 @@ use Rattle.dia_ccf.specs.Refusals.{IsRefused}
 use Rattle.dia_check.specs.Faults.{IsAnswer as IsChecked}
 use Rattle.dia_compat.specs.TableText.{plain_table}
 use Rattle.dia_compat.specs.Closed.{IsTableAnswer as IsCompared}
+use Rattle.dia_compat.specs.Failings.{AreFailingsFor}
 use Rattle.dia_dict.specs.Dictionary.{Dictionary as AnyDictionary}
 use Rattle.dia_dict.specs.declared.IndexedBook.{IndexedBook}
 use Rattle.dia_io.specs.declared.Input.{Input}
@@ -59,6 +60,7 @@ IsReport meaning inputs (Unrefuting found) text exit =
 IsReport meaning inputs (Compared found) text exit =
     AreReadFrom meaning inputs found.books × IsTableText inputs.table (plain_table found.table)
     × IsCompared (meaning found.books.first.value.book) (meaning found.books.second.value.book) found.unknown (plain_table found.table) found.answer
+    × AreFailingsFor (meaning found.books.first.value.book) (meaning found.books.second.value.book) found.unknown (plain_table found.table) found.answer found.failings.items
     × IsAnswerText (plain_table found.table) found.answer text exit
 
 -- the report of what was answered

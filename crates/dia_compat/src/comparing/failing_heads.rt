@@ -12,7 +12,7 @@ use super::commands::{is_ready, set_of_pairs};
 use super::covers::Cover;
 use super::failing_rules::unless;
 use super::heads::{is_proxiable, same_code_and_class, serves};
-use super::pairs::{is_format_kept, is_m_kept};
+use super::pair_tests::{is_format_kept, is_m_kept};
 use super::sides::Sides;
 use crate::checking::Test;
 use crate::reasons::Failing;

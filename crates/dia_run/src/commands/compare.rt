@@ -10,7 +10,7 @@ use crate::commands::{Outcome, told};
 use crate::inputs::dictionary::read_dictionary;
 use crate::inputs::table::read_table;
 use dia_check::Unknown;
-use dia_compat::{Answer, PairKind, Table, Test, check_table};
+use dia_compat::{Answer, PairKind, Table, Test, Verdict, judge_table};
 use dia_dict::{Book, IndexedBook};
 use dia_io::{Exit, Inputs};
 use dia_report::{Answered, BothBooks, Compared, Refused, Report};
@@ -24,13 +24,15 @@ pub fn compare(alloc: Global, unknown: Unknown, inputs: &Inputs) -> Result<Answe
     let first = read_dictionary(alloc, 1, &inputs.first)?;
     let second = read_dictionary(alloc, 2, &inputs.second)?;
     let table = read_table(alloc, &inputs.table)?;
-    let answer = check_table(alloc, &first.book, &second.book, unknown, &table)?;
-    let Outcome { text, exit } = told_of(alloc, &table, answer)?;
+    let verdict = judge_table(alloc, &first.book, &second.book, unknown, &table)?;
+    let Outcome { text, exit } = told_of(alloc, &table, verdict.answer)?;
+    let Verdict { answer, failings } = verdict;
     let report = Report::Compared(Compared {
         books: BothBooks { first, second },
         table,
         unknown,
         answer,
+        failings,
     });
     Ok(Answered { text, exit, report })
 }

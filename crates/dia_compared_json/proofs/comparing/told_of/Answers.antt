@@ -4,15 +4,28 @@ use Rattle.dia_compat.specs.declared.Answer.{Answer}
 use Rattle.dia_compat.specs.Closed.{IsTableAnswer}
 use Rattle.dia_compat.specs.TableText.{plain_table}
 use Rattle.dia_compared_json.specs.Compared.{IsAnswerJson}
-use Rattle.dia_compared_json.proofs.Pairs.{yes_told}
+use Rattle.dia_compared_json.proofs.Pairs.{fails_of_pair, listed_within, not_none, yes_told}
 use Rattle.dia_compared_json.proofs.comparing.told_of.Goals as goal
 
-pub failure_of-requires : goal.failure_of-requires
-failure_of-requires g c =
-    subst (λ (x : Answer). IsTableAnswer (g.A.Book.meaning c.args.a.now) (g.B.Book.meaning c.args.b.now) c.args.unknown (plain_table c.args.table.now) x) c.in-No.is c.requires
+pub failure_of-requires-clause-within : goal.failure_of-requires-clause-within
+failure_of-requires-clause-within g c =
+    let table = plain_table c.args.table.now in
+    listed_within c.in-No.kind table c.in-No.pair
+    (subst (λ (x : Answer). IsTableAnswer (g.A.Book.meaning c.args.a.now) (g.B.Book.meaning c.args.b.now) c.args.unknown table x) c.in-No.is c.requires.answer).within
+
+pub failure_of-requires-clause-are_all : goal.failure_of-requires-clause-are_all
+failure_of-requires-clause-are_all g c =
+    let da = g.A.Book.meaning c.args.a.now in
+    let db = g.B.Book.meaning c.args.b.now in
+    fails_of_pair da db c.args.unknown (plain_table c.args.table.now) c.args.verdict.now.answer c.in-No.kind c.in-No.pair c.in-No.reason
+    c.args.verdict.now.failings.items c.as_slice-fails.result.now c.in-No.is c.as_slice-fails.ensures.value c.requires.failings
+
+pub failure_of-requires-clause-not_none : goal.failure_of-requires-clause-not_none
+failure_of-requires-clause-not_none g c =
+    not_none c.args.verdict.now.answer c.in-No.kind c.in-No.pair c.in-No.reason c.args.verdict.now.failings.items c.as_slice-fails.result.now c.in-No.is c.as_slice-fails.ensures.value c.requires.none
 
 pub returns-in-Yes : goal.returns-in-Yes
-returns-in-Yes g c = yes_told _ _ c.args.unknown (plain_table c.args.table.now) c.args.answer c.told.result c.in-Yes.is c.told.ensures.text c.told.ensures.exit
+returns-in-Yes g c = yes_told _ _ c.args.unknown (plain_table c.args.table.now) c.args.verdict.now.answer c.told.result c.in-Yes.is c.told.ensures.text c.told.ensures.exit
 
 pub returns-in-No : goal.returns-in-No
 returns-in-No g c =

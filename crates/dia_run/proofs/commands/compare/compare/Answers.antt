@@ -20,15 +20,15 @@ returns-in_err-table-clause-outcome c =
     rw (p.1, p.2) (Ends-no_table c.args.unknown c.args.inputs.now _ _ _ c.in_ok-first.ensures.book c.in_ok-second.ensures.book c.in_err-table.ensures.told)
 
 pub told_of-requires : goal.told_of-requires
-told_of-requires c = names_pair _ _ c.args.unknown _ _ c.in_ok-answer.ensures.answer
+told_of-requires c = names_pair _ _ c.args.unknown _ _ c.in_ok-verdict.ensures.answer
 
-pub returns-in_err-answer-clause-outcome : goal.returns-in_err-answer-clause-outcome
-returns-in_err-answer-clause-outcome c = let p = err_from_is_err_and c.from_residual-in_err-answer.result c.from_residual-in_err-answer.ensures.1 in rw (p.1, p.2) tt
+pub returns-in_err-verdict-clause-outcome : goal.returns-in_err-verdict-clause-outcome
+returns-in_err-verdict-clause-outcome c = let p = err_from_is_err_and c.from_residual-in_err-verdict.result c.from_residual-in_err-verdict.ensures.1 in rw (p.1, p.2) tt
 
 pub returns-in_err-text-clause-outcome : goal.returns-in_err-text-clause-outcome
 returns-in_err-text-clause-outcome c = let p = err_from_is_err_and c.from_residual-in_err-text.result c.from_residual-in_err-text.ensures.1 in rw (p.1, p.2) tt
 
 pub returns-clause-outcome : goal.returns-clause-outcome
 returns-clause-outcome c =
-    let answer = rw (c.deref.ensures, c.deref-2.ensures) at c.in_ok-answer.ensures.answer in
+    let answer = rw (c.deref.ensures, c.deref-2.ensures) at c.in_ok-verdict.ensures.answer in
     ended _ _ c.in_ok-first.ensures.book c.in_ok-second.ensures.book (compared _ _ c.in_ok-table.ensures.table answer c.in_ok-text.ensures)

@@ -4,7 +4,7 @@ use Rattle.dia_book.specs.Dictionary.{Dictionary, definitions, group_place}
 use Rattle.dia_compat.specs.Sides.{Sides}
 use Rattle.dia_compat.specs.PairTests.{failed_groups}
 use Rattle.dia_rules.proofs.GroupNumbers.{group_within}
-use Rattle.dia_compat.proofs.comparing.pairs.failed_avps.Goals as goal
+use Rattle.dia_compat.proofs.comparing.pair_tests.failed_avps.Goals as goal
 
 pub failed_groups-requires-clause-first : goal.failed_groups-requires-clause-first
 failed_groups-requires-clause-first g c =

@@ -6,7 +6,7 @@ use Rattle.dia_compat.specs.Sides.{Sides}
 use Rattle.dia_rules.specs.Rules.{rules_in}
 use Rattle.dia_compat.specs.PairTests.{failed_rules}
 use Rattle.dia_compat.proofs.CommandsByCode.{pair_fails, pair_fails_tenth}
-use Rattle.dia_compat.proofs.comparing.pairs.failed_commands.Goals as goal
+use Rattle.dia_compat.proofs.comparing.pair_tests.failed_commands.Goals as goal
 
 pub returns-then-selected : goal.returns-then-selected
 returns-then-selected g c =
