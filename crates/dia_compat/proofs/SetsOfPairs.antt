@@ -66,6 +66,16 @@ one_pair_more pairs keys more i k p within item first second before made x y =
     ∙ ap (λ (ps : List (String Global × String Global)). list_any (is_pair x y) (map plain_pair ps))
     (ap (λ (z : String Global × String Global). take i pairs ++ z ∷ []) item ∙ sym (take_more pairs i p within))
 
+-- one pair more that has a test or not
+pub any_more : (test : NamePair → Bool) (pairs : List (String Global × String Global)) (i : ℕ) (p : String Global × String Global) → i < length pairs → p ≡ get_or pairs i p
+    → list_any test (map plain_pair (take (i + 1) pairs)) ≡ (list_any test (map plain_pair (take i pairs)) || test (plain_pair p))
+any_more test pairs i p within item =
+    ap (λ (ps : List (String Global × String Global)). list_any test (map plain_pair ps))
+    (take_more pairs i p within ∙ ap (λ (z : String Global × String Global). take i pairs ++ z ∷ []) (sym item))
+    ∙ ap (list_any test) (map-append plain_pair (take i pairs) (p ∷ []))
+    ∙ list_any-append test (map plain_pair (take i pairs)) (plain_pair p ∷ [])
+    ∙ ap (λ (b : Bool). list_any test (map plain_pair (take i pairs)) || b) (or_false (test (plain_pair p)))
+
 -- ---- pairs that were gone through
 
 pub named_pair : (P : NamePair → Type 0) (p : String Global × String Global) (x y : List ℕ) → x ≡ string_bytes p.0 → y ≡ string_bytes p.1 → P (x, y) → P (plain_pair p)

@@ -15,6 +15,7 @@ use crate::comparing::{Commands, Sides, names_of_commands};
 use crate::table::{Table, push_pair};
 use dia_book::{Book, Entry};
 use dia_check::Unknown;
+use indexmap::IndexSet;
 use naming::NamedCommands;
 use reaching::Reached;
 use std::alloc::{AllocError, Global};
@@ -86,12 +87,39 @@ fn named_commands<A: Book, B: Book>(
     ensures refusal { IfErr result
         (IsRefusal sides.now.first (map (λ n. string_bytes n) names.now)) }
 {
-    let a = sides.first();
-    let most = a.entries().min(sides.second().entries());
-    let places = names_of_commands(alloc, a)?;
     let commands = Commands::new(alloc, sides)?;
+    named_by(alloc, &commands, names)
+}
+
+fn named_by<A: Book, B: Book>(
+    alloc: Global,
+    commands: &Commands<'_, A, B>,
+    names: &[String],
+) -> Result<NamedCommands, ProposeFault>
+    ensures ok { IfOk result (NamedSoFar commands.now (map (λ n. string_bytes n) names.now) []) }
+    ensures refusal { IfErr result
+        (IsRefusal commands.now.first (map (λ n. string_bytes n) names.now)) }
+{
+    let places = names_of_commands(alloc, commands.sides().first())?;
+    named_among(alloc, commands, &places, names)
+}
+
+/// The same. `places` has the names of the first's commands, each at its place.
+fn named_among<A: Book, B: Book>(
+    alloc: Global,
+    commands: &Commands<'_, A, B>,
+    places: &IndexSet<&str>,
+    names: &[String],
+) -> Result<NamedCommands, ProposeFault>
+    requires { map (λ n. n.now) places.now.keys ≡ map (λ c. c.name) commands.now.first.commands }
+    ensures ok { IfOk result (NamedSoFar commands.now (map (λ n. string_bytes n) names.now) []) }
+    ensures refusal { IfErr result
+        (IsRefusal commands.now.first (map (λ n. string_bytes n) names.now)) }
+{
+    let sides = commands.sides();
+    let most = sides.first().entries().min(sides.second().entries());
     let mut named = NamedCommands::new(alloc, sides, most)?;
-    named.add_all(alloc, &commands, &places, names)?;
+    named.add_all(alloc, commands, places, names)?;
     Ok(named)
 }
 

@@ -4,7 +4,7 @@ use dia_book::Key;
 
 /// What fails a test. `first` and `second` are rules of the first and of the second dictionary's definition, by their places
 /// among its rules, from 0.
-#[derive(Clone, Copy, PartialEq, Eq)]
+#[derive(Clone, Copy)]
 pub enum Failing {
     /// N1: at the place of a fixed rule of the second, the first has no fixed rule of the same AVP with counts within. `first` is
     /// its rule of that AVP, wherever it stands.

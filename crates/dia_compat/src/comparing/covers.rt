@@ -1,5 +1,5 @@
 //! Keys of pairs, and what may stand without a pair.
-ghost use Rattle.std.specs.Prelude.{◌≡◌, ◌<◌, IfOk, IfSome, map, length, slice_get, false};
+ghost use Rattle.std.specs.Prelude.{◌≡◌, ◌<◌, ◌||◌, IfOk, IfSome, OnOk, map, length, slice_get, false};
 ghost use Rattle.std.specs.List.{list_all, list_any};
 ghost use Rattle.std.specs.Option.{option_map_or};
 ghost use Rattle.dia_data.specs.Plain.{plain_format};
@@ -186,12 +186,26 @@ fn paired_keys<A: Book, B: Book>(
         ≡ list_any (pairs_key a.now b.now key) (map plain_pair pairs.now)) }
 {
     let mut keys = IndexSet::new(alloc);
-    for (first, second) in pairs {
-        if let Some(key) = pair_key(a, b, first, second) {
-            keys.insert(key)?;
-        }
+    for pair in pairs {
+        add_key(&mut keys, a, b, pair)?;
     }
     Ok(keys)
+}
+
+/// Adds the key that both names of a pair have, if there is one.
+fn add_key<A: Book, B: Book>(
+    keys: &mut IndexSet<Key>,
+    a: &NamedBook<'_, A>,
+    b: &NamedBook<'_, B>,
+    pair: &(String, String),
+) -> Result<(), AllocError>
+    ensures { OnOk result ((key : AnyKey) → holds_key keys.new.keys key ≡
+        (holds_key keys.old.keys key || pairs_key a.now b.now key (plain_pair pair.now))) }
+{
+    if let Some(key) = pair_key(a, b, pair.0.as_str(), pair.1.as_str()) {
+        keys.insert(key)?;
+    }
+    Ok(())
 }
 
 /// The key that both names have.

@@ -144,8 +144,7 @@ fn commands_apart<A: Book, B: Book>(
         (enumerate_from 0 cover.now.sides.second.commands)) }
 {
     let beside = set_of_pairs(alloc, &cover.table().commands)?;
-    let apart = apart_from(alloc, cover.sides(), &beside, command)?;
-    Ok(apart)
+    apart_from(alloc, cover.sides(), &beside, command)
 }
 
 fn apart_from<A: Book, B: Book>(

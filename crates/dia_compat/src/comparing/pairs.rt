@@ -1,5 +1,5 @@
 //! The tests of a table's pairs.
-ghost use Rattle.std.specs.Prelude.{◌≡◌, IfOk, map, slice_get};
+ghost use Rattle.std.specs.Prelude.{◌≡◌, [], IfOk, map, slice_get};
 ghost use Rattle.dia_compat.specs.TableText.{plain_table, plain_pair};
 ghost use Rattle.dia_compat.specs.Sides.{compared};
 ghost use Rattle.dia_compat.specs.PairTests.{all_selected};
@@ -52,12 +52,13 @@ impl<'a, A: Book, B: Book> Comparison<'a, A, B> {
     {
         let a = NamedBook::new(alloc, sides.first())?;
         let b = NamedBook::new(alloc, sides.second())?;
+        let selected = selected_by(alloc, sides, table)?;
         let cover = Cover::new(alloc, sides, &a, &b, table)?;
         Ok(Comparison {
             a,
             b,
             cover,
-            selected: selected_by(alloc, sides, table)?,
+            selected,
         })
     }
 
@@ -119,6 +120,19 @@ impl<'a, A: Book, B: Book> Comparison<'a, A, B> {
         ensures { IfOk result (IsFound (PairTest self.now kind) (map plain_pair pairs.now)) }
     {
         let mut seen = IndexSet::new(alloc);
+        self.first_among(&mut seen, kind, pairs)
+    }
+
+    /// The same. `seen` takes the pairs that were tested.
+    fn first_among<'p>(
+        &self,
+        seen: &mut IndexSet<(&'p str, &'p str)>,
+        kind: PairKind,
+        pairs: &'p [(String, String)],
+    ) -> Result<Option<(usize, Test)>, AllocError>
+        requires { seen.old.keys ≡ [] }
+        ensures { IfOk result (IsFound (PairTest self.now kind) (map plain_pair pairs.now)) }
+    {
         for (place, pair) in pairs.iter().enumerate() {
             let first = pair.0.as_str();
             let second = pair.1.as_str();
@@ -273,6 +287,5 @@ fn selected_by<A: Book, B: Book>(
         (λ all. all.items ≡ all_selected (compared sides.now (plain_table table.now))) }
 {
     let beside = set_of_pairs(alloc, &table.commands)?;
-    let selected = all_selected(alloc, sides, &beside)?;
-    Ok(selected)
+    all_selected(alloc, sides, &beside)
 }

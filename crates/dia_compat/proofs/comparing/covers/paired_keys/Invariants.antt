@@ -6,6 +6,6 @@ use Rattle.dia_compat.specs.Tests.{holds_key}
 use Rattle.dia_compat.specs.PairTests.{pairs_key}
 use Rattle.dia_compat.proofs.comparing.covers.paired_keys.Given as goal
 
-abbrev pub invariant-loop-first : goal.invariant-loop-first
-invariant-loop-first g l = (key : Key) → holds_key l.keys.keys key ≡ list_any (pairs_key l.a l.b key)
-    (map plain_pair (take l.first-index l.pairs))
+abbrev pub invariant-loop-pair : goal.invariant-loop-pair
+invariant-loop-pair g l = (key : Key) → holds_key l.keys.keys key ≡ list_any (pairs_key l.a l.b key)
+    (map plain_pair (take l.pair-index l.pairs))

@@ -1,7 +1,7 @@
 use Rattle.dia_compat.specs.FirstFailures.{PairTest}
 use Rattle.dia_compat.proofs.SetsOfPairs.{one_pair_more, this_fails, this_passes, stood_before, is_old}
-use Rattle.dia_compat.proofs.comparing.pairs.Comparison.first_failure.Goals as goal
-use Rattle.dia_compat.proofs.comparing.pairs.Comparison.first_failure.Goals.{then-branch+in-None, else-branch}
+use Rattle.dia_compat.proofs.comparing.pairs.Comparison.first_among.Goals as goal
+use Rattle.dia_compat.proofs.comparing.pairs.Comparison.first_among.Goals.{then-branch+in-None, else-branch}
 
 pub returns-in-Some : goal.returns-in-Some
 returns-in-Some g c =

@@ -5,7 +5,7 @@ use Rattle.dia_compat.specs.declared.checking.Test.{Test}
 use Rattle.dia_compat.specs.TableText.{plain_pair}
 use Rattle.dia_compat.specs.PairTests.{NamePair, plain_names, is_pair}
 use Rattle.dia_compat.specs.FirstFailures.{PairTest}
-use Rattle.dia_compat.proofs.comparing.pairs.Comparison.first_failure.Given as goal
+use Rattle.dia_compat.proofs.comparing.pairs.Comparison.first_among.Given as goal
 
 abbrev pub invariant-loop-place : goal.invariant-loop-place
 invariant-loop-place g l = record {
