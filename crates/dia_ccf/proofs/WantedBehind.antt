@@ -1,13 +1,12 @@
 -- What is wanted behind a token that the machine takes.
-use Rattle.std.proofs.Common.{◌≡◌, ℕ, ◌<◌, Bool, true, false, cond, List, [], ◌∷◌, ◌++◌, map, Option, Some, None, refl, sym, ap, subst, ◌∙◌, arith, lit<}
-use Rattle.std.specs.Prelude.{codes, ◌&&◌, ◌||◌, not, is_some, ⊤}
+use Rattle.std.proofs.Common.{◌≡◌, ℕ, Bool, true, false, cond, List, [], ◌∷◌, ◌++◌, map, Option, Some, None, refl, sym, ap, subst, ◌∙◌, arith, lit<}
+use Rattle.std.specs.Prelude.{codes, ◌&&◌, ◌||◌, not, ⊤}
 use Rattle.std.specs.Option.{option_map}
 use Rattle.dia_ccf.specs.declared.source.FormatName.{FormatName}
 use Rattle.dia_ccf.specs.declared.source.FormatName.TheVariants as format
-use Rattle.dia_terms.specs.declared.Pxy.TheVariants.{Set, Either}
+use Rattle.dia_terms.specs.declared.Pxy.TheVariants.{Either}
 use Rattle.dia_ccf.specs.declared.source.Head.TheVariants as heads
-use Rattle.dia_terms.specs.declared.RuleKind.{RuleKind}
-use Rattle.dia_terms.specs.declared.RuleKind.TheVariants.{Fixed, Required, Optional}
+use Rattle.dia_terms.specs.declared.RuleKind.TheVariants.{Required, Optional}
 use Rattle.dia_ccf.specs.declared.source.Qual.{Qual}
 use Rattle.dia_ccf.specs.declared.wanted.Wanted.{Wanted}
 use Rattle.dia_ccf.specs.declared.wanted.Wanted.TheVariants as wants
@@ -17,7 +16,7 @@ use Rattle.dia_ccf.specs.declared.wanted.InHead.{InHead}
 use Rattle.dia_ccf.specs.declared.wanted.InHead.TheVariants as head
 use Rattle.dia_ccf.specs.declared.wanted.InRules.{InRules}
 use Rattle.dia_ccf.specs.declared.wanted.InRules.TheVariants as rules
-use Rattle.dia_ccf.specs.Names.{is_fixed, same_bytes}
+use Rattle.dia_ccf.specs.Names.{is_fixed}
 use Rattle.dia_ccf.specs.Plain.{PlainDecl, PlainRule, PlainDef, PlainSource}
 use Rattle.dia_ccf.specs.Tokens.{Token, Less, Greater, Open_brace, Open_bracket, Close_bracket, Open_parenthesis, Close_parenthesis, Star, Comma, Dots, Assign, Colon, Declares, Number, Name}
 use Rattle.dia_ccf.specs.Grammar.{format_word}
@@ -28,11 +27,11 @@ use Rattle.dia_ccf.specs.Machine.{Error_word, Error_flags, Error_either, Error_c
 use Rattle.dia_ccf.specs.Machine.{Decl_format, Decl_rule, Decl_values, In_values, After_value, After_dots, Def_name, Def_close, Def_assign, Head_open, In_head}
 use Rattle.dia_ccf.specs.Machine.{Rules, Qual_min, Qual_star, Qual_done, Fixed_name, Fixed_close, Angle_name, Angle_close, After_angle, Loose_name, Loose_close}
 use Rattle.dia_ccf.specs.Machine.{same_sign, is_word, is_keyword, is_number, sign_at, keyword_at, number_at, name_at, format_at, rule_at, slot_at, is_enumerated, is_none, all_fixed, closing_sign}
-use Rattle.dia_ccf.specs.Machine.{add_decl, add_def, with_values, with_rule, fixed_rule, head_at, next_flag, on_comma, next_in_head, on_item, on_values, on_loose, on_bracket, on_star, on_qualifier}
-use Rattle.dia_ccf.specs.Machine.{on_rules, begins_qualifier, begins_loose, step, next, whole_at, whole}
-use Rattle.dia_ccf.specs.Wanting.{fits, may_end, wanted_at, wanted_in_head, value_of, small_value, behind, behind_all, behind_item, behind_value, next_wanted, behind_flag, behind_loose}
-use Rattle.dia_ccf.specs.Wanting.{behind_bracket, behind_rule, behind_in_rules, behind_in_declaration, behind_in_head, begins_item, goes_on, may_end_head, begins_rule, opens_rule, or_comma, is_number_to, is_name_token}
-use Rattle.dia_ccf.proofs.TokenTests.{same_sign-is, number_at-is, format_at-is, keyword-is}
+use Rattle.dia_ccf.specs.Machine.{add_decl, add_def, with_values, with_rule, fixed_rule, head_at, next_flag, next_in_head, on_item, on_values, on_loose, on_bracket, on_qualifier}
+use Rattle.dia_ccf.specs.Machine.{on_rules, begins_qualifier, begins_loose, step, next}
+use Rattle.dia_ccf.specs.Wanting.{wanted_at, wanted_in_head, value_of, small_value, behind, behind_all, behind_item, behind_value, next_wanted, behind_loose}
+use Rattle.dia_ccf.specs.Wanting.{behind_bracket, behind_rule, behind_in_rules, behind_in_declaration, behind_in_head}
+use Rattle.dia_ccf.proofs.TokenTests.{same_sign-is, number_at-is, format_at-is}
 use Rattle.dia_ccf.proofs.MachineCompleteness.{and_false}
 use Rattle.dia_ccf.proofs.MachineRuns.{number_at-some}
 use Rattle.dia_ccf.proofs.Completions.{is_sound}

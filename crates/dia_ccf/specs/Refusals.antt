@@ -1,5 +1,5 @@
 -- What is told of a text that is refused: why, at which place, and what could stand there.
-use Rattle.std.specs.Prelude.{◌≡◌, ℕ, zero, suc, ◌-◌, ◌≤◌, ◌<◌, ◌↔◌, List, [], ◌∷◌, ◌++◌, length, take, Option, Some, None, slice_get, IsTrue, ⊤}
+use Rattle.std.specs.Prelude.{◌≡◌, ℕ, zero, suc, ◌-◌, ◌≤◌, ◌<◌, ◌↔◌, List, [], ◌∷◌, ◌++◌, length, take, Option, None, slice_get, IsTrue, ⊤}
 use Rattle.std.specs.Option.{option_map}
 use Rattle.dia_ccf.specs.declared.fault.CcfFault.{CcfFault}
 use Rattle.dia_ccf.specs.declared.fault.CcfFault.TheVariants as fault

@@ -1,5 +1,5 @@
 -- The tokens of a dictionary text.
-use Rattle.std.specs.Prelude.{ℕ, zero, suc, ◌+◌, ◌-◌, nat_eq, Bool, not, ◌||◌, ◌==◌, if◌then◌else◌, List, [], ◌∷◌, length, take, map, count_by, Option, Some, None, codes, take_while}
+use Rattle.std.specs.Prelude.{ℕ, zero, suc, ◌+◌, ◌-◌, nat_eq, not, ◌==◌, if◌then◌else◌, List, [], ◌∷◌, length, take, map, count_by, Option, Some, None, codes, take_while}
 use Rattle.std.specs.List.{list_all, starts_with}
 use Rattle.std.specs.Char.{is_ascii_digit}
 use Rattle.std.specs.Str.Parse.{digits_value}

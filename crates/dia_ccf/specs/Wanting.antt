@@ -1,7 +1,6 @@
 -- What can stand in a state of the machine.
 use Rattle.std.specs.Prelude.{ℕ, Bool, true, false, not, ◌&&◌, ◌||◌, cond, List, [], ◌∷◌, Option, Some, None, is_some, codes}
-use Rattle.dia_terms.specs.declared.RuleKind.{RuleKind}
-use Rattle.dia_terms.specs.declared.RuleKind.TheVariants.{Fixed, Required, Optional}
+use Rattle.dia_terms.specs.declared.RuleKind.TheVariants.{Required, Optional}
 use Rattle.dia_ccf.specs.declared.wanted.Wanted.{Wanted}
 use Rattle.dia_ccf.specs.declared.wanted.Wanted.TheVariants as wants
 use Rattle.dia_ccf.specs.declared.wanted.InDeclaration.{InDeclaration}

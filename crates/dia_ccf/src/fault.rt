@@ -4,7 +4,7 @@ use std::fmt;
 use thiserror::Error;
 
 /// Why a text is no dictionary. Lines and tokens count from 1.
-#[derive(Clone, Copy, Debug, PartialEq, Eq, Error)]
+#[derive(Clone, Copy, Debug, Error)]
 pub enum CcfFault {
     /// The token of this number fits nowhere in the grammar after those before it. The end of the text is
     /// the token after the last, on the line on which the text ends.

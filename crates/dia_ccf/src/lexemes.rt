@@ -20,7 +20,7 @@ pub enum Kind {
 }
 
 /// A token: what it is, and the places in bytes where it begins and where it ends.
-#[derive(Clone, Copy, PartialEq, Eq)]
+#[derive(Clone, Copy)]
 pub struct Lexeme {
     pub kind: Kind,
     pub at: usize,

@@ -6,7 +6,7 @@ use crate::fault::CcfFault;
 use crate::wanted::Wanted;
 
 /// Why a text is no dictionary, and where.
-#[derive(Clone, Copy, PartialEq, Eq)]
+#[derive(Clone, Copy)]
 pub enum Refused {
     /// The text is longer than [`MAX_TEXT`](crate::MAX_TEXT).
     TooLong,
@@ -17,7 +17,7 @@ pub enum Refused {
 }
 
 /// The first token with which no text of the grammar begins, or the end of the text.
-#[derive(Clone, Copy, PartialEq, Eq)]
+#[derive(Clone, Copy)]
 pub struct Misfit {
     pub fault: CcfFault,
     /// The place in bytes where the token begins, or the length of the text.

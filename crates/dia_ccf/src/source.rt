@@ -47,7 +47,7 @@ pub struct Decl {
 }
 
 /// The head of a definition (RFC 6733 section 3.2).
-#[derive(Clone, Copy, PartialEq, Eq)]
+#[derive(Clone, Copy)]
 pub enum Head {
     /// The group of an AVP.
     Group {
@@ -70,7 +70,7 @@ pub enum Head {
 }
 
 /// How often the AVP of a rule stands (RFC 6733 section 3.2).
-#[derive(Clone, Copy, PartialEq, Eq)]
+#[derive(Clone, Copy)]
 pub struct Qual {
     /// The least count. `None` is 1 in braces and 0 elsewhere.
     pub min: Option<u32>,

@@ -5,7 +5,7 @@ mod behind;
 use dia_terms::RuleKind;
 
 /// What can stand at a place, by what has been read before it.
-#[derive(Clone, Copy, PartialEq, Eq)]
+#[derive(Clone, Copy)]
 pub enum Wanted {
     /// A declaration or a definition, or the end of the text.
     Item,
@@ -17,7 +17,7 @@ pub enum Wanted {
 }
 
 /// What can stand in a declaration, behind its `%avp`.
-#[derive(Clone, Copy, PartialEq, Eq)]
+#[derive(Clone, Copy)]
 pub enum InDeclaration {
     Name,
     Code,
@@ -40,7 +40,7 @@ pub enum InDeclaration {
 }
 
 /// What can stand at the beginning of a definition.
-#[derive(Clone, Copy, PartialEq, Eq)]
+#[derive(Clone, Copy)]
 pub enum InDefinition {
     /// The name behind `<`.
     Name,
@@ -53,7 +53,7 @@ pub enum InDefinition {
 }
 
 /// What can stand in a head. `comma` tells that a comma was read, behind which the head can't end.
-#[derive(Clone, Copy, PartialEq, Eq)]
+#[derive(Clone, Copy)]
 pub enum InHead {
     /// `Diameter` or `AVP`, alone or joined to `Header`.
     Word,
@@ -97,7 +97,7 @@ pub enum InHead {
 
 /// What can stand in the rules of a definition. `only_fixed` tells that all rules before the place are fixed, so that one more
 /// may be.
-#[derive(Clone, Copy, PartialEq, Eq)]
+#[derive(Clone, Copy)]
 pub enum InRules {
     /// A rule, or what stands behind the definition.
     Rule { only_fixed: bool },

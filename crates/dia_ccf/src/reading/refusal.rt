@@ -5,7 +5,7 @@ ghost use Rattle.dia_ccf.specs.declared.reading.refusal.Refusal.TheVariants.{NoM
 use std::alloc::{AllocError, AllocFailed};
 
 /// Why the token ahead is refused.
-#[derive(Clone, Copy, PartialEq, Eq)]
+#[derive(Clone, Copy)]
 pub(crate) enum Refusal {
     Syntax,
     Number,
