@@ -1,6 +1,6 @@
 -- The line of a header, read back.
 use Rattle.std.proofs.Common.{◌≡◌, ℕ, ◌+◌, ◌^◌, ◌<◌, ◌==◌, ◌&&◌, nat_eq, nat_lt, Bool, true, false, not, if◌then◌else◌, List, [], ◌∷◌, ◌++◌, length, Option, Some, None, unwrap_or, Ok, IsTrue, codes, refl, sym, ap, ◌∙◌, arith}
-use Rattle.std.specs.Prelude.{slice_get, find}
+use Rattle.std.specs.Prelude.{find}
 use Rattle.std.specs.Option.{option_eq, option_map_or}
 use Rattle.std.proofs.lemmas.Bool.{and_parts, eqb-true, ne_eqb, true≢false}
 use Rattle.std.proofs.lemmas.Option.{none-some, same_Some}
@@ -17,11 +17,11 @@ use Rattle.dia_text.specs.Numbers.{number_below}
 use Rattle.dia_text.specs.Fields.{flags_field, number_field}
 use Rattle.dia_text.specs.Keys.{class_flags, p_flag, start_of, command_named, start_named}
 use Rattle.dia_text.specs.Lines.{header_letters, no_more, start_at, header_at, header_of}
-use Rattle.dia_text.specs.LineTexts.{spaced, flags_words, app_words, identifier_words, field_words, code_start, code_header, named_header, header_text, header_line, class_bits, serves, names_header}
+use Rattle.dia_text.specs.LineTexts.{spaced, app_words, identifier_words, field_words, code_start, code_header, named_header, header_text, header_line, class_bits, serves, names_header}
 use Rattle.dia_text.proofs.Bytes.{HasFields}
-use Rattle.dia_text.proofs.WordsBack.{IsWord, AreWords, HasNoFeed, first_is, behind_is, next_is, behind_next, no_feed_words, no_feed_line, decimal_word}
+use Rattle.dia_text.proofs.WordsBack.{AreWords, HasNoFeed, first_is, behind_is, next_is, behind_next, no_feed_words, no_feed_line, decimal_word}
 use Rattle.dia_text.proofs.FieldsBack.{keyword, number_back, flags_back, app_back, number_written, flags_are_words, app_are_words}
-use Rattle.dia_text.proofs.KeysBack.{BeginsLine, name_begins, member_has, found_by_name}
+use Rattle.dia_text.proofs.KeysBack.{name_begins, member_has, found_by_name}
 
 -- ---- the fields behind the first word
 

@@ -1,5 +1,5 @@
 -- The lines of AVPs, read back: what each adds.
-use Rattle.std.proofs.Common.{◌≡◌, ℕ, ◌+◌, ◌-◌, ◌%◌, ◌^◌, ◌<◌, ◌==◌, Bool, true, false, if◌then◌else◌, List, [], ◌∷◌, ◌++◌, length, drop, take, Option, Some, None, unwrap_or, Result, Ok, codes, refl, sym, ap, subst, ◌∙◌, arith}
+use Rattle.std.proofs.Common.{◌≡◌, ℕ, ◌-◌, ◌%◌, ◌^◌, ◌<◌, ◌==◌, Bool, true, false, if◌then◌else◌, List, [], ◌∷◌, ◌++◌, length, take, Option, Some, None, unwrap_or, Result, Ok, codes, refl, sym, ap, ◌∙◌, arith}
 use Rattle.std.proofs.lemmas.Bool.{lt-ltb, ne_eqb}
 use Rattle.std.proofs.lemmas.List.{length-drop}
 use Rattle.dia_terms.specs.Names.{same_bytes}
@@ -16,12 +16,12 @@ use Rattle.dia_text.specs.Fields.{flags_field, length_field, padding_field}
 use Rattle.dia_text.specs.Keys.{code_of, default_flags, format_at}
 use Rattle.dia_text.specs.Values.{value_at}
 use Rattle.dia_text.specs.Lines.{PlainLine, Blank, Leaf, Open, Close, avp_letters, head_at, leaf_at, open_at, close_at, avp_at, line_of}
-use Rattle.dia_text.specs.Drafts.{Frame, Level, added, closed, avp_of, length_of, end_bytes, front_bytes}
+use Rattle.dia_text.specs.Drafts.{Level, added, avp_of}
 use Rattle.dia_text.specs.Made.{line_added}
 use Rattle.dia_text.specs.LineTexts.{spaced, avp_word, code_at, avp_flags, IsWordOf, pad_words, leaf_line, open_line, close_line}
 use Rattle.dia_text.specs.TextOf.{behind_data}
 use Rattle.dia_text.proofs.Bytes.{HasParts, plain_head}
-use Rattle.dia_text.proofs.WordsBack.{IsWord, AreWords, HasNoFeed, first_is, behind_is, next_is, behind_next, no_feed_words, no_feeds_both, no_feed_line}
+use Rattle.dia_text.proofs.WordsBack.{HasNoFeed, first_is, behind_is, next_is, behind_next, no_feed_words, no_feeds_both, no_feed_line}
 use Rattle.dia_text.proofs.FieldsBack.{keyword, flags_back, length_not_there, padding_back, said_pad, flags_are_words, flags_have_no_feeds, pad_are_words}
 use Rattle.dia_text.proofs.ValuesBack.{value_back}
 use Rattle.dia_text.proofs.KeysBack.{NamesAvp, word_names}

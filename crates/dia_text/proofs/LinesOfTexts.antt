@@ -1,5 +1,7 @@
 -- The lines of a text, one after the other.
-use Rattle.std.proofs.Common.{◌≡◌, ℕ, add-one, ◌+◌, ◌<◌, ◌≤◌, List, ◌∷◌, length, map, get_or, drop, drop-cons, Bor, Some, None, Result, Ok, refl, sym, ap, ◌∙◌, arith}
+use Rattle.std.proofs.Common.{◌≡◌, ℕ, add-one, ◌+◌, ◌<◌, ◌≤◌, Bool, true, List, ◌∷◌, length, map, get_or, drop, drop-cons, Bor, Some, None, Result, Ok, Err, refl, sym, ap, ◌∙◌, arith}
+use Rattle.std.specs.Prelude.{if◌then◌else◌}
+use Rattle.std.specs.List.{slice_split}
 use Rattle.std.proofs.lemmas.List.{drop_all, length-map, get_or-map}
 use Rattle.dia_wire.specs.declared.Header.{Header}
 use Rattle.dia_book.specs.Dictionary.{Dictionary}
@@ -9,7 +11,9 @@ use Rattle.dia_text.specs.declared.fault.Misread.TheVariants as misread
 use Rattle.dia_text.specs.Reading.{◌>>=◌, Fails}
 use Rattle.dia_text.specs.Lines.{line_of, header_of}
 use Rattle.dia_text.specs.Drafts.{Level, added}
+use Rattle.dia_text.specs.declared.fault.Kind.TheVariants.{Syntax}
 use Rattle.dia_text.specs.Made.{message_from, body_from, no_level, placed, Misses, step, finished}
+use Rattle.dia_text.specs.Made.{lines, is_empty, has_word, fault_at, parts_text, made_lines}
 
 pub bind_fails : {A B : Type 0} (e : Misread) (r : Result A Kind) (f : A → Result B Kind) → Fails e r → Fails e (r >>= f)
 bind_fails misread.NoMemory r f h = tt
@@ -52,3 +56,7 @@ bad_line d header ls i l level (misread.Fault kind) parts h =
 
 pub last_line : (d : Dictionary) (header : Header) (ls : List (List ℕ)) (i : ℕ) (level : Level) → length ls ≡ i → body_from d header i (drop i ls) level ≡ finished header level.outer level.bytes i
 last_line d header ls i level ends = ap (λ (xs : List (List ℕ)). body_from d header i xs level) (drop_all i ls (omega (arith, ends)))
+
+-- several messages, where a line has a word
+pub some_word : (d : Dictionary) (text : List ℕ) → has_word (lines text) ≡ true → made_lines d text ≡ parts_text d 0 (slice_split is_empty (lines text))
+some_word d text has = ap (λ (b : Bool). if b then parts_text d 0 (slice_split is_empty (lines text)) else Err (fault_at (length (lines text)) Syntax)) has

@@ -4,17 +4,15 @@ use Rattle.std.specs.List.{AllByRecursion}
 use Rattle.std.proofs.lemmas.Bool.{lt-ltb}
 use Rattle.std.proofs.lemmas.List.{length-append, length-drop, take-append-drop}
 use Rattle.dia_wire.specs.declared.Header.{Header}
-use Rattle.dia_wire.specs.Wire.{PlainAvp, Spells}
 use Rattle.dia_wire.specs.Written.{header_bytes}
 use Rattle.dia_wire.proofs.OneHeader.{head_says}
 use Rattle.dia_book.specs.Dictionary.{Dictionary, IsDictionary}
 use Rattle.dia_text.specs.declared.fault.Kind.{Kind}
-use Rattle.dia_text.specs.declared.fault.Fault.{Fault}
 use Rattle.dia_text.specs.Lines.{header_of}
 use Rattle.dia_text.specs.Drafts.{Frame, Level}
 use Rattle.dia_text.specs.Made.{lines, made, message_from, body_from, begin, step, finished, no_level, line_added}
 use Rattle.dia_text.specs.LineTexts.{leaf_line, open_line, close_line, header_line}
-use Rattle.dia_text.specs.TextOf.{IsLevelText, end, leaf, group, IsTextOf, behind_data, fed}
+use Rattle.dia_text.specs.TextOf.{IsLevelText, end, leaf, group, IsTextOf, behind_data}
 use Rattle.dia_text.proofs.Bytes.{AreBytes, bytes_split, bytes_take, bytes_drop, parts_of, fields_of}
 use Rattle.dia_text.proofs.WordsBack.{HasNoFeed, lines_back}
 use Rattle.dia_text.proofs.HeadersBack.{header_back}

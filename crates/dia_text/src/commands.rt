@@ -14,7 +14,7 @@ use dia_wire::{COMMAND_ERROR, COMMAND_PROXIABLE, COMMAND_REQUEST};
 
 /// What the first word of a message says: its code, and the flags and the application that it has where its line says no
 /// others.
-#[derive(Clone, Copy, PartialEq, Eq)]
+#[derive(Clone, Copy)]
 pub struct Start {
     pub code: u32,
     pub flags: Option<u8>,

@@ -5,7 +5,7 @@ use std::fmt;
 use thiserror::Error;
 
 /// What is wrong with a line.
-#[derive(Debug, Clone, Copy, PartialEq, Eq)]
+#[derive(Debug, Clone, Copy)]
 pub enum Kind {
     /// A word is missing, or one stands where none may.
     Syntax,
@@ -38,7 +38,7 @@ impl fmt::Display for Kind {
 }
 
 /// Why a line wasn't read.
-#[derive(Clone, Copy, Debug, PartialEq, Eq, Drop, Error)]
+#[derive(Clone, Copy, Debug, Drop, Error)]
 pub enum Misread {
     #[error("{0}")]
     Fault(Kind),
@@ -48,7 +48,7 @@ pub enum Misread {
 
 /// The first line with which no message can go on, from 1, and what is wrong with it. Where the text ends too early, it is the
 /// last line. It prints as `syntax at line 3`.
-#[derive(Clone, Copy, Debug, PartialEq, Eq, Error)]
+#[derive(Clone, Copy, Debug, Error)]
 #[error("{kind} at line {line}")]
 pub struct Fault {
     pub kind: Kind,
@@ -56,7 +56,7 @@ pub struct Fault {
 }
 
 /// Why no message was made.
-#[derive(Clone, Copy, Debug, PartialEq, Eq, Drop, Error)]
+#[derive(Clone, Copy, Debug, Drop, Error)]
 pub enum NotMade {
     #[error("{0}")]
     Fault(Fault),

@@ -16,7 +16,7 @@ use dia_book::{Book, Entry, Format, Key, MRule};
 use dia_wire::{AVP_MANDATORY, AVP_VENDOR};
 
 /// The code of an AVP, and its Vendor-ID where it has the field.
-#[derive(Clone, Copy, PartialEq, Eq)]
+#[derive(Clone, Copy)]
 pub struct AvpCode {
     pub code: u32,
     pub vendor: Option<u32>,

@@ -3,7 +3,7 @@
 use crate::keys::AvpCode;
 
 /// What the line of an AVP says in front of its value.
-#[derive(Clone, Copy, PartialEq, Eq)]
+#[derive(Clone, Copy)]
 pub struct Head {
     pub code: AvpCode,
     pub flags: u8,

@@ -1,7 +1,7 @@
 //! The data that a value writes.
-ghost use Rattle.std.specs.Prelude.{◌≡◌, ◌<◌, ◌≤◌, ◌^◌, IfSome, length, map, option_copied};
+ghost use Rattle.std.specs.Prelude.{◌≡◌, ◌==◌, ◌<◌, ◌≤◌, ◌^◌, ◌++◌, IfSome, length, map, option_copied};
 ghost use Rattle.std.specs.Option.{option_map};
-ghost use Rattle.std.specs.List.{prefix_len};
+ghost use Rattle.std.specs.List.{prefix_len, slice_split};
 ghost use Rattle.dia_data.specs.Plain.{plain_format};
 ghost use Rattle.dia_text.specs.declared.fault.Kind.TheVariants.{Value};
 ghost use Rattle.dia_text.specs.Words.{unblanked};
@@ -71,8 +71,7 @@ fn text_at(alloc: Global, text: &[u8]) -> Result<(Vec<u8>, &[u8]), Misread>
     if at == text.len() {
         return Err(Misread::Fault(Kind::Value));
     }
-    let parts = split(alloc, b'\\', &text[..at])?;
-    let bytes = unescaped(alloc, &parts)?;
+    let bytes = unescaped(alloc, &text[..at])?;
     Ok((bytes, &text[at + 1..]))
 }
 
@@ -83,16 +82,30 @@ fn quote_place(text: &[u8]) -> usize
     text.iter().take_while(|b| **b != b'"').count()
 }
 
-/// The bytes of parts between backslashes.
-fn unescaped(alloc: Global, parts: &[&[u8]]) -> Result<Vec<u8>, Misread>
+/// The bytes of a text between its quotes.
+fn unescaped(alloc: Global, text: &[u8]) -> Result<Vec<u8>, Misread>
     ensures { Gives (λ bytes. bytes.items) result
-        (some_or (unescaped (map (λ x. x.now) parts.now)) Value) }
+        (some_or (unescaped (slice_split (λ c. c == 92) text.now)) Value) }
 {
-    let [first, rest @ ..] = parts else {
-        return Ok(Vec::new(alloc));
-    };
-    let mut bytes = Vec::from_slice(alloc, first)?;
-    push_parts(&mut bytes, Part::Escaped, rest)?;
+    let parts = split(alloc, b'\\', text)?;
+    match parts.as_slice() {
+        [] => Ok(Vec::new(alloc)),
+        [first, rest @ ..] => parts_behind(alloc, first, Part::Escaped, rest),
+    }
+}
+
+/// These bytes, and then those of parts.
+fn parts_behind(
+    alloc: Global,
+    front: &[u8],
+    part: Part,
+    texts: &[&[u8]],
+) -> Result<Vec<u8>, Misread>
+    ensures { Gives (λ bytes. bytes.items) result (some_or (option_map (λ rest. front.now ++ rest)
+        (each (part_bytes part) (map (λ x. x.now) texts.now))) Value) }
+{
+    let mut bytes = Vec::from_slice(alloc, front)?;
+    push_parts(&mut bytes, part, texts)?;
     Ok(bytes)
 }
 
@@ -180,9 +193,7 @@ fn in_family(alloc: Global, family: u8, part: Part, texts: &[&[u8]]) -> Result<V
     ensures { Gives (λ bytes. bytes.items) result
         (some_or (in_family family (each (part_bytes part) (map (λ x. x.now) texts.now))) Value) }
 {
-    let mut bytes = Vec::from_slice(alloc, &[0, family])?;
-    push_parts(&mut bytes, part, texts)?;
-    Ok(bytes)
+    parts_behind(alloc, &[0, family], part, texts)
 }
 
 fn two(alloc: Global, number: Option<u64>) -> Result<Vec<u8>, Misread>

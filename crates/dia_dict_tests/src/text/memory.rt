@@ -36,7 +36,7 @@ Vendor-Id 7
 fn makes(rt: &(impl AllocGlobal + Abort), book: &PlainBook) {
     match make(rt.alloc(), book, TEXT) {
         Ok(message) => assert!(rt; message.as_slice() == WANTED.as_slice()),
-        Err(fault) => assert!(rt; fault == NotMade::NoMemory),
+        Err(fault) => assert!(rt; matches!(fault, NotMade::NoMemory)),
     }
 }
 
@@ -44,6 +44,6 @@ fn makes(rt: &(impl AllocGlobal + Abort), book: &PlainBook) {
 fn writes(rt: &(impl AllocGlobal + Abort), book: &PlainBook) {
     match as_text(rt.alloc(), book, &WANTED) {
         Ok(text) => assert!(rt; text.as_str() == WRITTEN),
-        Err(fault) => assert!(rt; fault == NotWritten::NoMemory),
+        Err(fault) => assert!(rt; matches!(fault, NotWritten::NoMemory)),
     }
 }

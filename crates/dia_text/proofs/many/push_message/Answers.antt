@@ -1,4 +1,4 @@
-use Rattle.dia_text.proofs.Parts.{message_added, told_fault, within_more}
+use Rattle.dia_text.proofs.Parts.{told_fault}
 use Rattle.dia_text.proofs.many.push_message.Goals as goal
 
 pub returns-in-Err : goal.returns-in-Err
