@@ -59,6 +59,7 @@ pub mod PlacedLevels
 pub mod AllMeanings
 pub mod AllLines
 mod WalkGraphs
+mod Fronts
 mod GapsInRanges
 mod LackingNumbers
 mod CostsOfSides

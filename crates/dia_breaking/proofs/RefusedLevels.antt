@@ -1,6 +1,6 @@
 -- B refuses the data of the shortest AVP of which a line of the format tells so.
 use Rattle.std.proofs.Common.{◌≡◌, ℕ, zero, suc, ◌+◌, ◌-◌, ◌<◌, ◌≤◌, List, [], ◌∷◌, ◌++◌, drop, length, Option, Some, None, refl, sym, ap, subst, ◌∙◌, arith, length-append, inl, inr, true≢false}
-use Rattle.std.specs.Prelude.{◌==◌, ⊤, Contains, IsSome, MatchOption, max, min, option_and_then, slice_get}
+use Rattle.std.specs.Prelude.{⊤, Contains, IsSome, MatchOption, max, min, option_and_then, slice_get}
 use Rattle.std.specs.Option.{option_map_or}
 use Rattle.std.proofs.lemmas.Bool.{eq-eqb}
 use Rattle.std.proofs.lemmas.Option.{slice_get_within}

@@ -1,10 +1,16 @@
-use Rattle.std.proofs.Common.{◌≡◌, ◌<◌, List, [], ◌∷◌, ◌++◌, length, ap, ◌∙◌, arith}
+use Rattle.std.proofs.Common.{◌≡◌, ◌<◌, List, [], ◌∷◌, ◌++◌, length, map, ap, ◌∙◌, arith}
 use Rattle.std.specs.Prelude.{slice_get}
+use Rattle.std.proofs.lemmas.List.{take_all}
 use Rattle.dia_wire.specs.declared.Key.{Key}
 use Rattle.dia_book.specs.Dictionary.{DictEntry}
 use Rattle.dia_rules.proofs.Members.{there_is, at_some}
 use Rattle.dia_breaking.proofs.Shortest.{one_key_more}
 use Rattle.dia_breaking.proofs.lengths.keys_of.Goals as goal
+
+pub returns : goal.returns
+returns g c =
+    let entries = (g.B.Book.meaning c.args.book.now).entries in
+    c.loop-index.invariant ∙ ap (map (λ (e : DictEntry). e.key)) (take_all c.loop-index.index entries (omega (arith, c.loop-index-test.false, c.entries-index-end.ensures.count)))
 
 pub loop-index-preserved : goal.loop-index-preserved
 loop-index-preserved g c =
