@@ -36,7 +36,8 @@ goes_past found low high r rest lt = ap (λ (gs : List (ℕ × ℕ)). found ++ g
 pub put_whole : (old new : List (ℕ × ℕ)) (low high : ℕ) (r : ℕ × ℕ) (rest : List (ℕ × ℕ)) → low ≤ r.1 → high < r.0 → new ≡ old ++ (low, high) ∷ [] → new ++ [] ≡ old ++ gaps low high (r ∷ rest)
 put_whole old new low high r rest le lt is = append-nil new ∙ is ∙ ap (λ (gs : List (ℕ × ℕ)). old ++ gs) (sym (whole low high r rest le lt))
 
-pub put_last : (old new : List (ℕ × ℕ)) (low high : ℕ) (r : ℕ × ℕ) (rest : List (ℕ × ℕ)) → low ≤ r.1 → r.0 ≤ high → high ≤ r.1 → new ≡ old ++ front low r.0 → new ++ [] ≡ old ++ gaps low high (r ∷ rest)
+pub put_last : (old new : List (ℕ × ℕ)) (low high : ℕ) (r : ℕ × ℕ) (rest : List (ℕ × ℕ)) → low ≤ r.1 → r.0 ≤ high → high ≤ r.1 → new ≡ old ++ front low r.0
+    → new ++ [] ≡ old ++ gaps low high (r ∷ rest)
 put_last old new low high r rest le begins ends is =
     ap (λ (gs : List (ℕ × ℕ)). gs ++ []) is ∙ append_assoc old (front low r.0) [] ∙ ap (λ (gs : List (ℕ × ℕ)). old ++ gs) (sym (ended low high r rest le begins ends))
 

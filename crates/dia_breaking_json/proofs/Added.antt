@@ -25,7 +25,8 @@ both_added xs ys old mid new first second =
     second ∙ ap (λ (t : List ℕ). t ++ fields_text ys) first ∙ append_assoc old (fields_text xs) (fields_text ys) ∙ ap (λ (t : List ℕ). old ++ t) (sym (flat_map-append field_text xs ys))
 
 -- where the last call may fail
-pub last_added : {U E : Type 0} (r : Result U E) (xs ys : List Field) (old mid new : List ℕ) → mid ≡ old ++ fields_text xs → OnOk r (new ≡ mid ++ fields_text ys) → OnOk r (new ≡ old ++ fields_text (xs ++ ys))
+pub last_added : {U E : Type 0} (r : Result U E) (xs ys : List Field) (old mid new : List ℕ)
+    → mid ≡ old ++ fields_text xs → OnOk r (new ≡ mid ++ fields_text ys) → OnOk r (new ≡ old ++ fields_text (xs ++ ys))
 last_added (Ok u) xs ys old mid new first second = both_added xs ys old mid new first second
 last_added (Err e) xs ys old mid new first second = tt
 

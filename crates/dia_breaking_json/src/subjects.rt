@@ -4,7 +4,8 @@ ghost use Rattle.std.specs.Prelude.{◌≡◌, ◌∷◌, [], IfOk, OnOk, codes,
 ghost use Rattle.serde_json.specs.Written.{compact_text};
 ghost use Rattle.dia_breaking_json.specs.Fields.{Adds, object_of};
 ghost use Rattle.dia_breaking_json.specs.Keys.{key_in};
-ghost use Rattle.dia_breaking_json.specs.Lines.{avp_field, avp_fields, key_fields, known_fields, reason_field, second_field, subject_field};
+ghost use Rattle.dia_breaking_json.specs.Lines.{avp_field, avp_fields, key_fields, known_fields};
+ghost use Rattle.dia_breaking_json.specs.Lines.{reason_field, second_field, subject_field};
 
 use crate::fields::{object_text, push_field, push_number, push_text, push_u32};
 use crate::keys::Names;

@@ -20,7 +20,8 @@ module _ (a : List DRule) where
   offered_put nodes other x rule leaf n is at le =
       subst (λ (o : Option DRule). weight (held_in nodes other x o) ≤ n) (sym is) (subst (λ (i : ℕ). weight_at nodes i ≤ n) at le)
 
-  pub less_put : (new old : List Offer) (other : Offer) → ((i : ℕ) → weight_at new i ≤ weight_at old i) → (x : Key) → weight (held_in new other x (rule_of a x)) ≤ weight (held_in old other x (rule_of a x))
+  pub less_put : (new old : List Offer) (other : Offer) → ((i : ℕ) → weight_at new i ≤ weight_at old i) → (x : Key)
+      → weight (held_in new other x (rule_of a x)) ≤ weight (held_in old other x (rule_of a x))
   less_put new old other below x = by (rule_of a x)
     where
       by : (o : Option DRule) → weight (held_in new other x o) ≤ weight (held_in old other x o)

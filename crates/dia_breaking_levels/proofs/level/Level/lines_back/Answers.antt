@@ -39,7 +39,8 @@ loop-left-init g c =
       offers = c.in_ok-offers.ensures.offers;
       offered = subst (λ (n : ℕ). AreOfferedFrom listed other a b outer n offers) (sym same) c.in_ok-offers.ensures.offered;
       true_from = subst (λ (n : ℕ). AreTrueFrom listed other a b outer n offers) (sym same) c.in_ok-offers.ensures.true_still;
-      lines = subst (λ (rs : List DRule). AreOrderLines self.floor listed other a b outer rs (reverse c.new-lines.result.items)) (sym (drop_all all b (omega (arith, same)))) (ap reverse c.new-lines.ensures.items);
+      lines = subst (λ (rs : List DRule). AreOrderLines self.floor listed other a b outer rs (reverse c.new-lines.result.items))
+          (sym (drop_all all b (omega (arith, same)))) (ap reverse c.new-lines.ensures.items);
     }
 
 pub returns : goal.returns
