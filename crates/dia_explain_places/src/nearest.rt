@@ -7,13 +7,17 @@ const MOST: usize = 2;
 
 /// The name that is nearest, if it is near enough: less than a third of the longer of the two differs.
 pub fn nearest_name<'a>(word: &str, names: &[&'a str]) -> Option<&'a str> {
-    let near = names
-        .iter()
-        .copied()
-        .min_by_key(|name| distance(word.as_bytes(), name.as_bytes()))?;
-    let differs = distance(word.as_bytes(), near.as_bytes());
+    let mut near = "";
+    let mut least = MOST.saturating_add(1);
+    for name in names {
+        let differs = distance(word.as_bytes(), name.as_bytes());
+        if differs < least {
+            least = differs;
+            near = *name;
+        }
+    }
     let longer = word.len().max(near.len());
-    if differs <= MOST && differs.saturating_mul(3) < longer {
+    if least <= MOST && least.saturating_mul(3) < longer {
         Some(near)
     } else {
         None
@@ -23,29 +27,59 @@ pub fn nearest_name<'a>(word: &str, names: &[&'a str]) -> Option<&'a str> {
 /// The command that is nearest: by its name, or by the capitals that the name is short for, as CCR is for
 /// Credit-Control-Request.
 pub fn nearest_command<'a>(word: &str, names: &[&'a str]) -> Option<&'a str> {
-    if let Some(near) = nearest_name(word, names) {
-        return Some(near);
+    match nearest_name(word, names) {
+        None => long_name(word.as_bytes(), names),
+        near => near,
     }
-    names
-        .iter()
-        .copied()
-        .find(|name| is_short_for(word.as_bytes(), name.as_bytes()))
+}
+
+/// The first name that the capitals of a word are short for.
+fn long_name<'a>(word: &[u8], names: &[&'a str]) -> Option<&'a str> {
+    for name in names {
+        if is_short_for(word, name.as_bytes()) {
+            return Some(*name);
+        }
+    }
+    None
 }
 
 /// Whether two names have the same capitals, two at least.
 fn is_short_for(a: &[u8], b: &[u8]) -> bool {
-    let count = capitals(a);
-    let in_common = a
-        .iter()
-        .filter(|byte| byte.is_ascii_uppercase())
-        .zip(b.iter().filter(|byte| byte.is_ascii_uppercase()))
-        .take_while(|pair| pair.0 == pair.1)
-        .count();
-    count >= 2 && count == capitals(b) && in_common == count
+    let mut rest = b;
+    let mut count = 0usize;
+    for byte in a {
+        if byte.is_ascii_uppercase() {
+            match behind_capital(rest, *byte) {
+                Some(behind) => rest = behind,
+                None => return false,
+            }
+            count = count.saturating_add(1);
+        }
+    }
+    count >= 2 && !has_capital(rest)
 }
 
-fn capitals(name: &[u8]) -> usize {
-    name.iter().filter(|byte| byte.is_ascii_uppercase()).count()
+/// What stands behind the first capital of a name, if it is this one.
+fn behind_capital(name: &[u8], wanted: u8) -> Option<&[u8]> {
+    for (at, byte) in name.iter().enumerate() {
+        if byte.is_ascii_uppercase() {
+            return if *byte == wanted {
+                Some(back(name, at.saturating_add(1)))
+            } else {
+                None
+            };
+        }
+    }
+    None
+}
+
+fn has_capital(name: &[u8]) -> bool {
+    for byte in name {
+        if byte.is_ascii_uppercase() {
+            return true;
+        }
+    }
+    false
 }
 
 /// How many bytes of the longer name differ, between what both have at the beginning and what both have at the end. The case
@@ -61,17 +95,32 @@ fn distance(a: &[u8], b: &[u8]) -> usize {
 
 /// How many of the first bytes are alike but for the case of letters.
 fn common_front(a: &[u8], b: &[u8]) -> usize {
-    a.iter()
-        .zip(b.iter())
-        .take_while(|pair| pair.0.eq_ignore_ascii_case(pair.1))
-        .count()
+    for count in 0..a.len() {
+        if !is_alike(a.get(count), b.get(count)) {
+            return count;
+        }
+    }
+    a.len()
 }
 
 /// How many of the last bytes are alike but for the case of letters.
 fn common_back(a: &[u8], b: &[u8]) -> usize {
-    a.iter()
-        .rev()
-        .zip(b.iter().rev())
-        .take_while(|pair| pair.0.eq_ignore_ascii_case(pair.1))
-        .count()
+    for count in 0..a.len() {
+        if !is_alike(from_end(a, count), from_end(b, count)) {
+            return count;
+        }
+    }
+    a.len()
+}
+
+/// The byte in front of the last ones, as many as this.
+fn from_end(bytes: &[u8], count: usize) -> Option<&u8> {
+    bytes.get(bytes.len().checked_sub(count)?.checked_sub(1)?)
+}
+
+fn is_alike(own: Option<&u8>, other: Option<&u8>) -> bool {
+    match (own, other) {
+        (Some(own), Some(other)) => own.eq_ignore_ascii_case(other),
+        _ => false,
+    }
 }
