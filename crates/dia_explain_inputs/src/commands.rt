@@ -1,7 +1,7 @@
 //! Names of commands that the first dictionary doesn't have.
 
 use crate::names::{Named, NamedSource, Vocabulary};
-use crate::notes::Added;
+use crate::notes::{Added, push_texts};
 use dia_ccf::Def;
 use std::alloc::{AllocError, Global};
 
@@ -55,7 +55,7 @@ fn push_all_missing(
 
 fn push_missing(out: &mut String, known: &Vocabulary<'_>, name: &str) -> Added {
     let dictionary = known.dictionary.name;
-    write!(out, "{dictionary}: there is no command {name}\n")?;
+    push_texts(out, &[dictionary, ": there is no command ", name, "\n"])?;
     let instead = "an AVP there, and commands are asked for";
     known.push_meant(out, Named::Command, name, instead)?;
     Ok(())

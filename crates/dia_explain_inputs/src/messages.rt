@@ -2,7 +2,7 @@
 
 use crate::hints::{Sight, hint_of};
 use crate::kinds::{first_bad, first_line, hint_of_text, is_capture, kind_of_byte};
-use crate::notes::{Added, SAVE, push_noted, push_whole};
+use crate::notes::{Added, SAVE, push_noted, push_texts, push_whole};
 use dia_explain_places::{
     NamedText, Unpadded, back, count_digits, find_unpadded, is_white, place_of_byte,
 };
@@ -71,10 +71,8 @@ pub fn push_bad(out: &mut String, message: &NamedText<'_>, wanted: &str, at: usi
 
 /// Adds that an input is a file of packets, and what to do.
 pub fn push_capture(out: &mut String, name: &str, wanted: &str, hint: &str) -> Added {
-    write!(
-        out,
-        "{name}: this is a capture file (pcap), and not {wanted}\nhint: {hint}\n"
-    )
+    let told = ": this is a capture file (pcap), and not ";
+    push_texts(out, &[name, told, wanted, "\nhint: ", hint, "\n"])
 }
 
 /// Whether bytes are no text: they have a control character that isn't white space, or aren't UTF-8.

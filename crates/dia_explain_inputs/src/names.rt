@@ -1,5 +1,6 @@
 //! The names that a dictionary has.
 
+use crate::notes::push_texts;
 use dia_ccf::{Decl, Def, Source};
 use dia_explain_places::{nearest_command, nearest_name};
 use indexmap::IndexSet;
@@ -99,7 +100,7 @@ impl<'a> Vocabulary<'a> {
             Named::Avp => Named::Command,
         };
         if self.has(other, name) {
-            write!(out, "hint: {name} is {instead}\n")?;
+            push_texts(out, &["hint: ", name, " is ", instead, "\n"])?;
             return Ok(true);
         }
         self.push_near(out, named, name)
@@ -124,6 +125,6 @@ fn near_of<'a>(named: Named, name: &str, names: &[&'a str]) -> Option<&'a str> {
 }
 
 fn push_near(out: &mut String, near: &str) -> Result<bool, AllocError> {
-    write!(out, "hint: did you mean {near}?\n")?;
+    push_texts(out, &["hint: did you mean ", near, "?\n"])?;
     Ok(true)
 }

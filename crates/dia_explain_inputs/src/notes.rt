@@ -22,8 +22,15 @@ pub fn push_hint(out: &mut String, hint: &str) -> Added
 
 /// Adds what is told of a whole input, and what to do.
 pub fn push_whole(out: &mut String, input: &NamedText<'_>, told: &str, hint: &str) -> Added {
-    let name = input.name;
-    write!(out, "{name}: {told}\nhint: {hint}\n")
+    push_texts(out, &[input.name, ": ", told, "\nhint: ", hint, "\n"])
+}
+
+/// Adds texts. A call of it is proved in less time than `write!` of the same texts.
+pub fn push_texts(out: &mut String, texts: &[&str]) -> Added {
+    for text in texts {
+        out.push_str(text)?;
+    }
+    Ok(())
 }
 
 /// Adds what is told of a place, and the line of the place.

@@ -1,7 +1,7 @@
 //! The names of a table that its dictionaries don't have.
 
 use crate::names::{Named, NamedSource, Vocabulary};
-use crate::notes::Added;
+use crate::notes::{Added, push_texts};
 use dia_explain_places::{NamedText, PairWords, push_place, words_of};
 use std::alloc::{AllocError, Global};
 
@@ -143,7 +143,7 @@ fn push_lacking(out: &mut String, dictionary: &str, named: Named, name: &str) ->
         Named::Command => "command",
         Named::Avp => "AVP",
     };
-    write!(out, "{dictionary} has no {what} {name}\n")
+    push_texts(out, &[dictionary, " has no ", what, " ", name, "\n"])
 }
 
 /// What a name is that is one of the other names.
