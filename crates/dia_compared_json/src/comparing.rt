@@ -134,7 +134,8 @@ fn failure_of<A: Book, B: Book>(
     fails: &[Failing],
 ) -> Result<Outcome, AllocError>
     requires within { pair < length (pairs_listed kind (plain_table table.now)) }
-    requires are_all { AreFailingsOf (A.meaning a.now) (B.meaning b.now) unknown (plain_table table.now) kind pair test fails.now }
+    requires are_all { AreFailingsOf (A.meaning a.now) (B.meaning b.now) unknown (plain_table table.now)
+        kind pair test fails.now }
     requires not_none { fails.now ≢ [] }
     ensures { IfOk result (λ outcome. IsFailureJson (A.meaning a.now) (B.meaning b.now) unknown
         (plain_table table.now) kind pair test (string_bytes outcome.text) outcome.exit) }
