@@ -27,7 +27,8 @@ use Rattle.dia_run.proofs.OneInput.{Same, refused_once, dictionary_or_not, one_r
 use Rattle.dia_run.proofs.OneOutcome.{one_outcome}
 use Rattle.dia_captures.specs.declared.ended.Ended.{Ended}
 use Rattle.dia_captures.specs.Ending.{ended_of}
-use Rattle.dia_captures.specs.Lines.{Answer, MessageCommand, OfLine, text_of, IsLinesOutcome, answered, refused, AreLinesAnswered, IsFrontPut, RefusesFirst, checks, refutations}
+use Rattle.dia_captures.specs.Lines.{Answer, MessageCommand, OfLine, text_of, IsLinesOutcome, answered, refused, AreLinesAnswered, IsFrontPut, checks, refutations}
+use Rattle.dia_run.specs.RefusedDictionaries.{RefusesFirst}
 use Rattle.dia_captures.proofs.OneMessage.{same_check, same_refute}
 
 -- the exits of verdicts are those of the answers

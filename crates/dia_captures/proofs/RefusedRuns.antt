@@ -22,7 +22,8 @@ use Rattle.dia_report.specs.Refusals.{TellsOf}
 use Rattle.dia_run.specs.Report.{TellsRefusal}
 use Rattle.dia_run.proofs.RefusedInputs.{TellsOf-map}
 use Rattle.dia_captures.specs.declared.runs.Captured.{Captured}
-use Rattle.dia_captures.specs.Lines.{MessageCommand, OfLine, text_of, AreLinesAnswered, IsFrontPut, RefusesFirst, refutations}
+use Rattle.dia_captures.specs.Lines.{MessageCommand, OfLine, text_of, AreLinesAnswered, IsFrontPut, refutations}
+use Rattle.dia_run.specs.RefusedDictionaries.{RefusesFirst}
 use Rattle.dia_captures.proofs.LinesOfMessages.{all_refused, front_refused, nothing_answered, nothing_put}
 
 -- what holds of a refusal's text holds of the line that it is

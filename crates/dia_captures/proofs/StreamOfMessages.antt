@@ -28,7 +28,8 @@ use Rattle.dia_captures.specs.declared.ended.Ended.{Ended}
 use Rattle.dia_captures.specs.declared.verdicts.Checked.{Checked}
 use Rattle.dia_captures.specs.Ending.{ended_of}
 use Rattle.dia_captures.specs.Verdicts.{IsPieceChecked, checked_exit, checked_line, placed_line}
-use Rattle.dia_captures.specs.Lines.{Answer, RefusesFirst, checks}
+use Rattle.dia_captures.specs.Lines.{Answer, checks}
+use Rattle.dia_run.specs.RefusedDictionaries.{RefusesFirst}
 use Rattle.dia_run.proofs.OneInput.{Same, one_dictionary, refused_once}
 use Rattle.dia_run.proofs.OneOutcome.{judged_once}
 use Rattle.dia_captures.specs.Streams.{OfMessage, placed, IsStreamAnswered, IsStreamFrontPut, IsStreamOutcome, told, refused}

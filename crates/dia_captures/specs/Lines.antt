@@ -2,7 +2,6 @@
 use Rattle.std.specs.Prelude.{◌≡◌, ℕ, ◌⊎◌, List, [], Option, map, if◌then◌else◌}
 use Rattle.std.specs.List.{flat_map}
 use Rattle.std.specs.Io.KnownBytes.{Appends, Consumes}
-use Rattle.dia_dict.specs.Dictionary.{Dictionary}
 use Rattle.dia_policy.specs.declared.Unknown.{Unknown}
 use Rattle.dia_policy.specs.declared.Levels.{Levels}
 use Rattle.dia_io.specs.declared.Input.{Input}
@@ -12,9 +11,9 @@ use Rattle.dia_io.specs.declared.Exit.TheVariants.{Yes, No}
 use Rattle.dia_io.specs.Writing.{AppendsFront}
 use Rattle.dia_lines.specs.Lines.{IsAnswered}
 use Rattle.dia_lines.specs.FeedToSink.{FrontAnswered}
-use Rattle.dia_report.specs.Refusals.{dictionary_line}
-use Rattle.dia_run.specs.Texts.{line, IsDictionaryText, IsNoDictionaryText}
+use Rattle.dia_run.specs.Texts.{line}
 use Rattle.dia_run.specs.Outcome.{IsCheckOutcome, IsRefuteOutcome, Refuses}
+use Rattle.dia_run.specs.RefusedDictionaries.{RefusesFirst, RefusesSecond}
 use Rattle.dia_captures.specs.declared.ended.Ended.{Ended}
 use Rattle.dia_captures.specs.Ending.{ended_of}
 
@@ -24,15 +23,6 @@ pub record MessageCommand : Type 1 where
   pub outcome : Inputs → List ℕ → Exit → Type 0
   pub refuses : Inputs → List ℕ → Type 0
   pub exit_of : Ended → Exit
-
--- the first dictionary is refused with this line
-abbrev pub RefusesFirst : Inputs → List ℕ → Type 0
-RefusesFirst inputs told = (why : List ℕ) × IsNoDictionaryText inputs.first why × (told ≡ dictionary_line 1 why)
-
--- so is the second
-abbrev pub RefusesSecond : Inputs → List ℕ → Type 0
-RefusesSecond inputs told = (a : Dictionary) × IsDictionaryText inputs.first a
-    × ((why : List ℕ) × IsNoDictionaryText inputs.second why × (told ≡ dictionary_line 2 why))
 
 -- `check`: yes where each message is valid
 abbrev pub checks : Unknown → Levels → MessageCommand

@@ -13,7 +13,8 @@ use Rattle.dia_streams.specs.Streams.{IsStreamTold, StillGives, SomeTold}
 use Rattle.dia_run.specs.Texts.{line, IsDictionaryText}
 use Rattle.dia_run.specs.Outcome.{IsJudged, Refuses}
 use Rattle.dia_captures.specs.Ending.{ended_of}
-use Rattle.dia_captures.specs.Lines.{Answer, RefusesFirst, checks}
+use Rattle.dia_captures.specs.Lines.{Answer, checks}
+use Rattle.dia_run.specs.RefusedDictionaries.{RefusesFirst}
 
 -- what `check` answers of the bytes of a message under the first dictionary, or of what isn't hexadecimal
 abbrev pub OfMessage : Unknown → Levels → Inputs → Option (List ℕ) → Answer → Type 0

@@ -1,5 +1,4 @@
 mod Names
 mod OneText
 mod Pairs
-mod Refusing
 mod Texts

@@ -20,7 +20,7 @@ use Rattle.dia_compat.specs.Sides.{Compared, compared}
 use Rattle.dia_compat.specs.TableText.{PlainTable}
 use Rattle.dia_compat.proofs.OneAnswer.{one_comparison}
 use Rattle.dia_compared_json.specs.Compared.{ComparisonHasOneText, IsAnswerJson, IsFailureJson}
-use Rattle.dia_compared_json.specs.Failures.{failure_json, pairs_listed}
+use Rattle.dia_compared_json.specs.Failures.{failure_json}
 
 -- two answers to one question
 same_answer : {P : Type 0} (x y : Bool) → IsTrue x ↔ P → IsTrue y ↔ P → x ≡ y

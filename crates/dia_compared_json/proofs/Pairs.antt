@@ -21,7 +21,7 @@ use Rattle.dia_compat.specs.Failings.{AreFailingsFor, AreFailingsOf}
 use Rattle.dia_compat.specs.TableText.{PlainTable, plain_pair, plain_table}
 use Rattle.dia_io.specs.declared.Exit.TheVariants as exits
 use Rattle.dia_run.specs.declared.commands.Outcome.{Outcome}
-use Rattle.dia_json.specs.Values.{json_line, verdict_members}
+use Rattle.dia_refused_json.specs.Members.{json_line, verdict_members}
 use Rattle.dia_compared_json.specs.Compared.{IsAnswerJson}
 use Rattle.dia_compared_json.specs.Failures.{pairs_listed}
 use Rattle.dia_compared_json.specs.Objects.{items_of}

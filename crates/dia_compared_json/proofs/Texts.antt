@@ -19,7 +19,7 @@ use Rattle.dia_compat.specs.declared.Test.{Test}
 use Rattle.dia_compat.specs.PairTests.{NamePair}
 use Rattle.dia_compat.specs.PairTests.{p_of}
 use Rattle.dia_run.specs.Pairs.{test_word}
-use Rattle.dia_json.specs.Values.{json_line, named_members}
+use Rattle.dia_refused_json.specs.Members.{json_line, named_members}
 use Rattle.dia_compared_json.specs.Failures.{failure_members, kind_word}
 use Rattle.dia_compared_json.specs.Parts.{why_word}
 use Rattle.dia_compared_json.specs.Objects.{app_of, code_of, command_members, declared_members, element, format_word, head_members, is_of_requests, items_of, m_word}

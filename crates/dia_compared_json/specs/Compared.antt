@@ -18,9 +18,9 @@ use Rattle.dia_io.specs.declared.Exit.TheVariants.{No, Yes}
 use Rattle.dia_run.specs.Outcome.{IsCompareOutcome}
 use Rattle.dia_run.specs.Pairs.{IsTableText}
 use Rattle.dia_run.specs.Texts.{IsDictionaryText}
-use Rattle.dia_json.specs.Runs.{IsRefusal, RefusedDictionaries}
-use Rattle.dia_json.specs.Values.{json_line, verdict_members}
-use Rattle.dia_json.specs.Whole.{RefusesAs}
+use Rattle.dia_refused_json.specs.Telling.{IsRefusal, RefusedDictionaries}
+use Rattle.dia_refused_json.specs.Members.{json_line, verdict_members}
+use Rattle.dia_refused_json.specs.Telling.{RefusesAs}
 use Rattle.dia_compared_json.specs.Failures.{failure_json, pairs_listed}
 
 -- the pair at this place fails the test, for all of this

@@ -9,7 +9,7 @@ use Rattle.dia_compat.specs.declared.Test.{Test}
 use Rattle.dia_compat.specs.PairTests.{NamePair}
 use Rattle.dia_compat.specs.TableText.{PlainTable}
 use Rattle.dia_run.specs.Pairs.{test_word}
-use Rattle.dia_json.specs.Values.{json_line, verdict_members}
+use Rattle.dia_refused_json.specs.Members.{json_line, verdict_members}
 use Rattle.dia_compared_json.specs.Objects.{items_of}
 use Rattle.dia_compared_json.specs.Parts.{failing_value, side_of}
 

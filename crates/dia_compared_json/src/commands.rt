@@ -9,9 +9,9 @@ ghost use Rattle.dia_compared_json.specs.Objects.{app_of, code_of, command_membe
 ghost use Rattle.dia_compared_json.specs.Objects.{is_of_requests, p_value, plain_found};
 
 use crate::arrays::{null_text, number_or_null};
-use crate::quoting::quoted;
 use crate::words::p_word;
 use dia_book::{Class, DefHead, Definition, Pxy};
+use dia_refused_json::quoted;
 use std::alloc::{AllocError, Global};
 
 /// A command, if there is one.

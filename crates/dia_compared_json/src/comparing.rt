@@ -4,7 +4,7 @@ ghost use Rattle.std.specs.Prelude.{◌≡◌, ◌≢◌, ◌<◌, ◌↔◌, []
 ghost use Rattle.dia_compat.specs.Closed.{IsTableAnswer};
 ghost use Rattle.dia_compat.specs.Failings.{AreFailingsFor, AreFailingsOf};
 ghost use Rattle.dia_compat.specs.TableText.{plain_table};
-ghost use Rattle.dia_json.specs.Runs.{TellsBad};
+ghost use Rattle.dia_refused_json.specs.Telling.{TellsBad};
 ghost use Rattle.dia_compared_json.specs.Compared.{IsAnswerJson, IsCompareJson, IsFailureJson, TellsComparison};
 ghost use Rattle.dia_compared_json.specs.Failures.{pairs_listed};
 
@@ -13,7 +13,7 @@ use dia_book::Book;
 use dia_check::Unknown;
 use dia_compat::{Answer, Failing, PairKind, Table, Test, Verdict, judge_table};
 use dia_io::{Exit, Input, Inputs};
-use dia_json::bad_input_line;
+use dia_refused_json::bad_input_line;
 use dia_report::{Answered, BothBooks, Compared, Refused, Report};
 use dia_run::{Outcome, read_dictionary, read_table, told};
 use std::alloc::{AllocError, Global};

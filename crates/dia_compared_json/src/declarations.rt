@@ -5,15 +5,15 @@ ghost use Rattle.std.specs.List.{flat_map};
 ghost use Rattle.serde_json.specs.Data.{object};
 ghost use Rattle.serde_json.specs.Written.{compact_text, members_text};
 ghost use Rattle.dia_data.specs.Plain.{plain_format, ranges_of};
-ghost use Rattle.dia_json.specs.Values.{named_members};
+ghost use Rattle.dia_refused_json.specs.Members.{named_members};
 ghost use Rattle.dia_compared_json.specs.Objects.{avp_value, declared_members, declared_value, element, range_value};
 ghost use Rattle.dia_compared_json.specs.Objects.{taken_members, values_members, values_value};
 
 use crate::arrays::{array_text, null_text};
-use crate::quoting::quoted;
 use crate::words::{format_word, m_word};
 use dia_book::{Book, Entry, Format, Key, MRule};
 use dia_data::Values;
+use dia_refused_json::quoted;
 use std::alloc::{AllocError, Global};
 
 /// The AVP with this key by its name, code and vendor, if the dictionary has it.

@@ -11,10 +11,10 @@ use crate::arrays::{array_text, push_element};
 use crate::failing_parts::{accepted_part, sent_part};
 use crate::failing_words::why_word;
 use crate::parts::{Part, part_text};
-use crate::quoting::quoted;
 use crate::sides::Side;
 use dia_book::Book;
 use dia_compat::Failing;
+use dia_refused_json::quoted;
 use std::alloc::{AllocError, Global};
 
 /// The array of an object for each.

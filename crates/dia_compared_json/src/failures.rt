@@ -5,15 +5,15 @@ ghost use Rattle.serde_json.specs.Data.{Data, array};
 ghost use Rattle.serde_json.specs.Written.{compact_text};
 ghost use Rattle.dia_compat.specs.TableText.{plain_pair, plain_table};
 ghost use Rattle.dia_run.specs.Pairs.{test_word};
-ghost use Rattle.dia_json.specs.Values.{json_line};
+ghost use Rattle.dia_refused_json.specs.Members.{json_line};
 ghost use Rattle.dia_compared_json.specs.Objects.{items_of};
 ghost use Rattle.dia_compared_json.specs.Failures.{failure_json, failure_members, kind_word, pairs_listed};
 
 use crate::failings::failings_text;
-use crate::quoting::quoted;
 use crate::sides::Side;
 use dia_book::Book;
 use dia_compat::{Failing, PairKind, Table, Test};
+use dia_refused_json::quoted;
 use std::alloc::{AllocError, Global};
 
 /// The pair at this place of the table.

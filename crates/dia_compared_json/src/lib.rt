@@ -13,7 +13,6 @@ mod failings;
 mod failures;
 mod laws;
 mod parts;
-mod quoting;
 mod rules;
 mod sides;
 mod words;

@@ -7,8 +7,8 @@ ghost use Rattle.dia_book.specs.Rules.{is_fixed};
 ghost use Rattle.dia_compared_json.specs.Objects.{rule_members, slot_name};
 
 use crate::arrays::number_or_null;
-use crate::quoting::quoted;
 use dia_book::{Book, DRule, Key, RuleKind};
+use dia_refused_json::quoted;
 use std::alloc::{AllocError, Global};
 
 /// A rule, by its number in the definition.

@@ -4,4 +4,3 @@ mod Members
 mod Objects
 mod ObjectsOfLevels
 mod Pairs
-mod Refusing

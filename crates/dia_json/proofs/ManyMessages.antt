@@ -18,24 +18,18 @@ use Rattle.dia_lines.specs.FeedToSink.{AllAnswered}
 use Rattle.dia_streams.specs.Streams.{AllTold}
 use Rattle.dia_report.specs.declared.refusing.Refused.{Refused}
 use Rattle.dia_report.specs.declared.refusing.Refused.TheVariants.{Bad, NoMemory}
-use Rattle.dia_report.specs.Refusals.{TellsOf, dictionary_line}
-use Rattle.dia_report.specs.declared.bad_input.BadInput.{BadInput}
-use Rattle.dia_report.specs.declared.bad_input.BadInput.TheVariants as bads
-use Rattle.dia_report.specs.declared.bad_input.BadDictionary.TheVariants as dictionary
-use Rattle.dia_ccf.specs.Plain.{plain_source}
-use Rattle.dia_run.specs.Report.{HasFinding}
-use Rattle.dia_run.specs.Texts.{IsDictionaryText, IsNoDictionaryText}
+use Rattle.dia_run.specs.Texts.{IsDictionaryText}
 use Rattle.dia_captures.specs.declared.ended.Ended.{Ended}
 use Rattle.dia_captures.specs.declared.summaries.Lines.{Lines}
 use Rattle.dia_captures.specs.declared.summaries.Lines.TheVariants as lines
 use Rattle.dia_captures.specs.declared.verdicts.Checked.{Checked}
 use Rattle.dia_captures.specs.Counts.{Item, placed_items}
 use Rattle.dia_captures.specs.Ending.{ended_of}
-use Rattle.dia_captures.specs.Lines.{RefusesSecond, checks}
+use Rattle.dia_captures.specs.Lines.{checks}
 use Rattle.dia_captures.specs.Summaries.{AreLinesSummed, IsSummary}
 use Rattle.dia_captures.specs.Verdicts.{IsPieceChecked, checked_exit}
-use Rattle.dia_json.specs.Refusals.{IsFoundIn}
-use Rattle.dia_json.specs.Runs.{AreLinesTold, IsDictionaryRefusal, IsNothing, IsRefusal, IsRefusalFront, IsRefusalPut, IsStreamPut, StreamSummary, TellsBad}
+use Rattle.dia_json.specs.Runs.{AreLinesTold, IsNothing, IsRefusalFront, IsRefusalPut, IsStreamPut, StreamSummary}
+use Rattle.dia_refused_json.specs.Telling.{TellsBad}
 use Rattle.dia_json.specs.Values.{placed_json}
 
 -- ---- inputs that are refused
@@ -43,30 +37,6 @@ use Rattle.dia_json.specs.Values.{placed_json}
 pub ends_badly : (input : Input) (refused : Refused) (text : List ℕ) (exit : Exit) → TellsBad input refused text exit → exit ≡ exits.Bad
 ends_badly input (Bad bad) text exit is = is.1
 ends_badly input NoMemory text exit none = absurd none
-
-pub input_refused : (refuses : List ℕ → Type 0) (input : Input) (refused : Refused) → TellsOf refuses refused → (text : List ℕ) (exit : Exit) → TellsBad input refused text exit
-    → IsRefusal refuses input text exit
-input_refused refuses input (Bad bad) tells text exit is = (bad, tells, is.0, is.1)
-input_refused refuses input NoMemory tells text exit none = absurd none
-
-found_in : (input : Input) (bad : BadInput) → HasFinding input (Bad bad) → IsFoundIn input bad
-found_in input (bads.Dictionary n (dictionary.NoSource misfit)) h = h
-found_in input (bads.Dictionary n (dictionary.Wrong found)) h = (plain_source found.source.value, h, found.first)
-found_in input (bads.Dictionary n dictionary.TooLong) h = tt
-found_in input (bads.Dictionary n (dictionary.NotText at)) h = tt
-found_in input (bads.Table why) h = tt
-found_in input (bads.Message why) h = tt
-
-pub dictionary_refused : (refuses : List ℕ → Type 0) (input : Input) (refused : Refused) → TellsOf refuses refused → HasFinding input refused
-    → (text : List ℕ) (exit : Exit) → TellsBad input refused text exit → IsDictionaryRefusal refuses input text exit
-dictionary_refused refuses input (Bad bad) tells kept text exit is = (bad, found_in input bad kept, tells, is.0, is.1)
-dictionary_refused refuses input NoMemory tells kept text exit none = absurd none
-
--- the second dictionary is refused, behind a first one that is read
-pub second_refused : (inputs : Inputs) (a : Dictionary) (r : Refused) → IsDictionaryText inputs.first a
-    → TellsOf (λ told. (why : List ℕ) × IsNoDictionaryText inputs.second why × (told ≡ dictionary_line 2 why)) r → TellsOf (RefusesSecond inputs) r
-second_refused inputs a (Bad bad) is_a h = (a, is_a, h)
-second_refused inputs a NoMemory is_a h = tt
 
 nothing : (fed old new : Option (List ℕ)) → new ≡ old → IsNothing fed fed old new
 nothing fed old new same = (Consumes-nil fed, subst (λ (p : Option (List ℕ)). Appends old p []) (sym same) (Appends-nil old))

@@ -24,7 +24,7 @@ use Rattle.dia_captures.specs.Verdicts.{name_of}
 use Rattle.dia_json.specs.Listing.{AddsAvp, AddsLevel, IsNamedLeaf}
 use Rattle.dia_json.specs.Messages.{AreShown, IsValue, TellsMessage, bad_length_members, command_member, header_members, hex_value, known_group, known_leaf, lines_of, name_member}
 use Rattle.dia_json.specs.Messages.{shown_members, stranger, value_member, vendor_value}
-use Rattle.dia_json.specs.Values.{json_line}
+use Rattle.dia_refused_json.specs.Members.{json_line}
 
 -- ---- the last members of an AVP
 

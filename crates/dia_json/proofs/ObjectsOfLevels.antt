@@ -13,7 +13,7 @@ use Rattle.dia_run.specs.Listing.{Level, behind, inside}
 use Rattle.dia_json.specs.declared.listing.Rest.{Rest}
 use Rattle.dia_json.specs.Listing.{AddsAvp, AddsLevel}
 use Rattle.dia_json.specs.Messages.{AreShown, end, bad_length, avp, group, bad_group, IsNamed, bad_length_members, lines_of, shown_members}
-use Rattle.dia_json.specs.Values.{json_line}
+use Rattle.dia_refused_json.specs.Members.{json_line}
 
 -- what is left of a level at a depth
 abbrev pub level_of : ℕ → Rest → Level

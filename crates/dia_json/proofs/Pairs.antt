@@ -3,7 +3,7 @@ use Rattle.std.proofs.Common.{◌≡◌, ◌∙◌, ℕ, List, ◌++◌, Result,
 use Rattle.std.specs.Prelude.{IfOk}
 use Rattle.json.specs.Print.{quoted}
 use Rattle.serde_json.proofs.OnLiterals.{serde_json_on_literals}
-use Rattle.dia_json.specs.Values.{json_line}
+use Rattle.dia_refused_json.specs.Members.{json_line}
 use Rattle.dia_json.specs.Whole.{no_command_members, pair_json}
 
 pub IfOk-both : {A E : Type 0} (r : Result A E) (P Q R : A → Type 0) → ((x : A) → P x → Q x → R x) → IfOk r P → IfOk r Q → IfOk r R

@@ -6,7 +6,7 @@ use Rattle.dia_wire.specs.Wire.{PlainAvp}
 use Rattle.dia_data.specs.Plain.{PlainFormat}
 use Rattle.dia_dict.specs.Dictionary.{Dictionary}
 use Rattle.dia_run.specs.Listing.{Level}
-use Rattle.dia_json.specs.Values.{json_line}
+use Rattle.dia_refused_json.specs.Members.{json_line}
 use Rattle.dia_json.specs.Messages.{AreShown, IsNamed, IsValue, lines_of, name_member, shown_members, value_member}
 
 -- the text of the last members of an AVP of this name, with the brace behind them

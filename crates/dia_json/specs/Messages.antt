@@ -20,7 +20,7 @@ use Rattle.dia_run.specs.Outcome.{listing_exit}
 use Rattle.dia_captures.specs.Verdicts.{name_of}
 use Rattle.dia_json.specs.declared.values.ValueKind.{ValueKind}
 use Rattle.dia_json.specs.declared.values.ValueKind.TheVariants as kind
-use Rattle.dia_json.specs.Values.{json_line, verdict_members}
+use Rattle.dia_refused_json.specs.Members.{json_line, verdict_members}
 
 -- ---- values
 

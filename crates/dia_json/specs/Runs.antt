@@ -13,10 +13,6 @@ use Rattle.dia_io.specs.Writing.{AppendsFront}
 use Rattle.dia_lines.specs.Lines.{IsAnswered, told_lines}
 use Rattle.dia_lines.specs.FeedToSink.{FrontAnswered, LinesAnswered}
 use Rattle.dia_streams.specs.Streams.{IsStreamTold, SomeTold, StillGives, WholeTold}
-use Rattle.dia_report.specs.declared.bad_input.BadInput.{BadInput}
-use Rattle.dia_report.specs.declared.refusing.Refused.{Refused}
-use Rattle.dia_report.specs.declared.refusing.Refused.TheVariants as refused
-use Rattle.dia_report.specs.Refusals.{bad_input_text}
 use Rattle.dia_run.specs.Texts.{IsDictionaryText}
 use Rattle.dia_captures.specs.declared.verdicts.Checked.{Checked}
 use Rattle.dia_captures.specs.declared.verdicts.Refuted.{Refuted}
@@ -24,34 +20,13 @@ use Rattle.dia_captures.specs.declared.ended.Ended.{Ended}
 use Rattle.dia_captures.specs.Ending.{ended_of}
 use Rattle.dia_captures.specs.declared.summaries.Lines.TheVariants as lines
 use Rattle.dia_captures.specs.Counts.{checked_items, placed_items, refuted_items}
-use Rattle.dia_captures.specs.Lines.{RefusesFirst, RefusesSecond, checks, refutations}
+use Rattle.dia_captures.specs.Lines.{checks, refutations}
 use Rattle.dia_captures.specs.Summaries.{AreLinesSummed, IsSummary}
 use Rattle.dia_captures.specs.Verdicts.{IsLineChecked, IsLineRefuted, IsPieceChecked, checked_exit, refuted_exit}
-use Rattle.dia_json.specs.Refusals.{IsFoundIn, bad_input_json}
+use Rattle.dia_refused_json.specs.Telling.{RefusedDictionaries, RefusedDictionary}
 use Rattle.dia_json.specs.Values.{checked_json, numbered_json, numbered_refuted_json, placed_json, refuted_json}
 
 -- ---- one message
-
--- the line of an input that is refused. Where memory was refused there is none
-abbrev pub TellsBad : Input → Refused → List ℕ → Exit → Type 0
-TellsBad input (refused.Bad bad) text exit = (text ≡ bad_input_json input bad) × (exit ≡ Bad)
-TellsBad input refused.NoMemory text exit = ⊥
-
--- an input is refused, of which the command tells this as text
-abbrev pub IsRefusal : (List ℕ → Type 0) → Input → List ℕ → Exit → Type 0
-IsRefusal refuses input text exit = (bad : BadInput) × refuses (bad_input_text bad) × (text ≡ bad_input_json input bad) × (exit ≡ Bad)
-
--- a dictionary is refused, for what was found of it
-abbrev pub IsDictionaryRefusal : (List ℕ → Type 0) → Input → List ℕ → Exit → Type 0
-IsDictionaryRefusal refuses input text exit =
-    (bad : BadInput) × IsFoundIn input bad × refuses (bad_input_text bad) × (text ≡ bad_input_json input bad) × (exit ≡ Bad)
-
--- the only dictionary is refused, or one of two
-abbrev pub RefusedDictionary : Inputs → List ℕ → Exit → Type 0
-RefusedDictionary inputs text exit = IsDictionaryRefusal (RefusesFirst inputs) inputs.first text exit
-
-abbrev pub RefusedDictionaries : Inputs → List ℕ → Exit → Type 0
-RefusedDictionaries inputs text exit = RefusedDictionary inputs text exit ⊎ IsDictionaryRefusal (RefusesSecond inputs) inputs.second text exit
 
 -- the verdict on a message
 abbrev pub TellsChecked : Unknown → Levels → Dictionary → Input → List ℕ → Exit → Type 0

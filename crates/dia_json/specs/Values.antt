@@ -1,36 +1,23 @@
--- The answers of `check` and `refute` as JSON values (RFC 8259), whose members stand in this order. `compact_text` is the text of a
--- value without blanks, and `quoted` escapes its strings.
+-- The answers of `check` and `refute` as JSON values (RFC 8259), whose members stand in this order.
 use Rattle.std.specs.Prelude.{ℕ, List, Option, None, Some, codes, slice_get}
 use Rattle.serde_json.specs.Data.{Members, boolean, member, no_members, number, object, string, unsigned}
-use Rattle.serde_json.specs.Written.{compact_text}
 use Rattle.dia_wire.specs.declared.Key.{Key}
 use Rattle.dia_dict.specs.Dictionary.{Dictionary, DictEntry, definitions}
 use Rattle.dia_check.specs.declared.Fault.{Fault}
 use Rattle.dia_check.specs.declared.Subject.{Subject}
 use Rattle.dia_check.specs.declared.Subject.TheVariants.{Nothing, Avp, Wildcard}
 use Rattle.dia_check.specs.Valid.{known}
-use Rattle.dia_run.specs.Texts.{line}
 use Rattle.dia_run.specs.Verdict.{reason_word}
 use Rattle.dia_captures.specs.declared.verdicts.Checked.{Checked}
 use Rattle.dia_captures.specs.declared.verdicts.Checked.TheVariants.{Valid, Wrong}
 use Rattle.dia_captures.specs.declared.verdicts.Flaw.TheVariants as flaw
 use Rattle.dia_captures.specs.declared.verdicts.Refuted.{Refuted}
 use Rattle.dia_captures.specs.Verdicts.{name_of, refutes, unless_refused}
-
--- the object of these members, on a line
-abbrev pub json_line : Members → List ℕ
-json_line members = line (compact_text (object members))
+use Rattle.dia_refused_json.specs.Members.{json_line, key_members, named_members, refused_members, verdict_members}
 
 -- ---- what a fault is about
 
--- an AVP by its code and vendor, which is 0 for none
-abbrev pub key_members : Key → Members
-key_members key = member (codes "code") (number (unsigned key.code)) (member (codes "vendor") (number (unsigned key.vendor)) no_members)
-
-abbrev pub named_members : List ℕ → Key → Members
-named_members name key = member (codes "name") (string name) (key_members key)
-
--- with its name, if the dictionary knows it
+-- an AVP, with its name if the dictionary knows it
 abbrev pub avp_members : Key → Option DictEntry → Members
 avp_members key None = key_members key
 avp_members key (Some e) = named_members e.name key
@@ -46,19 +33,12 @@ subject_members d Wildcard = about (member (codes "name") (string (codes "AVP"))
 
 -- ---- verdicts
 
-abbrev pub verdict_members : List ℕ → Members → Members
-verdict_members word rest = member (codes "verdict") (string word) rest
-
 abbrev pub valid_members : List ℕ → Members
 valid_members name = verdict_members (codes "valid") (member (codes "command") (string name) no_members)
 
 abbrev pub fault_members : Dictionary → Fault → Members
 fault_members d fault = verdict_members (codes "fault") (member (codes "code") (number (unsigned fault.code))
     (member (codes "at") (number (unsigned fault.place)) (member (codes "reason") (string (reason_word fault.reason)) (subject_members d fault.subject))))
-
--- an input that is refused, and the kind of what is wrong
-abbrev pub refused_members : (input kind : List ℕ) → Members → Members
-refused_members input kind rest = member (codes "error") (string input) (member (codes "kind") (string kind) rest)
 
 -- a text that spells no message
 abbrev pub too_long_members : Members

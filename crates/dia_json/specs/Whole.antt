@@ -10,14 +10,10 @@ use Rattle.dia_io.specs.declared.Inputs.{Inputs}
 use Rattle.dia_io.specs.declared.Exit.{Exit}
 use Rattle.dia_io.specs.declared.Exit.TheVariants.{Bad, Yes}
 use Rattle.dia_run.specs.Outcome.{IsShowOutcome}
-use Rattle.dia_run.specs.Texts.{line, IsDictionaryText, IsMessageText}
+use Rattle.dia_run.specs.Texts.{IsDictionaryText, IsMessageText}
 use Rattle.dia_json.specs.Messages.{TellsMessage}
-use Rattle.dia_json.specs.Runs.{IsDictionaryRefusal, IsRefusal, RefusedDictionaries}
-use Rattle.dia_json.specs.Values.{json_line, refused_members}
-
--- the command refuses an input, and tells this as text
-abbrev pub RefusesAs : (List ℕ → Exit → Type 0) → List ℕ → Type 0
-RefusesAs outcome told = outcome (line told) Bad
+use Rattle.dia_refused_json.specs.Telling.{IsDictionaryRefusal, IsRefusal, RefusedDictionaries, RefusesAs}
+use Rattle.dia_refused_json.specs.Members.{json_line, refused_members}
 
 -- `show`: the objects of the message, or the dictionary or the message is refused
 abbrev pub IsShowJson : Inputs → List ℕ → Exit → Type 0

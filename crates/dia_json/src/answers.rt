@@ -1,14 +1,15 @@
 //! The answers for one message.
 
 ghost use Rattle.std.specs.Prelude.{IfOk, string_bytes};
-ghost use Rattle.dia_json.specs.Runs.{IsCheckJson, IsRefuteJson, TellsBad, TellsChecked, TellsRefuted};
+ghost use Rattle.dia_json.specs.Runs.{IsCheckJson, IsRefuteJson, TellsChecked, TellsRefuted};
+ghost use Rattle.dia_refused_json.specs.Telling.{TellsBad};
 
-use crate::refusals::bad_input_line;
 use crate::verdicts::{push_checked, push_refuted};
 use dia_captures::{RefuteJudge, check_line};
 use dia_check::{Levels, Unknown};
 use dia_dict::Book;
 use dia_io::{Exit, Input, Inputs};
+use dia_refused_json::bad_input_line;
 use dia_report::{Answered, Refused, Report};
 use dia_run::read_dictionary;
 use std::alloc::{AllocError, Global};

@@ -10,10 +10,8 @@ mod judges;
 mod laws;
 mod listing;
 mod proposing;
-mod refusals;
 mod runs;
 mod showing;
-mod strings;
 mod values;
 mod verdicts;
 
@@ -21,7 +19,6 @@ pub use answers::{check, refute};
 pub use judges::{JsonCheck, JsonRefute};
 pub use laws::text_is_value;
 pub use proposing::propose;
-pub use refusals::bad_input_line;
 pub use runs::{check_lines, check_stream, refute_lines};
 pub use showing::show;
 pub use verdicts::{push_checked, push_numbered, push_numbered_refuted, push_placed, push_refuted};

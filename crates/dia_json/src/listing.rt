@@ -5,14 +5,14 @@ ghost use Rattle.serde_json.specs.Data.{Members, no_members};
 ghost use Rattle.serde_json.specs.Written.{compact_text, members_text};
 ghost use Rattle.dia_wire.specs.Wire.{plain_avp};
 ghost use Rattle.dia_data.specs.Plain.{plain_format};
-ghost use Rattle.dia_json.specs.Values.{json_line};
+ghost use Rattle.dia_refused_json.specs.Members.{json_line};
 ghost use Rattle.dia_json.specs.Messages.{bad_length_members, hex_value, name_member, shown_members};
 ghost use Rattle.dia_json.specs.Messages.{value_member, vendor_value};
 ghost use Rattle.dia_json.specs.Listing.{AddsAvp, AddsLevel, IsNamedLeaf};
 
-use crate::strings::quoted;
 use crate::values::{hex_text, value_text};
 use dia_dict::{Book, Format};
+use dia_refused_json::quoted;
 use dia_wire::{Avp, AvpFault, key, next_avp};
 use std::alloc::{AllocError, Global};
 

@@ -9,7 +9,8 @@ ghost use Rattle.dia_lines.specs.FeedToSink.{most_pieces};
 ghost use Rattle.dia_streams.specs.Streams.{most_places};
 ghost use Rattle.dia_json.specs.Runs.{ChecksFront, ChecksLines, ChecksStream, ChecksSummary, ChecksWhole};
 ghost use Rattle.dia_json.specs.Runs.{RefutesFront, RefutesLines, RefutesSummary, RefutesWhole};
-ghost use Rattle.dia_json.specs.Runs.{StreamFront, StreamSummary, StreamWhole, TellsBad};
+ghost use Rattle.dia_json.specs.Runs.{StreamFront, StreamSummary, StreamWhole};
+ghost use Rattle.dia_refused_json.specs.Telling.{TellsBad};
 
 use crate::answers::refuse;
 use crate::judges::{JsonCheck, JsonRefute};

@@ -10,9 +10,9 @@ ghost use Rattle.dia_data.specs.Plain.{Address, plain_format};
 ghost use Rattle.dia_data.specs.Shown.{IsValueText, hex_byte};
 ghost use Rattle.dia_json.specs.Messages.{IsValue, address_value, hex_value, kind_of, value_as};
 
-use crate::strings::quoted;
 use byteorder::{BigEndian, ByteOrder};
 use dia_data::{Format, Leaf, accepts, print_value, push_hex_byte};
+use dia_refused_json::quoted;
 use std::alloc::{AllocError, Global};
 use std::str;
 

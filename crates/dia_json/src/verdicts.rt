@@ -4,13 +4,14 @@ ghost use Rattle.std.specs.Prelude.{◌≡◌, ◌++◌, OnOk, false, true, stri
 ghost use Rattle.serde_json.specs.Written.{members_text};
 ghost use Rattle.dia_captures.specs.Verdicts.{IsNamed};
 ghost use Rattle.dia_json.specs.Values.{about, both_members, checked_json, checked_members, fault_members};
-ghost use Rattle.dia_json.specs.Values.{key_members, named_members, numbered_json, numbered_refuted_json, placed_json};
+ghost use Rattle.dia_json.specs.Values.{numbered_json, numbered_refuted_json, placed_json};
+ghost use Rattle.dia_refused_json.specs.Members.{key_members, named_members};
 ghost use Rattle.dia_json.specs.Values.{refuted_json, refuted_members, subject_members, valid_members};
 
-use crate::strings::quoted;
 use dia_captures::{Checked, Flaw, Refuted};
 use dia_check::{Fault, Subject};
 use dia_dict::Book;
+use dia_refused_json::quoted;
 use dia_run::reason_word;
 use dia_wire::Key;
 use std::alloc::{AllocError, Global};

@@ -3,6 +3,7 @@ pub mod Listing
 pub mod Verdict
 pub mod Pairs
 pub mod Outcome
+pub mod RefusedDictionaries
 pub mod Inclusion
 pub mod FedTexts
 pub mod Report

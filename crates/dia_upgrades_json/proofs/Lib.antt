@@ -1,4 +1,3 @@
 mod Forms
-mod Refusals
 mod Reports
 mod Written

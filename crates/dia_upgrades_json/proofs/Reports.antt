@@ -4,7 +4,7 @@ use Rattle.std.specs.Prelude.{◌↔◌, IfOk, Option}
 use Rattle.std.specs.Io.KnownBytes.{Appends}
 use Rattle.std.proofs.KnownBytes.{Appends-nil}
 use Rattle.dia_book.specs.Dictionary.{Dictionary}
-use Rattle.dia_captures.specs.Lines.{RefusesFirst, RefusesSecond}
+use Rattle.dia_run.specs.RefusedDictionaries.{RefusesFirst, RefusesSecond}
 use Rattle.dia_dict.specs.declared.IndexedBook.{IndexedBook}
 use Rattle.dia_io.specs.declared.Exit.{Exit}
 use Rattle.dia_io.specs.declared.Exit.TheVariants.{Yes, No, Bad}
@@ -12,7 +12,7 @@ use Rattle.dia_io.specs.declared.Input.{Input}
 use Rattle.dia_io.specs.declared.Inputs.{Inputs}
 use Rattle.dia_io.specs.declared.RunFault.{RunFault}
 use Rattle.dia_io.specs.declared.RunFault.TheVariants.{Device, NoMemory}
-use Rattle.dia_json.specs.Runs.{IsDictionaryRefusal, RefusedDictionaries, TellsBad}
+use Rattle.dia_refused_json.specs.Telling.{IsDictionaryRefusal, RefusedDictionaries, TellsBad}
 use Rattle.dia_report.specs.declared.bad_input.BadInput.{BadInput}
 use Rattle.dia_report.specs.declared.refusing.Refused.{Refused}
 use Rattle.dia_report.specs.declared.refusing.Refused.TheVariants as refusals
@@ -32,7 +32,7 @@ use Rattle.dia_upgrades_json.specs.Objects.{as_json}
 use Rattle.dia_upgrades_json.specs.Outcome.{IsBreakingJson, IsJsonReport}
 use Rattle.dia_upgrades_json.specs.UnderWay.{Answers, RefusesFor, Reports}
 use Rattle.dia_upgrades_json.proofs.Forms.{refused_as_json, refused_in_words, safe_in_words, unsafe_in_words}
-use Rattle.dia_upgrades_json.proofs.Refusals.{dictionary_refused}
+use Rattle.dia_refused_json.proofs.Telling.{dictionary_refused}
 
 module _ (meaning : IndexedBook → Dictionary) (asked : Asked) (inputs : Inputs) (old new : Option (List ℕ)) where
   -- ---- over dictionaries that were read

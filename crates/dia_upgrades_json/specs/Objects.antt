@@ -12,7 +12,7 @@ use Rattle.dia_breaking_json.specs.Lines.{line_json, unsigned_field}
 use Rattle.dia_compat.specs.Proposed.{IsFirstUnknown}
 use Rattle.dia_explain_places.specs.Places.{column_at, line_at}
 use Rattle.dia_io.specs.declared.Input.{Input}
-use Rattle.dia_json.specs.Refusals.{text_of}
+use Rattle.dia_refused_json.specs.Refusals.{text_of}
 use Rattle.dia_run.specs.Texts.{line}
 use Rattle.dia_upgrades.specs.declared.asked.Asked.{Asked}
 use Rattle.dia_upgrades.specs.declared.asked.Form.TheVariants.{Json}

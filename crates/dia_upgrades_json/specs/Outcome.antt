@@ -7,7 +7,7 @@ use Rattle.dia_dict.specs.declared.IndexedBook.{IndexedBook}
 use Rattle.dia_io.specs.declared.Exit.{Exit}
 use Rattle.dia_io.specs.declared.Input.{Input}
 use Rattle.dia_io.specs.declared.Inputs.{Inputs}
-use Rattle.dia_json.specs.Runs.{RefusedDictionaries, TellsBad}
+use Rattle.dia_refused_json.specs.Telling.{RefusedDictionaries, TellsBad}
 use Rattle.dia_report.specs.declared.refusing.Refused.TheVariants.{Bad}
 use Rattle.dia_run.specs.Report.{AreReadFrom}
 use Rattle.dia_run.specs.Texts.{IsDictionaryText}

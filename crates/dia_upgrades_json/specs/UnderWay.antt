@@ -9,7 +9,7 @@ use Rattle.dia_io.specs.declared.Inputs.{Inputs}
 use Rattle.dia_io.specs.declared.RunFault.{RunFault}
 use Rattle.dia_io.specs.declared.RunFault.TheVariants.{Device, NoMemory}
 use Rattle.dia_io.specs.Writing.{AppendsFront}
-use Rattle.dia_json.specs.Runs.{TellsBad}
+use Rattle.dia_refused_json.specs.Telling.{TellsBad}
 use Rattle.dia_report.specs.declared.bad_input.BadInput.{BadInput}
 use Rattle.dia_report.specs.declared.refusing.Refused.{Refused}
 use Rattle.dia_report.specs.declared.refusing.Refused.TheVariants as refused

@@ -13,7 +13,7 @@ ghost use Rattle.dia_upgrades_json.specs.UnderWay.{Refuses, RefusesFor, Reports}
 use crate::listing::listed;
 use dia_dict::{Book, IndexedBook};
 use dia_io::{Exit, Input, Inputs, RunFault, Sink, put_all};
-use dia_json::bad_input_line;
+use dia_refused_json::bad_input_line;
 use dia_report::{BadInput, BothBooks, Refused};
 use dia_run::read_dictionary;
 use dia_upgrades::{Asked, Listed, Report, Reported};

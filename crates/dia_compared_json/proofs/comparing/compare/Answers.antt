@@ -1,11 +1,11 @@
 use Rattle.std.proofs.Common.{inl, inr}
 use Rattle.std.specs.Prelude.{string_bytes}
 use Rattle.std.proofs.lemmas.Result.{IfOk-weaker}
-use Rattle.dia_captures.specs.Lines.{RefusesFirst, RefusesSecond}
+use Rattle.dia_run.specs.RefusedDictionaries.{RefusesFirst, RefusesSecond}
 use Rattle.dia_run.specs.Outcome.{IsCompareOutcome}
 use Rattle.dia_run.proofs.RefusedInputs.{Ends-no_table}
-use Rattle.dia_json.specs.Whole.{RefusesAs}
-use Rattle.dia_compared_json.proofs.Refusing.{dictionary_refused, input_refused, second_refused}
+use Rattle.dia_refused_json.specs.Telling.{RefusesAs}
+use Rattle.dia_refused_json.proofs.Telling.{dictionary_refused, input_refused, second_refused}
 use Rattle.dia_compared_json.proofs.comparing.compare.Goals as goal
 
 pub returns-in-Err : goal.returns-in-Err

@@ -1,8 +1,8 @@
 use Rattle.std.proofs.Common.{inl, inr}
 use Rattle.std.specs.Prelude.{string_bytes}
 use Rattle.std.proofs.lemmas.Result.{IfOk-weaker}
-use Rattle.dia_captures.specs.Lines.{RefusesFirst}
-use Rattle.dia_json.proofs.ManyMessages.{dictionary_refused}
+use Rattle.dia_run.specs.RefusedDictionaries.{RefusesFirst}
+use Rattle.dia_refused_json.proofs.Telling.{dictionary_refused}
 use Rattle.dia_json.proofs.answers.check.Goals as goal
 
 pub returns-in-Err : goal.returns-in-Err

@@ -1,8 +1,8 @@
 use Rattle.std.proofs.Common.{inl, inr}
 use Rattle.std.specs.Prelude.{string_bytes}
 use Rattle.std.proofs.lemmas.Result.{IfOk-weaker}
-use Rattle.dia_captures.specs.Lines.{RefusesFirst, RefusesSecond}
-use Rattle.dia_json.proofs.ManyMessages.{dictionary_refused, second_refused}
+use Rattle.dia_run.specs.RefusedDictionaries.{RefusesFirst, RefusesSecond}
+use Rattle.dia_refused_json.proofs.Telling.{dictionary_refused, second_refused}
 use Rattle.dia_json.proofs.Pairs.{IfOk-both}
 use Rattle.dia_json.proofs.proposing.propose.Goals as goal
 

@@ -7,11 +7,14 @@ use Rattle.dia_captures.specs.Ending.{ended_of}
 use Rattle.dia_captures.proofs.Summed.{unsummed}
 use Rattle.dia_captures.specs.declared.summaries.Lines.TheVariants as lines
 use Rattle.dia_captures.specs.Counts.{checked_flaw, checked_items}
-use Rattle.dia_captures.specs.Lines.{RefusesFirst, checks}
+use Rattle.dia_captures.specs.Lines.{checks}
+use Rattle.dia_run.specs.RefusedDictionaries.{RefusesFirst}
 use Rattle.dia_captures.specs.Verdicts.{checked_exit}
 use Rattle.dia_captures.proofs.Tallies.{exits_in_lines}
-use Rattle.dia_json.specs.Runs.{ChecksSummary, RefusedDictionary}
-use Rattle.dia_json.proofs.ManyMessages.{dictionary_refused, lines_summed, lines_told, refusal_front, refusal_put, refusal_whole}
+use Rattle.dia_json.specs.Runs.{ChecksSummary}
+use Rattle.dia_refused_json.specs.Telling.{RefusedDictionary}
+use Rattle.dia_json.proofs.ManyMessages.{lines_summed, lines_told, refusal_front, refusal_put, refusal_whole}
+use Rattle.dia_refused_json.proofs.Telling.{dictionary_refused}
 use Rattle.dia_json.proofs.runs.check_lines.Goals as goal
 
 pub returns-in-Err-clause-told : goal.returns-in-Err-clause-told

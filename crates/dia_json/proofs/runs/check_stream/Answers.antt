@@ -6,10 +6,11 @@ use Rattle.dia_captures.specs.declared.runs.Captured.{Captured}
 use Rattle.dia_captures.specs.Ending.{ended_of}
 use Rattle.dia_captures.proofs.Summed.{unsummed}
 use Rattle.dia_captures.specs.Counts.{placed_items}
-use Rattle.dia_captures.specs.Lines.{RefusesFirst}
+use Rattle.dia_run.specs.RefusedDictionaries.{RefusesFirst}
 use Rattle.dia_captures.proofs.Tallies.{exits_placed}
-use Rattle.dia_json.specs.Runs.{RefusedDictionary}
-use Rattle.dia_json.proofs.ManyMessages.{dictionary_refused, refusal_front, refusal_put, refusal_whole, stream_summed, stream_told}
+use Rattle.dia_refused_json.specs.Telling.{RefusedDictionary}
+use Rattle.dia_json.proofs.ManyMessages.{refusal_front, refusal_put, refusal_whole, stream_summed, stream_told}
+use Rattle.dia_refused_json.proofs.Telling.{dictionary_refused}
 use Rattle.dia_json.proofs.runs.check_stream.Goals as goal
 
 pub returns-in-Err-clause-told : goal.returns-in-Err-clause-told

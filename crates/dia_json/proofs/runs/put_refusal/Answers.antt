@@ -1,6 +1,6 @@
 use Rattle.std.proofs.Common.{subst}
 use Rattle.dia_json.proofs.ManyMessages.{ends_badly}
-use Rattle.dia_json.specs.Runs.{TellsBad}
+use Rattle.dia_refused_json.specs.Telling.{TellsBad}
 use Rattle.dia_json.proofs.runs.put_refusal.Goals as goal
 
 pub returns-in_err-put_all-clause-front : goal.returns-in_err-put_all-clause-front

@@ -7,11 +7,14 @@ use Rattle.dia_captures.specs.Ending.{ended_of}
 use Rattle.dia_captures.proofs.Summed.{unsummed}
 use Rattle.dia_captures.specs.declared.summaries.Lines.TheVariants as lines
 use Rattle.dia_captures.specs.Counts.{refuted_flaw, refuted_items}
-use Rattle.dia_captures.specs.Lines.{RefusesFirst, RefusesSecond, refutations}
+use Rattle.dia_captures.specs.Lines.{refutations}
+use Rattle.dia_run.specs.RefusedDictionaries.{RefusesFirst, RefusesSecond}
 use Rattle.dia_captures.specs.Verdicts.{refuted_exit}
 use Rattle.dia_captures.proofs.Tallies.{exits_in_lines}
-use Rattle.dia_json.specs.Runs.{RefusedDictionaries, RefutesSummary}
-use Rattle.dia_json.proofs.ManyMessages.{dictionary_refused, lines_summed, lines_told, refusal_front, refusal_put, refusal_whole, second_refused}
+use Rattle.dia_json.specs.Runs.{RefutesSummary}
+use Rattle.dia_refused_json.specs.Telling.{RefusedDictionaries}
+use Rattle.dia_json.proofs.ManyMessages.{lines_summed, lines_told, refusal_front, refusal_put, refusal_whole}
+use Rattle.dia_refused_json.proofs.Telling.{dictionary_refused, second_refused}
 use Rattle.dia_json.proofs.runs.refute_lines.Goals as goal
 
 pub returns-in-Err-clause-told : goal.returns-in-Err-clause-told

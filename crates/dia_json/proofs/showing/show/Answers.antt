@@ -6,8 +6,8 @@ use Rattle.dia_run.specs.Texts.{line, IsMessageText}
 use Rattle.dia_run.specs.Outcome.{IsMessageShown, IsShowOutcome, ended}
 use Rattle.dia_run.proofs.OutcomeParts.{Ends-unsplit}
 use Rattle.dia_run.proofs.RefusedInputs.{TellsOf-map, Ends-no_dictionary, Ends-no_message}
-use Rattle.dia_json.specs.Whole.{RefusesAs}
-use Rattle.dia_json.proofs.ManyMessages.{dictionary_refused, input_refused}
+use Rattle.dia_refused_json.specs.Telling.{RefusesAs}
+use Rattle.dia_refused_json.proofs.Telling.{dictionary_refused, input_refused}
 use Rattle.dia_json.proofs.showing.show.Goals as goal
 
 pub returns-in-Err : goal.returns-in-Err

@@ -1,4 +1,4 @@
-use Rattle.dia_upgrades_json.proofs.Refusals.{second_refused}
+use Rattle.dia_refused_json.proofs.Telling.{second_refused}
 use Rattle.dia_upgrades_json.proofs.Reports.{first_reports, second_reports}
 use Rattle.dia_upgrades_json.proofs.command.reported.Goals as goal
 

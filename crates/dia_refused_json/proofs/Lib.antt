@@ -1,0 +1,2 @@
+mod Refusing
+pub mod Telling
