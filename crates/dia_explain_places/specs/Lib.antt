@@ -3,3 +3,4 @@ pub mod Parts
 pub mod Words
 pub mod Tables
 pub mod Expecting
+pub mod Kinds

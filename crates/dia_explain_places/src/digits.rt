@@ -3,13 +3,13 @@
 ghost use Rattle.std.specs.Prelude.{◌≡◌, ◌*◌, ◌≤◌, None, IfSome, length};
 ghost use Rattle.dia_explain_places.specs.Places.{IsAtByte, digits_before};
 
-use crate::runs::is_white;
+use crate::runs::{Kind, count_of, is_white};
 
 /// How many bytes of a text aren't white space.
 pub fn count_digits(text: &[u8]) -> usize
     ensures { result ≡ digits_before text.now (length text.now) }
 {
-    text.iter().filter(|byte| !is_white(**byte)).count()
+    count_of(text, Kind::Digit)
 }
 
 /// The place in the text of the first digit of a byte.

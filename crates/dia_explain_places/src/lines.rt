@@ -1,16 +1,16 @@
 //! The lines of a table, and their words with their places.
 
 ghost use Rattle.std.specs.Prelude.{◌≡◌, ◌<◌, ◌≤◌, ◌+◌, ◌^◌, ℕ, List, length};
-ghost use Rattle.std.specs.List.{prefix_len, take_while};
-ghost use Rattle.std.specs.Prelude.{not, ◌-◌, ◌==◌, slice_get};
+ghost use Rattle.std.specs.List.{take_while};
+ghost use Rattle.std.specs.Prelude.{◌-◌, slice_get};
 ghost use Rattle.dia_explain_places.specs.Places.{line_at};
-ghost use Rattle.dia_explain_places.specs.Tables.{is_blank, is_word_byte, line_from, plain_word, plain_words};
+ghost use Rattle.dia_explain_places.specs.Tables.{is_word_byte, line_from, plain_word, plain_words};
 ghost use Rattle.dia_explain_places.specs.Tables.{start_of_line, unreturned, word_from, words_from};
 ghost use Rattle.dia_explain_places.specs.Words.{AreOnLine, IsOnLine};
 ghost use Rattle.dia_terms.specs.Names.{is_name_run};
 
 use crate::place::{back, front};
-use crate::runs::is_name_run;
+use crate::runs::{Kind, is_name_run, run_length};
 
 /// A word of a line, and the place where it begins. Where there is none it is empty, and its place is the end of the line.
 #[derive(Clone, Copy)]
@@ -77,7 +77,7 @@ fn next_word(text: &[u8], from: usize) -> Word<'_>
     ensures word { plain_word result ≡ word_from text.entry.now from }
 {
     let line = line_from(text, from);
-    let blanks = blanks_before(line);
+    let blanks = run_length(line, Kind::Blank);
     let word = front_word(back(line, blanks));
     Word {
         text: word,
@@ -85,37 +85,11 @@ fn next_word(text: &[u8], from: usize) -> Word<'_>
     }
 }
 
-fn blanks_before(line: &[u8]) -> usize
-    ensures count { result ≡ prefix_len is_blank line.now }
-    ensures within { result ≤ length line.now }
-{
-    line.iter().take_while(|byte| is_blank(**byte)).count()
-}
-
 fn front_word(rest: &[u8]) -> &[u8]
     ensures word { result.now ≡ take_while is_word_byte rest.entry.now }
     ensures within { length result.now ≤ length rest.entry.now }
 {
-    front(rest, word_length(rest))
-}
-
-/// How many bytes of a word stand at the front.
-fn word_length(rest: &[u8]) -> usize
-    ensures { result ≡ prefix_len is_word_byte rest.now }
-{
-    rest.iter().take_while(|byte| is_word_byte(**byte)).count()
-}
-
-fn is_blank(byte: u8) -> bool
-    ensures { result ≡ is_blank byte }
-{
-    byte == b' ' || byte == b'\t'
-}
-
-fn is_word_byte(byte: u8) -> bool
-    ensures { result ≡ is_word_byte byte }
-{
-    !(is_blank(byte) || byte == b';')
+    front(rest, run_length(rest, Kind::Word))
 }
 
 /// What stands on a line from a place on, without the end of the line.
@@ -125,7 +99,7 @@ fn line_from(text: &[u8], from: usize) -> &[u8]
     ensures on_line { (k : ℕ) → k ≤ length result.now → line_at text.entry.now (from + k) ≡ line_at text.entry.now from }
 {
     let rest = back(text, from);
-    let length = line_length(rest);
+    let length = run_length(rest, Kind::Line);
     let line = front(rest, length);
     without_return(line)
 }
@@ -140,13 +114,6 @@ fn without_return(line: &[u8]) -> &[u8]
         [front @ .., b'\r'] => front,
         _ => line,
     }
-}
-
-/// How many bytes stand before the first line feed.
-fn line_length(bytes: &[u8]) -> usize
-    ensures { result ≡ prefix_len (λ c. not (c == 10)) bytes.now }
-{
-    bytes.iter().take_while(|byte| **byte != b'\n').count()
 }
 
 /// The place where a line begins, by its number from 1: the end of the text where there is none.

@@ -48,22 +48,15 @@ fn may_follow(rest: &[u8], is_within: bool) -> bool {
 /// The head of the AVP at the front of some bytes, if it looks like one: no reserved flag is set, and the length is that of
 /// an AVP which ends among these bytes.
 fn head_of(rest: &[u8]) -> Option<Head> {
-    let flags = *rest.get(4)?;
-    let code = number(rest.get(..4)?);
-    let length = number(rest.get(5..8)?) as usize;
-    let least = if flags & 0x80 == 0 { 8 } else { 12 };
-    if flags & 0x1f == 0 && length >= least && length <= rest.len() {
+    let [a, b, c, d, flags, e, f, g, ..] = rest else {
+        return None;
+    };
+    let code = u32::from_be_bytes([*a, *b, *c, *d]);
+    let length = u32::from_be_bytes([0, *e, *f, *g]) as usize;
+    let least = if *flags & 0x80 == 0 { 8 } else { 12 };
+    if *flags & 0x1f == 0 && length >= least && length <= rest.len() {
         Some(Head { code, length })
     } else {
         None
     }
-}
-
-/// The number that at most four bytes spell in network byte order.
-fn number(bytes: &[u8]) -> u32 {
-    let mut value = 0u32;
-    for byte in bytes.iter().take(4) {
-        value = (value & 0x00ff_ffff) << 8 | u32::from(*byte);
-    }
-    value
 }

@@ -1,13 +1,14 @@
 //! Places of a text as a reader looks for them: line and column, and the line itself with a caret under the place.
 
-ghost use Rattle.std.specs.Prelude.{◌≡◌, ◌==◌, ◌&&◌, ◌++◌, not, take, drop, OnOk, replicate, string_bytes};
-ghost use Rattle.std.specs.List.{prefix_len, suffix_len};
+ghost use Rattle.std.specs.Prelude.{◌≡◌, ◌==◌, ◌++◌, not, nat_lt, if◌then◌else◌, take, drop, OnOk, replicate, string_bytes};
+ghost use Rattle.std.specs.List.{suffix_len};
 ghost use Rattle.std.specs.Prelude.{flat_map};
 ghost use Rattle.std.specs.Str.{chars};
 ghost use Rattle.dia_explain_places.specs.Places.{line_column, place_text, start_text, excerpt, shown, shown_char};
 ghost use Rattle.dia_explain_places.specs.Places.{line_at, column_at, line_front, line_rest};
-ghost use Rattle.dia_explain_places.specs.Places.{characters, is_inner, shown_front};
+ghost use Rattle.dia_explain_places.specs.Places.{shown_front};
 
+use crate::runs::{Kind, count_of, run_length};
 use std::alloc::{AllocError, Global};
 use std::fmt;
 
@@ -74,31 +75,7 @@ fn line_behind(text: &[u8], at: usize) -> &[u8]
     ensures { result.now ≡ line_rest text.now at }
 {
     let behind = back(text, at);
-    front(behind, before_end(behind))
-}
-
-/// How many bytes stand before the end of the line.
-fn before_end(bytes: &[u8]) -> usize
-    ensures { result ≡ prefix_len (λ c. not (c == 10) && not (c == 13)) bytes.now }
-{
-    bytes
-        .iter()
-        .take_while(|byte| **byte != b'\n' && **byte != b'\r')
-        .count()
-}
-
-/// How many characters begin in these bytes of UTF-8.
-fn characters(bytes: &[u8]) -> usize
-    ensures { result ≡ characters bytes.now }
-{
-    bytes.iter().filter(|byte| !is_inner(**byte)).count()
-}
-
-/// Whether a byte of UTF-8 goes on with a character.
-fn is_inner(byte: u8) -> bool
-    ensures { result ≡ is_inner byte }
-{
-    0x80 <= byte && byte < 0xc0
+    front(behind, run_length(behind, Kind::Shown))
 }
 
 /// The line and the column of a place.
@@ -106,13 +83,11 @@ pub fn place_of(text: &[u8], at: usize) -> Place
     ensures line { result.line ≡ line_at text.now at }
     ensures column { result.column ≡ column_at text.now at }
 {
-    let feeds = front(text, at)
-        .iter()
-        .filter(|byte| **byte == b'\n')
-        .count();
+    let feeds = count_of(front(text, at), Kind::Feed);
+    let characters = count_of(line_before(text, at), Kind::First);
     Place {
         line: feeds.saturating_add(1),
-        column: characters(line_before(text, at)).saturating_add(1),
+        column: characters.saturating_add(1),
     }
 }
 
@@ -162,7 +137,7 @@ pub fn push_excerpt(
     push_shown(alloc, out, before)?;
     push_shown(alloc, out, shown_behind(text, at))?;
     out.push_str("\n  ")?;
-    push_spaces(out, characters(before))?;
+    push_spaces(out, count_of(before, Kind::First))?;
     out.push_str("^\n")
 }
 
@@ -181,14 +156,7 @@ fn shown_before(text: &[u8], at: usize) -> &[u8]
 {
     let before = line_before(text, at);
     let cut = back(before, before.len().saturating_sub(BEFORE));
-    back(cut, inner_len(cut))
-}
-
-/// How many bytes at the front go on with a character.
-fn inner_len(bytes: &[u8]) -> usize
-    ensures { result ≡ prefix_len is_inner bytes.now }
-{
-    bytes.iter().take_while(|byte| is_inner(**byte)).count()
+    back(cut, run_length(cut, Kind::Inner))
 }
 
 /// What is shown of a line from a place on.
@@ -211,7 +179,14 @@ fn push_characters(out: &mut String, text: &str) -> Result<(), AllocError>
         (string_bytes out.new ≡ string_bytes out.old ++ flat_map shown_char (chars text.now)) }
 {
     for c in text.chars() {
-        out.push(if c < ' ' { ' ' } else { c })?;
+        out.push(without_control(c))?;
     }
     Ok(())
+}
+
+/// A character, or a space for one of control.
+fn without_control(c: char) -> char
+    ensures { result ≡ if nat_lt c 32 then 32 else c }
+{
+    if c < ' ' { ' ' } else { c }
 }
