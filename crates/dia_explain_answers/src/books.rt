@@ -3,8 +3,8 @@
 ghost use Rattle.std.specs.Prelude.{◌<◌, IfSome, length};
 ghost use Rattle.dia_book.specs.Dictionary.{definitions};
 
-use crate::rule_text::{format_word, m_word, push_code, push_vendor};
-use crate::texts::{Added, Scene};
+use crate::rule_text::{format_word, m_word, push_vendor};
+use crate::texts::{Added, Scene, push_number};
 use dia_book::{Book, Class, DRule, DefHead, DefId, Definition, Format, Key, MRule, Slot};
 use dia_wire::Header;
 
@@ -34,7 +34,7 @@ impl Scene for Known<'_> {
     fn push_word(&self, out: &mut String, word: &str) -> Added {
         match word {
             "name" => out.push_str(self.name),
-            "code" => push_code(out, self.key),
+            "code" => push_number(out, self.key.code as usize),
             "vendor" => push_vendor(out, self.key.vendor),
             _ => out.push_str(self.declared_word(word)),
         }

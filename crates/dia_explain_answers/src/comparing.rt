@@ -82,14 +82,13 @@ fn push_pair(
     };
     match (pairs.get(number), failing) {
         (None, _) | (_, Failing::FirstName | Failing::SecondName) => Ok(()),
-        (Some(names), _) => match kind {
-            PairKind::Command => push_failed(
-                out,
-                &Pair::of_commands(pairing, failing, names),
-                kind,
-            ),
-            PairKind::Avp => push_failed(out, &Pair::of_avps(pairing, failing, names), kind),
-        },
+        (Some(names), _) => {
+            let pair = match kind {
+                PairKind::Command => Pair::of_commands(pairing, failing, names),
+                PairKind::Avp => Pair::of_avps(pairing, failing, names),
+            };
+            push_failed(out, &pair, kind)
+        }
     }
 }
 

@@ -9,7 +9,7 @@ pub fn push_rule(out: &mut String, side: &Side<'_>, rule: &DRule) -> Added {
     let (open, close, plain, starred) = brackets(rule.kind);
     push_qualifier(out, rule, plain, starred)?;
     out.push_str(open)?;
-    push_slot(out, side, rule)?;
+    push_slot(out, side, rule, "AVP")?;
     out.push_str(close)
 }
 
@@ -21,11 +21,11 @@ pub fn push_loose(out: &mut String, side: &Side<'_>, rule: &DRule) -> Added {
     push_rule(out, side, rule)
 }
 
-/// Adds what a rule is for.
-pub fn push_slot(out: &mut String, side: &Side<'_>, rule: &DRule) -> Added {
+/// Adds what a rule is for. `any` is what a rule for AVP is for.
+pub fn push_slot(out: &mut String, side: &Side<'_>, rule: &DRule, any: &str) -> Added {
     match rule.key {
         Some(key) => side.push_name(out, key),
-        None => out.push_str("AVP"),
+        None => out.push_str(any),
     }
 }
 
@@ -63,14 +63,6 @@ pub fn push_counts(out: &mut String, rule: &DRule) -> Added {
     }
 }
 
-/// Adds what a rule counts.
-pub fn push_counted(out: &mut String, side: &Side<'_>, rule: &DRule) -> Added {
-    match rule.key {
-        Some(key) => side.push_name(out, key),
-        None => out.push_str("what no rule names"),
-    }
-}
-
 /// A rule with the counts of two.
 pub fn widened(rule: &DRule, other: &DRule) -> DRule {
     let min = rule.min.min(other.min);
@@ -98,11 +90,6 @@ pub fn push_key(out: &mut String, key: Key, between: &str) -> Added {
         0 => Ok(()),
         _ => write!(out, "{between}{vendor}"),
     }
-}
-
-pub fn push_code(out: &mut String, key: Key) -> Added {
-    let code = key.code;
-    write!(out, "{code}")
 }
 
 /// Adds `no vendor` or `vendor N`.

@@ -4,8 +4,8 @@ use crate::books::avp_of;
 use crate::texts::{Added, Scene, push_text};
 use dia_book::{DefHead, Definition, Key};
 use dia_ccf::{Def, Source};
-use dia_dict::IndexedBook;
-use dia_explain_places::{NamedText, name_from, push_excerpt, push_start};
+use dia_dict::{IndexedBook, Part, PartKind};
+use dia_explain_places::{NamedText, name_from, part_place, push_excerpt, push_start};
 use dia_report::ReadBook;
 
 /// A dictionary, the word that names its text, the text, and what the text says.
@@ -53,45 +53,39 @@ impl<'a> Side<'a> {
         }
     }
 
-    /// The place of the name of a definition.
-    pub fn definition_at(&self, def: &Definition) -> Option<usize> {
-        Some(self.place(self.def_of(def)?.at))
-    }
-
-    /// The place of the name in a rule of a definition.
-    pub fn rule_at(&self, def: &Definition, index: usize) -> Option<usize> {
-        Some(self.place(self.def_of(def)?.rules.get(index)?.at))
+    /// The place of the name of a definition, or of the name in this rule of it.
+    pub fn definition_at(&self, def: &Definition, rule: Option<usize>) -> Option<usize> {
+        let (kind, defs) = match def.head {
+            DefHead::Group(_) => (PartKind::Group, &self.source.groups),
+            DefHead::Command { .. } | DefHead::Error { .. } => (
+                PartKind::Command,
+                &self.source.commands,
+            ),
+        };
+        let index = index_of(defs, def.name.as_str())?;
+        part_place(self.text, self.source, Some(Part { kind, index, rule }))
     }
 
     /// The place of the name in the declaration of an AVP, or in its definition where it has no declaration.
     pub fn avp_at(&self, name: &str) -> Option<usize> {
         for decl in &self.source.avps {
             if decl.name.as_str() == name {
-                return Some(self.place(decl.at));
+                return Some(name_from(self.text, decl.at));
             }
         }
-        Some(self.place(def_named(&self.source.groups, name)?.at))
-    }
-
-    /// The place of the first name of what begins at a place.
-    fn place(&self, at: usize) -> usize {
-        name_from(self.text, at)
-    }
-
-    /// What the text says of a definition.
-    fn def_of(&self, def: &Definition) -> Option<&'a Def> {
-        let defs = match def.head {
-            DefHead::Group(_) => &self.source.groups,
-            DefHead::Command { .. } | DefHead::Error { .. } => &self.source.commands,
+        let group = Part {
+            kind: PartKind::Group,
+            index: index_of(&self.source.groups, name)?,
+            rule: None,
         };
-        def_named(defs, def.name.as_str())
+        part_place(self.text, self.source, Some(group))
     }
 }
 
-fn def_named<'a>(defs: &'a [Def], name: &str) -> Option<&'a Def> {
-    for def in defs {
+fn index_of(defs: &[Def], name: &str) -> Option<usize> {
+    for (index, def) in defs.iter().enumerate() {
         if def.name.as_str() == name {
-            return Some(def);
+            return Some(index);
         }
     }
     None

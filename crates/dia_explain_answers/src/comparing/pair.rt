@@ -119,8 +119,8 @@ impl<'a> Pair<'a> {
             return Ok(());
         };
         match word {
-            "sent" => push_slot(out, a, &rule),
-            "wanted" => push_slot(out, b, &rule),
+            "sent" => push_slot(out, a, &rule, "AVP"),
+            "wanted" => push_slot(out, b, &rule, "AVP"),
             "loose" => push_loose(out, b, &rule),
             _ => push_rule(out, b, &rule),
         }
@@ -211,7 +211,7 @@ impl Scene for Pair<'_> {
 }
 
 /// The rule at a place of a definition.
-fn rule_at(def: Option<&Definition>, place: Option<usize>) -> Option<DRule> {
+pub fn rule_at(def: Option<&Definition>, place: Option<usize>) -> Option<DRule> {
     def?.rules.get(place?).copied()
 }
 

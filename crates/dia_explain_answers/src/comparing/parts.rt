@@ -1,8 +1,8 @@
 //! Lines about parts of the two dictionaries.
 
 use crate::books::Known;
-use crate::comparing::pair::{Pair, wildcard_of};
-use crate::rule_text::{push_counted, push_counts, push_rule};
+use crate::comparing::pair::{Pair, rule_at, wildcard_of};
+use crate::rule_text::{push_counts, push_rule, push_slot};
 use crate::sides::Side;
 use crate::texts::{Added, Scene, push_hint};
 use dia_book::{Class, DRule, DefHead, Definition, Pxy};
@@ -81,12 +81,13 @@ fn push_defined<'a>(
     let Some(def) = def else {
         return Ok(());
     };
-    let (at, rule) = match place {
-        Some(place) => (side.rule_at(def, place), def.rules.get(place).copied()),
-        None => (side.definition_at(def), None),
+    let rule = rule_at(Some(def), place);
+    let defined = Defined {
+        side: *side,
+        def,
+        rule,
     };
-    let side = *side;
-    side.push_part(out, at, &Defined { side, def, rule }, told)
+    side.push_part(out, side.definition_at(def, place), &defined, told)
 }
 
 impl Scene for Defined<'_> {
@@ -107,7 +108,7 @@ impl Defined<'_> {
         };
         match word {
             "counts" => push_counts(out, &rule),
-            "counted" => push_counted(out, &self.side, &rule),
+            "counted" => push_slot(out, &self.side, &rule, "what no rule names"),
             _ => push_rule(out, &self.side, &rule),
         }
     }

@@ -1,6 +1,6 @@
 //! The bytes of an AVP and of a header, by their fields (RFC 6733 sections 3 and 4.1).
 
-use crate::texts::{Added, Scene, push_text};
+use crate::texts::{Added, Scene, push_number, push_text};
 use dia_data::push_hex_byte;
 use dia_wire::{
     AVP_HEAD_LENGTH, AVP_MANDATORY, AVP_PROTECTED, AVP_VENDOR, COMMAND_ERROR, COMMAND_PROXIABLE,
@@ -26,24 +26,25 @@ static COMMAND_FLAGS: [(u8, &str); 4] = [
     (COMMAND_RETRANSMITTED, " T"),
 ];
 
-/// The bytes of an AVP, and what may stand behind it.
+/// The place of an AVP in a message, its bytes, and what may stand behind it.
 #[derive(Clone, Copy)]
 struct AvpBytes<'a> {
+    at: usize,
     bytes: &'a [u8],
 }
 
-/// Adds the fields of the AVP at the front of some bytes, as far as they are there: in decimal, and in hexadecimal.
-pub fn push_avp(out: &mut String, bytes: &[u8]) -> Added {
-    push_text(out, &AvpBytes { bytes }, fields_of(bytes))
+/// Adds a line with the place of an AVP and its fields, as far as they are there: in decimal, and in hexadecimal.
+pub fn push_avp(out: &mut String, at: usize, bytes: &[u8]) -> Added {
+    push_text(out, &AvpBytes { at, bytes }, fields_of(bytes))
 }
 
 fn fields_of(bytes: &[u8]) -> &'static str {
     if bytes.len() < FLAGS_END {
-        "bytes {bytes}"
+        "  at {at}: bytes {bytes}\n"
     } else if head_of(bytes) == VENDOR_AVP_HEAD_LENGTH {
-        "code {code}, flags {flags}, length {length}, vendor {vendor}{data}"
+        "  at {at}: code {code}, flags {flags}, length {length}, vendor {vendor}{data}\n"
     } else {
-        "code {code}, flags {flags}, length {length}{data}"
+        "  at {at}: code {code}, flags {flags}, length {length}{data}\n"
     }
 }
 
@@ -51,6 +52,7 @@ impl Scene for AvpBytes<'_> {
     fn push_word(&self, out: &mut String, word: &str) -> Added {
         let bytes = self.bytes;
         match word {
+            "at" => push_number(out, self.at),
             "code" => push_field(out, part(bytes, 0, 4)),
             "flags" => push_flags(out, flags_of(bytes), &AVP_FLAGS),
             "length" => push_field(out, part(bytes, 5, 8)),

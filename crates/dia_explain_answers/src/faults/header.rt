@@ -104,7 +104,7 @@ impl InHeader<'_> {
 
     fn push_command(&self, out: &mut String, command: &Definition, told: &str) -> Added {
         self.side
-            .push_part(out, self.side.definition_at(command), self, told)
+            .push_part(out, self.side.definition_at(command, None), self, told)
     }
 
     /// Adds the first commands of the code and the class of the header, with their applications.

@@ -116,12 +116,11 @@ impl<'a> InBody<'a> {
             Some(group) if self.place() >= end => group.place,
             _ => self.place(),
         };
-        if begin >= end {
-            return Ok(());
+        if begin < end {
+            push_avp(out, begin, part(self.message.bytes, begin, end))
+        } else {
+            Ok(())
         }
-        write!(out, "  at {begin}: ")?;
-        push_avp(out, part(self.message.bytes, begin, end))?;
-        out.push('\n')
     }
 
     /// Adds where the rule, the definition or the AVP is declared that the fault is about.
@@ -129,11 +128,11 @@ impl<'a> InBody<'a> {
         let side = &self.side;
         match (self.def(), self.counting, shown_avp(self)) {
             (Some(def), Some(counting), _) if self.is_of_rule() => {
-                let at = side.rule_at(def, counting.place);
+                let at = side.definition_at(def, Some(counting.place));
                 side.push_part(out, at, self, "the rule is {rule}")
             }
             (Some(def), None, _) if self.is_of_rule() => {
-                let at = side.definition_at(def);
+                let at = side.definition_at(def, None);
                 side.push_part(out, at, self, "{level} is defined here")
             }
             (_, _, Some(avp)) => {

@@ -98,11 +98,12 @@ fn rule_for(rule: &DRule, word: &str) -> DRule {
 }
 
 fn push_count_word(out: &mut String, rule: &DRule, word: &str) -> Added {
-    let least = rule.min;
-    match rule.max {
-        Some(most) if word == "wanted" && most == least => write!(out, "{least}"),
-        _ if word == "wanted" => write!(out, "at least {least}"),
-        Some(most) if most > 0 => write!(out, "at most {most}"),
-        _ => out.push_str("none"),
-    }
+    let is_wanted = word == "wanted";
+    let (front, count) = match rule.max {
+        Some(most) if is_wanted && most == rule.min => ("", most),
+        _ if is_wanted => ("at least ", rule.min),
+        Some(most) if most > 0 => ("at most ", most),
+        _ => return out.push_str("none"),
+    };
+    write!(out, "{front}{count}")
 }

@@ -78,16 +78,16 @@ pub fn push_unnamed(alloc: Global, out: &mut String, message: &[u8], sign: &str)
 
 /// Adds which dictionary names the AVPs of messages of an application.
 fn push_naming(out: &mut String, sign: &str, app: u32) -> Added {
-    let what = "is an AVP that the base dictionary doesn't have; --dict";
+    write!(
+        out,
+        "hint: {sign} is an AVP that the base dictionary doesn't have; --dict "
+    )?;
     match application_of(app) {
         Some(Application { id, name, file }) => write!(
             out,
-            "hint: {sign} {what} {file} names those of application {id} ({name}), see docs/CAPTURES.md\n"
+            "{file} names those of application {id} ({name}), see docs/CAPTURES.md\n"
         ),
-        None => write!(
-            out,
-            "hint: {sign} {what} D names those of the dictionary D\n"
-        ),
+        None => out.push_str("D names those of the dictionary D\n"),
     }
 }
 
