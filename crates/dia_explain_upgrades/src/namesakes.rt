@@ -2,7 +2,7 @@
 
 use dia_ccf::{Decl, Def, Head, Source};
 use dia_upgrades::Told;
-use indexmap::{IndexMap, IndexSet};
+use indexmap::IndexMap;
 use std::alloc::{AllocError, Global};
 
 /// The most names that are told.
@@ -23,56 +23,46 @@ struct Number {
 }
 
 /// The AVPs of a dictionary by their names.
+type Numbers<'a> = IndexMap<&'a str, Number>;
+
+/// A dictionary's AVPs, and the word that names its text.
 #[derive(Drop)]
-struct Numbers<'a> {
-    map: Box<IndexMap<&'a str, Number>>,
+struct Numbered<'a> {
+    dictionary: &'a str,
+    numbers: Box<Numbers<'a>>,
 }
 
-impl<'a> Numbers<'a> {
-    fn of(alloc: Global, source: &'a Source) -> Result<Numbers<'a>, AllocError> {
-        let mut map = Box::new(alloc, IndexMap::new(alloc))?;
-        add_declared(&mut map, &source.avps)?;
-        add_groups(&mut map, &source.groups)?;
-        Ok(Numbers { map })
-    }
-
-    fn number(&self, name: &str) -> Option<Number> {
-        self.map.get(&name).copied()
+impl<'a> Numbered<'a> {
+    fn of(alloc: Global, side: Side<'a>) -> Result<Numbered<'a>, AllocError> {
+        let mut numbers = Box::new(alloc, IndexMap::new(alloc))?;
+        add_declared(&mut numbers, &side.source.avps)?;
+        add_groups(&mut numbers, &side.source.groups)?;
+        let dictionary = side.name;
+        Ok(Numbered {
+            dictionary,
+            numbers,
+        })
     }
 }
 
-fn add_declared<'a>(
-    map: &mut IndexMap<&'a str, Number>,
-    avps: &'a [Decl],
-) -> Result<(), AllocError> {
+fn add_declared<'a>(numbers: &mut Numbers<'a>, avps: &'a [Decl]) -> Result<(), AllocError> {
     for avp in avps {
         let number = Number {
             code: avp.code,
             vendor: avp.vendor,
         };
-        map.insert(avp.name.as_str(), number)?;
+        numbers.insert(avp.name.as_str(), number)?;
     }
     Ok(())
 }
 
-fn add_groups<'a>(
-    map: &mut IndexMap<&'a str, Number>,
-    groups: &'a [Def],
-) -> Result<(), AllocError> {
+fn add_groups<'a>(numbers: &mut Numbers<'a>, groups: &'a [Def]) -> Result<(), AllocError> {
     for group in groups {
         if let Head::Group { code, vendor } = group.head {
-            map.insert(group.name.as_str(), Number { code, vendor })?;
+            numbers.insert(group.name.as_str(), Number { code, vendor })?;
         }
     }
     Ok(())
-}
-
-/// A name that stands for two AVPs.
-#[derive(Clone, Copy)]
-struct Twins<'a> {
-    name: &'a str,
-    first: Number,
-    second: Number,
 }
 
 /// Adds the names that these causes are about, and that stand for one AVP in the first dictionary and for another in the second.
@@ -83,80 +73,61 @@ pub fn push_namesakes(
     second: Side<'_>,
     causes: &[Told],
 ) -> Result<(), AllocError> {
-    let of_first = Numbers::of(alloc, first.source)?;
-    let of_second = Numbers::of(alloc, second.source)?;
-    let names = subjects_of(alloc, causes)?;
-    let found = twins_among(alloc, names.as_slice(), &of_first, &of_second)?;
-    for twins in found.iter().take(MOST) {
-        push_twins(out, twins, first.name, second.name)?;
+    let of_first = Numbered::of(alloc, first)?;
+    let of_second = Numbered::of(alloc, second)?;
+    push_all(alloc, out, &of_first, &of_second, causes)
+}
+
+/// Adds the first of these names, each once.
+fn push_all(
+    alloc: Global,
+    out: &mut String,
+    first: &Numbered<'_>,
+    second: &Numbered<'_>,
+    causes: &[Told],
+) -> Result<(), AllocError> {
+    let mut told = Vec::new(alloc);
+    for cause in causes {
+        let name = subject_of(cause.words.as_str());
+        if told.len() < MOST && !told.contains(&name) && push_twins(out, first, second, name)? {
+            told.push(name)?;
+        }
     }
     Ok(())
 }
 
-fn twins_among<'a>(
-    alloc: Global,
-    names: &[&'a str],
-    first: &Numbers<'_>,
-    second: &Numbers<'_>,
-) -> Result<Vec<Twins<'a>>, AllocError> {
-    let mut found = Vec::new(alloc);
-    for name in names {
-        match twins_of(*name, first, second) {
-            Some(twins) => found.push(twins)?,
-            None => {}
-        }
-    }
-    Ok(found)
-}
-
-fn twins_of<'a>(name: &'a str, first: &Numbers<'_>, second: &Numbers<'_>) -> Option<Twins<'a>> {
-    let first = first.number(name)?;
-    let second = second.number(name)?;
-    if first == second {
-        None
-    } else {
-        Some(Twins {
-            name,
-            first,
-            second,
-        })
-    }
-}
-
+/// Adds a name, if it stands for two AVPs. Answers whether it does.
 fn push_twins(
     out: &mut String,
-    twins: &Twins<'_>,
-    first: &str,
-    second: &str,
-) -> Result<(), AllocError> {
-    let name = twins.name;
-    write!(out, "{name} is ")?;
-    push_number(out, twins.first)?;
-    write!(out, " in {first} and ")?;
-    push_number(out, twins.second)?;
-    write!(out, " in {second}\n")
+    first: &Numbered<'_>,
+    second: &Numbered<'_>,
+    name: &str,
+) -> Result<bool, AllocError> {
+    match (first.numbers.get(&name), second.numbers.get(&name)) {
+        (Some(own), Some(other)) if own != other => {
+            out.push_str(name)?;
+            push_number(out, " is ", *own, first.dictionary)?;
+            push_number(out, " and ", *other, second.dictionary)?;
+            out.push('\n')?;
+            Ok(true)
+        }
+        _ => Ok(false),
+    }
 }
 
-fn push_number(out: &mut String, number: Number) -> Result<(), AllocError> {
+/// Adds the number of an AVP, and the dictionary that has it.
+fn push_number(
+    out: &mut String,
+    front: &str,
+    number: Number,
+    dictionary: &str,
+) -> Result<(), AllocError> {
     let Number { code, vendor } = number;
     if vendor == 0 {
-        write!(out, "{code}")
+        write!(out, "{front}{code} in {dictionary}")
     } else {
-        write!(out, "{code} vendor {vendor}")
+        write!(out, "{front}{code} vendor {vendor} in {dictionary}")
     }
-}
-
-/// What the causes are about, each once.
-fn subjects_of<'t>(alloc: Global, causes: &'t [Told]) -> Result<Vec<&'t str>, AllocError> {
-    let mut seen = IndexSet::new(alloc);
-    let mut subjects = Vec::new(alloc);
-    for cause in causes {
-        let subject = subject_of(cause.words.as_str());
-        if seen.insert(subject)? {
-            subjects.push(subject)?;
-        }
-    }
-    Ok(subjects)
 }
 
 /// The last word in front of the colon.

@@ -25,12 +25,13 @@ pub fn push_tally(
 
 /// Adds how many lines are left where the first side sends no more than this.
 pub fn push_narrower(out: &mut String, sends: Sends, lines: usize) -> Result<(), AllocError> {
+    let word = match sends {
+        Sends::Any => return Ok(()),
+        Sends::Known => "known",
+        Sends::Listed => "listed",
+    };
     let line = noun(lines, "line", "lines");
-    match sends {
-        Sends::Any => Ok(()),
-        Sends::Known => write!(out, "with --sends known: {lines} {line}\n"),
-        Sends::Listed => write!(out, "with --sends listed: {lines} {line}\n"),
-    }
+    write!(out, "with --sends {word}: {lines} {line}\n")
 }
 
 fn noun(count: usize, one: &'static str, many: &'static str) -> &'static str {

@@ -6,8 +6,8 @@ use dia_upgrades::Told;
 use indexmap::{IndexMap, IndexSet};
 use std::alloc::{AllocError, Global};
 
-/// The most applications that are told.
-const MOST: usize = 20;
+/// The most applications that are told, but for a last one.
+const MOST: usize = 21;
 
 /// A command for one application.
 #[derive(Clone, Copy)]
@@ -26,11 +26,14 @@ struct Offer {
     new: usize,
 }
 
+/// Commands for one application each, by code, class and application.
+type Singles = IndexSet<(u32, bool, u32)>;
+
 /// The applications that two dictionaries have.
 #[derive(Drop)]
 struct Applications {
-    first: Box<IndexSet<(u32, bool, u32)>>,
-    second: Box<IndexSet<(u32, bool, u32)>>,
+    first: Box<Singles>,
+    second: Box<Singles>,
     offers: Box<IndexMap<(u32, bool), Offer>>,
 }
 
@@ -50,17 +53,30 @@ pub fn push_unchosen(
         return Ok(());
     }
     let apps = Applications::of(alloc, first.source, second.source)?;
-    for command in &first.source.commands {
-        if is_asked(names, command) && is_unchosen(&apps, &refused, command) {
-            return push_offers(alloc, out, command, first.name, second, &apps);
+    match first_unchosen(&first.source.commands, names, &refused, &apps) {
+        Some(command) => push_offers(alloc, out, command, first.name, second, &apps),
+        None => Ok(()),
+    }
+}
+
+/// The first command that is asked for, is for an application that is refused, and has no other in its place.
+fn first_unchosen<'a>(
+    commands: &'a [Def],
+    names: &[String],
+    refused: &IndexSet<u32>,
+    apps: &Applications,
+) -> Option<&'a Def> {
+    for command in commands {
+        if is_asked(names, command) && is_unchosen(apps, refused, command) {
+            return Some(command);
         }
     }
-    Ok(())
+    None
 }
 
 /// The applications that the lines refuse.
-fn refusals_of(alloc: Global, causes: &[Told]) -> Result<IndexSet<u32>, AllocError> {
-    let mut refused = IndexSet::new(alloc);
+fn refusals_of(alloc: Global, causes: &[Told]) -> Result<Box<IndexSet<u32>>, AllocError> {
+    let mut refused = Box::new(alloc, IndexSet::new(alloc))?;
     for cause in causes {
         if let Some(app) = refused_by(cause.words.as_str()) {
             refused.insert(app)?;
@@ -77,8 +93,12 @@ fn refused_by(words: &str) -> Option<u32> {
 }
 
 fn is_asked(names: &[String], command: &Def) -> bool {
-    let own = command.name.as_str();
-    names.is_empty() || names.iter().any(|name| name.as_str() == own)
+    for name in names {
+        if name.as_str() == command.name.as_str() {
+            return true;
+        }
+    }
+    names.is_empty()
 }
 
 /// Whether a command is for an application that is refused, and none takes its place.
@@ -103,9 +123,9 @@ fn single_of(command: &Def) -> Option<Single> {
 
 impl Applications {
     fn of(alloc: Global, first: &Source, second: &Source) -> Result<Applications, AllocError> {
-        let first = Box::new(alloc, singles_of(alloc, first)?)?;
-        let offers = Box::new(alloc, offers_of(alloc, second, &first)?)?;
-        let second = Box::new(alloc, singles_of(alloc, second)?)?;
+        let first = singles_of(alloc, first)?;
+        let offers = offers_of(alloc, second, &first)?;
+        let second = singles_of(alloc, second)?;
         Ok(Applications {
             first,
             second,
@@ -132,8 +152,8 @@ impl Applications {
 }
 
 /// The commands of a dictionary that are for one application.
-fn singles_of(alloc: Global, source: &Source) -> Result<IndexSet<(u32, bool, u32)>, AllocError> {
-    let mut singles = IndexSet::new(alloc);
+fn singles_of(alloc: Global, source: &Source) -> Result<Box<Singles>, AllocError> {
+    let mut singles = Box::new(alloc, IndexSet::new(alloc))?;
     for command in &source.commands {
         if let Some(Single { code, request, app }) = single_of(command) {
             singles.insert((code, request, app))?;
@@ -146,9 +166,9 @@ fn singles_of(alloc: Global, source: &Source) -> Result<IndexSet<(u32, bool, u32
 fn offers_of(
     alloc: Global,
     second: &Source,
-    first: &IndexSet<(u32, bool, u32)>,
-) -> Result<IndexMap<(u32, bool), Offer>, AllocError> {
-    let mut offers = IndexMap::new(alloc);
+    first: &Singles,
+) -> Result<Box<IndexMap<(u32, bool), Offer>>, AllocError> {
+    let mut offers = Box::new(alloc, IndexMap::new(alloc))?;
     for command in &second.commands {
         add_offer(&mut offers, first, command)?;
     }
@@ -157,7 +177,7 @@ fn offers_of(
 
 fn add_offer(
     offers: &mut IndexMap<(u32, bool), Offer>,
-    first: &IndexSet<(u32, bool, u32)>,
+    first: &Singles,
     command: &Def,
 ) -> Result<(), AllocError> {
     let Head::Command {
@@ -169,21 +189,16 @@ fn add_offer(
     else {
         return Ok(());
     };
-    let before = offers.get(&(code, request)).copied().unwrap_or(Offer {
+    let none = Offer {
         is_for_all: false,
         new: 0,
-    });
-    let offer = match app {
-        Some(app) if first.contains(&(code, request, app)) => before,
-        Some(_) => Offer {
-            new: before.new.saturating_add(1),
-            ..before
-        },
-        None => Offer {
-            is_for_all: true,
-            ..before
-        },
     };
+    let mut offer = offers.get(&(code, request)).copied().unwrap_or(none);
+    match app {
+        Some(app) if first.contains(&(code, request, app)) => {}
+        Some(_) => offer.new = offer.new.saturating_add(1),
+        None => offer.is_for_all = true,
+    }
     offers.insert((code, request), offer)?;
     Ok(())
 }
@@ -205,10 +220,15 @@ fn push_offers(
     let app = single.app;
     let other = second.name;
     write!(out, "{name}: application {app}: {other} has it ")?;
+    push_new(out, &new, first)
+}
+
+/// Adds for which applications the second dictionary has a command, if not only for some that the first has, too.
+fn push_new(out: &mut String, new: &[u32], first: &str) -> Result<(), AllocError> {
     if new.is_empty() {
         write!(out, "only for applications that {first} has, too")?;
     } else {
-        push_numbers(out, &new)?;
+        push_numbers(out, new)?;
     }
     out.push_str(", so what breaks behind that line isn't told\n")
 }
@@ -234,17 +254,15 @@ fn new_ones(
 
 /// Adds `for applications 6, 7 and 8`, of at least two numbers.
 fn push_numbers(out: &mut String, apps: &[u32]) -> Result<(), AllocError> {
-    let [first, more @ ..] = apps else {
-        return Ok(());
-    };
-    write!(out, "for applications {first}")?;
-    let told = more.len().saturating_sub(1).min(MOST);
-    for app in more.iter().take(told) {
-        write!(out, ", {app}")?;
+    let told = apps.len().saturating_sub(1).min(MOST);
+    out.push_str("for applications ")?;
+    for (place, app) in apps.iter().take(told).enumerate() {
+        let between = if place == 0 { "" } else { ", " };
+        write!(out, "{between}{app}")?;
     }
-    match more.get(told..) {
+    match apps.get(told..) {
         Some([last]) => write!(out, " and {last}"),
-        Some([]) | None => Ok(()),
         Some(rest) => write!(out, " and {} more", rest.len()),
+        None => Ok(()),
     }
 }
