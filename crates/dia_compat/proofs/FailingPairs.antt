@@ -1,6 +1,6 @@
 -- Nothing fails a test of a pair of the table exactly where the pair passes it.
 use Rattle.std.proofs.Common.{◌≡◌, ℕ, ◌+◌, Bool, true, false, List, [], ◌∷◌, ◌++◌, Option, Some, None, refl, sym, ap, subst, ◌∙◌, Decides}
-use Rattle.std.specs.Prelude.{◌↔◌, ◌&&◌, IfSome, MatchOption, slice_get, is_some, option_to_list}
+use Rattle.std.specs.Prelude.{◌↔◌, ◌&&◌, Result, IfOk, IfSome, MatchOption, slice_get, is_some, option_to_list}
 use Rattle.std.specs.List.{filter_map, enumerate_from, list_any, list_all}
 use Rattle.std.specs.Option.{option_map_or}
 use Rattle.std.proofs.lemmas.Bool.Decides.{Decides-and, Decides-like}
@@ -40,7 +40,7 @@ both b d k = (λ p. k.0 (d.1 p), λ q. d.0 (k.1 q))
 like : {P Q R : Type 0} → (Q → R) → (R → Q) → P ↔ Q → P ↔ R
 like f g h = (λ p. f (h.0 p), λ r. h.1 (g r))
 
-rules_at : (d : Dictionary) (n : ℕ) (g : PlainDefinition) → slice_get (definitions d) n ≡ Some g → rules_in d n ≡ g.rules
+pub rules_at : (d : Dictionary) (n : ℕ) (g : PlainDefinition) → slice_get (definitions d) n ≡ Some g → rules_in d n ≡ g.rules
 rules_at d n g at = ap (λ (o : Option PlainDefinition). option_map_or (λ x. x.rules) o []) at
 
 -- ---- what stands at two places
@@ -284,3 +284,10 @@ module _ (all : Compared) (sa : IsDictionary all.sides.first) (sb : IsDictionary
 pub none_where_passed : (da db : Dictionary) (u : Unknown) (table : PlainTable) → IsDictionary da → IsDictionary db → (k : PairKind) (i : ℕ) (t : Test) (l : List Failing)
     → AreFailingsOf da db u table k i t l → (l ≡ []) ↔ PassesAt da db u table k i t
 none_where_passed a b u pairs sa sb k i t l h = none_at (compared (record { first = a; second = b; unknown = u }) pairs) sa sb k i t l h
+
+-- ---- what two commands at their places fail
+
+pub at_places : {V E : Type 0} (items : V → List Failing) (c : Compared) (t : Test) (i j : ℕ) (x y : PlainDefinition) (r : Result V E) → slice_get c.sides.first.commands i ≡ Some x
+    → slice_get c.sides.second.commands j ≡ Some y → IfOk r (λ all. items all ≡ definition_failings c t x y) → IfOk r (λ all. items all ≡ place_failings c t (Some i) (Some j))
+at_places items c t i j x y r at_x at_y h =
+    subst (λ (fails : List Failing). IfOk r (λ all. items all ≡ fails)) (sym (placed_definitions c t i j x y at_x at_y)) h

@@ -5,7 +5,8 @@ use Rattle.std.specs.List.{list_all, list_any}
 use Rattle.std.proofs.lemmas.Bool.{and_from}
 use Rattle.std.proofs.lemmas.List.{take_more}
 use Rattle.std.proofs.lemmas.List.Elements.{filter-append}
-use Rattle.std.proofs.lemmas.List.Folds.{list_all-append, list_any-append}
+use Rattle.std.proofs.lemmas.List.Folds.{list_all-append, list_any-append, list_all_more, list_any_more, list_any_at}
+use Rattle.std.proofs.lemmas.List.Folds as std_folds
 use Rattle.std.proofs.lemmas.Option.{slice_get-get_or, slice_get_within, same_Some}
 use Rattle.dia_book.proofs.Members.{list_all_at}
 use Rattle.dia_rules.proofs.Members.{in_any, in_at, taken}
@@ -42,6 +43,24 @@ all_stops {X} p xs i j b within same h e = by (list_all p xs) refl
     by false f = refl
     by true f = let m = member p xs i j b within same h in sym e ∙ m.2 ∙ list_all_at p xs f i m.0 m.1
 
+-- the same of the members of a slice
+pub all_more_at : {X : Type 0} (p : X → Bool) (xs : List X) (i : ℕ) (x d : X) (b : Bool) → i < length xs → x ≡ get_or xs i d → b ≡ p x → b ≡ true → list_all p (take i xs) ≡ true
+    → list_all p (take (i + 1) xs) ≡ true
+all_more_at p xs i x d b within is e holds before =
+    list_all_more p xs i d within ∙ and_from (list_all p (take i xs)) (p (get_or xs i d)) before (ap p (sym is) ∙ sym e ∙ holds)
+
+pub all_stops_at : {X : Type 0} (p : X → Bool) (xs : List X) (i : ℕ) (x d : X) (b : Bool) → i < length xs → x ≡ get_or xs i d → b ≡ p x → b ≡ false → false ≡ list_all p xs
+all_stops_at p xs i x d b within is e fails = sym (std_folds.list_all_at p xs i d within (ap p (sym is) ∙ sym e ∙ fails))
+
+pub none_more_in : {X : Type 0} (p : X → Bool) (xs : List X) (i : ℕ) (x d : X) (b : Bool) → i < length xs → x ≡ get_or xs i d → b ≡ p x → b ≡ false → list_any p (take i xs) ≡ false
+    → list_any p (take (i + 1) xs) ≡ false
+none_more_in p xs i x d b within is e fails before =
+    list_any_more p xs i d within ∙ ap (λ (r : Bool). r || p (get_or xs i d)) before ∙ ap p (sym is) ∙ sym e ∙ fails
+
+pub any_stops_at : {X : Type 0} (p : X → Bool) (xs : List X) (i : ℕ) (x d : X) (b : Bool) → i < length xs → x ≡ get_or xs i d → b ≡ p x → b ≡ true → true ≡ list_any p xs
+any_stops_at p xs i x d b within is e holds = sym (list_any_at p xs i d within (ap p (sym is) ∙ sym e ∙ holds))
+
+-- the same of members that were looked up
 pub none_more_at : {X : Type 0} (p : X → Bool) (xs : List X) (i : ℕ) (x : X) (b : Bool) → slice_get xs i ≡ Some x → b ≡ p x → b ≡ false → list_any p (take i xs) ≡ false
     → list_any p (take (i + 1) xs) ≡ false
 none_more_at p xs i x b at e fails before =
@@ -49,3 +68,8 @@ none_more_at p xs i x b at e fails before =
 
 pub found_at : {X : Type 0} (p : X → Bool) (xs : List X) (i : ℕ) (x : X) (b : Bool) → slice_get xs i ≡ Some x → b ≡ p x → b ≡ true → true ≡ list_any p xs
 found_at p xs i x b at e holds = sym (in_any p xs x (in_at xs i x at) (sym e ∙ holds))
+
+-- two tests that say the same
+pub filter_alike : {X : Type 0} (p q : X → Bool) → ((x : X) → p x ≡ q x) → (xs : List X) → filter p xs ≡ filter q xs
+filter_alike p q same [] = refl
+filter_alike {X} p q same (x ∷ xs) = ap (λ (b : Bool). cond b (x ∷ filter p xs) (filter p xs)) (same x) ∙ ap (λ (ys : List X). cond (q x) (x ∷ ys) ys) (filter_alike p q same xs)

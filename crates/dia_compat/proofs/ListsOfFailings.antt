@@ -1,9 +1,11 @@
 -- Lists of what fails that are made one by one.
-use Rattle.std.proofs.Common.{◌≡◌, ℕ, zero, suc, ◌+◌, ◌<◌, Bool, List, [], ◌∷◌, ◌++◌, length, take, Option, Some, None, refl, sym, ap, subst, ◌∙◌, arith}
+use Rattle.std.proofs.Common.{◌≡◌, ℕ, zero, suc, ◌+◌, ◌<◌, Bool, List, [], ◌∷◌, ◌++◌, length, take, get_or, Option, Some, None, refl, sym, ap, subst, ◌∙◌, arith}
 use Rattle.std.specs.Prelude.{◌||◌, not, slice_get, IfSome, option_to_list}
 use Rattle.std.specs.List.{filter_map, enumerate_from, cons_option, list_any}
 use Rattle.std.proofs.lemmas.List.Elements.{filter_map-append}
+use Rattle.std.proofs.lemmas.Option.{slice_get-get_or}
 use Rattle.dia_wire.specs.declared.Key.{Key}
+use Rattle.dia_book.specs.declared.DRule.{DRule}
 use Rattle.dia_book.specs.Dictionary.{DictEntry, PlainDefinition}
 use Rattle.dia_compat.specs.declared.reasons.Failing.{Failing}
 use Rattle.dia_compat.specs.declared.reasons.Failing.TheVariants.{NotBeside}
@@ -55,6 +57,25 @@ numbered_more {X} fails xs i x old new found at is before pushed =
     one : (o : Option Failing) → option_to_list o ≡ cons_option o []
     one None = refl
     one (Some f) = refl
+
+-- one member more of a slice
+pub failing_more : {X : Type 0} (test : X → Bool) (told : X → Failing) (xs : List X) (i : ℕ) (d : X) (old new : List Failing) (passed : Bool) → i < length xs → passed ≡ test (get_or xs i d)
+    → old ≡ filter_map (λ (x : X). unless (test x) (told x)) (take i xs) → new ≡ old ++ option_to_list (unless passed (told (get_or xs i d)))
+    → new ≡ filter_map (λ (x : X). unless (test x) (told x)) (take (i + 1) xs)
+failing_more {X} test told xs i d old new passed within is before pushed =
+    let fails = λ (x : X). unless (test x) (told x) in
+    let x = get_or xs i d in
+    pushed ∙ ap (λ (ys : List Failing). ys ++ option_to_list (unless passed (told x))) before
+    ∙ ap (λ (b : Bool). filter_map fails (take i xs) ++ option_to_list (unless b (told x))) is
+    ∙ sym (filter_map_more fails xs i x (slice_get-get_or xs i d within))
+
+-- one rule more of those that a test asks
+pub asked_more : (fails : ℕ × DRule → Option Failing) (xs asked : List DRule) (i : ℕ) (d : DRule) (old new : List Failing) (found : Option Failing) → xs ≡ asked → i < length xs
+    → found ≡ fails (i, get_or xs i d) → old ≡ filter_map fails (enumerate_from 0 (take i asked)) → new ≡ old ++ option_to_list found
+    → new ≡ filter_map fails (enumerate_from 0 (take (i + 1) asked))
+asked_more fails xs asked i d old new found same within is before pushed =
+    numbered_more fails asked i (get_or asked i d) old new found (slice_get-get_or asked i d (subst (λ (zs : List DRule). i < length zs) same within))
+    (subst (λ (zs : List DRule). found ≡ fails (i, get_or zs i d)) same is) before pushed
 
 -- pairs in which the same are found
 pub same_apart : (sides : Sides) (ps qs : List NamePair) → ((a b : List ℕ) → list_any (is_pair a b) ps ≡ list_any (is_pair a b) qs) → (x : PlainDefinition) (cs : List (ℕ × PlainDefinition))

@@ -182,7 +182,6 @@ abbrev pub AreFailingsOf : Dictionary → Dictionary → Unknown → PlainTable 
 AreFailingsOf da db u table k i t all = AreFailingsAt (compared (record { first = da; second = db; unknown = u }) table) k i t all
 
 -- of the pair and the test that an answer names; none where it names none
-
 abbrev pub AreFailingsIn : Compared → Answer → List Failing → Type 0
 AreFailingsIn c Yes all = all ≡ []
 AreFailingsIn c (No k i t) all = AreFailingsAt c k i t all

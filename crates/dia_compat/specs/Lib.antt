@@ -14,3 +14,4 @@ pub mod ReachedKeys
 pub mod WantedNames
 pub mod NamedCommands
 pub mod Failings
+pub mod FailingRules

@@ -32,13 +32,6 @@ pub(super) fn set_of_pairs(
     Ok(set)
 }
 
-/// Whether the names stand in the table as a pair.
-fn is_beside(beside: &IndexSet<(&str, &str)>, first: &str, second: &str) -> bool
-    ensures { result ≡ list_any (is_pair first.now second.now) (map plain_names beside.now.keys) }
-{
-    beside.contains(&(first, second))
-}
-
 /// Whether the commands are of one code and class, and the second allows each value of P that the first does.
 pub(super) fn may_stand_for(first: &Definition, second: &Definition) -> bool
     ensures { result ≡
@@ -121,14 +114,19 @@ fn stands_beside(beside: &IndexSet<(&str, &str)>, command: &Definition, other: &
         (is_pair (plain_definition command.now).name (plain_definition other.now).name)
         (map plain_names beside.now.keys) }
 {
-    is_beside(beside, command.name.as_str(), other.name.as_str())
+    beside.contains(&(command.name.as_str(), other.name.as_str()))
 }
 
 /// Whether one of these definitions is selected for the messages of a command.
 fn is_served(others: &[&Definition], head: &DefHead) -> bool
     ensures { result ≡ list_any (λ d. serves head.now d.now.head) others.now }
 {
-    others.iter().any(|other| serves(head, &other.head))
+    for other in others {
+        if serves(head, &other.head) {
+            return true;
+        }
+    }
+    false
 }
 
 /// Whether each of these definitions of the second that may be selected for messages of the command stands beside it.
@@ -142,9 +140,12 @@ fn all_beside<A: Book, B: Book>(
         (λ d. is_ready sides.now (map plain_names beside.now.keys)
         (plain_definition command.now) (plain_definition d.now)) others.now }
 {
-    others
-        .iter()
-        .all(|other| is_ready(sides, beside, command, other))
+    for other in others {
+        if !is_ready(sides, beside, command, other) {
+            return false;
+        }
+    }
+    true
 }
 
 /// Whether a command of the second isn't selected for messages of this one, or stands beside it.

@@ -1,5 +1,5 @@
 //! Keys of pairs, and what may stand without a pair.
-ghost use Rattle.std.specs.Prelude.{◌≡◌, ◌<◌, ◌||◌, IfOk, IfSome, OnOk, map, length, slice_get, false};
+ghost use Rattle.std.specs.Prelude.{◌≡◌, ◌<◌, ◌||◌, not, IfOk, IfSome, OnOk, map, filter, length, slice_get, false};
 ghost use Rattle.std.specs.List.{list_all, list_any};
 ghost use Rattle.std.specs.Option.{option_map_or};
 ghost use Rattle.dia_data.specs.Plain.{plain_format};
@@ -23,84 +23,13 @@ use indexmap::IndexSet;
 use std::alloc::{AllocError, Global};
 use std::marker::Model;
 
-/// Two sides and a table, with the keys of the table's pairs of AVPs.
-#[derive(Drop)]
-struct PairedKeys<'a, A: Book, B: Book> {
-    sides: Sides<'a, A, B>,
-    table: &'a Table,
-    keys: IndexSet<Key>,
-}
-
-impl<'a, A: Book, B: Book> Model for PairedKeys<'a, A, B> {
-    ghost use Rattle.dia_compat.specs.TableText.{plain_table};
-    ghost use Rattle.dia_compat.specs.Sides.{Compared, compared};
-    ghost use Rattle.dia_compat.specs.PairTests.{ArePaired};
-
-    ghost Value = { Compared };
-
-    ghost view = { λ p. compared p.sides (plain_table p.table.now) };
-
-    ghost invariant = { λ p. ArePaired (compared p.sides (plain_table p.table.now)) p.keys.keys };
-}
-
-impl<'a, A: Book, B: Book> PairedKeys<'a, A, B> {
-    fn new(
-        alloc: Global,
-        sides: &Sides<'a, A, B>,
-        a: &NamedBook<'_, A>,
-        b: &NamedBook<'_, B>,
-        table: &'a Table,
-    ) -> Result<Self, AllocError>
-        requires first { a.now ≡ sides.now.first }
-        requires second { b.now ≡ sides.now.second }
-        ensures { IfOk result (λ paired. paired ≡ compared sides.now (plain_table table.now)) }
-    {
-        Ok(PairedKeys {
-            sides: sides.again(),
-            table,
-            keys: paired_keys(alloc, a, b, &table.avps)?,
-        })
-    }
-
-    /// Whether the key is that of a pair, or needs none.
-    fn covers(&self, key: Key) -> bool
-        ensures { result ≡ is_covered self.now key }
-    {
-        self.keys.contains(&key) || is_alone(&self.sides, key)
-    }
-
-    fn sides(&self) -> &Sides<'a, A, B>
-        ensures { result.now ≡ self.now.sides }
-    {
-        &self.sides
-    }
-
-    fn table(&self) -> &'a Table
-        ensures { plain_table result.now ≡ self.now.table }
-    {
-        self.table
-    }
-
-    /// The keys that the first knows and that are not covered, in its order.
-    fn uncovered(&self, alloc: Global) -> Result<Vec<Key>, AllocError>
-        ensures { IfOk result (λ keys. keys.items ≡ uncovered_keys self.now) }
-    {
-        let a = self.sides().first();
-        let mut keys = Vec::new(alloc);
-        for index in 0..a.entries() {
-            let key = a.entry_key(a.entry_at(index));
-            if !self.covers(key) {
-                keys.push(key)?;
-            }
-        }
-        Ok(keys)
-    }
-}
-
-/// Which keys need no further test where one definition lets them in and another has to.
+/// Two sides and a table, with the keys that need no further test where one definition lets them in and another has to.
 #[derive(Drop)]
 pub(super) struct Cover<'a, A: Book, B: Book> {
-    paired: PairedKeys<'a, A, B>,
+    sides: Sides<'a, A, B>,
+    table: &'a Table,
+    /// The keys of the table's pairs of AVPs.
+    paired: Box<IndexSet<Key>>,
     /// The keys that the first dictionary knows and that are neither those of pairs nor need none.
     uncovered: Vec<Key>,
     /// Whether the AVPs that the second dictionary alone knows do no harm.
@@ -109,14 +38,16 @@ pub(super) struct Cover<'a, A: Book, B: Book> {
 
 impl<'a, A: Book, B: Book> Model for Cover<'a, A, B> {
     ghost use Rattle.std.specs.Prelude.{◌≡◌};
-    ghost use Rattle.dia_compat.specs.Sides.{Compared};
-    ghost use Rattle.dia_compat.specs.PairTests.{uncovered_keys, strangers_fit};
+    ghost use Rattle.dia_compat.specs.TableText.{plain_table};
+    ghost use Rattle.dia_compat.specs.Sides.{Compared, compared};
+    ghost use Rattle.dia_compat.specs.PairTests.{ArePaired, uncovered_keys, strangers_fit};
 
     ghost Value = { Compared };
 
-    ghost view = { λ c. c.paired };
+    ghost view = { λ c. compared c.sides (plain_table c.table.now) };
 
-    ghost invariant = { λ c. (c.uncovered.items ≡ uncovered_keys c.paired) × (c.harmless ≡ strangers_fit c.paired.sides) };
+    ghost invariant = { λ c. ArePaired (compared c.sides (plain_table c.table.now)) c.paired.value.keys
+        × (c.uncovered.items ≡ uncovered_keys (compared c.sides (plain_table c.table.now))) × (c.harmless ≡ strangers_fit c.sides) };
 }
 
 impl<'a, A: Book, B: Book> Cover<'a, A, B> {
@@ -131,9 +62,11 @@ impl<'a, A: Book, B: Book> Cover<'a, A, B> {
         requires second { b.now ≡ sides.now.second }
         ensures { IfOk result (λ cover. cover ≡ compared sides.now (plain_table table.now)) }
     {
-        let paired = PairedKeys::new(alloc, sides, a, b, table)?;
-        let uncovered = paired.uncovered(alloc)?;
+        let paired = Box::new(alloc, paired_keys(alloc, a, b, &table.avps)?)?;
+        let uncovered = uncovered_keys(alloc, sides, &paired)?;
         Ok(Cover {
+            sides: sides.again(),
+            table,
             paired,
             uncovered,
             harmless: strangers_fit(sides),
@@ -144,19 +77,19 @@ impl<'a, A: Book, B: Book> Cover<'a, A, B> {
     pub fn covers(&self, key: Key) -> bool
         ensures { result ≡ is_covered self.now key }
     {
-        self.paired.covers(key)
+        is_covered(&self.sides, &self.paired, key)
     }
 
     pub fn sides(&self) -> &Sides<'a, A, B>
         ensures { result.now ≡ self.now.sides }
     {
-        self.paired.sides()
+        &self.sides
     }
 
     pub fn table(&self) -> &'a Table
         ensures { plain_table result.now ≡ self.now.table }
     {
-        self.paired.table()
+        self.table
     }
 
     /// The keys that the first dictionary knows and that are not covered, in its order.
@@ -172,6 +105,34 @@ impl<'a, A: Book, B: Book> Cover<'a, A, B> {
     {
         wildcard_covered(a, &self.uncovered, self.harmless)
     }
+}
+
+/// The keys that the first knows and that are neither among those of pairs nor need none, in its order.
+fn uncovered_keys<A: Book, B: Book>(
+    alloc: Global,
+    sides: &Sides<'_, A, B>,
+    paired: &IndexSet<Key>,
+) -> Result<Vec<Key>, AllocError>
+    ensures { IfOk result (λ keys. keys.items
+        ≡ filter (λ key. not (holds_key paired.now.keys key || is_alone sides.now key))
+        (map (λ e. e.key) sides.now.first.entries)) }
+{
+    let a = sides.first();
+    let mut keys = Vec::new(alloc);
+    for index in 0..a.entries() {
+        let key = a.entry_key(a.entry_at(index));
+        if !is_covered(sides, paired, key) {
+            keys.push(key)?;
+        }
+    }
+    Ok(keys)
+}
+
+/// Whether the key is among those of pairs, or needs no pair.
+fn is_covered<A: Book, B: Book>(sides: &Sides<'_, A, B>, paired: &IndexSet<Key>, key: Key) -> bool
+    ensures { result ≡ (holds_key paired.now.keys key || is_alone sides.now key) }
+{
+    paired.contains(&key) || is_alone(sides, key)
 }
 
 /// The keys of the pairs whose names have one key.

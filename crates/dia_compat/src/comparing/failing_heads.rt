@@ -42,6 +42,16 @@ pub(super) fn push_unless(
     Ok(())
 }
 
+/// Adds what fails, if something does.
+pub(super) fn push_found(all: &mut Vec<Failing>, found: Option<Failing>) -> Result<(), AllocError>
+    ensures { OnOk result (all.new.items ≡ all.old.items ++ option_to_list found) }
+{
+    if let Some(failing) = found {
+        all.push(failing)?;
+    }
+    Ok(())
+}
+
 /// Which of the two names no definition has.
 pub(super) fn name_failings(
     alloc: Global,

@@ -6,9 +6,7 @@ ghost use Rattle.dia_compat.specs.Failings.{rule_failings, AreEntryFailings};
 
 use super::covers::Cover;
 use super::failing_heads::{declaration_failings, head_failings, is_tenth};
-use super::failing_rules::{
-    failing_counts, failing_fixed, failing_own, failing_uncovered, failing_unlisted,
-};
+use super::failing_rules::{RuleTest, failing_rules};
 use super::failing_wildcards::{failing_least, failing_let_in, failing_most, failing_wildcard};
 use super::rules::Rules;
 use crate::checking::Test;
@@ -101,14 +99,20 @@ fn rule_failings<A: Book, B: Book>(
     ensures { IfOk result (λ all. all.items ≡ rule_failings cover.now test a.now b.now) }
 {
     match test {
-        Test::N1 => failing_fixed(alloc, a, b),
-        Test::N2 => failing_counts(alloc, a, b),
-        Test::N3 => failing_unlisted(alloc, a, b),
-        Test::N4 => failing_uncovered(alloc, a, cover),
-        Test::N5 => failing_own(alloc, a, b, cover.sides()),
+        Test::N1 => failing_rules(alloc, RuleTest::Fixed, a, b, cover),
+        Test::N2 => failing_rules(alloc, RuleTest::Counts, a, b, cover),
+        Test::N3 => {
+            let wild = b.has_wildcard();
+            failing_rules(alloc, RuleTest::Unlisted { wild }, a, b, cover)
+        }
+        Test::N4 => failing_rules(alloc, RuleTest::Uncovered, a, b, cover),
+        Test::N5 => {
+            let wildcard = a.placed_wildcard();
+            failing_rules(alloc, RuleTest::Own { wildcard }, a, b, cover)
+        }
         Test::N6 => failing_wildcard(alloc, a, b),
-        Test::N7 => failing_most(alloc, a, b),
-        Test::N8 => failing_least(alloc, a, b),
+        Test::N7 => failing_most(alloc, a, b, cover),
+        Test::N8 => failing_least(alloc, a, b, cover),
         Test::N9 => failing_let_in(alloc, a, cover),
         Test::N10 => Ok(Vec::new(alloc)),
     }

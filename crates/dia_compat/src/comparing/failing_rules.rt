@@ -1,15 +1,12 @@
 //! The rules that fail a test that goes over the rules of a definition.
 ghost use Rattle.std.specs.Prelude.{◌≡◌, IfOk};
-ghost use Rattle.dia_check.specs.Valid.{is_listed, has_wildcard};
-ghost use Rattle.dia_compat.specs.declared.reasons.Failing.TheVariants.{Unlisted, Uncovered};
-ghost use Rattle.dia_compat.specs.declared.reasons.Failing.TheVariants.{CountsAsOther, NotCounted};
-ghost use Rattle.dia_compat.specs.Tests.{let_in_rule, covered_rule, listed_rule, of_key, may_come};
-ghost use Rattle.dia_compat.specs.PairTests.{is_covered};
 ghost use Rattle.dia_compat.specs.Failings.{among, unless, fails_fixed, fails_counts};
-ghost use Rattle.dia_compat.specs.Failings.{fails_own, fails_own_key, fails_crowded, placed_wildcard};
+ghost use Rattle.dia_compat.specs.Failings.{fails_own, fails_own_key, fails_crowded};
+ghost use Rattle.dia_compat.specs.FailingRules.{asked_rules, fails_rule};
 
 use super::bounds::{is_fixed, leads_at, max_within, within};
 use super::covers::Cover;
+use super::failing_heads::push_found;
 use super::keys::{is_let_in, rule_is_covered};
 use super::rules::Rules;
 use super::sides::Sides;
@@ -18,26 +15,98 @@ use crate::reasons::Failing;
 use dia_book::{Book, DRule, Key};
 use std::alloc::{AllocError, Global};
 
+/// What each of some rules is asked. `a` and `b` are the definitions of the first and of the second dictionary.
+#[derive(Clone, Copy)]
+pub(super) enum RuleTest {
+    /// N1: whether at the place of a fixed rule of `b` a rule of `a` leads it.
+    Fixed,
+    /// N2: whether the counts of a rule of `a` are within those of the same key in `b`.
+    Counts,
+    /// N3: whether `b` lists the key of a rule of `a` that may stand, or takes it by a wildcard.
+    Unlisted { wild: bool },
+    /// N4: whether the key of a rule of `a` that may stand is covered.
+    Uncovered,
+    /// N5: whether of the key of a rule of `b` that `a` doesn't list enough and not too many come by the wildcard of `a`.
+    Own { wildcard: Option<(usize, DRule)> },
+    /// N7: whether `b` lists the key of a rule of `a` that may stand. The wildcard of `b`, at this place, counts it otherwise.
+    Other { wildcard: usize },
+    /// N8: whether `a` lists the key of a rule of `b`. The wildcard of `b`, at this place, doesn't count it otherwise.
+    Listed { wildcard: usize },
+}
+
+impl RuleTest {
+    /// The rules that are asked.
+    fn asked<'r>(self, a: &'r [DRule], b: &'r [DRule]) -> &'r [DRule]
+        ensures { result.now ≡ asked_rules self a.now b.now }
+    {
+        match self {
+            RuleTest::Fixed => b,
+            RuleTest::Counts => a,
+            RuleTest::Unlisted { .. } => a,
+            RuleTest::Uncovered => a,
+            RuleTest::Own { .. } => b,
+            RuleTest::Other { .. } => a,
+            RuleTest::Listed { .. } => b,
+        }
+    }
+}
+
+/// The rules that fail a test, in their order.
+pub(super) fn failing_rules<A: Book, B: Book>(
+    alloc: Global,
+    test: RuleTest,
+    a: &Rules<'_, A>,
+    b: &Rules<'_, B>,
+    cover: &Cover<'_, A, B>,
+) -> Result<Vec<Failing>, AllocError>
+    ensures { IfOk result (λ all. all.items ≡
+        among (fails_rule cover.now test a.now b.now) (asked_rules test a.now b.now)) }
+{
+    let mut all = Vec::new(alloc);
+    for (index, rule) in test.asked(a.list(), b.list()).iter().enumerate() {
+        push_found(&mut all, fails_rule(test, a, b, cover, index, rule))?;
+    }
+    Ok(all)
+}
+
+/// What a rule at a place fails.
+fn fails_rule<A: Book, B: Book>(
+    test: RuleTest,
+    a: &Rules<'_, A>,
+    b: &Rules<'_, B>,
+    cover: &Cover<'_, A, B>,
+    index: usize,
+    rule: &DRule,
+) -> Option<Failing>
+    ensures { result ≡ fails_rule cover.now test a.now b.now (index, rule.now) }
+{
+    let first = index;
+    let second = index;
+    match test {
+        RuleTest::Fixed => fails_fixed(a, index, rule),
+        RuleTest::Counts => fails_counts(b, index, rule),
+        RuleTest::Unlisted { wild } => unless(
+            is_let_in(rule, b, wild),
+            Failing::Unlisted { first },
+        ),
+        RuleTest::Uncovered => unless(rule_is_covered(rule, cover), Failing::Uncovered { first }),
+        RuleTest::Own { wildcard } => fails_own(cover.sides(), a, wildcard, index, rule),
+        RuleTest::Other { wildcard } => unless(
+            is_listed(rule, b),
+            Failing::CountsAsOther { first, wildcard },
+        ),
+        RuleTest::Listed { wildcard } => unless(
+            lists(a, rule),
+            Failing::NotCounted { second, wildcard },
+        ),
+    }
+}
+
 /// A failing, unless the test is passed.
 pub(super) fn unless(passed: bool, failing: Failing) -> Option<Failing>
     ensures { result ≡ unless passed failing }
 {
     if passed { None } else { Some(failing) }
-}
-
-/// N1: the fixed rules of `b` that the rules of `a` at their places don't lead.
-pub(super) fn failing_fixed<A: Book, B: Book>(
-    alloc: Global,
-    a: &Rules<'_, A>,
-    b: &Rules<'_, B>,
-) -> Result<Vec<Failing>, AllocError>
-    ensures { IfOk result (λ all. all.items ≡ among (fails_fixed a.now) b.now) }
-{
-    b.list()
-        .iter()
-        .enumerate()
-        .filter_map(|(index, rule)| fails_fixed(a, index, rule))
-        .collect(alloc)
 }
 
 fn fails_fixed<A: Book>(a: &Rules<'_, A>, index: usize, rule: &DRule) -> Option<Failing>
@@ -56,21 +125,6 @@ fn fails_fixed<A: Book>(a: &Rules<'_, A>, index: usize, rule: &DRule) -> Option<
     )
 }
 
-/// N2: the rules of `a` whose counts aren't within those of the same key in `b`.
-pub(super) fn failing_counts<A: Book, B: Book>(
-    alloc: Global,
-    a: &Rules<'_, A>,
-    b: &Rules<'_, B>,
-) -> Result<Vec<Failing>, AllocError>
-    ensures { IfOk result (λ all. all.items ≡ among (fails_counts b.now) a.now) }
-{
-    a.list()
-        .iter()
-        .enumerate()
-        .filter_map(|(index, rule)| fails_counts(b, index, rule))
-        .collect(alloc)
-}
-
 fn fails_counts<B: Book>(b: &Rules<'_, B>, index: usize, rule: &DRule) -> Option<Failing>
     ensures { result ≡ fails_counts b.now (index, rule.now) }
 {
@@ -87,65 +141,6 @@ fn fails_counts<B: Book>(b: &Rules<'_, B>, index: usize, rule: &DRule) -> Option
         },
         None => None,
     }
-}
-
-/// N3: the rules of `a` that may stand, with a key that `b` neither lists nor takes by a wildcard.
-pub(super) fn failing_unlisted<A: Book, B: Book>(
-    alloc: Global,
-    a: &Rules<'_, A>,
-    b: &Rules<'_, B>,
-) -> Result<Vec<Failing>, AllocError>
-    ensures { IfOk result
-        (λ all. all.items ≡ among (λ p. unless (let_in_rule b.now (has_wildcard b.now) p.1)
-        (Unlisted p.0)) a.now) }
-{
-    let wild = b.has_wildcard();
-    a.list()
-        .iter()
-        .enumerate()
-        .filter_map(|(index, rule)| unless(
-            is_let_in(rule, b, wild),
-            Failing::Unlisted { first: index },
-        ))
-        .collect(alloc)
-}
-
-/// N4: the rules of `a` that may stand, with a key that isn't covered.
-pub(super) fn failing_uncovered<A: Book, B: Book>(
-    alloc: Global,
-    a: &Rules<'_, A>,
-    cover: &Cover<'_, A, B>,
-) -> Result<Vec<Failing>, AllocError>
-    ensures { IfOk result
-        (λ all. all.items ≡ among (λ p. unless (covered_rule (is_covered cover.now) p.1)
-        (Uncovered p.0)) a.now) }
-{
-    a.list()
-        .iter()
-        .enumerate()
-        .filter_map(|(index, rule)| unless(
-            rule_is_covered(rule, cover),
-            Failing::Uncovered { first: index },
-        ))
-        .collect(alloc)
-}
-
-/// N5: the rules of `b` of keys that `a` doesn't list, and of which too few or too many may come.
-pub(super) fn failing_own<A: Book, B: Book>(
-    alloc: Global,
-    a: &Rules<'_, A>,
-    b: &Rules<'_, B>,
-    sides: &Sides<'_, A, B>,
-) -> Result<Vec<Failing>, AllocError>
-    ensures { IfOk result
-        (λ all. all.items ≡ among (fails_own sides.now a.now (placed_wildcard a.now)) b.now) }
-{
-    let wildcard = a.placed_wildcard();
-    b.list()
-        .iter()
-        .enumerate()
-        .filter_map(|(index, rule)| fails_own(sides, a, wildcard, index, rule))
-        .collect(alloc)
 }
 
 fn fails_own<A: Book, B: Book>(
@@ -201,46 +196,4 @@ fn fails_crowded(
         ),
         None => None,
     }
-}
-
-/// N7: the rules of `a` that may stand, with a key that the wildcard of `b`, at this place, counts.
-pub(super) fn failing_other<A: Book, B: Book>(
-    alloc: Global,
-    a: &Rules<'_, A>,
-    b: &Rules<'_, B>,
-    wildcard: usize,
-) -> Result<Vec<Failing>, AllocError>
-    ensures { IfOk result
-        (λ all. all.items ≡ among (λ p. unless (listed_rule b.now p.1)
-        (CountsAsOther p.0 wildcard)) a.now) }
-{
-    a.list()
-        .iter()
-        .enumerate()
-        .filter_map(|(first, rule)| unless(
-            is_listed(rule, b),
-            Failing::CountsAsOther { first, wildcard },
-        ))
-        .collect(alloc)
-}
-
-/// N8: the rules of `b` with a key that `a` doesn't list, and that the wildcard of `b`, at this place, doesn't count.
-pub(super) fn failing_listed<A: Book, B: Book>(
-    alloc: Global,
-    a: &Rules<'_, A>,
-    b: &Rules<'_, B>,
-    wildcard: usize,
-) -> Result<Vec<Failing>, AllocError>
-    ensures { IfOk result
-        (λ all. all.items ≡ among (λ p. unless (of_key (is_listed a.now) p.1)
-        (NotCounted p.0 wildcard)) b.now) }
-{
-    b.list()
-        .iter()
-        .enumerate()
-        .filter_map(|(second, rule)| unless(
-            lists(a, rule),
-            Failing::NotCounted { second, wildcard },
-        ))
-        .collect(alloc)
 }

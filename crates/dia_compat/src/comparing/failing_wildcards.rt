@@ -10,8 +10,8 @@ ghost use Rattle.dia_compat.specs.Failings.{fails_least, fails_strangers, fails_
 
 use super::bounds::{max_within, may_stand};
 use super::covers::{Cover, stranger_fits};
-use super::failing_heads::push_unless;
-use super::failing_rules::{failing_listed, failing_other, unless};
+use super::failing_heads::{push_found, push_unless};
+use super::failing_rules::{RuleTest, failing_rules, unless};
 use super::rules::Rules;
 use super::sides::Sides;
 use crate::reasons::Failing;
@@ -42,13 +42,14 @@ pub(super) fn failing_most<A: Book, B: Book>(
     alloc: Global,
     a: &Rules<'_, A>,
     b: &Rules<'_, B>,
+    cover: &Cover<'_, A, B>,
 ) -> Result<Vec<Failing>, AllocError>
     ensures { IfOk result
         (λ all. all.items ≡ option_map_or (λ w. fails_most a.now b.now w.0 w.1.max)
         (placed_wildcard b.now) []) }
 {
     match b.placed_wildcard() {
-        Some(wildcard) => fails_most(alloc, a, b, wildcard.0, wildcard.1.max),
+        Some(wildcard) => fails_most(alloc, a, b, cover, wildcard.0, wildcard.1.max),
         None => Ok(Vec::new(alloc)),
     }
 }
@@ -57,6 +58,7 @@ fn fails_most<A: Book, B: Book>(
     alloc: Global,
     a: &Rules<'_, A>,
     b: &Rules<'_, B>,
+    cover: &Cover<'_, A, B>,
     place: usize,
     max: Option<u32>,
 ) -> Result<Vec<Failing>, AllocError>
@@ -65,10 +67,9 @@ fn fails_most<A: Book, B: Book>(
     let Some(max) = max else {
         return Ok(Vec::new(alloc));
     };
-    let mut all = failing_other(alloc, a, b, place)?;
-    if let Some(failing) = fails_bound(a.placed_wildcard(), place, max) {
-        all.push(failing)?;
-    }
+    let test = RuleTest::Other { wildcard: place };
+    let mut all = failing_rules(alloc, test, a, b, cover)?;
+    push_found(&mut all, fails_bound(a.placed_wildcard(), place, max))?;
     Ok(all)
 }
 
@@ -93,12 +94,13 @@ pub(super) fn failing_least<A: Book, B: Book>(
     alloc: Global,
     a: &Rules<'_, A>,
     b: &Rules<'_, B>,
+    cover: &Cover<'_, A, B>,
 ) -> Result<Vec<Failing>, AllocError>
     ensures { IfOk result
         (λ all. all.items ≡ option_map_or (fails_least a.now b.now) (placed_wildcard b.now) []) }
 {
     match b.placed_wildcard() {
-        Some(wildcard) => fails_least(alloc, a, b, wildcard),
+        Some(wildcard) => fails_least(alloc, a, b, cover, wildcard),
         None => Ok(Vec::new(alloc)),
     }
 }
@@ -107,6 +109,7 @@ fn fails_least<A: Book, B: Book>(
     alloc: Global,
     a: &Rules<'_, A>,
     b: &Rules<'_, B>,
+    cover: &Cover<'_, A, B>,
     wildcard: (usize, DRule),
 ) -> Result<Vec<Failing>, AllocError>
     ensures { IfOk result (λ all. all.items ≡ fails_least a.now b.now wildcard) }
@@ -115,10 +118,11 @@ fn fails_least<A: Book, B: Book>(
     if wildcard.1.min == 0 {
         return Ok(all);
     }
-    if let Some(failing) = fails_few(a.placed_wildcard(), wildcard) {
-        all.push(failing)?;
-    }
-    let mut listed = failing_listed(alloc, a, b, wildcard.0)?;
+    push_found(&mut all, fails_few(a.placed_wildcard(), wildcard))?;
+    let test = RuleTest::Listed {
+        wildcard: wildcard.0,
+    };
+    let mut listed = failing_rules(alloc, test, a, b, cover)?;
     all.append(&mut listed)?;
     Ok(all)
 }
@@ -219,15 +223,13 @@ fn fails_known<A: Book>(
     ensures { IfOk result
         (λ all. all.items ≡ filter_map (λ key. unless (is_listed a.now key) (LetIn place key)) keys.now) }
 {
-    keys.iter()
-        .filter_map(|key| {
-            unless(
-                a.lists(*key),
-                Failing::LetIn {
-                    first: place,
-                    key: *key,
-                },
-            )
-        })
-        .collect(alloc)
+    let mut all = Vec::new(alloc);
+    for key in keys {
+        let failing = Failing::LetIn {
+            first: place,
+            key: *key,
+        };
+        push_unless(&mut all, a.lists(*key), failing)?;
+    }
+    Ok(all)
 }

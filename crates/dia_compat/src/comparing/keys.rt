@@ -17,7 +17,12 @@ use dia_book::{Book, DRule};
 pub(super) fn common_within<A: Book, B: Book>(a: &Rules<'_, A>, b: &Rules<'_, B>) -> bool
     ensures { result ≡ list_all (common_rule b.now) a.now }
 {
-    a.list().iter().all(|rule| is_common_within(rule, b))
+    for rule in a.list() {
+        if !is_common_within(rule, b) {
+            return false;
+        }
+    }
+    true
 }
 
 fn is_common_within<B: Book>(rule: &DRule, b: &Rules<'_, B>) -> bool
@@ -37,7 +42,12 @@ pub(super) fn let_in<A: Book, B: Book>(a: &Rules<'_, A>, b: &Rules<'_, B>) -> bo
     ensures { result ≡ list_all (let_in_rule b.now (has_wildcard b.now)) a.now }
 {
     let wild = b.has_wildcard();
-    a.list().iter().all(|rule| is_let_in(rule, b, wild))
+    for rule in a.list() {
+        if !is_let_in(rule, b, wild) {
+            return false;
+        }
+    }
+    true
 }
 
 pub(super) fn is_let_in<B: Book>(rule: &DRule, b: &Rules<'_, B>, wild: bool) -> bool
@@ -53,7 +63,12 @@ pub(super) fn is_let_in<B: Book>(rule: &DRule, b: &Rules<'_, B>, wild: bool) -> 
 pub(super) fn all_covered<A: Book, B: Book>(a: &Rules<'_, A>, cover: &Cover<'_, A, B>) -> bool
     ensures { result ≡ list_all (covered_rule (is_covered cover.now)) a.now }
 {
-    a.list().iter().all(|rule| rule_is_covered(rule, cover))
+    for rule in a.list() {
+        if !rule_is_covered(rule, cover) {
+            return false;
+        }
+    }
+    true
 }
 
 pub(super) fn rule_is_covered<A: Book, B: Book>(rule: &DRule, cover: &Cover<'_, A, B>) -> bool
@@ -74,9 +89,12 @@ pub(super) fn own_fit<A: Book, B: Book>(
     ensures { result ≡ list_all (own_rule (may_come sides.now) a.now (wildcard_of a.now)) b.now }
 {
     let wildcard = a.wildcard();
-    b.list()
-        .iter()
-        .all(|rule| own_fits(a, rule, wildcard, sides))
+    for rule in b.list() {
+        if !own_fits(a, rule, wildcard, sides) {
+            return false;
+        }
+    }
+    true
 }
 
 fn own_fits<A: Book, B: Book>(

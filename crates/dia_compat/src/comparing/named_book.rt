@@ -34,8 +34,8 @@ impl<'a, B: Book> NamedBook<'a, B> {
     {
         Ok(NamedBook {
             book,
-            avps: Box::new(alloc, names_of_avps(alloc, book)?)?,
-            commands: Box::new(alloc, names_of_commands(alloc, book)?)?,
+            avps: names_of_avps(alloc, book)?,
+            commands: names_of_commands(alloc, book)?,
         })
     }
 
@@ -43,8 +43,10 @@ impl<'a, B: Book> NamedBook<'a, B> {
     pub fn avp(&self, name: &str) -> Option<Entry>
         ensures { result ≡ entry_named self.now name.now }
     {
-        let place = self.avps.get_index_of(&name)?;
-        Some(self.book.entry_at(place))
+        match self.avps.get_index_of(&name) {
+            Some(place) => Some(self.book.entry_at(place)),
+            None => None,
+        }
     }
 
     /// The key of the AVP of a name.
@@ -65,11 +67,11 @@ impl<'a, B: Book> NamedBook<'a, B> {
     }
 }
 
-fn names_of_avps<B: Book>(alloc: Global, book: &B) -> Result<IndexSet<&str>, AllocError>
+fn names_of_avps<B: Book>(alloc: Global, book: &B) -> Result<Box<IndexSet<&str>>, AllocError>
     ensures { IfOk result
-        (λ names. map (λ n. n.now) names.keys ≡ map (λ e. e.name) (B.meaning book.now).entries) }
+        (λ names. map (λ n. n.now) names.value.keys ≡ map (λ e. e.name) (B.meaning book.now).entries) }
 {
-    let mut names = IndexSet::new(alloc);
+    let mut names = Box::new(alloc, IndexSet::new(alloc))?;
     for index in 0..book.entries() {
         names.insert(book.entry_name(book.entry_at(index)))?;
     }
@@ -80,11 +82,11 @@ fn names_of_avps<B: Book>(alloc: Global, book: &B) -> Result<IndexSet<&str>, All
 pub(crate) fn names_of_commands<B: Book>(
     alloc: Global,
     book: &B,
-) -> Result<IndexSet<&str>, AllocError>
+) -> Result<Box<IndexSet<&str>>, AllocError>
     ensures { IfOk result
-        (λ names. map (λ n. n.now) names.keys ≡ map (λ c. c.name) (B.meaning book.now).commands) }
+        (λ names. map (λ n. n.now) names.value.keys ≡ map (λ c. c.name) (B.meaning book.now).commands) }
 {
-    let mut names = IndexSet::new(alloc);
+    let mut names = Box::new(alloc, IndexSet::new(alloc))?;
     for index in 0..book.commands() {
         names.insert(book.def(book.command_at(index)).name.as_str())?;
     }

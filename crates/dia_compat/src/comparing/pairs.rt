@@ -47,19 +47,24 @@ impl<'a, A: Book, B: Book> Model for Comparison<'a, A, B> {
 }
 
 impl<'a, A: Book, B: Book> Comparison<'a, A, B> {
-    pub fn new(alloc: Global, sides: &Sides<'a, A, B>, table: &'a Table) -> Result<Self, AllocError>
-        ensures { IfOk result (λ all. all ≡ compared sides.now (plain_table table.now)) }
+    pub fn new(
+        alloc: Global,
+        sides: &Sides<'a, A, B>,
+        table: &'a Table,
+    ) -> Result<Box<Self>, AllocError>
+        ensures { IfOk result (λ all. all.value ≡ compared sides.now (plain_table table.now)) }
     {
         let a = NamedBook::new(alloc, sides.first())?;
         let b = NamedBook::new(alloc, sides.second())?;
         let selected = selected_by(alloc, sides, table)?;
         let cover = Cover::new(alloc, sides, &a, &b, table)?;
-        Ok(Comparison {
+        let all = Comparison {
             a,
             b,
             cover,
             selected,
-        })
+        };
+        Ok(Box::new(alloc, all)?)
     }
 
     /// Whether each pair of the table passes each test, and else all that fails the test that the answer names.

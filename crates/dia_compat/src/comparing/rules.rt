@@ -94,7 +94,11 @@ impl<'a, B: Book> Rules<'a, B> {
     pub fn wildcard(&self) -> Option<DRule>
         ensures { result ≡ wildcard_of self.now }
     {
-        self.list().iter().copied().find(|rule| rule.key.is_none())
+        let rules = self.list();
+        match place_of_wildcard(rules) {
+            Some(index) => rule_at(rules, index),
+            None => None,
+        }
     }
 
     /// Whether there is such a rule.

@@ -43,7 +43,12 @@ fn is_bounded<A: Book, B: Book>(a: &Rules<'_, A>, b: &Rules<'_, B>, max: Option<
 fn all_listed<A: Book, B: Book>(a: &Rules<'_, A>, b: &Rules<'_, B>) -> bool
     ensures { result ≡ list_all (listed_rule b.now) a.now }
 {
-    a.list().iter().all(|rule| is_listed(rule, b))
+    for rule in a.list() {
+        if !is_listed(rule, b) {
+            return false;
+        }
+    }
+    true
 }
 
 pub(super) fn is_listed<B: Book>(rule: &DRule, b: &Rules<'_, B>) -> bool
@@ -85,7 +90,12 @@ fn requires_as_many(wildcard: Option<DRule>, min: u32) -> bool
 fn lists_all<A: Book, B: Book>(a: &Rules<'_, A>, b: &Rules<'_, B>) -> bool
     ensures { result ≡ list_all (of_key (is_listed a.now)) b.now }
 {
-    b.list().iter().all(|rule| lists(a, rule))
+    for rule in b.list() {
+        if !lists(a, rule) {
+            return false;
+        }
+    }
+    true
 }
 
 pub(super) fn lists<A: Book>(a: &Rules<'_, A>, rule: &DRule) -> bool
@@ -112,5 +122,10 @@ pub(super) fn wildcard_covered<A: Book>(a: &Rules<'_, A>, uncovered: &[Key], fit
 fn lists_keys<A: Book>(a: &Rules<'_, A>, keys: &[Key]) -> bool
     ensures { result ≡ list_all (is_listed a.now) keys.now }
 {
-    keys.iter().all(|key| a.lists(*key))
+    for key in keys {
+        if !a.lists(*key) {
+            return false;
+        }
+    }
+    true
 }

@@ -1,3 +1,7 @@
+use Rattle.std.proofs.Common.{List, arith, ◌∙◌}
+use Rattle.std.specs.List.{filter_map, enumerate_from}
+use Rattle.std.proofs.lemmas.List.{take_all}
+use Rattle.dia_book.specs.Dictionary.{Dictionary}
 use Rattle.std.proofs.Common.{ℕ, Bool, map, ap}
 use Rattle.dia_book.specs.Dictionary.{PlainDefinition, plain_definition}
 use Rattle.dia_compat.specs.declared.reasons.Failing.TheVariants.{NotBeside}
@@ -16,3 +20,10 @@ loop-index-preserved g c =
     numbered_more fails d.commands i x c.loop-index.all.items c.push_unless.new.all.items (unless c.is_ready-ready.result (NotBeside i))
     (command_at d i c.command_at.result x c.command_at.ensures c.def-other.ensures) (ap (λ (b : Bool). unless b (NotBeside i)) c.is_ready-ready.ensures)
     c.loop-index.invariant c.in_ok-push_unless.ensures
+
+pub returns : goal.returns
+returns g c =
+    let d = g.B.Book.meaning c.second-b.result.now in
+    let fails = λ (p : ℕ × PlainDefinition). unless (is_ready c.args.sides.now (map plain_names c.args.beside.now.keys) (plain_definition c.args.command.now) p.1) (NotBeside p.0) in
+    c.loop-index.invariant ∙ ap (λ (cs : List PlainDefinition). filter_map fails (enumerate_from 0 cs))
+    (take_all c.loop-index.index d.commands (omega (arith, c.loop-index-test.false, c.commands-index-end.ensures)) ∙ ap (λ (x : Dictionary). x.commands) c.second-b.ensures.meaning)

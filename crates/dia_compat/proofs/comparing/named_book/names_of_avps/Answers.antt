@@ -9,7 +9,7 @@ loop-index-preserved g c =
     let name = λ (e : DictEntry). e.name in
     let i = c.loop-index.index in
     let within : i < length entries = omega (arith, c.loop-index-test.true, c.entries-index-end.ensures.count) in
-    one_more (map name entries) c.loop-index.names.keys c.insert.new.self.keys i c.entry_name.result
+    one_more (map name entries) c.loop-index.names.value.keys c.insert.new.self.keys i c.entry_name.result
     (distinct_names name entries (g.met.B.Book.sound c.args.book.now).distinct_names)
     (read_at name entries i c.entry_at.result c.entry_name.result.now within c.entry_at.ensures c.entry_name.ensures)
-    c.loop-index.invariant c.in_ok-insert.ensures.keys
+    c.loop-index.invariant (rw c.deref_mut.ensures.value at c.in_ok-insert.ensures.keys)

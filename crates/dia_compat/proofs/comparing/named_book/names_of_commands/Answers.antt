@@ -12,7 +12,7 @@ loop-index-preserved g c =
     let i = c.loop-index.index in
     let x = plain_definition c.def.result.now in
     let at = command_at d i c.command_at.result x c.command_at.ensures c.def.ensures in
-    one_more (map name d.commands) c.loop-index.names.keys c.insert.new.self.keys i c.as_str.result
+    one_more (map name d.commands) c.loop-index.names.value.keys c.insert.new.self.keys i c.as_str.result
     (distinct_names name d.commands (g.met.B.Book.sound c.args.book.now).distinct_commands)
     (into_map name d.commands i x at ∙ ap (λ (y : List ℕ). Some y) (sym c.as_str.ensures.value))
-    c.loop-index.invariant c.in_ok-insert.ensures.keys
+    c.loop-index.invariant (rw c.deref_mut.ensures.value at c.in_ok-insert.ensures.keys)

@@ -3,4 +3,4 @@ use Rattle.dia_book.specs.Dictionary.{PlainDefinition}
 use Rattle.dia_compat.proofs.comparing.named_book.names_of_commands.Given as goal
 
 abbrev pub invariant-loop-index : goal.invariant-loop-index
-invariant-loop-index g l = map (λ (n : Bor (List ℕ)). n.now) l.names.keys ≡ take l.index (map (λ (c : PlainDefinition). c.name) (g.B.Book.meaning l.book).commands)
+invariant-loop-index g l = map (λ (n : Bor (List ℕ)). n.now) l.names.value.keys ≡ take l.index (map (λ (c : PlainDefinition). c.name) (g.B.Book.meaning l.book).commands)

@@ -4,16 +4,16 @@ use Rattle.dia_compat.specs.PairTests.{entry_named}
 use Rattle.dia_compat.proofs.SetsOfNames.{place_by_name}
 use Rattle.dia_compat.proofs.comparing.named_book.NamedBook.avp.Goals as goal
 
-pub returns-in_err-place : goal.returns-in_err-place
-returns-in_err-place g c =
+pub returns-in-None : goal.returns-in-None
+returns-in-None g c =
     let named = c.self.inside in
-    c.from_residual.ensures ∙ (rw c.deref.ensures at c.in_err-place.ensures.index)
+    (rw c.deref.ensures at c.in-None.ensures.index)
     ∙ place_by_name (λ (e : DictEntry). e.name) (g.B.Book.meaning named.book.now).entries named.avps.value.keys c.args.name.now c.self.invariant.0
     ∙ ap (λ (d : Dictionary). entry_named d c.args.name.now) c.self.view_is
 
-pub returns : goal.returns
-returns g c =
+pub returns-in-Some : goal.returns-in-Some
+returns-in-Some g c =
     let named = c.self.inside in
-    ap (λ (i : ℕ). Some i) c.entry_at.ensures ∙ (rw c.deref.ensures at c.in_ok-place.ensures.index)
+    ap (λ (i : ℕ). Some i) c.entry_at.ensures ∙ (rw c.deref.ensures at c.in-Some.ensures.index)
     ∙ place_by_name (λ (e : DictEntry). e.name) (g.B.Book.meaning named.book.now).entries named.avps.value.keys c.args.name.now c.self.invariant.0
     ∙ ap (λ (d : Dictionary). entry_named d c.args.name.now) c.self.view_is
