@@ -1,5 +1,5 @@
 -- Nothing fails a test of a pair of the table exactly where the pair passes it.
-use Rattle.std.proofs.Common.{◌≡◌, ℕ, ◌+◌, Bool, true, false, List, [], ◌∷◌, ◌++◌, Option, Some, None, refl, sym, ap, subst, ◌∙◌, Decides}
+use Rattle.std.proofs.Common.{◌≡◌, ℕ, Bool, true, false, List, [], ◌∷◌, ◌++◌, Option, Some, None, refl, sym, ap, subst, ◌∙◌, Decides}
 use Rattle.std.specs.Prelude.{◌↔◌, ◌&&◌, Result, IfOk, IfSome, MatchOption, slice_get, is_some, option_to_list}
 use Rattle.std.specs.List.{filter_map, enumerate_from, list_any, list_all}
 use Rattle.std.specs.Option.{option_map_or}

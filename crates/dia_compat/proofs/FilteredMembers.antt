@@ -3,11 +3,9 @@ use Rattle.std.proofs.Common.{◌≡◌, ℕ, ◌+◌, ◌<◌, Bool, true, fals
 use Rattle.std.specs.Prelude.{slice_get, IfSome, ◌&&◌, ◌||◌}
 use Rattle.std.specs.List.{list_all, list_any}
 use Rattle.std.proofs.lemmas.Bool.{and_from}
-use Rattle.std.proofs.lemmas.List.{take_more}
 use Rattle.std.proofs.lemmas.List.Elements.{filter-append}
 use Rattle.std.proofs.lemmas.List.Folds.{list_all-append, list_any-append, list_all_more, list_any_more, list_any_at}
 use Rattle.std.proofs.lemmas.List.Folds as std_folds
-use Rattle.std.proofs.lemmas.Option.{slice_get-get_or, slice_get_within, same_Some}
 use Rattle.dia_book.proofs.Members.{list_all_at}
 use Rattle.dia_rules.proofs.Members.{in_any, in_at, taken}
 use Rattle.dia_compat.proofs.SetsOfNames.{get_none}

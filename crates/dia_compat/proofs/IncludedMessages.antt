@@ -5,9 +5,8 @@ use Rattle.std.proofs.lemmas.Option.{none-some, same_Some}
 use Rattle.dia_wire.specs.Wire.{key_of}
 use Rattle.dia_book.specs.declared.Class.{Class}
 use Rattle.dia_book.specs.declared.Class.TheVariants as classes
-use Rattle.dia_book.specs.declared.DefHead.TheVariants.{Command, Error}
 use Rattle.dia_book.proofs.Members.{at_Contains, into_right}
-use Rattle.dia_book.specs.Dictionary.{Dictionary, PlainDefinition, IsDictionary, groups, definitions, selected, is_command}
+use Rattle.dia_book.specs.Dictionary.{Dictionary, PlainDefinition, IsDictionary, groups, definitions, is_command}
 use Rattle.dia_check.specs.declared.Unknown.{Unknown}
 use Rattle.dia_check.specs.declared.Levels.{Levels}
 use Rattle.dia_check.specs.Valid.{AllowsP, class_of, Placed, IsValidOf}

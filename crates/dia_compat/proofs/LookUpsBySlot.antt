@@ -1,16 +1,11 @@
 -- Look-ups by slot, and the fixed rules that were gone through.
-use Rattle.std.proofs.Common.{◌≡◌, ℕ, zero, suc, ◌<◌, Bool, true, false, cond, List, [], ◌∷◌, length, drop, get_or, Option, Some, None, refl, sym, ap, ◌∙◌}
-use Rattle.std.specs.Prelude.{◌||◌, ◌&&◌, not, position, slice_get, IfSome, option_and_then}
+use Rattle.std.proofs.Common.{◌≡◌, ℕ, zero, suc, ◌<◌, Bool, true, false, List, [], ◌∷◌, length, drop, get_or, Some, refl, sym, ap, ◌∙◌}
+use Rattle.std.specs.Prelude.{◌||◌, ◌&&◌, not, slice_get}
 use Rattle.std.specs.Option.{option_map_or}
 use Rattle.std.proofs.lemmas.Option.{none-some, same_Some, slice_get-get_or}
-use Rattle.dia_wire.specs.declared.Key.{Key}
 use Rattle.dia_book.specs.declared.DRule.{DRule}
-use Rattle.dia_book.specs.declared.Slot.{Slot}
-use Rattle.dia_book.specs.declared.Slot.TheVariants.{Fixed, Loose, Unlisted}
-use Rattle.dia_book.specs.Dictionary.{Dictionary, PlainDefinition, definitions, lists_key, is_fixed, slot_at, slot_of}
-use Rattle.dia_book.proofs.LookUpsByName.{find-place}
+use Rattle.dia_book.specs.Dictionary.{is_fixed}
 use Rattle.dia_compat.specs.Tests.{leads, begins_with}
-use Rattle.dia_rules.specs.Rules.{rules_in, rule_of}
 
 -- ---- the fixed rules
 

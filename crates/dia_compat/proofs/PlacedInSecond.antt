@@ -1,5 +1,5 @@
 -- AVPs that stand as the first definition says stand as the second says, where the second passes N1 to N9.
-use Rattle.std.proofs.Common.{◌≡◌, ◌≢◌, ℕ, zero, suc, ◌+◌, ◌<◌, ◌≤◌, Bool, true, false, List, [], ◌∷◌, ◌++◌, length, Option, Some, None, refl, sym, ap, subst, ◌∙◌, arith, inl, inr}
+use Rattle.std.proofs.Common.{◌≡◌, ◌≢◌, ℕ, zero, suc, ◌+◌, ◌<◌, ◌≤◌, Bool, true, false, List, [], ◌∷◌, ◌++◌, Option, Some, None, refl, sym, ap, subst, ◌∙◌, arith, inl, inr}
 use Rattle.std.specs.Prelude.{◌⊎◌, not, IsTrue, IfSome, IsSome, is_some, slice_get, get_or, count_by, if◌then◌else◌}
 use Rattle.std.specs.Option.{option_map_or}
 use Rattle.std.specs.List.{AllByRecursion}
@@ -10,18 +10,18 @@ use Rattle.dia_book.specs.declared.DRule.{DRule}
 use Rattle.dia_book.specs.Keys.{same_key}
 use Rattle.dia_book.proofs.SameKeys.{same_key-refl, same_key-true}
 use Rattle.dia_book.proofs.Members.{AreApart, AreApart-filter}
-use Rattle.dia_book.specs.Dictionary.{Dictionary, AreRules, is_fixed, lists_key}
+use Rattle.dia_book.specs.Dictionary.{Dictionary, AreRules, is_fixed}
 use Rattle.dia_check.specs.declared.Unknown.{Unknown}
 use Rattle.dia_check.specs.declared.Unknown.TheVariants.{Kept}
-use Rattle.dia_check.specs.Valid.{InBounds, Runs, fixed_rules, loose_rules, is_listed, is_wildcard, has_wildcard, MayBeLoose, counted, Placed}
+use Rattle.dia_check.specs.Valid.{InBounds, fixed_rules, loose_rules, is_listed, is_wildcard, has_wildcard, MayBeLoose, counted, Placed}
 use Rattle.dia_check.proofs.LongestRuns.{AreDistinct}
 use Rattle.dia_compat.specs.declared.checking.Test.TheVariants.{N1, N2, N3, N5, N6, N7, N8}
 use Rattle.dia_compat.specs.Below.{MaxWithin, FixedWithin, IsAboveZero, IsKnown, DefBelow}
 use Rattle.dia_rules.specs.Rules.{HasRule, HasWildcard}
 use Rattle.dia_compat.proofs.RunsOfFixedRules.{in_bounds, max_within, Split, split}
-use Rattle.dia_rules.proofs.Members.{IsIn, in_all, all_map, at_in, in_contains, contains_in, all_in, in_filter, into_filter, any_in, in_any}
-use Rattle.dia_rules.proofs.RulesOfKeys.{IsRunKey, all_middle, lists, listed, is_listed_by, times, not_same, runs_none, runs_some}
-use Rattle.dia_rules.proofs.Members.{in_right, in_append, count_append, count_none, count_all, count_mono, count_in, none_or_some}
+use Rattle.dia_rules.proofs.Members.{IsIn, in_all, at_in, in_contains, contains_in, all_in, in_filter, into_filter, any_in, in_any}
+use Rattle.dia_rules.proofs.RulesOfKeys.{IsRunKey, all_middle, listed, is_listed_by, times, not_same, runs_none, runs_some}
+use Rattle.dia_rules.proofs.Members.{in_right, in_append, count_append, count_none, count_mono, count_in, none_or_some}
 
 -- ---- rules
 

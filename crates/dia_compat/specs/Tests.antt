@@ -1,14 +1,14 @@
 -- The tests of two definitions as answers of yes or no.
-use Rattle.std.specs.Prelude.{ℕ, nat_eq, nat_le, Bool, true, false, not, ◌&&◌, ◌||◌, ◌==◌, List, [], ◌∷◌, Option, Some, None, is_some, find, slice_get}
+use Rattle.std.specs.Prelude.{ℕ, nat_eq, nat_le, Bool, true, false, not, ◌&&◌, ◌||◌, ◌==◌, List, [], ◌∷◌, Option, Some, None, is_some}
 use Rattle.std.specs.List.{list_all, list_any}
 use Rattle.std.specs.Option.{option_eq, option_map_or}
 use Rattle.dia_wire.specs.declared.Key.{Key}
 use Rattle.dia_book.specs.declared.DRule.{DRule}
 use Rattle.dia_book.specs.Keys.{same_key}
-use Rattle.dia_book.specs.Dictionary.{Dictionary, definitions, entry_of, is_fixed, lists_key}
+use Rattle.dia_book.specs.Dictionary.{entry_of, is_fixed}
 use Rattle.dia_check.specs.declared.Unknown.{Unknown}
 use Rattle.dia_check.specs.declared.Unknown.TheVariants.{Kept, Refused}
-use Rattle.dia_check.specs.Valid.{is_listed, is_wildcard}
+use Rattle.dia_check.specs.Valid.{is_listed}
 use Rattle.dia_compat.specs.Sides.{Sides}
 use Rattle.dia_rules.specs.Rules.{rule_of, wildcard_of}
 

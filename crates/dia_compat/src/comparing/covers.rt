@@ -47,7 +47,8 @@ impl<'a, A: Book, B: Book> Model for Cover<'a, A, B> {
     ghost view = { λ c. compared c.sides (plain_table c.table.now) };
 
     ghost invariant = { λ c. ArePaired (compared c.sides (plain_table c.table.now)) c.paired.value.keys
-        × (c.uncovered.items ≡ uncovered_keys (compared c.sides (plain_table c.table.now))) × (c.harmless ≡ strangers_fit c.sides) };
+        × (c.uncovered.items ≡ uncovered_keys (compared c.sides (plain_table c.table.now)))
+        × (c.harmless ≡ strangers_fit c.sides) };
 }
 
 impl<'a, A: Book, B: Book> Cover<'a, A, B> {

@@ -80,24 +80,31 @@ fn fails_rule<A: Book, B: Book>(
 ) -> Option<Failing>
     ensures { result ≡ fails_rule cover.now test a.now b.now (index, rule.now) }
 {
-    let first = index;
-    let second = index;
     match test {
         RuleTest::Fixed => fails_fixed(a, index, rule),
         RuleTest::Counts => fails_counts(b, index, rule),
         RuleTest::Unlisted { wild } => unless(
             is_let_in(rule, b, wild),
-            Failing::Unlisted { first },
+            Failing::Unlisted { first: index },
         ),
-        RuleTest::Uncovered => unless(rule_is_covered(rule, cover), Failing::Uncovered { first }),
+        RuleTest::Uncovered => unless(
+            rule_is_covered(rule, cover),
+            Failing::Uncovered { first: index },
+        ),
         RuleTest::Own { wildcard } => fails_own(cover.sides(), a, wildcard, index, rule),
         RuleTest::Other { wildcard } => unless(
             is_listed(rule, b),
-            Failing::CountsAsOther { first, wildcard },
+            Failing::CountsAsOther {
+                first: index,
+                wildcard,
+            },
         ),
         RuleTest::Listed { wildcard } => unless(
             lists(a, rule),
-            Failing::NotCounted { second, wildcard },
+            Failing::NotCounted {
+                second: index,
+                wildcard,
+            },
         ),
     }
 }

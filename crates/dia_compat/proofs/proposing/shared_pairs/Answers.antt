@@ -1,4 +1,4 @@
-use Rattle.std.proofs.Common.{◌≡◌, ◌<◌, ℕ, length, arith, sym, ap, subst, ◌∙◌, ◌++◌, option_to_list}
+use Rattle.std.proofs.Common.{◌≡◌, length, arith, sym, ap, subst, ◌∙◌, ◌++◌, option_to_list}
 use Rattle.std.specs.Prelude.{slice_get}
 use Rattle.dia_book.specs.Dictionary.{Dictionary}
 use Rattle.dia_compat.specs.NamedCommands.{shared_pair}

@@ -8,11 +8,12 @@ use Rattle.dia_compat.proofs.comparing.commands.all_beside.Goals as goal
 
 pub returns-then-not-is_ready : goal.returns-then-not-is_ready
 returns-then-not-is_ready g c =
-    all_stops_at (λ (d : Bor Definition). is_ready c.args.sides.now (map plain_names c.args.beside.now.keys) (plain_definition c.args.command.now) (plain_definition d.now)) c.args.others.now c.loop-other.other-index c.other-item.result c.other-item.result c.is_ready.result
+    let test = λ (d : Bor Definition). is_ready c.args.sides.now (map plain_names c.args.beside.now.keys) (plain_definition c.args.command.now) (plain_definition d.now) in
+    all_stops_at test c.args.others.now c.loop-other.other-index c.other-item.result c.other-item.result c.is_ready.result
     c.loop-other-test.true c.other-item.is c.is_ready.ensures c.if-not-is_ready.true
 
 pub loop-other-preserved : goal.loop-other-preserved
 loop-other-preserved g c =
-    all_more_at (λ (d : Bor Definition). is_ready c.args.sides.now (map plain_names c.args.beside.now.keys) (plain_definition c.args.command.now) (plain_definition d.now)) c.args.others.now c.loop-other.other-index c.other-item.result c.other-item.result c.is_ready.result
-    c.loop-other-test.true c.other-item.is c.is_ready.ensures c.if-not-is_ready.false
-    c.loop-other.invariant
+    let test = λ (d : Bor Definition). is_ready c.args.sides.now (map plain_names c.args.beside.now.keys) (plain_definition c.args.command.now) (plain_definition d.now) in
+    all_more_at test c.args.others.now c.loop-other.other-index c.other-item.result c.other-item.result c.is_ready.result
+    c.loop-other-test.true c.other-item.is c.is_ready.ensures c.if-not-is_ready.false c.loop-other.invariant

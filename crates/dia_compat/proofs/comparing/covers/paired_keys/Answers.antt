@@ -1,4 +1,4 @@
-use Rattle.std.proofs.Common.{Bool, sym, ap, map, take, ◌∙◌}
+use Rattle.std.proofs.Common.{Bool, sym, ap, ◌∙◌}
 use Rattle.std.specs.Prelude.{◌||◌}
 use Rattle.dia_compat.specs.TableText.{plain_pair}
 use Rattle.dia_compat.specs.PairTests.{pairs_key}
