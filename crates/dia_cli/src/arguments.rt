@@ -1,10 +1,10 @@
 //! The words of the command line.
 
 ghost use Rattle.std.specs.Prelude.{◌≡◌, IfOk, IfSome, IsSomeAnd, Some, codes};
-ghost use Rattle.std.specs.Prelude.{[], ◌∷◌, true, Bool, ℕ, IfErr, List, None, Option, false, map, option_map, string_bytes, unwrap_or};
-ghost use Rattle.clap.specs.Walk.{Row, Text, texts};
-ghost use Rattle.clap.specs.Words.{all_of, app_of, found_of, first_of, rows_of, subcommand_rows_of};
-ghost use Rattle.dia_cli.specs.Asking.{IsApart, IsRefused, IsUnasked, IsUnrun, IsWanting, has_judged, has_pair};
+ghost use Rattle.std.specs.Prelude.{◌∷◌, true, Bool, ℕ, IfErr, List, None, Option, false, map};
+ghost use Rattle.clap.specs.Walk.{Row, Text};
+ghost use Rattle.clap.specs.Words.{app_of, found_of, first_of, rows_of, subcommand_rows_of};
+ghost use Rattle.dia_cli.specs.Asking.{IsRefused, IsUnasked, IsUnrun, IsWanting, has_judged, has_pair};
 ghost use Rattle.dia_cli.specs.Asking.{has_compared, has_made, has_refuted, has_word, is_asked, is_judged};
 ghost use Rattle.dia_cli.specs.Asking.{is_policy, is_sender};
 ghost use Rattle.dia_cli.specs.Forms.{Form, IsAccepted, form_name, is_plain_form, words_of};
@@ -222,11 +222,21 @@ fn check_of<'a>(found: &ArgMatches<'a>) -> Result<Asked<'a>, Unasked>
         (λ made. IsAsked made.task made.origins (codes "check", rows_of (found_of found.now))) }
     ensures wanting { IfErr result (IsWanting (codes "check") (rows_of (found_of found.now))) }
 {
-    let lines = flag_of(found, "lines").ok_or(Unasked::Nothing)?;
-    let stream = flag_of(found, "stream").ok_or(Unasked::Nothing)?;
-    let (unknown, levels, origins) = checked_of(found).ok_or(Unasked::Nothing)?;
-    let message = message_of(found, "MESSAGE").ok_or(Unasked::Nothing)?;
-    let messages = messages_of(found).ok_or(Unasked::Nothing)?;
+    let Some(lines) = flag_of(found, "lines") else {
+        return Err(Unasked::Nothing);
+    };
+    let Some(stream) = flag_of(found, "stream") else {
+        return Err(Unasked::Nothing);
+    };
+    let Some((unknown, levels, origins)) = checked_of(found) else {
+        return Err(Unasked::Nothing);
+    };
+    let Some(message) = message_of(found, "MESSAGE") else {
+        return Err(Unasked::Nothing);
+    };
+    let Some(messages) = messages_of(found) else {
+        return Err(Unasked::Nothing);
+    };
     match (lines, stream) {
         (false, false) => Ok(Asked {
             task: Task::Whole(Command::Check { unknown, levels }),
@@ -331,9 +341,15 @@ fn propose_of<'a>(alloc: Global, found: &ArgMatches<'a>) -> Result<Asked<'a>, Un
         (λ made. IsAsked made.task made.origins (codes "propose", rows_of (found_of found.now))) }
     ensures wanting { IfErr result (IsWanting (codes "propose") (rows_of (found_of found.now))) }
 {
-    let unknown = unknown_of(found).ok_or(Unasked::Nothing)?;
-    let origins = pair_of(found).ok_or(Unasked::Nothing)?;
-    let words = words_of(found, "COMMAND").ok_or(Unasked::Nothing)?;
+    let Some(unknown) = unknown_of(found) else {
+        return Err(Unasked::Nothing);
+    };
+    let Some(origins) = pair_of(found) else {
+        return Err(Unasked::Nothing);
+    };
+    let Some(words) = words_of(found, "COMMAND") else {
+        return Err(Unasked::Nothing);
+    };
     let names = copies_of(alloc, words)?;
     Ok(Asked {
         task: Task::Whole(Command::Propose { unknown, names }),
@@ -347,15 +363,26 @@ fn breaking_of<'a>(alloc: Global, found: &ArgMatches<'a>) -> Result<Asked<'a>, U
         (λ made. IsAsked made.task made.origins (codes "breaking", rows_of (found_of found.now))) }
     ensures wanting { IfErr result (IsWanting (codes "breaking") (rows_of (found_of found.now))) }
 {
-    let unknown = unknown_of(found).ok_or(Unasked::Nothing)?;
-    let origins = pair_of(found).ok_or(Unasked::Nothing)?;
-    let sends = sender_of(found).ok_or(Unasked::Nothing)?;
+    let Some(unknown) = unknown_of(found) else {
+        return Err(Unasked::Nothing);
+    };
+    let Some(origins) = pair_of(found) else {
+        return Err(Unasked::Nothing);
+    };
+    let Some(sends) = sender_of(found) else {
+        return Err(Unasked::Nothing);
+    };
+    let Some(shown) = shown_of(found) else {
+        return Err(Unasked::Nothing);
+    };
     let Shown {
         messages,
         once,
         meaning,
-    } = shown_of(found).ok_or(Unasked::Nothing)?;
-    let table = table_of(found, "accepted").ok_or(Unasked::Nothing)?;
+    } = shown;
+    let Some(table) = table_of(found, "accepted") else {
+        return Err(Unasked::Nothing);
+    };
     let names = names_of(alloc, found)?;
     Ok(Asked {
         task: Task::Breaking {

@@ -1,6 +1,6 @@
 //! How the program ends where nothing ran, or a run failed.
 
-ghost use Rattle.std.specs.Prelude.{◌≡◌, ◌↔◌, Err, IfOk, IfErr, IsErr, IsOkAnd, IsTrue, OnOk, string_bytes};
+ghost use Rattle.std.specs.Prelude.{◌≡◌, ◌≢◌, ◌↔◌, Err, IfOk, IfErr, IsErr, IsOkAnd, IsTrue, OnOk, string_bytes};
 ghost use Rattle.std.specs.Io.KnownBytes.{Appends};
 ghost use Rattle.dia_io.specs.Exit.{status_of};
 ghost use Rattle.dia_cli.specs.Ending.{IsDeviceText, IsShown, IsTold, ShowsHelp};
@@ -195,15 +195,15 @@ impl<'a> Ending<'a> {
     {
         match self {
             Ending::Told(error) => put_made(sink, format!(in alloc; "{error}")),
-            Ending::NotText => Ok(put_all(sink, NOT_TEXT.as_bytes())?),
-            Ending::ReadTwice => Ok(put_all(sink, READ_TWICE.as_bytes())?),
+            Ending::NotText => put_text(sink, NOT_TEXT),
+            Ending::ReadTwice => put_text(sink, READ_TWICE),
             Ending::Apart(apart) => Ok(put_apart(sink, apart.first(), apart.second())?),
             Ending::Device {
                 name,
                 error: Some(error),
             } => put_made(sink, device_text(alloc, name, *error)),
-            Ending::Device { .. } => Ok(put_all(sink, DEVICE_FAILED.as_bytes())?),
-            Ending::NoMemory => Ok(put_all(sink, NO_MEMORY.as_bytes())?),
+            Ending::Device { .. } => put_text(sink, DEVICE_FAILED),
+            Ending::NoMemory => put_text(sink, NO_MEMORY),
         }
     }
 }
@@ -231,6 +231,16 @@ fn put_made<S: Sink>(sink: &mut S, text: Result<String, AllocError>) -> Result<(
     ensures no_memory { result ≡ Err RunFault.NoMemory → S.written sink.new ≡ S.written sink.old }
 {
     let text = text?;
+    put_text(sink, text.as_str())
+}
+
+/// Writes a text.
+fn put_text<S: Sink>(sink: &mut S, text: &str) -> Result<(), RunFault>
+    requires { ¬ IsTrue (S.has_failed sink.old) }
+    ensures text { IfOk result (λ _. Appends (S.written sink.old) (S.written sink.new) text.now) }
+    ensures device { (result ≡ Err RunFault.Device) ↔ IsTrue (S.has_failed sink.new) }
+    ensures memory { result ≢ Err RunFault.NoMemory }
+{
     put_all(sink, text.as_bytes())?;
     Ok(())
 }

@@ -1,7 +1,6 @@
 //! The command line, made of the rows of the commands.
 
 ghost use Rattle.std.specs.Prelude.{◌≡◌, IfOk, false, map};
-ghost use Rattle.clap.specs.Simple.{with_subcommand};
 ghost use Rattle.clap.specs.Words.{app_of, rule_of};
 ghost use Rattle.dia_cli.specs.Lines.{IsLine, command_of, input_of, option_of, program_app};
 ghost use Rattle.dia_cli.specs.Lines.{has_globals};

@@ -71,7 +71,7 @@ fn has_dict(command: &str) -> bool {
     command == "show" || command == "make"
 }
 
-/// Whether a word is the option `--dict`.
+/// Whether one of the words is the option `--dict`.
 fn is_given_dict(words: &[String]) -> bool {
     for word in words {
         if word.as_str() == "--dict" || word.as_str().starts_with("--dict=") {
@@ -81,7 +81,7 @@ fn is_given_dict(words: &[String]) -> bool {
     false
 }
 
-/// Whether a word is an option.
+/// Whether one of the words is an option.
 fn is_given_option(words: &[String]) -> bool {
     for word in words {
         if word.as_str().starts_with("--") {

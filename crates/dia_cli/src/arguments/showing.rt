@@ -19,10 +19,19 @@ pub(super) fn show_of<'a>(found: &ArgMatches<'a>) -> Result<Asked<'a>, Unasked>
         (λ made. IsAsked made.task made.origins (codes "show", rows_of (found_of found.now))) }
     ensures wanting { IfErr result (IsWanting (codes "show") (rows_of (found_of found.now))) }
 {
-    let origins = Origins::of_one(dictionary_of(found, "dict").ok_or(Unasked::Nothing)?);
-    let message = message_of(found, "MESSAGE").ok_or(Unasked::Nothing)?;
-    let messages = messages_of(found).ok_or(Unasked::Nothing)?;
-    let table = table_of(found, "values").ok_or(Unasked::Nothing)?;
+    let Some(dictionary) = dictionary_of(found, "dict") else {
+        return Err(Unasked::Nothing);
+    };
+    let origins = Origins::of_one(dictionary);
+    let Some(message) = message_of(found, "MESSAGE") else {
+        return Err(Unasked::Nothing);
+    };
+    let Some(messages) = messages_of(found) else {
+        return Err(Unasked::Nothing);
+    };
+    let Some(table) = table_of(found, "values") else {
+        return Err(Unasked::Nothing);
+    };
     if let Some(apart) = apart_in(found) {
         return Err(Unasked::Apart(apart));
     }
