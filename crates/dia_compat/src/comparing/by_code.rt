@@ -1,5 +1,5 @@
 //! The second dictionary's commands, found by their codes.
-ghost use Rattle.std.specs.Prelude.{◌≡◌, ◌++◌, ◌∷◌, [], IfOk, OnOk, ℕ, map, filter, nat_eq};
+ghost use Rattle.std.specs.Prelude.{◌≡◌, ◌++◌, ◌∷◌, [], IfOk, OnOk, ℕ, filter, nat_eq};
 ghost use Rattle.std.specs.Option.{option_map};
 ghost use Rattle.std.specs.HashMap.{get};
 ghost use Rattle.dia_book.specs.Dictionary.{IsDictionary, plain_definition};

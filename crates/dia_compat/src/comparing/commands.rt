@@ -1,8 +1,7 @@
 //! The test of a pair of commands.
-ghost use Rattle.std.specs.Prelude.{◌≡◌, ◌||◌, ◌&&◌, not, IfOk, map, ℕ, List};
+ghost use Rattle.std.specs.Prelude.{◌≡◌, ◌||◌, ◌&&◌, IfOk, map, ℕ, List};
 ghost use Rattle.std.specs.List.{list_any, list_all};
 ghost use Rattle.dia_book.specs.Dictionary.{plain_definition, IsCommandHead};
-ghost use Rattle.dia_book.specs.declared.Class.TheVariants as classes;
 ghost use Rattle.dia_compat.specs.TableText.{plain_pair};
 ghost use Rattle.dia_compat.specs.PairTests.{plain_names, is_pair, names_app, wants_app};
 ghost use Rattle.dia_compat.specs.PairTests.{is_of_app, is_wanted, serves, same_code_and_class};

@@ -1,5 +1,5 @@
 //! The definitions of the second dictionary that stand beside a command of the first.
-ghost use Rattle.std.specs.Prelude.{◌≡◌, OnOk, option_to_list};
+ghost use Rattle.std.specs.Prelude.{OnOk, option_to_list};
 ghost use Rattle.std.specs.List.{filter_map};
 ghost use Rattle.dia_book.specs.Dictionary.{IsCommandHead, plain_definition};
 ghost use Rattle.dia_compat.specs.WantedNames.{wanted_name, wanted_names, names_beside};

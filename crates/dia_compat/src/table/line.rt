@@ -1,5 +1,5 @@
 //! The lines of a table's text.
-ghost use Rattle.std.specs.Prelude.{◌≡◌, ◌↔◌, IsTrue, IfSome, None, ℕ, List};
+ghost use Rattle.std.specs.Prelude.{◌≡◌, IfSome, None, ℕ, List};
 ghost use Rattle.std.specs.List.{list_all, list_any};
 ghost use Rattle.std.specs.Char.{is_ascii_alphabetic};
 ghost use Rattle.dia_compat.specs.TableText.{is_name_run, is_run_byte, IsLine, HasForm};

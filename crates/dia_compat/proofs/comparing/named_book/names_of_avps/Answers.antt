@@ -1,3 +1,5 @@
+use Rattle.std.proofs.Common.{◌∙◌}
+use Rattle.std.proofs.lemmas.List.{take_all, length-map}
 use Rattle.std.proofs.Common.{◌<◌, length, map, arith}
 use Rattle.dia_book.specs.Dictionary.{DictEntry}
 use Rattle.dia_compat.proofs.SetsOfNames.{one_more, distinct_names, read_at}
@@ -13,3 +15,10 @@ loop-index-preserved g c =
     (distinct_names name entries (g.met.B.Book.sound c.args.book.now).distinct_names)
     (read_at name entries i c.entry_at.result c.entry_name.result.now within c.entry_at.ensures c.entry_name.ensures)
     c.loop-index.invariant (rw c.deref_mut.ensures.value at c.in_ok-insert.ensures.keys)
+
+pub returns : goal.returns
+returns g c =
+    let entries = (g.B.Book.meaning c.args.book.now).entries in
+    let name = λ (e : DictEntry). e.name in
+    c.loop-index.invariant
+    ∙ take_all c.loop-index.index (map name entries) (omega (arith, length-map entries name, c.loop-index-test.false, c.entries-index-end.ensures.count))

@@ -1,3 +1,5 @@
+use Rattle.std.proofs.Common.{arith}
+use Rattle.std.proofs.lemmas.List.{take_all, length-map}
 use Rattle.std.proofs.Common.{Some, ℕ, List, map, ap, sym, ◌∙◌}
 use Rattle.dia_book.specs.Dictionary.{PlainDefinition, plain_definition}
 use Rattle.dia_book.proofs.Members.{into_map}
@@ -16,3 +18,10 @@ loop-index-preserved g c =
     (distinct_names name d.commands (g.met.B.Book.sound c.args.book.now).distinct_commands)
     (into_map name d.commands i x at ∙ ap (λ (y : List ℕ). Some y) (sym c.as_str.ensures.value))
     c.loop-index.invariant (rw c.deref_mut.ensures.value at c.in_ok-insert.ensures.keys)
+
+pub returns : goal.returns
+returns g c =
+    let commands = (g.B.Book.meaning c.args.book.now).commands in
+    let name = λ (x : PlainDefinition). x.name in
+    c.loop-index.invariant
+    ∙ take_all c.loop-index.index (map name commands) (omega (arith, length-map commands name, c.loop-index-test.false, c.commands-index-end.ensures))
