@@ -1,5 +1,5 @@
 -- The shortest ways that are known so far.
-use Rattle.std.proofs.Common.{◌≡◌, ◌≢◌, ℕ, zero, suc, ◌+◌, ◌<◌, ◌≤◌, List, [], ◌∷◌, length, Option, Some, None, refl, sym, ap, subst, ◌∙◌, arith, inl, inr}
+use Rattle.std.proofs.Common.{◌≡◌, ◌≢◌, ℕ, zero, suc, ◌+◌, ◌<◌, ◌≤◌, List, [], ◌∷◌, ◌++◌, length, Option, Some, None, refl, sym, ap, subst, ◌∙◌, arith, inl, inr}
 use Rattle.std.specs.Prelude.{◌⊎◌, slice_get, SomeIff}
 use Rattle.std.proofs.Math.ListN.{set}
 use Rattle.std.proofs.Common.{length-set}
@@ -8,6 +8,8 @@ use Rattle.std.proofs.lemmas.Option.{none-some, same_Some, slice_get_within}
 use Rattle.dia_breaking_ways.specs.declared.graph.Reach.{Reach}
 use Rattle.dia_breaking_ways.specs.Walks.{IsNoLater}
 use Rattle.dia_breaking_ways.specs.Offers.{IsSooner, IsEarlier, HasOne, IsOffered, IsByRule, AreOffered}
+use Rattle.dia_breaking_ways.specs.Reached.{AreNone}
+use Rattle.dia_breaking_ways.proofs.ListedPlaces.{get_push_cases, length_push}
 
 -- ---- a list with one element changed
 
@@ -194,3 +196,17 @@ fits_some (Some y) P n x e h = (h.0, sym h.1 ∙ same_Some y x e)
 pub fits_none : (o : Option ℕ) (P : Type 0) (n : ℕ) → o ≡ None → SomeIff o P n → ¬ P
 fits_none None P n e h = h
 fits_none (Some y) P n e h = absurd (none-some y (sym e))
+
+-- ---- no way to any place
+
+pub none_yet : AreNone 0 []
+none_yet = record { each = refl; none = λ place reach e. none-some (Some reach) e }
+
+pub none_more : (n : ℕ) (best : List (Option Reach)) → AreNone n best → AreNone (n + 1) (best ++ None ∷ [])
+none_more n best are = record {
+  each = let e = length_push best None in omega (arith, e, are.each);
+  none = λ place reach e. elim (get_push_cases best None place (Some reach) e) [
+    | inl old ↦ are.none place reach old
+    | inr new ↦ none-some reach new.1
+  ];
+}

@@ -1,6 +1,6 @@
 -- The steps of a walk.
 use Rattle.std.proofs.Common.{◌≡◌, ℕ, ◌+◌, ◌<◌, ◌≤◌, List, [], ◌∷◌, ◌++◌, length, Option, Some, sym, ap, subst, ◌∙◌, arith, inl, inr}
-use Rattle.std.specs.Prelude.{◌⊎◌, slice_get, Contains}
+use Rattle.std.specs.Prelude.{◌⊎◌, IsSome, slice_get, Contains}
 use Rattle.std.specs.List.Sorted.{IsPermutation}
 use Rattle.std.proofs.lemmas.List.Sorted.{Contains-permutation, IsPermutation-sym}
 use Rattle.std.proofs.lemmas.List.Elements.{Contains-append_left, Contains-push}
@@ -10,7 +10,8 @@ use Rattle.dia_breaking_ways.specs.declared.graph.Reach.{Reach}
 use Rattle.dia_breaking_ways.specs.declared.graph.Step.{Step}
 use Rattle.dia_breaking_ways.specs.Walks.{Graph, PlainLevel, IsStep, step_to, level_of}
 use Rattle.dia_breaking_ways.specs.Openings.{IsOrdered}
-use Rattle.dia_breaking_ways.specs.Rounds.{AreStepsBy}
+use Rattle.dia_breaking_ways.specs.Rounds.{AreStepsBy, AreWithin}
+use Rattle.dia_breaking_ways.specs.Stages.{HaveLevels}
 use Rattle.dia_breaking_ways.specs.Steps.{AreStepsTo, HasNoStep, step_key}
 use Rattle.dia_breaking_ways.proofs.OneWalk.{at_contains, same_way, same_level, same_steps}
 use Rattle.dia_breaking_ways.proofs.ListedPlaces.{contains_at, get_push_cases}
@@ -76,3 +77,17 @@ steps_moved g reached xs ys are moved up = record {
   all = λ place level reach is at. Contains-permutation xs ys (step_to place level reach) moved (are.all place level reach (slice_get_within reached place (Some reach) at) is at);
   ordered = λ i j s t less at_i at_j. up i j s t less (slice_get_within ys j t at_j) at_i at_j;
 }
+
+-- ---- steps within the room
+
+pub levels_more : (g : Graph) (steps : List Step) (step : Step) → HaveLevels g steps → IsSome (level_of g step.place) → HaveLevels g (steps ++ step ∷ [])
+levels_more g steps step are here = λ i s at. elim (get_push_cases steps step i s at) [
+  | inl old ↦ are i s old
+  | inr new ↦ subst (λ (t : Step). IsSome (level_of g t.place)) new.1 here
+]
+
+pub within_more : (g : Graph) (steps : List Step) (step : Step) → AreWithin g steps → 0 < step.way → step.way ≤ g.room → AreWithin g (steps ++ step ∷ [])
+within_more g steps step are some fits = λ i s at. elim (get_push_cases steps step i s at) [
+  | inl old ↦ are i s old
+  | inr new ↦ subst (λ (t : Step). (0 < t.way) × (t.way ≤ g.room)) new.1 (some, fits)
+]

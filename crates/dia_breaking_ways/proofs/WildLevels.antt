@@ -8,7 +8,7 @@ use Rattle.std.proofs.lemmas.Bool.{cases_lt}
 use Rattle.std.proofs.lemmas.Option.{none-some, same_Some, slice_get_within}
 use Rattle.dia_breaking_ways.specs.declared.stages.Stage.{Stage as OwnStage}
 use Rattle.dia_breaking_ways.specs.declared.openings.Opening.{Opening}
-use Rattle.dia_breaking_ways.specs.Openings.{AreNumbered, AreOpenings, opening_of, IsOpenTo, IsShutTo}
+use Rattle.dia_breaking_ways.specs.Openings.{AreNumbered, AreOpenings, AreShutTo, opening_of, IsOpenTo, IsShutTo}
 use Rattle.dia_breaking_ways.proofs.ListedPlaces.{get_push_cases}
 
 -- ---- the openings of levels
@@ -85,3 +85,14 @@ numbered_more n openings opening are here = record {
     under : (i : ℕ) (x : Opening) → (slice_get openings i ≡ Some x) ⊎ ((i ≡ length openings) × (opening ≡ x)) → x.level < n + 1
     under i x (inl a) = let b = are.below i x a in omega (arith, b)
     under i x (inr a) = let same = ap (λ (o : Opening). o.level) a.1 in omega (arith, same, here)
+
+-- ---- levels that are shut
+
+pub shut_more : (stages : List OwnStage) (openings : List Opening) (place n : ℕ) (opening : Opening) → AreShutTo stages openings place n → slice_get openings n ≡ Some opening
+    → IsShutTo stages place opening.level → AreShutTo stages openings place (n + 1)
+shut_more stages openings place n opening are at shut = λ k o below get. elim (cases_lt k n) [
+  | inl less ↦ are k o less get
+  | inr more ↦
+      let here : n ≡ k = omega arith in
+      subst (λ (y : Opening). IsShutTo stages place y.level) (same_Some opening o (sym at ∙ (ap (λ (i : ℕ). slice_get openings i) here ∙ get))) shut
+]
