@@ -1,9 +1,9 @@
 -- Trees of which each node holds the least of what is below it.
-use Rattle.std.proofs.Common.{◌≡◌, ◌≢◌, ℕ, ◌+◌, ◌-◌, ◌/◌, ◌<◌, ◌≤◌, Bool, true, false, List, length, refl, sym, ap, subst, ◌∙◌, arith, inl, inr}
+use Rattle.std.proofs.Common.{◌≡◌, ◌≢◌, ℕ, zero, suc, ◌+◌, ◌-◌, ◌/◌, ◌<◌, ◌≤◌, Bool, true, false, List, ◌++◌, length, replicate, refl, sym, ap, subst, ◌∙◌, arith, inl, inr}
 use Rattle.std.specs.Prelude.{◌⊎◌, min, nat_lt, ◌==◌, if◌then◌else◌}
 use Rattle.std.proofs.lemmas.Bool.{eqb-true, eqb-false, ltb-true, ltb-false}
 use Rattle.dia_breaking_levels.specs.declared.offers.Offer.{Offer}
-use Rattle.dia_breaking_levels.specs.Offers.{weight, lesser, node_at, AreAttained, IsOneWithin}
+use Rattle.dia_breaking_levels.specs.Offers.{nothing, weight, weight_at, lesser, node_at, AreLeast, AreAttained, IsOneWithin}
 
 -- each node has no more than the two below it, or than an offer, which is still to be put into this node
 abbrev pub MayFall : (ℕ → ℕ) → ℕ → ℕ → ℕ → Type 0
@@ -192,3 +192,23 @@ row_above nodes from to low high pos within attained rows p above below = by (at
     by : (node_at nodes p ≡ node_at nodes (p + p)) ⊎ (node_at nodes p ≡ node_at nodes (p + p + 1)) → IsOneWithin nodes from to (node_at nodes p)
     by (inl h) = subst (IsOneWithin nodes from to) (sym h) (rows (p + p) (omega (arith, above)) (omega (arith, below)))
     by (inr h) = subst (IsOneWithin nodes from to) (sym h) (rows (p + p + 1) (omega (arith, above)) (omega (arith, below)))
+
+-- ---- nodes of which none has an offer
+
+nothing_once : (n i : ℕ) → i < n → node_at (replicate n nothing) i ≡ nothing
+nothing_once zero i below = absurd (omega arith)
+nothing_once (suc n) zero below = refl
+nothing_once (suc n) (suc i) below = nothing_once n i (omega arith)
+
+pub nothing_twice : (n m i : ℕ) → i < n + m → node_at (replicate n nothing ++ replicate m nothing) i ≡ nothing
+nothing_twice zero m i below = nothing_once m i (omega arith)
+nothing_twice (suc n) m zero below = refl
+nothing_twice (suc n) m (suc i) below = nothing_twice n m i (omega arith)
+
+pub nothing_least : (nodes : List Offer) → ((i : ℕ) → i < length nodes → node_at nodes i ≡ nothing) → AreLeast nodes
+nothing_least nodes none = λ i two below.
+    let same : weight_at nodes (i / 2) ≡ weight_at nodes i = ap weight (none (i / 2) (omega arith) ∙ sym (none i below)) in
+    omega arith
+
+pub nothing_attained : (nodes : List Offer) → ((i : ℕ) → i < length nodes → node_at nodes i ≡ nothing) → AreAttained nodes
+nothing_attained nodes none = λ i some below. inl (none i (omega arith) ∙ sym (none (i + i) (omega arith)))
