@@ -1,6 +1,6 @@
 -- A pass makes lengths less, and keeps what holds of them.
 use Rattle.std.proofs.Common.{◌≡◌, ℕ, zero, suc, ◌+◌, ◌<◌, ◌≤◌, Bool, true, false, List, [], ◌∷◌, ◌++◌, length, Some, None, get_or, refl, sym, ap, subst, ◌∙◌, arith, inl, inr}
-use Rattle.std.specs.Prelude.{◌⊎◌, slice_get, slice_set, nat_lt, sum_by, IfSome, if◌then◌else◌}
+use Rattle.std.specs.Prelude.{◌⊎◌, slice_get, slice_set, nat_lt, sum_by, IfSome, OnOk, Result, Ok, Err, if◌then◌else◌}
 use Rattle.std.proofs.lemmas.Bool.{cases_eq, cases_lt, ltb-true, ltb-false}
 use Rattle.std.proofs.lemmas.List.{length-set, get_or-set_same, get_or-set_other}
 use Rattle.std.proofs.lemmas.List.Elements.{All-push}
@@ -182,3 +182,8 @@ settled_by d old new order i def n key less place key_is is test = settled_on d 
     let le = ltb-false n (entry_length old.lengths.items i) (sym test) in
     let value = value_of d (length_in d old) (λ rules. filler_length (filler_of old.sends old.unknown order rules)) i def n key entry group at some place key_is is in
     omega (arith, le, value))
+
+-- what holds however a call ends
+pub always : (P : Type 0) {X E : Type 0} (r : Result X E) → P → OnOk r P
+always P (Ok x) p = p
+always P (Err e) p = tt

@@ -1,10 +1,10 @@
 -- AVPs that wait, and what a step makes of them.
-use Rattle.std.proofs.Common.{◌≡◌, ℕ, zero, suc, ◌+◌, ◌*◌, ◌<◌, ◌≤◌, Bool, true, false, List, [], ◌∷◌, ◌++◌, length, map, Option, Some, None, refl, sym, ap, ◌∙◌, arith, append_assoc}
+use Rattle.std.proofs.Common.{◌≡◌, ℕ, zero, suc, ◌+◌, ◌*◌, ◌<◌, ◌≤◌, Bool, true, false, List, [], ◌∷◌, ◌++◌, length, map, take, get_or, Option, Some, None, refl, sym, ap, ◌∙◌, arith, append_assoc}
 use Rattle.std.specs.Prelude.{if◌then◌else◌, MatchOption, reverse, sum_by, vec_len}
 use Rattle.std.specs.List.{flat_map}
 use Rattle.std.proofs.Math.Nat.{suc-mul}
 use Rattle.std.proofs.lemmas.Grind.{flat_map-append}
-use Rattle.std.proofs.lemmas.List.{append-nil, map-append, reverse-append}
+use Rattle.std.proofs.lemmas.List.{append-nil, map-append, reverse-append, take_all, take_more}
 use Rattle.std.proofs.lemmas.List.Concat.{flat_map-cons}
 use Rattle.std.proofs.lemmas.List.Sums.{sum_by-append, sum_by-cons}
 use Rattle.dia_wire.specs.declared.Key.{Key}
@@ -29,6 +29,17 @@ waiting_of key count n = waits n (part_of key count)
 pub popped_none : (r : Option Waiting) (n m : ℕ) → MatchOption r ((n ≡ 0) × (m ≡ 0)) (λ _. m + 1 ≡ n) → ((x : Waiting) → r ≡ Some x → ⊥) → n ≡ 0
 popped_none None n m is other = is.0
 popped_none (Some x) n m is other = absurd (other x refl)
+
+-- one part more waits
+pub waits_more : (n : ℕ) (start old new : List Waiting) (parts : List Part) (i : ℕ) (d : Part) → i < length parts → old ≡ start ++ waiting_parts (suc n) (take i parts)
+    → new ≡ old ++ waits n (get_or parts i d) ∷ [] → new ≡ start ++ waiting_parts (suc n) (take (i + 1) parts)
+waits_more n start old new parts i d within before is =
+    let part = get_or parts i d in
+    is ∙ ap (λ (ws : List Waiting). ws ++ waits n part ∷ []) before ∙ append_assoc start (map (waits n) (take i parts)) (waits n part ∷ [])
+    ∙ ap (λ (ws : List Waiting). start ++ ws) (sym (map-append (waits n) (take i parts) (part ∷ []))) ∙ ap (λ (ps : List Part). start ++ map (waits n) ps) (sym (take_more parts i d within))
+
+pub waits_all : (n : ℕ) (start all : List Waiting) (parts : List Part) (i : ℕ) → length parts ≤ i → all ≡ start ++ waiting_parts (suc n) (take i parts) → all ≡ start ++ waiting_parts (suc n) parts
+waits_all n start all parts i end is = is ∙ ap (λ (ps : List Part). start ++ waiting_parts (suc n) ps) (take_all i parts end)
 
 -- where no levels are left
 pub none_put : (n : ℕ) (stack : List Waiting) (parts : List Part) → n ≡ 0 → stack ≡ stack ++ waiting_parts n parts

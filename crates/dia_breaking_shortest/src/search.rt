@@ -1,5 +1,5 @@
 //! Groups in the order in which their least lengths are found: the shortest AVP first, as in Dijkstra's search.
-ghost use Rattle.std.specs.Prelude.{◌≡◌, ◌<◌, length, IfOk};
+ghost use Rattle.std.specs.Prelude.{◌≡◌, ◌<◌, [], length, IfOk, OnOk};
 ghost use Rattle.dia_breaking_shortest.specs.Passes.{AreKept, AreNoShorter, length_in};
 
 use crate::finding::lower;
@@ -127,6 +127,20 @@ impl Wants {
         }
         Ok(())
     }
+
+    /// The groups that wait for nothing more, once the AVP of the entry is settled.
+    fn served<B: Book>(
+        &mut self,
+        alloc: Global,
+        book: &B,
+        entry: usize,
+        ranked: Ranked,
+    ) -> Result<Vec<usize>, AllocError> {
+        let mut ready = Vec::new(alloc);
+        self.serve_rules(entry, &mut ready)?;
+        self.serve_wildcards(alloc, book, ranked, &mut ready)?;
+        Ok(ready)
+    }
 }
 
 /// Whether the group at a place doesn't list the AVP.
@@ -140,6 +154,53 @@ fn lets_in<B: Book>(book: &B, group: usize, ranked: Ranked) -> bool {
     }
 }
 
+/// A search under way.
+#[derive(Drop)]
+struct Settling {
+    wants: Wants,
+    /// The AVPs that are settled, the shortest first.
+    order: Vec<Ranked>,
+    queue: BinaryHeap<Next>,
+}
+
+impl Settling {
+    fn new<B: Book>(alloc: Global, book: &B, sends: Sends) -> Result<Settling, AllocError>
+        ensures { IfOk result (λ settling. settling.order.items ≡ []) }
+    {
+        let wants = Wants::new(alloc, book, sends)?;
+        Ok(Settling {
+            wants,
+            order: Vec::new(alloc),
+            queue: BinaryHeap::new(alloc),
+        })
+    }
+
+    /// Settles the AVP of the entry at a place, and reaches the groups that wait for nothing else.
+    fn settle<B: Book>(
+        &mut self,
+        alloc: Global,
+        book: &B,
+        least: &mut Least,
+        index: usize,
+    ) -> Result<(), AllocError>
+        requires kept { AreKept (B.meaning book.now) least.old }
+        requires ranks { AreNoShorter (length_in (B.meaning book.now) least.old) self.old.order.items }
+        ensures sends { OnOk result (least.new.sends ≡ least.old.sends) }
+        ensures kept { OnOk result (AreKept (B.meaning book.now) least.new) }
+        ensures ranks { OnOk result (AreNoShorter (length_in (B.meaning book.now) least.new) self.new.order.items) }
+    {
+        if index >= book.entries() {
+            return Ok(());
+        }
+        let key = book.entry_key(book.entry_at(index));
+        let length = least.key(book, key);
+        let ranked = Ranked { key, length };
+        self.order.push(ranked)?;
+        let ready = self.wants.served(alloc, book, index, ranked)?;
+        reach(book, least, &self.order, &ready, &mut self.queue)
+    }
+}
+
 /// Makes the lengths of groups less, the shortest first, so that no pass finds less.
 pub(crate) fn search<B: Book>(alloc: Global, book: &B, least: Least) -> Result<Least, AllocError>
     requires { AreKept (B.meaning book.now) least }
@@ -147,28 +208,20 @@ pub(crate) fn search<B: Book>(alloc: Global, book: &B, least: Least) -> Result<L
     ensures kept { IfOk result (AreKept (B.meaning book.now)) }
 {
     let mut last = least;
-    let mut wants = Wants::new(alloc, book, last.sends)?;
-    let mut order = Vec::new(alloc);
-    let mut queue = BinaryHeap::new(alloc);
-    let first = wants_nothing(alloc, &wants)?;
-    reach(book, &mut last, &order, &first, &mut queue)?;
+    let mut settling = Settling::new(alloc, book, last.sends)?;
+    let first = wants_nothing(alloc, &settling.wants)?;
+    reach(
+        book,
+        &mut last,
+        &settling.order,
+        &first,
+        &mut settling.queue,
+    )?;
     for _ in 0..book.entries() {
-        let Some(Reverse((_, index))) = queue.pop() else {
-            return Ok(last);
+        let Some(Reverse((_, index))) = settling.queue.pop() else {
+            break;
         };
-        if index >= book.entries() {
-            return Ok(last);
-        }
-        let key = book.entry_key(book.entry_at(index));
-        let ranked = Ranked {
-            key,
-            length: last.key(book, key),
-        };
-        order.push(ranked)?;
-        let mut ready = Vec::new(alloc);
-        wants.serve_rules(index, &mut ready)?;
-        wants.serve_wildcards(alloc, book, ranked, &mut ready)?;
-        reach(book, &mut last, &order, &ready, &mut queue)?;
+        settling.settle(alloc, book, &mut last, index)?;
     }
     Ok(last)
 }
