@@ -41,8 +41,8 @@ pub fn least_lengths<B: Book>(alloc: Global, book: &B, sends: Sends) -> Result<L
     ensures leaf_data { IfOk result (λ least. AreData (B.meaning book.now) least.leaf_data.items) }
     ensures least { IfOk result (IsLeastOf (B.meaning book.now) sends) }
 {
-    let least = leaves(alloc, book, sends)?;
-    let least = search(alloc, book, least)?;
+    let mut least = leaves(alloc, book, sends)?;
+    search(alloc, book, &mut least)?;
     let least = settled(alloc, book, least)?;
     let fillers = all_fillers(alloc, book, &least)?;
     let leaf_data = all_data(alloc, book)?;

@@ -202,28 +202,21 @@ impl Settling {
 }
 
 /// Makes the lengths of groups less, the shortest first, so that no pass finds less.
-pub(crate) fn search<B: Book>(alloc: Global, book: &B, least: Least) -> Result<Least, AllocError>
-    requires { AreKept (B.meaning book.now) least }
-    ensures sends { IfOk result (λ last. last.sends ≡ least.sends) }
-    ensures kept { IfOk result (AreKept (B.meaning book.now)) }
+pub(crate) fn search<B: Book>(alloc: Global, book: &B, least: &mut Least) -> Result<(), AllocError>
+    requires { AreKept (B.meaning book.now) least.old }
+    ensures sends { OnOk result (least.new.sends ≡ least.old.sends) }
+    ensures kept { OnOk result (AreKept (B.meaning book.now) least.new) }
 {
-    let mut last = least;
-    let mut settling = Settling::new(alloc, book, last.sends)?;
+    let mut settling = Settling::new(alloc, book, least.sends)?;
     let first = wants_nothing(alloc, &settling.wants)?;
-    reach(
-        book,
-        &mut last,
-        &settling.order,
-        &first,
-        &mut settling.queue,
-    )?;
+    reach(book, least, &settling.order, &first, &mut settling.queue)?;
     for _ in 0..book.entries() {
         let Some(Reverse((_, index))) = settling.queue.pop() else {
             break;
         };
-        settling.settle(alloc, book, &mut last, index)?;
+        settling.settle(alloc, book, least, index)?;
     }
-    Ok(last)
+    Ok(())
 }
 
 /// The entries that want nothing: leaves, and groups whose least level is empty.
