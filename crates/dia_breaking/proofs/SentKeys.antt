@@ -1,10 +1,10 @@
 -- The keys of the AVPs that the sender's side may send, and one that neither dictionary knows.
-use Rattle.std.proofs.Common.{◌≡◌, ℕ, ◌<◌, Bool, List, [], ◌∷◌, ◌++◌, Option, Some, None, refl, sym, ap, subst, arith, inl, inr}
-use Rattle.std.specs.Prelude.{◌⊎◌, not, is_some, IsSome, Contains}
-use Rattle.std.proofs.lemmas.List.{length-append, length-map}
-use Rattle.std.proofs.lemmas.List.Elements.{Contains-append_left, Contains-append_right, Contains-push}
+use Rattle.std.proofs.Common.{◌≡◌, ℕ, ◌+◌, ◌<◌, ◌≤◌, Bool, List, [], ◌∷◌, ◌++◌, length, map, filter, take, Option, Some, None, refl, sym, ap, subst, ◌∙◌, arith, inl, inr, append_assoc}
+use Rattle.std.specs.Prelude.{◌⊎◌, not, is_some, IsSome, Contains, slice_get}
+use Rattle.std.proofs.lemmas.List.{length-append, length-map, take_all}
+use Rattle.std.proofs.lemmas.List.Elements.{Contains-append_left, Contains-append_right, Contains-push, filter-append}
 use Rattle.dia_wire.specs.declared.Key.{Key}
-use Rattle.dia_book.specs.Dictionary.{Dictionary, IsDictionary, entry_of}
+use Rattle.dia_book.specs.Dictionary.{DictEntry, Dictionary, IsDictionary, entry_of}
 use Rattle.dia_book.proofs.Members.{at_Contains, into_filter}
 use Rattle.dia_rules.proofs.Members.{IsIn, contains_in, in_left, in_right, some_of}
 use Rattle.dia_policy.specs.declared.Sends.{Sends}
@@ -12,6 +12,7 @@ use Rattle.dia_policy.specs.declared.Sends.TheVariants.{Any, Known, Listed}
 use Rattle.dia_breaking_shortest.proofs.Strangers.{key_at, key_in, at_most}
 use Rattle.dia_breaking.specs.SentKeys.{AreSentInOrder, AreSentKeys, HasKeys, entry_keys, keys_of_b_alone}
 use Rattle.dia_breaking.proofs.Lists.{contains_at}
+use Rattle.dia_breaking.proofs.Shortest.{one_key_more}
 
 -- one of so many keys is strange
 pub some_strange : (da db : Dictionary) (n : ℕ) → IsDictionary da → IsDictionary db → 32768 < n → ((code : ℕ) → code < n → IsSome (entry_of da (key_at code)) ⊎ IsSome (entry_of db (key_at code))) → ⊥
@@ -82,3 +83,16 @@ pub sent_of : (da db : Dictionary) (who : Sends) (keys : List Key) → AreSentIn
 sent_of da db Any keys in_order = sent_of_any da db keys in_order
 sent_of da db Known keys in_order = sent_of_known da db keys in_order
 sent_of da db Listed keys in_order = sent_of_listed da db keys in_order
+
+-- ---- the keys that a dictionary doesn't know, of the entries of another
+
+pub unknown_more : (p : Key → Bool) (entries : List DictEntry) (i : ℕ) (x : DictEntry) (key : Key) (start old new : List Key) → slice_get entries i ≡ Some x → key ≡ x.key
+    → new ≡ old ++ filter p (key ∷ []) → old ≡ start ++ filter p (map (λ (e : DictEntry). e.key) (take i entries)) → new ≡ start ++ filter p (map (λ (e : DictEntry). e.key) (take (i + 1) entries))
+unknown_more p entries i x key start old new at same is before =
+    let so_far = map (λ (e : DictEntry). e.key) (take i entries) in
+    is ∙ ap (λ (ks : List Key). ks ++ filter p (key ∷ [])) before ∙ append_assoc start (filter p so_far) (filter p (key ∷ []))
+    ∙ ap (λ (ks : List Key). start ++ ks) (sym (filter-append p so_far (key ∷ []))) ∙ ap (λ (ks : List Key). start ++ filter p ks) (one_key_more entries i x key at same)
+
+pub unknown_all : (p : Key → Bool) (entries : List DictEntry) (i : ℕ) (start all : List Key) → length entries ≤ i → all ≡ start ++ filter p (map (λ (e : DictEntry). e.key) (take i entries))
+    → all ≡ start ++ filter p (map (λ (e : DictEntry). e.key) entries)
+unknown_all p entries i start all end is = is ∙ ap (λ (es : List DictEntry). start ++ filter p (map (λ (e : DictEntry). e.key) es)) (take_all i entries end)

@@ -90,38 +90,35 @@ fn sent_keys<A: Book, B: Book>(
 {
     let keys = keys_of(alloc, a)?;
     match sends {
-        Sends::Any => with_others(alloc, keys, a, b),
+        Sends::Any => with_others(keys, a, b),
         Sends::Known => Ok(keys),
         Sends::Listed => Ok(keys),
     }
 }
 
 /// The keys of A's entries, then the keys that B alone knows, then one that neither dictionary knows.
-fn with_others<A: Book, B: Book>(
-    alloc: Global,
-    keys: Vec<Key>,
-    a: &A,
-    b: &B,
-) -> Result<Vec<Key>, AllocError>
+fn with_others<A: Book, B: Book>(keys: Vec<Key>, a: &A, b: &B) -> Result<Vec<Key>, AllocError>
     requires { keys.items ≡ entry_keys (A.meaning a.now) }
     ensures { IfOk result (λ all. AreSentInOrder (A.meaning a.now) (B.meaning b.now) Sends.Any all.items) }
 {
     let mut all = keys;
-    all.extend_from_slice(&keys_of_b_alone(alloc, a, b)?)?;
+    push_keys_of_b_alone(&mut all, a, b)?;
     all.push(stranger(a, b))?;
     Ok(all)
 }
 
-/// The keys that B alone knows.
-fn keys_of_b_alone<A: Book, B: Book>(alloc: Global, a: &A, b: &B) -> Result<Vec<Key>, AllocError>
-    ensures { IfOk result (λ keys. keys.items ≡ keys_of_b_alone (A.meaning a.now) (B.meaning b.now)) }
+/// Adds the keys that B alone knows.
+fn push_keys_of_b_alone<A: Book, B: Book>(
+    keys: &mut Vec<Key>,
+    a: &A,
+    b: &B,
+) -> Result<(), AllocError>
+    ensures { OnOk result (keys.new.items ≡ keys.old.items ++ keys_of_b_alone (A.meaning a.now) (B.meaning b.now)) }
 {
-    let all = keys_of(alloc, b)?;
-    let mut keys = Vec::new(alloc);
-    for key in &all {
-        push_unknown(&mut keys, a, *key)?;
+    for index in 0..b.entries() {
+        push_unknown(keys, a, b.entry_key(b.entry_at(index)))?;
     }
-    Ok(keys)
+    Ok(())
 }
 
 /// Adds a key that A doesn't know.
