@@ -6,6 +6,9 @@ ghost use Rattle.dia_io.specs.declared.Input.{Input as AnyInput};
 ghost use Rattle.dia_io.specs.declared.RunFault.TheVariants.{Device, NoMemory};
 ghost use Rattle.dia_io.specs.Writing.{AppendsFront};
 ghost use Rattle.dia_accepted.specs.Accepted.{plain_entry};
+ghost use Rattle.dia_book.specs.Dictionary.{Dictionary, IsDictionary};
+ghost use Rattle.dia_breaking.specs.Sides.{sides};
+ghost use Rattle.dia_breaking.specs.Upgrades.{sides_of};
 ghost use Rattle.dia_upgrades.specs.Forms.{said};
 ghost use Rattle.dia_upgrades.specs.Begun.{IsBegun, IsBegunOrWhole};
 ghost use Rattle.dia_upgrades.specs.Lists.{IsListText, list_line};
@@ -126,8 +129,29 @@ fn compared<A: Book, B: Book, S: Sink>(
     ensures device { (result ≡ Err Device) ↔ IsTrue (S.has_failed sink.new) }
 {
     let upgrade = Upgrade::new(alloc, a, b, asked.sends, asked.unknown)?;
-    let seen = put_lines(alloc, sink, &upgrade, commands, asked, list)?;
-    ended(alloc, asked, &seen, sink)
+    compared_by(alloc, asked, list, &upgrade, commands, sink)
+}
+
+/// The same, by what is known of both.
+fn compared_by<A: Book, B: Book, S: Sink>(
+    alloc: Global,
+    asked: Asked<'_, '_>,
+    list: &[Entry],
+    upgrade: &Upgrade<'_, A, B>,
+    commands: &[usize],
+    sink: &mut S,
+) -> Result<Listed, RunFault>
+    requires sound { ¬ IsTrue (S.has_failed sink.old) }
+    requires places { All (λ place. place < length (sides_of upgrade.now).sender.commands) commands.now }
+    ensures answers { (input : AnyInput) (da db : Dictionary) → IsDictionary da
+        → sides_of upgrade.now ≡ sides da db asked.entry.sends asked.entry.unknown
+        → IsListText input (map plain_entry list.now) → CanAsk asked.entry da
+        → commands.now ≡ asked_places da (names_of asked.entry)
+        → Answers asked.entry input da db (S.written sink.old) (S.written sink.new) result }
+    ensures device { (result ≡ Err Device) ↔ IsTrue (S.has_failed sink.new) }
+{
+    let listing = put_lines(alloc, sink, upgrade, commands, asked, list)?;
+    ended(alloc, asked, &listing.seen, sink)
 }
 
 fn no_list_text(alloc: Global, form: Form<'_, '_>, bad: BadList) -> Result<String, AllocError>

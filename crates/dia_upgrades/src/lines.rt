@@ -1,6 +1,6 @@
 //! The lines of the commands, as they are found.
 
-ghost use Rattle.std.specs.Prelude.{◌≡◌, ◌<◌, ◌↔◌, ◌∷◌, All, Err, IfErr, IfOk, IsOk, IsTrue, OnOk, List, ℕ, Option, [], length, map, true, false};
+ghost use Rattle.std.specs.Prelude.{◌≡◌, ◌<◌, ◌↔◌, ◌∷◌, All, Bool, Err, IfErr, IfOk, IsOk, IsTrue, OnOk, List, ℕ, Option, [], length, map, true, false};
 ghost use Rattle.dia_breaking.specs.Upgrades.{facts_of, sides_of, stock_of};
 ghost use Rattle.dia_breaking.specs.Confirmed.{most_checked_together};
 ghost use Rattle.std.specs.Io.KnownBytes.{Appends};
@@ -43,26 +43,36 @@ pub(crate) fn put_lines<'l, A: Book, B: Book, S: Sink>(
     places: &[usize],
     asked: Asked<'_, '_>,
     list: &'l [Entry],
-) -> Result<Seen<'l>, RunFault>
+) -> Result<Box<Listing<'l>>, RunFault>
     requires sound { ¬ IsTrue (S.has_failed sink.old) }
     requires places { All (λ place. place < length (sides_of upgrade.now).sender.commands) places.now }
-    ensures all { IfOk result (AreAllPut (sides_of upgrade.now) asked.entry (map plain_entry list.now) places.now
-        (S.written sink.old) (S.written sink.new)) }
+    ensures all { IfOk result (λ listing. AreAllPut (sides_of upgrade.now) asked.entry (map plain_entry list.now) places.now
+        (S.written sink.old) (S.written sink.new) listing.value.seen) }
     ensures front { IfErr result (λ fault. (first : List PlainTold)
         × AreFirstLines (sides_of upgrade.now) asked.entry (map plain_entry list.now) places.now first
         × StandsPut fault (S.written sink.old) (S.written sink.new) (text_shown asked.entry first)) }
     ensures device { (result ≡ Err Device) ↔ IsTrue (S.has_failed sink.new) }
 {
     let forgets = are_distinct(alloc, places)?;
+    let mut listing = begun(alloc, list)?;
+    let found = put_commands(alloc, &mut listing, sink, upgrade, places, asked, forgets);
+    put_rest(&mut listing.pending, sink, found)?;
+    Ok(listing)
+}
+
+/// No line is listed yet. What is known of lines owns much, so it stands in a box.
+fn begun(alloc: Global, list: &[Entry]) -> Result<Box<Listing<'_>>, AllocError>
+    ensures budget { IfOk result (λ listing. listing.value.budget ≡ most_checked_together) }
+    ensures way { IfOk result (λ listing. (asked : AnyAsked) (forgets : Bool) (put : Option (List ℕ))
+        → IsUnderWay asked forgets (map plain_entry list.now) 0 0 put put listing.value [] []) }
+{
     let seen = Seen::new(alloc, list)?;
-    let mut listing = Listing {
+    let listing = Listing {
         seen,
         pending: Pending::new(alloc),
         budget: MOST_CHECKED_TOGETHER,
     };
-    let found = put_commands(alloc, &mut listing, sink, upgrade, places, asked, forgets);
-    put_rest(&mut listing.pending, sink, found)?;
-    Ok(listing.seen)
+    Ok(Box::new(alloc, listing)?)
 }
 
 /// Puts what is pending, unless the sink has failed.

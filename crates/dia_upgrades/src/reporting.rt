@@ -6,7 +6,7 @@ use dia_io::Exit;
 use dia_report::{BadInput, BothBooks};
 
 /// What was found of two dictionaries and a list of accepted lines.
-#[derive(Debug, Drop)]
+#[derive(Drop)]
 pub enum Found {
     /// What breaks was listed.
     Listed {
