@@ -105,3 +105,7 @@ leaf_adds level out new groups head bytes pad (Ok u) s (avp, read, is) =
     (record { outer = level.outer; bytes = level.bytes ++ avp }, rw read refl, subst (λ (t : List ℕ). Stands level.outer (level.bytes ++ avp) t groups) (sym is) (stands_more level.outer level.bytes out groups avp s))
 leaf_adds level out new groups head bytes pad (Err misread.NoMemory) s h = tt
 leaf_adds level out new groups head bytes pad (Err (misread.Fault kind)) s h = rw h refl
+
+-- the parts of a header, added one by one
+pub header_written : (old t1 t2 t3 t4 t5 a b c d e : List ℕ) → t1 ≡ old ++ a → t2 ≡ t1 ++ b → t3 ≡ t2 ++ c → t4 ≡ t3 ++ d → t5 ≡ t4 ++ e → t5 ≡ old ++ (a ++ b ++ c ++ d ++ e)
+header_written old t1 t2 t3 t4 t5 a b c d e e1 e2 e3 e4 e5 = rw (e5, e4, e3, e2, e1) (simp append_assoc)

@@ -1,6 +1,7 @@
 -- The lines of a level under way, with what is left of the levels round it in a list, the outermost first.
-use Rattle.std.proofs.Common.{◌≡◌, ℕ, ◌+◌, ◌-◌, ◌<◌, ◌≤◌, ◌↔◌, true, false, List, [], ◌∷◌, ◌++◌, length, take, drop, Bor, flat_map, refl, sym, ap, subst, ◌∙◌, append_assoc, append-nil, arith}
+use Rattle.std.proofs.Common.{◌≡◌, ℕ, ◌+◌, ◌-◌, ◌*◌, ◌<◌, ◌≤◌, ◌↔◌, true, false, List, [], ◌∷◌, ◌++◌, length, take, drop, Bor, flat_map, sum_by, refl, sym, ap, subst, ◌∙◌, append_assoc, append-nil, arith}
 use Rattle.std.specs.List.{AllByRecursion}
+use Rattle.std.proofs.lemmas.List.Sums.{sum_by-append}
 use Rattle.std.proofs.lemmas.List.{length-append, length-drop, append_cancel_left, take_all, take_at, flat_map_more}
 use Rattle.dia_wire.specs.Wire.{PlainAvp, Spells, SpellsAll, BeginsWith, BeginsWithNone, avp_length}
 use Rattle.dia_wire.proofs.Spelling.{one_spelling, opened, rounded-le, at_least_8}
@@ -45,6 +46,24 @@ room v level rest (front, s, parts) = omega (arith, length-level v level front r
 
 pub shorter : (v : PlainAvp) (level rest : List ℕ) → BeginsWith v level rest → length rest + length v.bytes < length level
 shorter v level rest begins = omega (arith, room v level rest begins, at_least_8 v.vendor)
+
+-- what is left to read, and how many levels wait
+abbrev pub left_to_read : List ℕ → List (Bor (List ℕ)) → ℕ
+left_to_read rest outer = 2 * (length rest + sum_by (λ (r : Bor (List ℕ)). length r.now) outer) + length outer
+
+pub less_behind : (v : PlainAvp) (level rest : List ℕ) (outer : List (Bor (List ℕ))) → BeginsWith v level rest → left_to_read rest outer < left_to_read level outer
+less_behind v level rest outer begins = omega (arith, shorter v level rest begins)
+
+pub less_inside : (v : PlainAvp) (level : List ℕ) (rest : Bor (List ℕ)) (outer waiting : List (Bor (List ℕ))) → BeginsWith v level rest.now → waiting ≡ outer ++ rest ∷ []
+    → left_to_read v.bytes waiting < left_to_read level outer
+less_inside v level rest outer waiting begins is =
+    let size = sum_by-append (λ (r : Bor (List ℕ)). length r.now) outer (rest ∷ []) in
+    rw is (omega (arith, size, shorter v level rest.now begins, length-append outer (rest ∷ [])))
+
+pub less_after : (level : List ℕ) (outer waiting : List (Bor (List ℕ))) (next : Bor (List ℕ)) → outer ≡ waiting ++ next ∷ [] → left_to_read next.now waiting < left_to_read level outer
+less_after level outer waiting next is =
+    let size = sum_by-append (λ (r : Bor (List ℕ)). length r.now) waiting (next ∷ []) in
+    rw is (omega (arith, size, length-append waiting (next ∷ [])))
 
 pub pad_of : (v : PlainAvp) (level rest part : List ℕ) (n : ℕ) → n ≡ avp_length v → part ≡ take (length level - length rest) level → BehindData v level rest (take (length part - n) (drop n part))
 pad_of v level rest part n is_length is_part = λ front s parts.

@@ -1,9 +1,10 @@
 -- Texts that are cut at a byte, and the bytes of parts one behind the other.
-use Rattle.std.proofs.Common.{◌≡◌, ℕ, ◌+◌, ◌≤◌, ◌==◌, if◌then◌else◌, false, true, List, [], ◌∷◌, ◌++◌, length, map, drop, append_assoc, append-nil, All, Bor, Option, Some, None, option_and_then, Result, Ok, Err, refl, sym, ap, ◌∙◌}
+use Rattle.std.proofs.Common.{◌≡◌, ℕ, ◌+◌, ◌≤◌, ◌^◌, ◌==◌, if◌then◌else◌, false, true, List, [], ◌∷◌, ◌++◌, length, map, take, drop, not, append_assoc, append-nil, All, Bor, Option, Some, None, option_and_then, Result, Ok, Err, refl, sym, ap, ◌∙◌, arith}
 use Rattle.std.specs.Prelude.{◌≢◌}
 use Rattle.std.specs.Option.{option_map}
-use Rattle.std.specs.List.{slice_split}
-use Rattle.std.proofs.lemmas.List.{map-append, drop_all, length-map}
+use Rattle.std.specs.List.{AllByRecursion, prefix_len, slice_split}
+use Rattle.std.proofs.lemmas.List.{map-append, drop_all, length-append, length-map, take_at, drop_at}
+use Rattle.std.proofs.lemmas.List.Elements.{recursion_from_All}
 use Rattle.std.proofs.lemmas.Bool.{ne_eqb, eq-eqb}
 use Rattle.std.proofs.lemmas.List.Splits.{slice_split_at, slice_split_none}
 use Rattle.dia_text.specs.declared.fault.Kind.{Kind}
@@ -11,7 +12,10 @@ use Rattle.dia_text.specs.declared.fault.Kind.TheVariants.{Value}
 use Rattle.dia_text.specs.declared.fault.Misread.{Misread}
 use Rattle.dia_text.specs.declared.fault.Misread.TheVariants as misread
 use Rattle.dia_text.specs.Reading.{some_or, Fails}
-use Rattle.dia_text.specs.Values.{each, decimal_byte, byte_pair, in_family, address_of}
+use Rattle.dia_text.specs.declared.keys.AvpCode.{AvpCode}
+use Rattle.dia_text.specs.Numbers.{number_below}
+use Rattle.dia_text.specs.Keys.{with_vendor, vendor_code}
+use Rattle.dia_text.specs.Values.{each, decimal_byte, byte_pair, in_family, address_of, unescaped, text_at}
 
 -- ---- texts that are cut
 
@@ -35,18 +39,29 @@ last_part byte found rest all =
     map-append (λ (x : Bor (List ℕ)). x.now) found (rest ∷ [])
     ∙ ap (λ (t : List (List ℕ)). map (λ (x : Bor (List ℕ)). x.now) found ++ t) (sym (slice_split_none (λ b. b == byte) rest.now (λ k d lt. other_byte _ byte (all k d lt))))
 
--- ---- the bytes of parts
+-- ---- the first such byte
 
-abbrev pub onto : List ℕ → Option (List ℕ) → Option (List ℕ)
-onto front o = option_map (λ rest. front ++ rest) o
+-- where it stands, and what is in front of it and behind it
+pub first_byte : (byte : ℕ) (text front behind : List ℕ) → text ≡ front ++ byte ∷ behind → All (λ c. c ≢ byte) front
+    → (prefix_len (λ c. not (c == byte)) text ≡ length front) × ((length front == length text) ≡ false) × (take (length front) text ≡ front) × (drop (length front + 1) text ≡ behind)
+first_byte byte text front behind is others = (
+  ap (prefix_len (λ c. not (c == byte))) is ∙ up_to front (recursion_from_All (λ c. c ≢ byte) front others),
+  ne_eqb (length front) (length text) (λ e. omega (arith, e, ap length is, length-append front (byte ∷ behind))),
+  ap (take (length front)) is ∙ take_at front (byte ∷ behind) (length front) refl,
+  ap (drop (length front + 1)) (is ∙ sym (append_assoc front (byte ∷ []) behind))
+      ∙ drop_at (front ++ byte ∷ []) behind (length front + 1) (omega (arith, length-append front (byte ∷ []))),
+)
+  where
+    up_to : (front : List ℕ) → AllByRecursion (λ c. c ≢ byte) front → prefix_len (λ c. not (c == byte)) (front ++ byte ∷ behind) ≡ length front
+    up_to [] others = rw (same_byte byte) refl
+    up_to (c ∷ front) others = rw (other_byte c byte others.0, up_to front others.1) (omega arith)
 
-onto-onto : (a b : List ℕ) (o : Option (List ℕ)) → onto a (onto b o) ≡ onto (a ++ b) o
-onto-onto a b None = refl
-onto-onto a b (Some bytes) = ap Some (sym (append_assoc a b bytes))
-
-onto-nothing : (o : Option (List ℕ)) → o ≡ onto [] o
-onto-nothing None = refl
-onto-nothing (Some bytes) = refl
+pub no_such_byte : (byte : ℕ) (text : List ℕ) → All (λ c. c ≢ byte) text → (prefix_len (λ c. not (c == byte)) text == length text) ≡ true
+no_such_byte byte text others = eq-eqb _ _ (whole text (recursion_from_All (λ c. c ≢ byte) text others))
+  where
+    whole : (text : List ℕ) → AllByRecursion (λ c. c ≢ byte) text → prefix_len (λ c. not (c == byte)) text ≡ length text
+    whole [] others = refl
+    whole (c ∷ text) others = rw (other_byte c byte others.0, whole text others.1) (omega arith)
 
 some_read : (o : Option (List ℕ)) (bytes : List ℕ) → some_or o Value ≡ Ok bytes → o ≡ Some bytes
 some_read None bytes is = absurd (let e : Err Value ≡ Ok bytes = is in cc)
@@ -59,6 +74,58 @@ some_read (Some b) bytes is = ap (λ (r : Result (List ℕ) Kind). read r) is
 none_read : (o : Option (List ℕ)) (kind : Kind) → some_or o Value ≡ Err kind → (o ≡ None) × (kind ≡ Value)
 none_read None kind is = (refl, let e : Err Value ≡ Err kind = is in cc)
 none_read (Some b) kind is = absurd (let e : Ok b ≡ Err kind = is in cc)
+
+abbrev vendor_cut : ℕ → List ℕ → Option AvpCode
+vendor_cut at word =
+    if at == length word then None
+    else option_and_then (λ code. option_map (with_vendor code) (number_below (2 ^ 32) (drop (at + 1) word))) (number_below (2 ^ 32) (take at word))
+
+pub code_and_vendor : (word code vendor : List ℕ) (a b : Option ℕ) → word ≡ code ++ 47 ∷ vendor → All (λ c. c ≢ 47) code → a ≡ number_below (2 ^ 32) code → b ≡ number_below (2 ^ 32) vendor
+    → vendor_code word ≡ option_and_then (λ n. option_map (with_vendor n) b) a
+code_and_vendor word code vendor a b is others is_code is_vendor =
+    let (at, within, front, behind) = first_byte 47 word code vendor is others in
+    ap (λ (n : ℕ). vendor_cut n word) at ∙ rw (within, front, behind, sym is_code, sym is_vendor) refl
+
+pub no_vendor : (word : List ℕ) → All (λ c. c ≢ 47) word → vendor_code word ≡ None
+no_vendor word others = rw (no_such_byte 47 word others) refl
+
+abbrev text_cut : ℕ → List ℕ → Option (List ℕ × List ℕ)
+text_cut at text = if at == length text then None else option_map (λ bytes. (bytes, drop (at + 1) text)) (unescaped (slice_split (λ c. c == 92) (take at text)))
+
+pub quoted_text : (text quoted behind : List ℕ) → text ≡ quoted ++ 34 ∷ behind → All (λ c. c ≢ 34) quoted
+    → text_at text ≡ option_map (λ bytes. (bytes, behind)) (unescaped (slice_split (λ c. c == 92) quoted))
+quoted_text text quoted behind is others =
+    let (at, within, front, rest) = first_byte 34 text quoted behind is others in
+    ap (λ (n : ℕ). text_cut n text) at ∙ rw (within, front, rest) refl
+
+pub no_quoted_text : (text : List ℕ) → All (λ c. c ≢ 34) text → text_at text ≡ None
+no_quoted_text text others = rw (no_such_byte 34 text others) refl
+
+-- the bytes of a text, and what is behind it
+pub text_read : (text quoted behind bytes : List ℕ) → text ≡ quoted ++ 34 ∷ behind → All (λ c. c ≢ 34) quoted → some_or (unescaped (slice_split (λ c. c == 92) quoted)) Value ≡ Ok bytes
+    → some_or (text_at text) Value ≡ Ok (bytes, behind)
+text_read text quoted behind bytes is others read =
+    ap (λ (o : Option (List ℕ × List ℕ)). some_or o Value) (quoted_text text quoted behind is others ∙ ap (option_map (λ (b : List ℕ). (b, behind))) (some_read _ bytes read))
+
+pub text_refused : (text quoted behind : List ℕ) (e : Misread) → text ≡ quoted ++ 34 ∷ behind → All (λ c. c ≢ 34) quoted → Fails e (some_or (unescaped (slice_split (λ c. c == 92) quoted)) Value)
+    → Fails e (some_or (text_at text) Value)
+text_refused text quoted behind misread.NoMemory is others fails = tt
+text_refused text quoted behind (misread.Fault kind) is others fails =
+    let (none, is_value) = none_read _ kind fails in
+    ap (λ (o : Option (List ℕ × List ℕ)). some_or o Value) (quoted_text text quoted behind is others ∙ ap (option_map (λ (b : List ℕ). (b, behind))) none) ∙ ap (λ (k : Kind). Err k) (sym is_value)
+
+-- ---- the bytes of parts
+
+abbrev pub onto : List ℕ → Option (List ℕ) → Option (List ℕ)
+onto front o = option_map (λ rest. front ++ rest) o
+
+onto-onto : (a b : List ℕ) (o : Option (List ℕ)) → onto a (onto b o) ≡ onto (a ++ b) o
+onto-onto a b None = refl
+onto-onto a b (Some bytes) = ap Some (sym (append_assoc a b bytes))
+
+onto-nothing : (o : Option (List ℕ)) → o ≡ onto [] o
+onto-nothing None = refl
+onto-nothing (Some bytes) = refl
 
 -- the parts are read up to one of them
 abbrev pub IsReadUpTo : (List ℕ → Option (List ℕ)) → List (List ℕ) → ℕ → List ℕ → List ℕ → Type 0

@@ -1,8 +1,14 @@
 -- The pieces of a line, added one after the other.
-use Rattle.std.proofs.Common.{◌≡◌, ℕ, List, [], ◌∷◌, ◌++◌, codes, refl, sym, ap, ◌∙◌, append_assoc, append-nil}
+use Rattle.std.proofs.Common.{◌≡◌, ℕ, ◌<◌, ◌&&◌, nat_eq, not, Bool, true, false, List, [], ◌∷◌, ◌++◌, length, Option, Some, None, Result, Ok, Err, if◌then◌else◌, codes, refl, sym, ap, ◌∙◌, append_assoc, append-nil, arith}
+use Rattle.std.specs.Prelude.{IfSome, OnOk, is_none, is_ok, slice_get}
+use Rattle.std.specs.Option.{option_eq}
 use Rattle.dia_data.specs.Shown.{hex_byte}
-use Rattle.dia_text.specs.LineTexts.{spaced}
+use Rattle.dia_book.specs.Dictionary.{DictEntry}
+use Rattle.dia_text.specs.declared.keys.AvpCode.{AvpCode}
+use Rattle.dia_text.specs.Keys.{numbered}
+use Rattle.dia_text.specs.LineTexts.{code_text, name_or_code, spaced}
 use Rattle.dia_text.specs.TextOf.{fed}
+use Rattle.dia_text.proofs.SetsOfNames.{get_none}
 
 spaced_both : (a b : List (List ℕ)) → spaced (a ++ b) ≡ spaced a ++ spaced b
 spaced_both [] b = refl
@@ -19,6 +25,11 @@ open_joined t w f b z = simp append_assoc
 
 leaf_joined : (t w f a v p z : List ℕ) → (((((t ++ w) ++ f) ++ a) ++ v) ++ p) ++ z ≡ t ++ ((w ++ (f ++ (a ++ (v ++ p)))) ++ z)
 leaf_joined t w f a v p z = simp append_assoc
+
+-- what the last call of a function adds
+pub last_pushed : {X E : Type 0} (r : Result X E) (new more same : List ℕ) → new ≡ (if is_ok r then more else same) → OnOk r (new ≡ more)
+last_pushed (Ok x) new more same is = is
+last_pushed (Err e) new more same is = tt
 
 -- a blank, a word, a blank and another
 pub words_pushed : (t t1 t2 t3 t4 k n : List ℕ) → t1 ≡ t ++ (32 ∷ []) → t2 ≡ t1 ++ k → t3 ≡ t2 ++ (32 ∷ []) → t4 ≡ t3 ++ n → t4 ≡ t ++ spaced (k ∷ n ∷ [])
@@ -54,3 +65,23 @@ leaf_pushed t t1 t2 t3 t4 t5 w v fs ps e1 e2 e3 e4 e5 =
 
 pub flags_pushed : (t t1 t2 : List ℕ) (n : ℕ) → t1 ≡ t ++ codes " flags " → t2 ≡ t1 ++ hex_byte n → t2 ≡ t ++ spaced (codes "flags" ∷ hex_byte n ∷ [])
 flags_pushed t t1 t2 n e1 e2 = e2 ∙ ap (λ (x : List ℕ). x ++ hex_byte n) e1 ∙ append_assoc t (codes " flags ") (hex_byte n)
+
+-- ---- the word of an AVP
+
+pub named_word : (c : AvpCode) (es : List DictEntry) (i : ℕ) (known : Option DictEntry) (name : List ℕ) → i < length es → slice_get es i ≡ known → IfSome (slice_get es i) (λ e. name ≡ e.name)
+    → (not (option_eq nat_eq c.vendor (Some 0)) && is_none (numbered name)) ≡ true → name ≡ name_or_code c known
+named_word c es i known name within is named has = by (slice_get es i) refl named ∙ ap (name_or_code c) is
+  where
+    by : (o : Option DictEntry) → slice_get es i ≡ o → IfSome o (λ e. name ≡ e.name) → name ≡ name_or_code c o
+    by None none named = absurd (let beyond = get_none es i none in omega (arith, within, beyond))
+    by (Some e) there named =
+        named ∙ sym (ap (λ (b : Bool). if b then e.name else code_text c) (ap (λ (n : List ℕ). not (option_eq nat_eq c.vendor (Some 0)) && is_none (numbered n)) (sym named) ∙ has))
+
+pub coded_word : (c : AvpCode) (o known : Option DictEntry) (name : List ℕ) → o ≡ known → IfSome o (λ e. name ≡ e.name)
+    → (not (option_eq nat_eq c.vendor (Some 0)) && is_none (numbered name)) ≡ false → code_text c ≡ name_or_code c known
+coded_word c o known name is named has = by o named ∙ ap (name_or_code c) is
+  where
+    by : (o : Option DictEntry) → IfSome o (λ e. name ≡ e.name) → code_text c ≡ name_or_code c o
+    by None named = refl
+    by (Some e) named =
+        sym (ap (λ (b : Bool). if b then e.name else code_text c) (ap (λ (n : List ℕ). not (option_eq nat_eq c.vendor (Some 0)) && is_none (numbered n)) (sym named) ∙ has))

@@ -20,7 +20,7 @@ text_of n = n.now
 
 -- ---- names that are put in
 
-get_none : {X : Type 0} (xs : List X) (i : ℕ) → slice_get xs i ≡ None → length xs ≤ i
+pub get_none : {X : Type 0} (xs : List X) (i : ℕ) → slice_get xs i ≡ None → length xs ≤ i
 get_none [] i e = omega arith
 get_none (x ∷ xs) zero e = absurd (let z : Some x ≡ None = e in cc)
 get_none (x ∷ xs) (suc i) e = let r = get_none xs i e in omega (arith, r)

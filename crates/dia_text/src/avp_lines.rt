@@ -26,8 +26,7 @@ pub(crate) fn push_open<B: Book>(
         ++ fed (open_line (B.meaning book.now) (plain_avp avp.now))) }
 {
     push_head(text, book, code, avp.flags)?;
-    text.push_str(" {\n")?;
-    Ok(())
+    text.push_str(" {\n")
 }
 
 /// Adds the line of an AVP with its data.
@@ -46,8 +45,7 @@ pub(crate) fn push_leaf<B: Book>(
     text.push_str(" ")?;
     push_value_word(text, format_at(book, code), avp.bytes)?;
     push_pad(text, avp.length(), pad)?;
-    text.push_str("\n")?;
-    Ok(())
+    text.push_str("\n")
 }
 
 /// Adds the word of an AVP, and its flags.
@@ -62,8 +60,7 @@ fn push_head<B: Book>(
         ++ spaced (flags_words (Some (default_flags (B.meaning book.now) code.now)) flags)) }
 {
     push_word(text, book, code)?;
-    push_flags(text, Some(default_flags(book, code)), flags)?;
-    Ok(())
+    push_flags(text, Some(default_flags(book, code)), flags)
 }
 
 /// Adds the dictionary's name of an AVP, or its code.
@@ -72,16 +69,13 @@ fn push_word<B: Book>(text: &mut String, book: &B, code: &AvpCode) -> Result<(),
         ≡ string_bytes text.old ++ avp_word (B.meaning book.now) code.now) }
 {
     let Some(entry) = entry(book, code) else {
-        push_code(text, code)?;
-        return Ok(());
+        return push_code(text, code);
     };
     let name = book.entry_name(entry);
     if has_name(code, name) {
-        text.push_str(name)?;
-        Ok(())
+        text.push_str(name)
     } else {
-        push_code(text, code)?;
-        Ok(())
+        push_code(text, code)
     }
 }
 
@@ -103,6 +97,5 @@ fn push_code(text: &mut String, code: &AvpCode) -> Result<(), AllocError>
         return Ok(());
     };
     text.push_str("/")?;
-    push_decimal(text, u64::from(vendor))?;
-    Ok(())
+    push_decimal(text, u64::from(vendor))
 }

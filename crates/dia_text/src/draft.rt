@@ -1,5 +1,5 @@
 //! A message under way.
-ghost use Rattle.std.specs.Prelude.{◌≡◌, ◌<◌, ◌≤◌, ◌+◌, ◌^◌, ◌++◌, IfOk, OnOk};
+ghost use Rattle.std.specs.Prelude.{◌≡◌, ◌<◌, ◌≤◌, ◌+◌, ◌^◌, ◌++◌, ◌∷◌, IfOk, OnOk};
 ghost use Rattle.std.specs.Prelude.{length, take, drop, vec_len};
 ghost use Rattle.std.specs.Option.{option_map};
 ghost use Rattle.byteorder.specs.Endian.{big_bytes};
@@ -93,8 +93,7 @@ fn push_front(out: &mut Vec<u8>, head: &Head, length: u32) -> Result<(), AllocEr
     ensures { OnOk result (out.new.items ≡ out.old.items ++ front_bytes head.now length) }
 {
     push_u32(out, head.code.code)?;
-    out.extend_from_slice(&[head.flags])?;
-    push_u24(out, length)?;
+    push_byte_and_u24(out, head.flags, length)?;
     match head.code.vendor {
         Some(vendor) => push_u32(out, vendor),
         None => Ok(()),
@@ -134,12 +133,14 @@ pub(crate) fn push_u32(out: &mut Vec<u8>, number: u32) -> Result<(), AllocError>
     out.extend_from_slice(&bytes)
 }
 
-pub(crate) fn push_u24(out: &mut Vec<u8>, number: u32) -> Result<(), AllocError>
+/// Adds a byte, and a number of three bytes behind it.
+pub(crate) fn push_byte_and_u24(out: &mut Vec<u8>, byte: u8, number: u32) -> Result<(), AllocError>
     requires { number < 2 ^ 24 }
-    ensures { OnOk result (out.new.items ≡ out.old.items ++ big_bytes 3 number) }
+    ensures { OnOk result (out.new.items ≡ out.old.items ++ byte ∷ big_bytes 3 number) }
 {
     let mut bytes = [0; 3];
     BigEndian::write_u24(&mut bytes, number);
+    out.extend_from_slice(&[byte])?;
     out.extend_from_slice(&bytes)
 }
 

@@ -24,17 +24,10 @@ pub(crate) fn push_header<B: Book>(
         ≡ string_bytes text.old ++ fed (header_line (B.meaning book.now) header.now)) }
 {
     match named_by(book, header) {
-        Some(definition) => {
-            push_named(text, header, definition)?;
-            text.push_str("\n")?;
-            Ok(())
-        }
-        None => {
-            push_by_code(text, header)?;
-            text.push_str("\n")?;
-            Ok(())
-        }
+        Some(definition) => push_named(text, header, definition)?,
+        None => push_by_code(text, header)?,
     }
+    text.push_str("\n")
 }
 
 /// The first command of the dictionary that serves the header.
@@ -98,13 +91,9 @@ fn push_named(text: &mut String, header: &Header, definition: &Definition) -> Re
     match start_of(&definition.head) {
         Some(start) => {
             text.push_str(definition.name.as_str())?;
-            push_fields(text, header, &start)?;
-            Ok(())
+            push_fields(text, header, &start)
         }
-        None => {
-            push_by_code(text, header)?;
-            Ok(())
-        }
+        None => push_by_code(text, header),
     }
 }
 
@@ -118,8 +107,7 @@ fn push_by_code(text: &mut String, header: &Header) -> Result<(), AllocError>
     };
     text.push_str("code ")?;
     push_decimal(text, u64::from(header.code))?;
-    push_fields(text, header, &start)?;
-    Ok(())
+    push_fields(text, header, &start)
 }
 
 /// Adds what the header says besides.
@@ -130,6 +118,5 @@ fn push_fields(text: &mut String, header: &Header, start: &Start) -> Result<(), 
     push_flags(text, start.flags, header.flags)?;
     push_app(text, start.app, header.app)?;
     push_number(text, "hop", header.hop)?;
-    push_number(text, "end", header.e2e)?;
-    Ok(())
+    push_number(text, "end", header.e2e)
 }

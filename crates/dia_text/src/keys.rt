@@ -1,17 +1,17 @@
 //! The first word of an AVP's line, and what the dictionary says of the AVP.
-ghost use Rattle.std.specs.Prelude.{◌≡◌, ◌<◌, ◌≤◌, ◌^◌, length};
+ghost use Rattle.std.specs.Prelude.{◌≡◌, ◌<◌, ◌≤◌, length};
 ghost use Rattle.std.specs.Prelude.{option_and_then, slice_get, IfSome};
 ghost use Rattle.std.specs.Option.{option_map};
-ghost use Rattle.std.specs.List.{prefix_len};
 ghost use Rattle.dia_data.specs.Plain.{plain_format};
 ghost use Rattle.dia_text.specs.Reading.{Gives};
-ghost use Rattle.dia_text.specs.Keys.{numbered, vendor_code, is_no_slash};
+ghost use Rattle.dia_text.specs.Keys.{numbered, vendor_code};
 ghost use Rattle.dia_text.specs.Keys.{code_of_key, code_of};
 ghost use Rattle.dia_text.specs.Keys.{entry_at, format_at, m_flag, default_flags};
 
 use crate::fault::{Kind, Misread};
 use crate::names::NamedBook;
 use crate::numbers::number32;
+use crate::splitting::split_once;
 use dia_book::{Book, Entry, Format, Key, MRule};
 use dia_wire::{AVP_MANDATORY, AVP_VENDOR};
 
@@ -47,23 +47,13 @@ pub(crate) fn numbered(word: &[u8]) -> Option<AvpCode>
 fn vendor_code(word: &[u8]) -> Option<AvpCode>
     ensures { result ≡ vendor_code word.now }
 {
-    let at = slash_place(word);
-    if at == word.len() {
-        return None;
-    }
-    let code = number32(&word[..at])?;
-    let vendor = number32(&word[at + 1..])?;
+    let (code, vendor) = split_once(b'/', word)?;
+    let code = number32(code)?;
+    let vendor = number32(vendor)?;
     Some(AvpCode {
         code,
         vendor: Some(vendor),
     })
-}
-
-fn slash_place(word: &[u8]) -> usize
-    ensures at { result ≡ prefix_len is_no_slash word.now }
-    ensures within { result ≤ length word.now }
-{
-    word.iter().take_while(|b| **b != b'/').count()
 }
 
 fn code_of_key(key: &Key) -> AvpCode

@@ -6,7 +6,7 @@ ghost use Rattle.dia_text.specs.Drafts.{Level, Stands, IsAdded};
 ghost use Rattle.dia_text.specs.Made.{lines, made, body_from, no_level, finished};
 ghost use Rattle.dia_text.specs.Made.{line_added, placed, IsMade, IsBegun, IsWithin, message_from};
 
-use crate::draft::{Opened, add, push_u24, push_u32};
+use crate::draft::{Opened, add, push_byte_and_u24, push_u32};
 use crate::fault::{Fault, Kind, Misread, NotMade};
 use crate::lines::{header_of, line_of};
 use crate::names::NamedBook;
@@ -14,6 +14,9 @@ use crate::splitting::split;
 use dia_book::Book;
 use dia_wire::{HEADER_LENGTH, Header};
 use std::alloc::{AllocError, Global};
+
+/// The version of each message that is made (RFC 6733 section 3).
+const VERSION: u8 = 1;
 
 /// The message that a text writes, over this dictionary; or the first line that no message goes on with.
 pub fn make<B: Book>(alloc: Global, book: &B, text: &[u8]) -> Result<Vec<u8>, NotMade>
@@ -153,12 +156,9 @@ fn push_header(out: &mut Vec<u8>, header: &Header, length: u32) -> Result<(), Al
     requires small { length < 2 ^ 24 }
     ensures { OnOk result (out.new.items ≡ out.old.items ++ header_bytes header.now length) }
 {
-    out.extend_from_slice(&[1])?;
-    push_u24(out, length)?;
-    out.extend_from_slice(&[header.flags])?;
-    push_u24(out, header.code)?;
+    push_byte_and_u24(out, VERSION, length)?;
+    push_byte_and_u24(out, header.flags, header.code)?;
     push_u32(out, header.app)?;
     push_u32(out, header.hop)?;
-    push_u32(out, header.e2e)?;
-    Ok(())
+    push_u32(out, header.e2e)
 }

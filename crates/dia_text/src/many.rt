@@ -139,8 +139,7 @@ fn push_digits(out: &mut String, bytes: &[u8]) -> Result<(), AllocError>
     ensures { OnOk result (string_bytes out.new ≡ string_bytes out.old ++ digits_line bytes.now) }
 {
     push_pairs(out, bytes)?;
-    out.push_str("\n")?;
-    Ok(())
+    out.push_str("\n")
 }
 
 fn push_pairs(out: &mut String, bytes: &[u8]) -> Result<(), AllocError>

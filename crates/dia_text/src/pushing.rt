@@ -25,8 +25,7 @@ pub(crate) fn push_flags(
         return Ok(());
     }
     text.push_str(" flags ")?;
-    push_hex_byte(text, flags)?;
-    Ok(())
+    push_hex_byte(text, flags)
 }
 
 fn is_default(default: Option<u8>, flags: u8) -> bool
@@ -46,8 +45,7 @@ pub(crate) fn push_app(text: &mut String, default: Option<u32>, app: u32) -> Res
     if is_default_app(default, app) {
         return Ok(());
     }
-    push_number(text, "app", app)?;
-    Ok(())
+    push_number(text, "app", app)
 }
 
 fn is_default_app(default: Option<u32>, app: u32) -> bool
@@ -67,8 +65,7 @@ pub(crate) fn push_number(text: &mut String, keyword: &str, number: u32) -> Resu
     text.push_str(" ")?;
     text.push_str(keyword)?;
     text.push_str(" ")?;
-    push_decimal(text, u64::from(number))?;
-    Ok(())
+    push_decimal(text, u64::from(number))
 }
 
 /// Adds what stands behind an AVP of this length, unless it is zero bytes up to a multiple of four.
@@ -80,8 +77,7 @@ pub(crate) fn push_pad(text: &mut String, length: usize, pad: &[u8]) -> Result<(
         return Ok(());
     }
     text.push_str(" pad ")?;
-    push_hexadecimal(text, pad)?;
-    Ok(())
+    push_hexadecimal(text, pad)
 }
 
 fn is_padding(length: usize, pad: &[u8]) -> bool
@@ -116,8 +112,7 @@ fn push_known(text: &mut String, format: &Format, bytes: &[u8]) -> Result<(), Al
     if accepts(format, bytes) == Leaf::Fine {
         push_value(text, format, bytes)
     } else {
-        push_hexadecimal(text, bytes)?;
-        Ok(())
+        push_hexadecimal(text, bytes)
     }
 }
 
@@ -125,6 +120,5 @@ fn push_hexadecimal(text: &mut String, bytes: &[u8]) -> Result<(), AllocError>
     ensures { OnOk result (string_bytes text.new
         ≡ string_bytes text.old ++ hexadecimal bytes.now) }
 {
-    push_value(text, &Format::OctetString, bytes)?;
-    Ok(())
+    push_value(text, &Format::OctetString, bytes)
 }

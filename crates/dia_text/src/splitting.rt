@@ -21,7 +21,7 @@ pub(crate) fn split(alloc: Global, byte: u8, text: &[u8]) -> Result<Vec<&[u8]>, 
 }
 
 /// What is in front of the first such byte, and what is behind it.
-fn split_once(byte: u8, text: &[u8]) -> Option<(&[u8], &[u8])>
+pub(crate) fn split_once(byte: u8, text: &[u8]) -> Option<(&[u8], &[u8])>
     ensures some { IfSome result
         (λ parts. text.entry.now ≡ parts.0.now ++ byte ∷ parts.1.now) }
     ensures part { IfSome result (λ parts. All (λ c. c ≢ byte) parts.0.now) }

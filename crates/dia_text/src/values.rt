@@ -1,7 +1,7 @@
 //! The data that a value writes.
-ghost use Rattle.std.specs.Prelude.{◌≡◌, ◌==◌, ◌<◌, ◌≤◌, ◌^◌, ◌++◌, IfSome, length, map, option_copied};
+ghost use Rattle.std.specs.Prelude.{◌≡◌, ◌==◌, ◌<◌, ◌^◌, ◌++◌, IfSome, map, option_copied};
 ghost use Rattle.std.specs.Option.{option_map};
-ghost use Rattle.std.specs.List.{prefix_len, slice_split};
+ghost use Rattle.std.specs.List.{slice_split};
 ghost use Rattle.dia_data.specs.Plain.{plain_format};
 ghost use Rattle.dia_text.specs.declared.fault.Kind.TheVariants.{Value};
 ghost use Rattle.dia_text.specs.Words.{unblanked};
@@ -9,13 +9,13 @@ ghost use Rattle.dia_text.specs.Fields.{behind_letter};
 ghost use Rattle.dia_text.specs.Reading.{Gives, some_or};
 ghost use Rattle.dia_text.specs.Values.{value_at, words_at, text_at, family_at, value_of, formatted};
 ghost use Rattle.dia_text.specs.Values.{number_bytes, address_of, in_family, each, unescaped};
-ghost use Rattle.dia_text.specs.Values.{may_be_text, is_address, is_no_quote};
+ghost use Rattle.dia_text.specs.Values.{may_be_text, is_address};
 ghost use Rattle.dia_text.specs.ValueParts.{part_bytes};
 
 use crate::fault::{Kind, Misread};
 use crate::fields::{behind_letter, bytes_of};
 use crate::numbers::{number_below, number_of, signed_below};
-use crate::splitting::split;
+use crate::splitting::{split, split_once};
 use crate::value_parts::{Part, push_parts};
 use crate::words::{next_word, without_blanks};
 use byteorder::{BigEndian, ByteOrder};
@@ -67,19 +67,11 @@ fn may_be_text(format: Option<&Format>) -> bool
 fn text_at(alloc: Global, text: &[u8]) -> Result<(Vec<u8>, &[u8]), Misread>
     ensures { Gives (λ x. (x.0.items, x.1.now)) result (some_or (text_at text.entry.now) Value) }
 {
-    let at = quote_place(text);
-    if at == text.len() {
+    let Some((quoted, rest)) = split_once(b'"', text) else {
         return Err(Misread::Fault(Kind::Value));
-    }
-    let bytes = unescaped(alloc, &text[..at])?;
-    Ok((bytes, &text[at + 1..]))
-}
-
-fn quote_place(text: &[u8]) -> usize
-    ensures at { result ≡ prefix_len is_no_quote text.now }
-    ensures within { result ≤ length text.now }
-{
-    text.iter().take_while(|b| **b != b'"').count()
+    };
+    let bytes = unescaped(alloc, quoted)?;
+    Ok((bytes, rest))
 }
 
 /// The bytes of a text between its quotes.

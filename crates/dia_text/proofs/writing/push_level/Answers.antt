@@ -1,5 +1,5 @@
 use Rattle.std.proofs.Common.{refl, sym, ◌∙◌}
-use Rattle.dia_text.proofs.LevelTexts.{started, leaf_written, group_entered, level_ended, all_ended, bad_found}
+use Rattle.dia_text.proofs.LevelTexts.{started, leaf_written, group_entered, level_ended, all_ended, bad_found, less_inside, less_behind, less_after}
 use Rattle.dia_text.proofs.writing.push_level.Goals as goal
 
 pub loop-avp-init : goal.loop-avp-init
@@ -30,3 +30,13 @@ returns-in-None-clause-lines g c =
 
 pub returns-in-Err-Length-clause-refused : goal.returns-in-Err-Length-clause-refused
 returns-in-Err-Length-clause-refused g c = bad_found _ _ _ _ _ _ c.loop-avp.invariant c.in-Err-Length.ensures.fault.0 c.in-Err-Length.ensures.fault.1
+
+pub loop-avp-smaller-then-is_open : goal.loop-avp-smaller-then-is_open
+loop-avp-smaller-then-is_open g c =
+    less_inside _ _ c.in-Ok-Some.behind c.loop-avp.outer.items _ (rw c.in-Ok-Some.field-0-is at c.in-Ok-Some.ensures.avp) c.in_ok-push-in-Ok-Some.ensures.items
+
+pub loop-avp-smaller-else-is_open : goal.loop-avp-smaller-else-is_open
+loop-avp-smaller-else-is_open g c = less_behind _ _ _ c.loop-avp.outer.items (rw c.in-Ok-Some.field-0-is at c.in-Ok-Some.ensures.avp)
+
+pub loop-avp-smaller : goal.loop-avp-smaller
+loop-avp-smaller g c = less_after _ c.loop-avp.outer.items _ _ c.in-Some.ensures.items

@@ -10,7 +10,7 @@ use Rattle.dia_text.proofs.names.NamedBook.command.Goals as goal
 pub returns-in_err-place : goal.returns-in_err-place
 returns-in_err-place g c =
     let named = c.self.inside in
-    let found = found_at (λ (x : PlainDefinition). x.name) (g.B.Book.meaning named.book.now).commands named.commands.value.keys c.args.name.now _ c.self.invariant.1
+    let found = found_at (λ (x : PlainDefinition). x.name) (g.B.Book.meaning named.book.now).commands named.names.value.commands.keys c.args.name.now _ c.self.invariant.1
     (rw c.deref.ensures at c.in_err-place.ensures.index) in
     ap (option_map (λ definition. plain_definition definition.now)) c.from_residual.ensures ∙ sym found
     ∙ ap (λ (d : Dictionary). command_named d c.args.name.now) c.self.view_is
@@ -19,7 +19,7 @@ pub returns : goal.returns
 returns g c =
     let named = c.self.inside in
     let d = g.B.Book.meaning named.book.now in
-    let found = found_at (λ (x : PlainDefinition). x.name) d.commands named.commands.value.keys c.args.name.now _ c.self.invariant.1
+    let found = found_at (λ (x : PlainDefinition). x.name) d.commands named.names.value.commands.keys c.args.name.now _ c.self.invariant.1
     (rw c.deref.ensures at c.in_ok-place.ensures.index) in
     let at = sym (slice_get-append_right (groups d) d.commands c.in_ok-place.place) ∙ ap (slice_get (definitions d)) (sym c.command_at.ensures) ∙ c.def.ensures in
     sym (found ∙ at) ∙ ap (λ (e : Dictionary). command_named e c.args.name.now) c.self.view_is

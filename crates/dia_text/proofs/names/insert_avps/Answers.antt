@@ -1,7 +1,7 @@
 use Rattle.std.proofs.Common.{◌<◌, length, map, ap, sym, ◌∙◌, arith, Some, ℕ, List}
 use Rattle.dia_book.specs.Dictionary.{DictEntry}
 use Rattle.dia_text.proofs.SetsOfNames.{one_more, distinct_names, read_at}
-use Rattle.dia_text.proofs.names.names_of_avps.Goals as goal
+use Rattle.dia_text.proofs.names.insert_avps.Goals as goal
 
 pub loop-index-preserved : goal.loop-index-preserved
 loop-index-preserved g c =

@@ -4,7 +4,7 @@ use Rattle.dia_book.specs.Dictionary.{PlainDefinition, plain_definition, groups,
 use Rattle.dia_book.proofs.Members.{into_map}
 use Rattle.dia_book.proofs.NumberedGroups.{slice_get-append_right}
 use Rattle.dia_text.proofs.SetsOfNames.{one_more, distinct_names}
-use Rattle.dia_text.proofs.names.names_of_commands.Goals as goal
+use Rattle.dia_text.proofs.names.insert_commands.Goals as goal
 
 pub loop-index-preserved : goal.loop-index-preserved
 loop-index-preserved g c =
