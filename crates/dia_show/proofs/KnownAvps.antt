@@ -69,6 +69,18 @@ leaf_added m d place depth v i f name old front new is_i is_name is_format no_gr
       | inr (past, none) ↦ absurd (omega (arith, past, position-within (λ (e : DictEntry). same_key (key_of v) e.key) d.entries i (sym is_i)))
     ]
 
+told_joined : (old name blank told end : List ℕ) → (((old ++ name) ++ blank) ++ told) ++ end ≡ old ++ ((name ++ blank ++ told) ++ end)
+told_joined old name blank told end = simp append_assoc
+
+-- the name and the data, which end a line
+pub told_behind : (m : Manner) (name : List ℕ) (format : PlainFormat) (bytes old one two three new : List ℕ) → one ≡ old ++ name → two ≡ one ++ codes " " → AddsTold m name format bytes two three
+    → new ≡ three ++ codes "\n" → AddsNameAndTold m name format bytes old new
+told_behind m name format bytes old one two three new is_one is_two (told, is_told, is_three) is_new = (
+  told,
+  is_told,
+  is_new ∙ ap (λ (t : List ℕ). t ++ codes "\n") (is_three ∙ ap (λ (t : List ℕ). t ++ told) (is_two ∙ ap (λ (t : List ℕ). t ++ codes " ") is_one)) ∙ told_joined old name (codes " ") told (codes "\n"),
+)
+
 -- what is told of data: its value, its word and its date
 pub told_added : (m : Manner) (name : List ℕ) (format : PlainFormat) (bytes value old one two new : List ℕ) → IsValueText (told_format m.names format bytes) bytes value → one ≡ old ++ value
     → two ≡ one ++ word_note (word_of m.words name value) → AddsDateNote m.names format bytes two new → AddsTold m name format bytes old new

@@ -1,5 +1,6 @@
 pub mod WordLists
 pub mod Calendar
+pub mod DateTexts
 pub mod KnownAvps
 pub mod LinesOfLevels
 pub mod Outcomes

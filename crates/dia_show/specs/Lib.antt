@@ -5,3 +5,4 @@ pub mod Manners
 pub mod Outcome
 pub mod Report
 pub mod Lines
+pub mod ByteKinds

@@ -92,6 +92,6 @@ pub record AreLinesListed (m : Manner) (d : Dictionary) (fed_old fed put_old put
 -- what was read before the lines: the dictionary and the words, or one of them is refused with this text
 abbrev pub IsOpening : (IndexedBook → Dictionary) → Bool → Inputs → Opening → Type 0
 IsOpening meaning names inputs (Ready manner first) =
-    IsDictionaryText inputs.first (meaning first.value.book) × IsValuesText inputs.table (plain_words manner.words) × (manner.names ≡ names)
+    IsDictionaryText inputs.first (meaning first.value.book) × IsValuesText inputs.table (plain_words manner.value.words) × (manner.value.names ≡ names)
 IsOpening meaning names inputs (Refused answered) =
     (told : List ℕ) × RefusesInputs inputs told × Refuses told (string_bytes answered.text) answered.exit

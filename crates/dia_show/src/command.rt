@@ -17,7 +17,7 @@ ghost use Rattle.dia_show.specs.Words.{IsValuesText, plain_words, values_line};
 use crate::header::push_header;
 use crate::listing::push_level;
 use crate::manner::Manner;
-use crate::reading::{BadValues, read_values};
+use crate::reading::{BadValues, read_manner};
 use crate::reporting::{Answered, Report, Reported};
 use dia_dict::{Book, IndexedBook};
 use dia_io::{Exit, Inputs, RunFault, Sink, put_all};
@@ -82,12 +82,10 @@ fn attempt(alloc: Global, names: bool, inputs: &Inputs) -> Result<Answered, Refu
     ensures report { IfOk result (HasReport ⟦<IndexedBook as Book>⟧.meaning inputs.now) }
 {
     let first = read_dictionary(alloc, 1, &inputs.first)?;
-    let words = match read_values(alloc, &inputs.table)? {
-        Ok(words) => words,
-        Err(bad) => return Ok(no_values(alloc, bad)?),
-    };
-    let manner = Manner { words, names };
-    listed(alloc, &manner, first, inputs)
+    match read_manner(alloc, names, &inputs.table)? {
+        Ok(manner) => listed(alloc, &manner, first, inputs),
+        Err(bad) => Ok(no_values(alloc, bad)?),
+    }
 }
 
 /// The answer of words of values that are refused.

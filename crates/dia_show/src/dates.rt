@@ -124,31 +124,28 @@ fn push_date(text: &mut String, date: Date) -> Result<(), AllocError>
         ≡ string_bytes text.old ++ date_text date.year date.month date.day) }
 {
     push_decimal(text, date.year)?;
-    text.push('-')?;
-    push_two_digits(text, date.month)?;
-    text.push('-')?;
-    push_two_digits(text, date.day)
+    push_part(text, "-", date.month)?;
+    push_part(text, "-", date.day)
 }
 
 /// Adds the time of the day with so many seconds since 0h.
 fn push_clock(text: &mut String, seconds: u64) -> Result<(), AllocError>
     ensures { OnOk result (string_bytes text.new ≡ string_bytes text.old ++ clock_text seconds) }
 {
-    text.push('T')?;
-    push_two_digits(text, seconds / 3600)?;
-    text.push(':')?;
-    push_two_digits(text, seconds / 60 % 60)?;
-    text.push(':')?;
-    push_two_digits(text, seconds % 60)?;
-    text.push('Z')
+    push_part(text, "T", seconds / 3600)?;
+    push_part(text, ":", seconds / 60 % 60)?;
+    push_part(text, ":", seconds % 60)?;
+    text.push_str("Z")
 }
 
-/// Adds a number with two digits or more.
-fn push_two_digits(text: &mut String, number: u64) -> Result<(), AllocError>
-    ensures { OnOk result (string_bytes text.new ≡ string_bytes text.old ++ two_digits number) }
+/// Adds a sign, and a number with two digits or more behind it.
+fn push_part(text: &mut String, sign: &str, number: u64) -> Result<(), AllocError>
+    ensures { OnOk result (string_bytes text.new
+        ≡ string_bytes text.old ++ sign.now ++ two_digits number) }
 {
+    text.push_str(sign)?;
     if number < 10 {
-        text.push('0')?;
+        text.push_str("0")?;
         push_decimal(text, number)
     } else {
         push_decimal(text, number)

@@ -17,6 +17,7 @@
 //! ```
 #![tactic(auto)]
 
+mod byte_kinds;
 mod command;
 mod dates;
 mod flags;

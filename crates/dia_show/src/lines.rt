@@ -14,7 +14,7 @@ ghost use Rattle.dia_show.specs.Manners.{plain_manner_of};
 use crate::command::{no_values, refuse};
 use crate::judging::{Endings, ShowJudge};
 use crate::manner::Manner;
-use crate::reading::read_values;
+use crate::reading::read_manner;
 use crate::reporting::{Answered, Report, Reported};
 use dia_dict::{Book, IndexedBook};
 use dia_io::{Exit, Feed, Inputs, Sink, put_all};
@@ -60,7 +60,7 @@ pub fn show_lines<F: Feed, S: Sink>(
 #[derive(Drop)]
 pub(crate) enum Opening<'t> {
     Ready {
-        manner: Manner<'t>,
+        manner: Box<Manner<'t>>,
         first: Box<ReadBook>,
     },
     Refused(Answered),
@@ -87,11 +87,8 @@ fn with_words<'t>(
     ensures { IsDictionaryText inputs.now.first (⟦<IndexedBook as Book>⟧.meaning first.value.book)
         → IfOk result (IsOpening ⟦<IndexedBook as Book>⟧.meaning names inputs.now) }
 {
-    match read_values(alloc, &inputs.table)? {
-        Ok(words) => Ok(Opening::Ready {
-            manner: Manner { words, names },
-            first,
-        }),
+    match read_manner(alloc, names, &inputs.table)? {
+        Ok(manner) => Ok(Opening::Ready { manner, first }),
         Err(bad) => Ok(Opening::Refused(no_values(alloc, bad)?)),
     }
 }

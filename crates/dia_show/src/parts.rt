@@ -1,11 +1,10 @@
 //! The parts of a line of words.
 
 ghost use Rattle.std.specs.Prelude.{◌≡◌, IfSome, None, false, true};
-ghost use Rattle.std.specs.List.{list_all};
-ghost use Rattle.std.specs.Char.{is_ascii_digit, is_ascii_graphic};
-ghost use Rattle.dia_terms.specs.Names.{is_run_byte};
-ghost use Rattle.dia_show.specs.Words.{behind_part, front_part, has_form, is_blank, is_comment, is_name};
+ghost use Rattle.dia_show.specs.Words.{behind_part, front_part, has_form, is_comment, is_name};
 ghost use Rattle.dia_show.specs.Words.{is_number, is_positive, is_skipped, is_word};
+
+use crate::byte_kinds::{ByteKind, all_are};
 
 /// A word, and what it stands for.
 #[derive(Clone, Copy)]
@@ -36,7 +35,7 @@ pub(crate) fn entry_of(line: &str) -> Option<Entry<'_>>
 pub(crate) fn is_skipped(line: &[u8]) -> bool
     ensures { result ≡ is_skipped line.now }
 {
-    is_comment(line) || is_empty(line)
+    is_comment(line) || all_are(ByteKind::Blank, line)
 }
 
 fn is_comment(line: &[u8]) -> bool
@@ -46,12 +45,6 @@ fn is_comment(line: &[u8]) -> bool
         [first, ..] => *first == b'#',
         [] => false,
     }
-}
-
-fn is_empty(line: &[u8]) -> bool
-    ensures { result ≡ list_all is_blank line.now }
-{
-    line.iter().all(|b| *b == b' ' || *b == b'\t')
 }
 
 /// What stands before the first blank, and what behind it.
@@ -68,25 +61,13 @@ fn parts(text: &str) -> (&str, &str)
 fn is_name(text: &[u8]) -> bool
     ensures { result ≡ is_name text.now }
 {
-    !text.is_empty() && is_run(text)
-}
-
-fn is_run(text: &[u8]) -> bool
-    ensures { result ≡ list_all is_run_byte text.now }
-{
-    text.iter().all(|b| b.is_ascii_alphanumeric() || *b == b'-')
+    !text.is_empty() && all_are(ByteKind::Name, text)
 }
 
 fn is_word(text: &[u8]) -> bool
     ensures { result ≡ is_word text.now }
 {
-    !text.is_empty() && is_graphic(text)
-}
-
-fn is_graphic(text: &[u8]) -> bool
-    ensures { result ≡ list_all is_ascii_graphic text.now }
-{
-    text.iter().all(|b| b.is_ascii_graphic())
+    !text.is_empty() && all_are(ByteKind::Graphic, text)
 }
 
 /// Whether this is a number as it is printed.
@@ -104,13 +85,7 @@ fn is_positive(digits: &[u8]) -> bool
     ensures { result ≡ is_positive digits.now }
 {
     match digits {
-        [first, ..] => *first != b'0' && are_digits(digits),
+        [first, ..] => *first != b'0' && all_are(ByteKind::Digit, digits),
         [] => false,
     }
-}
-
-fn are_digits(text: &[u8]) -> bool
-    ensures { result ≡ list_all is_ascii_digit text.now }
-{
-    text.iter().all(|b| b.is_ascii_digit())
 }

@@ -1,8 +1,10 @@
 //! The words of values, as an input.
 
-ghost use Rattle.std.specs.Prelude.{IfErr, IfOk};
-ghost use Rattle.dia_show.specs.Words.{IsNoValuesText, IsValuesText, plain_words};
+ghost use Rattle.std.specs.Prelude.{◌≡◌, ◌≢◌, IfErr, IfOk};
+ghost use Rattle.dia_io.specs.declared.Input.{Input as AnyInput};
+ghost use Rattle.dia_show.specs.Words.{HasFault, IsNoValuesText, IsValuesText, plain_words};
 
+use crate::manner::Manner;
 use crate::words::{MAX_VALUES, ValuesFault, Words, read_words};
 use dia_io::Input;
 use std::alloc::{AllocError, Global};
@@ -37,8 +39,24 @@ impl fmt::Display for BadValues {
     }
 }
 
+/// How a message is shown, with the words that an input's text has; or why it has none.
+pub(crate) fn read_manner<'t>(
+    alloc: Global,
+    names: bool,
+    input: &'t Input,
+) -> Result<Result<Box<Manner<'t>>, BadValues>, AllocError>
+    ensures words { IfOk result (λ read. IfOk read
+        (λ manner. IsValuesText input.now (plain_words manner.value.words) × (manner.value.names ≡ names))) }
+    ensures bad { IfOk result (λ read. IfErr read (IsNoValuesText input.now)) }
+{
+    match read_values(alloc, input)? {
+        Ok(words) => Ok(Ok(Box::new(alloc, Manner { words, names })?)),
+        Err(bad) => Ok(Err(bad)),
+    }
+}
+
 /// The words that an input's text has, or why it has none.
-pub(crate) fn read_values<'t>(
+fn read_values<'t>(
     alloc: Global,
     input: &'t Input,
 ) -> Result<Result<Words<'t>, BadValues>, AllocError>
@@ -57,9 +75,18 @@ pub(crate) fn read_values<'t>(
     };
     match read_words(alloc, text) {
         Ok(words) => Ok(Ok(words)),
-        Err(ValuesFault::Syntax { line }) => Ok(Err(BadValues::Syntax { line })),
-        Err(ValuesFault::Duplicate { line }) => Ok(Err(BadValues::Duplicate { line })),
-        Err(ValuesFault::Limit { line }) => Ok(Err(BadValues::Limit { line })),
-        Err(ValuesFault::NoMemory) => Err(AllocError),
+        Err(fault) => Ok(Err(bad_by(fault)?)),
+    }
+}
+
+/// Why an input whose text has this fault is none of words.
+fn bad_by(fault: ValuesFault) -> Result<BadValues, AllocError>
+    ensures { IfOk result (λ bad. fault ≢ ValuesFault.NoMemory × ((input : AnyInput) → HasFault input fault → IsNoValuesText input bad)) }
+{
+    match fault {
+        ValuesFault::Syntax { line } => Ok(BadValues::Syntax { line }),
+        ValuesFault::Duplicate { line } => Ok(BadValues::Duplicate { line }),
+        ValuesFault::Limit { line } => Ok(BadValues::Limit { line }),
+        ValuesFault::NoMemory => Err(AllocError),
     }
 }

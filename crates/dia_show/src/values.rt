@@ -1,14 +1,14 @@
 //! The data of an AVP: its value, its word and its date.
 
 ghost use Rattle.std.specs.Prelude.{◌≡◌, ◌++◌, IfOk, OnOk, string_bytes};
-ghost use Rattle.std.specs.List.{list_all};
 ghost use Rattle.dia_data.specs.Plain.{plain_format};
 ghost use Rattle.dia_data.specs.Shown.{IsValueText};
-ghost use Rattle.dia_show.specs.Listing.{AddsDateNote, AddsTold, has_date, is_printable, is_printing, is_text};
+ghost use Rattle.dia_show.specs.Listing.{AddsDateNote, AddsTold, has_date, is_printable, is_text};
 ghost use Rattle.dia_show.specs.Listing.{told_format, word_note};
 ghost use Rattle.dia_show.specs.Manners.{plain_manner_of};
 ghost use Rattle.dia_show.specs.Words.{plain_words, word_of};
 
+use crate::byte_kinds::{ByteKind, all_are};
 use crate::dates::push_time;
 use crate::manner::Manner;
 use crate::words::Words;
@@ -67,13 +67,7 @@ fn is_text(names: bool, format: &Format, bytes: &[u8]) -> bool
 fn is_printable(bytes: &[u8]) -> bool
     ensures { result ≡ is_printable bytes.now }
 {
-    !bytes.is_empty() && are_printing(bytes)
-}
-
-fn are_printing(bytes: &[u8]) -> bool
-    ensures { result ≡ list_all is_printing bytes.now }
-{
-    bytes.iter().all(|b| b' ' <= *b && *b <= b'~')
+    !bytes.is_empty() && all_are(ByteKind::Printing, bytes)
 }
 
 /// Adds the word of a value, if it has one.

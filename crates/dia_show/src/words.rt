@@ -45,7 +45,7 @@ impl From<AllocError> for ValuesFault {
 
 impl<'t> Words<'t> {
     ghost use Rattle.std.specs.Prelude.{◌≡◌, ◌≢◌, ◌++◌, [], IfErr, IfOk, None, OnOk, Some, option_map};
-    ghost use Rattle.dia_show.specs.Words.{line_fault, plain_words, word_of, words_by};
+    ghost use Rattle.dia_show.specs.Words.{line_fault, plain_words, values_fault, word_of, words_by, words_of};
 
     /// No words.
     pub fn new(alloc: Global) -> Self
@@ -64,6 +64,24 @@ impl<'t> Words<'t> {
             Some(word) => Some(*word),
             None => None,
         }
+    }
+
+    /// Adds what the lines of a text say to no words.
+    fn add_lines(&mut self, text: &'t str) -> Result<(), ValuesFault>
+        requires { plain_words self.old ≡ [] }
+        ensures words { OnOk result (plain_words self.new ≡ words_of text.now) }
+        ensures form { OnOk result (values_fault text.now ≡ None) }
+        ensures fault { IfErr result (λ fault. fault ≢ ValuesFault.NoMemory → values_fault text.now ≡ Some fault) }
+    {
+        let mut number = 0;
+        for line in text.lines() {
+            number += 1;
+            match self.add(number, line) {
+                Ok(()) => {}
+                Err(fault) => return Err(fault),
+            }
+        }
+        Ok(())
     }
 
     /// Adds what a line says, if it says something.
@@ -109,13 +127,6 @@ pub fn read_words<'t>(alloc: Global, text: &'t str) -> Result<Words<'t>, ValuesF
     ensures fault { IfErr result (λ fault. fault ≢ ValuesFault.NoMemory → values_fault text.now ≡ Some fault) }
 {
     let mut words = Words::new(alloc);
-    let mut number = 0;
-    for line in text.lines() {
-        number += 1;
-        match words.add(number, line) {
-            Ok(()) => {}
-            Err(fault) => return Err(fault),
-        }
-    }
+    words.add_lines(text)?;
     Ok(words)
 }

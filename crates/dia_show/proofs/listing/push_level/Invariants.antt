@@ -1,7 +1,6 @@
-use Rattle.std.proofs.Common.{◌+◌, ◌*◌, length}
 use Rattle.std.specs.Prelude.{string_bytes}
 use Rattle.dia_show.specs.Manners.{plain_manner_of}
-use Rattle.dia_show.proofs.LinesOfLevels.{IsUnderWay, bytes_left}
+use Rattle.dia_show.proofs.LinesOfLevels.{IsUnderWay, left_to_read}
 use Rattle.dia_show.proofs.listing.push_level.Given as goal
 
 abbrev pub invariant-loop-avp : goal.invariant-loop-avp
@@ -9,4 +8,4 @@ invariant-loop-avp g l =
     IsUnderWay (plain_manner_of l.manner) (g.B.Book.meaning l.book) (record { depth = 0; place = l.fn.place; bytes = l.fn.bytes }) (string_bytes l.fn.text) (string_bytes l.text) l.outer.items l.rest
 
 abbrev pub decreases-loop-avp : goal.decreases-loop-avp
-decreases-loop-avp g l = 2 * (length l.rest.bytes.now + bytes_left l.outer.items) + length l.outer.items
+decreases-loop-avp g l = left_to_read l.rest.bytes.now l.outer.items
