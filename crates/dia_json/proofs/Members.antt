@@ -1,7 +1,7 @@
 -- The texts of members.
-use Rattle.std.proofs.Common.{◌≡◌, ◌∙◌, ℕ, List, [], ◌∷◌, ◌++◌, Bool, false, true, append_assoc, ap, refl, sym, codes}
+use Rattle.std.proofs.Common.{◌≡◌, ◌∙◌, ℕ, List, [], ◌∷◌, ◌++◌, Bool, false, true, Result, Ok, Err, append_assoc, ap, refl, sym, codes}
 use Rattle.std.specs.Fmt.{decimal}
-use Rattle.std.specs.Prelude.{if◌then◌else◌}
+use Rattle.std.specs.Prelude.{OnOk, if◌then◌else◌, is_ok}
 use Rattle.json.specs.Print.{quoted}
 use Rattle.serde_json.specs.Data.{Members, boolean, member, no_members, object}
 use Rattle.serde_json.specs.Written.{members_text}
@@ -20,6 +20,11 @@ use Rattle.dia_run.specs.Verdict.{reason_word}
 use Rattle.dia_json.specs.Values.{about, both_members, checked_members, fault_members, not_hexadecimal_members, numbered, placed_json, refuted_members}
 use Rattle.dia_refused_json.specs.Members.{json_line, named_members}
 use Rattle.dia_json.specs.Values.{subject_members, too_long_members}
+
+-- what the last call of a function adds
+pub last_pushed : {X E : Type 0} (r : Result X E) (new more same : List ℕ) → new ≡ (if is_ok r then more else same) → OnOk r (new ≡ more)
+last_pushed (Ok x) new more same is = is
+last_pushed (Err e) new more same is = tt
 
 -- ---- an AVP, whose name is quoted so
 

@@ -9,6 +9,7 @@ use Rattle.serde_json.specs.Data.{Data, Members, no_members}
 use Rattle.serde_json.specs.Written.{compact_text, members_text}
 use Rattle.serde_json.proofs.OnLiterals.{serde_json_on_literals}
 use Rattle.dia_wire.specs.declared.Header.{Header}
+use Rattle.dia_wire.specs.declared.Key.{Key}
 use Rattle.dia_wire.specs.Wire.{IsHead, IsMessageLength, PlainAvp, avp_length, key_of}
 use Rattle.dia_data.specs.declared.Format.{Format}
 use Rattle.dia_data.specs.declared.Format.TheVariants as format
@@ -16,6 +17,7 @@ use Rattle.dia_data.specs.Plain.{PlainFormat, plain_format, Grouped}
 use Rattle.dia_dict.specs.Dictionary.{Dictionary, DictEntry, PlainDefinition, definitions, entry_of, selected}
 use Rattle.dia_dict.specs.Keys.{same_key}
 use Rattle.dia_dict.proofs.Lists.{position-within}
+use Rattle.dia_check.specs.declared.Subject.TheVariants.{Avp}
 use Rattle.dia_check.specs.Valid.{class_of, known}
 use Rattle.dia_io.specs.declared.Exit.{Exit}
 use Rattle.dia_run.specs.Outcome.{listing_exit}
@@ -24,7 +26,8 @@ use Rattle.dia_captures.specs.Verdicts.{name_of}
 use Rattle.dia_json.specs.Listing.{AddsAvp, AddsLevel, IsNamedLeaf}
 use Rattle.dia_json.specs.Messages.{AreShown, IsValue, TellsMessage, bad_length_members, command_member, header_members, hex_value, known_group, known_leaf, lines_of, name_member}
 use Rattle.dia_json.specs.Messages.{shown_members, stranger, value_member, vendor_value}
-use Rattle.dia_refused_json.specs.Members.{json_line}
+use Rattle.dia_json.specs.Values.{about, avp_members, subject_members}
+use Rattle.dia_refused_json.specs.Members.{json_line, key_members, named_members}
 
 -- ---- the last members of an AVP
 
@@ -217,3 +220,21 @@ message_is d bytes body h len text exit head long is_body is_len (avps, bad, are
   is_text ∙ ap (λ (n : ℕ). lines_of (header_members d h n ∷ avps)) is_len,
   is_exit,
 )
+
+-- ---- what a fault is about
+
+-- an AVP that the book knows by this name
+pub known_about : (d : Dictionary) (key : Key) (i : ℕ) (name : List ℕ) → Some i ≡ entry_of d key → IfSome (slice_get d.entries i) (λ e. name ≡ e.name)
+    → members_text true (about (named_members name key)) ≡ members_text true (subject_members d (Avp key))
+known_about d key i name is_i is_name =
+    elim (slice_get_cases d.entries i).1 [
+      | inl (e, inside, is_e, here) ↦
+          let same : name ≡ e.name = rw is_e at is_name in
+          let is_known : known d key ≡ Some e = ap (λ (o : Option ℕ). option_and_then (slice_get d.entries) o) (sym is_i) ∙ is_e in
+          ap (λ (n : List ℕ). members_text true (about (named_members n key))) same ∙ ap (λ (o : Option DictEntry). members_text true (about (avp_members key o))) (sym is_known)
+      | inr (past, none) ↦ absurd (omega (arith, past, position-within (λ (e : DictEntry). same_key key e.key) d.entries i (sym is_i)))
+    ]
+
+pub unknown_about : (d : Dictionary) (key : Key) → None ≡ entry_of d key → members_text true (about (key_members key)) ≡ members_text true (subject_members d (Avp key))
+unknown_about d key none =
+    ap (λ (o : Option ℕ). members_text true (about (avp_members key (option_and_then (slice_get d.entries) o)))) none

@@ -1,13 +1,14 @@
 -- The objects of a level and of the groups in it, with the levels that are not done kept in a list, the outermost first.
-use Rattle.std.proofs.Common.{◌≡◌, ℕ, ◌+◌, ◌-◌, ◌^◌, ◌<◌, ◌≤◌, Bool, true, false, List, [], ◌∷◌, ◌++◌, length, refl, sym, ap, subst, ◌∙◌, append_assoc, arith, inl, inr}
+use Rattle.std.proofs.Common.{◌≡◌, ℕ, ◌+◌, ◌-◌, ◌*◌, ◌^◌, ◌<◌, ◌≤◌, Bool, true, false, List, [], ◌∷◌, ◌++◌, length, refl, sym, ap, subst, ◌∙◌, append_assoc, arith, inl, inr}
 use Rattle.std.specs.Prelude.{◌⊎◌, sum_by}
 use Rattle.std.specs.List.{AllByRecursion}
 use Rattle.std.proofs.lemmas.Grind.{flat_map-append}
 use Rattle.std.proofs.lemmas.List.{append-nil, length-append}
+use Rattle.std.proofs.lemmas.List.Sums.{sum_by-append}
 use Rattle.std.proofs.lemmas.List.Concat.{flat_map-cons}
 use Rattle.serde_json.specs.Data.{Members}
 use Rattle.dia_wire.specs.Wire.{PlainAvp, head_length, avp_length, padded_length, BeginsWith, BeginsWithNone}
-use Rattle.dia_wire.proofs.Spelling.{opened, rounded-le}
+use Rattle.dia_wire.proofs.Spelling.{at_least_8, opened, rounded-le}
 use Rattle.dia_dict.specs.Dictionary.{Dictionary}
 use Rattle.dia_run.specs.Listing.{Level, behind, inside}
 use Rattle.dia_json.specs.declared.listing.Rest.{Rest}
@@ -201,6 +202,24 @@ bad_found d whole before now new rs r u some none is_new =
 -- an AVP is no longer than the level
 pub room : (v : PlainAvp) (level rest : List ℕ) → BeginsWith v level rest → avp_length v ≤ length level
 room v level rest begins = omega (arith, length-level v level rest begins, rounded-le (avp_length v))
+
+-- what is left to read, and how many levels wait
+abbrev pub left_to_read : List ℕ → List Rest → ℕ
+left_to_read rest outer = 2 * (length rest + bytes_left outer) + length outer
+
+shorter : (v : PlainAvp) (level rest : List ℕ) → BeginsWith v level rest → length rest + length v.bytes < length level
+shorter v level rest begins = omega (arith, length-level v level rest begins, rounded-le (avp_length v), at_least_8 v.vendor)
+
+pub less_behind : (v : PlainAvp) (level rest : List ℕ) (outer : List Rest) → BeginsWith v level rest → left_to_read rest outer < left_to_read level outer
+less_behind v level rest outer begins = omega (arith, shorter v level rest begins)
+
+pub less_inside : (v : PlainAvp) (level : List ℕ) (next : Rest) (outer waiting : List Rest) → BeginsWith v level next.bytes.now → waiting ≡ outer ++ next ∷ []
+    → left_to_read v.bytes waiting < left_to_read level outer
+less_inside v level next outer waiting begins is =
+    rw is (omega (arith, sum_by-append (λ (r : Rest). length r.bytes.now) outer (next ∷ []), shorter v level next.bytes.now begins, length-append outer (next ∷ [])))
+
+pub less_after : (level : List ℕ) (outer waiting : List Rest) (next : Rest) → outer ≡ waiting ++ next ∷ [] → left_to_read next.bytes.now waiting < left_to_read level outer
+less_after level outer waiting next is = rw is (omega (arith, sum_by-append (λ (r : Rest). length r.bytes.now) waiting (next ∷ []), length-append waiting (next ∷ [])))
 
 -- a level that begins at a place ends behind its bytes
 pub level_at_place : (r : Rest) (place : ℕ) → r.end ≡ place + length r.bytes.now → level_of 0 r ≡ record { depth = 0; place = place; bytes = r.bytes.now }

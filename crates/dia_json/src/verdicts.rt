@@ -27,9 +27,9 @@ pub fn push_checked<B: Book>(
     ensures { OnOk result (string_bytes text.new
         ≡ string_bytes text.old ++ checked_json (B.meaning book.now) verdict.now) }
 {
-    write!(text, "{{")?;
+    text.push_str("{")?;
     push_members(alloc, text, book, verdict)?;
-    write!(text, "\n")
+    text.push_str("\n")
 }
 
 /// Adds the line of a verdict on the message in the line of this number.
@@ -46,7 +46,7 @@ pub fn push_numbered<B: Book>(
 {
     write!(text, "{{\"line\":{number},")?;
     push_members(alloc, text, book, verdict)?;
-    write!(text, "\n")
+    text.push_str("\n")
 }
 
 /// Adds the line of a verdict on a message that begins at a place of a stream.
@@ -63,7 +63,7 @@ pub fn push_placed<B: Book>(
 {
     write!(text, "{{\"place\":{at},")?;
     push_members(alloc, text, book, verdict)?;
-    write!(text, "\n")
+    text.push_str("\n")
 }
 
 /// Adds the line of both verdicts of `refute`.
@@ -79,9 +79,9 @@ pub fn push_refuted<A: Book, B: Book>(
     ensures { OnOk result (string_bytes text.new
         ≡ string_bytes text.old ++ refuted_json (A.meaning first.now) (B.meaning second.now) verdict.now) }
 {
-    write!(text, "{{")?;
+    text.push_str("{")?;
     push_refuted_members(alloc, text, first, second, verdict)?;
-    write!(text, "\n")
+    text.push_str("\n")
 }
 
 /// Adds the line of both verdicts on the message in the line of this number.
@@ -100,7 +100,7 @@ pub fn push_numbered_refuted<A: Book, B: Book>(
 {
     write!(text, "{{\"line\":{number},")?;
     push_refuted_members(alloc, text, first, second, verdict)?;
-    write!(text, "\n")
+    text.push_str("\n")
 }
 
 /// Adds the members of both verdicts of `refute`, and the brace at their end.
@@ -143,9 +143,9 @@ fn push_both<A: Book, B: Book>(
     let refutes = verdict.refutes();
     write!(text, "\"refutes\":{refutes},\"first\":{{")?;
     push_members(alloc, text, first, &verdict.first)?;
-    write!(text, ",\"second\":{{")?;
+    text.push_str(",\"second\":{")?;
     push_members(alloc, text, second, &verdict.second)?;
-    write!(text, "}}")
+    text.push_str("}")
 }
 
 /// Adds the members of a verdict, and the brace at their end.

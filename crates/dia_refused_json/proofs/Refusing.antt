@@ -8,6 +8,8 @@ use Rattle.json.specs.Print.{quoted}
 use Rattle.serde_json.specs.Data.{no_members}
 use Rattle.serde_json.specs.Written.{compact_text, items_text}
 use Rattle.serde_json.proofs.OnLiterals.{serde_json_on_literals}
+use Rattle.dia_dict.specs.declared.fault.DictKind.{DictKind}
+use Rattle.dia_dict.specs.declared.fault.DictKind.TheVariants as kind
 use Rattle.dia_dict.specs.Words.{kind_word}
 use Rattle.dia_report.specs.declared.wrong_source.WrongSource.{WrongSource}
 use Rattle.dia_refused_json.specs.Members.{json_line, refused_members}
@@ -62,11 +64,32 @@ on_told input kind a b written n text at column is_a is_b is_column is =
     ∙ ap (λ (k : ℕ). front (quoted input) (quoted kind) (on_text n k (codes "}\n"))) is_column
     ∙ on_ends (quoted input) (quoted kind) n (column_at text at) ∙ sym (on_is input kind n text at)
 
-pub wrong_told : (input : List ℕ) (found : WrongSource) (kind a b name slot text : List ℕ) → kind ≡ kind_word found.kind → a ≡ quoted input → b ≡ quoted kind
+-- no byte of a kind's word is escaped
+kind_is_plain : (k : DictKind) → quoted (kind_word k) ≡ codes "\"" ++ kind_word k ++ codes "\""
+unfolding serde_json_on_literals
+kind_is_plain kind.Limit = refl
+kind_is_plain kind.DuplicateName = refl
+kind_is_plain kind.NoGroupFormat = refl
+kind_is_plain kind.HeaderMismatch = refl
+kind_is_plain kind.DuplicateKey = refl
+kind_is_plain kind.DuplicateCommand = refl
+kind_is_plain kind.UndefinedName = refl
+kind_is_plain kind.RepeatedSlot = refl
+kind_is_plain kind.MinOverMax = refl
+kind_is_plain kind.RequiredMin = refl
+kind_is_plain kind.OptionalMin = refl
+
+abbrev wrong_text : List ℕ → List ℕ → List ℕ → List ℕ → List ℕ
+wrong_text input kind name slot = codes "{\"error\":" ++ (input ++ (codes ",\"kind\":\"" ++ (kind ++ (codes "\",\"name\":" ++ (name ++ (codes ",\"slot\":" ++ (slot ++ codes "}\n")))))))
+
+wrong_joined : (input kind name slot : List ℕ) → wrong_text input kind name slot ≡ front input (codes "\"" ++ kind ++ codes "\"") (names name slot (codes "}\n"))
+wrong_joined input kind name slot = simp append_assoc
+
+pub wrong_told : (input : List ℕ) (found : WrongSource) (a name slot text : List ℕ) → a ≡ quoted input
     → name ≡ compact_text (name_value (string_bytes found.name)) → slot ≡ compact_text (name_value (string_bytes found.slot))
-    → text ≡ front a b (names name slot (codes "}\n")) → text ≡ json_line (wrong_members input found)
-wrong_told input found kind a b name slot text is_kind is_a is_b is_name is_slot is =
-    is ∙ ap₂ (λ (x y : List ℕ). front x y (names name slot (codes "}\n"))) is_a (is_b ∙ ap quoted is_kind)
+    → text ≡ wrong_text a (kind_word found.kind) name slot → text ≡ json_line (wrong_members input found)
+wrong_told input found a name slot text is_a is_name is_slot is =
+    is ∙ wrong_joined a (kind_word found.kind) name slot ∙ ap₂ (λ (x y : List ℕ). front x y (names name slot (codes "}\n"))) is_a (sym (kind_is_plain found.kind))
     ∙ ap₂ (λ (x y : List ℕ). front (quoted input) (quoted (kind_word found.kind)) (names x y (codes "}\n"))) is_name is_slot
     ∙ names_end (quoted input) (quoted (kind_word found.kind)) _ _ ∙ sym (wrong_is input found)
 

@@ -156,12 +156,10 @@ fn wrong_line(alloc: Global, input: &str, wrong: &WrongSource) -> Result<String,
     ensures { IfOk result (λ text. string_bytes text ≡ json_line (wrong_members input.now wrong.now)) }
 {
     let kind = wrong.kind;
-    let kind = format!(in alloc; "{kind}")?;
     let input = quoted(alloc, input)?;
-    let kind = quoted(alloc, &kind)?;
     let name = name_or_null(alloc, &wrong.name)?;
     let slot = name_or_null(alloc, &wrong.slot)?;
-    format!(in alloc; "{{\"error\":{input},\"kind\":{kind},\"name\":{name},\"slot\":{slot}}}\n")
+    format!(in alloc; "{{\"error\":{input},\"kind\":\"{kind}\",\"name\":{name},\"slot\":{slot}}}\n")
 }
 
 /// The line of an input that is refused for this.

@@ -1,5 +1,5 @@
 use Rattle.std.proofs.Common.{ℕ, ◌+◌, ◌-◌, length, refl, sym, ap, ◌∙◌, arith}
-use Rattle.dia_json.proofs.ObjectsOfLevels.{started, leaf_added, group_entered, level_ended, all_ended, bad_found, room, level_at_place}
+use Rattle.dia_json.proofs.ObjectsOfLevels.{started, leaf_added, group_entered, level_ended, all_ended, bad_found, less_after, less_behind, less_inside, room, level_at_place}
 use Rattle.dia_json.proofs.listing.push_level.Goals as goal
 
 pub loop-avp-init : goal.loop-avp-init
@@ -31,3 +31,14 @@ returns-in-None g c = all_ended _ _ _ _ _ _ c.loop-avp.invariant (sym c.loop-avp
 
 pub returns-in-Err-Length : goal.returns-in-Err-Length
 returns-in-Err-Length g c = bad_found _ _ _ _ _ _ _ c.loop-avp.invariant c.in-Err-Length.ensures.fault.0 c.in-Err-Length.ensures.fault.1 c.in_ok-push_bad_length-in-Err-Length.ensures
+
+pub loop-avp-smaller-then-is_group : goal.loop-avp-smaller-then-is_group
+loop-avp-smaller-then-is_group g c =
+    less_inside _ _ (record { bytes = c.in-Ok-Some.behind; end = c.loop-avp.rest.end }) c.loop-avp.outer.items _ (rw c.in-Ok-Some.field-0-is at c.in-Ok-Some.ensures.avp)
+    c.in_ok-push-in-Ok-Some.ensures.items
+
+pub loop-avp-smaller-else-is_group : goal.loop-avp-smaller-else-is_group
+loop-avp-smaller-else-is_group g c = less_behind _ _ _ c.loop-avp.outer.items (rw c.in-Ok-Some.field-0-is at c.in-Ok-Some.ensures.avp)
+
+pub loop-avp-smaller : goal.loop-avp-smaller
+loop-avp-smaller g c = less_after _ c.loop-avp.outer.items _ _ c.in-Some.ensures.items

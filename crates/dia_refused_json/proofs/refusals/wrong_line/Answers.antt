@@ -4,5 +4,6 @@ use Rattle.dia_refused_json.proofs.refusals.wrong_line.Goals as goal
 
 pub returns : goal.returns
 returns c =
-    IfOk-weaker c.format-2.result _ _
-    (λ text is. wrong_told c.args.input.now c.args.wrong.now _ _ _ _ _ _ c.in_ok-kind.ensures.ok c.in_ok-input.ensures (rw c.deref.ensures at c.in_ok-kind-2.ensures) (rw c.deref-2.ensures at c.in_ok-name.ensures) (rw c.deref-3.ensures at c.in_ok-slot.ensures) is) c.format-2.ensures.ok
+    IfOk-weaker c.format.result _ _
+    (λ text is. wrong_told c.args.input.now c.args.wrong.now _ _ _ _ c.in_ok-input.ensures (rw c.deref.ensures at c.in_ok-name.ensures) (rw c.deref-2.ensures at c.in_ok-slot.ensures) is)
+    c.format.ensures.ok
