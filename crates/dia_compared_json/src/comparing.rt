@@ -4,7 +4,6 @@ ghost use Rattle.std.specs.Prelude.{◌≡◌, ◌≢◌, ◌<◌, ◌↔◌, []
 ghost use Rattle.dia_compat.specs.Closed.{IsTableAnswer};
 ghost use Rattle.dia_compat.specs.Failings.{AreFailingsFor, AreFailingsOf};
 ghost use Rattle.dia_compat.specs.TableText.{plain_table};
-ghost use Rattle.dia_refused_json.specs.Telling.{TellsBad};
 ghost use Rattle.dia_compared_json.specs.Compared.{IsAnswerJson, IsCompareJson, IsFailureJson, TellsComparison};
 ghost use Rattle.dia_compared_json.specs.Failures.{pairs_listed};
 
@@ -12,9 +11,9 @@ use crate::failures::{failure_text, pair_at};
 use dia_book::Book;
 use dia_check::Unknown;
 use dia_compat::{Answer, Failing, PairKind, Table, Test, Verdict, judge_table};
-use dia_io::{Exit, Input, Inputs};
-use dia_refused_json::bad_input_line;
-use dia_report::{Answered, BothBooks, Compared, Refused, Report};
+use dia_io::{Exit, Inputs};
+use dia_refused_json::refuse;
+use dia_report::{Answered, BothBooks, Compared, Report};
 use dia_run::{Outcome, read_dictionary, read_table, told};
 use std::alloc::{AllocError, Global};
 
@@ -57,23 +56,6 @@ pub fn compare(alloc: Global, unknown: Unknown, inputs: &Inputs) -> Result<Answe
         failings,
     });
     Ok(Answered { text, exit, report })
-}
-
-/// The answer where this input is refused.
-fn refuse(alloc: Global, input: &Input, refused: Refused) -> Result<Answered, AllocError>
-    ensures { IfOk result (λ answered. TellsBad input.now refused (string_bytes answered.text) answered.exit) }
-{
-    match refused {
-        Refused::Bad(bad) => {
-            let text = bad_input_line(alloc, input, &bad)?;
-            Ok(Answered {
-                text,
-                exit: Exit::Bad,
-                report: Report::Refused(bad),
-            })
-        }
-        Refused::NoMemory => Err(AllocError),
-    }
 }
 
 /// What is found of the table's pairs.

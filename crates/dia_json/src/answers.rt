@@ -2,15 +2,14 @@
 
 ghost use Rattle.std.specs.Prelude.{IfOk, string_bytes};
 ghost use Rattle.dia_json.specs.Runs.{IsCheckJson, IsRefuteJson, TellsChecked, TellsRefuted};
-ghost use Rattle.dia_refused_json.specs.Telling.{TellsBad};
 
 use crate::verdicts::{push_checked, push_refuted};
 use dia_captures::{RefuteJudge, check_line};
 use dia_check::{Levels, Unknown};
 use dia_dict::Book;
-use dia_io::{Exit, Input, Inputs};
-use dia_refused_json::bad_input_line;
-use dia_report::{Answered, Refused, Report};
+use dia_io::{Input, Inputs};
+use dia_refused_json::refuse;
+use dia_report::{Answered, Report};
 use dia_run::read_dictionary;
 use std::alloc::{AllocError, Global};
 
@@ -56,23 +55,6 @@ pub fn refute(
         levels,
     };
     refuted(alloc, &judge, &inputs.message)
-}
-
-/// The answer where this input is refused.
-pub fn refuse(alloc: Global, input: &Input, refused: Refused) -> Result<Answered, AllocError>
-    ensures { IfOk result (λ answered. TellsBad input.now refused (string_bytes answered.text) answered.exit) }
-{
-    match refused {
-        Refused::Bad(bad) => {
-            let text = bad_input_line(alloc, input, &bad)?;
-            Ok(Answered {
-                text,
-                exit: Exit::Bad,
-                report: Report::Refused(bad),
-            })
-        }
-        Refused::NoMemory => Err(AllocError),
-    }
 }
 
 /// The verdict on a message.

@@ -15,11 +15,10 @@ mod showing;
 mod values;
 mod verdicts;
 
-pub use answers::{check, refuse, refute};
+pub use answers::{check, refute};
 pub use judges::{JsonCheck, JsonRefute};
 pub use laws::text_is_value;
 pub use proposing::propose;
 pub use runs::{check_lines, check_stream, refute_lines};
 pub use showing::show;
-pub use strings::quoted;
 pub use verdicts::{push_checked, push_numbered, push_numbered_refuted, push_placed, push_refuted};

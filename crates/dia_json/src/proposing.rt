@@ -6,11 +6,10 @@ ghost use Rattle.dia_compat.specs.TableText.{plain_pair, plain_table};
 ghost use Rattle.dia_refused_json.specs.Members.{json_line};
 ghost use Rattle.dia_json.specs.Whole.{IsProposeJson, no_command_members, pair_json, table_json};
 
-use crate::answers::refuse;
 use dia_check::Unknown;
 use dia_compat::{ProposeFault, Table};
 use dia_io::{Exit, Inputs};
-use dia_refused_json::quoted;
+use dia_refused_json::{quoted, refuse};
 use dia_report::{Answered, BothBooks, Report};
 use dia_run::read_dictionary;
 use std::alloc::{AllocError, Global};

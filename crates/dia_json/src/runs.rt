@@ -12,12 +12,12 @@ ghost use Rattle.dia_json.specs.Runs.{RefutesFront, RefutesLines, RefutesSummary
 ghost use Rattle.dia_json.specs.Runs.{StreamFront, StreamSummary, StreamWhole};
 ghost use Rattle.dia_refused_json.specs.Telling.{TellsBad};
 
-use crate::answers::refuse;
 use crate::judges::{JsonCheck, JsonRefute};
 use dia_captures::{Captured, CheckJudge, Lines, RefuteJudge, Tally};
 use dia_check::{Levels, Unknown};
 use dia_io::{Exit, Feed, Input, Inputs, Sink, put_all};
 use dia_lines::{LinesFault, answer_lines};
+use dia_refused_json::refuse;
 use dia_report::{Answered, Refused, Report, Reported};
 use dia_run::read_dictionary;
 use dia_streams::answer_stream;

@@ -11,12 +11,11 @@ ghost use Rattle.dia_wire.specs.Wire.{IsHead, IsMessageLength};
 ghost use Rattle.dia_json.specs.Messages.{AreShown, TellsMessage, command_member, header_members, lines_of};
 ghost use Rattle.dia_json.specs.Whole.{IsShowJson};
 
-use crate::answers::refuse;
 use crate::listing::push_level;
 use dia_book::Class;
 use dia_dict::Book;
 use dia_io::{Exit, Inputs};
-use dia_refused_json::quoted;
+use dia_refused_json::{quoted, refuse};
 use dia_report::{Answered, CutListing, Refused, Report};
 use dia_run::{read_dictionary, read_message};
 use dia_wire::{HEADER_LENGTH, Header, split_message};

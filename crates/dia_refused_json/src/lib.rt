@@ -1,8 +1,10 @@
 //! Inputs that are refused, as JSON (RFC 8259): an object a line.
 #![tactic(auto)]
 
+mod answer;
 mod refusals;
 mod strings;
 
+pub use answer::refuse;
 pub use refusals::bad_input_line;
 pub use strings::quoted;

@@ -1,0 +1,26 @@
+//! The answer of a command that refuses an input.
+
+ghost use Rattle.std.specs.Prelude.{IfOk, string_bytes};
+ghost use Rattle.dia_refused_json.specs.Telling.{TellsBad};
+
+use crate::refusals::bad_input_line;
+use dia_io::{Exit, Input};
+use dia_report::{Answered, Refused, Report};
+use std::alloc::{AllocError, Global};
+
+/// The answer where this input is refused.
+pub fn refuse(alloc: Global, input: &Input, refused: Refused) -> Result<Answered, AllocError>
+    ensures { IfOk result (λ answered. TellsBad input.now refused (string_bytes answered.text) answered.exit) }
+{
+    match refused {
+        Refused::Bad(bad) => {
+            let text = bad_input_line(alloc, input, &bad)?;
+            Ok(Answered {
+                text,
+                exit: Exit::Bad,
+                report: Report::Refused(bad),
+            })
+        }
+        Refused::NoMemory => Err(AllocError),
+    }
+}
