@@ -1,5 +1,5 @@
 -- The lines of a table's text: a line says one thing, a text one table, and it has one first line that fits none.
-use Rattle.std.proofs.Common.{◌≡◌, ◌≢◌, ℕ, zero, suc, ◌<◌, ◌≤◌, List, [], ◌∷◌, ◌++◌, length, get_or, take, drop, Some, option_to_list, codes, refl, sym, ap, subst, ◌∙◌, inl, inr, arith}
+use Rattle.std.proofs.Common.{◌≡◌, ◌≢◌, ℕ, zero, suc, ◌+◌, ◌<◌, ◌≤◌, List, [], ◌∷◌, ◌++◌, length, get_or, take, drop, Some, option_to_list, codes, refl, sym, ap, subst, ◌∙◌, inl, inr, arith}
 use Rattle.std.specs.Prelude.{◌⊎◌, slice_get}
 use Rattle.std.specs.List.{AllByRecursion}
 use Rattle.std.specs.Str.Lines.{lines}
@@ -9,7 +9,7 @@ use Rattle.std.proofs.lemmas.List.{take-append-drop, take-take, length-append, a
 use Rattle.std.proofs.lemmas.List.Elements.{filter_map-append}
 use Rattle.dia_compat.specs.declared.table.TableFault.{TableFault}
 use Rattle.dia_compat.specs.declared.table.TableFault.TheVariants as fault
-use Rattle.dia_compat.specs.TableText.{PlainTable, Line, Blank, Command, Avp, command_pair, avp_pair, table_of, with_line}
+use Rattle.dia_compat.specs.TableText.{PlainTable, most_pairs, Line, Blank, Command, Avp, command_pair, avp_pair, table_of, with_line}
 use Rattle.dia_compat.specs.TableText.{IsLine, HasForm, AreLines, HasShortNames, IsWithinLimits, IsTableOf, IsTable, IsFirstFault, IsTableFault}
 use Rattle.dia_compat.specs.Words.{first_word, behind_word, ArePairWords}
 use Rattle.dia_compat.specs.Lines.{Adds, PassesLimit, HasRoom}
@@ -149,6 +149,32 @@ adds_avp line a b old new limits is room commands avps = record {
     subst (AllByRecursion HasShortNames) (sym commands) limits.1,
     subst (AllByRecursion HasShortNames) (sym avps) (all_append HasShortNames old.avps ((a, b) ∷ []) limits.2 (room.1, tt)),
   );
+}
+
+all_last : {X : Type 0} (P : X → Type 0) (xs : List X) (x : X) → AllByRecursion P (xs ++ x ∷ []) → P x
+all_last P [] x h = h.0
+all_last P (y ∷ ys) x h = all_last P ys x h.1
+
+abbrev no_pairs : List (List ℕ × List ℕ)
+no_pairs = []
+
+-- and passes a limit where there is none
+pub passes_command : (line a b : List ℕ) (old : PlainTable) → IsLine (Command a b) line → ¬ HasRoom old (a, b) → PassesLimit line old
+passes_command line a b old is full = record {
+  said = Command a b;
+  is_line = is;
+  passed = λ w.
+      let few : length (old.commands ++ (a, b) ∷ []) + length (old.avps ++ no_pairs) ≤ most_pairs = w.0 in
+      full (omega (arith, few, length-append old.commands ((a, b) ∷ []), length-append old.avps no_pairs), all_last HasShortNames old.commands (a, b) w.1);
+}
+
+pub passes_avp : (line a b : List ℕ) (old : PlainTable) → IsLine (Avp a b) line → ¬ HasRoom old (a, b) → PassesLimit line old
+passes_avp line a b old is full = record {
+  said = Avp a b;
+  is_line = is;
+  passed = λ w.
+      let few : length (old.commands ++ no_pairs) + length (old.avps ++ (a, b) ∷ []) ≤ most_pairs = w.0 in
+      full (omega (arith, few, length-append old.commands no_pairs, length-append old.avps ((a, b) ∷ [])), all_last HasShortNames old.avps (a, b) w.2);
 }
 
 -- the front of a table's text is one's too
