@@ -3,6 +3,7 @@ use Rattle.std.proofs.Common.{◌≡◌, ℕ, ◌+◌, ◌<◌, Bool, true, fals
 use Rattle.std.specs.Prelude.{◌&&◌, ◌||◌, not, slice_get, string_bytes, String}
 use Rattle.std.specs.Global.{Global}
 use Rattle.std.specs.List.{list_any}
+use Rattle.std.specs.Option.{option_map}
 use Rattle.std.specs.Str.{bytes_eq}
 use Rattle.std.proofs.lemmas.Bool.{and_parts, cases_lt}
 use Rattle.std.proofs.lemmas.List.{map-append, take_more}
@@ -132,3 +133,13 @@ is_old keys k pairs i seen b e f = sym (seen k.0.now k.1.now) ∙ list_any-map p
     by : (c : Bool) → not c ≡ false → c ≡ true
     by true g = refl
     by false g = absurd (let w : true ≡ false = g in cc)
+
+-- the names of the pair at a place
+pub names_there : (pairs : List (String Global × String Global)) (i : ℕ) (p : String Global × String Global) (a b : Bor (List ℕ)) → slice_get pairs i ≡ Some p
+    → a.now ≡ string_bytes p.0 → b.now ≡ string_bytes p.1 → Some (plain_names (a, b)) ≡ option_map plain_pair (slice_get pairs i)
+names_there pairs i p a b at first second =
+    ap (λ (x : List ℕ). Some (x, b.now)) first ∙ ap (λ (y : List ℕ). Some (string_bytes p.0, y)) second
+    ∙ ap (λ (o : Option (String Global × String Global)). option_map plain_pair o) (sym at)
+
+pub no_names_there : (pairs : List (String Global × String Global)) (i : ℕ) → slice_get pairs i ≡ None → None ≡ option_map plain_pair (slice_get pairs i)
+no_names_there pairs i past = ap (λ (o : Option (String Global × String Global)). option_map plain_pair o) (sym past)

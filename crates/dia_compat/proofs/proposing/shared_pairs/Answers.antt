@@ -1,10 +1,8 @@
-use Rattle.std.proofs.Common.{List}
+use Rattle.std.proofs.Common.{List, ◌≡◌, length, arith, sym, ap, subst, ◌∙◌, ◌++◌, option_to_list}
 use Rattle.std.specs.List.{filter_map}
 use Rattle.std.proofs.lemmas.List.{take_all}
-use Rattle.dia_book.specs.Dictionary.{DictEntry}
-use Rattle.std.proofs.Common.{◌≡◌, length, arith, sym, ap, subst, ◌∙◌, ◌++◌, option_to_list}
 use Rattle.std.specs.Prelude.{slice_get}
-use Rattle.dia_book.specs.Dictionary.{Dictionary}
+use Rattle.dia_book.specs.Dictionary.{DictEntry, Dictionary}
 use Rattle.dia_compat.specs.NamedCommands.{shared_pair}
 use Rattle.dia_rules.proofs.Members.{there_is}
 use Rattle.dia_compat.proofs.WantedDefinitions.{filter_map_more}

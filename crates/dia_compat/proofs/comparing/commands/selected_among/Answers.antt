@@ -1,9 +1,7 @@
-use Rattle.std.proofs.Common.{arith}
+use Rattle.std.proofs.Common.{arith, Bool, List, [], ◌∷◌, ◌++◌, map, take, sym, ap, ◌∙◌}
 use Rattle.std.proofs.lemmas.List.{take_all}
-use Rattle.dia_book.specs.Dictionary.{Dictionary, PlainDefinition}
+use Rattle.dia_book.specs.Dictionary.{Dictionary, PlainDefinition, plain_definition}
 use Rattle.dia_compat.specs.Sides.{Sides}
-use Rattle.std.proofs.Common.{Bool, List, [], ◌∷◌, ◌++◌, map, take, sym, ap, ◌∙◌}
-use Rattle.dia_book.specs.Dictionary.{plain_definition}
 use Rattle.dia_compat.specs.PairTests.{plain_names, is_selected}
 use Rattle.dia_rules.proofs.SelectedCommands.{command_at}
 use Rattle.dia_compat.proofs.CommandsByCode.{map_more}

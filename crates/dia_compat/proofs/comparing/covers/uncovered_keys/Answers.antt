@@ -1,10 +1,8 @@
-use Rattle.std.proofs.Common.{filter}
+use Rattle.std.proofs.Common.{filter, ◌<◌, List, [], ◌∷◌, ◌++◌, length, map, sym, ap, ◌∙◌, arith}
 use Rattle.std.proofs.lemmas.List.{take_all, length-map}
-use Rattle.dia_book.specs.Dictionary.{Dictionary}
-use Rattle.std.proofs.Common.{◌<◌, List, [], ◌∷◌, ◌++◌, length, map, sym, ap, ◌∙◌, arith}
 use Rattle.std.specs.Prelude.{not, ◌||◌}
+use Rattle.dia_book.specs.Dictionary.{Dictionary, DictEntry}
 use Rattle.dia_wire.specs.declared.Key.{Key}
-use Rattle.dia_book.specs.Dictionary.{DictEntry}
 use Rattle.dia_compat.specs.Tests.{holds_key}
 use Rattle.dia_compat.specs.PairTests.{is_alone}
 use Rattle.dia_compat.proofs.SetsOfNames.{read_at}

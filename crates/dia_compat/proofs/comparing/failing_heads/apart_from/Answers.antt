@@ -1,9 +1,7 @@
-use Rattle.std.proofs.Common.{List, arith, ◌∙◌}
+use Rattle.std.proofs.Common.{List, arith, ◌∙◌, ℕ, Bool, map, ap}
 use Rattle.std.specs.List.{filter_map, enumerate_from}
 use Rattle.std.proofs.lemmas.List.{take_all}
-use Rattle.dia_book.specs.Dictionary.{Dictionary}
-use Rattle.std.proofs.Common.{ℕ, Bool, map, ap}
-use Rattle.dia_book.specs.Dictionary.{PlainDefinition, plain_definition}
+use Rattle.dia_book.specs.Dictionary.{Dictionary, PlainDefinition, plain_definition}
 use Rattle.dia_compat.specs.declared.reasons.Failing.TheVariants.{NotBeside}
 use Rattle.dia_compat.specs.PairTests.{plain_names, is_ready}
 use Rattle.dia_compat.specs.Failings.{unless}

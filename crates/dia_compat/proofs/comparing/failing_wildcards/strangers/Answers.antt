@@ -1,9 +1,8 @@
-use Rattle.std.proofs.Common.{List, ap, ◌∙◌}
+use Rattle.std.proofs.Common.{List, ap, ◌∙◌, ◌<◌, length, arith}
 use Rattle.std.specs.List.{filter_map}
 use Rattle.std.proofs.lemmas.List.{take_all}
 use Rattle.dia_book.specs.Dictionary.{DictEntry}
 use Rattle.dia_compat.specs.Failings.{unless}
-use Rattle.std.proofs.Common.{◌<◌, length, arith}
 use Rattle.dia_compat.specs.declared.reasons.Failing.TheVariants.{Stranger}
 use Rattle.dia_compat.specs.PairTests.{stranger_fits}
 use Rattle.dia_compat.proofs.ListsOfFailings.{stranger_more}

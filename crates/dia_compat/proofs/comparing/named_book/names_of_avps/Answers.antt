@@ -1,6 +1,5 @@
-use Rattle.std.proofs.Common.{◌∙◌}
+use Rattle.std.proofs.Common.{◌∙◌, ◌<◌, length, map, arith}
 use Rattle.std.proofs.lemmas.List.{take_all, length-map}
-use Rattle.std.proofs.Common.{◌<◌, length, map, arith}
 use Rattle.dia_book.specs.Dictionary.{DictEntry}
 use Rattle.dia_compat.proofs.SetsOfNames.{one_more, distinct_names, read_at}
 use Rattle.dia_compat.proofs.comparing.named_book.names_of_avps.Goals as goal

@@ -1,10 +1,8 @@
-use Rattle.std.proofs.Common.{filter}
+use Rattle.std.proofs.Common.{filter, ◌<◌, List, [], ◌∷◌, ◌++◌, length, map, sym, ap, ◌∙◌, arith, Option, ℕ}
 use Rattle.std.proofs.lemmas.List.{take_all, length-map}
-use Rattle.dia_book.specs.Dictionary.{Dictionary}
-use Rattle.std.proofs.Common.{◌<◌, List, [], ◌∷◌, ◌++◌, length, map, sym, ap, ◌∙◌, arith, Option, ℕ}
 use Rattle.std.specs.Prelude.{is_some}
+use Rattle.dia_book.specs.Dictionary.{Dictionary, DictEntry, entry_of}
 use Rattle.dia_wire.specs.declared.Key.{Key}
-use Rattle.dia_book.specs.Dictionary.{DictEntry, entry_of}
 use Rattle.dia_compat.proofs.SetsOfNames.{read_at}
 use Rattle.dia_compat.proofs.FilteredMembers.{kept, left_out}
 use Rattle.dia_compat.proofs.proposing.reaching.shared_keys.Goals as goal

@@ -1,13 +1,11 @@
-use Rattle.std.proofs.Common.{subst}
+use Rattle.std.proofs.Common.{subst, ℕ, List, map, arith}
 use Rattle.std.specs.List.{filter_map}
 use Rattle.std.proofs.lemmas.List.{take_all}
-use Rattle.dia_compat.specs.WantedNames.{AddsPairs}
-use Rattle.std.proofs.Common.{ℕ, List, map, arith}
+use Rattle.std.specs.Borrow.{Bor}
+use Rattle.dia_compat.specs.WantedNames.{AddsPairs, wanted_name}
 use Rattle.dia_book.specs.Dictionary.{plain_definition}
 use Rattle.dia_book.specs.declared.Definition.{Definition}
-use Rattle.std.specs.Borrow.{Bor}
 use Rattle.dia_compat.specs.TableText.{plain_pair}
-use Rattle.dia_compat.specs.WantedNames.{wanted_name}
 use Rattle.dia_compat.proofs.WantedDefinitions.{pairs_more}
 use Rattle.dia_compat.proofs.CommandsByCode.{item_there}
 use Rattle.dia_compat.proofs.proposing.wanting.push_all_wanted.Goals as goal
