@@ -110,7 +110,10 @@ impl<'a> Vocabulary<'a> {
     fn push_near(&self, out: &mut String, named: Named, name: &str) -> Result<bool, AllocError> {
         let names = names_of(*out.allocator(), self.dictionary.source, named)?;
         match near_of(named, name, &names) {
-            Some(near) => push_near(out, near),
+            Some(near) => {
+                push_texts(out, &["hint: did you mean ", near, "?\n"])?;
+                Ok(true)
+            }
             None => Ok(false),
         }
     }
@@ -122,9 +125,4 @@ fn near_of<'a>(named: Named, name: &str, names: &[&'a str]) -> Option<&'a str> {
         Named::Command => nearest_command(name, names),
         Named::Avp => nearest_name(name, names),
     }
-}
-
-fn push_near(out: &mut String, near: &str) -> Result<bool, AllocError> {
-    push_texts(out, &["hint: did you mean ", near, "?\n"])?;
-    Ok(true)
 }

@@ -72,17 +72,19 @@ fn push_side(
     is_first: bool,
     known: &Vocabulary<'_>,
 ) -> Result<Strangers, AllocError> {
-    let mut start = 0usize;
+    let mut begins = true;
     let mut strangers = Strangers {
         count: 0,
         is_odd: false,
     };
-    for line in table.text.split(|byte| *byte == b'\n') {
-        let words = words_of(table.text, start);
-        if let Some(stranger) = stranger_in(&words, is_first, known) {
-            strangers = push_next(out, table, known, &stranger, strangers)?;
+    for (at, byte) in table.text.iter().enumerate() {
+        if begins {
+            let words = words_of(table.text, at);
+            if let Some(stranger) = stranger_in(&words, is_first, known) {
+                strangers = push_next(out, table, known, &stranger, strangers)?;
+            }
         }
-        start = start.saturating_add(line.len()).saturating_add(1);
+        begins = *byte == b'\n';
     }
     Ok(strangers)
 }

@@ -91,11 +91,12 @@ fn push_last(out: &mut String, scene: &Scene<'_>) -> Added {
     if place.line == place_of(scene.text, scene.misfit.at).line {
         return Ok(());
     }
-    if scene.token.is_none() {
-        write!(out, "hint: its last word stands at {place}\n")
+    let what = if scene.token.is_none() {
+        "its last word"
     } else if scene.place == "Close" {
-        write!(out, "hint: the name before it stands at {place}\n")
+        "the name before it"
     } else {
-        Ok(())
-    }
+        return Ok(());
+    };
+    write!(out, "hint: {what} stands at {place}\n")
 }
