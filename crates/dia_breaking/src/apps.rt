@@ -80,12 +80,12 @@ pub(crate) struct BothApps {
 }
 
 impl BothApps {
-    pub fn new<A: Book, B: Book>(alloc: Global, a: &A, b: &B) -> Result<Self, AllocError>
-        ensures first { IfOk result (λ both. AreApps (A.meaning a.now) both.first) }
-        ensures second { IfOk result (λ both. AreApps (B.meaning b.now) both.second) }
+    pub fn new<A: Book, B: Book>(alloc: Global, a: &A, b: &B) -> Result<Box<Self>, AllocError>
+        ensures first { IfOk result (λ both. AreApps (A.meaning a.now) both.value.first) }
+        ensures second { IfOk result (λ both. AreApps (B.meaning b.now) both.value.second) }
     {
         let first = Apps::new(alloc, a)?;
         let second = Apps::new(alloc, b)?;
-        Ok(BothApps { first, second })
+        Ok(Box::new(alloc, BothApps { first, second })?)
     }
 }

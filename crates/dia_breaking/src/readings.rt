@@ -111,17 +111,18 @@ pub(crate) struct OtherApps {
 }
 
 impl OtherApps {
-    pub fn new<A: Book, B: Book>(alloc: Global, a: &A, b: &B) -> Result<Self, AllocError>
-        ensures { IfOk result (AreOtherApps (A.meaning a.now) (B.meaning b.now)) }
+    pub fn new<A: Book, B: Book>(alloc: Global, a: &A, b: &B) -> Result<Box<Self>, AllocError>
+        ensures { IfOk result (λ others. AreOtherApps (A.meaning a.now) (B.meaning b.now) others.value) }
     {
         let requests = NewApps::new(alloc, a, b, Class::Request)?;
         let answers = NewApps::new(alloc, a, b, Class::Answer)?;
         let errors = NewApps::new(alloc, a, b, Class::Error)?;
-        Ok(OtherApps {
+        let others = OtherApps {
             requests,
             answers,
             errors,
-        })
+        };
+        Ok(Box::new(alloc, others)?)
     }
 
     /// The application of the code and the class, if there is one alone.

@@ -82,10 +82,8 @@ impl<'a, A: Book, B: Book> Upgrade<'a, A, B> {
         let lengths = Lengths::new(alloc, a, b, sends)?;
         let book = lengths.book;
         let telling = Box::new(alloc, Telling::new(alloc, book, b, lengths.sends, unknown)?)?;
-        let named = BothApps::new(alloc, book, b)?;
-        let apps = Box::new(alloc, named)?;
-        let others = OtherApps::new(alloc, book, b)?;
-        let new_apps = Box::new(alloc, others)?;
+        let apps = BothApps::new(alloc, book, b)?;
+        let new_apps = OtherApps::new(alloc, book, b)?;
         let outlooks = outlooks(alloc, b, &telling, &lengths)?;
         let nodes = nodes_of(alloc, &outlooks)?;
         let own = own_breaks(alloc, b, &telling.own, &lengths, unknown)?;

@@ -3,10 +3,8 @@ use Rattle.dia_breaking.specs.declared.exits.Outlook.{Outlook}
 use Rattle.dia_breaking.specs.declared.keys.Own.{Own}
 use Rattle.dia_breaking.specs.declared.keys.Telling.{Telling}
 use Rattle.dia_breaking.specs.Exits.{AreOutlooks}
-use Rattle.dia_breaking.specs.Headers.{AreApps}
 use Rattle.dia_breaking.specs.Nodes.{node_in}
 use Rattle.dia_breaking.specs.OwnBreaks.{AreOwnBreaks}
-use Rattle.dia_breaking.specs.Readings.{AreOtherApps}
 use Rattle.dia_breaking.specs.Sender.{costs_of, sender_in}
 use Rattle.dia_breaking.specs.Sides.{sides}
 use Rattle.dia_breaking.specs.Telling.{IsExactTelling}
@@ -32,9 +30,9 @@ invariant_of-result g c =
         have_lines = c.in_ok-outlooks.ensures.levels;
         are_own = subst (λ (told : List Own). AreOwnBreaks s k.listed told c.in_ok-own.own.items) (c.deref-4.ensures.value ∙ ap (λ (t : Telling). t.own.items) c.deref-3.ensures) c.in_ok-own.ensures;
       } ∣₁;
-      first_apps = subst (λ both. AreApps s.sender both.first) (sym c.in_ok-apps.ensures.ok) c.in_ok-named.ensures.first;
-      second_apps = subst (λ both. AreApps db both.second) (sym c.in_ok-apps.ensures.ok) c.in_ok-named.ensures.second;
-      others = subst (AreOtherApps s.sender db) (sym c.in_ok-new_apps.ensures.ok) c.in_ok-others.ensures;
+      first_apps = c.in_ok-apps.ensures.first;
+      second_apps = c.in_ok-apps.ensures.second;
+      others = c.in_ok-new_apps.ensures;
     }
 
 pub outlooks-requires : goal.outlooks-requires
