@@ -8,14 +8,18 @@ use Rattle.serde_json.specs.Data.{Data, Members, array, boolean, member, no_memb
 use Rattle.serde_json.specs.Written.{compact_text, items_text, members_text}
 use Rattle.serde_json.proofs.OnLiterals.{serde_json_on_literals}
 use Rattle.dia_wire.specs.declared.Key.{Key}
-use Rattle.dia_data.specs.Plain.{PlainFormat, Enumerated}
+use Rattle.dia_data.specs.Plain.{PlainFormat, OctetString, Integer32, Integer64, Unsigned32, Unsigned64, Float32, Float64, Grouped, Address}
+use Rattle.dia_data.specs.Plain.{Time, Utf8String, DiameterIdentity, DiameterUri, Enumerated, IpFilterRule, QosFilterRule}
 use Rattle.dia_book.specs.declared.MRule.{MRule}
+use Rattle.dia_book.specs.declared.MRule.TheVariants.{Must, MustNot, Any}
 use Rattle.dia_book.specs.declared.DefHead.{DefHead}
 use Rattle.dia_book.specs.declared.DRule.{DRule}
 use Rattle.dia_book.specs.Dictionary.{Dictionary, DictEntry, PlainDefinition, is_fixed}
 use Rattle.dia_compat.specs.declared.Failing.{Failing}
 use Rattle.dia_compat.specs.declared.PairKind.{PairKind}
+use Rattle.dia_compat.specs.declared.PairKind.TheVariants as kind
 use Rattle.dia_compat.specs.declared.Test.{Test}
+use Rattle.dia_compat.specs.declared.Test.TheVariants as tests
 use Rattle.dia_compat.specs.PairTests.{NamePair}
 use Rattle.dia_compat.specs.PairTests.{p_of}
 use Rattle.dia_run.specs.Pairs.{test_word}
@@ -27,6 +31,10 @@ use Rattle.dia_compared_json.specs.Objects.{number_or_null, p_value, rule_member
 
 abbrev Text : Type 0
 Text = List ℕ
+
+-- a word in quotes, none of whose bytes has an escape
+abbrev plain : Text → Text
+plain word = codes "\"" ++ (word ++ codes "\"")
 
 -- ---- arrays
 
@@ -108,10 +116,43 @@ taken_is : (format : PlainFormat) (m : MRule)
 unfolding serde_json_on_literals
 taken_is format m = refl
 
-pub taken_told : (format : PlainFormat) (rule : MRule) (own_word own_m word m values text : Text) → own_word ≡ format_word format → own_m ≡ m_word rule → word ≡ quoted own_word → m ≡ quoted own_m
-    → values ≡ members_text true (values_members format) → text ≡ taken_text word m values → text ≡ members_text true (taken_members format rule)
-taken_told format rule own_word own_m word m values text is_own_word is_own_m is_word is_m is_values is =
-    is ∙ ap₂ (λ (x y : Text). taken_text x y values) (is_word ∙ ap quoted is_own_word) (is_m ∙ ap quoted is_own_m)
+-- no byte of these words is escaped
+format_is_plain : (f : PlainFormat) → plain (format_word f) ≡ quoted (format_word f)
+unfolding serde_json_on_literals
+format_is_plain OctetString = refl
+format_is_plain Integer32 = refl
+format_is_plain Integer64 = refl
+format_is_plain Unsigned32 = refl
+format_is_plain Unsigned64 = refl
+format_is_plain Float32 = refl
+format_is_plain Float64 = refl
+format_is_plain Grouped = refl
+format_is_plain Address = refl
+format_is_plain Time = refl
+format_is_plain Utf8String = refl
+format_is_plain DiameterIdentity = refl
+format_is_plain DiameterUri = refl
+format_is_plain (Enumerated ranges) = refl
+format_is_plain IpFilterRule = refl
+format_is_plain QosFilterRule = refl
+
+m_is_plain : (m : MRule) → plain (m_word m) ≡ quoted (m_word m)
+unfolding serde_json_on_literals
+m_is_plain Must = refl
+m_is_plain MustNot = refl
+m_is_plain Any = refl
+
+abbrev written_taken : (word m values : Text) → Text
+written_taken word m values = codes ",\"format\":\"" ++ (word ++ (codes "\",\"m\":\"" ++ (m ++ (codes "\"" ++ values))))
+
+taken_joined : (word m values : Text) → written_taken word m values ≡ taken_text (plain word) (plain m) values
+taken_joined word m values = simp append_assoc
+
+pub taken_told : (format : PlainFormat) (rule : MRule) (word m values text : Text) → word ≡ format_word format → m ≡ m_word rule
+    → values ≡ members_text true (values_members format) → text ≡ written_taken word m values → text ≡ members_text true (taken_members format rule)
+taken_told format rule word m values text is_word is_m is_values is =
+    is ∙ taken_joined word m values ∙ ap₂ (λ (x y : Text). taken_text (plain x) (plain y) values) is_word is_m
+    ∙ ap₂ (λ (x y : Text). taken_text x y values) (format_is_plain format) (m_is_plain rule)
     ∙ ap (λ (x : Text). taken_text (quoted (format_word format)) (quoted (m_word rule)) x) is_values ∙ sym (taken_is format rule)
 
 -- ---- commands
@@ -185,11 +226,38 @@ failure_is k p test told = refl
 failure_ends : (kind first second test fails : Text) → failure_text kind first second test fails (codes "}\n") ≡ failure_text kind first second test fails (codes "}") ++ codes "\n"
 failure_ends kind first second test fails = simp append_assoc
 
-pub failure_told : (k : PairKind) (p : NamePair) (test : Test) (told : List Data) (own_kind own_test kind first second told_test fails text : Text) → own_kind ≡ kind_word k → own_test ≡ test_word test
-    → kind ≡ quoted own_kind → first ≡ quoted p.0 → second ≡ quoted p.1 → told_test ≡ quoted own_test → fails ≡ compact_text (array (items_of told))
-    → text ≡ failure_text kind first second told_test fails (codes "}\n") → text ≡ json_line (failure_members k p test told)
-failure_told k p test told own_kind own_test kind first second told_test fails text is_own_kind is_own_test is_kind is_first is_second is_test is_fails is =
-    is ∙ ap₂ (λ (x y : Text). failure_text x y second told_test fails (codes "}\n")) (is_kind ∙ ap quoted is_own_kind) is_first
-    ∙ ap₂ (λ (x y : Text). failure_text (quoted (kind_word k)) (quoted p.0) x y fails (codes "}\n")) is_second (is_test ∙ ap quoted is_own_test)
+-- no byte of these words is escaped
+kind_is_plain : (k : PairKind) → plain (kind_word k) ≡ quoted (kind_word k)
+unfolding serde_json_on_literals
+kind_is_plain kind.Command = refl
+kind_is_plain kind.Avp = refl
+
+test_is_plain : (t : Test) → plain (test_word t) ≡ quoted (test_word t)
+unfolding serde_json_on_literals
+test_is_plain tests.N1 = refl
+test_is_plain tests.N2 = refl
+test_is_plain tests.N3 = refl
+test_is_plain tests.N4 = refl
+test_is_plain tests.N5 = refl
+test_is_plain tests.N6 = refl
+test_is_plain tests.N7 = refl
+test_is_plain tests.N8 = refl
+test_is_plain tests.N9 = refl
+test_is_plain tests.N10 = refl
+
+abbrev written_failure : (kind first second test fails : Text) → Text
+written_failure kind first second test fails = codes "{\"verdict\":\"no\",\"kind\":\"" ++ (kind ++ (codes "\",\"first\":" ++ (first ++ (codes ",\"second\":"
+    ++ (second ++ (codes ",\"test\":\"" ++ (test ++ (codes "\",\"fails\":" ++ (fails ++ codes "}\n")))))))))
+
+failure_joined : (kind first second test fails : Text) → written_failure kind first second test fails ≡ failure_text (plain kind) first second (plain test) fails (codes "}\n")
+failure_joined kind first second test fails = simp append_assoc
+
+pub failure_told : (k : PairKind) (p : NamePair) (test : Test) (told : List Data) (own_kind own_test first second fails text : Text) → own_kind ≡ kind_word k → own_test ≡ test_word test
+    → first ≡ quoted p.0 → second ≡ quoted p.1 → fails ≡ compact_text (array (items_of told))
+    → text ≡ written_failure own_kind first second own_test fails → text ≡ json_line (failure_members k p test told)
+failure_told k p test told own_kind own_test first second fails text is_kind is_test is_first is_second is_fails is =
+    is ∙ failure_joined own_kind first second own_test fails ∙ ap₂ (λ (x y : Text). failure_text (plain x) first second (plain y) fails (codes "}\n")) is_kind is_test
+    ∙ ap₂ (λ (x y : Text). failure_text x first second y fails (codes "}\n")) (kind_is_plain k) (test_is_plain test)
+    ∙ ap₂ (λ (x y : Text). failure_text (quoted (kind_word k)) x y (quoted (test_word test)) fails (codes "}\n")) is_first is_second
     ∙ ap (λ (x : Text). failure_text (quoted (kind_word k)) (quoted p.0) (quoted p.1) (quoted (test_word test)) x (codes "}\n")) is_fails
     ∙ failure_ends (quoted (kind_word k)) (quoted p.0) (quoted p.1) (quoted (test_word test)) (compact_text (array (items_of told))) ∙ sym (failure_is k p test told)

@@ -70,10 +70,10 @@ fn entry_text<B: Book>(alloc: Global, book: &B, entry: Entry) -> Result<String, 
 fn taken_text(alloc: Global, format: &Format, rule: MRule) -> Result<String, AllocError>
     ensures { IfOk result (λ text. string_bytes text ≡ members_text true (taken_members (plain_format format.now) rule)) }
 {
-    let m = quoted(alloc, m_word(rule))?;
-    let word = quoted(alloc, format_word(format))?;
+    let word = format_word(format);
+    let m = m_word(rule);
     let values = values_text(alloc, format)?;
-    format!(in alloc; ",\"format\":{word},\"m\":{m}{values}")
+    format!(in alloc; ",\"format\":\"{word}\",\"m\":\"{m}\"{values}")
 }
 
 /// The member of a list of values, if the format may have one, and the brace behind it.

@@ -57,12 +57,12 @@ fn failed_text(
     ensures { IfOk result (λ text. (told : List Data) → fails.now ≡ compact_text (array (items_of told))
         → string_bytes text ≡ json_line (failure_members kind (plain_pair pair.now) test told)) }
 {
-    let kind = quoted(alloc, kind_word(kind))?;
+    let kind = kind_word(kind);
+    let test = test_word(test);
     let first = quoted(alloc, pair.0.as_str())?;
     let second = quoted(alloc, pair.1.as_str())?;
-    let test = quoted(alloc, test_word(test))?;
     format!(in alloc;
-        "{{\"verdict\":\"no\",\"kind\":{kind},\"first\":{first},\"second\":{second},\"test\":{test},\"fails\":{fails}}}\n"
+        "{{\"verdict\":\"no\",\"kind\":\"{kind}\",\"first\":{first},\"second\":{second},\"test\":\"{test}\",\"fails\":{fails}}}\n"
     )
 }
 
