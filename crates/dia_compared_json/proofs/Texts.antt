@@ -16,6 +16,7 @@ use Rattle.dia_book.specs.declared.DefHead.{DefHead}
 use Rattle.dia_book.specs.declared.DRule.{DRule}
 use Rattle.dia_book.specs.Dictionary.{Dictionary, DictEntry, PlainDefinition, is_fixed}
 use Rattle.dia_compat.specs.declared.Failing.{Failing}
+use Rattle.dia_compat.specs.declared.Failing.TheVariants as failing
 use Rattle.dia_compat.specs.declared.PairKind.{PairKind}
 use Rattle.dia_compat.specs.declared.PairKind.TheVariants as kind
 use Rattle.dia_compat.specs.declared.Test.{Test}
@@ -201,11 +202,44 @@ failing_is : (f : Failing) (sent accepted : Data) (more : Members)
 unfolding serde_json_on_literals
 failing_is f sent accepted more = refl
 
-pub failing_told : (f : Failing) (sent accepted : Data) (more : Members) (own why told_sent told_accepted told_more text : Text) → own ≡ why_word f → why ≡ quoted own
-    → told_sent ≡ compact_text sent → told_accepted ≡ compact_text accepted → told_more ≡ members_text true more → text ≡ failing_text why told_sent told_accepted told_more
+-- no byte of these words is escaped
+why_is_plain : (f : Failing) → plain (why_word f) ≡ quoted (why_word f)
+unfolding serde_json_on_literals
+why_is_plain (failing.Fixed first second) = refl
+why_is_plain (failing.Counts first second) = refl
+why_is_plain (failing.Unlisted first) = refl
+why_is_plain (failing.Uncovered first) = refl
+why_is_plain (failing.Required second) = refl
+why_is_plain (failing.Crowded first second) = refl
+why_is_plain (failing.NoWildcard first) = refl
+why_is_plain (failing.CountsAsOther first wildcard) = refl
+why_is_plain (failing.WildcardMost first second) = refl
+why_is_plain (failing.WildcardLeast first second) = refl
+why_is_plain (failing.NotCounted second wildcard) = refl
+why_is_plain (failing.Stranger first key) = refl
+why_is_plain (failing.LetIn first key) = refl
+why_is_plain failing.FirstName = refl
+why_is_plain failing.SecondName = refl
+why_is_plain failing.Keys = refl
+why_is_plain failing.MRules = refl
+why_is_plain failing.Formats = refl
+why_is_plain failing.Heads = refl
+why_is_plain failing.PFlags = refl
+why_is_plain failing.Unserved = refl
+why_is_plain (failing.NotBeside second) = refl
+
+abbrev written_failing : (why sent accepted more : Text) → Text
+written_failing why sent accepted more = codes "{\"why\":\"" ++ (why ++ (codes "\",\"sent\":" ++ (sent ++ (codes ",\"accepted\":" ++ (accepted ++ more)))))
+
+failing_joined : (why sent accepted more : Text) → written_failing why sent accepted more ≡ failing_text (plain why) sent accepted more
+failing_joined why sent accepted more = simp append_assoc
+
+pub failing_told : (f : Failing) (sent accepted : Data) (more : Members) (why told_sent told_accepted told_more text : Text) → why ≡ why_word f
+    → told_sent ≡ compact_text sent → told_accepted ≡ compact_text accepted → told_more ≡ members_text true more → text ≡ written_failing why told_sent told_accepted told_more
     → text ≡ compact_text (object (member (codes "why") (string (why_word f)) (member (codes "sent") sent (member (codes "accepted") accepted more))))
-failing_told f sent accepted more own why told_sent told_accepted told_more text is_own is_why is_sent is_accepted is_more is =
-    is ∙ ap₂ (λ (x y : Text). failing_text x y told_accepted told_more) (is_why ∙ ap quoted is_own) is_sent
+failing_told f sent accepted more why told_sent told_accepted told_more text is_why is_sent is_accepted is_more is =
+    is ∙ failing_joined why told_sent told_accepted told_more ∙ ap₂ (λ (x y : Text). failing_text (plain x) y told_accepted told_more) is_why is_sent
+    ∙ ap (λ (x : Text). failing_text x (compact_text sent) told_accepted told_more) (why_is_plain f)
     ∙ ap₂ (λ (x y : Text). failing_text (quoted (why_word f)) (compact_text sent) x y) is_accepted is_more ∙ sym (failing_is f sent accepted more)
 
 pub more_told : (own : Text) (told : Data) (name value text : Text) → name ≡ quoted own → value ≡ compact_text told → text ≡ codes "," ++ (name ++ (codes ":" ++ (value ++ codes "}")))

@@ -72,11 +72,11 @@ fn failing_text<A: Book, B: Book>(
 ) -> Result<String, AllocError>
     ensures { IfOk result (λ text. string_bytes text ≡ compact_text (failing_value a.now b.now failing)) }
 {
-    let why = quoted(alloc, why_word(failing))?;
+    let why = why_word(failing);
     let sent = part_text(alloc, a, sent_part(a, failing))?;
     let accepted = part_text(alloc, b, accepted_part(a, failing))?;
     let more = more_text(alloc, a, b, failing)?;
-    format!(in alloc; "{{\"why\":{why},\"sent\":{sent},\"accepted\":{accepted}{more}")
+    format!(in alloc; "{{\"why\":\"{why}\",\"sent\":{sent},\"accepted\":{accepted}{more}")
 }
 
 /// What else there is of a failing, with the brace behind it.
