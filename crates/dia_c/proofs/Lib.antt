@@ -10,3 +10,4 @@ pub mod Told
 pub mod Unread
 pub mod WhatBreaks
 pub mod YesLines
+pub mod FailureLines
