@@ -6,34 +6,35 @@ ghost use Rattle.clap.specs.Walk.{Row, Text};
 ghost use Rattle.clap.specs.Words.{app_of, found_of, first_of, rows_of, subcommand_rows_of};
 ghost use Rattle.dia_cli.specs.Asking.{IsRefused, IsUnasked, IsUnrun, IsWanting, has_judged, has_pair};
 ghost use Rattle.dia_cli.specs.Asking.{has_compared, has_made, has_refuted, has_word, is_asked, is_judged};
-ghost use Rattle.dia_cli.specs.Asking.{is_policy, is_sender};
+ghost use Rattle.dia_cli.specs.Asking.{is_policy};
 ghost use Rattle.dia_cli.specs.Forms.{Form, IsAccepted, form_name, is_plain_form, words_of};
 ghost use Rattle.dia_cli.specs.Origins.{reads_twice};
 ghost use Rattle.dia_cli.specs.InputWords.{AreFound, one_text, pair_texts};
 ghost use Rattle.dia_cli.specs.Request.{read_once};
 ghost use Rattle.dia_cli.specs.Words.{IsAsked, IsAskedBy, IsPolicy, IsProgram, IsRequestOf};
-ghost use Rattle.dia_cli.specs.Words.{AreJudged, sends_word};
+ghost use Rattle.dia_cli.specs.Words.{AreJudged};
 
 use crate::apart::Apart;
+use crate::arguments::breaking::breaking_of;
 use crate::arguments::showing::show_of;
 use crate::ending::Ending;
 use crate::line::{Words, command_line};
 use crate::origin::Origins;
 use crate::request::Request;
 use crate::rows::command_rows;
-use crate::shown::{Shown, shown_of};
 use crate::task::Task;
 use crate::values::{
-    copies_of, dictionary_of, flag_of, is_given, limit_of, message_of, messages_of, names_of,
-    policy_of, sends_of, table_of, word_of, words_of,
+    copies_of, dictionary_of, flag_of, is_given, limit_of, message_of, messages_of, policy_of,
+    table_of, word_of, words_of,
 };
 use clap::ArgMatches;
 use clap::error::ErrorKind;
 use dia_io::Command;
-use dia_policy::{Levels, Sends, Unknown};
+use dia_policy::{Levels, Unknown};
 use std::alloc::{AllocError, Global};
 use std::convert::AsStr;
 
+mod breaking;
 mod showing;
 
 /// The values of `--unknown`, the policies for AVPs that the dictionary doesn't know.
@@ -341,69 +342,14 @@ fn propose_of<'a>(alloc: Global, found: &ArgMatches<'a>) -> Result<Asked<'a>, Un
         (λ made. IsAsked made.task made.origins (codes "propose", rows_of (found_of found.now))) }
     ensures wanting { IfErr result (IsWanting (codes "propose") (rows_of (found_of found.now))) }
 {
-    let Some(unknown) = unknown_of(found) else {
-        return Err(Unasked::Nothing);
-    };
-    let Some(origins) = pair_of(found) else {
-        return Err(Unasked::Nothing);
-    };
-    let Some(words) = words_of(found, "COMMAND") else {
-        return Err(Unasked::Nothing);
-    };
+    let unknown = unknown_of(found).ok_or(Unasked::Nothing)?;
+    let origins = pair_of(found).ok_or(Unasked::Nothing)?;
+    let words = words_of(found, "COMMAND").ok_or(Unasked::Nothing)?;
     let names = copies_of(alloc, words)?;
     Ok(Asked {
         task: Task::Whole(Command::Propose { unknown, names }),
         origins,
     })
-}
-
-/// `breaking` with the arguments that were found.
-fn breaking_of<'a>(alloc: Global, found: &ArgMatches<'a>) -> Result<Asked<'a>, Unasked>
-    ensures made { IfOk result
-        (λ made. IsAsked made.task made.origins (codes "breaking", rows_of (found_of found.now))) }
-    ensures wanting { IfErr result (IsWanting (codes "breaking") (rows_of (found_of found.now))) }
-{
-    let Some(unknown) = unknown_of(found) else {
-        return Err(Unasked::Nothing);
-    };
-    let Some(origins) = pair_of(found) else {
-        return Err(Unasked::Nothing);
-    };
-    let Some(sends) = sender_of(found) else {
-        return Err(Unasked::Nothing);
-    };
-    let Some(shown) = shown_of(found) else {
-        return Err(Unasked::Nothing);
-    };
-    let Shown {
-        messages,
-        once,
-        meaning,
-    } = shown;
-    let Some(table) = table_of(found, "accepted") else {
-        return Err(Unasked::Nothing);
-    };
-    let names = names_of(alloc, found)?;
-    Ok(Asked {
-        task: Task::Breaking {
-            sends,
-            unknown,
-            messages,
-            once,
-            meaning,
-            names,
-        },
-        origins: Origins { table, ..origins },
-    })
-}
-
-/// The sender.
-fn sender_of(found: &ArgMatches<'_>) -> Option<Sends>
-    ensures sends { IfSome result (λ sends.
-        first_of (codes "sends") (rows_of (found_of found.now)) ≡ Some (sends_word sends)) }
-    ensures none { result ≡ None → is_sender (first_of (codes "sends") (rows_of (found_of found.now))) ≡ false }
-{
-    sends_of(word_of(found, "sends")?)
 }
 
 /// The policy for AVPs that the dictionary doesn't know.

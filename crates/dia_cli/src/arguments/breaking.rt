@@ -1,0 +1,53 @@
+//! The arguments of `breaking`.
+
+ghost use Rattle.std.specs.Prelude.{◌≡◌, IfErr, IfOk, IfSome, None, Some, codes, false};
+ghost use Rattle.clap.specs.Words.{first_of, found_of, rows_of};
+ghost use Rattle.dia_cli.specs.Asking.{IsWanting, is_sender};
+ghost use Rattle.dia_cli.specs.Words.{IsAsked, sends_word};
+
+use crate::arguments::{Asked, Unasked, pair_of, unknown_of};
+use crate::origin::Origins;
+use crate::shown::{Shown, shown_of};
+use crate::task::Task;
+use crate::values::{names_of, sends_of, table_of, word_of};
+use clap::ArgMatches;
+use dia_policy::Sends;
+use std::alloc::Global;
+
+/// `breaking` with the arguments that were found.
+pub(super) fn breaking_of<'a>(alloc: Global, found: &ArgMatches<'a>) -> Result<Asked<'a>, Unasked>
+    ensures made { IfOk result
+        (λ made. IsAsked made.task made.origins (codes "breaking", rows_of (found_of found.now))) }
+    ensures wanting { IfErr result (IsWanting (codes "breaking") (rows_of (found_of found.now))) }
+{
+    let unknown = unknown_of(found).ok_or(Unasked::Nothing)?;
+    let origins = pair_of(found).ok_or(Unasked::Nothing)?;
+    let sends = sender_of(found).ok_or(Unasked::Nothing)?;
+    let Shown {
+        messages,
+        once,
+        meaning,
+    } = shown_of(found).ok_or(Unasked::Nothing)?;
+    let table = table_of(found, "accepted").ok_or(Unasked::Nothing)?;
+    let names = names_of(alloc, found)?;
+    Ok(Asked {
+        task: Task::Breaking {
+            sends,
+            unknown,
+            messages,
+            once,
+            meaning,
+            names,
+        },
+        origins: Origins { table, ..origins },
+    })
+}
+
+/// The sender.
+fn sender_of(found: &ArgMatches<'_>) -> Option<Sends>
+    ensures sends { IfSome result (λ sends.
+        first_of (codes "sends") (rows_of (found_of found.now)) ≡ Some (sends_word sends)) }
+    ensures none { result ≡ None → is_sender (first_of (codes "sends") (rows_of (found_of found.now))) ≡ false }
+{
+    sends_of(word_of(found, "sends")?)
+}
