@@ -178,13 +178,13 @@ impl Telling {
         b: &B,
         sends: Sends,
         unknown: Unknown,
-    ) -> Result<Self, AllocError>
-        ensures { IfOk result (IsExactTelling (sides (A.meaning a.now) (B.meaning b.now) sends unknown)) }
+    ) -> Result<Box<Self>, AllocError>
+        ensures { IfOk result (λ telling. IsExactTelling (sides (A.meaning a.now) (B.meaning b.now) sends unknown) telling.value) }
     {
         let keys = sent_keys(alloc, a, b, sends)?;
         let mut telling = Telling::empty(alloc);
         telling.add_all(a, b, sends, unknown, &keys)?;
-        Ok(telling)
+        Ok(Box::new(alloc, telling)?)
     }
 
     fn empty(alloc: Global) -> Self

@@ -81,7 +81,7 @@ impl<'a, A: Book, B: Book> Upgrade<'a, A, B> {
     {
         let lengths = Lengths::new(alloc, a, b, sends)?;
         let book = lengths.book;
-        let telling = Box::new(alloc, Telling::new(alloc, book, b, lengths.sends, unknown)?)?;
+        let telling = Telling::new(alloc, book, b, lengths.sends, unknown)?;
         let apps = BothApps::new(alloc, book, b)?;
         let new_apps = OtherApps::new(alloc, book, b)?;
         let outlooks = outlooks(alloc, b, &telling, &lengths)?;

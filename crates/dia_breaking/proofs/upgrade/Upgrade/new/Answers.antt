@@ -1,4 +1,4 @@
-use Rattle.std.proofs.Common.{List, map, sym, ap, subst, ◌∙◌}
+use Rattle.std.proofs.Common.{List, map, ap, subst, ◌∙◌}
 use Rattle.dia_breaking.specs.declared.exits.Outlook.{Outlook}
 use Rattle.dia_breaking.specs.declared.keys.Own.{Own}
 use Rattle.dia_breaking.specs.declared.keys.Telling.{Telling}
@@ -7,7 +7,6 @@ use Rattle.dia_breaking.specs.Nodes.{node_in}
 use Rattle.dia_breaking.specs.OwnBreaks.{AreOwnBreaks}
 use Rattle.dia_breaking.specs.Sender.{costs_of, sender_in}
 use Rattle.dia_breaking.specs.Sides.{sides}
-use Rattle.dia_breaking.specs.Telling.{IsExactTelling}
 use Rattle.dia_breaking.proofs.Shortest.{first_is_shortest}
 use Rattle.dia_breaking.proofs.upgrade.Upgrade.new.Goals as goal
 
@@ -25,7 +24,7 @@ invariant_of-result g c =
         are_least = c.in_ok-lengths.ensures.least;
         are_lengths = c.in_ok-lengths.ensures.entries;
         are_others = c.in_ok-lengths.ensures.others;
-        is_telling = subst (IsExactTelling s) (sym c.in_ok-telling.ensures.ok) c.in_ok-new.ensures;
+        is_telling = c.in_ok-telling.ensures;
         are_outlooks = subst (λ telling. AreOutlooks s.sender db telling k c.in_ok-outlooks.outlooks.items) c.deref.ensures c.in_ok-outlooks.ensures.exact;
         have_lines = c.in_ok-outlooks.ensures.levels;
         are_own = subst (λ (told : List Own). AreOwnBreaks s k.listed told c.in_ok-own.own.items) (c.deref-4.ensures.value ∙ ap (λ (t : Telling). t.own.items) c.deref-3.ensures) c.in_ok-own.ensures;
