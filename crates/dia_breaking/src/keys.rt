@@ -179,7 +179,8 @@ impl Telling {
         sends: Sends,
         unknown: Unknown,
     ) -> Result<Box<Self>, AllocError>
-        ensures { IfOk result (λ telling. IsExactTelling (sides (A.meaning a.now) (B.meaning b.now) sends unknown) telling.value) }
+        ensures { IfOk result (λ telling.
+            IsExactTelling (sides (A.meaning a.now) (B.meaning b.now) sends unknown) telling.value) }
     {
         let keys = sent_keys(alloc, a, b, sends)?;
         let mut telling = Telling::empty(alloc);

@@ -11,7 +11,8 @@ loop-rule-init c = c.new-parts.ensures.items
 pub loop-rule-preserved : goal.loop-rule-preserved
 loop-rule-preserved c =
     let none : DRule = record { kind = Fixed; key = None; min = 0; max = None } in
-    steps_more (rule_parts c.args.filler) c.loop-rule.parts.items c.push_part.new.parts.items c.args.rules.now c.loop-rule.rule-index none c.loop-rule-test.true c.loop-rule.invariant c.in_ok-push_part.ensures
+    steps_more (rule_parts c.args.filler) c.loop-rule.parts.items c.push_part.new.parts.items c.args.rules.now c.loop-rule.rule-index none c.loop-rule-test.true c.loop-rule.invariant
+    c.in_ok-push_part.ensures
 
 pub returns : goal.returns
 returns c = steps_all (rule_parts c.args.filler) c.loop-rule.parts.items c.args.rules.now c.loop-rule.rule-index c.loop-rule-test.false c.loop-rule.invariant
