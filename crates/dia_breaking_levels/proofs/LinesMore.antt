@@ -61,7 +61,8 @@ module _ (line : Reason → DRule → Option Line) (a b own_a own_b : List DRule
       e ∙ ap (λ (r : List Line). r ++ filter_map (line reason) own) at ∙ ap (λ (rs : List DRule). all ++ filter_map (line reason) rs) is in
       more TooManyOthers b own_b five _ six is_b
       (more MissingOthers b own_b four _ five is_b
-      (more NotAllowedOther a own_a three _ four is_a (more NotAllowed a own_a two _ three is_a (more TooMany b own_b one _ two is_b (more Missing b own_b none [] one is_b at_none at_one) at_two) at_three) at_four)
+      (more NotAllowedOther a own_a three _ four is_a (more NotAllowed a own_a two _ three is_a
+      (more TooMany b own_b one _ two is_b (more Missing b own_b none [] one is_b at_none at_one) at_two) at_three) at_four)
       at_five) at_six
 
   pub each_reason : {Z E : Type 0} (none one two three four five : List Line) (r : Result (Vec Line Z) E) → own_a ≡ a → own_b ≡ b → none ≡ [] → one ≡ none ++ filter_map (line Missing) own_b

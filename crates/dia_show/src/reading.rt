@@ -81,7 +81,8 @@ fn read_values<'t>(
 
 /// Why an input whose text has this fault is none of words.
 fn bad_by(fault: ValuesFault) -> Result<BadValues, AllocError>
-    ensures { IfOk result (λ bad. fault ≢ ValuesFault.NoMemory × ((input : AnyInput) → HasFault input fault → IsNoValuesText input bad)) }
+    ensures { IfOk result (λ bad. fault ≢ ValuesFault.NoMemory
+        × ((input : AnyInput) → HasFault input fault → IsNoValuesText input bad)) }
 {
     match fault {
         ValuesFault::Syntax { line } => Ok(BadValues::Syntax { line }),

@@ -1,6 +1,7 @@
 //! The lines of the commands, as they are found.
 
-ghost use Rattle.std.specs.Prelude.{◌≡◌, ◌<◌, ◌↔◌, ◌∷◌, All, Bool, Err, IfErr, IfOk, IsOk, IsTrue, OnOk, List, ℕ, Option, [], length, map, true, false};
+ghost use Rattle.std.specs.Prelude.{◌≡◌, ◌<◌, ◌↔◌, ◌∷◌, All, Bool, Err, IfErr, IfOk, IsOk, IsTrue, OnOk};
+ghost use Rattle.std.specs.Prelude.{List, ℕ, Option, [], length, map, true, false};
 ghost use Rattle.dia_breaking.specs.Upgrades.{facts_of, sides_of, stock_of};
 ghost use Rattle.dia_breaking.specs.Confirmed.{most_checked_together};
 ghost use Rattle.std.specs.Io.KnownBytes.{Appends};

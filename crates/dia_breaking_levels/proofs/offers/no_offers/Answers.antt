@@ -16,7 +16,8 @@ returns c =
     let more : ℕ = all - c.in_ok-nodes.nodes.len in
     let nodes = c.resize.new.self.items in
     let is : nodes ≡ replicate n nothing ++ replicate more nothing =
-    c.in_ok-resize.ensures.items ∙ ap (λ (xs : List Offer). xs ++ replicate more c.no_offer-2.result) (fits ∙ first) ∙ ap (λ (o : Offer). replicate n nothing ++ replicate more o) c.no_offer-2.ensures in
+    c.in_ok-resize.ensures.items ∙ ap (λ (xs : List Offer). xs ++ replicate more c.no_offer-2.result) (fits ∙ first)
+    ∙ ap (λ (o : Offer). replicate n nothing ++ replicate more o) c.no_offer-2.ensures in
     let none : (i : ℕ) → i < n + n → node_at nodes i ≡ nothing =
     λ i below. subst (λ (xs : List Offer). node_at xs i ≡ nothing) (sym is) (nothing_twice n more i (omega (arith, c.len.ensures, c.in_ok-nodes.ensures.len))) in
     let size : vec_len c.resize.new.self ≡ n + n = omega (arith, c.in_ok-resize.ensures.len, c.len.ensures, c.in_ok-nodes.ensures.len) in

@@ -6,4 +6,5 @@ use Rattle.dia_json.proofs.verdicts.push_checked.Goals as goal
 pub returns : goal.returns
 returns g c =
     on_ok_weaker c.push_str-2.result
-    (λ e. line_told (checked_members (g.B.Book.meaning c.args.book.now) c.args.verdict.now) _ _ _ _ c.in_ok-push_str.ensures.bytes c.in_ok-push_members.ensures e) (last_pushed _ _ _ _ c.push_str-2.ensures.bytes)
+    (λ e. line_told (checked_members (g.B.Book.meaning c.args.book.now) c.args.verdict.now) _ _ _ _ c.in_ok-push_str.ensures.bytes c.in_ok-push_members.ensures e)
+    (last_pushed _ _ _ _ c.push_str-2.ensures.bytes)

@@ -14,23 +14,27 @@ pub returns-in-Ready-clause-shown : goal.returns-in-Ready-clause-shown
 returns-in-Ready-clause-shown g c =
     let opened = rw c.in-Ready.is at c.in_ok-opening.ensures in
     IfOk-weaker c.list_lines.result _ _
-    (λ reported listed. all_shown c.args.names c.args.inputs.now (plain_manner_of c.deref.result.now) _ (rw (← c.deref-in-Ready.ensures) at opened.0) (rw (← c.deref.ensures) at opened.1) (rw (← c.deref.ensures) at opened.2) _ _ _ _ reported.exit listed)
+    (λ reported listed. all_shown c.args.names c.args.inputs.now (plain_manner_of c.deref.result.now) _ (rw (← c.deref-in-Ready.ensures) at opened.0)
+    (rw (← c.deref.ensures) at opened.1) (rw (← c.deref.ensures) at opened.2) _ _ _ _ reported.exit listed)
     c.list_lines.ensures.listed
 
 pub returns-in-Ready-clause-front : goal.returns-in-Ready-clause-front
 returns-in-Ready-clause-front g c = λ err.
     let opened = rw c.in-Ready.is at c.in_ok-opening.ensures in
-    front_shown c.args.names c.args.inputs.now (plain_manner_of c.deref.result.now) _ (rw (← c.deref-in-Ready.ensures) at opened.0) (rw (← c.deref.ensures) at opened.1) (rw (← c.deref.ensures) at opened.2) _ _ _ _ (c.list_lines.ensures.front err)
+    front_shown c.args.names c.args.inputs.now (plain_manner_of c.deref.result.now) _ (rw (← c.deref-in-Ready.ensures) at opened.0)
+    (rw (← c.deref.ensures) at opened.1) (rw (← c.deref.ensures) at opened.2) _ _ _ _ (c.list_lines.ensures.front err)
 
 pub returns-in-Ready-clause-no_memory : goal.returns-in-Ready-clause-no_memory
 returns-in-Ready-clause-no_memory g c = λ e.
     let opened = rw c.in-Ready.is at c.in_ok-opening.ensures in
-    lines_shown c.args.names c.args.inputs.now (plain_manner_of c.deref.result.now) _ (rw (← c.deref-in-Ready.ensures) at opened.0) (rw (← c.deref.ensures) at opened.1) (rw (← c.deref.ensures) at opened.2) _ _ _ _ (c.list_lines.ensures.no_memory e)
+    lines_shown c.args.names c.args.inputs.now (plain_manner_of c.deref.result.now) _ (rw (← c.deref-in-Ready.ensures) at opened.0)
+    (rw (← c.deref.ensures) at opened.1) (rw (← c.deref.ensures) at opened.2) _ _ _ _ (c.list_lines.ensures.no_memory e)
 
 pub returns-in-Ready-clause-endless : goal.returns-in-Ready-clause-endless
 returns-in-Ready-clause-endless g c = λ e.
     let opened = rw c.in-Ready.is at c.in_ok-opening.ensures in
-    lines_shown c.args.names c.args.inputs.now (plain_manner_of c.deref.result.now) _ (rw (← c.deref-in-Ready.ensures) at opened.0) (rw (← c.deref.ensures) at opened.1) (rw (← c.deref.ensures) at opened.2) _ _ _ _ (c.list_lines.ensures.endless e)
+    lines_shown c.args.names c.args.inputs.now (plain_manner_of c.deref.result.now) _ (rw (← c.deref-in-Ready.ensures) at opened.0)
+    (rw (← c.deref.ensures) at opened.1) (rw (← c.deref.ensures) at opened.2) _ _ _ _ (c.list_lines.ensures.endless e)
 
 pub returns-in-Ready-clause-unread : goal.returns-in-Ready-clause-unread
 returns-in-Ready-clause-unread g c = IfOk-weaker c.list_lines.result _ _ (λ reported some bad. absurd (some bad)) c.list_lines.ensures.exit

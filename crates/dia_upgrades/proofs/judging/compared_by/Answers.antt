@@ -20,7 +20,9 @@ pub returns-clause-answers : goal.returns-clause-answers
 returns-clause-answers g c = λ input da db sound between is_list can places_are.
     let asked = c.args.asked in
     let list = map plain_entry c.args.list.now in
-    let all = subst (λ (s : Sides). AreAllPut s asked list c.args.commands.now (g.S.Sink.written c.args.sink.now) (g.S.Sink.written c.put_lines.new.sink) c.in_ok-listing.listing.value.seen) between c.in_ok-listing.ensures.all in
+    let all = subst (λ (s : Sides). AreAllPut s asked list c.args.commands.now (g.S.Sink.written c.args.sink.now) (g.S.Sink.written c.put_lines.new.sink)
+    c.in_ok-listing.listing.value.seen) between c.in_ok-listing.ensures.all in
     let ends = subst (λ (l : Listing). Ends asked l.seen (g.S.Sink.written c.put_lines.new.sink) (g.S.Sink.written c.ended.new.sink) c.ended.result) c.deref.ensures c.ended.ensures.ends in
-    all_answered asked input da db list is_list sound can all.apart c.args.commands.now (g.S.Sink.written c.args.sink.now) (g.S.Sink.written c.put_lines.new.sink) c.in_ok-listing.listing.value.seen places_are
+    all_answered asked input da db list is_list sound can all.apart c.args.commands.now (g.S.Sink.written c.args.sink.now) (g.S.Sink.written c.put_lines.new.sink)
+    c.in_ok-listing.listing.value.seen places_are
     all refl _ c.ended.result ends
