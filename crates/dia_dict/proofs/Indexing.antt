@@ -1,6 +1,5 @@
 pub mod Places
 pub mod Selectors
-pub mod Commands
 pub mod CommandTables
 pub mod Premises
 pub mod Tables

@@ -1,6 +1,5 @@
 -- What commands are looked up by: the messages that they are for.
-use Rattle.std.specs.Prelude.{ℕ, Bool, true, false, Option, Some, None, ◌==◌, ◌&&◌, if◌then◌else◌}
-use Rattle.std.specs.Bool.{beq}
+use Rattle.std.specs.Prelude.{ℕ, ◌+◌, ◌*◌, true, false, Option, Some, None, if◌then◌else◌}
 use Rattle.dia_wire.specs.declared.Key.{Key}
 use Rattle.dia_book.specs.Dictionary.{same_class}
 use Rattle.dia_book.specs.declared.Class.{Class}
@@ -9,8 +8,6 @@ use Rattle.dia_book.specs.declared.DefHead.{DefHead}
 use Rattle.dia_book.specs.declared.DefHead.TheVariants as head
 use Rattle.dia_dict.specs.declared.selectors.Selector.{Selector}
 use Rattle.dia_dict.specs.declared.selectors.Selector.TheVariants as selectors
-use Rattle.dia_dict.specs.declared.selectors.Service.{Service}
-use Rattle.dia_dict.specs.declared.selectors.Service.TheVariants as services
 
 -- all messages of the class Error have one selector (RFC 6733 section 7.2)
 abbrev pub selector : ℕ → Class → Option ℕ → Selector
@@ -23,21 +20,15 @@ abbrev pub selector_of : DefHead → Selector
 selector_of (head.Command code class app p) = selector code class app
 selector_of head = selectors.Error
 
--- the same without applications
-abbrev pub service : ℕ → Class → Service
-service code classes.Request = services.Command code true
-service code classes.Answer = services.Command code false
-service code classes.Error = services.Error
+-- the number of the messages of a code and a class, whatever their application
+abbrev pub service : ℕ → Class → ℕ
+service code classes.Request = 2 * code + 1
+service code classes.Answer = 2 * code + 2
+service code classes.Error = 0
 
-abbrev pub service_of : DefHead → Service
+abbrev pub service_of : DefHead → ℕ
 service_of (head.Command code class app p) = service code class
-service_of head = services.Error
-
--- two commands are for the same messages but for the application
-abbrev pub same_service : Service → Service → Bool
-same_service (services.Command c r) (services.Command d q) = (c == d) && beq r q
-same_service services.Error services.Error = true
-same_service a b = false
+service_of head = 0
 
 -- ---- keys, for look-ups
 

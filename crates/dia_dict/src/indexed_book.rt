@@ -1,12 +1,12 @@
-ghost use Rattle.std.specs.Prelude.{◌≡◌, ◌<◌, ◌++◌, IfOk, IsTrue, map, position};
+ghost use Rattle.std.specs.Prelude.{◌≡◌, ◌<◌, ◌==◌, ◌++◌, ℕ, IfOk, IsTrue, map, position};
 ghost use Rattle.std.specs.List.{list_any};
+ghost use Rattle.std.specs.List.Sorted.{IsNonDecreasing};
 ghost use Rattle.std.specs.Option.{option_or};
 ghost use Rattle.dia_book.specs.Dictionary.{is_command};
 ghost use Rattle.dia_book.specs.Opened.{opened};
 ghost use Rattle.dia_dict.specs.Indexed.{AreCommandTables, AreSlotTables, row_keys};
 ghost use Rattle.dia_dict.specs.KeyTables.{IsIndexOf, place_among};
-ghost use Rattle.dia_dict.specs.Selectors.{service_of, same_service};
-ghost use Rattle.dia_dict.specs.declared.selectors.Service.{Service as AnyService};
+ghost use Rattle.dia_dict.specs.Selectors.{service_of};
 
 mod commands;
 mod tables;
@@ -14,11 +14,10 @@ mod tables;
 use crate::indexed_book::commands::CommandTables;
 use crate::key_table::KeyTable;
 use crate::plain_book::PlainBook;
-use crate::selectors::Service;
+use crate::selectors::service;
 use dia_book::{Book, Class, DefId, Definition, Entry, MRule, Slot};
 use dia_data::Format;
 use dia_wire::Key;
-use indexmap::IndexSet;
 use std::alloc::{AllocError, Global};
 
 /// A dictionary with tables for its look-ups. A look-up of a key takes log n steps at most among n keys, whichever they are.
@@ -28,14 +27,15 @@ pub struct IndexedBook {
     avps: KeyTable,
     slots: Vec<KeyTable>,
     commands: CommandTables,
-    services: IndexSet<Service>,
+    /// The numbers of the messages that the commands are for, whatever their application, in order.
+    services: Vec<u64>,
     ghost placed: { IsIndexOf avps.rows.items (place_among (row_keys book.entries.rows.items)) },
     ghost slotted: { ∥ AreSlotTables slots.items
         (book.entries.groups.items ++ book.commands.items) ∥₁ },
     ghost selected: { ∥ AreCommandTables commands book.commands.items ∥₁ },
-    ghost served: { (s : AnyService)
-        → list_any (same_service s) services.keys ≡ list_any (same_service s)
-        (map (λ d. service_of d.head) book.commands.items) },
+    ghost sorted: { IsNonDecreasing services.items },
+    ghost served: { (n : ℕ) → list_any (λ m. n == m) services.items
+        ≡ list_any (λ m. n == m) (map (λ d. service_of d.head) book.commands.items) },
 }
 
 impl IndexedBook {
@@ -127,7 +127,7 @@ impl Book for IndexedBook {
     }
 
     fn has_command(&self, code: u32, class: Class) -> bool {
-        self.services.contains(&Service::new(code, class))
+        self.services.binary_search(&service(code, class)).is_ok()
     }
 
     fn def(&self, def: DefId) -> &Definition {

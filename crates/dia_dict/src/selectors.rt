@@ -1,6 +1,6 @@
 //! What commands are told apart by, and the keys by which they are looked up.
 ghost use Rattle.std.specs.Prelude.{◌≡◌};
-ghost use Rattle.dia_dict.specs.Selectors.{app_key, general_key, general_selector};
+ghost use Rattle.dia_dict.specs.Selectors.{app_key, general_key, general_selector, service, service_of};
 
 use dia_book::{Class, DefHead, Key};
 
@@ -59,47 +59,24 @@ impl Selector {
     }
 }
 
-/// Which messages a command is for, whatever the application.
-#[derive(Clone, Copy, PartialEq, Eq, Hash)]
-pub(crate) enum Service {
-    /// Requests or answers of a command code.
-    Command { code: u32, request: bool },
-    /// Messages of the class Error.
-    Error,
+/// The number of the messages of a code and a class, whatever their application: no others have it.
+pub(crate) fn service(code: u32, class: Class) -> u64
+    ensures { result ≡ service code class }
+{
+    match class {
+        Class::Request => 2 * u64::from(code) + 1,
+        Class::Answer => 2 * u64::from(code) + 2,
+        Class::Error => 0,
+    }
 }
 
-impl Service {
-    ghost use Rattle.std.specs.Prelude.{◌≡◌};
-    ghost use Rattle.dia_book.specs.Dictionary.{IsCommandHead};
-    ghost use Rattle.dia_dict.specs.Selectors.{service, service_of};
-
-    /// The service of messages of a code and a class.
-    pub fn new(code: u32, class: Class) -> Self
-        ensures { result ≡ service code class }
-    {
-        match class {
-            Class::Request => Service::Command {
-                code,
-                request: true,
-            },
-            Class::Answer => Service::Command {
-                code,
-                request: false,
-            },
-            Class::Error => Service::Error,
-        }
-    }
-
-    /// The service of a command.
-    pub fn of(head: DefHead) -> Self
-        requires { IsCommandHead head }
-        ensures { result ≡ service_of head }
-    {
-        match head {
-            DefHead::Group(_) => unreachable!(),
-            DefHead::Command { code, class, .. } => Service::new(code, class),
-            DefHead::Error { .. } => Service::Error,
-        }
+/// The number of the messages that a command is for, whatever their application.
+pub(crate) fn service_of(head: DefHead) -> u64
+    ensures { result ≡ service_of head }
+{
+    match head {
+        DefHead::Command { code, class, .. } => service(code, class),
+        DefHead::Group(_) | DefHead::Error { .. } => 0,
     }
 }
 

@@ -74,8 +74,8 @@ impl fmt::Display for BadDictionary {
 
     fn fmt<W: fmt::Write>(&self, f: &mut fmt::Formatter<W>) -> fmt::Result {
         match self {
-            BadDictionary::TooLong => write!(f, "too long"),
-            BadDictionary::NotText { .. } => write!(f, "not text"),
+            BadDictionary::TooLong => f.write_str("too long"),
+            BadDictionary::NotText { .. } => f.write_str("not text"),
             BadDictionary::NoSource(misfit) => match misfit.fault {
                 CcfFault::Syntax { line, .. } => write!(f, "syntax at line {line}"),
                 CcfFault::Number { line } => write!(f, "number at line {line}"),
@@ -100,8 +100,8 @@ impl fmt::Display for BadTable {
 
     fn fmt<W: fmt::Write>(&self, f: &mut fmt::Formatter<W>) -> fmt::Result {
         match self {
-            BadTable::TooLong => write!(f, "too long"),
-            BadTable::NotText { .. } => write!(f, "not text"),
+            BadTable::TooLong => f.write_str("too long"),
+            BadTable::NotText { .. } => f.write_str("not text"),
             BadTable::Syntax { line } => write!(f, "syntax at line {line}"),
             BadTable::Limit { line } => write!(f, "limit at line {line}"),
         }
@@ -116,7 +116,7 @@ impl fmt::Display for BadMessage {
 
     fn fmt<W: fmt::Write>(&self, f: &mut fmt::Formatter<W>) -> fmt::Result {
         match self {
-            BadMessage::TooLong => write!(f, "too long"),
+            BadMessage::TooLong => f.write_str("too long"),
             BadMessage::NotHexadecimal => write!(f, "not hexadecimal"),
             BadMessage::NoMessage(fault) => f.write_str(fault_word(*fault)),
         }

@@ -1,17 +1,16 @@
 //! What commands are looked up by.
-ghost use Rattle.std.specs.Prelude.{◌≡◌, ◌<◌, ◌^◌, All, IfOk, List, None, Some, length, map, position};
+ghost use Rattle.std.specs.Prelude.{◌≡◌, ◌<◌, ◌^◌, ◌==◌, ℕ, All, IfOk, List, None, Some, length, map, position};
 ghost use Rattle.std.specs.List.{list_any};
+ghost use Rattle.std.specs.List.Sorted.{IsNonDecreasing};
 ghost use Rattle.dia_book.specs.declared.Definition.{Definition as AnyDefinition};
 ghost use Rattle.dia_book.specs.Dictionary.{IsCommandHead, is_command};
 ghost use Rattle.dia_dict.specs.Indexed.{AreCommandTables, HaveDistinctSelectors};
 ghost use Rattle.dia_dict.specs.KeyTables.{IsIndexOf, place_among};
-ghost use Rattle.dia_dict.specs.Selectors.{app_key, general_key, service_of, same_service};
-ghost use Rattle.dia_dict.specs.declared.selectors.Service.{Service as AnyService};
+ghost use Rattle.dia_dict.specs.Selectors.{app_key, general_key, service_of};
 
 use crate::key_table::KeyTable;
-use crate::selectors::{Service, app_key, general_key, general_selector};
+use crate::selectors::{app_key, general_key, general_selector, service_of};
 use dia_book::{Class, Definition, Key};
-use indexmap::IndexSet;
 use std::alloc::{AllocError, Global};
 
 /// The places of commands, by the messages that they are for.
@@ -142,18 +141,16 @@ fn place_of_error(commands: &[Definition]) -> Option<usize>
         .position(|command| command.head.is_command(0, Class::Error, None))
 }
 
-/// The services of commands.
-pub(super) fn services_of(
-    alloc: Global,
-    commands: &[Definition],
-) -> Result<IndexSet<Service>, AllocError>
-    requires { All (λ d. IsCommandHead d.head) commands.now }
-    ensures { IfOk result (λ services. (s : AnyService) → list_any (same_service s) services.keys
-        ≡ list_any (same_service s) (map (λ d. service_of d.head) commands.now)) }
+/// The numbers of the messages that commands are for, whatever their application, in order.
+pub(super) fn services_of(alloc: Global, commands: &[Definition]) -> Result<Vec<u64>, AllocError>
+    ensures sorted { IfOk result (λ services. IsNonDecreasing services.items) }
+    ensures served { IfOk result (λ services. (n : ℕ) → list_any (λ m. n == m) services.items
+        ≡ list_any (λ m. n == m) (map (λ d. service_of d.head) commands.now)) }
 {
-    let mut services = IndexSet::new(alloc);
+    let mut services = Vec::with_capacity(alloc, commands.len())?;
     for command in commands {
-        services.insert(Service::of(command.head))?;
+        services.push(service_of(command.head))?;
     }
+    services.sort_unstable();
     Ok(services)
 }

@@ -1,20 +1,23 @@
-use Rattle.std.proofs.Common.{true, cond, List, map, ap, ◌∙◌}
-use Rattle.std.proofs.lemmas.List.{take_all}
-use Rattle.dia_book.specs.declared.Definition.{Definition}
-use Rattle.dia_dict.specs.Selectors.{service_of, same_service}
+use Rattle.std.proofs.Common.{ℕ, map, sym, ap, ◌∙◌}
+use Rattle.std.specs.Prelude.{◌==◌}
 use Rattle.std.specs.List.{list_any}
-use Rattle.dia_dict.specs.declared.selectors.Service.{Service}
-use Rattle.dia_dict.proofs.Indexing.Selectors.{equal_services}
-use Rattle.dia_dict.proofs.Indexing.Commands.{services-more}
+use Rattle.std.proofs.lemmas.List.{take_all}
+use Rattle.std.proofs.lemmas.List.Sorted.{IsNonDecreasingBy-from_sort, list_any-IsPermutation}
+use Rattle.dia_book.specs.declared.Definition.{Definition}
+use Rattle.dia_dict.specs.Selectors.{service_of}
+use Rattle.dia_dict.proofs.Made.{made-more}
 use Rattle.dia_dict.proofs.indexed_book.commands.services_of.Goals as goal
 
 pub loop-command-preserved : goal.loop-command-preserved
 loop-command-preserved c =
-    let ss = c.loop-command.services.keys in
-    services-more c.args.commands.now c.requires c.loop-command.command-index c.command-item.result c.loop-command-test.true c.command-item.is ss _ c.loop-command.invariant
-    (λ s. c.in_ok-insert.ensures.updates.0 s ∙ ap (λ (own : Service). cond (equal_services own s) true (list_any (equal_services s) ss)) c.of.ensures)
+    made-more (λ (d : Definition). service_of d.head) c.args.commands.now c.loop-command.command-index c.command-item.result _ _ c.service_of.result
+    c.loop-command-test.true c.command-item.is c.loop-command.invariant c.service_of.ensures c.in_ok-push.ensures.items
 
-pub returns : goal.returns
-returns c = λ s.
-    c.loop-command.invariant s ∙ ap (λ (ds : List Definition). list_any (same_service s) (map (λ (d : Definition). service_of d.head) ds))
-    (take_all c.loop-command.command-index c.args.commands.now c.loop-command-test.false)
+pub returns-clause-sorted : goal.returns-clause-sorted
+returns-clause-sorted c = IsNonDecreasingBy-from_sort (λ (x : ℕ). x) c.sort_unstable.new.self.items c.sort_unstable.ensures.sorted
+
+pub returns-clause-served : goal.returns-clause-served
+returns-clause-served c = λ n.
+    sym (list_any-IsPermutation (λ (m : ℕ). n == m) c.loop-command.services.items c.sort_unstable.new.self.items c.sort_unstable.ensures.permutation)
+    ∙ ap (list_any (λ (m : ℕ). n == m)) (c.loop-command.invariant
+    ∙ ap (map (λ (d : Definition). service_of d.head)) (take_all c.loop-command.command-index c.args.commands.now c.loop-command-test.false))
