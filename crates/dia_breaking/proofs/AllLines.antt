@@ -16,10 +16,10 @@ use Rattle.dia_book.proofs.Members.{at_map, into_left, into_map}
 use Rattle.dia_policy.specs.declared.Unknown.{Unknown}
 use Rattle.dia_policy.specs.declared.Levels.TheVariants as levels
 use Rattle.dia_policy.specs.declared.Sends.{Sends}
-use Rattle.dia_check.specs.Valid.{AllFit, AllowsP, IsValid, Placed, class_of}
-use Rattle.dia_rules.specs.Rules.{rules_in}
-use Rattle.dia_rules.proofs.Members.{IsIn, all_of, at_in, in_append, in_at, in_contains, in_left, in_right, there_is}
-use Rattle.dia_rules.proofs.SelectedCommands.{Choice, NoChoice, choose, command_at}
+use Rattle.dia_valid.specs.Valid.{AllFit, AllowsP, IsValid, Placed, class_of}
+use Rattle.dia_valid.specs.Rules.{rules_in}
+use Rattle.dia_valid.proofs.Members.{IsIn, all_of, at_in, in_append, in_at, in_contains, in_left, in_right, there_is}
+use Rattle.dia_valid.proofs.SelectedCommands.{Choice, NoChoice, choose, command_at}
 use Rattle.dia_breaking_sites.specs.Sent.{IsSent}
 use Rattle.dia_breaking_sites.specs.Sites.{AreAsked, IsLevelOf, IsReadAlone}
 use Rattle.dia_breaking_sites.specs.Selection.{IsSelected, max_body}

@@ -9,7 +9,7 @@ use Rattle.dia_book.specs.Dictionary.{Dictionary, DictEntry, PlainDefinition, Is
 use Rattle.dia_book.proofs.Members.{at_filter_map, at_map, into_map, position-is_some}
 use Rattle.dia_policy.specs.declared.Unknown.{Unknown}
 use Rattle.dia_policy.specs.declared.Sends.{Sends}
-use Rattle.dia_rules.proofs.Members.{IsIn, all_of, at_in, in_append, in_at, in_contains}
+use Rattle.dia_valid.proofs.Members.{IsIn, all_of, at_in, in_append, in_at, in_contains}
 use Rattle.dia_breaking_sites.specs.Selection.{max_body}
 use Rattle.dia_breaking_shortest.specs.Floors.{AreFloors}
 use Rattle.dia_breaking_ways.specs.Walks.{IsWalk, plain_exits}

@@ -7,10 +7,10 @@ use Rattle.dia_policy.specs.declared.Unknown.{Unknown}
 use Rattle.dia_policy.specs.declared.Levels.TheVariants as levels
 use Rattle.dia_policy.specs.declared.Sends.{Sends}
 use Rattle.dia_policy.specs.declared.Sends.TheVariants.{Any, Known, Listed}
-use Rattle.dia_check.specs.Valid.{IsValid, IsValidOf}
+use Rattle.dia_valid.specs.Valid.{IsValid, IsValidOf}
 use Rattle.dia_breaking_sites.specs.Sent.{own_policy, AreBytes}
 use Rattle.dia_breaking_sites.proofs.SentIsValid.{sent_valid, valid_sent}
-use Rattle.dia_rules.specs.Inclusion.{PlainTable, IsIncluded}
+use Rattle.dia_valid.specs.Inclusion.{PlainTable, IsIncluded}
 use Rattle.dia_breaking.specs.declared.line.Line.{Line}
 use Rattle.dia_breaking.specs.Confirmed.{IsConfirmed, EachConfirmedBreaks, NoneConfirmed, ListsCommand}
 use Rattle.dia_breaking.specs.Sides.{sides}

@@ -9,9 +9,9 @@ use Rattle.dia_book.specs.declared.DRule.{DRule}
 use Rattle.dia_book.specs.Dictionary.{Dictionary, DictEntry, PlainDefinition, AreRules, IsDictionary, definitions, entry_of}
 use Rattle.dia_policy.specs.declared.Sends.{Sends}
 use Rattle.dia_policy.specs.declared.Sends.TheVariants.{Any, Known, Listed}
-use Rattle.dia_check.specs.Valid.{known, is_listed}
-use Rattle.dia_rules.proofs.GroupNumbers.{group_there}
-use Rattle.dia_rules.proofs.Members.{IsIn, in_all}
+use Rattle.dia_valid.specs.Valid.{known, is_listed}
+use Rattle.dia_valid.proofs.GroupNumbers.{group_there}
+use Rattle.dia_valid.proofs.Members.{IsIn, in_all}
 use Rattle.dia_breaking_sites.specs.Sent.{StandAsSent}
 use Rattle.dia_breaking_avps.proofs.NoLevels.{of_bytes}
 use Rattle.dia_breaking_levels.specs.LevelTests.{base_length, price}

@@ -3,9 +3,9 @@ use Rattle.std.proofs.Common.{◌≡◌, ℕ, Option, Some, None, refl, sym, ap,
 use Rattle.std.specs.Prelude.{slice_get, option_and_then}
 use Rattle.dia_wire.specs.declared.Key.{Key}
 use Rattle.dia_book.specs.Dictionary.{Dictionary, DictEntry, PlainDefinition, definitions, entry_of, group_place}
-use Rattle.dia_check.specs.Valid.{known}
-use Rattle.dia_rules.proofs.GroupNumbers.{group_there, group_missing}
-use Rattle.dia_rules.proofs.KnownKeys.{known_by_entry}
+use Rattle.dia_valid.specs.Valid.{known}
+use Rattle.dia_valid.proofs.GroupNumbers.{group_there, group_missing}
+use Rattle.dia_valid.proofs.KnownKeys.{known_by_entry}
 use Rattle.dia_breaking_avps.specs.Sent.{group_of}
 
 pub group_found : (d : Dictionary) (key : Key) (i : ℕ) (r : Option ℕ) → entry_of d key ≡ Some i → r ≡ group_place d i → option_and_then (λ (def : ℕ). slice_get (definitions d) def) r ≡ group_of d key

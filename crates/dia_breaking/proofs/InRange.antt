@@ -9,10 +9,10 @@ use Rattle.dia_book.specs.declared.Class.{Class}
 use Rattle.dia_breaking_avps.specs.Sent.{group_of}
 use Rattle.dia_book.specs.Dictionary.{Dictionary, DictEntry, PlainDefinition, definitions, groups, entry_of, group_place, selected}
 use Rattle.dia_book.proofs.Members.{into_right}
-use Rattle.dia_rules.proofs.SelectedCommands.{Choice, NoChoice, choose}
-use Rattle.dia_rules.proofs.KnownKeys.{known_by_entry}
-use Rattle.dia_rules.proofs.GroupNumbers.{group_number}
-use Rattle.dia_rules.proofs.Members.{when_some}
+use Rattle.dia_valid.proofs.SelectedCommands.{Choice, NoChoice, choose}
+use Rattle.dia_valid.proofs.KnownKeys.{known_by_entry}
+use Rattle.dia_valid.proofs.GroupNumbers.{group_number}
+use Rattle.dia_valid.proofs.Members.{when_some}
 
 pub group_within : (d : Dictionary) (key : Key) (i : ℕ) (o : Option ℕ) → entry_of d key ≡ Some i → group_place d i ≡ o → IfSome o (λ n. n < length (definitions d))
 group_within d key i o at is = when_some (λ (n : ℕ). n < length (definitions d)) o (λ n e.

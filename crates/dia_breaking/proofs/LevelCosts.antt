@@ -9,10 +9,10 @@ use Rattle.std.proofs.Math.Nat.{mul-le-mul_right}
 use Rattle.dia_wire.specs.declared.Key.{Key}
 use Rattle.dia_book.specs.declared.DRule.{DRule}
 use Rattle.dia_book.specs.Dictionary.{Dictionary, PlainDefinition, AreRules, definitions}
-use Rattle.dia_check.specs.Valid.{is_listed}
-use Rattle.dia_rules.specs.Rules.{HasRule, rules_in, rule_of, wildcard_of}
-use Rattle.dia_rules.proofs.Members.{in_contains}
-use Rattle.dia_rules.proofs.RulesOfKeys.{is_listed_by}
+use Rattle.dia_valid.specs.Valid.{is_listed}
+use Rattle.dia_valid.specs.Rules.{HasRule, rules_in, rule_of, wildcard_of}
+use Rattle.dia_valid.proofs.Members.{in_contains}
+use Rattle.dia_valid.proofs.RulesOfKeys.{is_listed_by}
 use Rattle.dia_breaking_levels.specs.Levels.{FirstIsShortest, OtherIsShortest}
 use Rattle.dia_breaking_levels.specs.LevelTests.{too_long, capped, has_room, swapped, many, listed_at_least, other_at_least, base_length, least_filler, least_length, length_once, once, is_outside}
 use Rattle.dia_breaking_levels.proofs.AloneBounds.{with_within}

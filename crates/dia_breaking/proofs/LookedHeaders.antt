@@ -12,10 +12,10 @@ use Rattle.dia_book.specs.declared.DefHead.TheVariants.{Group, Command, Error}
 use Rattle.dia_book.specs.Dictionary.{Dictionary, PlainDefinition, IsDictionary, IsCommandHead, groups, definitions, selected, is_command, same_class}
 use Rattle.dia_book.proofs.Lists.{position-map, map-agree}
 use Rattle.dia_book.proofs.Members.{at_Contains, at_append, at_filter_map, at_map, into_left, into_map}
-use Rattle.dia_rules.specs.Commands.{HasCode}
-use Rattle.dia_rules.proofs.Members.{IsIn, all_of, at_in, contains_in, in_append, in_at, in_contains, in_filter, in_left, in_right, into_filter}
-use Rattle.dia_rules.proofs.Searches.{Found, NotFound, found_or_not}
-use Rattle.dia_rules.proofs.SelectedCommands.{Choice, NoChoice, Reads, choose, class_same, command_at, reads}
+use Rattle.dia_valid.specs.Commands.{HasCode}
+use Rattle.dia_valid.proofs.Members.{IsIn, all_of, at_in, contains_in, in_append, in_at, in_contains, in_filter, in_left, in_right, into_filter}
+use Rattle.dia_valid.proofs.Searches.{Found, NotFound, found_or_not}
+use Rattle.dia_valid.proofs.SelectedCommands.{Choice, NoChoice, Reads, choose, class_same, command_at, reads}
 use Rattle.dia_breaking_sites.specs.Selection.{NamesApp}
 use Rattle.dia_breaking.specs.declared.apps.Apps.{Apps}
 use Rattle.dia_breaking.specs.declared.heads.Head.{Head}

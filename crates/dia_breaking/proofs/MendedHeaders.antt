@@ -13,7 +13,7 @@ use Rattle.dia_wire.specs.Wire.{PlainAvp, HasP, IsHead, IsMessage}
 use Rattle.dia_wire.proofs.OneHeader.{one_header}
 use Rattle.dia_book.specs.declared.Pxy.{Pxy}
 use Rattle.dia_book.specs.declared.Pxy.TheVariants as pxy
-use Rattle.dia_check.specs.Valid.{PHolds}
+use Rattle.dia_valid.specs.Valid.{PHolds}
 use Rattle.dia_breaking.specs.Headers.{allows}
 use Rattle.dia_breaking.proofs.TooLong.{head_takes}
 

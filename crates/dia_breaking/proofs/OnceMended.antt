@@ -19,8 +19,8 @@ use Rattle.dia_policy.specs.declared.Sends.{Sends}
 use Rattle.dia_policy.specs.declared.Unknown.{Unknown}
 use Rattle.dia_policy.specs.declared.Levels.TheVariants as levels
 use Rattle.dia_check.specs.Faults.{HasLength}
-use Rattle.dia_check.specs.Valid.{AllFit, AllowsP, IsValid, Placed, class_of}
-use Rattle.dia_rules.proofs.SelectedCommands.{Choice, NoChoice, choose, command_at}
+use Rattle.dia_valid.specs.Valid.{AllFit, AllowsP, IsValid, Placed, class_of}
+use Rattle.dia_valid.proofs.SelectedCommands.{Choice, NoChoice, choose, command_at}
 use Rattle.dia_breaking.specs.declared.heads.Head.{Head}
 use Rattle.dia_breaking.specs.declared.line.Place.{Place}
 use Rattle.dia_breaking.specs.declared.line.Place.TheVariants as places

@@ -3,7 +3,7 @@ use Rattle.std.proofs.Common.{◌≡◌, ℕ, List, [], ◌∷◌, ◌++◌, Opt
 use Rattle.std.specs.Prelude.{MatchOption, slice_get}
 use Rattle.std.specs.Option.{option_map_or}
 use Rattle.dia_wire.specs.declared.Key.{Key}
-use Rattle.dia_rules.specs.Rules.{rules_in}
+use Rattle.dia_valid.specs.Rules.{rules_in}
 use Rattle.dia_breaking_levels.specs.declared.line.Line.{Line as LevelLine}
 use Rattle.dia_breaking_levels.specs.declared.line.Part.{Part}
 use Rattle.dia_breaking_levels.specs.Chosen.{IsLineLevel, Reads, least_parts, parts_with, reads_between}

@@ -9,8 +9,8 @@ use Rattle.dia_book.specs.declared.Class.TheVariants as classes
 use Rattle.dia_book.specs.declared.DefHead.{DefHead}
 use Rattle.dia_book.specs.declared.DefHead.TheVariants.{Group, Command, Error}
 use Rattle.dia_book.specs.Dictionary.{Dictionary, PlainDefinition, is_command, same_class}
-use Rattle.dia_rules.proofs.Members.{IsIn, in_contains, contains_in}
-use Rattle.dia_rules.proofs.SelectedCommands.{class_same}
+use Rattle.dia_valid.proofs.Members.{IsIn, in_contains, contains_in}
+use Rattle.dia_valid.proofs.SelectedCommands.{class_same}
 use Rattle.dia_breaking_sites.specs.Selection.{NamesApp}
 use Rattle.dia_breaking.specs.declared.apps.Apps.{Apps}
 use Rattle.dia_breaking.specs.Headers.{app_row, row_app, rows_of, apps_of, AreApps}

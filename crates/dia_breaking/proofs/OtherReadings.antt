@@ -7,7 +7,7 @@ use Rattle.dia_wire.specs.declared.Key.{Key}
 use Rattle.dia_book.specs.declared.MRule.{MRule}
 use Rattle.dia_book.specs.declared.MRule.TheVariants.{Must, MustNot, Any as AnyM}
 use Rattle.dia_book.specs.Dictionary.{Dictionary}
-use Rattle.dia_check.specs.Valid.{MHolds}
+use Rattle.dia_valid.specs.Valid.{MHolds}
 use Rattle.dia_breaking.specs.Meanings.{ShareFlags, m_rule_in, share_flag}
 
 -- ---- flags

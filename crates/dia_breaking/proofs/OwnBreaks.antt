@@ -11,7 +11,7 @@ use Rattle.dia_data.specs.Leaf.{IsLeaf, IsAddress}
 use Rattle.dia_data.specs.Plain.{PlainFormat, Integer64, Unsigned64, Float64, Address, Utf8String}
 use Rattle.dia_book.specs.declared.DRule.{DRule}
 use Rattle.dia_book.specs.Dictionary.{Dictionary, DictEntry, PlainDefinition}
-use Rattle.dia_check.specs.Valid.{known}
+use Rattle.dia_valid.specs.Valid.{known}
 use Rattle.dia_policy.specs.declared.Unknown.{Unknown}
 use Rattle.dia_policy.specs.declared.Sends.{Sends}
 use Rattle.dia_breaking_avps.specs.declared.breaking.AvpBreaks.{AvpBreaks}

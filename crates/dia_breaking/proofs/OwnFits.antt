@@ -13,10 +13,10 @@ use Rattle.dia_book.proofs.Members.{at_map, into_map}
 use Rattle.dia_policy.specs.declared.Unknown.{Unknown}
 use Rattle.dia_policy.specs.declared.Sends.{Sends}
 use Rattle.dia_policy.specs.declared.Sends.TheVariants.{Any}
-use Rattle.dia_check.specs.Valid.{Fits as AvpFits, IsAccepted, IsLevel, MHolds, is_listed, known}
-use Rattle.dia_check.specs.Admission.{HasFlags}
-use Rattle.dia_rules.specs.Rules.{rules_in}
-use Rattle.dia_rules.proofs.Members.{IsIn, all_of, in_at, in_contains, some_of}
+use Rattle.dia_valid.specs.Valid.{Fits as AvpFits, IsAccepted, IsLevel, MHolds, is_listed, known}
+use Rattle.dia_valid.specs.Valid.{HasFlags}
+use Rattle.dia_valid.specs.Rules.{rules_in}
+use Rattle.dia_valid.proofs.Members.{IsIn, all_of, in_at, in_contains, some_of}
 use Rattle.dia_breaking_sites.specs.Sent.{AreBytes, IsSentLevel, IsSentWithin, own_policy}
 use Rattle.dia_breaking_sites.specs.Sites.{FitsAlone}
 use Rattle.dia_breaking_sites.specs.Selection.{max_body}

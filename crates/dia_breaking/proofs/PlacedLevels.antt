@@ -12,9 +12,9 @@ use Rattle.dia_book.specs.Dictionary.{Dictionary, PlainDefinition, AreRules, IsD
 use Rattle.dia_book.proofs.Members.{at_map, into_map, into_right}
 use Rattle.dia_policy.specs.declared.Unknown.{Unknown}
 use Rattle.dia_policy.specs.declared.Sends.{Sends}
-use Rattle.dia_check.specs.Valid.{Placed}
-use Rattle.dia_rules.specs.Rules.{rules_in}
-use Rattle.dia_rules.proofs.Members.{IsIn, in_contains, in_filter_map, some_of, there_is}
+use Rattle.dia_valid.specs.Valid.{Placed}
+use Rattle.dia_valid.specs.Rules.{rules_in}
+use Rattle.dia_valid.proofs.Members.{IsIn, in_contains, in_filter_map, some_of, there_is}
 use Rattle.dia_breaking_sites.specs.Sites.{IsLevelOf}
 use Rattle.dia_breaking_sites.specs.Selection.{max_body}
 use Rattle.dia_breaking_avps.specs.Sent.{group_of}

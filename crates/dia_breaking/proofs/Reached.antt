@@ -14,10 +14,10 @@ use Rattle.dia_book.proofs.Members.{at_Contains, at_filter_map, at_map, into_map
 use Rattle.dia_book.proofs.SameKeys.{same_key-equal, same_key-refl, same_key-true}
 use Rattle.dia_policy.specs.declared.Unknown.{Unknown}
 use Rattle.dia_policy.specs.declared.Sends.{Sends}
-use Rattle.dia_check.proofs.OneKeyMore.{at_position}
-use Rattle.dia_check.specs.Valid.{is_listed}
-use Rattle.dia_rules.specs.Rules.{rules_in}
-use Rattle.dia_rules.proofs.Members.{IsIn, all_of, any_in, at_in, contains_in, in_any, in_at, in_filter_map, into_filter, some_of}
+use Rattle.dia_valid.proofs.Entries.{at_position}
+use Rattle.dia_valid.specs.Valid.{is_listed}
+use Rattle.dia_valid.specs.Rules.{rules_in}
+use Rattle.dia_valid.proofs.Members.{IsIn, all_of, any_in, at_in, contains_in, in_any, in_at, in_filter_map, into_filter, some_of}
 use Rattle.dia_breaking_sites.specs.Sent.{StandAsSent}
 use Rattle.dia_breaking_sites.specs.Selection.{max_body}
 use Rattle.dia_breaking_avps.specs.Sent.{group_of}

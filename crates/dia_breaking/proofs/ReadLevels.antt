@@ -14,11 +14,11 @@ use Rattle.dia_book.specs.Dictionary.{Dictionary, DictEntry, PlainDefinition, Is
 use Rattle.dia_book.proofs.Members.{at_Contains, into_map}
 use Rattle.dia_policy.specs.declared.Unknown.{Unknown}
 use Rattle.dia_policy.specs.declared.Sends.{Sends}
-use Rattle.dia_check.specs.Valid.{known, is_listed, IsAccepted, MHolds}
-use Rattle.dia_check.specs.Walks.{group_at}
-use Rattle.dia_rules.proofs.Members.{IsIn, in_contains, there_is}
-use Rattle.dia_rules.proofs.GroupNumbers.{group_there}
-use Rattle.dia_rules.proofs.KnownKeys.{known_by_entry}
+use Rattle.dia_valid.specs.Valid.{known, is_listed, IsAccepted, MHolds}
+use Rattle.dia_valid.specs.Valid.{group_at}
+use Rattle.dia_valid.proofs.Members.{IsIn, in_contains, there_is}
+use Rattle.dia_valid.proofs.GroupNumbers.{group_there}
+use Rattle.dia_valid.proofs.KnownKeys.{known_by_entry}
 use Rattle.dia_breaking_sites.specs.Sent.{own_policy, StandAsSent, IsSentLevel, IsSentWithin}
 use Rattle.dia_breaking_sites.specs.Sites.{AboutLevels, IsLevelOf, LiesIn, same, inside}
 use Rattle.dia_breaking_sites.specs.Selection.{max_body}

@@ -4,10 +4,10 @@ use Rattle.std.specs.Prelude.{IfSome, slice_get, option_and_then}
 use Rattle.std.proofs.lemmas.Option.{none-some, same_Some}
 use Rattle.dia_wire.specs.declared.Key.{Key}
 use Rattle.dia_book.specs.Dictionary.{Dictionary, DictEntry, PlainDefinition, definitions, entry_of, group_place, selected}
-use Rattle.dia_check.specs.Valid.{known}
-use Rattle.dia_rules.specs.Rules.{rules_in}
-use Rattle.dia_rules.proofs.GroupNumbers.{group_number as number_there}
-use Rattle.dia_rules.proofs.Members.{there_is}
+use Rattle.dia_valid.specs.Valid.{known}
+use Rattle.dia_valid.specs.Rules.{rules_in}
+use Rattle.dia_valid.proofs.GroupNumbers.{group_number as number_there}
+use Rattle.dia_valid.proofs.Members.{there_is}
 use Rattle.dia_breaking_avps.specs.Sent.{group_of}
 use Rattle.dia_breaking_shortest.proofs.FloorsOfLengths.{entry_at}
 use Rattle.dia_breaking.specs.declared.heads.Head.{Head}

@@ -10,8 +10,8 @@ use Rattle.dia_data.specs.Leaf.{IsLeaf}
 use Rattle.dia_data.specs.Plain.{PlainFormat, OctetString, Integer32, Integer64, Unsigned32, Unsigned64, Float32, Float64, Grouped, Address, Time, Utf8String, DiameterIdentity, DiameterUri, Enumerated, IpFilterRule, QosFilterRule}
 use Rattle.dia_book.specs.declared.DRule.{DRule}
 use Rattle.dia_book.specs.Dictionary.{DictEntry, PlainDefinition}
-use Rattle.dia_check.specs.Valid.{Fits, IsLevel, known}
-use Rattle.dia_rules.proofs.Members.{contains_in}
+use Rattle.dia_valid.specs.Valid.{Fits, IsLevel, known}
+use Rattle.dia_valid.proofs.Members.{contains_in}
 use Rattle.dia_breaking_avps.specs.Levels.{HasEightBytes, IsOrdinary, RefusesLeastLevel, graphic_length}
 use Rattle.dia_breaking_avps.specs.Sent.{IsAcceptedData, group_of, group_rules}
 use Rattle.dia_breaking_levels.specs.LevelTests.{too_long}

@@ -6,7 +6,7 @@ use Rattle.std.proofs.lemmas.List.Elements.{Contains-append_left, Contains-appen
 use Rattle.dia_wire.specs.declared.Key.{Key}
 use Rattle.dia_book.specs.Dictionary.{DictEntry, Dictionary, IsDictionary, entry_of}
 use Rattle.dia_book.proofs.Members.{at_Contains, into_filter}
-use Rattle.dia_rules.proofs.Members.{IsIn, contains_in, in_left, in_right, some_of}
+use Rattle.dia_valid.proofs.Members.{IsIn, contains_in, in_left, in_right, some_of}
 use Rattle.dia_policy.specs.declared.Sends.{Sends}
 use Rattle.dia_policy.specs.declared.Sends.TheVariants.{Any, Known, Listed}
 use Rattle.dia_breaking_shortest.proofs.Strangers.{key_at, key_in, at_most}

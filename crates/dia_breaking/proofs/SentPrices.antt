@@ -7,9 +7,9 @@ use Rattle.dia_book.specs.declared.DRule.{DRule}
 use Rattle.dia_book.specs.Dictionary.{Dictionary, entry_of}
 use Rattle.dia_policy.specs.declared.Sends.{Sends}
 use Rattle.dia_policy.specs.declared.Sends.TheVariants.{Any, Known, Listed}
-use Rattle.dia_check.specs.Valid.{Placed, is_listed}
+use Rattle.dia_valid.specs.Valid.{Placed, is_listed}
 use Rattle.dia_breaking_sites.specs.Sent.{StandAsSent}
-use Rattle.dia_rules.proofs.Members.{IsIn, in_all}
+use Rattle.dia_valid.proofs.Members.{IsIn, in_all}
 use Rattle.dia_breaking_shortest.specs.Floors.{shortest_head, total}
 use Rattle.dia_breaking_levels.specs.LevelTests.{too_long, price}
 use Rattle.dia_breaking.specs.Lengths.{length_of_entry, listed_length, other_length}

@@ -9,7 +9,7 @@ use Rattle.dia_wire.specs.Wire.{PlainAvp, Spells, SpellsAll, key_of}
 use Rattle.dia_breaking_data.specs.declared.short_data.Witness.{Witness}
 use Rattle.dia_breaking_data.specs.Shortest.{witness_bytes}
 use Rattle.dia_breaking_sites.specs.Selection.{max_body}
-use Rattle.dia_rules.proofs.Members.{in_contains, there_is}
+use Rattle.dia_valid.proofs.Members.{in_contains, there_is}
 use Rattle.dia_breaking_avps.specs.Breaks.{RefusesFlag}
 use Rattle.dia_breaking_avps.specs.Sent.{HasThisM, IsAcceptedData}
 use Rattle.dia_breaking_shortest.specs.Bytes.{avp_bytes}

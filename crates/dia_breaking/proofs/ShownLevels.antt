@@ -13,11 +13,11 @@ use Rattle.dia_book.proofs.Members.{at_map, into_left, into_map, into_right}
 use Rattle.dia_policy.specs.declared.Levels.TheVariants as levels
 use Rattle.dia_policy.specs.declared.Sends.{Sends}
 use Rattle.dia_policy.specs.declared.Unknown.{Unknown}
-use Rattle.dia_check.specs.Valid.{IsValidOf, class_of, known}
-use Rattle.dia_rules.specs.Rules.{rules_in}
-use Rattle.dia_rules.proofs.GroupNumbers.{group_there}
-use Rattle.dia_rules.proofs.KnownKeys.{known_by_entry}
-use Rattle.dia_rules.proofs.Members.{IsIn, at_in, contains_in, in_append, in_at, in_contains, some_of, there_is}
+use Rattle.dia_valid.specs.Valid.{IsValidOf, class_of, known}
+use Rattle.dia_valid.specs.Rules.{rules_in}
+use Rattle.dia_valid.proofs.GroupNumbers.{group_there}
+use Rattle.dia_valid.proofs.KnownKeys.{known_by_entry}
+use Rattle.dia_valid.proofs.Members.{IsIn, at_in, contains_in, in_append, in_at, in_contains, some_of, there_is}
 use Rattle.dia_breaking_sites.specs.Sent.{AreBytes, own_policy}
 use Rattle.dia_breaking_sites.specs.Selection.{max_body}
 use Rattle.dia_breaking_avps.specs.Sent.{group_of}

@@ -12,7 +12,7 @@ use Rattle.dia_breaking_data.specs.Shortest.{witness_bytes}
 use Rattle.dia_book.specs.Dictionary.{entry_of}
 use Rattle.dia_policy.specs.declared.Sends.{Sends}
 use Rattle.dia_policy.specs.declared.Sends.TheVariants.{Any, Known, Listed}
-use Rattle.dia_rules.proofs.Members.{contains_in, in_left, in_right}
+use Rattle.dia_valid.proofs.Members.{contains_in, in_left, in_right}
 use Rattle.dia_breaking_avps.specs.Sent.{HasThisM}
 use Rattle.dia_breaking_levels.specs.LevelTests.{too_long}
 use Rattle.dia_breaking_shortest.specs.Bytes.{avp_bytes, avp_flags, parts_bytes}

@@ -10,7 +10,7 @@ use Rattle.dia_book.specs.Keys.{same_key}
 use Rattle.dia_book.specs.Dictionary.{Dictionary, IsDictionary}
 use Rattle.dia_book.proofs.Members.{AreApart, AreApart-filter, position-is_some}
 use Rattle.dia_book.proofs.SameKeys.{same_key-equal, same_key-true}
-use Rattle.dia_check.proofs.OneKeyMore.{at_position}
+use Rattle.dia_valid.proofs.Entries.{at_position}
 use Rattle.dia_policy.specs.declared.Unknown.{Unknown}
 use Rattle.dia_policy.specs.declared.Sends.{Sends}
 use Rattle.dia_breaking.specs.declared.keys.Own.{Own}

@@ -11,15 +11,15 @@ use Rattle.dia_book.specs.Dictionary.{Dictionary, DictEntry, entry_of}
 use Rattle.dia_book.proofs.SameKeys.{same_key-refl, same_key-true}
 use Rattle.dia_policy.specs.declared.Unknown.{Unknown}
 use Rattle.dia_policy.specs.declared.Sends.{Sends}
-use Rattle.dia_check.specs.Valid.{Fits as AvpFits, IsAccepted, IsLevel, MHolds, known}
-use Rattle.dia_check.specs.Admission.{HasFlags}
+use Rattle.dia_valid.specs.Valid.{Fits as AvpFits, IsAccepted, IsLevel, MHolds, known}
+use Rattle.dia_valid.specs.Valid.{HasFlags}
 use Rattle.dia_breaking_sites.specs.Sent.{own_policy}
 use Rattle.dia_breaking_avps.specs.declared.breaking.AvpBreaks.{AvpBreaks}
 use Rattle.dia_breaking_avps.specs.declared.breaking.HeadBreak.{HeadBreak}
 use Rattle.dia_breaking_avps.specs.Sent.{IsAcceptedData, group_of}
 use Rattle.dia_breaking_avps.specs.Breaks.{AcceptsFlags, IsHeadBreak, IsSilent}
 use Rattle.dia_breaking_avps.specs.Laws.{FitKeyAlone}
-use Rattle.dia_rules.proofs.Members.{IsIn, in_contains, contains_in, in_append}
+use Rattle.dia_valid.proofs.Members.{IsIn, in_contains, contains_in, in_append}
 use Rattle.dia_breaking.specs.declared.keys.Own.{Own}
 use Rattle.dia_breaking.specs.declared.keys.Telling.{Telling}
 use Rattle.dia_breaking.specs.SentKeys.{IsStrange}

@@ -8,7 +8,7 @@ use Rattle.dia_book.specs.declared.Pxy.TheVariants as pxy
 use Rattle.dia_book.specs.declared.DefHead.{DefHead}
 use Rattle.dia_book.specs.declared.DefHead.TheVariants.{Group, Command, Error}
 use Rattle.dia_book.specs.Dictionary.{Dictionary, PlainDefinition, definitions, selected}
-use Rattle.dia_check.specs.Valid.{PHolds, AllowsP}
+use Rattle.dia_valid.specs.Valid.{PHolds, AllowsP}
 use Rattle.dia_breaking.specs.declared.heads.Head.{Head}
 use Rattle.dia_breaking.specs.declared.line.Place.{Place}
 use Rattle.dia_breaking.specs.declared.line.Place.TheVariants as places

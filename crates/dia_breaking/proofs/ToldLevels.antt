@@ -7,7 +7,7 @@ use Rattle.std.proofs.lemmas.Option.{none-some, same_Some}
 use Rattle.dia_wire.specs.declared.Key.{Key}
 use Rattle.dia_book.specs.Dictionary.{Dictionary, has_command}
 use Rattle.dia_book.proofs.Members.{at_filter_map}
-use Rattle.dia_rules.proofs.Members.{IsIn, at_in, in_append, in_at, in_filter, into_filter}
+use Rattle.dia_valid.proofs.Members.{IsIn, at_in, in_append, in_at, in_filter, into_filter}
 use Rattle.dia_breaking_sites.specs.Selection.{max_body}
 use Rattle.dia_breaking_avps.specs.declared.breaking.HeadBreak.{HeadBreak}
 use Rattle.dia_breaking_avps.specs.declared.breaking.HeadBreak.TheVariants as head_breaks

@@ -6,7 +6,7 @@ use Rattle.std.proofs.lemmas.Bool.{cases_order, eq-eqb, le-leb}
 use Rattle.std.proofs.lemmas.Option.{slice_get_within}
 use Rattle.dia_book.specs.Dictionary.{Dictionary}
 use Rattle.dia_book.proofs.Members.{at_map}
-use Rattle.dia_rules.proofs.Members.{IsIn, at_in, in_filter, in_left, in_right, into_filter}
+use Rattle.dia_valid.proofs.Members.{IsIn, at_in, in_filter, in_left, in_right, into_filter}
 use Rattle.dia_breaking_sites.specs.Selection.{max_body}
 use Rattle.dia_breaking_ways.specs.declared.graph.Step.{Step}
 use Rattle.dia_breaking_ways.specs.declared.graph.Reach.{Reach}

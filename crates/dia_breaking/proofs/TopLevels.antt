@@ -5,7 +5,7 @@ use Rattle.dia_book.specs.declared.DRule.{DRule}
 use Rattle.dia_book.specs.Dictionary.{Dictionary, PlainDefinition, IsDictionary}
 use Rattle.dia_policy.specs.declared.Unknown.{Unknown}
 use Rattle.dia_policy.specs.declared.Sends.{Sends}
-use Rattle.dia_rules.specs.Rules.{rules_in}
+use Rattle.dia_valid.specs.Rules.{rules_in}
 use Rattle.dia_breaking_sites.specs.Sent.{IsSent}
 use Rattle.dia_breaking_shortest.specs.Floors.{AreFloors}
 use Rattle.dia_breaking_ways.specs.Walks.{plain_exits}

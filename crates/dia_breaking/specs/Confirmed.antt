@@ -4,9 +4,9 @@ use Rattle.dia_book.specs.Dictionary.{Dictionary, PlainDefinition, definitions}
 use Rattle.dia_policy.specs.declared.Levels.TheVariants as levels
 use Rattle.dia_policy.specs.declared.Sends.{Sends}
 use Rattle.dia_policy.specs.declared.Sends.TheVariants.{Any, Known, Listed}
-use Rattle.dia_check.specs.Valid.{IsValid, IsValidOf}
+use Rattle.dia_valid.specs.Valid.{IsValid, IsValidOf}
 use Rattle.dia_breaking_sites.specs.Sent.{own_policy, Breaks}
-use Rattle.dia_rules.specs.Inclusion.{PlainTable, IsIncluded}
+use Rattle.dia_valid.specs.Inclusion.{PlainTable, IsIncluded}
 use Rattle.dia_breaking.specs.declared.line.Cause.{Cause}
 use Rattle.dia_breaking.specs.declared.line.Cause.TheVariants as causes
 use Rattle.dia_breaking.specs.declared.line.Line.{Line}

@@ -7,8 +7,8 @@ use Rattle.dia_book.specs.declared.DefHead.{DefHead}
 use Rattle.dia_book.specs.Dictionary.{Dictionary, PlainDefinition, definitions, selected}
 use Rattle.dia_policy.specs.declared.Unknown.{Unknown}
 use Rattle.dia_policy.specs.declared.Levels.TheVariants as levels
-use Rattle.dia_check.specs.Valid.{IsValid}
-use Rattle.dia_check.specs.Admission.{HasFlags}
+use Rattle.dia_valid.specs.Valid.{IsValid}
+use Rattle.dia_valid.specs.Valid.{HasFlags}
 use Rattle.dia_breaking_sites.specs.Sent.{IsSent}
 use Rattle.dia_breaking_sites.specs.Selection.{AboutFlags, AreValid, IsAsked}
 use Rattle.dia_breaking_avps.specs.Sent.{group_of, IsAcceptedData}

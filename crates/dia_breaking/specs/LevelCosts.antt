@@ -3,8 +3,8 @@ use Rattle.std.specs.Prelude.{◌≡◌, ℕ, ◌+◌, ◌-◌, nat_eq, nat_le, 
 use Rattle.std.specs.Option.{option_eq, option_map_or}
 use Rattle.dia_wire.specs.declared.Key.{Key}
 use Rattle.dia_book.specs.declared.DRule.{DRule}
-use Rattle.dia_check.specs.Valid.{is_listed}
-use Rattle.dia_rules.specs.Rules.{HasRule, rules_in, wildcard_of}
+use Rattle.dia_valid.specs.Valid.{is_listed}
+use Rattle.dia_valid.specs.Rules.{HasRule, rules_in, wildcard_of}
 use Rattle.dia_book.specs.Dictionary.{Dictionary}
 use Rattle.dia_breaking_levels.specs.Levels.{FirstIsShortest, IsWithinAllWith}
 use Rattle.dia_breaking_levels.specs.LevelTests.{too_long, capped, price, least_filler, least_length}

@@ -7,7 +7,7 @@ use Rattle.dia_data.specs.Plain.{PlainFormat}
 use Rattle.dia_book.specs.Dictionary.{Dictionary}
 use Rattle.dia_book.specs.declared.MRule.{MRule}
 use Rattle.dia_book.specs.declared.MRule.TheVariants.{Must, MustNot}
-use Rattle.dia_check.specs.Valid.{MHolds, known}
+use Rattle.dia_valid.specs.Valid.{MHolds, known}
 use Rattle.dia_breaking_avps.specs.Sent.{AreAccepted, IsAcceptedData, IsSentData, group_of}
 use Rattle.dia_breaking.specs.Sides.{Sides}
 use Rattle.dia_breaking.specs.Words.{format_in}

@@ -13,7 +13,7 @@ use Rattle.dia_book.specs.declared.Class.TheVariants as classes
 use Rattle.dia_book.specs.declared.MRule.{MRule}
 use Rattle.dia_book.specs.declared.MRule.TheVariants.{Must, MustNot, Any}
 use Rattle.dia_book.specs.Dictionary.{Dictionary, entry_of, group_place, selected}
-use Rattle.dia_rules.specs.Rules.{rules_in}
+use Rattle.dia_valid.specs.Rules.{rules_in}
 use Rattle.dia_breaking_sites.specs.Sent.{AreBytes}
 use Rattle.dia_breaking_levels.specs.declared.line.Part.{Part}
 use Rattle.dia_breaking_levels.specs.Chosen.{IsLineLevel, least_parts, parts_with, reads_between}

@@ -3,7 +3,7 @@ use Rattle.std.specs.Prelude.{◌≡◌, ⊤, ℕ, ◌^◌, ◌<◌, ◌≤◌, 
 use Rattle.dia_wire.specs.declared.Key.{Key}
 use Rattle.dia_wire.specs.Wire.{PlainAvp, SpellsAll, key_of}
 use Rattle.dia_book.specs.Dictionary.{IsDictionary, PlainDefinition}
-use Rattle.dia_check.specs.Admission.{HasFlags}
+use Rattle.dia_valid.specs.Valid.{HasFlags}
 use Rattle.dia_breaking_data.specs.declared.short_data.Witness.{Witness}
 use Rattle.dia_breaking_data.specs.Shortest.{witness_bytes}
 use Rattle.dia_breaking_avps.specs.Sent.{HasThisM, IsAcceptedData}

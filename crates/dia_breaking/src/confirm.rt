@@ -2,7 +2,7 @@
 ghost use Rattle.std.specs.Prelude.{◌≡◌, ◌↔◌, ◌+◌, ℕ, IfNone, IfOk, IfSome, IsTrue, List, length, map};
 ghost use Rattle.dia_wire.specs.Lengths.{header_length};
 ghost use Rattle.dia_policy.specs.declared.Levels.TheVariants.{Any};
-ghost use Rattle.dia_check.specs.Valid.{IsValid, IsValidOf};
+ghost use Rattle.dia_valid.specs.Valid.{IsValid, IsValidOf};
 ghost use Rattle.dia_breaking_sites.specs.Sent.{own_policy};
 ghost use Rattle.dia_breaking_shortest.specs.Floors.{IsSpellable};
 ghost use Rattle.dia_breaking.specs.Confirmed.{EachConfirmedBreaks, HaveStandings, IsConfirmed};

@@ -2,7 +2,7 @@
 ghost use Rattle.std.specs.Prelude.{◌≡◌, ◌<◌, ◌++◌, IfOk, IfSome, OnOk, length, option_to_list};
 ghost use Rattle.std.specs.List.{filter_map};
 ghost use Rattle.dia_book.specs.Dictionary.{definitions};
-ghost use Rattle.dia_rules.specs.Rules.{rules_in};
+ghost use Rattle.dia_valid.specs.Rules.{rules_in};
 ghost use Rattle.dia_breaking.specs.Exits.{AreExits, IsInnerOrNone, exit_by};
 ghost use Rattle.dia_breaking.specs.LevelCosts.{PicksShortest};
 ghost use Rattle.dia_breaking.specs.Outlooks.{group_rules};

@@ -3,7 +3,7 @@ ghost use Rattle.std.specs.Prelude.{◌≡◌, ◌<◌, ◌++◌, [], OnOk, IfSo
 ghost use Rattle.std.specs.Prelude.{option_and_then};
 ghost use Rattle.std.specs.Option.{option_map_or};
 ghost use Rattle.dia_book.specs.Dictionary.{definitions, selected};
-ghost use Rattle.dia_rules.specs.Rules.{rules_in};
+ghost use Rattle.dia_valid.specs.Rules.{rules_in};
 ghost use Rattle.dia_breaking_levels.specs.LevelTests.{too_long};
 ghost use Rattle.dia_breaking.specs.Messages.{read_number, sent_number};
 ghost use Rattle.dia_breaking.specs.Upgrades.{other_length_of, sides_of};

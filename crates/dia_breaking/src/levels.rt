@@ -1,8 +1,8 @@
 //! How long the levels of a definition of A are at least, where an AVP stands in them.
 ghost use Rattle.std.specs.Prelude.{◌≡◌, ◌<◌, length, not, find};
 ghost use Rattle.dia_book.specs.Dictionary.{definitions};
-ghost use Rattle.dia_check.specs.Valid.{is_listed};
-ghost use Rattle.dia_rules.specs.Rules.{rules_in};
+ghost use Rattle.dia_valid.specs.Valid.{is_listed};
+ghost use Rattle.dia_valid.specs.Rules.{rules_in};
 ghost use Rattle.dia_breaking_levels.specs.LevelTests.{least_filler};
 ghost use Rattle.dia_breaking_levels.specs.Levels.{OtherIsShortest};
 ghost use Rattle.dia_breaking.specs.LevelCosts.{beside_of};

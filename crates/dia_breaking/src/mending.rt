@@ -6,7 +6,7 @@ ghost use Rattle.dia_wire.specs.Lengths.{header_length};
 ghost use Rattle.dia_wire.specs.Wire.{IsHead, IsMessage, PlainAvp};
 ghost use Rattle.dia_book.specs.Dictionary.{definitions, selected};
 ghost use Rattle.dia_check.specs.Faults.{HasLength};
-ghost use Rattle.dia_check.specs.Valid.{PHolds, class_of};
+ghost use Rattle.dia_valid.specs.Valid.{PHolds, class_of};
 ghost use Rattle.dia_breaking.specs.Confirmed.{IsConfirmed};
 ghost use Rattle.dia_breaking.specs.Mended.{BreaksBehind, BreaksOnceMended, IsMendedAt, is_of_header, p_bit};
 ghost use Rattle.dia_breaking.specs.Upgrades.{sides_of};

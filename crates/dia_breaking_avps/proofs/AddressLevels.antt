@@ -13,10 +13,10 @@ use Rattle.dia_book.specs.Keys.{same_key}
 use Rattle.dia_book.proofs.SameKeys.{same_key-true}
 use Rattle.dia_policy.specs.declared.sends.Sends.{Sends}
 use Rattle.dia_policy.specs.declared.sends.Sends.TheVariants.{Any, Known, Listed}
-use Rattle.dia_check.specs.Valid.{Placed, fixed_rules, has_wildcard, is_listed, is_wildcard, known, loose_rules}
-use Rattle.dia_rules.proofs.Members.{IsIn, all_of, any_in, in_at, in_filter}
-use Rattle.dia_rules.proofs.RulesOfKeys.{IsRunKey, all_middle, listed}
-use Rattle.dia_rules.proofs.Searches.{Found, NotFound, found_or_not}
+use Rattle.dia_valid.specs.Valid.{Placed, fixed_rules, has_wildcard, is_listed, is_wildcard, known, loose_rules}
+use Rattle.dia_valid.proofs.Members.{IsIn, all_of, any_in, in_at, in_filter}
+use Rattle.dia_valid.proofs.RulesOfKeys.{IsRunKey, all_middle, listed}
+use Rattle.dia_valid.proofs.Searches.{Found, NotFound, found_or_not}
 use Rattle.dia_breaking_sites.specs.Sent.{AreBytes, IsSentLevel, IsSentWithin, StandAsSent}
 use Rattle.dia_breaking_sites.proofs.Members.{all_parts}
 use Rattle.dia_breaking_avps.specs.Levels.{AreAddresses, HasNoFamily, HaveNoFamilies, IsFamily, OthersHaveNone}

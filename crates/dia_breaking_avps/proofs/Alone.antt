@@ -10,9 +10,9 @@ use Rattle.dia_book.specs.Dictionary.{Dictionary, DictEntry, PlainDefinition}
 use Rattle.dia_policy.specs.declared.Unknown.{Unknown}
 use Rattle.dia_policy.specs.declared.sends.Sends.{Sends}
 use Rattle.dia_policy.specs.declared.sends.Sends.TheVariants as senders
-use Rattle.dia_check.specs.Valid.{Fits as AvpFits, IsAccepted, IsLevel, MHolds, known}
-use Rattle.dia_check.specs.Walks.{group_at}
-use Rattle.dia_check.specs.Admission.{HasFlags}
+use Rattle.dia_valid.specs.Valid.{Fits as AvpFits, IsAccepted, IsLevel, MHolds, known}
+use Rattle.dia_valid.specs.Valid.{group_at}
+use Rattle.dia_valid.specs.Valid.{HasFlags}
 use Rattle.dia_breaking_sites.specs.Sent.{own_policy, AreBytes, IsSentAvp, IsSentLevel, IsSentWithin}
 use Rattle.dia_breaking_sites.specs.Sites.{FitsAlone}
 use Rattle.dia_breaking_sites.proofs.Members.{IsIn, in_contains, in_all, all_parts}

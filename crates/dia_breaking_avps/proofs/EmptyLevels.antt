@@ -7,7 +7,7 @@ use Rattle.dia_book.specs.declared.DRule.{DRule}
 use Rattle.dia_book.specs.Dictionary.{is_fixed}
 use Rattle.dia_book.proofs.Members.{append-none}
 use Rattle.dia_breaking_sites.proofs.Members.{all_map}
-use Rattle.dia_check.specs.Valid.{InBounds, Runs, Placed, counted, fixed_rules, loose_rules}
+use Rattle.dia_valid.specs.Valid.{InBounds, Runs, Placed, counted, fixed_rules, loose_rules}
 use Rattle.dia_breaking_avps.proofs.FirstAvps.{each}
 
 abbrev AsksNone : DRule → Type 0

@@ -6,9 +6,9 @@ use Rattle.dia_wire.specs.Wire.{HasM}
 use Rattle.dia_book.specs.Dictionary.{Dictionary, DictEntry, entry_of}
 use Rattle.dia_policy.specs.declared.Unknown.{Unknown}
 use Rattle.dia_policy.specs.declared.sends.Sends.{Sends}
-use Rattle.dia_check.specs.Valid.{known}
-use Rattle.dia_check.specs.Admission.{HasFlags}
-use Rattle.dia_check.proofs.AvpFaults.{entry_here, not_known}
+use Rattle.dia_valid.specs.Valid.{known}
+use Rattle.dia_valid.specs.Valid.{HasFlags}
+use Rattle.dia_valid.proofs.Entries.{entry_here, not_known}
 use Rattle.dia_breaking_sites.specs.Sent.{own_policy}
 use Rattle.dia_breaking_avps.specs.declared.flags.MFlags.{MFlags}
 use Rattle.dia_breaking_avps.specs.declared.breaking.HeadBreak.TheVariants.{Unknown as UnknownAvp, MBit}

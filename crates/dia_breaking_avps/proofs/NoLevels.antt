@@ -11,7 +11,7 @@ use Rattle.dia_data.proofs.FormatsBelow.{leaf_below}
 use Rattle.dia_book.specs.declared.DRule.{DRule}
 use Rattle.dia_book.specs.Dictionary.{Dictionary}
 use Rattle.dia_policy.specs.declared.Unknown.{Unknown}
-use Rattle.dia_check.specs.Valid.{Fits, IsLevel, Placed}
+use Rattle.dia_valid.specs.Valid.{Fits, IsLevel, Placed}
 use Rattle.dia_breaking_sites.specs.Sent.{AreBytes}
 use Rattle.dia_breaking_data.specs.Shortest.{IsShortestLeaf, AreBytes as AreWitnessBytes}
 use Rattle.dia_breaking_avps.specs.Sent.{IsShortestRefused}

@@ -10,8 +10,8 @@ use Rattle.dia_book.specs.Dictionary.{Dictionary, DictEntry, PlainDefinition, Is
 use Rattle.dia_policy.specs.declared.Unknown.{Unknown}
 use Rattle.dia_policy.specs.declared.sends.Sends.{Sends}
 use Rattle.dia_policy.specs.declared.sends.Sends.TheVariants as senders
-use Rattle.dia_check.specs.Valid.{Fits, IsLevel, known}
-use Rattle.dia_check.proofs.AvpFaults.{not_known}
+use Rattle.dia_valid.specs.Valid.{Fits, IsLevel, known}
+use Rattle.dia_valid.proofs.Entries.{not_known}
 use Rattle.dia_breaking_sites.specs.Sent.{IsSentLevel, IsSentWithin}
 use Rattle.dia_breaking_data.specs.declared.short_data.Witness.{Witness}
 use Rattle.dia_breaking_data.specs.Shortest.{AreBytes as AreWitnessBytes, IsShortest, witness_bytes}

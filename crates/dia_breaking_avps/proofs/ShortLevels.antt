@@ -10,8 +10,8 @@ use Rattle.dia_data.specs.Leaf.{IsLeaf}
 use Rattle.dia_book.specs.Dictionary.{Dictionary, DictEntry, PlainDefinition}
 use Rattle.dia_policy.specs.declared.sends.Sends.{Sends}
 use Rattle.dia_policy.specs.declared.sends.Sends.TheVariants.{Any}
-use Rattle.dia_check.specs.Valid.{Fits, IsLevel, known}
-use Rattle.dia_rules.proofs.Members.{some_of}
+use Rattle.dia_valid.specs.Valid.{Fits, IsLevel, known}
+use Rattle.dia_valid.proofs.Members.{some_of}
 use Rattle.dia_breaking_sites.specs.Sent.{IsSentLevel, IsSentWithin}
 use Rattle.dia_breaking_avps.specs.Laws.{ShortLevelsAreAccepted}
 use Rattle.dia_breaking_avps.specs.Levels.{HasEightBytes}

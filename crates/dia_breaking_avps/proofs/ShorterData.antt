@@ -22,7 +22,7 @@ use Rattle.dia_book.specs.Dictionary.{Dictionary, DictEntry, PlainDefinition}
 use Rattle.dia_policy.specs.declared.Unknown.{Unknown}
 use Rattle.dia_policy.specs.declared.sends.Sends.{Sends}
 use Rattle.dia_policy.specs.declared.sends.Sends.TheVariants.{Any as AnySent}
-use Rattle.dia_check.specs.Valid.{Fits, IsLevel, known}
+use Rattle.dia_valid.specs.Valid.{Fits, IsLevel, known}
 use Rattle.dia_breaking_sites.specs.Sent.{IsSentLevel, IsSentWithin}
 use Rattle.dia_breaking_avps.specs.Sent.{IsAcceptedData, IsSentData, IsShortestRefused, group_of}
 use Rattle.dia_breaking_avps.proofs.NoLevels.{eight_zeros, empty_level, is_uri, least_uri, no_family, not_empty, not_short, not_zeros, one_letter}

@@ -7,8 +7,8 @@ use Rattle.dia_book.specs.declared.DRule.{DRule}
 use Rattle.dia_book.specs.Dictionary.{Dictionary, DictEntry, PlainDefinition, definitions}
 use Rattle.dia_policy.specs.declared.Unknown.{Unknown}
 use Rattle.dia_policy.specs.declared.sends.Sends.{Sends}
-use Rattle.dia_check.specs.Valid.{Fits as AvpFits, IsLevel}
-use Rattle.dia_check.specs.Admission.{HasFlags}
+use Rattle.dia_valid.specs.Valid.{Fits as AvpFits, IsLevel}
+use Rattle.dia_valid.specs.Valid.{HasFlags}
 use Rattle.dia_breaking_data.specs.declared.short_data.Witness.{Witness}
 use Rattle.dia_breaking_data.specs.Shortest.{witness_bytes}
 use Rattle.dia_breaking_avps.specs.declared.flags.MFlags.{MFlags}

@@ -7,8 +7,8 @@ use Rattle.dia_book.specs.declared.DRule.{DRule}
 use Rattle.dia_book.specs.Dictionary.{Dictionary, DictEntry}
 use Rattle.dia_policy.specs.declared.Unknown.{Unknown}
 use Rattle.dia_policy.specs.declared.sends.Sends.{Sends}
-use Rattle.dia_check.specs.Valid.{known}
-use Rattle.dia_check.specs.Admission.{HasFlags}
+use Rattle.dia_valid.specs.Valid.{known}
+use Rattle.dia_valid.specs.Valid.{HasFlags}
 use Rattle.dia_breaking_sites.specs.Sent.{own_policy}
 use Rattle.dia_breaking_data.specs.Shortest.{witness_bytes}
 use Rattle.dia_breaking_avps.specs.declared.breaking.AvpBreaks.{AvpBreaks}

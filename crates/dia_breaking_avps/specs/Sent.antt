@@ -9,7 +9,7 @@ use Rattle.dia_book.specs.Dictionary.{Dictionary, DictEntry, PlainDefinition, de
 use Rattle.dia_policy.specs.declared.Unknown.{Unknown}
 use Rattle.dia_policy.specs.declared.sends.Sends.{Sends}
 use Rattle.dia_policy.specs.declared.sends.Sends.TheVariants.{Any}
-use Rattle.dia_check.specs.Valid.{Fits, IsLevel, known}
+use Rattle.dia_valid.specs.Valid.{Fits, IsLevel, known}
 use Rattle.dia_breaking_sites.specs.Sent.{AreBytes, IsSentLevel, IsSentWithin}
 
 -- the flags have this M flag (RFC 6733 section 4.1)

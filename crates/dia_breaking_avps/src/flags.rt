@@ -1,6 +1,6 @@
 //! The M flags that a side sends or accepts.
 ghost use Rattle.std.specs.Prelude.{◌≡◌, ◌↔◌, ℕ, false, true, IsTrue};
-ghost use Rattle.dia_check.specs.Valid.{HasM, MHolds};
+ghost use Rattle.dia_valid.specs.Valid.{HasM, MHolds};
 ghost use Rattle.dia_breaking_sites.specs.Sent.{own_policy};
 ghost use Rattle.dia_breaking_avps.specs.Answers.{IsAllowed, IsLeftFlag};
 

@@ -6,7 +6,7 @@ ghost use Rattle.dia_data.specs.Leaf.{IsLeaf};
 ghost use Rattle.dia_data.specs.Plain.{plain_format};
 ghost use Rattle.dia_book.specs.Dictionary.{Dictionary, DictEntry, PlainDefinition, definitions};
 ghost use Rattle.dia_policy.specs.declared.Unknown.{Unknown as AnyPolicy};
-ghost use Rattle.dia_check.specs.Valid.{Fits, IsLevel};
+ghost use Rattle.dia_valid.specs.Valid.{Fits, IsLevel};
 ghost use Rattle.dia_breaking_data.specs.Shortest.{witness_bytes};
 ghost use Rattle.dia_breaking_avps.specs.Answers.{IsShortestBreak, IsEntryData, IsLeafBreak};
 ghost use Rattle.dia_breaking_avps.specs.Answers.{IsLevelAsLeaf, IsLevelBreak, break_of};

@@ -6,9 +6,9 @@ use Rattle.dia_book.specs.declared.DRule.{DRule}
 use Rattle.dia_book.specs.Keys.{same_key}
 use Rattle.dia_book.specs.Dictionary.{AreRules}
 use Rattle.dia_book.proofs.SameKeys.{same_key-refl, same_key-true}
-use Rattle.dia_check.specs.Valid.{Placed, is_listed}
-use Rattle.dia_rules.specs.Rules.{rule_of, wildcard_of}
-use Rattle.dia_rules.proofs.Members.{IsIn, in_contains, count_in}
+use Rattle.dia_valid.specs.Valid.{Placed, is_listed}
+use Rattle.dia_valid.specs.Rules.{rule_of, wildcard_of}
+use Rattle.dia_valid.proofs.Members.{IsIn, in_contains, count_in}
 use Rattle.dia_breaking_levels.specs.CountsAndRanks.{AreSound}
 use Rattle.dia_breaking_levels.specs.LeastLevels.{total}
 use Rattle.dia_breaking_levels.specs.LevelTests.{price, least_filler, least_length, once, length_once}

@@ -6,8 +6,8 @@ use Rattle.std.proofs.lemmas.Bool.{ltb-true, ltb-false}
 use Rattle.std.proofs.lemmas.Option.{none-some, same_Some}
 use Rattle.dia_wire.specs.declared.Key.{Key}
 use Rattle.dia_book.specs.declared.DRule.{DRule}
-use Rattle.dia_check.specs.Valid.{InBounds, Placed, fixed_rules, is_listed, has_wildcard}
-use Rattle.dia_rules.proofs.Members.{IsIn, in_all, at_in, in_contains, contains_in, all_in, none_or_some}
+use Rattle.dia_valid.specs.Valid.{InBounds, Placed, fixed_rules, is_listed, has_wildcard}
+use Rattle.dia_valid.proofs.Members.{IsIn, in_all, at_in, in_contains, contains_in, all_in, none_or_some}
 use Rattle.dia_breaking_levels.specs.CountsAndRanks.{AreSound, times, strangers, rank, InOrder, AreInPlace}
 use Rattle.dia_breaking_levels.specs.Breaches.{IsLate, Breach}
 use Rattle.dia_breaking_levels.specs.Breaches.Breach.{Few, Many, Not_allowed, Few_others, Many_others, Late}

@@ -11,13 +11,13 @@ use Rattle.dia_book.specs.Keys.{same_key}
 use Rattle.dia_book.specs.Dictionary.{Dictionary, IsDictionary, PlainDefinition, AreRules, definitions, is_fixed, lists_key}
 use Rattle.dia_book.proofs.SameKeys.{same_key-refl, same_key-true}
 use Rattle.dia_book.proofs.Members.{AreApart, AreApart-filter}
-use Rattle.dia_check.specs.Valid.{InBounds, Runs, Placed, MayBeLoose, fixed_rules, loose_rules, is_listed, has_wildcard, counted}
-use Rattle.dia_check.proofs.LongestRuns.{AreDistinct}
-use Rattle.dia_check.proofs.RuleCounts.{fixed_place}
-use Rattle.dia_rules.specs.Rules.{HasRule, HasWildcard}
-use Rattle.dia_rules.proofs.Members.{IsIn, in_all, all_map}
-use Rattle.dia_rules.proofs.RulesOfKeys.{all_middle, IsRunKey, listed, is_listed_by, runs_none, runs_some}
-use Rattle.dia_rules.proofs.Members.{in_at, at_in, in_contains, contains_in, all_in, in_filter, into_filter, in_right, in_append, count_append, count_none, count_all}
+use Rattle.dia_valid.specs.Valid.{InBounds, Runs, Placed, MayBeLoose, fixed_rules, loose_rules, is_listed, has_wildcard, counted}
+use Rattle.dia_valid.proofs.LongestRuns.{AreDistinct}
+use Rattle.dia_valid.proofs.RuleCounts.{fixed_place}
+use Rattle.dia_valid.specs.Rules.{HasRule, HasWildcard}
+use Rattle.dia_valid.proofs.Members.{IsIn, in_all, all_map}
+use Rattle.dia_valid.proofs.RulesOfKeys.{all_middle, IsRunKey, listed, is_listed_by, runs_none, runs_some}
+use Rattle.dia_valid.proofs.Members.{in_at, at_in, in_contains, contains_in, all_in, in_filter, into_filter, in_right, in_append, count_append, count_none, count_all}
 use Rattle.dia_breaking_levels.specs.CountsAndRanks.{AreSound, times, strangers, rank, InOrder, AreInPlace}
 
 -- ---- the rules of a dictionary

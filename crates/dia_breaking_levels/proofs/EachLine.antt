@@ -8,9 +8,9 @@ use Rattle.dia_book.specs.declared.DRule.{DRule}
 use Rattle.dia_book.specs.Keys.{same_key}
 use Rattle.dia_book.proofs.SameKeys.{same_key-refl}
 use Rattle.dia_book.proofs.Members.{find-is_some}
-use Rattle.dia_check.specs.Valid.{Placed, fixed_rules, is_listed, is_wildcard, has_wildcard}
-use Rattle.dia_rules.specs.Rules.{HasRule, HasWildcard, rule_of, wildcard_of}
-use Rattle.dia_rules.proofs.Members.{IsIn, in_contains, contains_in, in_left, in_right, any_in, in_any, count_in, in_filter_map}
+use Rattle.dia_valid.specs.Valid.{Placed, fixed_rules, is_listed, is_wildcard, has_wildcard}
+use Rattle.dia_valid.specs.Rules.{HasRule, HasWildcard, rule_of, wildcard_of}
+use Rattle.dia_valid.proofs.Members.{IsIn, in_contains, contains_in, in_left, in_right, any_in, in_any, count_in, in_filter_map}
 use Rattle.dia_breaking_levels.specs.declared.floor.Floor.{Floor}
 use Rattle.dia_breaking_levels.specs.declared.line.Line.{Line}
 use Rattle.dia_breaking_levels.specs.declared.line.Reason.{Reason}

@@ -11,8 +11,8 @@ use Rattle.dia_book.specs.declared.Slot.TheVariants as slot
 use Rattle.dia_book.specs.Dictionary.{is_fixed, lists_key, slot_at}
 use Rattle.dia_book.proofs.Members.{find-is_some}
 use Rattle.dia_book.proofs.LookUpsByName.{find-place}
-use Rattle.dia_check.specs.Valid.{is_listed}
-use Rattle.dia_check.proofs.OneKeyMore.{at_position}
+use Rattle.dia_valid.specs.Valid.{is_listed}
+use Rattle.dia_valid.proofs.Entries.{at_position}
 use Rattle.dia_breaking_levels.specs.declared.floor.Floor.{Floor}
 use Rattle.dia_breaking_levels.specs.declared.line.Line.{Line}
 use Rattle.dia_breaking_levels.specs.declared.line.Reason.TheVariants.{Order}

@@ -4,10 +4,10 @@ use Rattle.std.specs.Prelude.{not, nat_le, ◌&&◌, count_by, if◌then◌else�
 use Rattle.std.proofs.lemmas.Bool.{leb-false}
 use Rattle.dia_wire.specs.declared.Key.{Key}
 use Rattle.dia_book.specs.declared.DRule.{DRule}
-use Rattle.dia_check.specs.Valid.{Placed, is_listed}
-use Rattle.dia_check.proofs.RuleCounts.{counts_key}
-use Rattle.dia_rules.specs.Rules.{wildcard_of}
-use Rattle.dia_rules.proofs.Members.{IsIn, count_cons, count_in, count_mono}
+use Rattle.dia_valid.specs.Valid.{Placed, is_listed}
+use Rattle.dia_valid.proofs.RuleCounts.{counts_key}
+use Rattle.dia_valid.specs.Rules.{wildcard_of}
+use Rattle.dia_valid.proofs.Members.{IsIn, count_cons, count_in, count_mono}
 use Rattle.dia_breaking_levels.specs.declared.floor.Floor.{Floor}
 use Rattle.dia_breaking_levels.specs.CountsAndRanks.{AreSound, strangers}
 use Rattle.dia_breaking_levels.specs.LeastLevels.{total}

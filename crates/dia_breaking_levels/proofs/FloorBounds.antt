@@ -6,8 +6,8 @@ use Rattle.dia_wire.specs.declared.Key.{Key}
 use Rattle.dia_book.specs.Keys.{same_key}
 use Rattle.dia_book.specs.declared.DRule.{DRule}
 use Rattle.dia_book.proofs.SameKeys.{same_key-true}
-use Rattle.dia_check.specs.Valid.{is_listed}
-use Rattle.dia_rules.proofs.Members.{IsIn, any_in}
+use Rattle.dia_valid.specs.Valid.{is_listed}
+use Rattle.dia_valid.proofs.Members.{IsIn, any_in}
 use Rattle.dia_breaking_levels.specs.Strangers.{needs, needed}
 use Rattle.dia_breaking_levels.specs.LevelTests.{too_long, capped, many, rule_floor, inner_length, cheapest, base_length, needed_up}
 use Rattle.dia_breaking_levels.proofs.RuleSums.{sum_of}

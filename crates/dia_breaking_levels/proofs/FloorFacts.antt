@@ -7,9 +7,9 @@ use Rattle.std.proofs.lemmas.List.Elements.{Contains-append_left}
 use Rattle.dia_wire.specs.declared.Key.{Key}
 use Rattle.dia_book.specs.declared.DRule.{DRule}
 use Rattle.dia_book.specs.Dictionary.{Dictionary, PlainDefinition, IsDictionary, AreRules, definitions}
-use Rattle.dia_check.specs.Valid.{has_wildcard}
-use Rattle.dia_rules.specs.Rules.{rules_in, wildcard_of}
-use Rattle.dia_rules.proofs.Members.{in_at, all_of}
+use Rattle.dia_valid.specs.Valid.{has_wildcard}
+use Rattle.dia_valid.specs.Rules.{rules_in, wildcard_of}
+use Rattle.dia_valid.proofs.Members.{in_at, all_of}
 use Rattle.dia_breaking_levels.specs.declared.floor.Floor.{Floor}
 use Rattle.dia_breaking_levels.specs.declared.line.Line.{Line}
 use Rattle.dia_breaking_levels.specs.declared.steps.Step.{Step}

@@ -4,7 +4,7 @@ use Rattle.std.specs.Prelude.{min}
 use Rattle.std.specs.Option.{option_map_or}
 use Rattle.dia_wire.specs.declared.Key.{Key}
 use Rattle.dia_book.specs.declared.DRule.{DRule}
-use Rattle.dia_rules.specs.Rules.{rule_of}
+use Rattle.dia_valid.specs.Rules.{rule_of}
 use Rattle.dia_breaking_levels.specs.declared.offers.Offer.{Offer}
 use Rattle.dia_breaking_levels.specs.Offers.{lesser, node_at, weight, weight_at}
 use Rattle.dia_breaking_levels.specs.Places.{place}

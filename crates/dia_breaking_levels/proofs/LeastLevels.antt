@@ -12,12 +12,12 @@ use Rattle.dia_book.specs.Keys.{same_key}
 use Rattle.dia_book.specs.Dictionary.{Dictionary, IsDictionary, PlainDefinition, AreRules, definitions, is_fixed}
 use Rattle.dia_book.proofs.SameKeys.{same_key-refl, same_key-true}
 use Rattle.dia_book.proofs.Members.{AreApart, AreApart-filter}
-use Rattle.dia_check.specs.Valid.{InBounds, Runs, Placed, MayBeLoose, fixed_rules, loose_rules, is_listed, is_wildcard, counted}
-use Rattle.dia_check.proofs.RuleCounts.{filter_all, filter_none, counts_key}
-use Rattle.dia_rules.proofs.Members.{IsIn}
-use Rattle.dia_rules.proofs.Members.{at_in, in_contains, contains_in, all_in, in_filter, in_any, in_append, count_cons, count_append, count_none, count_all}
-use Rattle.dia_rules.proofs.RulesOfKeys.{is_listed_by}
-use Rattle.dia_rules.proofs.Members.{all_of}
+use Rattle.dia_valid.specs.Valid.{InBounds, Runs, Placed, MayBeLoose, fixed_rules, loose_rules, is_listed, is_wildcard, counted}
+use Rattle.dia_valid.proofs.RuleCounts.{filter_all, filter_none, counts_key}
+use Rattle.dia_valid.proofs.Members.{IsIn}
+use Rattle.dia_valid.proofs.Members.{at_in, in_contains, contains_in, all_in, in_filter, in_any, in_append, count_cons, count_append, count_none, count_all}
+use Rattle.dia_valid.proofs.RulesOfKeys.{is_listed_by}
+use Rattle.dia_valid.proofs.Members.{all_of}
 use Rattle.dia_breaking_levels.specs.CountsAndRanks.{AreSound, times, strangers, AreInPlace}
 use Rattle.dia_breaking_levels.specs.LeastLevels.{total, copies, or_filler, planned, counts_part, plan_by, plan, CountsWild, IsFiller, IsCheapest}
 use Rattle.dia_breaking_levels.proofs.CountsAndRanks.{placed-in_place}

@@ -8,11 +8,11 @@ use Rattle.std.proofs.lemmas.Option.{none-some}
 use Rattle.dia_wire.specs.declared.Key.{Key}
 use Rattle.dia_book.specs.declared.DRule.{DRule}
 use Rattle.dia_book.proofs.Members.{at_find}
-use Rattle.dia_check.specs.Valid.{InBounds, Placed, is_listed, is_wildcard, counted}
-use Rattle.dia_check.proofs.RuleCounts.{counts_key}
-use Rattle.dia_rules.specs.Rules.{wildcard_of}
-use Rattle.dia_rules.proofs.Members.{IsIn, in_at, count_mono}
-use Rattle.dia_rules.proofs.RulesOfKeys.{is_listed_by}
+use Rattle.dia_valid.specs.Valid.{InBounds, Placed, is_listed, is_wildcard, counted}
+use Rattle.dia_valid.proofs.RuleCounts.{counts_key}
+use Rattle.dia_valid.specs.Rules.{wildcard_of}
+use Rattle.dia_valid.proofs.Members.{IsIn, in_at, count_mono}
+use Rattle.dia_valid.proofs.RulesOfKeys.{is_listed_by}
 use Rattle.dia_breaking_levels.specs.CountsAndRanks.{AreSound, times, AreInPlace}
 use Rattle.dia_breaking_levels.specs.LeastLevels.{total}
 use Rattle.dia_breaking_levels.specs.LevelTests.{too_long, price, has_room, swapped, rule_floor, many, listed_at_least, listed_at_most}

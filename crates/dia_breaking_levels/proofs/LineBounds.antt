@@ -8,9 +8,9 @@ use Rattle.dia_book.specs.Keys.{same_key}
 use Rattle.dia_book.specs.Dictionary.{lists_key}
 use Rattle.dia_book.proofs.SameKeys.{same_key-refl, same_key-true}
 use Rattle.dia_book.proofs.Members.{at_find, find-is_some}
-use Rattle.dia_check.specs.Valid.{Placed, is_listed}
-use Rattle.dia_rules.specs.Rules.{rule_of, wildcard_of}
-use Rattle.dia_rules.proofs.Members.{IsIn, in_at, count_mono}
+use Rattle.dia_valid.specs.Valid.{Placed, is_listed}
+use Rattle.dia_valid.specs.Rules.{rule_of, wildcard_of}
+use Rattle.dia_valid.proofs.Members.{IsIn, in_at, count_mono}
 use Rattle.dia_breaking_levels.specs.declared.floor.Floor.{Floor}
 use Rattle.dia_breaking_levels.specs.CountsAndRanks.{AreSound, times}
 use Rattle.dia_breaking_levels.specs.LeastLevels.{total}

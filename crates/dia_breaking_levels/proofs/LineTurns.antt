@@ -10,9 +10,9 @@ use Rattle.dia_book.specs.declared.Slot.TheVariants as slot
 use Rattle.dia_book.specs.Dictionary.{AreRules, is_fixed, slot_at, lists_key}
 use Rattle.dia_book.proofs.Members.{find-is_some}
 use Rattle.std.specs.Prelude.{is_some}
-use Rattle.dia_check.specs.Valid.{is_listed}
-use Rattle.dia_check.proofs.OneKeyMore.{at_position}
-use Rattle.dia_rules.specs.Rules.{rule_of}
+use Rattle.dia_valid.specs.Valid.{is_listed}
+use Rattle.dia_valid.proofs.Entries.{at_position}
+use Rattle.dia_valid.specs.Rules.{rule_of}
 use Rattle.dia_breaking_levels.specs.declared.floor.Floor.{Floor}
 use Rattle.dia_breaking_levels.specs.declared.line.Reason.TheVariants.{Order}
 use Rattle.dia_breaking_levels.specs.declared.offers.Offer.{Offer}

@@ -6,7 +6,7 @@ use Rattle.std.proofs.lemmas.List.{append-nil, drop_more, flat_map_more, take_al
 use Rattle.std.proofs.lemmas.List.Elements.{filter_map-append}
 use Rattle.std.specs.List.{cons_option}
 use Rattle.dia_book.specs.declared.DRule.{DRule}
-use Rattle.dia_rules.proofs.Members.{taken}
+use Rattle.dia_valid.proofs.Members.{taken}
 use Rattle.dia_breaking_levels.specs.declared.cut.Cut.{Cut}
 use Rattle.dia_breaking_levels.specs.declared.line.Line.{Line}
 use Rattle.dia_breaking_levels.specs.declared.line.Reason.{Reason}

@@ -8,9 +8,9 @@ use Rattle.std.proofs.lemmas.Option.{none-some}
 use Rattle.dia_wire.specs.declared.Key.{Key}
 use Rattle.dia_book.specs.declared.DRule.{DRule}
 use Rattle.dia_book.proofs.SameKeys.{same_key-refl}
-use Rattle.dia_check.specs.Valid.{Placed, is_listed, is_wildcard, counted}
-use Rattle.dia_check.proofs.RuleCounts.{counts_key}
-use Rattle.dia_rules.proofs.Members.{IsIn, any_in, contains_in, count_none, count_mono}
+use Rattle.dia_valid.specs.Valid.{Placed, is_listed, is_wildcard, counted}
+use Rattle.dia_valid.proofs.RuleCounts.{counts_key}
+use Rattle.dia_valid.proofs.Members.{IsIn, any_in, contains_in, count_none, count_mono}
 use Rattle.dia_breaking_levels.specs.declared.floor.Floor.{Floor}
 use Rattle.dia_breaking_levels.specs.declared.steps.Step.{Step}
 use Rattle.dia_breaking_levels.specs.CountsAndRanks.{AreSound, strangers, AreInPlace}

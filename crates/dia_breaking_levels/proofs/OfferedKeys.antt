@@ -11,11 +11,11 @@ use Rattle.dia_wire.specs.declared.Key.{Key}
 use Rattle.dia_book.specs.declared.DRule.{DRule}
 use Rattle.dia_book.specs.declared.Slot.TheVariants as slot
 use Rattle.dia_book.specs.Dictionary.{AreRules, is_fixed, lists_key, slot_at}
-use Rattle.dia_check.specs.Valid.{is_listed}
-use Rattle.dia_check.proofs.OneKeyMore.{at_position}
-use Rattle.dia_rules.specs.Rules.{rule_of}
-use Rattle.dia_rules.proofs.Members.{in_at}
-use Rattle.dia_rules.proofs.RulesOfKeys.{is_listed_by}
+use Rattle.dia_valid.specs.Valid.{is_listed}
+use Rattle.dia_valid.proofs.Entries.{at_position}
+use Rattle.dia_valid.specs.Rules.{rule_of}
+use Rattle.dia_valid.proofs.Members.{in_at}
+use Rattle.dia_valid.proofs.RulesOfKeys.{is_listed_by}
 use Rattle.dia_breaking_levels.specs.declared.floor.Floor.{Floor}
 use Rattle.dia_breaking_levels.specs.declared.line.Line.{Line}
 use Rattle.dia_breaking_levels.specs.declared.offers.Offer.{Offer}

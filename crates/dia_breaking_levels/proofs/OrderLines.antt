@@ -7,11 +7,11 @@ use Rattle.dia_wire.specs.declared.Key.{Key}
 use Rattle.dia_book.specs.declared.DRule.{DRule}
 use Rattle.dia_book.specs.Dictionary.{AreRules, is_fixed}
 use Rattle.dia_book.proofs.Members.{at_find}
-use Rattle.dia_check.specs.Valid.{Placed, fixed_rules, is_listed}
-use Rattle.dia_check.proofs.KeysByCounts.{fixed_few}
-use Rattle.dia_rules.specs.Rules.{rule_of, wildcard_of}
-use Rattle.dia_rules.proofs.Members.{IsIn, in_at, in_filter}
-use Rattle.dia_rules.proofs.RulesOfKeys.{is_listed_by}
+use Rattle.dia_valid.specs.Valid.{Placed, fixed_rules, is_listed}
+use Rattle.dia_valid.proofs.Entries.{fixed_few}
+use Rattle.dia_valid.specs.Rules.{rule_of, wildcard_of}
+use Rattle.dia_valid.proofs.Members.{IsIn, in_at, in_filter}
+use Rattle.dia_valid.proofs.RulesOfKeys.{is_listed_by}
 use Rattle.dia_breaking_levels.specs.declared.floor.Floor.{Floor}
 use Rattle.dia_breaking_levels.specs.declared.line.Line.{Line}
 use Rattle.dia_breaking_levels.specs.declared.line.Reason.{Reason}

@@ -2,7 +2,7 @@
 use Rattle.std.proofs.Common.{◌≢◌, ◌≤◌, List, ap, arith}
 use Rattle.dia_wire.specs.declared.Key.{Key}
 use Rattle.dia_book.specs.declared.DRule.{DRule}
-use Rattle.dia_check.specs.Valid.{Placed, fixed_rules}
+use Rattle.dia_valid.specs.Valid.{Placed, fixed_rules}
 use Rattle.dia_breaking_levels.specs.CountsAndRanks.{AreSound, rank}
 use Rattle.dia_breaking_levels.specs.Breaches.{IsLate}
 use Rattle.dia_breaking_levels.specs.Orders.{StandsBefore, IsTurned}

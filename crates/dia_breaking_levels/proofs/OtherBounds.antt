@@ -5,10 +5,10 @@ use Rattle.std.proofs.Math.Nat.{mul-le-mul_right}
 use Rattle.dia_wire.specs.declared.Key.{Key}
 use Rattle.dia_book.specs.declared.DRule.{DRule}
 use Rattle.dia_book.proofs.Members.{find-is_some}
-use Rattle.dia_check.specs.Valid.{Placed, is_listed, is_wildcard, has_wildcard, counted}
-use Rattle.dia_check.proofs.RuleCounts.{counts_key}
-use Rattle.dia_rules.specs.Rules.{wildcard_of}
-use Rattle.dia_rules.proofs.Members.{IsIn, contains_in, count_cons, count_none, count_mono, none_or_some}
+use Rattle.dia_valid.specs.Valid.{Placed, is_listed, is_wildcard, has_wildcard, counted}
+use Rattle.dia_valid.proofs.RuleCounts.{counts_key}
+use Rattle.dia_valid.specs.Rules.{wildcard_of}
+use Rattle.dia_valid.proofs.Members.{IsIn, contains_in, count_cons, count_none, count_mono, none_or_some}
 use Rattle.dia_breaking_levels.specs.CountsAndRanks.{AreSound, strangers}
 use Rattle.dia_breaking_levels.specs.LeastLevels.{total}
 use Rattle.dia_breaking_levels.specs.LevelTests.{too_long, price, has_room, swapped, many, other_at_least, refilled}

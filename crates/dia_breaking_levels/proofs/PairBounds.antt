@@ -4,7 +4,7 @@ use Rattle.std.specs.Prelude.{min, max, ◌&&◌, count_by}
 use Rattle.std.proofs.Math.Nat.{mul-le-mul_right, add-mul, one-mul}
 use Rattle.dia_wire.specs.declared.Key.{Key}
 use Rattle.dia_book.specs.declared.DRule.{DRule}
-use Rattle.dia_rules.proofs.Members.{IsIn, count_cons}
+use Rattle.dia_valid.proofs.Members.{IsIn, count_cons}
 use Rattle.dia_breaking_levels.proofs.LeastLevels.{share}
 use Rattle.dia_breaking_levels.proofs.RuleSums.{sum_of, sums_one}
 

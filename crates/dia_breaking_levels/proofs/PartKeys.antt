@@ -7,8 +7,8 @@ use Rattle.dia_wire.specs.declared.Key.{Key}
 use Rattle.dia_book.specs.Keys.{same_key}
 use Rattle.dia_book.specs.declared.DRule.{DRule}
 use Rattle.dia_book.specs.Dictionary.{is_fixed}
-use Rattle.dia_check.specs.Valid.{is_listed}
-use Rattle.dia_rules.proofs.Members.{count_cons, count_append}
+use Rattle.dia_valid.specs.Valid.{is_listed}
+use Rattle.dia_valid.proofs.Members.{count_cons, count_append}
 use Rattle.dia_breaking_levels.specs.declared.demand.Wanted.{Wanted}
 use Rattle.dia_breaking_levels.specs.declared.line.Part.{Part}
 use Rattle.dia_breaking_levels.specs.Chosen.{PlainDemand, count_of, extra_at, kind_parts, level_parts, other_count, other_parts, parts_at, parts_below, parts_by, parts_of, rule_parts, stands, wild_parts}

@@ -6,7 +6,7 @@ use Rattle.std.proofs.lemmas.List.{append-nil}
 use Rattle.std.proofs.lemmas.List.Elements.{filter-append}
 use Rattle.std.proofs.lemmas.Option.{slice_get-get_or}
 use Rattle.dia_book.specs.declared.DRule.{DRule}
-use Rattle.dia_rules.proofs.Members.{taken}
+use Rattle.dia_valid.proofs.Members.{taken}
 use Rattle.dia_breaking_levels.specs.declared.line.Part.{Part}
 use Rattle.dia_breaking_levels.specs.Chosen.{PlainDemand, extra_at, kind_parts, parts_at, parts_below, parts_by}
 

@@ -9,10 +9,10 @@ use Rattle.dia_book.specs.declared.Slot.TheVariants as slot
 use Rattle.dia_book.specs.Dictionary.{AreRules, is_fixed, lists_key, slot_at, slot_of}
 use Rattle.dia_book.proofs.SameKeys.{same_key-refl, same_key-true}
 use Rattle.dia_book.proofs.LookUpsByName.{find-place}
-use Rattle.dia_check.specs.Valid.{fixed_rules, is_listed}
-use Rattle.dia_check.proofs.OneKeyMore.{at_position}
-use Rattle.dia_rules.proofs.Members.{IsIn, in_at, in_contains, in_filter, into_filter}
-use Rattle.dia_rules.proofs.RulesOfKeys.{is_listed_by}
+use Rattle.dia_valid.specs.Valid.{fixed_rules, is_listed}
+use Rattle.dia_valid.proofs.Entries.{at_position}
+use Rattle.dia_valid.proofs.Members.{IsIn, in_at, in_contains, in_filter, into_filter}
+use Rattle.dia_valid.proofs.RulesOfKeys.{is_listed_by}
 use Rattle.dia_breaking_levels.specs.CountsAndRanks.{AreSound, rank}
 use Rattle.dia_breaking_levels.specs.Places.{place_of, place}
 use Rattle.dia_breaking_levels.proofs.CountsAndRanks.{rules_sound, one_rule, rank_rule, rank_other}

@@ -10,9 +10,9 @@ use Rattle.dia_book.specs.Keys.{same_key}
 use Rattle.dia_book.specs.declared.DRule.{DRule}
 use Rattle.dia_book.proofs.Members.{at_find}
 use Rattle.dia_book.proofs.SameKeys.{same_key-true}
-use Rattle.dia_check.specs.Valid.{is_listed}
-use Rattle.dia_rules.proofs.Members.{IsIn}
-use Rattle.dia_rules.proofs.RulesOfKeys.{is_listed_by}
+use Rattle.dia_valid.specs.Valid.{is_listed}
+use Rattle.dia_valid.proofs.Members.{IsIn}
+use Rattle.dia_valid.proofs.RulesOfKeys.{is_listed_by}
 use Rattle.dia_breaking_levels.specs.declared.cut.Cut.{Cut}
 use Rattle.dia_breaking_levels.specs.declared.demand.Wanted.{Wanted}
 use Rattle.dia_breaking_levels.specs.declared.floor.Floor.{Floor}

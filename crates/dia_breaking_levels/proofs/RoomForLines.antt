@@ -10,10 +10,10 @@ use Rattle.dia_book.specs.Keys.{same_key}
 use Rattle.dia_book.specs.declared.DRule.{DRule}
 use Rattle.dia_book.proofs.Members.{at_filter_map}
 use Rattle.dia_book.proofs.SameKeys.{same_key-true}
-use Rattle.dia_check.specs.Valid.{is_listed}
-use Rattle.dia_rules.specs.Rules.{rule_of, wildcard_of}
-use Rattle.dia_rules.proofs.Members.{IsIn, at_in, contains_in, count_in, in_append, in_at, in_contains}
-use Rattle.dia_rules.proofs.RulesOfKeys.{is_listed_by}
+use Rattle.dia_valid.specs.Valid.{is_listed}
+use Rattle.dia_valid.specs.Rules.{rule_of, wildcard_of}
+use Rattle.dia_valid.proofs.Members.{IsIn, at_in, contains_in, count_in, in_append, in_at, in_contains}
+use Rattle.dia_valid.proofs.RulesOfKeys.{is_listed_by}
 use Rattle.dia_breaking_levels.specs.declared.cut.Cut.{Cut}
 use Rattle.dia_breaking_levels.specs.declared.demand.Wanted.{Wanted}
 use Rattle.dia_breaking_levels.specs.declared.floor.Floor.{Floor}

@@ -4,7 +4,7 @@ use Rattle.std.specs.Prelude.{min, max, ◌&&◌, count_by}
 use Rattle.std.proofs.Math.Nat.{add-mul, mul-add, one-mul, mul-le-mul_right}
 use Rattle.dia_wire.specs.declared.Key.{Key}
 use Rattle.dia_book.specs.declared.DRule.{DRule}
-use Rattle.dia_rules.proofs.Members.{IsIn, count_cons}
+use Rattle.dia_valid.proofs.Members.{IsIn, count_cons}
 use Rattle.dia_breaking_levels.specs.LevelTests.{capped, swapped}
 use Rattle.dia_breaking_levels.proofs.LeastLevels.{share, shares}
 

@@ -8,9 +8,9 @@ use Rattle.dia_wire.specs.declared.Key.{Key}
 use Rattle.dia_book.specs.Keys.{same_key}
 use Rattle.dia_book.specs.declared.DRule.{DRule}
 use Rattle.dia_book.proofs.Members.{at_find}
-use Rattle.dia_check.specs.Valid.{is_listed}
-use Rattle.dia_rules.proofs.Members.{in_at}
-use Rattle.dia_rules.proofs.RulesOfKeys.{is_listed_by}
+use Rattle.dia_valid.specs.Valid.{is_listed}
+use Rattle.dia_valid.proofs.Members.{in_at}
+use Rattle.dia_valid.proofs.RulesOfKeys.{is_listed_by}
 use Rattle.dia_breaking_levels.specs.Chosen.{Reads, cheapest_key, inner_first, inner_key, next_key, outer_key, reads_between}
 use Rattle.dia_breaking_levels.specs.Exact.{first_inner, least_inner}
 use Rattle.dia_breaking_levels.specs.LevelTests.{too_long, capped, inner_length, is_outside}

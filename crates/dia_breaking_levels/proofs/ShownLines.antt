@@ -7,7 +7,7 @@ use Rattle.dia_wire.specs.declared.Key.{Key}
 use Rattle.dia_book.specs.declared.DRule.{DRule}
 use Rattle.dia_book.specs.Dictionary.{AreRules}
 use Rattle.dia_book.proofs.Members.{at_filter_map}
-use Rattle.dia_rules.proofs.Members.{IsIn, at_in, in_append, in_at, in_contains}
+use Rattle.dia_valid.proofs.Members.{IsIn, at_in, in_append, in_at, in_contains}
 use Rattle.dia_breaking_levels.specs.declared.cut.Cut.{Cut}
 use Rattle.dia_breaking_levels.specs.declared.floor.Floor.{Floor}
 use Rattle.dia_breaking_levels.specs.declared.line.Line.{Line}

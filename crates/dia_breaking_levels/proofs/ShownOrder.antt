@@ -12,10 +12,10 @@ use Rattle.dia_book.specs.Dictionary.{AreRules, is_fixed, lists_key, slot_at, sl
 use Rattle.dia_book.proofs.LookUpsByName.{find-place}
 use Rattle.dia_book.proofs.Members.{into_left, into_right}
 use Rattle.dia_book.proofs.SameKeys.{same_key-refl, same_key-true}
-use Rattle.dia_check.specs.Valid.{fixed_rules, is_listed}
-use Rattle.dia_check.proofs.OneKeyMore.{at_position}
-use Rattle.dia_rules.specs.Rules.{rule_of, wildcard_of}
-use Rattle.dia_rules.proofs.Members.{IsIn, at_in, contains_in, in_append, in_left, in_right}
+use Rattle.dia_valid.specs.Valid.{fixed_rules, is_listed}
+use Rattle.dia_valid.proofs.Entries.{at_position}
+use Rattle.dia_valid.specs.Rules.{rule_of, wildcard_of}
+use Rattle.dia_valid.proofs.Members.{IsIn, at_in, contains_in, in_append, in_left, in_right}
 use Rattle.dia_breaking_levels.specs.declared.floor.Floor.{Floor}
 use Rattle.dia_breaking_levels.specs.declared.line.Part.{Part}
 use Rattle.dia_breaking_levels.specs.declared.line.Reason.TheVariants.{Order}

@@ -5,9 +5,9 @@ use Rattle.std.specs.Option.{option_map_or}
 use Rattle.std.proofs.lemmas.Option.{none-some}
 use Rattle.dia_wire.specs.declared.Key.{Key}
 use Rattle.dia_book.specs.declared.DRule.{DRule}
-use Rattle.dia_check.specs.Valid.{Placed, is_listed}
-use Rattle.dia_check.proofs.RuleCounts.{counts_key}
-use Rattle.dia_rules.proofs.Members.{IsIn, count_cons}
+use Rattle.dia_valid.specs.Valid.{Placed, is_listed}
+use Rattle.dia_valid.proofs.RuleCounts.{counts_key}
+use Rattle.dia_valid.proofs.Members.{IsIn, count_cons}
 use Rattle.dia_breaking_levels.specs.CountsAndRanks.{AreSound, strangers, AreInPlace}
 use Rattle.dia_breaking_levels.specs.LeastLevels.{total, copies, or_filler}
 use Rattle.dia_breaking_levels.specs.Strangers.{needs, needed}

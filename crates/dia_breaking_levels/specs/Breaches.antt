@@ -2,8 +2,8 @@
 use Rattle.std.specs.Prelude.{◌≡◌, ℕ, ◌<◌, false, List, Some, slice_get, Contains}
 use Rattle.dia_wire.specs.declared.Key.{Key}
 use Rattle.dia_book.specs.declared.DRule.{DRule}
-use Rattle.dia_check.specs.Valid.{fixed_rules, is_listed, has_wildcard}
-use Rattle.dia_rules.specs.Rules.{HasRule, HasWildcard}
+use Rattle.dia_valid.specs.Valid.{fixed_rules, is_listed, has_wildcard}
+use Rattle.dia_valid.specs.Rules.{HasRule, HasWildcard}
 use Rattle.dia_breaking_levels.specs.CountsAndRanks.{times, strangers, rank}
 
 -- a fixed rule's key stands behind one of a greater rank

@@ -7,8 +7,8 @@ use Rattle.dia_wire.specs.declared.Key.{Key}
 use Rattle.dia_book.specs.Keys.{same_key}
 use Rattle.dia_book.specs.declared.DRule.{DRule}
 use Rattle.dia_book.specs.Dictionary.{is_fixed}
-use Rattle.dia_check.specs.Valid.{is_listed}
-use Rattle.dia_rules.specs.Rules.{rule_of, wildcard_of}
+use Rattle.dia_valid.specs.Valid.{is_listed}
+use Rattle.dia_valid.specs.Rules.{rule_of, wildcard_of}
 use Rattle.dia_breaking_levels.specs.declared.cut.Cut.{Cut}
 use Rattle.dia_breaking_levels.specs.declared.demand.Demand.{Demand}
 use Rattle.dia_breaking_levels.specs.declared.demand.Wanted.{Wanted}

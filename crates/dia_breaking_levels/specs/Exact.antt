@@ -2,8 +2,8 @@
 use Rattle.std.specs.Prelude.{◌≡◌, ℕ, ◌+◌, ◌<◌, ◌≤◌, min, nat_lt, true, ◌==◌, if◌then◌else◌, List, [], ◌∷◌, ◌++◌, length, Option, Some, None, find, option_and_then}
 use Rattle.dia_wire.specs.declared.Key.{Key}
 use Rattle.dia_book.specs.declared.DRule.{DRule}
-use Rattle.dia_check.specs.Valid.{is_listed, has_wildcard}
-use Rattle.dia_rules.specs.Rules.{rule_of, wildcard_of}
+use Rattle.dia_valid.specs.Valid.{is_listed, has_wildcard}
+use Rattle.dia_valid.specs.Rules.{rule_of, wildcard_of}
 use Rattle.dia_breaking_levels.specs.declared.floor.Floor.{Floor}
 use Rattle.dia_breaking_levels.specs.declared.line.Line.{Line}
 use Rattle.dia_breaking_levels.specs.declared.line.Reason.TheVariants.{Order}

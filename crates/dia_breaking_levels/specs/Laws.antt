@@ -3,7 +3,7 @@ use Rattle.std.specs.Prelude.{◌≡◌, ◌⊎◌, ◌↔◌, ℕ, ◌≤◌, L
 use Rattle.dia_wire.specs.declared.Key.{Key}
 use Rattle.dia_book.specs.declared.DRule.{DRule}
 use Rattle.dia_book.specs.Dictionary.{Dictionary, PlainDefinition, IsDictionary, AreRules, definitions}
-use Rattle.dia_check.specs.Valid.{Placed}
+use Rattle.dia_valid.specs.Valid.{Placed}
 use Rattle.dia_breaking_levels.specs.CountsAndRanks.{AreSound, AreInPlace}
 use Rattle.dia_breaking_levels.specs.Breaches.{Breach}
 use Rattle.dia_breaking_levels.specs.LeastLevels.{total, plan, IsFiller, IsCheapest}

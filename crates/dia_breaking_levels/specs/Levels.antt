@@ -3,8 +3,8 @@ use Rattle.std.specs.Prelude.{◌≡◌, ◌⊎◌, ℕ, ◌<◌, ◌≤◌, fal
 use Rattle.std.specs.Option.{option_map_or}
 use Rattle.dia_wire.specs.declared.Key.{Key}
 use Rattle.dia_book.specs.declared.DRule.{DRule}
-use Rattle.dia_check.specs.Valid.{Placed, fixed_rules, is_listed, has_wildcard}
-use Rattle.dia_rules.specs.Rules.{HasRule, HasWildcard}
+use Rattle.dia_valid.specs.Valid.{Placed, fixed_rules, is_listed, has_wildcard}
+use Rattle.dia_valid.specs.Rules.{HasRule, HasWildcard}
 use Rattle.dia_breaking_levels.specs.declared.line.Line.{Line}
 use Rattle.dia_breaking_levels.specs.declared.line.Reason.{Reason}
 use Rattle.dia_breaking_levels.specs.declared.line.Reason.TheVariants.{Missing, TooMany, NotAllowed, NotAllowedOther, MissingOthers, TooManyOthers, Order}

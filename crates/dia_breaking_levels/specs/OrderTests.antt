@@ -2,7 +2,7 @@
 use Rattle.std.specs.Prelude.{ℕ, ◌+◌, ◌-◌, min, nat_le, nat_lt, Bool, ◌&&◌, ◌==◌, if◌then◌else◌, List, Option, Some, None}
 use Rattle.dia_wire.specs.declared.Key.{Key}
 use Rattle.dia_book.specs.declared.DRule.{DRule}
-use Rattle.dia_rules.specs.Rules.{rule_of}
+use Rattle.dia_valid.specs.Rules.{rule_of}
 use Rattle.dia_breaking_levels.specs.declared.floor.Floor.{Floor}
 use Rattle.dia_breaking_levels.specs.Places.{place}
 use Rattle.dia_breaking_levels.specs.LevelTests.{too_long, capped, has_room, swapped, many, filler}

@@ -2,8 +2,8 @@
 use Rattle.std.specs.Prelude.{◌≡◌, ℕ, ◌<◌, ◌≤◌, List, Some, slice_get}
 use Rattle.dia_wire.specs.declared.Key.{Key}
 use Rattle.dia_book.specs.declared.DRule.{DRule}
-use Rattle.dia_check.specs.Valid.{fixed_rules}
-use Rattle.dia_rules.specs.Rules.{HasRule}
+use Rattle.dia_valid.specs.Valid.{fixed_rules}
+use Rattle.dia_valid.specs.Rules.{HasRule}
 use Rattle.dia_breaking_levels.specs.CountsAndRanks.{rank}
 
 -- one key stands before another

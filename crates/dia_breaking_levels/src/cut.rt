@@ -1,6 +1,6 @@
 //! How many AVPs are taken of each step.
 ghost use Rattle.std.specs.Prelude.{◌≡◌, IfOk, fold};
-ghost use Rattle.dia_rules.specs.Rules.{rules_in};
+ghost use Rattle.dia_valid.specs.Rules.{rules_in};
 ghost use Rattle.dia_breaking_levels.specs.Chosen.{cut_after, cut_behind, extra_of, extras_of, reads, taken_of};
 ghost use Rattle.dia_breaking_levels.specs.Cuts.{IsCut, cut_step};
 ghost use Rattle.dia_breaking_levels.specs.LevelTests.{filler};

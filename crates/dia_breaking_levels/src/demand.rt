@@ -1,7 +1,7 @@
 //! What a level is to have beyond the least counts of its rules.
 ghost use Rattle.std.specs.Prelude.{◌≡◌, ◌+◌, ◌-◌, ◌^◌, IfOk, unwrap_or};
 ghost use Rattle.std.specs.Option.{option_map_or};
-ghost use Rattle.dia_rules.specs.Rules.{rules_in, wildcard_of};
+ghost use Rattle.dia_valid.specs.Rules.{rules_in, wildcard_of};
 ghost use Rattle.dia_breaking_levels.specs.declared.cut.Cut.{Cut as AnyCut};
 ghost use Rattle.dia_breaking_levels.specs.Chosen.{AreExtrasBy, IsDemandOf, above_greatest, below_least, cheapest_key, demand};
 ghost use Rattle.dia_breaking_levels.specs.Chosen.{IsManyBy, inner_first, missing_demand, missing_others_demand, next_key};

@@ -1,8 +1,8 @@
 //! The least level of a definition of A that is read by one of B, and the shortest AVPs that its wildcard lets in.
 ghost use Rattle.std.specs.Prelude.{◌≡◌, ◌==◌, min, nat_lt, if◌then◌else◌, find, option_and_then, None};
 ghost use Rattle.std.specs.Option.{option_map_or};
-ghost use Rattle.dia_check.specs.Valid.{has_wildcard};
-ghost use Rattle.dia_rules.specs.Rules.{rules_in, wildcard_of};
+ghost use Rattle.dia_valid.specs.Valid.{has_wildcard};
+ghost use Rattle.dia_valid.specs.Rules.{rules_in, wildcard_of};
 ghost use Rattle.dia_breaking_levels.specs.Strangers.{needs};
 ghost use Rattle.dia_breaking_levels.specs.LevelTests.{inner_length, cheapest, outer_length};
 ghost use Rattle.dia_breaking_levels.specs.LevelTests.{is_outside, base_length, needed_up, too_long};

@@ -1,6 +1,6 @@
 //! The levels of one definition of A that break the rules of one of B.
 ghost use Rattle.std.specs.Prelude.{◌≡◌, ◌++◌, IfOk, filter_map};
-ghost use Rattle.dia_rules.specs.Rules.{rules_in};
+ghost use Rattle.dia_valid.specs.Rules.{rules_in};
 ghost use Rattle.dia_breaking_levels.specs.LevelTests.{at_least, at_most, few_others, filler};
 ghost use Rattle.dia_breaking_levels.specs.LevelTests.{missing_length, too_many_length};
 ghost use Rattle.dia_breaking_levels.specs.LevelTests.{not_allowed_length, not_allowed_other_length};

@@ -1,7 +1,7 @@
 //! The lines of the levels of two definitions.
 ghost use Rattle.std.specs.Prelude.{◌≡◌, ◌<◌, IfOk, find, length};
 ghost use Rattle.dia_book.specs.Dictionary.{AreRules, definitions};
-ghost use Rattle.dia_rules.specs.Rules.{rules_in};
+ghost use Rattle.dia_valid.specs.Rules.{rules_in};
 ghost use Rattle.dia_breaking_levels.specs.LevelTests.{is_outside, price, needed_up, lines_of};
 ghost use Rattle.dia_breaking_levels.specs.Exact.{AreLevelLines, HasOrderLines};
 ghost use Rattle.dia_breaking_levels.specs.Levels.{HasEachLine, FirstIsShortest};

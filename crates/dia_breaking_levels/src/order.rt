@@ -3,8 +3,8 @@ ghost use Rattle.std.specs.Prelude.{◌≡◌, ◌+◌, ◌≤◌, ◌++◌, ℕ
 ghost use Rattle.std.specs.Prelude.{Option, IfOk, OnOk};
 ghost use Rattle.dia_wire.specs.declared.Key.{Key as AnyKey};
 ghost use Rattle.dia_book.specs.Dictionary.{AreRules};
-ghost use Rattle.dia_check.specs.Valid.{is_listed};
-ghost use Rattle.dia_rules.specs.Rules.{rules_in};
+ghost use Rattle.dia_valid.specs.Valid.{is_listed};
+ghost use Rattle.dia_valid.specs.Rules.{rules_in};
 ghost use Rattle.dia_breaking_levels.specs.Exact.{line_of_offer, unless_long, with_line};
 ghost use Rattle.dia_breaking_levels.specs.Exact.{IsOrderAt, IsOrderOf, AreOrderLines, HasOrderLines};
 ghost use Rattle.dia_breaking_levels.specs.Offers.{own_index, offer_of};

@@ -1,6 +1,6 @@
 //! Levels of a definition, AVP by AVP.
 ghost use Rattle.std.specs.Prelude.{◌≡◌, ◌∷◌, ◌++◌, [], IfOk, OnOk, filter};
-ghost use Rattle.dia_rules.specs.Rules.{rules_in};
+ghost use Rattle.dia_valid.specs.Rules.{rules_in};
 ghost use Rattle.dia_breaking_levels.specs.Chosen.{count_of, extra_at, is_of_kind, kind_parts, level_parts, other_count, other_parts};
 ghost use Rattle.dia_breaking_levels.specs.Chosen.{parts_at, parts_by, parts_of, plain_demand, rule_parts, stands, wild_parts};
 

@@ -1,8 +1,8 @@
 //! Least levels, AVP by AVP.
 ghost use Rattle.std.specs.Prelude.{◌≡◌, ◌<◌, IfOk, length, not, find};
 ghost use Rattle.dia_book.specs.Dictionary.{definitions};
-ghost use Rattle.dia_check.specs.Valid.{is_listed};
-ghost use Rattle.dia_rules.specs.Rules.{rules_in};
+ghost use Rattle.dia_valid.specs.Valid.{is_listed};
+ghost use Rattle.dia_valid.specs.Rules.{rules_in};
 ghost use Rattle.dia_breaking_levels.specs.Chosen.{IsLineLevel, least_parts, parts_with, reads_between};
 ghost use Rattle.dia_breaking_levels.specs.LevelTests.{price, least_filler, least_length, length_once};
 ghost use Rattle.dia_breaking_levels.specs.Levels.{OtherIsShortest, IsWithinAll, IsWithinAllWith};

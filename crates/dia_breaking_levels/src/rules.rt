@@ -1,8 +1,8 @@
 //! Definitions with look-up by key.
 ghost use Rattle.std.specs.Prelude.{◌≡◌, ◌<◌, ◌==◌, length, slice_get};
 ghost use Rattle.dia_book.specs.Dictionary.{definitions};
-ghost use Rattle.dia_check.specs.Valid.{is_listed, has_wildcard};
-ghost use Rattle.dia_rules.specs.Rules.{rules_in, rule_of, wildcard_of};
+ghost use Rattle.dia_valid.specs.Valid.{is_listed, has_wildcard};
+ghost use Rattle.dia_valid.specs.Rules.{rules_in, rule_of, wildcard_of};
 ghost use Rattle.dia_breaking_levels.specs.Places.{place, index};
 
 use dia_book::{Book, DRule, DefId, Key, Slot};

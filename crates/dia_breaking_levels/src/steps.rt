@@ -1,6 +1,6 @@
 //! Steps from the least level to ones with more AVPs that B's definition doesn't list.
 ghost use Rattle.std.specs.Prelude.{◌≡◌, ◌++◌, IfOk, OnOk};
-ghost use Rattle.dia_rules.specs.Rules.{rules_in};
+ghost use Rattle.dia_valid.specs.Rules.{rules_in};
 ghost use Rattle.dia_breaking_levels.specs.LevelTests.{filler};
 ghost use Rattle.dia_breaking_levels.specs.Steps.{room_above, steps_of, steps, taken};
 ghost use Rattle.dia_breaking_levels.specs.Steps.{IsLeastTaken, IsTakenInOrder};

@@ -6,10 +6,10 @@ use Rattle.std.specs.Option.{option_map_or}
 use Rattle.dia_wire.specs.declared.Key.{Key}
 use Rattle.dia_book.specs.declared.DRule.{DRule}
 use Rattle.dia_book.specs.Dictionary.{Dictionary, DictEntry, PlainDefinition, IsDictionary, AreRules, entry_of, definitions}
-use Rattle.dia_check.specs.Valid.{known, is_listed, Placed}
-use Rattle.dia_rules.proofs.GroupNumbers.{number_of, group_there}
-use Rattle.dia_rules.proofs.Members.{contains_in, in_at, in_contains, IsIn}
-use Rattle.dia_rules.proofs.RulesOfKeys.{is_listed_by}
+use Rattle.dia_valid.specs.Valid.{known, is_listed, Placed}
+use Rattle.dia_valid.proofs.GroupNumbers.{number_of, group_there}
+use Rattle.dia_valid.proofs.Members.{contains_in, in_at, in_contains, IsIn}
+use Rattle.dia_valid.proofs.RulesOfKeys.{is_listed_by}
 use Rattle.dia_policy.specs.declared.Sends.{Sends}
 use Rattle.dia_policy.specs.declared.Sends.TheVariants.{Any, Known, Listed}
 use Rattle.dia_breaking_sites.specs.Sent.{StandAsSent}

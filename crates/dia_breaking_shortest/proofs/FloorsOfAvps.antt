@@ -10,7 +10,7 @@ use Rattle.dia_wire.proofs.Spelling.{opened}
 use Rattle.dia_data.specs.Leaf.{IsLeaf}
 use Rattle.dia_book.specs.declared.DRule.{DRule}
 use Rattle.dia_book.specs.Dictionary.{Dictionary, DictEntry, PlainDefinition}
-use Rattle.dia_check.specs.Valid.{IsAccepted, MHolds, known}
+use Rattle.dia_valid.specs.Valid.{IsAccepted, MHolds, known}
 use Rattle.dia_policy.specs.declared.Sends.{Sends}
 use Rattle.dia_policy.specs.declared.Sends.TheVariants.{Any, Known, Listed}
 use Rattle.dia_breaking_sites.specs.Sent.{own_policy, StandAsSent, IsSentLevel, IsSentWithin, IsSent, IsSentAvp, AreBytes}

@@ -10,10 +10,10 @@ use Rattle.dia_book.specs.declared.DRule.{DRule}
 use Rattle.dia_book.specs.Keys.{same_key}
 use Rattle.dia_book.specs.Dictionary.{Dictionary, DictEntry, PlainDefinition, IsDictionary, entry_of}
 use Rattle.dia_book.proofs.SameKeys.{same_key-true}
-use Rattle.dia_check.specs.Valid.{known, is_listed, Placed}
-use Rattle.dia_check.proofs.AvpFaults.{kept_rules}
-use Rattle.dia_check.proofs.OneKeyMore.{at_position}
-use Rattle.dia_rules.proofs.GroupNumbers.{number_of, group_there}
+use Rattle.dia_valid.specs.Valid.{known, is_listed, Placed}
+use Rattle.dia_valid.proofs.Entries.{kept_rules}
+use Rattle.dia_valid.proofs.Entries.{at_position}
+use Rattle.dia_valid.proofs.GroupNumbers.{number_of, group_there}
 use Rattle.dia_policy.specs.declared.Sends.{Sends}
 use Rattle.dia_policy.specs.declared.Sends.TheVariants.{Any, Known, Listed}
 use Rattle.dia_breaking_sites.specs.Sent.{StandAsSent, AreBytes}

@@ -8,8 +8,8 @@ use Rattle.dia_data.specs.Leaf.{IsLeaf}
 use Rattle.dia_data.specs.Plain.{PlainFormat, Grouped}
 use Rattle.dia_breaking_data.specs.Shortest.{AreBytes}
 use Rattle.dia_book.specs.Dictionary.{Dictionary, DictEntry, PlainDefinition, IsDictionary}
-use Rattle.dia_check.proofs.FaultlessLevels.{all_at}
-use Rattle.dia_rules.proofs.Members.{taken}
+use Rattle.dia_valid.proofs.Entries.{all_at}
+use Rattle.dia_valid.proofs.Members.{taken}
 use Rattle.dia_breaking_levels.specs.LevelTests.{too_long}
 use Rattle.dia_breaking_shortest.specs.declared.lookup.Least.{Least}
 use Rattle.dia_breaking_shortest.specs.Exact.{AreSpellable}

@@ -2,7 +2,7 @@
 use Rattle.std.proofs.Common.{◌≡◌, ℕ, suc, ◌+◌, ◌<◌, ◌≤◌, Bool, true, false, List, [], ◌∷◌, length, refl, sym, ◌∙◌, arith, inl, inr}
 use Rattle.std.specs.Prelude.{nat_le, if◌then◌else◌}
 use Rattle.std.proofs.lemmas.Bool.{le-leb, leb-true}
-use Rattle.dia_rules.proofs.Members.{IsIn}
+use Rattle.dia_valid.proofs.Members.{IsIn}
 
 -- how many of the lengths are at most n
 abbrev pub below : ℕ → List ℕ → ℕ

@@ -4,7 +4,7 @@ use Rattle.std.specs.List.{AllByRecursion}
 use Rattle.std.specs.Option.{option_map_or}
 use Rattle.dia_wire.specs.declared.Key.{Key}
 use Rattle.dia_book.specs.declared.DRule.{DRule}
-use Rattle.dia_rules.proofs.Members.{IsIn}
+use Rattle.dia_valid.proofs.Members.{IsIn}
 use Rattle.dia_breaking_levels.specs.LevelTests.{too_long, capped, many, base_length}
 use Rattle.dia_breaking_levels.specs.LeastLevels.{total, copies, or_filler, plan}
 use Rattle.dia_breaking_levels.proofs.LeastLevels.{total-append}

@@ -17,9 +17,9 @@ use Rattle.dia_book.specs.declared.DRule.{DRule}
 use Rattle.dia_book.specs.Dictionary.{Dictionary, DictEntry, PlainDefinition, definitions, entry_of}
 use Rattle.dia_policy.specs.declared.Sends.{Sends}
 use Rattle.dia_policy.specs.declared.Sends.TheVariants.{Any, Known, Listed}
-use Rattle.dia_rules.specs.Rules.{rules_in}
-use Rattle.dia_rules.proofs.GroupNumbers.{group_missing, group_there, number_of}
-use Rattle.dia_rules.proofs.Members.{IsIn, contains_in, in_at}
+use Rattle.dia_valid.specs.Rules.{rules_in}
+use Rattle.dia_valid.proofs.GroupNumbers.{group_missing, group_there, number_of}
+use Rattle.dia_valid.proofs.Members.{IsIn, contains_in, in_at}
 use Rattle.dia_breaking_levels.specs.declared.line.Part.{Part}
 use Rattle.dia_breaking_levels.specs.LevelTests.{too_long, base_length, capped, rule_floor}
 use Rattle.dia_breaking_levels.proofs.RuleSums.{sum_of}

@@ -2,7 +2,7 @@
 use Rattle.std.proofs.Common.{ℕ, zero, suc, List, [], ◌∷◌, ◌++◌, sym, ap, subst, ◌∙◌, append_assoc, append-nil, refl, inl, inr}
 use Rattle.dia_wire.specs.declared.Key.{Key}
 use Rattle.dia_wire.specs.Wire.{PlainAvp, Spells, SpellsAll}
-use Rattle.dia_rules.proofs.Members.{IsIn}
+use Rattle.dia_valid.proofs.Members.{IsIn}
 use Rattle.dia_breaking_levels.specs.declared.line.Part.{Part}
 use Rattle.dia_breaking_shortest.specs.Bytes.{parts_bytes, repeated}
 

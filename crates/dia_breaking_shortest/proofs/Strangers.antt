@@ -6,8 +6,8 @@ use Rattle.std.proofs.lemmas.List.{length-map}
 use Rattle.dia_wire.specs.declared.Key.{Key}
 use Rattle.dia_book.specs.Limits.{max_parts}
 use Rattle.dia_book.specs.Dictionary.{Dictionary, DictEntry, IsDictionary, entry_of}
-use Rattle.dia_check.specs.Valid.{known}
-use Rattle.dia_rules.proofs.Members.{in_at, IsIn}
+use Rattle.dia_valid.specs.Valid.{known}
+use Rattle.dia_valid.proofs.Members.{in_at, IsIn}
 use Rattle.dia_breaking_shortest.specs.Least.{IsFirstUnknown}
 use Rattle.dia_breaking_shortest.proofs.FloorsOfLengths.{entry_at}
 

@@ -4,7 +4,7 @@ use Rattle.dia_wire.specs.declared.Key.{Key}
 use Rattle.dia_wire.specs.Wire.{PlainAvp, key_of, head_length, Spells}
 use Rattle.dia_data.specs.Leaf.{IsLeaf}
 use Rattle.dia_book.specs.Dictionary.{Dictionary, DictEntry, PlainDefinition}
-use Rattle.dia_check.specs.Valid.{known}
+use Rattle.dia_valid.specs.Valid.{known}
 use Rattle.dia_policy.specs.declared.Sends.{Sends}
 use Rattle.dia_policy.specs.declared.Sends.TheVariants.{Any}
 use Rattle.dia_breaking_sites.specs.Sent.{StandAsSent, IsSentAvp, AreBytes}

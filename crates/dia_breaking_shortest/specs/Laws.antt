@@ -7,7 +7,7 @@ use Rattle.dia_wire.specs.Wire.{PlainAvp, Spells, SpellsAll, key_of, padded_leng
 use Rattle.dia_data.specs.Leaf.{IsLeaf}
 use Rattle.dia_book.specs.declared.DRule.{DRule}
 use Rattle.dia_book.specs.Dictionary.{Dictionary, DictEntry, PlainDefinition, IsDictionary}
-use Rattle.dia_check.specs.Valid.{known}
+use Rattle.dia_valid.specs.Valid.{known}
 use Rattle.dia_policy.specs.declared.Sends.{Sends}
 use Rattle.dia_policy.specs.declared.Sends.TheVariants.{Any}
 use Rattle.dia_breaking_sites.specs.Sent.{IsSent, IsSentAvp, StandAsSent, AreBytes}

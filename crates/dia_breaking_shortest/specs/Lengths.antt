@@ -8,7 +8,7 @@ use Rattle.dia_data.specs.Leaf.{IsLeaf}
 use Rattle.dia_breaking_data.specs.Shortest.{AreBytes}
 use Rattle.dia_book.specs.declared.DRule.{DRule}
 use Rattle.dia_book.specs.Dictionary.{Dictionary, DictEntry, entry_of}
-use Rattle.dia_check.specs.Valid.{is_listed}
+use Rattle.dia_valid.specs.Valid.{is_listed}
 use Rattle.dia_policy.specs.declared.Sends.{Sends}
 use Rattle.dia_policy.specs.declared.Sends.TheVariants.{Any, Known, Listed}
 use Rattle.dia_breaking_levels.specs.LevelTests.{too_long, capped, base_length}

@@ -2,7 +2,7 @@
 ghost use Rattle.std.specs.Prelude.{◌≡◌, ◌<◌, ◌≤◌, length, map, IfOk};
 ghost use Rattle.std.specs.Option.{option_map_or};
 ghost use Rattle.dia_book.specs.Dictionary.{definitions};
-ghost use Rattle.dia_rules.specs.Rules.{rules_in};
+ghost use Rattle.dia_valid.specs.Rules.{rules_in};
 ghost use Rattle.dia_breaking_levels.specs.LevelTests.{base_length};
 ghost use Rattle.dia_breaking_shortest.specs.Kept.{kept_at};
 ghost use Rattle.dia_breaking_shortest.specs.Lengths.{IsOrder, entry_length, filler_of, filler_length};

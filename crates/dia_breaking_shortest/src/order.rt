@@ -1,8 +1,8 @@
 //! The AVPs of a dictionary, shortest first.
 ghost use Rattle.std.specs.Prelude.{◌≡◌, ◌<◌, length, find, slice_get, IfSome};
 ghost use Rattle.dia_book.specs.Dictionary.{definitions, group_place};
-ghost use Rattle.dia_check.specs.Valid.{is_listed};
-ghost use Rattle.dia_rules.specs.Rules.{rule_of, rules_in};
+ghost use Rattle.dia_valid.specs.Valid.{is_listed};
+ghost use Rattle.dia_valid.specs.Rules.{rule_of, rules_in};
 ghost use Rattle.dia_breaking_shortest.specs.Lengths.{is_unlisted};
 
 use dia_book::{Book, DRule, DefId, Entry, Key, Slot};

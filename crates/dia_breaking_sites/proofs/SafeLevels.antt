@@ -8,8 +8,8 @@ use Rattle.dia_data.specs.Leaf.{IsLeaf}
 use Rattle.dia_book.specs.declared.DRule.{DRule}
 use Rattle.dia_book.specs.Dictionary.{Dictionary, DictEntry, PlainDefinition}
 use Rattle.dia_policy.specs.declared.Unknown.{Unknown}
-use Rattle.dia_check.specs.Valid.{known, MHolds, IsAccepted, FitsBy, IsLevel, Fits, Placed}
-use Rattle.dia_check.specs.Walks.{group_at}
+use Rattle.dia_valid.specs.Valid.{known, MHolds, IsAccepted, FitsBy, IsLevel, Fits, Placed}
+use Rattle.dia_valid.specs.Valid.{group_at}
 use Rattle.dia_policy.specs.declared.sends.Sends.{Sends}
 use Rattle.dia_breaking_sites.specs.Sent.{own_policy, StandAsSent, IsSentLevel, IsSentWithin, AreBytes}
 use Rattle.dia_breaking_sites.specs.Sites.{Site, IsLevelOf, FitsAlone, HasSite, AboutLevels, same, inside, AreAsked, AreSafe, AreLevelsOfB}

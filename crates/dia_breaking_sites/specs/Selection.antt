@@ -10,7 +10,7 @@ use Rattle.dia_book.specs.declared.DefHead.TheVariants.{Group, Command, Error}
 use Rattle.dia_book.specs.Dictionary.{Dictionary, PlainDefinition, definitions, selected, is_command}
 use Rattle.dia_policy.specs.declared.Unknown.{Unknown}
 use Rattle.dia_policy.specs.declared.Levels.TheVariants as levels
-use Rattle.dia_check.specs.Valid.{AllowsP, IsValid, class_of}
+use Rattle.dia_valid.specs.Valid.{AllowsP, IsValid, class_of}
 use Rattle.dia_policy.specs.declared.sends.Sends.{Sends}
 use Rattle.dia_breaking_sites.specs.Sent.{IsSent}
 use Rattle.dia_breaking_sites.specs.Sites.{Site, HasSite, AboutLevels, AreAsked}

@@ -9,7 +9,7 @@ use Rattle.dia_book.specs.Dictionary.{Dictionary, PlainDefinition, definitions, 
 use Rattle.dia_policy.specs.declared.Unknown.{Unknown}
 use Rattle.dia_policy.specs.declared.Unknown.TheVariants.{Kept, Refused}
 use Rattle.dia_policy.specs.declared.Levels.TheVariants as levels
-use Rattle.dia_check.specs.Valid.{HasR, HasE, HasT, class_of, AllowsP, Placed, FitsBy, IsValid, is_listed}
+use Rattle.dia_valid.specs.Valid.{HasR, HasE, HasT, class_of, AllowsP, Placed, FitsBy, IsValid, is_listed}
 use Rattle.dia_policy.specs.declared.sends.Sends.{Sends}
 use Rattle.dia_policy.specs.declared.sends.Sends.TheVariants as sends
 

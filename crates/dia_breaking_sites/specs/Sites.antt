@@ -5,8 +5,8 @@ use Rattle.dia_book.specs.declared.DRule.{DRule}
 use Rattle.dia_book.specs.Dictionary.{Dictionary, PlainDefinition}
 use Rattle.dia_policy.specs.declared.Unknown.{Unknown}
 use Rattle.dia_policy.specs.declared.Levels.TheVariants as levels
-use Rattle.dia_check.specs.Valid.{Placed, IsLevel, FitsBy, Fits, AllFit}
-use Rattle.dia_check.specs.Walks.{group_at}
+use Rattle.dia_valid.specs.Valid.{Placed, IsLevel, FitsBy, Fits, AllFit}
+use Rattle.dia_valid.specs.Valid.{group_at}
 use Rattle.dia_policy.specs.declared.sends.Sends.{Sends}
 use Rattle.dia_breaking_sites.specs.Sent.{StandAsSent, AreSentAvps, AreBytes}
 

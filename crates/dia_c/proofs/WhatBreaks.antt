@@ -13,7 +13,7 @@ use Rattle.std.proofs.lemmas.Slice.Eq.{bytes_eq-Decides}
 use Rattle.dia_book.specs.Dictionary.{Dictionary, PlainDefinition}
 use Rattle.dia_book.proofs.Lists.{position-map}
 use Rattle.dia_book.proofs.Members.{position-is_some}
-use Rattle.dia_rules.proofs.Members.{IsIn, contains_in, in_at, in_contains}
+use Rattle.dia_valid.proofs.Members.{IsIn, contains_in, in_at, in_contains}
 use Rattle.dia_accepted.specs.declared.Told.{Told}
 use Rattle.dia_accepted.proofs.Lists.{line_at, taken}
 use Rattle.dia_compat.specs.Closed.{NamesCommand}

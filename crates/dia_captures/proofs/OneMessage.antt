@@ -10,7 +10,7 @@ use Rattle.dia_policy.specs.Limits.{max_message_text}
 use Rattle.dia_check.specs.declared.Selected.{Selected}
 use Rattle.dia_check.specs.declared.Refusal.{Refusal}
 use Rattle.dia_check.specs.declared.Refusal.TheVariants as refusal
-use Rattle.dia_check.specs.Valid.{IsValid}
+use Rattle.dia_valid.specs.Valid.{IsValid}
 use Rattle.dia_check.specs.Faults.{IsAnswer}
 use Rattle.dia_check.proofs.OneAnswer.{one_answer}
 use Rattle.dia_io.specs.declared.Input.{Input}

@@ -1,20 +1,19 @@
 -- What is wrong with an AVP by its key and flags, and by its data.
-use Rattle.std.proofs.Common.{◌≡◌, ℕ, zero, suc, ◌<◌, ◌≤◌, true, false, List, [], ◌∷◌, length, take, Option, Some, None, refl, sym, ap, subst, ◌∙◌, arith, inl, inr}
-use Rattle.std.specs.Prelude.{slice_get, option_and_then, MatchOption, IfSome, IsSome, is_some, ◌⊎◌, ◌↔◌}
-use Rattle.std.specs.List.{filter_map, cons_option}
+use Rattle.std.proofs.Common.{◌≡◌, ℕ, ◌<◌, ◌≤◌, true, false, List, length, take, Option, Some, None, refl, sym, ap, subst, ◌∙◌, arith, inl, inr}
+use Rattle.std.specs.Prelude.{slice_get, MatchOption, IfSome, IsSome, is_some, ◌⊎◌, ◌↔◌}
+use Rattle.std.specs.List.{filter_map}
 use Rattle.std.specs.Option.{option_map}
 use Rattle.std.proofs.lemmas.Option.{none-some, same_Some, slice_get_within, MatchOption-at_some, MatchOption-at_none}
 use Rattle.dia_wire.specs.declared.Key.{Key}
 use Rattle.dia_wire.specs.Wire.{PlainAvp, key_of}
 use Rattle.dia_data.specs.Plain.{PlainFormat, Grouped}
 use Rattle.dia_data.specs.Leaf.{IsLeaf}
-use Rattle.dia_book.specs.Keys.{same_key}
 use Rattle.dia_book.specs.declared.MRule.{MRule}
 use Rattle.dia_book.specs.declared.DRule.{DRule}
-use Rattle.dia_book.specs.Dictionary.{Dictionary, DictEntry, IsDictionary, PlainDefinition, AreRules, definitions, groups, entry_of, group_place}
-use Rattle.dia_book.proofs.NumberedGroups.{slice_get-append_left}
+use Rattle.dia_book.specs.Dictionary.{Dictionary, DictEntry, IsDictionary, PlainDefinition, AreRules, definitions, entry_of, group_place}
 use Rattle.dia_policy.specs.declared.Unknown.{Unknown}
 use Rattle.dia_policy.specs.declared.Levels.{Levels}
+use Rattle.dia_valid.proofs.Entries.{all_at, entry_here, not_known, group_definition, group_of_entry, kept_rules}
 use Rattle.dia_check.specs.declared.fault.Reason.{Reason}
 use Rattle.dia_check.specs.declared.fault.Reason.TheVariants as reason
 use Rattle.dia_check.specs.declared.fault.Subject.{Subject}
@@ -22,46 +21,12 @@ use Rattle.dia_check.specs.declared.fault.Subject.TheVariants.{Avp}
 use Rattle.dia_check.specs.declared.open_levels.OpenLevel.{OpenLevel}
 use Rattle.dia_check.specs.declared.open_levels.OpenLevels.{OpenLevels}
 use Rattle.dia_check.specs.declared.open_levels.Wrong.{Wrong}
-use Rattle.dia_check.specs.Valid.{known, MHolds, IsAccepted}
+use Rattle.dia_valid.specs.Valid.{known, MHolds, IsAccepted}
 use Rattle.dia_check.specs.Levels.{MayOpen}
 use Rattle.dia_check.specs.Faults.{row_of}
 use Rattle.dia_check.specs.OpenLevels.{IsMisplaced, missing, not_allowed, too_many, IsWellPlaced, IsFirstMisplaced, SoFar, AreOpen}
-use Rattle.dia_check.specs.Admission.{HasFlags, IsWrongFlags, IsRefused, unknown, m_bit, misplaced, IsAdmitted, IsFirstRefused, IsFineData, IsWrongData, IsFineAvp, IsWrongAvp}
-use Rattle.dia_check.proofs.FaultlessLevels.{all_at}
-use Rattle.dia_check.proofs.OneKeyMore.{at_position}
-
--- ---- entries and definitions
-
--- the entry with a key's place
-pub entry_here : (d : Dictionary) (key : Key) (i : ℕ) → Some i ≡ entry_of d key → (e : DictEntry) × (slice_get d.entries i ≡ Some e) × (known d key ≡ Some e)
-entry_here d key i is =
-    let (e, at, same) = at_position (λ (e : DictEntry). same_key key e.key) d.entries i (sym is) in
-    (e, at, ap (λ (o : Option ℕ). option_and_then (λ j. slice_get d.entries j) o) (sym is) ∙ at)
-
-pub entry_within : (d : Dictionary) (key : Key) (i : ℕ) → Some i ≡ entry_of d key → i < length d.entries
-entry_within d key i is = let (e, at, same) = entry_here d key i is in slice_get_within d.entries i e at
-
-pub not_known : (d : Dictionary) (key : Key) → None ≡ entry_of d key → known d key ≡ None
-not_known d key is = ap (λ (o : Option ℕ). option_and_then (λ j. slice_get d.entries j) o) (sym is)
-
--- as many groups stand before a group as its number says
-group_at_number : (es : List DictEntry) (i : ℕ) (e : DictEntry) (g : PlainDefinition) → slice_get es i ≡ Some e → e.group ≡ Some g
-    → slice_get (filter_map (λ x. x.group) es) (length (filter_map (λ x. x.group) (take i es))) ≡ Some g
-group_at_number [] i e g at is = absurd (none-some e at)
-group_at_number (x ∷ es) zero e g at is = ap (λ (o : Option PlainDefinition). slice_get (cons_option o (filter_map (λ y. y.group) es)) 0) (ap (λ (y : DictEntry). y.group) (same_Some x e at) ∙ is)
-group_at_number (x ∷ es) (suc i) e g at is = by x.group (group_at_number es i e g at is)
-  where
-    by : (o : Option PlainDefinition) → slice_get (filter_map (λ y. y.group) es) (length (filter_map (λ y. y.group) (take i es))) ≡ Some g
-        → slice_get (cons_option o (filter_map (λ y. y.group) es)) (length (cons_option o (filter_map (λ y. y.group) (take i es)))) ≡ Some g
-    by None h = h
-    by (Some f) h = h
-
-pub group_of_entry : (d : Dictionary) (i : ℕ) (e : DictEntry) → slice_get d.entries i ≡ Some e → group_place d i ≡ option_map (λ _. length (filter_map (λ y. y.group) (take i d.entries))) e.group
-group_of_entry d i e at = ap (λ (o : Option DictEntry). option_and_then (λ x. option_map (λ _. length (filter_map (λ y. y.group) (take i d.entries))) x.group) o) at
-
--- the definition of a level that is kept has rules
-pub kept_rules : (d : Dictionary) (i : ℕ) (def : PlainDefinition) → IsDictionary d → slice_get (definitions d) i ≡ Some def → AreRules def.rules
-kept_rules d i def sound at = all_at (λ (x : PlainDefinition). AreRules x.rules) (definitions d) i def sound.rules at
+use Rattle.dia_valid.specs.Valid.{HasFlags}
+use Rattle.dia_check.specs.Admission.{IsWrongFlags, IsRefused, unknown, m_bit, misplaced, IsAdmitted, IsFirstRefused, IsFineData, IsWrongData, IsFineAvp, IsWrongAvp}
 
 -- ---- flags
 
@@ -152,17 +117,6 @@ module _ (d : Dictionary) (sound : IsDictionary d) (most : Levels) (depth i : �
   grouped : (e.format ≡ Grouped) ↔ IsSome e.group
   grouped = all_at (λ (x : DictEntry). (x.format ≡ Grouped) ↔ IsSome x.group) d.entries i e sound.grouped at
 
-  pub group_definition : (n : ℕ) → Some n ≡ group_place d i → (g : PlainDefinition) × (e.group ≡ Some g) × (slice_get (definitions d) n ≡ Some g)
-  group_definition n is = by e.group refl (is ∙ group_of_entry d i e at)
-    where
-      by : (o : Option PlainDefinition) → e.group ≡ o → Some n ≡ option_map (λ _. length (filter_map (λ y. y.group) (take i d.entries))) o
-          → (g : PlainDefinition) × (e.group ≡ Some g) × (slice_get (definitions d) n ≡ Some g)
-      by None none h = absurd (none-some n (sym h))
-      by (Some g) some h =
-          let number : length (filter_map (λ (y : DictEntry). y.group) (take i d.entries)) ≡ n = sym (same_Some n (length (filter_map (λ (y : DictEntry). y.group) (take i d.entries))) h) in
-          let here : slice_get (groups d) n ≡ Some g = ap (λ (k : ℕ). slice_get (groups d) k) (sym number) ∙ group_at_number d.entries i e g at some in
-          (g, some, slice_get-append_left (groups d) d.commands n (slice_get_within (groups d) n g here) ∙ here)
-
   no_group : None ≡ group_place d i → e.group ≡ None
   no_group is = by e.group (is ∙ group_of_entry d i e at)
     where
@@ -171,7 +125,7 @@ module _ (d : Dictionary) (sound : IsDictionary d) (most : Levels) (depth i : �
       by (Some g) h = absurd (none-some (length (filter_map (λ (y : DictEntry). y.group) (take i d.entries))) h)
 
   pub is_grouped : (n : ℕ) → Some n ≡ group_place d i → e.format ≡ Grouped
-  is_grouped n is = let (g, some, here) = group_definition n is in grouped.1 (ap (λ (o : Option PlainDefinition). is_some o) some)
+  is_grouped n is = let (g, some, here) = group_definition d i e at n is in grouped.1 (ap (λ (o : Option PlainDefinition). is_some o) some)
 
   pub leaf_data : IsLeaf e.format bytes ⊎ (e.format ≡ Grouped) → None ≡ group_place d i → IsFineData d most depth e bytes None
   leaf_data leaf none = record {
@@ -182,7 +136,7 @@ module _ (d : Dictionary) (sound : IsDictionary d) (most : Levels) (depth i : �
   }
 
   pub group_data : (n : ℕ) → IsLeaf e.format bytes ⊎ (e.format ≡ Grouped) → Some n ≡ group_place d i → MayOpen most depth → IsFineData d most depth e bytes (Some n)
-  group_data n leaf some may = record { leaf = leaf; opens = λ is. may; definition = group_definition n some }
+  group_data n leaf some may = record { leaf = leaf; opens = λ is. may; definition = group_definition d i e at n some }
 
   pub too_deep : (n : ℕ) → IsLeaf e.format bytes ⊎ (e.format ≡ Grouped) → Some n ≡ group_place d i → ¬ MayOpen most depth
       → (IsLeaf e.format bytes ⊎ (e.format ≡ Grouped)) × (e.format ≡ Grouped) × (¬ MayOpen most depth)

@@ -13,7 +13,6 @@ use Rattle.dia_data.specs.declared.LeafState.{LeafState}
 use Rattle.dia_book.specs.Dictionary.{Dictionary, DictEntry, IsDictionary, PlainDefinition, definitions, entry_of, group_place}
 use Rattle.dia_policy.specs.declared.Unknown.{Unknown}
 use Rattle.dia_policy.specs.declared.Levels.{Levels}
-use Rattle.dia_policy.specs.declared.Levels.TheVariants.{Any}
 use Rattle.dia_check.specs.declared.fault.Reason.{Reason}
 use Rattle.dia_check.specs.declared.fault.Reason.TheVariants as reason
 use Rattle.dia_check.specs.declared.fault.Subject.TheVariants.{Avp}
@@ -23,7 +22,7 @@ use Rattle.dia_check.specs.declared.open_levels.Wrong.{Wrong}
 use Rattle.dia_check.specs.declared.fault.Refusal.{Refusal}
 use Rattle.dia_check.specs.declared.stream.parts.Part.{Part}
 use Rattle.dia_check.specs.declared.stream.parts.DataPart.{DataPart}
-use Rattle.dia_check.specs.Valid.{known}
+use Rattle.dia_valid.specs.Valid.{known}
 use Rattle.dia_check.specs.Levels.{between, MayOpen}
 use Rattle.dia_check.specs.Faults.{HasGoodHeader, code_of}
 use Rattle.dia_check.specs.OpenLevels.{begun, and_key, AreOpen}
@@ -31,8 +30,10 @@ use Rattle.dia_check.specs.Admission.{IsAdmitted, IsFirstRefused, IsFineAvp, IsF
 use Rattle.dia_check.specs.Walks.{Rest, inside, whole, IsFoundIn}
 use Rattle.dia_check.specs.UnderWay.{so_far, Lies, AreNested, IsUnderWay}
 use Rattle.dia_check.specs.Reading.{HasSeen, IsGoodLeaf, IsBadLeaf, IsNoGroup, IsGroupOf, BeginsLevelAt, IsInData, IsAtAvp, IsNext, IsStop, IsEntered, LiesAt}
-use Rattle.dia_check.proofs.FaultlessLevels.{all_at, opens}
-use Rattle.dia_check.proofs.AvpFaults.{no_number, entry_here, group_of_entry, group_definition, is_grouped, group_data, too_deep}
+use Rattle.dia_valid.proofs.Entries.{all_at}
+use Rattle.dia_check.proofs.FaultlessLevels.{opens}
+use Rattle.dia_check.proofs.AvpFaults.{no_number, is_grouped, group_data, too_deep}
+use Rattle.dia_valid.proofs.Entries.{entry_here, group_of_entry, group_definition}
 use Rattle.dia_check.proofs.FoundFaultsStand.{lies_inside}
 use Rattle.dia_check.proofs.FirstFaults.{begun_room}
 use Rattle.dia_check.proofs.Uniqueness.{nat_cases}
@@ -76,7 +77,7 @@ module _ (d : Dictionary) (sound : IsDictionary d) where
   group_definition_of : (key : Key) (g : ℕ) → IsGroupOf d key g → (definition : PlainDefinition) × (slice_get (definitions d) g ≡ Some definition)
   group_definition_of key g (i, is, number) =
       let (e, there, some) = entry_here d key i is in
-      let (definition, its, here) = group_definition d sound Any 0 i e there [] g number in (definition, here)
+      let (definition, its, here) = group_definition d i e there g number in (definition, here)
 
   pub group_number : (key : Key) (g : ℕ) → IsGroupOf d key g → g < length (definitions d)
   group_number key g is = let (definition, here) = group_definition_of key g is in slice_get_within (definitions d) g definition here

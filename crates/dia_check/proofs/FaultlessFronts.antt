@@ -13,11 +13,12 @@ use Rattle.dia_wire.specs.declared.Key.{Key}
 use Rattle.dia_book.specs.declared.DRule.{DRule}
 use Rattle.dia_book.specs.Dictionary.{AreRules, is_fixed, lists_key}
 use Rattle.dia_book.proofs.Members.{at_filter, at_append}
-use Rattle.dia_check.specs.Valid.{InBounds, Placed, MayBeLoose, fixed_rules, loose_rules, counted, is_listed, has_wildcard}
-use Rattle.dia_check.specs.Faults.{runs, met, loose_start, run_end, IsFirstShort}
-use Rattle.dia_check.proofs.LongestRuns.{AllInBounds, AreDistinct, AreOthers, runs_are_longest, sum-cons, is_of-key}
-use Rattle.dia_check.proofs.RunsOfOneKeyMore.{is_of, stops_inside, goes_on, runs_step, none_left}
-use Rattle.dia_check.proofs.RuleCounts.{met_fixed, met_loose, counts_key, fixed_place, all_by_places, filter_all, filter_none}
+use Rattle.dia_valid.specs.Valid.{InBounds, Placed, MayBeLoose, fixed_rules, loose_rules, counted, is_listed, has_wildcard}
+use Rattle.dia_valid.specs.LongestRuns.{runs, met, loose_start, run_end}
+use Rattle.dia_check.specs.Faults.{IsFirstShort}
+use Rattle.dia_valid.proofs.LongestRuns.{AllInBounds, AreDistinct, AreOthers, runs_are_longest, sum-cons, is_of-key}
+use Rattle.dia_valid.proofs.RunsOfOneKeyMore.{is_of, stops_inside, goes_on, runs_step, none_left}
+use Rattle.dia_valid.proofs.RuleCounts.{met_fixed, met_loose, counts_key, fixed_place, all_by_places, filter_all, filter_none}
 
 -- ---- the longest runs of a front
 

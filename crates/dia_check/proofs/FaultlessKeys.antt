@@ -9,11 +9,11 @@ use Rattle.std.proofs.lemmas.List.{drop-append-le}
 use Rattle.dia_wire.specs.declared.Key.{Key}
 use Rattle.dia_book.specs.declared.DRule.{DRule}
 use Rattle.dia_book.specs.Dictionary.{AreRules, is_fixed}
-use Rattle.dia_check.specs.Valid.{Placed, MayBeLoose, fixed_rules}
-use Rattle.dia_check.specs.Faults.{runs, met, loose_start}
-use Rattle.dia_check.specs.OpenLevels.{IsAt}
-use Rattle.dia_check.proofs.RunsOfOneKeyMore.{is_of, NoneFrom, Reaches, one_more, same_runs, behind_all, in_run}
-use Rattle.dia_check.proofs.RuleCounts.{met_fixed, met_more, met_longer, counts_key, placed, sum-runs, all_at, reached}
+use Rattle.dia_valid.specs.Valid.{Placed, MayBeLoose, fixed_rules}
+use Rattle.dia_valid.specs.LongestRuns.{runs, met, loose_start}
+use Rattle.dia_valid.specs.LongestRuns.{IsAt}
+use Rattle.dia_valid.proofs.RunsOfOneKeyMore.{is_of, NoneFrom, Reaches, one_more, same_runs, behind_all, in_run}
+use Rattle.dia_valid.proofs.RuleCounts.{met_fixed, met_more, met_longer, counts_key, placed, sum-runs, all_at, reached}
 
 -- ---- a key is of a rule from here on, or of none
 

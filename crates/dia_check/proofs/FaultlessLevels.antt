@@ -1,12 +1,12 @@
 -- A level in which a walk finds nothing is one whose AVPs fit.
 use Rattle.std.proofs.Common.{◌≡◌, ℕ, zero, suc, ◌+◌, ◌<◌, ◌≤◌, Bool, true, false, List, [], ◌∷◌, ◌++◌, length, map, filter, drop}
-use Rattle.std.proofs.Common.{get_or, Option, Some, None, refl, sym, ap, subst, ◌∙◌, arith, inl, inr, ⊎_elim, append_assoc}
-use Rattle.std.specs.Prelude.{slice_get, slice_index, nat_lt, not, ◌||◌, ◌⊎◌, IsTrue, IsSome, IfSome, MatchOption, All, option_and_then, ◌↔◌}
+use Rattle.std.proofs.Common.{Option, Some, None, refl, sym, ap, subst, ◌∙◌, arith, inl, inr, ⊎_elim, append_assoc}
+use Rattle.std.specs.Prelude.{slice_get, slice_index, nat_lt, not, ◌||◌, ◌⊎◌, IsTrue, IsSome, IfSome, MatchOption, option_and_then, ◌↔◌}
 use Rattle.std.specs.List.{list_any, filter_map, cons_option, AllByRecursion}
 use Rattle.std.proofs.Math.ListN.{drop_of_length-le}
 use Rattle.std.proofs.lemmas.Bool.{ltb-false, ltb-true}
 use Rattle.std.proofs.lemmas.List.{append-nil, length-append, map-append, length-map}
-use Rattle.std.proofs.lemmas.Option.{none-some, same_Some, slice_get-get_or, slice_get_within}
+use Rattle.std.proofs.lemmas.Option.{none-some, same_Some, slice_get_within}
 use Rattle.dia_wire.specs.declared.Key.{Key}
 use Rattle.dia_wire.specs.Wire.{PlainAvp, key_of, avp_length, BeginsWith, SpellsAll}
 use Rattle.dia_wire.proofs.Spelling.{opened, rounded-le, at_least_8}
@@ -21,15 +21,18 @@ use Rattle.dia_policy.specs.declared.Unknown.{Unknown}
 use Rattle.dia_policy.specs.declared.Unknown.TheVariants.{Kept, Refused}
 use Rattle.dia_policy.specs.declared.Levels.{Levels}
 use Rattle.dia_policy.specs.declared.Levels.TheVariants.{Any, AtMost}
+use Rattle.dia_valid.proofs.Entries.{all_at}
 use Rattle.dia_check.specs.declared.fault.Reason.TheVariants as reason
 use Rattle.dia_check.specs.declared.fault.Subject.TheVariants.{Avp}
-use Rattle.dia_check.specs.Valid.{known, Placed, IsLevel, Fits, FitsBy, MHolds, IsAccepted, MayBeLoose, fixed_rules, loose_rules, is_listed, has_wildcard, counted}
+use Rattle.dia_valid.specs.Valid.{known, Placed, IsLevel, Fits, FitsBy, MHolds, IsAccepted, MayBeLoose, fixed_rules, loose_rules, is_listed, has_wildcard, counted}
 use Rattle.dia_check.specs.Levels.{MayOpen}
-use Rattle.dia_check.specs.Faults.{runs, met, loose_start, IsFirstMissing, unknown, m_bit, not_allowed, too_many, depth}
-use Rattle.dia_check.proofs.RunsOfOneKeyMore.{at_start}
-use Rattle.dia_check.proofs.RuleCounts.{met_fixed, met_loose}
+use Rattle.dia_valid.specs.LongestRuns.{runs, met, loose_start}
+use Rattle.dia_check.specs.Faults.{IsFirstMissing, unknown, m_bit, not_allowed, too_many, depth}
+use Rattle.dia_valid.proofs.RunsOfOneKeyMore.{at_start}
+use Rattle.dia_valid.proofs.RuleCounts.{met_fixed, met_loose}
 use Rattle.dia_check.proofs.FaultlessKeys.{Counted, counted_more, counted_placed}
-use Rattle.dia_check.specs.Walks.{Found, Rest, behind, inside, group_at, IsFine, Walks, ended, missing, broken, wrong, leaf, group, bad_group}
+use Rattle.dia_check.specs.Walks.{Found, Rest, behind, inside, IsFine, Walks, ended, missing, broken, wrong, leaf, group, bad_group}
+use Rattle.dia_valid.specs.Valid.{group_at}
 
 -- so many levels are enough for a level of these bytes at a depth
 abbrev pub AreEnough : Levels → ℕ → ℕ → List ℕ → Type 0
@@ -80,9 +83,6 @@ enough_up_to rules keys none (suc n) j rule lt at =
     not_missing rules keys j rule (nat_lt (met rules keys j rule) rule.min) none at (λ i other less here. enough_up_to rules keys none n i other (omega (arith, less, lt)) here) refl
 
 -- ---- entries
-
-pub all_at : {X : Type 0} (P : X → Type 0) (xs : List X) (i : ℕ) (x : X) → All P xs → slice_get xs i ≡ Some x → P x
-all_at P xs i x all at = let within = slice_get_within xs i x at in subst P (same_Some (get_or xs i x) x (sym (slice_get-get_or xs i x within) ∙ at)) (all i x within)
 
 entry_place : (es : List DictEntry) (o : Option ℕ) (e : DictEntry) → option_and_then (λ i. slice_get es i) o ≡ Some e → (i : ℕ) × (slice_get es i ≡ Some e)
 entry_place es None e h = absurd (none-some e h)

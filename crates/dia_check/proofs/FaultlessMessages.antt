@@ -18,13 +18,15 @@ use Rattle.dia_policy.specs.declared.Levels.{Levels}
 use Rattle.dia_policy.specs.declared.Levels.TheVariants.{Any, AtMost}
 use Rattle.dia_check.specs.declared.fault.Reason.{Reason}
 use Rattle.dia_check.specs.declared.fault.Subject.{Subject}
-use Rattle.dia_check.specs.Valid.{class_of, known, IsLevel, Fits, FitsBy, AllFit, MHolds, IsAccepted, IsValidOf}
+use Rattle.dia_valid.specs.Valid.{class_of, known, IsLevel, Fits, FitsBy, AllFit, MHolds, IsAccepted, IsValidOf}
 use Rattle.dia_check.specs.Levels.{MayOpen}
 use Rattle.dia_check.specs.Faults.{keys_to, Spot, IsWrong, Stands, HasGoodHeader}
 use Rattle.dia_check.specs.Faults as faults
 use Rattle.dia_check.proofs.FaultlessFronts.{Says, placed_says, not_missing_at, allowed_at, few_at, may_be_allowed}
-use Rattle.dia_check.specs.Walks.{Found, Rest, behind, inside, whole, group_at, IsFine, Walks, ended, leaf, group}
-use Rattle.dia_check.proofs.FaultlessLevels.{AreEnough, grouped_at, group_rules, entry_of_group, more_keys, all_at, walks_level}
+use Rattle.dia_check.specs.Walks.{Found, Rest, behind, inside, whole, IsFine, Walks, ended, leaf, group}
+use Rattle.dia_valid.specs.Valid.{group_at}
+use Rattle.dia_check.proofs.FaultlessLevels.{AreEnough, grouped_at, group_rules, entry_of_group, more_keys, walks_level}
+use Rattle.dia_valid.proofs.Entries.{all_at}
 use Rattle.dia_check.proofs.FoundFaultsStand.{walks_stands}
 use Rattle.dia_check.proofs.FirstFaults.{none_stands}
 

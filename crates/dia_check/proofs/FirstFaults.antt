@@ -16,12 +16,13 @@ use Rattle.dia_check.specs.declared.fault.Reason.{Reason}
 use Rattle.dia_check.specs.declared.fault.Reason.TheVariants as reason
 use Rattle.dia_check.specs.declared.fault.Subject.{Subject}
 use Rattle.dia_check.specs.declared.fault.Subject.TheVariants.{Nothing}
-use Rattle.dia_check.specs.Valid.{HasR, HasE, HasT, class_of, AllowsP}
+use Rattle.dia_valid.specs.Valid.{HasR, HasE, HasT, class_of, AllowsP}
 use Rattle.dia_check.specs.Levels.{Level, IsMember, IsOpen, IsCommandOf, MayOpen, between}
 use Rattle.dia_check.specs.Levels as levels
 use Rattle.dia_check.specs.Faults.{End, Spot, spot, row_of, IsBefore, subject_of, IsFirstMissing, IsWrong, Stands, HasGoodHeader, HasHeader}
 use Rattle.dia_check.specs.Faults as faults
-use Rattle.dia_check.specs.Walks.{Found, Rest, behind, inside, whole, group_at, Walks, ended, missing, broken, wrong, leaf, group, bad_group}
+use Rattle.dia_check.specs.Walks.{Found, Rest, behind, inside, whole, Walks, ended, missing, broken, wrong, leaf, group, bad_group}
+use Rattle.dia_valid.specs.Valid.{group_at}
 use Rattle.dia_check.specs.UnderWay.{Lies}
 use Rattle.dia_check.proofs.FoundFaultsStand.{walks_stands, lies_behind, lies_inside, between-split, second_part, length-between, nothing_between}
 use Rattle.dia_check.proofs.Uniqueness.{le_split, one_reason, missing_unique, one_subject, begins_some, found_at, Goes, goes, UpTo}

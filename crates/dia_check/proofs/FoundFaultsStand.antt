@@ -14,7 +14,8 @@ use Rattle.dia_check.specs.Levels.{IsMember, MayOpen, between}
 use Rattle.dia_check.specs.Levels as levels
 use Rattle.dia_check.specs.Faults.{Stands, Looks, HasGoodHeader, avp_length as bad_length, avp as at_avp, missing_at_end}
 use Rattle.dia_check.specs.UnderWay.{Lies}
-use Rattle.dia_check.specs.Walks.{Found, Rest, behind, inside, whole, group_at, IsFine, Walks, ended, missing, broken, wrong, leaf, group, bad_group}
+use Rattle.dia_check.specs.Walks.{Found, Rest, behind, inside, whole, IsFine, Walks, ended, missing, broken, wrong, leaf, group, bad_group}
+use Rattle.dia_valid.specs.Valid.{group_at}
 
 -- ---- parts of bytes
 

@@ -12,7 +12,7 @@ use Rattle.dia_check.specs.declared.fault.Fault.{Fault}
 use Rattle.dia_check.specs.declared.fault.Reason.TheVariants as reason
 use Rattle.dia_check.specs.declared.fault.Refusal.{Refusal}
 use Rattle.dia_check.specs.declared.fault.Refusal.TheVariants as refusal
-use Rattle.dia_check.specs.Valid.{HasR, HasE, HasT, class_of, AllowsP}
+use Rattle.dia_valid.specs.Valid.{HasR, HasE, HasT, class_of, AllowsP}
 use Rattle.dia_check.specs.Faults.{HasGoodHeader, HasHeader, HasLength, IsAnswer, simple}
 use Rattle.dia_check.specs.Walks.{IsFoundIn, whole}
 use Rattle.dia_check.proofs.CheckAnswers.{bits_first, proxiable_first, command_first, application_first, walk_answers}

@@ -12,11 +12,11 @@ use Rattle.dia_check.specs.declared.open_levels.OpenLevel.{OpenLevel}
 use Rattle.dia_check.specs.declared.open_levels.OpenLevels.{OpenLevels}
 use Rattle.dia_check.specs.declared.open_levels.tally.Met.{Met}
 use Rattle.dia_check.specs.Tallies.{count_in, unmet, AreBelow, IsTold}
-use Rattle.dia_check.specs.Valid.{fixed_rules}
+use Rattle.dia_valid.specs.Valid.{fixed_rules}
 use Rattle.dia_check.specs.OpenLevels.{AreMet, IsFirstUnmet, IsMetAtEnd, IsCounted, SoFar, begun, and_key, IsKept, AreKept, HasTallyRoom, HaveTallyRoom, AreOpen}
 use Rattle.dia_check.specs.Faults.{IsFirstMissing}
 use Rattle.std.proofs.lemmas.Option.{same_Some, slice_get_within}
-use Rattle.dia_check.proofs.RunsOfOneKeyMore.{at_start}
+use Rattle.dia_valid.proofs.RunsOfOneKeyMore.{at_start}
 use Rattle.dia_check.proofs.FaultlessLevels.{met_none}
 use Rattle.dia_check.proofs.Tallies.{unmet_rising, unmet_below, unmet_none}
 

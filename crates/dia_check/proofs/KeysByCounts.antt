@@ -5,11 +5,12 @@ use Rattle.std.specs.Option.{option_eq}
 use Rattle.std.specs.Prelude.{nat_eq, max, slice_get, slice_index, ◌==◌, if◌then◌else◌, ◌⊎◌, nat_lt}
 use Rattle.std.proofs.lemmas.Bool.{eqb-true, eq-eqb, both_ways, ltb-true, ltb-false}
 use Rattle.std.proofs.lemmas.List.{length-drop}
-use Rattle.std.proofs.lemmas.List.Sums.{length-filter, count_by-le-length, prefix_len-le-length}
+use Rattle.std.proofs.lemmas.List.Sums.{count_by-le-length, prefix_len-le-length}
 use Rattle.std.proofs.lemmas.Option.{none-some, same_Some, slice_get_cases, slice_get_within}
 use Rattle.dia_wire.specs.declared.Key.{Key}
 use Rattle.dia_book.specs.declared.DRule.{DRule}
 use Rattle.dia_book.specs.Dictionary.{AreRules, is_fixed}
+use Rattle.dia_valid.proofs.Entries.{fixed_few}
 use Rattle.dia_check.specs.declared.fault.Reason.{Reason}
 use Rattle.dia_check.specs.declared.fault.Reason.TheVariants as reason
 use Rattle.dia_check.specs.declared.fault.Subject.{Subject}
@@ -19,11 +20,12 @@ use Rattle.dia_check.specs.declared.open_levels.tally.Met.{Met}
 use Rattle.dia_check.specs.Tallies.{count_in}
 use Rattle.dia_check.proofs.Tallies.{IsMore}
 use Rattle.std.specs.List.{prefix_len}
-use Rattle.dia_check.specs.Valid.{fixed_rules, counted}
-use Rattle.dia_check.specs.Faults.{runs, met, run_end, loose_start, row_of, subject_of, IsFirstShort}
+use Rattle.dia_valid.specs.Valid.{fixed_rules, counted}
+use Rattle.dia_valid.specs.LongestRuns.{runs, met, run_end, loose_start}
+use Rattle.dia_check.specs.Faults.{row_of, subject_of, IsFirstShort}
 use Rattle.dia_check.specs.OpenLevels.{AreMet, IsFirstUnmet, IsCounted, Leads, IsMet, IsMisplaced, missing, not_allowed, too_many, IsFirstMisplaced}
-use Rattle.dia_check.proofs.RunsOfOneKeyMore.{is_of}
-use Rattle.dia_check.proofs.RuleCounts.{met_fixed, counts_key, fixed_place}
+use Rattle.dia_valid.proofs.RunsOfOneKeyMore.{is_of}
+use Rattle.dia_valid.proofs.RuleCounts.{met_fixed, counts_key, fixed_place}
 
 -- the first fixed rules are the first rules
 pub fixed_at : (rules : List DRule) (i : ℕ) (rule : DRule) → AreRules rules → i < length (fixed_rules rules) → slice_get rules i ≡ Some rule
@@ -38,9 +40,6 @@ fixed_at rules i rule are lt at = by (slice_get_cases (fixed_rules rules) i).1
         let same : x ≡ rule = same_Some x rule (sym place.0 ∙ at) in
         (here ∙ ap (λ (y : DRule). Some y) same, sym (ap is_fixed same) ∙ place.1)
     by (inr (le, none)) = absurd (omega (arith, le, lt))
-
-pub fixed_few : (rules : List DRule) → length (fixed_rules rules) ≤ length rules
-fixed_few rules = omega (arith, length-filter is_fixed rules, count_by-le-length is_fixed rules)
 
 run_few : (rules : List DRule) (keys : List Key) (i : ℕ) → slice_index (runs rules keys) i ≤ length keys
 run_few [] keys i = omega arith

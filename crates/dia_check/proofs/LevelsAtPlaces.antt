@@ -19,7 +19,7 @@ use Rattle.dia_check.specs.declared.stream.parts.Part.{Part}
 use Rattle.dia_check.specs.declared.stream.parts.Part.TheVariants.{Head, Data}
 use Rattle.dia_check.specs.declared.stream.parts.HeadPart.{HeadPart}
 use Rattle.dia_check.specs.declared.stream.parts.DataPart.{DataPart}
-use Rattle.dia_check.specs.Valid.{class_of, known}
+use Rattle.dia_valid.specs.Valid.{class_of, known}
 use Rattle.dia_check.specs.Levels.{Level, IsMember, IsOpen, IsCommandOf, MayOpen, between}
 use Rattle.dia_check.specs.Levels as levels
 use Rattle.dia_check.specs.Faults.{HasGoodHeader}

@@ -1,6 +1,3 @@
-pub mod LongestRuns
-pub mod RunsOfOneKeyMore
-pub mod RuleCounts
 pub mod FaultlessKeys
 pub mod FaultlessFronts
 pub mod OneKeyMore
@@ -32,3 +29,4 @@ pub mod StreamStages
 pub mod LevelsAtPlaces
 pub mod StreamLevels
 pub mod Pauses
+pub mod KindsOfRefusal

@@ -22,10 +22,11 @@ use Rattle.dia_check.specs.declared.fault.Fault.{Fault}
 use Rattle.dia_check.specs.declared.fault.Selected.{Selected}
 use Rattle.dia_check.specs.declared.fault.Refusal.{Refusal}
 use Rattle.dia_check.specs.declared.fault.Refusal.TheVariants as refusal
-use Rattle.dia_check.specs.Valid.{known, IsValidOf}
+use Rattle.dia_valid.specs.Valid.{known, IsValidOf}
 use Rattle.dia_check.specs.Faults.{Row, At, Spot, spot, row_of, code_of, IsBefore, IsWrong, Stands, HasGoodHeader, HasLength, IsFirst, IsTold, IsAnswer, simple}
 use Rattle.dia_check.specs.Faults as faults
-use Rattle.dia_check.specs.Walks.{Found, Rest, behind, inside, whole, group_at, IsFine, IsFirstWrong, Walks, ended, missing, broken, wrong, leaf, group, bad_group}
+use Rattle.dia_check.specs.Walks.{Found, Rest, behind, inside, whole, IsFine, IsFirstWrong, Walks, ended, missing, broken, wrong, leaf, group, bad_group}
+use Rattle.dia_valid.specs.Valid.{group_at}
 use Rattle.dia_check.proofs.FoundFaultsStand.{walks_stands}
 use Rattle.dia_check.proofs.Uniqueness.{nat_cases, one_reason, found_at}
 use Rattle.dia_check.proofs.FirstFaults.{begun_room, StandsBehind, least}

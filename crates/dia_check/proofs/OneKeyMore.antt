@@ -1,14 +1,13 @@
 -- Where one key more of a level leads, by its slot among the rules.
 use Rattle.std.proofs.Common.{◌≡◌, ◌≢◌, ℕ, zero, suc, ◌+◌, ◌<◌, ◌≤◌, Bool, true, false, cond, List, [], ◌∷◌, ◌++◌, length, take}
-use Rattle.std.proofs.Common.{drop, sum, get_or, Option, Some, None, refl, sym, ap, subst, ◌∙◌, arith, inl, inr, ⊎_elim}
+use Rattle.std.proofs.Common.{drop, sum, Option, Some, None, refl, sym, ap, subst, ◌∙◌, arith, inl, inr, ⊎_elim}
 use Rattle.std.specs.Prelude.{slice_get, slice_index, position, not, is_some, IsSome, count_by, ◌==◌, if◌then◌else◌, ◌⊎◌, IsTrue}
 use Rattle.std.specs.List.{prefix_len, list_any}
 use Rattle.std.specs.Option.{option_map_or}
 use Rattle.std.proofs.lemmas.Bool.{eqb-true, eq-eqb, both_ways}
 use Rattle.std.proofs.lemmas.List.{length-append, length-drop}
 use Rattle.std.proofs.lemmas.List.Sums.{sum_by-cons, prefix_len-le-length}
-use Rattle.std.proofs.lemmas.List.Quantifiers.{position-Some}
-use Rattle.std.proofs.lemmas.Option.{none-some, same_Some, slice_get_cases, slice_get_within}
+use Rattle.std.proofs.lemmas.Option.{none-some, same_Some, slice_get_within}
 use Rattle.dia_wire.specs.declared.Key.{Key}
 use Rattle.dia_book.specs.declared.DRule.{DRule}
 use Rattle.dia_book.specs.declared.Shape.{Shape}
@@ -16,17 +15,17 @@ use Rattle.dia_book.specs.Shapes.{IsShape}
 use Rattle.dia_book.specs.declared.Slot.{Slot}
 use Rattle.dia_book.specs.declared.Slot.TheVariants as slot
 use Rattle.dia_book.specs.Dictionary.{AreRules, is_fixed, lists_key, slot_of, slot_at}
-use Rattle.dia_book.proofs.Lists.{position-within}
 use Rattle.dia_book.proofs.Members.{position-is_some}
-use Rattle.dia_check.specs.Valid.{fixed_rules, is_listed, has_wildcard, is_wildcard}
-use Rattle.dia_check.specs.Faults.{runs, met, loose_start}
-use Rattle.dia_check.specs.OpenLevels.{IsAt, IsCounted, IsNotAllowed, Leads}
+use Rattle.dia_valid.specs.Valid.{fixed_rules, is_listed, has_wildcard, is_wildcard}
+use Rattle.dia_valid.specs.LongestRuns.{runs, met, loose_start}
+use Rattle.dia_valid.specs.LongestRuns.{IsAt}
+use Rattle.dia_check.specs.OpenLevels.{IsCounted, IsNotAllowed, Leads}
 use Rattle.dia_check.specs.declared.open_levels.OpenLevel.{OpenLevel}
 use Rattle.dia_check.specs.declared.open_levels.tally.Met.{Met}
-use Rattle.dia_check.proofs.LongestRuns.{sum-cons, is_of-key}
-use Rattle.dia_check.proofs.RunsOfOneKeyMore.{is_of, NoneFrom, Reaches, one_more, same_runs, behind_all, longer_run, in_run}
-use Rattle.dia_check.proofs.RuleCounts.{met_fixed, met_longer, met_more, counts_key, fixed_place, all_at, reached, length-runs, sum-runs}
-use Rattle.dia_check.proofs.FaultlessLevels.{all_at as all_rules_at}
+use Rattle.dia_valid.proofs.LongestRuns.{sum-cons, is_of-key}
+use Rattle.dia_valid.proofs.RunsOfOneKeyMore.{is_of, NoneFrom, Reaches, one_more, same_runs, behind_all, longer_run, in_run}
+use Rattle.dia_valid.proofs.RuleCounts.{met_fixed, met_longer, met_more, counts_key, fixed_place, all_at, reached, length-runs, sum-runs}
+use Rattle.dia_valid.proofs.Entries.{all_at as all_rules_at, at_position}
 use Rattle.dia_check.proofs.FaultlessFronts.{at_any, any_at, listed_of, into_fixed}
 
 -- ---- runs
@@ -99,13 +98,6 @@ none_of : (rules : List DRule) (m : ℕ) (k : Key) → ((j : ℕ) (q : DRule) �
 none_of [] m k each = tt
 none_of (q ∷ rules) zero k each = (each 0 q (omega arith) refl, none_of rules 0 k (λ j x le at. each (suc j) x (omega arith) at))
 none_of (q ∷ rules) (suc m) k each = none_of rules m k (λ j x le at. each (suc j) x (omega (arith, le)) at)
-
-pub at_position : {X : Type 0} (p : X → Bool) (xs : List X) (i : ℕ) → position p xs ≡ Some i → (x : X) × (slice_get xs i ≡ Some x) × (p x ≡ true)
-at_position {X} p xs i e = by (slice_get_cases xs i).1
-  where
-    by : ((x : X) × (i < length xs) × (slice_get xs i ≡ Some x) × (get_or xs i x ≡ x)) ⊎ ((length xs ≤ i) × (slice_get xs i ≡ None)) → (x : X) × (slice_get xs i ≡ Some x) × (p x ≡ true)
-    by (inl (x, lt, at, got)) = (x, at, ap p (sym got) ∙ (position-Some p xs i x e).1)
-    by (inr (le, none)) = absurd (omega (arith, le, position-within p xs i e))
 
 no_position : {X : Type 0} (p : X → Bool) (xs : List X) → position p xs ≡ None → list_any p xs ≡ false
 no_position {X} p xs e = by (list_any p xs) refl

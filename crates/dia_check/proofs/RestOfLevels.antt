@@ -16,14 +16,15 @@ use Rattle.dia_check.specs.declared.fault.Reason.TheVariants as reason
 use Rattle.dia_check.specs.declared.fault.Subject.{Subject}
 use Rattle.dia_check.specs.declared.fault.Subject.TheVariants.{Avp}
 use Rattle.dia_check.specs.declared.open_levels.Wrong.{Wrong}
-use Rattle.dia_check.specs.Valid.{known}
+use Rattle.dia_valid.specs.Valid.{known}
 use Rattle.dia_check.specs.Levels.{MayOpen}
 use Rattle.dia_check.specs.Faults.{row_of, subject_of, IsWrong}
 use Rattle.dia_check.specs.Faults as faults
 use Rattle.dia_check.specs.OpenLevels.{missing, not_allowed, too_many}
 use Rattle.dia_check.specs.Admission.{IsRefused, unknown, m_bit, misplaced, IsFineData, IsWrongData, IsFineAvp, IsWrongAvp}
 use Rattle.dia_check.specs.UnderWay.{Owes}
-use Rattle.dia_check.specs.Walks.{Found, Rest, behind, inside, group_at, IsFine, IsFirstWrong, Walks, group, bad_group}
+use Rattle.dia_check.specs.Walks.{Found, Rest, behind, inside, IsFine, IsFirstWrong, Walks, group, bad_group}
+use Rattle.dia_valid.specs.Valid.{group_at}
 use Rattle.dia_check.proofs.AvpFaults.{no_number}
 use Rattle.dia_check.proofs.FaultlessMessages.{leaf_fits}
 

@@ -12,7 +12,7 @@ use Rattle.dia_check.specs.declared.fault.Refusal.TheVariants as refusal
 use Rattle.dia_check.specs.declared.stream.stages.Body.{Body}
 use Rattle.dia_check.specs.declared.stream.stages.Stage.{Stage}
 use Rattle.dia_check.specs.declared.stream.stages.Stage.TheVariants.{Header, InBody, Over, NoMemory}
-use Rattle.dia_check.specs.Valid.{IsValidOf}
+use Rattle.dia_valid.specs.Valid.{IsValidOf}
 use Rattle.dia_check.specs.Faults.{HasGoodHeader, IsAnswer}
 use Rattle.dia_check.specs.Walks.{Walks, whole, IsFoundIn}
 use Rattle.dia_check.specs.Reading.{BeginsLevel, IsInPart, IsStop, LiesAt}

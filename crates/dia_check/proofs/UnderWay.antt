@@ -22,7 +22,8 @@ use Rattle.dia_check.specs.Levels.{between}
 use Rattle.dia_check.specs.Faults.{code_of, subject_of, spot, End, HasGoodHeader}
 use Rattle.dia_check.specs.OpenLevels.{SoFar, begun, and_key, AreOpen, IsMetAtEnd, IsMissingAtEnd}
 use Rattle.dia_check.specs.Admission.{IsFineAvp, IsWrongAvp}
-use Rattle.dia_check.specs.Walks.{Found, Rest, behind, inside, whole, fault_of, IsFoundIn, group_at, IsFine, Walks, ended, broken, wrong, leaf, group}
+use Rattle.dia_check.specs.Walks.{Found, Rest, behind, inside, whole, fault_of, IsFoundIn, IsFine, Walks, ended, broken, wrong, leaf, group}
+use Rattle.dia_valid.specs.Valid.{group_at}
 use Rattle.dia_check.specs.Walks as walks
 use Rattle.dia_check.proofs.FaultlessLevels.{more_keys, opens}
 use Rattle.dia_check.proofs.Uniqueness.{begins_some}

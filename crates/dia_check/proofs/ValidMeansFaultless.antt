@@ -24,11 +24,12 @@ use Rattle.dia_check.specs.declared.fault.Reason.{Reason}
 use Rattle.dia_check.specs.declared.fault.Reason.TheVariants as reason
 use Rattle.dia_check.specs.declared.fault.Subject.{Subject}
 use Rattle.dia_check.specs.declared.fault.Subject.TheVariants.{Nothing}
-use Rattle.dia_check.specs.Valid.{class_of, AllowsP, PHolds, IsValid}
+use Rattle.dia_valid.specs.Valid.{class_of, AllowsP, PHolds, IsValid}
 use Rattle.dia_check.specs.Levels.{MayOpen, between}
 use Rattle.dia_check.specs.Faults.{Spot, spot, IsWrong, Stands, HasGoodHeader, HasHeader, HasLength}
 use Rattle.dia_check.specs.Faults as faults
-use Rattle.dia_check.specs.Walks.{Rest, behind, inside, whole, group_at, IsFine, Walks, ended, leaf, group}
+use Rattle.dia_check.specs.Walks.{Rest, behind, inside, whole, IsFine, Walks, ended, leaf, group}
+use Rattle.dia_valid.specs.Valid.{group_at}
 use Rattle.dia_check.proofs.FaultlessLevels.{opens}
 use Rattle.dia_check.specs.UnderWay.{Lies}
 use Rattle.dia_check.proofs.FoundFaultsStand.{looks, member, lies_behind, lies_inside, body_lies}

@@ -15,16 +15,12 @@ use Rattle.dia_check.specs.declared.fault.Subject.TheVariants.{Avp}
 use Rattle.dia_check.specs.declared.open_levels.OpenLevels.{OpenLevels}
 use Rattle.dia_check.specs.declared.open_levels.Wrong.{Wrong}
 use Rattle.dia_check.specs.Basis.{PlainBasis}
-use Rattle.dia_check.specs.Valid.{known, MHolds, IsAccepted}
+use Rattle.dia_valid.specs.Valid.{known, MHolds, IsAccepted}
 use Rattle.dia_check.specs.Levels.{MayOpen}
 use Rattle.dia_check.specs.Faults.{row_of}
 use Rattle.dia_check.specs.OpenLevels.{SoFar, begun, HasRoom, and_key, AreOpenUnder, IsMetAtEnd, IsMissingAtEnd, IsMisplaced}
 
 -- ---- by its key and flags
-
--- the M flag is as the entry's rule says, or as the policy for unknown AVPs
-abbrev pub HasFlags : Dictionary → Unknown → Key → ℕ → Type 0
-HasFlags d u key flags = MatchOption (known d key) (IsAccepted u flags) (λ e. MHolds e.rule flags)
 
 abbrev pub IsWrongFlags : Dictionary → Unknown → Key → ℕ → Wrong → Type 0
 IsWrongFlags d u key flags wrong =

@@ -1,7 +1,6 @@
 -- What is wrong with a message, and which of it is told (RFC 6733 section 7.1; places and order are this project's).
 use Rattle.std.specs.Prelude.{◌≡◌, ◌≢◌, ℕ, suc, ◌<◌, ◌≤◌, ◌⊎◌, true, false, List, [], ◌∷◌, ◌++◌, length, map, take, drop}
-use Rattle.std.specs.Prelude.{sum, Option, Some, None, Result, Ok, Err, slice_get, slice_index, if◌then◌else◌, IsTrue, ⊤}
-use Rattle.std.specs.List.{prefix_len}
+use Rattle.std.specs.Prelude.{Option, Some, None, Result, Ok, Err, slice_get, slice_index, IsTrue, ⊤}
 use Rattle.dia_wire.specs.declared.Header.{Header}
 use Rattle.dia_wire.specs.declared.Key.{Key}
 use Rattle.dia_wire.specs.Number.{number}
@@ -9,7 +8,7 @@ use Rattle.dia_wire.specs.Wire.{PlainAvp, key_of, SpellsAll, BeginsWithNone, IsH
 use Rattle.dia_data.specs.Plain.{Grouped}
 use Rattle.dia_data.specs.Leaf.{IsLeaf, LengthFits}
 use Rattle.dia_book.specs.declared.DRule.{DRule}
-use Rattle.dia_book.specs.Dictionary.{Dictionary, DictEntry, PlainDefinition, is_fixed, lists_key, has_command, selected, definitions}
+use Rattle.dia_book.specs.Dictionary.{Dictionary, DictEntry, PlainDefinition, has_command, selected, definitions}
 use Rattle.dia_policy.specs.declared.Unknown.{Unknown}
 use Rattle.dia_policy.specs.declared.Levels.{Levels}
 use Rattle.dia_check.specs.declared.fault.Reason.{Reason}
@@ -20,7 +19,8 @@ use Rattle.dia_check.specs.declared.fault.Fault.{Fault}
 use Rattle.dia_check.specs.declared.fault.Selected.{Selected}
 use Rattle.dia_check.specs.declared.fault.Refusal.{Refusal}
 use Rattle.dia_check.specs.declared.fault.Refusal.TheVariants as refusal
-use Rattle.dia_check.specs.Valid.{HasR, HasE, HasT, class_of, AllowsP, known, MHolds, IsAccepted, IsValidOf, fixed_rules, is_listed, has_wildcard, counted}
+use Rattle.dia_valid.specs.Valid.{HasR, HasE, HasT, class_of, AllowsP, known, MHolds, IsAccepted, IsValidOf, fixed_rules, is_listed, has_wildcard}
+use Rattle.dia_valid.specs.LongestRuns.{runs, run_end, loose_start, met}
 use Rattle.dia_check.specs.Levels.{Level, between, IsMember, IsOpen, MayOpen}
 
 -- ---- where faults stand, and their order
@@ -82,29 +82,11 @@ row_of reason.Depth = 14
 abbrev pub spot : ℕ → Reason → Spot
 spot place r = record { place = place; row = At (row_of r) }
 
--- ---- the runs of fixed rules
-
--- each rule's run is the longest one of its key that begins where the run before it ends
-abbrev pub runs : List DRule → List Key → List ℕ
-runs [] keys = []
-runs (rule ∷ rules) keys = let n = prefix_len (λ key. lists_key key rule) keys in n ∷ runs rules (drop n keys)
-
--- where the run of rule i ends, and where the loose part begins
-abbrev pub run_end : List DRule → ℕ → List Key → ℕ
-run_end rules i keys = sum (take (suc i) (runs (fixed_rules rules) keys))
-
-abbrev pub loose_start : List DRule → List Key → ℕ
-loose_start rules keys = sum (runs (fixed_rules rules) keys)
-
 -- rule i is the first whose run is shorter than its min
 pub record IsFirstShort (rules : List DRule) (keys : List Key) (i : ℕ) (rule : DRule) : Type 0 where
   pub is_rule : slice_get (fixed_rules rules) i ≡ Some rule
   pub short : slice_index (runs (fixed_rules rules) keys) i < rule.min
   pub first : (j : ℕ) (other : DRule) → j < i → slice_get (fixed_rules rules) j ≡ Some other → other.min ≤ slice_index (runs (fixed_rules rules) keys) j
-
--- how often the rule at a place of the definition is met: by its run, or in the loose part
-abbrev pub met : List DRule → List Key → ℕ → DRule → ℕ
-met rules keys i rule = if is_fixed rule then slice_index (runs (fixed_rules rules) keys) i else counted rules rule (drop (loose_start rules keys) keys)
 
 -- rule i is the first of any kind that is met less often than its min
 pub record IsFirstMissing (rules : List DRule) (keys : List Key) (i : ℕ) (rule : DRule) : Type 0 where

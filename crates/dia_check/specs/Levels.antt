@@ -7,7 +7,7 @@ use Rattle.dia_book.specs.declared.DRule.{DRule}
 use Rattle.dia_book.specs.Dictionary.{Dictionary, PlainDefinition, definitions, selected}
 use Rattle.dia_policy.specs.declared.Levels.{Levels}
 use Rattle.dia_policy.specs.declared.Levels.TheVariants.{Any, AtMost}
-use Rattle.dia_check.specs.Valid.{class_of, known}
+use Rattle.dia_valid.specs.Valid.{class_of, known}
 
 -- a level: its rules, where it begins and ends, and how many groups it lies in
 pub record Level : Type 0 where

@@ -1,5 +1,4 @@
 pub mod Basis
-pub mod Valid
 pub mod Levels
 pub mod Faults
 pub mod Walks

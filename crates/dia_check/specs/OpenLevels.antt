@@ -1,9 +1,8 @@
 -- What a checker keeps of the levels that are open: the run that each is in, and its tally.
-use Rattle.std.specs.Prelude.{◌≡◌, ◌≢◌, ℕ, zero, suc, ◌+◌, ◌<◌, ◌≤◌, ◌⊎◌, ◌==◌, if◌then◌else◌, false, List, [], ◌∷◌, ◌++◌, length, drop, Option, Some, None, slice_get, slice_index, IsTrue, vec_capacity}
-use Rattle.std.specs.List.{prefix_len}
+use Rattle.std.specs.Prelude.{◌≡◌, ◌≢◌, ℕ, suc, ◌+◌, ◌<◌, ◌≤◌, ◌⊎◌, ◌==◌, if◌then◌else◌, false, List, [], ◌∷◌, ◌++◌, length, Option, Some, None, slice_get, slice_index, IsTrue, vec_capacity}
 use Rattle.dia_wire.specs.declared.Key.{Key}
 use Rattle.dia_book.specs.declared.DRule.{DRule}
-use Rattle.dia_book.specs.Dictionary.{Dictionary, PlainDefinition, definitions, lists_key}
+use Rattle.dia_book.specs.Dictionary.{Dictionary, PlainDefinition, definitions}
 use Rattle.dia_check.specs.declared.fault.Reason.{Reason}
 use Rattle.dia_check.specs.declared.fault.Reason.TheVariants as reason
 use Rattle.dia_check.specs.declared.fault.Subject.{Subject}
@@ -13,8 +12,9 @@ use Rattle.dia_check.specs.declared.open_levels.OpenLevels.{OpenLevels}
 use Rattle.dia_check.specs.declared.open_levels.Wrong.{Wrong}
 use Rattle.dia_check.specs.declared.open_levels.tally.Met.{Met}
 use Rattle.dia_check.specs.Tallies.{count_in, AreRising, AreBelow}
-use Rattle.dia_check.specs.Valid.{fixed_rules, is_listed, has_wildcard}
-use Rattle.dia_check.specs.Faults.{runs, run_end, loose_start, met, subject_of, row_of, IsFirstShort, IsFirstMissing}
+use Rattle.dia_valid.specs.Valid.{fixed_rules, is_listed, has_wildcard}
+use Rattle.dia_valid.specs.LongestRuns.{runs, run_end, loose_start, met, IsAt}
+use Rattle.dia_check.specs.Faults.{subject_of, row_of, IsFirstShort, IsFirstMissing}
 
 -- ---- what is wrong with a key behind others, by the rules of their level
 
@@ -49,13 +49,6 @@ IsMissingAtEnd rules keys wrong =
     (i : ℕ) × (rule : DRule) × IsFirstMissing rules keys i rule × (wrong.reason ≡ reason.Missing) × (wrong.subject ≡ subject_of rule.key)
 
 -- ---- one level
-
--- the keys end in the run of fixed rule m, and a rule behind the first is only entered by a key; or they end behind all the runs
-abbrev pub IsAt : List DRule → ℕ → List Key → Type 0
-IsAt [] m keys = m ≡ 0
-IsAt (r ∷ rules) zero keys = prefix_len (λ key. lists_key key r) keys ≡ length keys
-IsAt (r ∷ rules) (suc m) keys =
-    let n = prefix_len (λ key. lists_key key r) keys in (n < length keys) × IsAt rules m (drop n keys)
 
 -- the rules from one place up to another are met often enough
 abbrev pub AreMet : List DRule → List Met → ℕ → ℕ → Type 0

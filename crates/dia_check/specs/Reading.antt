@@ -20,7 +20,7 @@ use Rattle.dia_check.specs.declared.stream.parts.Part.TheVariants.{Head, Data}
 use Rattle.dia_check.specs.declared.stream.parts.HeadPart.{HeadPart}
 use Rattle.dia_check.specs.declared.stream.parts.DataPart.{DataPart}
 use Rattle.dia_check.specs.Basis.{PlainBasis}
-use Rattle.dia_check.specs.Valid.{known}
+use Rattle.dia_valid.specs.Valid.{known}
 use Rattle.dia_check.specs.Levels.{Level, IsOpen, between}
 use Rattle.dia_check.specs.Faults.{HasGoodHeader}
 use Rattle.dia_check.specs.OpenLevels.{AreOpen, and_key}

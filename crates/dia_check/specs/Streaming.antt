@@ -13,7 +13,7 @@ use Rattle.dia_check.specs.declared.stream.stages.Stage.{Stage}
 use Rattle.dia_check.specs.declared.stream.stages.Stage.TheVariants.{Header, InBody, Over, NoMemory}
 use Rattle.dia_check.specs.declared.stream.stages.Body.{Body}
 use Rattle.dia_check.specs.declared.stream.Progress.{Progress}
-use Rattle.dia_check.specs.Valid.{IsValid}
+use Rattle.dia_valid.specs.Valid.{IsValid}
 use Rattle.dia_check.specs.Levels.{Level, IsOpen, filled}
 use Rattle.dia_check.specs.Faults.{HasGoodHeader, IsAnswer}
 use Rattle.dia_check.specs.Front.{front_bytes}

@@ -1,6 +1,6 @@
 -- How a checker goes through a message, one AVP after the other and the members of a group before what is behind it, and what it finds first.
 use Rattle.std.proofs.Common.{◌≡◌, ℕ, suc, ◌+◌, ◌<◌, ◌≤◌, List, [], ◌∷◌, ◌++◌, length, map, drop, Option, Some, None}
-use Rattle.std.specs.Prelude.{option_and_then, ◌⊎◌, ⊤}
+use Rattle.std.specs.Prelude.{◌⊎◌, ⊤}
 use Rattle.dia_wire.specs.Wire.{PlainAvp, key_of, head_length, avp_length, padded_length, BeginsWith, BeginsWithNone}
 use Rattle.dia_data.specs.Plain.{Grouped}
 use Rattle.dia_data.specs.Leaf.{IsLeaf}
@@ -15,7 +15,7 @@ use Rattle.dia_check.specs.declared.fault.Subject.TheVariants.{Nothing}
 use Rattle.dia_check.specs.declared.fault.Fault.{Fault}
 use Rattle.dia_check.specs.declared.fault.Refusal.{Refusal}
 use Rattle.dia_check.specs.declared.fault.Refusal.TheVariants as refusal
-use Rattle.dia_check.specs.Valid.{known}
+use Rattle.dia_valid.specs.Valid.{known, group_at}
 use Rattle.dia_check.specs.Levels.{Level}
 use Rattle.dia_check.specs.Faults.{Spot, End, spot, row_of, code_of, subject_of, IsFirstMissing, IsWrong}
 
@@ -41,10 +41,6 @@ inside s v group = record {
   at = s.at + head_length v.vendor;
   bytes = v.bytes;
 }
-
--- the definition of a known group
-abbrev pub group_at : Dictionary → PlainAvp → Option PlainDefinition
-group_at d v = option_and_then (λ e. e.group) (known d (key_of v))
 
 -- nothing is wrong with an AVP; and its data is a leaf of its format or a level, which doesn't follow from that without a decision
 pub record IsFine (d : Dictionary) (u : Unknown) (most : Levels) (s : Rest) (v : PlainAvp) : Type 0 where

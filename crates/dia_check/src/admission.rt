@@ -6,10 +6,11 @@ ghost use Rattle.dia_wire.specs.Wire.{plain_avp};
 ghost use Rattle.dia_book.specs.Dictionary.{DictEntry};
 ghost use Rattle.dia_book.specs.Dictionary.{PlainDefinition, definitions, entry_of};
 ghost use Rattle.dia_check.specs.Basis.{plain_basis};
-ghost use Rattle.dia_check.specs.Valid.{MHolds, IsAccepted};
+ghost use Rattle.dia_valid.specs.Valid.{MHolds, IsAccepted};
 ghost use Rattle.dia_check.specs.Levels.{MayOpen};
 ghost use Rattle.dia_check.specs.OpenLevels.{AreOpenUnder, begun};
-ghost use Rattle.dia_check.specs.Admission.{HasFlags, IsWrongFlags, IsFineData, IsWrongData};
+ghost use Rattle.dia_valid.specs.Valid.{HasFlags};
+ghost use Rattle.dia_check.specs.Admission.{IsWrongFlags, IsFineData, IsWrongData};
 ghost use Rattle.dia_check.specs.Admission.{AreSomeOpen, HaveRoom, IsLetIn, IsChecked};
 ghost use Rattle.dia_check.specs.Admission.{IsEndChecked, IsOpened};
 

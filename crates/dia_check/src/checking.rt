@@ -6,7 +6,7 @@ ghost use Rattle.dia_check.specs.declared.fault.Reason.{Reason as AnyReason};
 ghost use Rattle.dia_check.specs.declared.fault.Subject.{Subject as AnySubject};
 ghost use Rattle.dia_check.specs.declared.fault.Selected.{Selected as AnySelected};
 ghost use Rattle.dia_check.specs.declared.fault.Refusal.{Refusal as AnyRefusal};
-ghost use Rattle.dia_check.specs.Valid.{IsValid, IsValidOf};
+ghost use Rattle.dia_valid.specs.Valid.{IsValid, IsValidOf};
 ghost use Rattle.dia_check.specs.Faults.{IsAnswer, HasGoodHeader, HasLength, Stands, Spot};
 
 use crate::admission::reopen_body;

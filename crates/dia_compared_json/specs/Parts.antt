@@ -5,7 +5,7 @@ use Rattle.serde_json.specs.Data.{Data, Members, member, no_members, null, objec
 use Rattle.dia_wire.specs.declared.Key.{Key}
 use Rattle.dia_book.specs.declared.DRule.{DRule}
 use Rattle.dia_book.specs.Dictionary.{Dictionary, PlainDefinition, definitions, group_place}
-use Rattle.dia_check.specs.Valid.{is_wildcard}
+use Rattle.dia_valid.specs.Valid.{is_wildcard}
 use Rattle.dia_compat.specs.declared.PairKind.{PairKind}
 use Rattle.dia_compat.specs.declared.PairKind.TheVariants as kind
 use Rattle.dia_compat.specs.declared.Failing.{Failing}

@@ -35,7 +35,7 @@ impl<'a, B: Book> Model for Side<'a, B> {
 
 impl<'a, B: Book> Side<'a, B> {
     ghost use Rattle.std.specs.Prelude.{◌≡◌, ◌<◌, IfSome, length, position};
-    ghost use Rattle.dia_check.specs.Valid.{is_wildcard};
+    ghost use Rattle.dia_valid.specs.Valid.{is_wildcard};
     ghost use Rattle.dia_compared_json.specs.Objects.{plain_found};
     ghost use Rattle.dia_compared_json.specs.Parts.{avp_side, key_at, rules_of, side_of};
 

@@ -15,12 +15,12 @@ use Rattle.dia_book.specs.declared.Pxy.TheVariants.{Clear, Set, Either}
 use Rattle.dia_book.specs.declared.DefHead.{DefHead}
 use Rattle.dia_book.specs.declared.DefHead.TheVariants.{Group, Command, Error}
 use Rattle.dia_book.specs.Dictionary.{Dictionary, PlainDefinition, IsDictionary, IsCommandHead, is_command, same_class}
-use Rattle.dia_check.specs.Valid.{AllowsP, PHolds, HasP}
+use Rattle.dia_valid.specs.Valid.{AllowsP, PHolds, HasP}
 use Rattle.dia_compat.specs.Sides.{Sides}
 use Rattle.dia_compat.specs.TableText.{PlainTable}
 use Rattle.dia_compat.specs.Closed.{HasCode, IsError, IsBeside, NamesApp, IsWanted, error, same_app, no_app, both_none, other_app, IsServed, SameCodeAndClass, CommandPair}
 use Rattle.dia_compat.specs.PairTests.{NamePair, is_pair, names_app, wants_app, is_wanted, serves, serves_app, same_code_and_class, p_of, p_within, is_proxiable, is_selected}
-use Rattle.dia_rules.proofs.Members.{IsIn, in_contains, contains_in, any_in, in_any, all_of}
+use Rattle.dia_valid.proofs.Members.{IsIn, in_contains, contains_in, any_in, in_any, all_of}
 use Rattle.dia_compat.proofs.DecidedTests.{all_in_decides, implied}
 
 -- ---- classes, applications and heads

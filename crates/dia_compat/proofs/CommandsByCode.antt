@@ -24,11 +24,11 @@ use Rattle.dia_compat.specs.Closed.{IsError}
 use Rattle.dia_compat.specs.Sides.{Sides, Compared}
 use Rattle.dia_compat.specs.PairTests.{NamePair, names_app, wants_app, is_wanted, serves, serves_app, same_code_and_class, is_proxiable, is_pair, is_ready, is_selected, all_selected, is_command_pair, failed_rules, failed_commands}
 use Rattle.dia_compat.specs.declared.checking.Test.TheVariants.{N10}
-use Rattle.dia_rules.specs.Rules.{rules_in}
+use Rattle.dia_valid.specs.Rules.{rules_in}
 use Rattle.dia_compat.specs.WantedNames.{wanted_name, wanted_names}
-use Rattle.dia_rules.proofs.Members.{IsIn, in_at, at_in, any_in, in_any, taken}
-use Rattle.dia_rules.proofs.SelectedCommands.{Choice, NoChoice, choose, Reads, reads, class_same}
-use Rattle.dia_rules.proofs.SelectedCommands.{command_at}
+use Rattle.dia_valid.proofs.Members.{IsIn, in_at, at_in, any_in, in_any, taken}
+use Rattle.dia_valid.proofs.SelectedCommands.{Choice, NoChoice, choose, Reads, reads, class_same}
+use Rattle.dia_valid.proofs.SelectedCommands.{command_at}
 
 -- ---- what is told of some members alone
 

@@ -16,17 +16,17 @@ use Rattle.dia_book.specs.declared.DRule.{DRule}
 use Rattle.dia_book.specs.Dictionary.{Dictionary, DictEntry, AreRules, is_fixed, lists_key}
 use Rattle.dia_check.specs.declared.Unknown.{Unknown}
 use Rattle.dia_check.specs.declared.Unknown.TheVariants.{Kept}
-use Rattle.dia_check.specs.Valid.{known, fixed_rules, is_listed, is_wildcard, has_wildcard}
+use Rattle.dia_valid.specs.Valid.{known, fixed_rules, is_listed, is_wildcard, has_wildcard}
 use Rattle.dia_compat.specs.declared.checking.Test.{Test}
 use Rattle.dia_compat.specs.declared.checking.Test.TheVariants.{N1, N2, N3, N4, N5, N6, N7, N8, N9, N10}
 use Rattle.dia_compat.specs.Below.{MaxWithin, Within, IsAboveZero, IsCovered, FixedWithin, IsKnown, WildcardCovered, Passes}
-use Rattle.dia_rules.specs.Rules.{HasRule, IsListed, HasWildcard, rule_of, wildcard_of}
+use Rattle.dia_valid.specs.Rules.{HasRule, IsListed, HasWildcard, rule_of, wildcard_of}
 use Rattle.dia_compat.specs.Tests.{is_max_within, is_within, is_above_zero, of_key, begins_with, common_rule}
 use Rattle.dia_compat.specs.Tests.{let_in_rule, covered_rule, has_room, own_rule, listed_rule, bounded_wildcard, required_wildcard, may_come}
 use Rattle.dia_compat.specs.Sides.{Compared}
 use Rattle.dia_compat.specs.PairTests.{is_covered, uncovered_keys, strangers_fit, is_passed}
-use Rattle.dia_rules.proofs.Members.{IsIn, in_at, at_in, in_contains, contains_in, any_in, in_any}
-use Rattle.dia_rules.proofs.RulesOfKeys.{listed, is_listed_by}
+use Rattle.dia_valid.proofs.Members.{IsIn, in_at, at_in, in_contains, contains_in, any_in, in_any}
+use Rattle.dia_valid.proofs.RulesOfKeys.{listed, is_listed_by}
 
 -- ---- answers put together
 

@@ -16,14 +16,14 @@ use Rattle.dia_compat.specs.TableText.{PlainTable}
 use Rattle.dia_compat.specs.Below.{Passes}
 use Rattle.dia_compat.specs.Closed.{NamesEntry, NamesCommand, IsPairKey, BothGrouped, CommandPair, AvpPair, CommandTest, AvpTest, PassesAt, PairBefore, IsClosed, IsFirstFailure}
 use Rattle.dia_compat.specs.Sides.{Compared}
-use Rattle.dia_rules.specs.Rules.{rules_in}
+use Rattle.dia_valid.specs.Rules.{rules_in}
 use Rattle.dia_compat.specs.PairTests.{NamePair, entry_named, command_named, is_passed, is_command_pair, failed_rules, failed_commands, failed_groups}
 use Rattle.dia_compat.specs.FirstFailures.{IsFirstFailed, IsFirstPair, IsFound, PairTest, failed_command, FailsEntries, FailsAvp}
-use Rattle.dia_rules.proofs.Members.{IsIn, in_at, in_right, all_of}
+use Rattle.dia_valid.proofs.Members.{IsIn, in_at, in_right, all_of}
 use Rattle.dia_compat.proofs.FitInSecond.{is_grouped, group_rules}
 use Rattle.dia_compat.proofs.DecidedTests.{decides}
 use Rattle.dia_compat.proofs.CommandPairs.{command_pair_decides}
-use Rattle.dia_rules.proofs.GroupNumbers.{number_of, group_there, group_missing}
+use Rattle.dia_valid.proofs.GroupNumbers.{number_of, group_there, group_missing}
 use Rattle.dia_compat.proofs.LookUpsOfKeys.{entry_found, found_entry, command_found, found_command, covered_decides, comes_decides, uncovered_is, fit_decides}
 use Rattle.dia_compat.proofs.FirstFailedTest.{first_failed, tenth_failed}
 

@@ -21,14 +21,14 @@ use Rattle.dia_compat.specs.TableText.{PlainTable}
 use Rattle.dia_compat.specs.Below.{Passes}
 use Rattle.dia_compat.specs.Closed.{NamesEntry, NamesCommand, IsPairKey, BothGrouped, CommandPair, AvpPair, CommandTest, AvpTest, PassesAt}
 use Rattle.dia_compat.specs.Sides.{Compared, compared}
-use Rattle.dia_rules.specs.Rules.{rules_in}
+use Rattle.dia_valid.specs.Rules.{rules_in}
 use Rattle.dia_compat.specs.PairTests.{NamePair, entry_named, command_named, is_command_pair, is_selected, is_ready, serves, same_code_and_class, is_proxiable}
 use Rattle.dia_compat.specs.Failings.{unless, rule_failings, name_failings, selection_failings, head_failings, definition_failings, place_failings, command_failings}
 use Rattle.dia_compat.specs.Failings.{AreDeclarationFailings, group_failings, AreEntryFailings, AreAvpFailings, AreFailings, AreFailingsAt, AreFailingsOf}
-use Rattle.dia_rules.proofs.Members.{in_at}
+use Rattle.dia_valid.proofs.Members.{in_at}
 use Rattle.dia_compat.proofs.FitInSecond.{is_grouped, group_rules}
 use Rattle.dia_compat.proofs.CommandPairs.{command_pair_decides}
-use Rattle.dia_rules.proofs.GroupNumbers.{number_of, group_there, group_missing}
+use Rattle.dia_valid.proofs.GroupNumbers.{number_of, group_there, group_missing}
 use Rattle.dia_compat.proofs.LookUpsOfKeys.{entry_found, found_entry, command_found, found_command}
 use Rattle.dia_compat.proofs.FailedPairs.{command_rules, same_place, pass_decides}
 use Rattle.dia_compat.proofs.FailingTests.{unless_decides, list_decides, append_decides, numbered_decides, none_decides}

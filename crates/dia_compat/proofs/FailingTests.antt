@@ -11,14 +11,14 @@ use Rattle.dia_book.specs.declared.DRule.{DRule}
 use Rattle.dia_book.specs.Dictionary.{DictEntry, AreRules, is_fixed, lists_key}
 use Rattle.dia_book.proofs.LookUpsByName.{find-place}
 use Rattle.dia_book.proofs.Members.{find-is_some}
-use Rattle.dia_check.specs.Valid.{fixed_rules, is_listed, is_wildcard, has_wildcard}
+use Rattle.dia_valid.specs.Valid.{fixed_rules, is_listed, is_wildcard, has_wildcard}
 use Rattle.dia_compat.specs.declared.checking.Test.{Test}
 use Rattle.dia_compat.specs.declared.checking.Test.TheVariants.{N1, N2, N3, N4, N5, N6, N7, N8, N9, N10}
 use Rattle.dia_compat.specs.declared.reasons.Failing.{Failing}
 use Rattle.dia_compat.specs.declared.reasons.Failing.TheVariants as failing
 use Rattle.dia_compat.specs.Sides.{Compared}
 use Rattle.dia_compat.specs.Tests.{is_kept, is_within, is_max_within, is_above_zero, may_come, leads, begins_with, common_rule, let_in_rule, covered_rule, has_room}
-use Rattle.dia_rules.specs.Rules.{rule_of, wildcard_of}
+use Rattle.dia_valid.specs.Rules.{rule_of, wildcard_of}
 use Rattle.dia_compat.specs.Tests.{own_rule, listed_rule, bounded_wildcard, required_wildcard, of_key}
 use Rattle.dia_compat.specs.PairTests.{is_covered, uncovered_keys, stranger_fits, strangers_fit, is_passed}
 use Rattle.dia_compat.specs.Failings.{Placed, placed_at, place_of_key, placed_rule, placed_wildcard, unless, among, fails_fixed, fails_counts, fails_crowded, fails_own_key, fails_own}

@@ -7,7 +7,7 @@ use Rattle.std.proofs.lemmas.List.Elements.{filter-append}
 use Rattle.std.proofs.lemmas.List.Folds.{list_all-append, list_any-append, list_all_more, list_any_more, list_any_at}
 use Rattle.std.proofs.lemmas.List.Folds as std_folds
 use Rattle.dia_book.proofs.Members.{list_all_at}
-use Rattle.dia_rules.proofs.Members.{in_any, in_at, taken}
+use Rattle.dia_valid.proofs.Members.{in_any, in_at, taken}
 use Rattle.dia_compat.proofs.SetsOfNames.{get_none}
 
 pub kept : {X : Type 0} (p : X → Bool) (xs : List X) (i : ℕ) (x : X) → slice_get xs i ≡ Some x → p x ≡ true → filter p (take (i + 1) xs) ≡ filter p (take i xs) ++ x ∷ []

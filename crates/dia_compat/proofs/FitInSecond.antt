@@ -21,16 +21,16 @@ use Rattle.dia_check.specs.declared.Unknown.{Unknown}
 use Rattle.dia_check.specs.declared.Unknown.TheVariants.{Kept, Refused}
 use Rattle.dia_check.specs.declared.Levels.{Levels}
 use Rattle.dia_check.specs.declared.Levels.TheVariants as levels
-use Rattle.dia_check.specs.Valid.{HasM, MHolds, IsAccepted, known, IsLevel, FitsBy, Fits, AllFit, Placed}
+use Rattle.dia_valid.specs.Valid.{HasM, MHolds, IsAccepted, known, IsLevel, FitsBy, Fits, AllFit, Placed}
 use Rattle.dia_compat.specs.TableText.{PlainTable}
 use Rattle.dia_compat.specs.declared.checking.PairKind.TheVariants as kind
 use Rattle.dia_compat.specs.declared.checking.Test.{Test}
 use Rattle.dia_compat.specs.declared.checking.Test.TheVariants.{N1, N2, N3, N4, N5, N6, N7, N8, N9, N10}
 use Rattle.dia_compat.specs.Below.{IsCoveredAlone, IsCovered, IsKnown, DefBelow}
 use Rattle.dia_compat.specs.Closed.{NamesEntry, IsPairKey, BothGrouped, AvpPair, AvpTest, IsClosed}
-use Rattle.dia_rules.proofs.Members.{IsIn, in_all, in_at, at_in, in_contains, contains_in, in_left, all_in, all_of, in_filter_map}
+use Rattle.dia_valid.proofs.Members.{IsIn, in_all, in_at, at_in, in_contains, contains_in, in_left, all_in, all_of, in_filter_map}
 use Rattle.dia_compat.proofs.PlacedInSecond.{ByWild, Comes, comes, still_placed}
-use Rattle.dia_rules.proofs.RulesOfKeys.{is_listed_by}
+use Rattle.dia_valid.proofs.RulesOfKeys.{is_listed_by}
 
 -- ---- entries
 

@@ -9,7 +9,7 @@ use Rattle.dia_book.proofs.Members.{at_Contains, into_right}
 use Rattle.dia_book.specs.Dictionary.{Dictionary, PlainDefinition, IsDictionary, groups, definitions, is_command}
 use Rattle.dia_check.specs.declared.Unknown.{Unknown}
 use Rattle.dia_check.specs.declared.Levels.{Levels}
-use Rattle.dia_check.specs.Valid.{AllowsP, class_of, Placed, IsValidOf}
+use Rattle.dia_valid.specs.Valid.{AllowsP, class_of, Placed, IsValidOf}
 use Rattle.dia_compat.specs.TableText.{PlainTable}
 use Rattle.dia_compat.specs.declared.checking.PairKind.TheVariants as kind
 use Rattle.dia_compat.specs.declared.checking.Test.{Test}
@@ -17,8 +17,8 @@ use Rattle.dia_compat.specs.declared.checking.Test.TheVariants.{N1, N2, N3, N4, 
 use Rattle.dia_compat.specs.Below.{DefBelow}
 use Rattle.dia_compat.specs.Closed.{NamesCommand, IsPairKey, HasCode, IsError, IsBeside, NamesApp, IsWanted, error, same_app}
 use Rattle.dia_compat.specs.Closed.{no_app, both_none, other_app, IsServed, CommandPair, CommandTest, IsClosed, IsIncluded}
-use Rattle.dia_rules.proofs.Members.{IsIn, in_at, in_contains, contains_in}
-use Rattle.dia_rules.proofs.SelectedCommands.{Choice, NoChoice, choose, Reads, reads, is_of_errors, no_app_named, one_command, command_rules}
+use Rattle.dia_valid.proofs.Members.{IsIn, in_at, in_contains, contains_in}
+use Rattle.dia_valid.proofs.SelectedCommands.{Choice, NoChoice, choose, Reads, reads, is_of_errors, no_app_named, one_command, command_rules}
 use Rattle.dia_compat.proofs.FitInSecond.{body}
 
 -- ---- what B selects for a message of A's command is wanted

@@ -7,19 +7,19 @@ use Rattle.dia_book.specs.declared.DefHead.{DefHead}
 use Rattle.dia_book.specs.declared.DefHead.TheVariants.{Group, Command, Error}
 use Rattle.dia_book.specs.Dictionary.{Dictionary, DictEntry, PlainDefinition, IsDictionary}
 use Rattle.dia_check.specs.declared.Unknown.{Unknown}
-use Rattle.dia_check.specs.Valid.{known}
+use Rattle.dia_valid.specs.Valid.{known}
 use Rattle.dia_compat.specs.TableText.{PlainTable}
 use Rattle.dia_compat.specs.declared.checking.PairKind.{PairKind}
 use Rattle.dia_compat.specs.declared.checking.PairKind.TheVariants as kind
 use Rattle.dia_compat.specs.declared.checking.Test.{Test}
 use Rattle.dia_compat.specs.declared.checking.Test.TheVariants.{N1, N2, N3, N4, N5, N6, N7, N8, N9, N10}
 use Rattle.dia_compat.specs.Below.{IsAboveZero, IsCoveredAlone, IsCovered, IsKnown, Passes, DefBelow}
-use Rattle.dia_rules.specs.Rules.{HasRule, IsListed, HasWildcard}
+use Rattle.dia_valid.specs.Rules.{HasRule, IsListed, HasWildcard}
 use Rattle.dia_compat.specs.Closed.{NamesEntry, NamesCommand, IsPairKey, IsWanted, error, same_app, no_app, both_none, IsServed, CommandPair, CommandTest, BothGrouped, AvpTest, IsClosed}
 use Rattle.dia_compat.specs.Proposed.{WantsPair, IsProposed, by_command, by_group, AreBeside, AreCommandPairs, IsProposal, ListsAll, IsLeast}
-use Rattle.dia_rules.proofs.Members.{IsIn, in_at, in_contains, contains_in, in_left, in_right, in_append}
+use Rattle.dia_valid.proofs.Members.{IsIn, in_at, in_contains, contains_in, in_left, in_right, in_append}
 use Rattle.dia_compat.proofs.FitInSecond.{known_entry, entry_known, one_entry, has_group, pair_of}
-use Rattle.dia_rules.proofs.SelectedCommands.{one_command}
+use Rattle.dia_valid.proofs.SelectedCommands.{one_command}
 use Rattle.dia_compat.proofs.IncludedMessages.{pair_tests, tenth}
 
 -- a pair of names

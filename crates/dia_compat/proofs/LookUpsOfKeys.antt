@@ -19,14 +19,14 @@ use Rattle.dia_book.proofs.Members.{position-is_some, at_map, into_map}
 use Rattle.dia_book.specs.Dictionary.{Dictionary, DictEntry, PlainDefinition, IsDictionary, entry_of}
 use Rattle.dia_check.specs.declared.Unknown.{Unknown}
 use Rattle.dia_check.specs.declared.Unknown.TheVariants.{Kept, Refused}
-use Rattle.dia_check.specs.Valid.{known}
+use Rattle.dia_valid.specs.Valid.{known}
 use Rattle.dia_compat.specs.TableText.{PlainTable}
 use Rattle.dia_compat.specs.Below.{IsCoveredAlone, IsCovered, IsKnown}
 use Rattle.dia_compat.specs.Closed.{NamesEntry, NamesCommand, IsPairKey}
 use Rattle.dia_compat.specs.Tests.{is_kept, may_come}
 use Rattle.dia_compat.specs.PairTests.{NamePair, entry_named, command_named, key_named, pairs_key, is_must_not, may_be_clear, is_octets, is_alone, is_paired, is_covered, uncovered_keys, stranger_fits, strangers_fit}
 use Rattle.dia_compat.specs.Sides.{Sides, Compared}
-use Rattle.dia_rules.proofs.Members.{IsIn, in_at, at_in, in_contains, contains_in, any_in, in_any, in_filter, into_filter}
+use Rattle.dia_valid.proofs.Members.{IsIn, in_at, at_in, in_contains, contains_in, any_in, in_any, in_filter, into_filter}
 use Rattle.dia_compat.proofs.FitInSecond.{known_entry, entry_known}
 use Rattle.dia_compat.proofs.SetsOfNames.{get_none}
 use Rattle.dia_compat.proofs.DecidedTests.{all_in_decides, implied, unless}

@@ -15,23 +15,23 @@ use Rattle.dia_book.specs.declared.DRule.{DRule}
 use Rattle.dia_book.specs.Dictionary.{Dictionary, DictEntry, PlainDefinition, IsDictionary, definitions, groups}
 use Rattle.dia_book.proofs.Members.{at_filter_map, position-is_some}
 use Rattle.dia_check.specs.declared.Unknown.{Unknown}
-use Rattle.dia_check.specs.Valid.{known}
+use Rattle.dia_valid.specs.Valid.{known}
 use Rattle.dia_compat.specs.declared.proposing.naming.NamedCommands.{NamedCommands}
 use Rattle.dia_compat.specs.declared.proposing.reaching.Reached.{Reached}
 use Rattle.dia_compat.specs.Sides.{Sides}
 use Rattle.dia_compat.specs.TableText.{plain_pair}
 use Rattle.dia_compat.specs.Below.{IsAboveZero, IsKnown, IsCoveredAlone}
-use Rattle.dia_rules.specs.Rules.{HasRule, IsListed, HasWildcard}
+use Rattle.dia_valid.specs.Rules.{HasRule, IsListed, HasWildcard}
 use Rattle.dia_compat.specs.Closed.{NamesEntry, NamesCommand}
 use Rattle.dia_compat.specs.Proposed.{WantsPair, IsProposed, by_command, by_group, AreCommandPairs, AreAvpPairs}
 use Rattle.dia_compat.specs.ReachedKeys.{has, Waits, IsShared, Admits, Wants, Follows, root, in_group}
 use Rattle.dia_compat.specs.PairTests.{command_named}
 use Rattle.dia_compat.specs.WantedNames.{or_alone, wanted_names, names_beside}
 use Rattle.dia_compat.specs.NamedCommands.{shared_pair, Same, Adds, AddsOnce, name_at, AreRoots, NamedSoFar}
-use Rattle.dia_rules.proofs.Members.{IsIn, in_at, at_in, in_contains, contains_in, in_left, in_right, in_append, in_any, any_in, in_filter_map}
+use Rattle.dia_valid.proofs.Members.{IsIn, in_at, at_in, in_contains, contains_in, in_left, in_right, in_append, in_any, any_in, in_filter_map}
 use Rattle.dia_compat.proofs.FitInSecond.{known_entry, entry_known}
-use Rattle.dia_rules.proofs.SelectedCommands.{one_command}
-use Rattle.dia_rules.proofs.Searches.{found_or_not, Found, NotFound}
+use Rattle.dia_valid.proofs.SelectedCommands.{one_command}
+use Rattle.dia_valid.proofs.Searches.{found_or_not, Found, NotFound}
 use Rattle.dia_compat.proofs.ReachedKeys.{is_known, rest_then}
 use Rattle.dia_compat.proofs.WantedDefinitions.{are_beside, filter_map_order}
 

@@ -7,8 +7,8 @@ use Rattle.dia_check.specs.declared.Unknown.{Unknown}
 use Rattle.dia_compat.specs.TableText.{PlainTable}
 use Rattle.dia_compat.specs.Closed.{IsWanted, error, same_app, no_app, both_none, other_app}
 use Rattle.dia_compat.specs.Proposed.{IsProposed, AreBeside, AreCommandPairs, AreAvpPairs, IsProposal}
-use Rattle.dia_rules.proofs.Members.{IsIn, at_in, in_contains, contains_in}
-use Rattle.dia_rules.proofs.SelectedCommands.{one_command}
+use Rattle.dia_valid.proofs.Members.{IsIn, at_in, in_contains, contains_in}
+use Rattle.dia_valid.proofs.SelectedCommands.{one_command}
 
 abbrev NamePair : Type 0
 NamePair = List ℕ × List ℕ

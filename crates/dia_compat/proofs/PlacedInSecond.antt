@@ -13,15 +13,15 @@ use Rattle.dia_book.proofs.Members.{AreApart, AreApart-filter}
 use Rattle.dia_book.specs.Dictionary.{Dictionary, AreRules, is_fixed}
 use Rattle.dia_check.specs.declared.Unknown.{Unknown}
 use Rattle.dia_check.specs.declared.Unknown.TheVariants.{Kept}
-use Rattle.dia_check.specs.Valid.{InBounds, fixed_rules, loose_rules, is_listed, is_wildcard, has_wildcard, MayBeLoose, counted, Placed}
-use Rattle.dia_check.proofs.LongestRuns.{AreDistinct}
+use Rattle.dia_valid.specs.Valid.{InBounds, fixed_rules, loose_rules, is_listed, is_wildcard, has_wildcard, MayBeLoose, counted, Placed}
+use Rattle.dia_valid.proofs.LongestRuns.{AreDistinct}
 use Rattle.dia_compat.specs.declared.checking.Test.TheVariants.{N1, N2, N3, N5, N6, N7, N8}
 use Rattle.dia_compat.specs.Below.{MaxWithin, FixedWithin, IsAboveZero, IsKnown, DefBelow}
-use Rattle.dia_rules.specs.Rules.{HasRule, HasWildcard}
+use Rattle.dia_valid.specs.Rules.{HasRule, HasWildcard}
 use Rattle.dia_compat.proofs.RunsOfFixedRules.{in_bounds, max_within, Split, split}
-use Rattle.dia_rules.proofs.Members.{IsIn, in_all, at_in, in_contains, contains_in, all_in, in_filter, into_filter, any_in, in_any}
-use Rattle.dia_rules.proofs.RulesOfKeys.{IsRunKey, all_middle, listed, is_listed_by, times, not_same, runs_none, runs_some}
-use Rattle.dia_rules.proofs.Members.{in_right, in_append, count_append, count_none, count_mono, count_in, none_or_some}
+use Rattle.dia_valid.proofs.Members.{IsIn, in_all, at_in, in_contains, contains_in, all_in, in_filter, into_filter, any_in, in_any}
+use Rattle.dia_valid.proofs.RulesOfKeys.{IsRunKey, all_middle, listed, is_listed_by, times, not_same, runs_none, runs_some}
+use Rattle.dia_valid.proofs.Members.{in_right, in_append, count_append, count_none, count_mono, count_in, none_or_some}
 
 -- ---- rules
 

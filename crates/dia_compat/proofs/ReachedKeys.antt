@@ -12,18 +12,18 @@ use Rattle.dia_book.proofs.SameKeys.{same_key-refl, same_key-true}
 use Rattle.dia_book.proofs.Members.{into_map}
 use Rattle.dia_book.specs.declared.DRule.{DRule}
 use Rattle.dia_book.specs.Dictionary.{Dictionary, DictEntry, PlainDefinition, definitions, entry_of}
-use Rattle.dia_check.specs.Valid.{known, is_listed}
+use Rattle.dia_valid.specs.Valid.{known, is_listed}
 use Rattle.dia_compat.specs.declared.proposing.reaching.Reached.{Reached}
 use Rattle.dia_compat.specs.Sides.{Sides}
-use Rattle.dia_rules.specs.Rules.{rules_in, IsListed, HasWildcard}
+use Rattle.dia_valid.specs.Rules.{rules_in, IsListed, HasWildcard}
 use Rattle.dia_compat.specs.Below.{IsAboveZero, IsKnown}
 use Rattle.dia_compat.specs.ReachedKeys.{has, Waits, IsShared, IsAllowedBy, IsAllowed, Admits, Wants, Inserts, potential, Grew}
 use Rattle.dia_compat.specs.ReachedKeys.{ComesTo, ComesToAll, Follows, root, in_group, IsSharedGroup, AllWait, AreRest, Sorts}
-use Rattle.dia_rules.proofs.Members.{IsIn, in_at, at_in, in_contains, contains_in, in_left, in_right, in_append, into_filter, count_cons, count_mono}
-use Rattle.dia_rules.proofs.RulesOfKeys.{listed, is_listed_by}
+use Rattle.dia_valid.proofs.Members.{IsIn, in_at, at_in, in_contains, contains_in, in_left, in_right, in_append, into_filter, count_cons, count_mono}
+use Rattle.dia_valid.proofs.RulesOfKeys.{listed, is_listed_by}
 use Rattle.dia_compat.proofs.FitInSecond.{known_entry}
-use Rattle.dia_rules.proofs.Members.{some_of}
-use Rattle.dia_rules.proofs.KnownKeys.{known_by_entry}
+use Rattle.dia_valid.proofs.Members.{some_of}
+use Rattle.dia_valid.proofs.KnownKeys.{known_by_entry}
 
 -- ---- keys that are known
 

@@ -4,11 +4,11 @@ use Rattle.std.specs.Prelude.{IfSome}
 use Rattle.std.specs.List.{AllByRecursion}
 use Rattle.dia_wire.specs.declared.Key.{Key}
 use Rattle.dia_book.specs.declared.DRule.{DRule}
-use Rattle.dia_check.specs.Valid.{InBounds, Runs}
-use Rattle.dia_check.proofs.LongestRuns.{IsNewKey, AreDistinct}
+use Rattle.dia_valid.specs.Valid.{InBounds, Runs}
+use Rattle.dia_valid.proofs.LongestRuns.{IsNewKey, AreDistinct}
 use Rattle.dia_compat.specs.Below.{MaxWithin, Within, FixedWithin}
-use Rattle.dia_rules.proofs.RulesOfKeys.{IsRunKey, all_middle}
-use Rattle.dia_rules.proofs.Members.{in_all, all_map}
+use Rattle.dia_valid.proofs.RulesOfKeys.{IsRunKey, all_middle}
+use Rattle.dia_valid.proofs.Members.{in_all, all_map}
 
 -- ---- bounds
 

@@ -12,8 +12,8 @@ use Rattle.dia_book.specs.declared.DefHead.TheVariants.{Group, Command, Error}
 use Rattle.dia_book.specs.Dictionary.{Dictionary, PlainDefinition, groups, definitions, selected, is_command, same_class}
 use Rattle.dia_book.proofs.Members.{list_any-none_at, position-is_some}
 use Rattle.dia_compat.specs.PairTests.{names_app, is_of_app}
-use Rattle.dia_rules.proofs.Members.{any_in, in_any, in_at, at_in}
-use Rattle.dia_rules.proofs.SelectedCommands.{command_at}
+use Rattle.dia_valid.proofs.Members.{any_in, in_any, in_at, at_in}
+use Rattle.dia_valid.proofs.SelectedCommands.{command_at}
 
 module _ (d : Dictionary) (code : ℕ) (class : Class) (app : ℕ) where
   abbrev own : PlainDefinition → Bool

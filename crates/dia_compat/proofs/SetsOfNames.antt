@@ -10,7 +10,7 @@ use Rattle.std.proofs.lemmas.Slice.Eq.{bytes_eq-Decides}
 use Rattle.indexmap.specs.IndexSet.{insert_key}
 use Rattle.dia_book.proofs.Lists.{position-map, list_any-map}
 use Rattle.dia_book.proofs.Members.{into_map}
-use Rattle.dia_rules.proofs.Members.{any_in, at_in}
+use Rattle.dia_valid.proofs.Members.{any_in, at_in}
 
 abbrev pub same_text : Bor (List ℕ) → Bor (List ℕ) → Bool
 same_text a b = bytes_eq a.now b.now

@@ -17,7 +17,7 @@ use Rattle.dia_compat.specs.declared.checking.Test.{Test}
 use Rattle.dia_compat.specs.TableText.{plain_pair}
 use Rattle.dia_compat.specs.PairTests.{NamePair, plain_names, is_pair}
 use Rattle.dia_compat.specs.FirstFailures.{IsFirstFailed, IsFirstPair}
-use Rattle.dia_rules.proofs.Members.{any_in, at_in}
+use Rattle.dia_valid.proofs.Members.{any_in, at_in}
 use Rattle.dia_compat.proofs.SetsOfNames.{taken_at}
 
 abbrev pub Texts : Type 0

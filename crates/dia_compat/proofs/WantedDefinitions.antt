@@ -19,8 +19,8 @@ use Rattle.dia_compat.specs.Closed.{HasCode, NamesApp, IsWanted, error, same_app
 use Rattle.dia_compat.specs.Proposed.{AreBeside}
 use Rattle.dia_compat.specs.PairTests.{names_app, wants_app, is_wanted}
 use Rattle.dia_compat.specs.WantedNames.{wanted_name, wanted_names, or_alone, names_beside}
-use Rattle.dia_rules.proofs.Members.{IsIn, in_at, at_in, in_contains, contains_in, any_in, in_any, all_of, in_filter_map}
-use Rattle.dia_rules.proofs.SelectedCommands.{Reads, reads, is_of_code}
+use Rattle.dia_valid.proofs.Members.{IsIn, in_at, at_in, in_contains, contains_in, any_in, in_any, all_of, in_filter_map}
+use Rattle.dia_valid.proofs.SelectedCommands.{Reads, reads, is_of_code}
 
 -- ---- lists of pairs
 

@@ -13,7 +13,7 @@ use Rattle.dia_compat.specs.WrittenTable.{AreNames, IsWritable}
 use Rattle.dia_compat.specs.Closed.{NamesEntry}
 use Rattle.dia_compat.specs.Proposed.{AreBeside, AreCommandPairs, IsProposal}
 use Rattle.dia_compat.proofs.CommandPairs.{wanted_in}
-use Rattle.dia_rules.proofs.Members.{all_in, contains_in, IsIn, all_map, all_append}
+use Rattle.dia_valid.proofs.Members.{all_in, contains_in, IsIn, all_map, all_append}
 
 abbrev NamePair : Type 0
 NamePair = List ℕ × List ℕ

@@ -7,10 +7,10 @@ use Rattle.dia_book.specs.declared.DRule.{DRule}
 use Rattle.dia_book.specs.Dictionary.{Dictionary, DictEntry}
 use Rattle.dia_check.specs.declared.Unknown.{Unknown}
 use Rattle.dia_check.specs.declared.Unknown.TheVariants.{Kept}
-use Rattle.dia_check.specs.Valid.{known, fixed_rules}
+use Rattle.dia_valid.specs.Valid.{known, fixed_rules}
 use Rattle.dia_compat.specs.declared.checking.Test.{Test}
 use Rattle.dia_compat.specs.declared.checking.Test.TheVariants.{N1, N2, N3, N4, N5, N6, N7, N8, N9, N10}
-use Rattle.dia_rules.specs.Rules.{HasRule, IsListed, HasWildcard}
+use Rattle.dia_valid.specs.Rules.{HasRule, IsListed, HasWildcard}
 
 -- the bounds of one rule lie within those of another
 abbrev pub MaxWithin : Option ℕ → Option ℕ → Type 0

@@ -9,15 +9,15 @@ use Rattle.dia_book.specs.declared.DefHead.{DefHead}
 use Rattle.dia_book.specs.declared.DefHead.TheVariants.{Group, Command, Error}
 use Rattle.dia_book.specs.Dictionary.{Dictionary, DictEntry, PlainDefinition}
 use Rattle.dia_check.specs.declared.Unknown.{Unknown}
-use Rattle.dia_check.specs.Valid.{AllowsP}
+use Rattle.dia_valid.specs.Valid.{AllowsP}
 use Rattle.dia_compat.specs.declared.checking.Answer.{Answer}
 use Rattle.dia_compat.specs.declared.checking.Answer.TheVariants.{Yes, No}
 use Rattle.dia_compat.specs.declared.checking.PairKind.{PairKind}
 use Rattle.dia_compat.specs.declared.checking.PairKind.TheVariants as kind
 use Rattle.dia_compat.specs.declared.checking.Test.{Test}
 use Rattle.dia_compat.specs.declared.checking.Test.TheVariants.{N1, N2, N3, N4, N5, N6, N7, N8, N9, N10}
-pub use Rattle.dia_rules.specs.Commands.{HasCode, IsError, NamesApp}
-pub use Rattle.dia_rules.specs.Inclusion.{IsBeside, IsIncluded}
+pub use Rattle.dia_valid.specs.Commands.{HasCode, IsError, NamesApp}
+pub use Rattle.dia_valid.specs.Inclusion.{IsBeside, IsIncluded}
 use Rattle.dia_compat.specs.TableText.{PlainTable}
 use Rattle.dia_compat.specs.Below.{Passes}
 

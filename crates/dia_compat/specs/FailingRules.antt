@@ -1,7 +1,7 @@
 -- What each rule of a definition is asked by a test, and which rules those are.
 use Rattle.std.specs.Prelude.{List, Option}
 use Rattle.dia_book.specs.declared.DRule.{DRule}
-use Rattle.dia_check.specs.Valid.{is_listed}
+use Rattle.dia_valid.specs.Valid.{is_listed}
 use Rattle.dia_compat.specs.declared.reasons.Failing.{Failing}
 use Rattle.dia_compat.specs.declared.reasons.Failing.TheVariants as failing
 use Rattle.dia_compat.specs.declared.comparing.failing_rules.RuleTest.{RuleTest}

@@ -9,7 +9,7 @@ use Rattle.dia_book.specs.declared.MRule.TheVariants.{Any as AnyM}
 use Rattle.dia_book.specs.declared.DRule.{DRule}
 use Rattle.dia_book.specs.Keys.{same_key}
 use Rattle.dia_book.specs.Dictionary.{Dictionary, DictEntry, PlainDefinition, lists_key, is_fixed, group_place}
-use Rattle.dia_check.specs.Valid.{is_listed, is_wildcard, has_wildcard}
+use Rattle.dia_valid.specs.Valid.{is_listed, is_wildcard, has_wildcard}
 use Rattle.dia_compat.specs.declared.checking.Answer.{Answer}
 use Rattle.dia_compat.specs.declared.checking.Answer.TheVariants.{Yes, No}
 use Rattle.dia_compat.specs.declared.checking.PairKind.{PairKind}
@@ -23,7 +23,7 @@ use Rattle.dia_check.specs.declared.Unknown.{Unknown}
 use Rattle.dia_compat.specs.TableText.{PlainTable}
 use Rattle.dia_compat.specs.Sides.{Sides, Compared, compared}
 use Rattle.dia_compat.specs.Tests.{is_within, is_max_within, is_above_zero, is_kept, may_come, leads, let_in_rule, covered_rule, listed_rule, of_key}
-use Rattle.dia_rules.specs.Rules.{rules_in}
+use Rattle.dia_valid.specs.Rules.{rules_in}
 use Rattle.dia_compat.specs.PairTests.{NamePair, entry_named, command_named, is_covered, uncovered_keys, stranger_fits}
 use Rattle.dia_compat.specs.PairTests.{same_code_and_class, is_proxiable, serves, is_ready}
 

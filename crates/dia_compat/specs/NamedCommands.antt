@@ -3,7 +3,7 @@ use Rattle.std.specs.Prelude.{◌≡◌, ℕ, ◌⊎◌, if◌then◌else◌, tr
 use Rattle.std.specs.Option.{option_map, option_map_or}
 use Rattle.dia_wire.specs.declared.Key.{Key}
 use Rattle.dia_book.specs.Dictionary.{Dictionary, DictEntry, PlainDefinition}
-use Rattle.dia_check.specs.Valid.{known}
+use Rattle.dia_valid.specs.Valid.{known}
 use Rattle.dia_compat.specs.declared.proposing.naming.NamedCommands.{NamedCommands}
 use Rattle.dia_compat.specs.declared.proposing.reaching.Reached.{Reached}
 use Rattle.dia_compat.specs.Sides.{Sides}

@@ -16,12 +16,12 @@ use Rattle.dia_book.specs.declared.DefHead.TheVariants.{Group, Command, Error}
 use Rattle.dia_book.specs.declared.DRule.{DRule}
 use Rattle.dia_book.specs.Keys.{same_key}
 use Rattle.dia_book.specs.Dictionary.{Dictionary, DictEntry, PlainDefinition, definitions, entry_of, same_class, is_command}
-use Rattle.dia_check.specs.Valid.{known, is_listed, has_wildcard}
+use Rattle.dia_valid.specs.Valid.{known, is_listed, has_wildcard}
 use Rattle.dia_compat.specs.declared.checking.Test.{Test}
 use Rattle.dia_compat.specs.declared.checking.Test.TheVariants.{N1, N2, N3, N4, N5, N6, N7, N8, N9, N10}
 use Rattle.dia_compat.specs.Sides.{Sides, Compared}
 use Rattle.dia_compat.specs.Tests.{is_kept, is_above_zero, holds_key, may_come}
-use Rattle.dia_rules.specs.Rules.{rules_in, wildcard_of}
+use Rattle.dia_valid.specs.Rules.{rules_in, wildcard_of}
 use Rattle.dia_compat.specs.Tests.{begins_with, common_rule, let_in_rule, covered_rule, own_rule, bounded_wildcard, required_wildcard}
 
 abbrev pub NamePair : Type 0

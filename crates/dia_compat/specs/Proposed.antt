@@ -4,12 +4,12 @@ use Rattle.dia_wire.specs.declared.Key.{Key}
 use Rattle.dia_book.specs.declared.DRule.{DRule}
 use Rattle.dia_book.specs.Dictionary.{Dictionary, DictEntry, PlainDefinition}
 use Rattle.dia_check.specs.declared.Unknown.{Unknown}
-use Rattle.dia_check.specs.Valid.{known}
+use Rattle.dia_valid.specs.Valid.{known}
 use Rattle.dia_compat.specs.declared.proposing.ProposeFault.{ProposeFault}
 use Rattle.dia_compat.specs.declared.proposing.ProposeFault.TheVariants.{UnknownCommand, NoMemory}
 use Rattle.dia_compat.specs.TableText.{PlainTable}
 use Rattle.dia_compat.specs.Below.{IsAboveZero, IsCoveredAlone, IsKnown}
-use Rattle.dia_rules.specs.Rules.{HasRule, IsListed, HasWildcard}
+use Rattle.dia_valid.specs.Rules.{HasRule, IsListed, HasWildcard}
 use Rattle.dia_compat.specs.Closed.{NamesEntry, NamesCommand, IsWanted, BothGrouped, IsClosed}
 
 -- a definition of A wants a pair for a key that B knows

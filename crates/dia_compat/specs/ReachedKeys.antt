@@ -5,11 +5,11 @@ use Rattle.dia_wire.specs.declared.Key.{Key}
 use Rattle.dia_book.specs.Keys.{same_key}
 use Rattle.dia_book.specs.declared.DRule.{DRule}
 use Rattle.dia_book.specs.Dictionary.{Dictionary, DictEntry, PlainDefinition}
-use Rattle.dia_check.specs.Valid.{known}
+use Rattle.dia_valid.specs.Valid.{known}
 use Rattle.dia_compat.specs.declared.proposing.reaching.Reached.{Reached}
 use Rattle.dia_compat.specs.Sides.{Sides}
 use Rattle.dia_compat.specs.Below.{IsAboveZero, IsKnown}
-use Rattle.dia_rules.specs.Rules.{HasRule, IsListed, HasWildcard}
+use Rattle.dia_valid.specs.Rules.{HasRule, IsListed, HasWildcard}
 use Rattle.dia_compat.specs.Closed.{BothGrouped}
 
 -- it has come to the AVP with this key

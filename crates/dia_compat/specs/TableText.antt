@@ -7,7 +7,7 @@ use Rattle.std.specs.Str.Lines.{lines}
 pub use Rattle.dia_policy.specs.Limits.{max_table}
 pub use Rattle.dia_terms.specs.Limits.{max_name}
 pub use Rattle.dia_terms.specs.Names.{is_run_byte, is_name_run}
-pub use Rattle.dia_rules.specs.Inclusion.{PlainTable}
+pub use Rattle.dia_valid.specs.Inclusion.{PlainTable}
 use Rattle.dia_compat.specs.declared.table.Table.{Table}
 use Rattle.dia_compat.specs.declared.table.TableFault.{TableFault}
 use Rattle.dia_compat.specs.declared.table.TableFault.TheVariants as fault

@@ -8,9 +8,9 @@ use Rattle.dia_book.specs.Keys.{same_key}
 use Rattle.dia_book.specs.Dictionary.{entry_of, is_fixed}
 use Rattle.dia_check.specs.declared.Unknown.{Unknown}
 use Rattle.dia_check.specs.declared.Unknown.TheVariants.{Kept, Refused}
-use Rattle.dia_check.specs.Valid.{is_listed}
+use Rattle.dia_valid.specs.Valid.{is_listed}
 use Rattle.dia_compat.specs.Sides.{Sides}
-use Rattle.dia_rules.specs.Rules.{rule_of, wildcard_of}
+use Rattle.dia_valid.specs.Rules.{rule_of, wildcard_of}
 
 -- ---- bounds
 

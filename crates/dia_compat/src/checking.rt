@@ -1,6 +1,6 @@
 //! Whether a table shows inclusion, and whether a message is valid under the first dictionary alone.
 ghost use Rattle.std.specs.Prelude.{◌≡◌, ◌↔◌, [], IfOk, IsTrue};
-ghost use Rattle.dia_check.specs.Valid.{IsValid};
+ghost use Rattle.dia_valid.specs.Valid.{IsValid};
 ghost use Rattle.dia_compat.specs.TableText.{plain_table};
 ghost use Rattle.dia_compat.specs.Closed.{IsIncluded, IsTableAnswer};
 ghost use Rattle.dia_compat.specs.Failings.{AreFailingsFor};

@@ -5,7 +5,7 @@ ghost use Rattle.dia_book.specs.declared.DRule.{DRule as AnyRule};
 ghost use Rattle.dia_book.specs.Dictionary.{AreRules, Dictionary, IsDictionary};
 ghost use Rattle.dia_check.specs.declared.Unknown.{Unknown as AnyPolicy};
 ghost use Rattle.dia_check.specs.declared.Levels.{Levels as AnyLevels};
-ghost use Rattle.dia_check.specs.Valid.{AllFit, Placed};
+ghost use Rattle.dia_valid.specs.Valid.{AllFit, Placed};
 ghost use Rattle.dia_compat.specs.TableText.{PlainTable, IsTable, IsTableFault};
 ghost use Rattle.dia_compat.specs.WrittenTable.{IsWritable};
 ghost use Rattle.dia_compat.specs.Below.{DefBelow};

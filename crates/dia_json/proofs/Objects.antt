@@ -18,7 +18,7 @@ use Rattle.dia_dict.specs.Dictionary.{Dictionary, DictEntry, PlainDefinition, de
 use Rattle.dia_dict.specs.Keys.{same_key}
 use Rattle.dia_dict.proofs.Lists.{position-within}
 use Rattle.dia_check.specs.declared.Subject.TheVariants.{Avp}
-use Rattle.dia_check.specs.Valid.{class_of, known}
+use Rattle.dia_valid.specs.Valid.{class_of, known}
 use Rattle.dia_io.specs.declared.Exit.{Exit}
 use Rattle.dia_run.specs.Outcome.{listing_exit}
 use Rattle.dia_run.proofs.KnownAvps.{group_known}

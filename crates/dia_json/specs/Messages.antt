@@ -13,7 +13,7 @@ use Rattle.dia_data.specs.Leaf.{IsLeaf}
 use Rattle.dia_data.specs.Number as numbers
 use Rattle.dia_data.specs.Shown.{address, hex_byte}
 use Rattle.dia_dict.specs.Dictionary.{Dictionary, DictEntry, definitions, selected}
-use Rattle.dia_check.specs.Valid.{class_of, known}
+use Rattle.dia_valid.specs.Valid.{class_of, known}
 use Rattle.dia_io.specs.declared.Exit.{Exit}
 use Rattle.dia_run.specs.Listing.{IsGroup, Level, behind, inside}
 use Rattle.dia_run.specs.Outcome.{listing_exit}

@@ -3,7 +3,7 @@
 ghost use Rattle.std.specs.Prelude.{◌≡◌, ◌<◌, ◌^◌, ◌++◌, ◌∷◌, List, Bool, drop, length, take, true, IfOk, OnOk, string_bytes};
 ghost use Rattle.serde_json.specs.Data.{Members};
 ghost use Rattle.serde_json.specs.Written.{members_text};
-ghost use Rattle.dia_check.specs.Valid.{class_of};
+ghost use Rattle.dia_valid.specs.Valid.{class_of};
 ghost use Rattle.dia_dict.specs.Dictionary.{selected};
 ghost use Rattle.dia_run.specs.Outcome.{listing_exit};
 ghost use Rattle.dia_refused_json.specs.Members.{json_line};

@@ -12,7 +12,7 @@ use Rattle.dia_book.specs.declared.DRule.{DRule}
 use Rattle.dia_book.specs.declared.DefHead.TheVariants.{Error}
 use Rattle.dia_book.specs.declared.Pxy.TheVariants.{Either}
 use Rattle.dia_book.specs.Dictionary.{PlainDefinition, definitions}
-use Rattle.dia_check.specs.Valid.{Placed, MayBeLoose, is_listed, loose_rules, has_wildcard}
+use Rattle.dia_valid.specs.Valid.{Placed, MayBeLoose, is_listed, loose_rules, has_wildcard}
 use Rattle.dia_peer.specs.declared.config.Ip.{Ip}
 use Rattle.dia_peer.specs.declared.event.Cause.{Cause}
 use Rattle.dia_peer.specs.Core.{PlainConfig, IsConfig}

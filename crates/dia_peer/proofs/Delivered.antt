@@ -38,7 +38,7 @@ use Rattle.dia_wire.specs.declared.Header.{Header}
 use Rattle.dia_wire.specs.declared.Key.{Key}
 use Rattle.dia_wire.specs.Number.{number}
 use Rattle.dia_wire.specs.Wire.{PlainAvp, IsHead, IsMessage, MessageWithZeros}
-use Rattle.dia_check.specs.Valid.{HasR}
+use Rattle.dia_valid.specs.Valid.{HasR}
 use Rattle.dia_peer.specs.declared.kept_requests.Ids.{Ids}
 use Rattle.dia_peer.specs.declared.config.Ip.{Ip}
 use Rattle.dia_peer.specs.declared.config.App.{App}

@@ -5,7 +5,7 @@ use Rattle.std.proofs.lemmas.List.Sums.{sum_by-cons}
 use Rattle.dia_wire.specs.declared.Key.{Key}
 use Rattle.dia_wire.specs.Number.{number}
 use Rattle.dia_wire.specs.Wire.{PlainAvp, key_of}
-use Rattle.dia_check.specs.Valid.{HasR, HasE, Placed}
+use Rattle.dia_valid.specs.Valid.{HasR, HasE, Placed}
 use Rattle.dia_peer.specs.declared.kept_requests.Ids.{Ids}
 use Rattle.dia_peer.specs.Messages.{HasResult, IsGood}
 use Rattle.dia_peer.specs.Incoming.{is_result_code}

@@ -9,7 +9,7 @@ use Rattle.dia_wire.specs.Wire.{PlainAvp}
 use Rattle.dia_dict.specs.Base.{base}
 use Rattle.dia_check.specs.declared.Unknown.TheVariants.{Kept}
 use Rattle.dia_check.specs.declared.Levels.TheVariants.{Any}
-use Rattle.dia_check.specs.Valid.{IsValid, HasR, HasE}
+use Rattle.dia_valid.specs.Valid.{IsValid, HasR, HasE}
 use Rattle.dia_check.specs.Faults.{HasLength}
 use Rattle.dia_peer.specs.declared.kept_requests.Ids.{Ids}
 use Rattle.dia_peer.specs.declared.event.Event.{Event}

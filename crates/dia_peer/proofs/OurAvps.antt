@@ -3,7 +3,7 @@ use Rattle.std.proofs.Common.{ℕ, List, [], ◌∷◌, arith, inl, refl}
 use Rattle.dia_dict.specs.Base.{base}
 use Rattle.dia_book.specs.declared.DRule.{DRule}
 use Rattle.dia_check.specs.declared.Unknown.TheVariants.{Kept}
-use Rattle.dia_check.specs.Valid.{Fits, FitsBy, IsLevel}
+use Rattle.dia_valid.specs.Valid.{Fits, FitsBy, IsLevel}
 use Rattle.dia_peer.specs.declared.config.Kind.{Kind}
 use Rattle.dia_peer.specs.declared.config.Kind.TheVariants.{Auth, Acct}
 use Rattle.dia_peer.specs.declared.config.Ip.{Ip}

@@ -7,7 +7,7 @@ use Rattle.dia_dict.specs.Base.{base}
 use Rattle.dia_book.specs.Dictionary.{definitions, selected}
 use Rattle.dia_check.specs.declared.Unknown.TheVariants.{Kept}
 use Rattle.dia_check.specs.declared.Levels.TheVariants.{Any}
-use Rattle.dia_check.specs.Valid.{IsValid, HasR, HasE, HasT, class_of, AllowsP, Placed, Fits}
+use Rattle.dia_valid.specs.Valid.{IsValid, HasR, HasE, HasT, class_of, AllowsP, Placed, Fits}
 use Rattle.dia_peer.specs.declared.kept_requests.Ids.{Ids}
 use Rattle.dia_peer.specs.Core.{PlainConfig, IsConfig, Sent}
 use Rattle.dia_peer.specs.Messages.{header_of, IsOurs, is_cer, is_cea, is_dwr, is_dwa, is_dpr, is_dpa}

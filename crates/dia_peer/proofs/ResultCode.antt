@@ -14,7 +14,7 @@ use Rattle.dia_book.specs.declared.DRule.{DRule}
 use Rattle.dia_book.specs.Dictionary.{PlainDefinition, definitions, selected}
 use Rattle.dia_check.specs.declared.Unknown.TheVariants.{Kept}
 use Rattle.dia_check.specs.declared.Levels.TheVariants.{Any}
-use Rattle.dia_check.specs.Valid.{IsValid, HasR, HasE, Placed, class_of}
+use Rattle.dia_valid.specs.Valid.{IsValid, HasR, HasE, Placed, class_of}
 use Rattle.dia_peer.specs.Incoming.{SaidBy, IsResult, is_result_code}
 use Rattle.dia_peer.proofs.Sets.{IsIn}
 use Rattle.dia_peer.proofs.SpelledMessages.{one_message}

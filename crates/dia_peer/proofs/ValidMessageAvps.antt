@@ -11,7 +11,7 @@ use Rattle.dia_dict.specs.Base.{base}
 use Rattle.dia_book.specs.declared.DRule.{DRule}
 use Rattle.dia_check.specs.declared.Unknown.TheVariants.{Kept}
 use Rattle.dia_check.specs.declared.Levels.TheVariants.{Any}
-use Rattle.dia_check.specs.Valid.{IsValid, HasR, HasE, Fits, FitsBy, IsLevel}
+use Rattle.dia_valid.specs.Valid.{IsValid, HasR, HasE, Fits, FitsBy, IsLevel}
 use Rattle.dia_peer.specs.declared.config.Kind.TheVariants.{Auth, Acct}
 use Rattle.dia_peer.specs.declared.kept_requests.Ids.{Ids}
 use Rattle.dia_peer.specs.Messages.{IsGood, IsOurCode}

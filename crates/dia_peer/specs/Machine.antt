@@ -4,7 +4,7 @@ use Rattle.dia_wire.specs.Wire.{MessageWithZeros}
 use Rattle.dia_dict.specs.Base.{base}
 use Rattle.dia_check.specs.declared.Unknown.TheVariants.{Kept}
 use Rattle.dia_check.specs.declared.Levels.TheVariants.{Any}
-use Rattle.dia_check.specs.Valid.{IsValid}
+use Rattle.dia_valid.specs.Valid.{IsValid}
 use Rattle.dia_peer.specs.declared.codes.TheConstants.{NAME_LIMIT, ADDRESS_LIMIT}
 use Rattle.dia_peer.specs.declared.config.ConfigFault.{ConfigFault}
 use Rattle.dia_peer.specs.declared.config.ConfigFault.TheVariants as fault

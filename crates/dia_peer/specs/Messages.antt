@@ -10,7 +10,7 @@ use Rattle.dia_wire.specs.Wire.{PlainAvp, key_of, SpellsAll, IsMessage, MessageW
 use Rattle.dia_dict.specs.Base.{base}
 use Rattle.dia_check.specs.declared.Unknown.TheVariants.{Kept}
 use Rattle.dia_check.specs.declared.Levels.TheVariants.{Any}
-use Rattle.dia_check.specs.Valid.{IsValid, HasR, HasE}
+use Rattle.dia_valid.specs.Valid.{IsValid, HasR, HasE}
 use Rattle.dia_check.specs.Faults.{HasLength}
 use Rattle.dia_peer.specs.declared.codes.TheConstants.{
   ANSWER,

@@ -6,7 +6,7 @@ ghost use mathlib.Core.Sum.{⊎_set};
 ghost use Rattle.dia_dict.specs.Base.{base};
 ghost use Rattle.dia_check.specs.declared.Unknown.TheVariants.{Kept};
 ghost use Rattle.dia_check.specs.declared.Levels.TheVariants.{Any};
-ghost use Rattle.dia_check.specs.Valid.{IsValid};
+ghost use Rattle.dia_valid.specs.Valid.{IsValid};
 
 use dia_check::{Levels, Refusal, Unknown, check};
 use dia_dict::{Book, IndexedBook, base_book};

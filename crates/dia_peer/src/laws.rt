@@ -5,7 +5,7 @@ ghost use Rattle.dia_wire.specs.Wire.{IsMessage};
 ghost use Rattle.dia_dict.specs.Base.{base};
 ghost use Rattle.dia_check.specs.declared.Unknown.TheVariants.{Kept};
 ghost use Rattle.dia_check.specs.declared.Levels.TheVariants.{Any};
-ghost use Rattle.dia_check.specs.Valid.{IsValid};
+ghost use Rattle.dia_valid.specs.Valid.{IsValid};
 ghost use Rattle.dia_peer.specs.Core.{PlainConfig, PlainCore, IsConfig, Sent};
 ghost use Rattle.dia_peer.specs.Messages.{IsOurs};
 ghost use Rattle.dia_peer.specs.World.{World, Event as AnyEvent, Run, start, Agrees};

@@ -5,7 +5,7 @@ ghost use Rattle.dia_wire.specs.Wire.{IsHead};
 ghost use Rattle.dia_dict.specs.Base.{base};
 ghost use Rattle.dia_check.specs.declared.Unknown.TheVariants.{Kept};
 ghost use Rattle.dia_check.specs.declared.Levels.TheVariants.{Any};
-ghost use Rattle.dia_check.specs.Valid.{IsValid, HasR, HasE};
+ghost use Rattle.dia_valid.specs.Valid.{IsValid, HasR, HasE};
 ghost use Rattle.dia_check.specs.Faults.{HasLength};
 ghost use Rattle.dia_peer.specs.Messages.{IsOurCode, IsReceived};
 ghost use Rattle.dia_peer.specs.Incoming.{received_of};

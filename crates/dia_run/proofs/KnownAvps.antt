@@ -10,7 +10,7 @@ use Rattle.dia_dict.specs.Dictionary.{Dictionary, DictEntry, entry_of}
 use Rattle.dia_dict.specs.Keys.{same_key}
 use Rattle.dia_dict.proofs.Lists.{position-within}
 use Rattle.dia_run.specs.Texts.{line}
-use Rattle.dia_check.specs.Valid.{known}
+use Rattle.dia_valid.specs.Valid.{known}
 use Rattle.dia_run.specs.Listing.{IsGroup, unknown, leaf, avp_columns, AddsAvp, AddsNameAndValue}
 
 plain_format-Grouped : (f : Format) → plain_format f ≡ Grouped → f ≡ format.Grouped

@@ -11,7 +11,7 @@ use Rattle.dia_data.specs.Plain.{PlainFormat}
 use Rattle.dia_data.specs.Shown.{IsValueText}
 use Rattle.dia_ccf.specs.Names.{same_bytes}
 use Rattle.dia_dict.specs.Dictionary.{Dictionary, DictEntry}
-use Rattle.dia_check.specs.Valid.{known}
+use Rattle.dia_valid.specs.Valid.{known}
 use Rattle.dia_dict.proofs.LookUpsByName.{same_bytes-Decides}
 use Rattle.dia_run.specs.Listing.{Level, IsListing, end, bad_length, avp, group, bad_group, IsLeafText, unknown, leaf, IsGroup, behind, inside, avp_line, bad_length_line}
 

@@ -15,7 +15,7 @@ use Rattle.dia_compat.specs.TableText.{PlainTable, IsTable}
 use Rattle.dia_compat.specs.Closed.{NamesCommand}
 use Rattle.dia_compat.specs.Proposed.{AreCommandPairs, IsProposal, IsFirstUnknown}
 use Rattle.dia_compat.specs.WrittenTable.{table_text}
-use Rattle.dia_rules.proofs.Members.{IsIn, contains_in}
+use Rattle.dia_valid.proofs.Members.{IsIn, contains_in}
 use Rattle.dia_compat.proofs.TableLines.{one_table_of, one_fault, fault_or_table}
 use Rattle.dia_compat.proofs.OneAnswer.{one_comparison}
 use Rattle.dia_compat.proofs.OneProposal.{one_proposal}

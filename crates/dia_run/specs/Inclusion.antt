@@ -3,7 +3,7 @@ use Rattle.std.specs.Prelude.{◌≡◌, ℕ, List, Some, Contains, slice_get, �
 use Rattle.dia_dict.specs.Dictionary.{Dictionary, PlainDefinition, definitions}
 use Rattle.dia_check.specs.declared.Unknown.{Unknown}
 use Rattle.dia_check.specs.declared.Levels.{Levels}
-use Rattle.dia_check.specs.Valid.{IsValidOf}
+use Rattle.dia_valid.specs.Valid.{IsValidOf}
 use Rattle.dia_compat.specs.TableText.{PlainTable}
 use Rattle.dia_io.specs.declared.Command.{Command}
 use Rattle.dia_io.specs.declared.Command.TheVariants.{Compare}

@@ -6,7 +6,7 @@ use Rattle.dia_wire.specs.Wire.{PlainAvp, key_of, head_length, avp_length, padde
 use Rattle.dia_data.specs.Plain.{PlainFormat, Grouped}
 use Rattle.dia_data.specs.Shown.{hex_byte, hexadecimal, IsValueText}
 use Rattle.dia_dict.specs.Dictionary.{Dictionary, DictEntry}
-use Rattle.dia_check.specs.Valid.{known}
+use Rattle.dia_valid.specs.Valid.{known}
 use Rattle.dia_run.specs.Texts.{line}
 
 -- a dash where there is no Vendor-ID

@@ -12,7 +12,7 @@ use Rattle.dia_check.specs.declared.Levels.{Levels}
 use Rattle.dia_check.specs.declared.Selected.{Selected}
 use Rattle.dia_check.specs.declared.Refusal.{Refusal}
 use Rattle.dia_check.specs.Faults.{IsAnswer as IsChecked}
-use Rattle.dia_check.specs.Valid.{IsValid}
+use Rattle.dia_valid.specs.Valid.{IsValid}
 use Rattle.dia_compat.specs.declared.Answer.{Answer}
 use Rattle.dia_compat.specs.TableText.{PlainTable}
 use Rattle.dia_compat.specs.Closed.{IsTableAnswer as IsCompared}

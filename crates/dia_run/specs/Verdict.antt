@@ -11,7 +11,7 @@ use Rattle.dia_check.specs.declared.Subject.TheVariants.{Nothing, Avp, Wildcard}
 use Rattle.dia_check.specs.declared.Selected.{Selected}
 use Rattle.dia_check.specs.declared.Refusal.{Refusal}
 use Rattle.dia_check.specs.declared.Refusal.TheVariants as refusal
-use Rattle.dia_check.specs.Valid.{known}
+use Rattle.dia_valid.specs.Valid.{known}
 use Rattle.dia_io.specs.declared.Exit.{Exit}
 use Rattle.dia_io.specs.declared.Exit.TheVariants.{Yes, No}
 use Rattle.dia_run.specs.Texts.{line}

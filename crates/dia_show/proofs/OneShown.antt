@@ -13,7 +13,7 @@ use Rattle.dia_data.specs.Number.{number}
 use Rattle.dia_data.specs.Plain.{PlainFormat, OctetString}
 use Rattle.dia_data.specs.Shown.{IsValueText}
 use Rattle.dia_dict.specs.Dictionary.{Dictionary, DictEntry}
-use Rattle.dia_check.specs.Valid.{known}
+use Rattle.dia_valid.specs.Valid.{known}
 use Rattle.dia_run.specs.Listing.{Level, IsGroup, behind, inside, bad_length_line}
 use Rattle.dia_show.specs.Listing.{IsDateNote, none, date, IsTold, IsLeafTold, unknown, leaf, IsListing, end, bad_length, avp, group, bad_group, Manner, line_of, told_format, word_note}
 use Rattle.dia_show.specs.Words.{word_of}

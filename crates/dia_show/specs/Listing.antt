@@ -8,7 +8,7 @@ use Rattle.dia_data.specs.Number.{number}
 use Rattle.dia_data.specs.Plain.{PlainFormat, Grouped, OctetString, Utf8String, IpFilterRule, QosFilterRule, Time}
 use Rattle.dia_data.specs.Shown.{hex_byte, IsValueText}
 use Rattle.dia_dict.specs.Dictionary.{Dictionary, DictEntry, PlainDefinition, definitions, selected}
-use Rattle.dia_check.specs.Valid.{known, class_of}
+use Rattle.dia_valid.specs.Valid.{known, class_of}
 use Rattle.dia_run.specs.Texts.{line}
 use Rattle.dia_run.specs.Listing.{Level, IsGroup, behind, inside, vendor_text, bad_length_line}
 use Rattle.dia_show.specs.Dates.{IsTimeText}

@@ -1,7 +1,7 @@
 //! The line of a header.
 
 ghost use Rattle.std.specs.Prelude.{◌≡◌, ◌++◌, OnOk, string_bytes};
-ghost use Rattle.dia_check.specs.Valid.{class_of};
+ghost use Rattle.dia_valid.specs.Valid.{class_of};
 ghost use Rattle.dia_run.specs.Texts.{line};
 ghost use Rattle.dia_show.specs.Listing.{code_text, command_of, header_of, header_rest, name_or_mark};
 

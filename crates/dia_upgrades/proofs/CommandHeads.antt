@@ -7,7 +7,7 @@ use Rattle.dia_book.specs.declared.DefHead.TheVariants.{Command, Error, Group}
 use Rattle.dia_book.specs.Dictionary.{Dictionary, PlainDefinition, IsDictionary, IsCommandHead, groups}
 use Rattle.dia_book.proofs.NumberedGroups.{slice_get-append_right}
 use Rattle.dia_breaking_sites.proofs.Members.{contains_in, in_at}
-use Rattle.dia_rules.proofs.Members.{there_is}
+use Rattle.dia_valid.proofs.Members.{there_is}
 use Rattle.dia_breaking.specs.Headers.{head_in}
 use Rattle.dia_breaking.specs.Words.{head_at}
 

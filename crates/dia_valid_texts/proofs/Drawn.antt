@@ -9,7 +9,7 @@ use Rattle.dia_wire.proofs.Written.{avp_spelled, four}
 use Rattle.dia_terms.specs.declared.MRule.{MRule}
 use Rattle.dia_terms.specs.declared.MRule.TheVariants.{Must, MustNot, Any}
 use Rattle.dia_book.specs.Dictionary.{Dictionary, DictEntry}
-use Rattle.dia_check.specs.Valid.{MHolds}
+use Rattle.dia_valid.specs.Valid.{MHolds}
 use Rattle.dia_text.specs.declared.fault.Kind.TheVariants.{Limit}
 use Rattle.dia_text.specs.declared.line.Head.{Head}
 use Rattle.dia_text.specs.Keys.{m_flag}

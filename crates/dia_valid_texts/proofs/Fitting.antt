@@ -7,7 +7,7 @@ use Rattle.dia_data.specs.Leaf.{IsLeaf}
 use Rattle.dia_book.specs.declared.DRule.{DRule}
 use Rattle.dia_book.specs.Dictionary.{Dictionary, DictEntry, PlainDefinition}
 use Rattle.dia_policy.specs.declared.Unknown.{Unknown}
-use Rattle.dia_check.specs.Valid.{known, MHolds, IsAccepted, IsLevel, Fits}
+use Rattle.dia_valid.specs.Valid.{known, MHolds, IsAccepted, IsLevel, Fits}
 
 pub all_map : {X : Type 0} (P Q : X → Type 0) (xs : List X) → ((x : X) → P x → Q x) → AllByRecursion P xs → AllByRecursion Q xs
 all_map P Q [] f h = tt

@@ -10,7 +10,7 @@ use Rattle.dia_book.specs.declared.Class.TheVariants as classes
 use Rattle.dia_book.specs.declared.DefHead.{DefHead}
 use Rattle.dia_book.specs.declared.DefHead.TheVariants.{Group, Command, Error}
 use Rattle.dia_book.specs.Dictionary.{Dictionary, PlainDefinition}
-use Rattle.dia_check.specs.Valid.{AllowsP, PHolds}
+use Rattle.dia_valid.specs.Valid.{AllowsP, PHolds}
 use Rattle.dia_text.specs.declared.fault.Kind.{Kind}
 use Rattle.dia_text.specs.declared.fault.Kind.TheVariants.{Name}
 use Rattle.dia_text.specs.declared.commands.Start.{Start}

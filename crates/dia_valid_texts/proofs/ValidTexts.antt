@@ -13,7 +13,7 @@ use Rattle.dia_data.specs.Leaf.{IsLeaf}
 use Rattle.dia_book.specs.declared.DRule.{DRule}
 use Rattle.dia_book.specs.Dictionary.{Dictionary, DictEntry, PlainDefinition}
 use Rattle.dia_policy.specs.declared.Unknown.{Unknown}
-use Rattle.dia_check.specs.Valid.{MHolds, IsAccepted, IsLevel, Fits, Placed}
+use Rattle.dia_valid.specs.Valid.{MHolds, IsAccepted, IsLevel, Fits, Placed}
 use Rattle.dia_text.specs.declared.fault.Kind.{Kind}
 use Rattle.dia_text.specs.declared.fault.Kind.TheVariants.{Limit}
 use Rattle.dia_text.specs.declared.fault.Fault.{Fault}

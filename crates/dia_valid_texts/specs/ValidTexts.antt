@@ -10,7 +10,7 @@ use Rattle.dia_book.specs.declared.DefHead.TheVariants.{Group, Command, Error}
 use Rattle.dia_book.specs.Dictionary.{Dictionary, DictEntry, PlainDefinition, definitions, selected}
 use Rattle.dia_policy.specs.declared.Unknown.{Unknown}
 use Rattle.dia_policy.specs.declared.Levels.TheVariants as levels
-use Rattle.dia_check.specs.Valid.{Placed, AllowsP, class_of, IsValid}
+use Rattle.dia_valid.specs.Valid.{Placed, AllowsP, class_of, IsValid}
 use Rattle.dia_text.specs.declared.fault.Fault.{Fault}
 use Rattle.dia_text.specs.declared.fault.Kind.TheVariants.{Limit}
 use Rattle.dia_text.specs.declared.line.Head.{Head}

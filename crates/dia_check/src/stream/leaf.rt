@@ -4,7 +4,7 @@ ghost use Rattle.std.specs.Prelude.{◌≡◌, ◌≢◌, ◌+◌, ◌<◌, ◌+
 ghost use Rattle.dia_wire.specs.declared.Key.{Key as AnyKey};
 ghost use Rattle.dia_data.specs.Plain.{Grouped};
 ghost use Rattle.dia_book.specs.Dictionary.{Dictionary, DictEntry, entry_of};
-ghost use Rattle.dia_check.specs.Valid.{known};
+ghost use Rattle.dia_valid.specs.Valid.{known};
 ghost use Rattle.dia_check.specs.Reading.{HasSeen, IsBadLeaf, IsGoodLeaf};
 
 use crate::fault::Reason;

@@ -3,7 +3,7 @@ ghost use Rattle.std.specs.Prelude.{◌≡◌, ◌<◌, ◌||◌, not, IfOk, IfS
 ghost use Rattle.std.specs.List.{list_all, list_any};
 ghost use Rattle.std.specs.Option.{option_map_or};
 ghost use Rattle.dia_data.specs.Plain.{plain_format};
-ghost use Rattle.dia_check.specs.Valid.{known};
+ghost use Rattle.dia_valid.specs.Valid.{known};
 ghost use Rattle.dia_wire.specs.declared.Key.{Key as AnyKey};
 ghost use Rattle.dia_compat.specs.TableText.{plain_pair, plain_table};
 ghost use Rattle.dia_compat.specs.Sides.{compared};

@@ -1,7 +1,7 @@
 //! What fails a test of wildcards, N6 to N9.
 ghost use Rattle.std.specs.Prelude.{◌≡◌, IfOk, [], option_and_then, option_to_list, filter_map};
 ghost use Rattle.std.specs.Option.{option_map_or};
-ghost use Rattle.dia_check.specs.Valid.{is_listed, has_wildcard};
+ghost use Rattle.dia_valid.specs.Valid.{is_listed, has_wildcard};
 ghost use Rattle.dia_compat.specs.declared.reasons.Failing.TheVariants.{NoWildcard, LetIn, Stranger, WildcardMost};
 ghost use Rattle.dia_compat.specs.Tests.{is_max_within};
 ghost use Rattle.dia_compat.specs.PairTests.{stranger_fits};

@@ -1,9 +1,9 @@
 //! The tests that go over the keys that definitions list.
 ghost use Rattle.std.specs.Prelude.{◌≡◌};
 ghost use Rattle.std.specs.List.{list_all};
-ghost use Rattle.dia_check.specs.Valid.{has_wildcard};
+ghost use Rattle.dia_valid.specs.Valid.{has_wildcard};
 ghost use Rattle.dia_compat.specs.Tests.{common_rule, let_in_rule};
-ghost use Rattle.dia_rules.specs.Rules.{wildcard_of};
+ghost use Rattle.dia_valid.specs.Rules.{wildcard_of};
 ghost use Rattle.dia_compat.specs.Tests.{covered_rule, own_rule, has_room, may_come};
 ghost use Rattle.dia_compat.specs.PairTests.{is_covered};
 

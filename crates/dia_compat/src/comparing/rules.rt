@@ -2,8 +2,8 @@
 ghost use Rattle.std.specs.Prelude.{◌≡◌, ◌<◌, length, position, slice_get};
 ghost use Rattle.std.specs.Option.{option_map};
 ghost use Rattle.dia_book.specs.Dictionary.{definitions};
-ghost use Rattle.dia_check.specs.Valid.{is_listed, is_wildcard, has_wildcard};
-ghost use Rattle.dia_rules.specs.Rules.{rules_in, rule_of, wildcard_of};
+ghost use Rattle.dia_valid.specs.Valid.{is_listed, is_wildcard, has_wildcard};
+ghost use Rattle.dia_valid.specs.Rules.{rules_in, rule_of, wildcard_of};
 ghost use Rattle.dia_compat.specs.Failings.{place_of_key, placed_rule, placed_wildcard};
 
 use dia_book::{Book, DRule, DefId, Key, Slot};
@@ -20,7 +20,7 @@ impl<'a, B: Book> Model for Rules<'a, B> {
     ghost use Rattle.std.specs.Prelude.{List, ◌<◌, length};
     ghost use Rattle.dia_book.specs.declared.DRule.{DRule as AnyRule};
     ghost use Rattle.dia_book.specs.Dictionary.{definitions};
-    ghost use Rattle.dia_rules.specs.Rules.{rules_in};
+    ghost use Rattle.dia_valid.specs.Rules.{rules_in};
 
     ghost Value = { List AnyRule };
 

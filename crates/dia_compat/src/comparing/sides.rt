@@ -2,7 +2,7 @@
 ghost use Rattle.std.specs.Prelude.{◌≡◌, ◌<◌, ◌↔◌, IsTrue, length};
 ghost use Rattle.dia_book.specs.Dictionary.{IsDictionary, definitions};
 ghost use Rattle.dia_compat.specs.Tests.{is_kept, may_come};
-ghost use Rattle.dia_rules.specs.Rules.{rules_in};
+ghost use Rattle.dia_valid.specs.Rules.{rules_in};
 ghost use Rattle.dia_compat.specs.ReachedKeys.{IsShared};
 
 use super::rules::Rules;

@@ -2,9 +2,9 @@
 ghost use Rattle.std.specs.Prelude.{◌≡◌, ◌&&◌, ◌||◌, not, true, false, nat_le};
 ghost use Rattle.std.specs.List.{list_all};
 ghost use Rattle.std.specs.Option.{option_map_or};
-ghost use Rattle.dia_check.specs.Valid.{is_listed, has_wildcard};
+ghost use Rattle.dia_valid.specs.Valid.{is_listed, has_wildcard};
 ghost use Rattle.dia_compat.specs.Tests.{is_above_zero, listed_rule};
-ghost use Rattle.dia_rules.specs.Rules.{wildcard_of};
+ghost use Rattle.dia_valid.specs.Rules.{wildcard_of};
 ghost use Rattle.dia_compat.specs.Tests.{bounded_wildcard, required_wildcard, of_key};
 
 use super::bounds::may_stand;

@@ -6,7 +6,7 @@ ghost use Rattle.dia_data.specs.Plain.{Grouped, plain_format};
 ghost use Rattle.dia_book.specs.declared.DRule.{DRule as AnyRule};
 ghost use Rattle.dia_book.specs.Dictionary.{PlainDefinition, definitions, entry_of};
 ghost use Rattle.dia_compat.specs.Below.{IsAboveZero};
-ghost use Rattle.dia_rules.specs.Rules.{IsListed, HasWildcard};
+ghost use Rattle.dia_valid.specs.Rules.{IsListed, HasWildcard};
 ghost use Rattle.dia_compat.specs.ReachedKeys.{has, IsAllowedBy, IsAllowed};
 ghost use Rattle.dia_compat.specs.ReachedKeys.{Admits, Inserts, ComesTo};
 ghost use Rattle.dia_compat.specs.ReachedKeys.{ComesToAll, Follows, IsSharedGroup};

@@ -2,7 +2,7 @@
 
 ghost use Rattle.std.specs.Prelude.{◌↔◌, IfOk, IsErr, IsOk, IsTrue};
 ghost use Rattle.dia_check.specs.Faults.{IsAnswer};
-ghost use Rattle.dia_check.specs.Valid.{IsValid};
+ghost use Rattle.dia_valid.specs.Valid.{IsValid};
 ghost use Rattle.dia_run.specs.Outcome.{IsRefuteOutcome};
 ghost use Rattle.dia_run.specs.Report.{Answers, HasReport};
 

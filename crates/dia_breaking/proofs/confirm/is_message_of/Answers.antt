@@ -1,6 +1,6 @@
 use Rattle.std.proofs.Common.{◌≡◌, true, false, sym, ◌∙◌}
 use Rattle.std.proofs.lemmas.Bool.{eq-eqb}
-use Rattle.dia_rules.proofs.KindsOfRefusal.{no_want_fault, no_want_truncated, no_want_trailing}
+use Rattle.dia_check.proofs.KindsOfRefusal.{no_want_fault, no_want_truncated, no_want_trailing}
 use Rattle.dia_breaking.proofs.confirm.is_message_of.Goals as goal
 
 pub returns-in-Err-Fault : goal.returns-in-Err-Fault

@@ -1,4 +1,4 @@
-use Rattle.dia_rules.proofs.KindsOfRefusal.{no_want_fault, no_want_truncated, no_want_trailing}
+use Rattle.dia_check.proofs.KindsOfRefusal.{no_want_fault, no_want_truncated, no_want_trailing}
 use Rattle.dia_breaking.proofs.confirm.is_valid.Goals as goal
 
 pub returns-in-Err-Fault : goal.returns-in-Err-Fault

@@ -2,7 +2,7 @@ use Rattle.std.proofs.Common.{◌≡◌, ◌<◌, length, sym, ap, ◌∙◌, ar
 use Rattle.std.specs.Prelude.{slice_get}
 use Rattle.std.proofs.lemmas.List.{append-nil}
 use Rattle.dia_book.specs.Dictionary.{DictEntry}
-use Rattle.dia_rules.proofs.Members.{there_is, at_some}
+use Rattle.dia_valid.proofs.Members.{there_is, at_some}
 use Rattle.dia_breaking.specs.SentKeys.{is_unknown}
 use Rattle.dia_breaking.proofs.SentKeys.{unknown_all, unknown_more}
 use Rattle.dia_breaking.proofs.keys.push_keys_of_b_alone.Goals as goal

@@ -3,7 +3,7 @@ use Rattle.std.specs.Prelude.{slice_get}
 use Rattle.std.proofs.lemmas.List.{take_all}
 use Rattle.dia_wire.specs.declared.Key.{Key}
 use Rattle.dia_book.specs.Dictionary.{DictEntry}
-use Rattle.dia_rules.proofs.Members.{there_is, at_some}
+use Rattle.dia_valid.proofs.Members.{there_is, at_some}
 use Rattle.dia_breaking.proofs.Shortest.{one_key_more}
 use Rattle.dia_breaking.proofs.lengths.keys_of.Goals as goal
 

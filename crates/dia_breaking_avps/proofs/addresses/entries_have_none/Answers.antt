@@ -4,7 +4,7 @@ use Rattle.std.proofs.lemmas.Bool.{both_ways}
 use Rattle.std.proofs.lemmas.List.{take_all}
 use Rattle.dia_wire.specs.declared.Key.{Key}
 use Rattle.dia_book.specs.Dictionary.{DictEntry}
-use Rattle.dia_rules.proofs.Members.{all_append, all_of, at_some, in_at, taken, there_is}
+use Rattle.dia_valid.proofs.Members.{all_append, all_of, at_some, in_at, taken, there_is}
 use Rattle.dia_breaking_avps.specs.Levels.{IsFamily}
 use Rattle.dia_breaking_avps.proofs.EmptyLevels.{every}
 use Rattle.dia_breaking_avps.proofs.FirstAvps.{each}

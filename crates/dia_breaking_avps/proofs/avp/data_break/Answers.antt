@@ -1,5 +1,5 @@
 use Rattle.std.proofs.Common.{sym, ◌∙◌}
-use Rattle.dia_check.proofs.AvpFaults.{not_known}
+use Rattle.dia_valid.proofs.Entries.{not_known}
 use Rattle.dia_breaking_avps.proofs.AnyData.{takes_unknown}
 use Rattle.dia_breaking_avps.proofs.avp.data_break.Goals as goal
 

@@ -2,7 +2,7 @@ use Rattle.std.proofs.Common.{Option, sym, ap, ◌∙◌}
 use Rattle.std.specs.Prelude.{option_and_then}
 use Rattle.dia_data.specs.Plain.{plain_format}
 use Rattle.dia_book.specs.Dictionary.{DictEntry}
-use Rattle.dia_check.proofs.AvpFaults.{entry_here, entry_within, not_known}
+use Rattle.dia_valid.proofs.Entries.{entry_here, entry_within, not_known}
 use Rattle.dia_breaking_avps.proofs.Entries.{group_here, group_within, no_group}
 use Rattle.dia_breaking_avps.proofs.Readings.{entry_format, from_leaf, from_level, from_unknown}
 use Rattle.dia_breaking_avps.proofs.AnyData.{takes_any, no_levels, no_levels_unknown}

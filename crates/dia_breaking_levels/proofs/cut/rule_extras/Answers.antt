@@ -1,6 +1,6 @@
 use Rattle.std.proofs.Common.{◌<◌, List, length, get_or, ap, subst, ◌∙◌}
 use Rattle.dia_book.specs.declared.DRule.{DRule}
-use Rattle.dia_rules.specs.Rules.{rules_in}
+use Rattle.dia_valid.specs.Rules.{rules_in}
 use Rattle.dia_breaking_levels.specs.Chosen.{cut_after, extra_of, reads}
 use Rattle.dia_breaking_levels.proofs.LinesMore.{extras_more}
 use Rattle.dia_breaking_levels.proofs.cut.rule_extras.Goals as goal

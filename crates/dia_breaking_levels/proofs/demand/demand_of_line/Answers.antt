@@ -1,5 +1,5 @@
 use Rattle.std.proofs.lemmas.Result.{IfOk-weaker}
-use Rattle.dia_rules.specs.Rules.{rules_in}
+use Rattle.dia_valid.specs.Rules.{rules_in}
 use Rattle.dia_breaking_levels.specs.declared.line.Reason.TheVariants.{Missing, TooMany, NotAllowed, NotAllowedOther, MissingOthers, Order}
 use Rattle.dia_breaking_levels.specs.Chosen.{plain_demand, reads}
 use Rattle.dia_breaking_levels.proofs.Demands.{many_demanded, no_cut, told_demand}

@@ -1,4 +1,4 @@
-use Rattle.dia_rules.specs.Rules.{rules_in}
+use Rattle.dia_valid.specs.Rules.{rules_in}
 use Rattle.dia_breaking_levels.specs.Chosen.{reads}
 use Rattle.dia_breaking_levels.proofs.Demands.{many_is}
 use Rattle.dia_breaking_levels.proofs.demand.of_too_many_others.Goals as goal

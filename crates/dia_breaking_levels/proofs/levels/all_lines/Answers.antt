@@ -1,4 +1,4 @@
-use Rattle.dia_rules.specs.Rules.{rules_in}
+use Rattle.dia_valid.specs.Rules.{rules_in}
 use Rattle.dia_breaking_levels.specs.declared.line.Reason.{Reason}
 use Rattle.dia_breaking_levels.specs.LevelTests.{line_of}
 use Rattle.dia_breaking_levels.proofs.LinesMore.{each_reason}

@@ -1,5 +1,5 @@
 use Rattle.std.proofs.Common.{rules, ap, ◌∙◌}
-use Rattle.dia_rules.specs.Rules.{rules_in}
+use Rattle.dia_valid.specs.Rules.{rules_in}
 use Rattle.dia_breaking_levels.specs.Steps.{steps}
 use Rattle.dia_breaking_levels.proofs.FloorFacts.{over_is}
 use Rattle.dia_breaking_levels.proofs.levels.least_over.Goals as goal

@@ -1,7 +1,7 @@
 use Rattle.std.proofs.Common.{refl}
 use Rattle.std.specs.Prelude.{find}
 use Rattle.std.proofs.lemmas.Result.{IfOk-weaker}
-use Rattle.dia_rules.specs.Rules.{rules_in}
+use Rattle.dia_valid.specs.Rules.{rules_in}
 use Rattle.dia_breaking_levels.specs.LevelTests.{price, is_outside, lines_of}
 use Rattle.dia_breaking_levels.proofs.CountsAndRanks.{rules_sound}
 use Rattle.dia_breaking_levels.proofs.EachLine.{each_line, with_orders}

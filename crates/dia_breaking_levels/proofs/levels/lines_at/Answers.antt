@@ -2,7 +2,7 @@ use Rattle.std.proofs.Common.{List, Option, ap, subst, ◌∙◌}
 use Rattle.std.specs.Prelude.{find}
 use Rattle.std.proofs.lemmas.Result.{IfOk-weaker}
 use Rattle.dia_wire.specs.declared.Key.{Key}
-use Rattle.dia_rules.specs.Rules.{rules_in}
+use Rattle.dia_valid.specs.Rules.{rules_in}
 use Rattle.dia_breaking_levels.specs.declared.line.Line.{Line}
 use Rattle.dia_breaking_levels.specs.Exact.{HasOrderLines}
 use Rattle.dia_breaking_levels.specs.LevelTests.{is_outside, lines_of}

@@ -1,5 +1,5 @@
 use Rattle.std.proofs.Common.{sym, ◌∙◌}
-use Rattle.dia_rules.specs.Rules.{rules_in}
+use Rattle.dia_valid.specs.Rules.{rules_in}
 use Rattle.dia_breaking_levels.proofs.FloorFacts.{most_if, bounded}
 use Rattle.dia_breaking_levels.proofs.levels.most.Goals as goal
 

@@ -1,6 +1,6 @@
 use Rattle.std.proofs.Common.{◌≡◌, List, length, ap, arith}
 use Rattle.dia_book.specs.declared.DRule.{DRule}
-use Rattle.dia_rules.specs.Rules.{rules_in}
+use Rattle.dia_valid.specs.Rules.{rules_in}
 use Rattle.dia_breaking_levels.specs.Chosen.{plain_demand}
 use Rattle.dia_breaking_levels.proofs.PartsOfLevels.{parts_all, parts_more}
 use Rattle.dia_breaking_levels.proofs.parts.kind_parts.Goals as goal

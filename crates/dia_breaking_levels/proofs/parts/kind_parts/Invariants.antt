@@ -1,5 +1,5 @@
 use Rattle.std.proofs.Common.{◌≡◌}
-use Rattle.dia_rules.specs.Rules.{rules_in}
+use Rattle.dia_valid.specs.Rules.{rules_in}
 use Rattle.dia_breaking_levels.specs.Chosen.{parts_below, plain_demand}
 use Rattle.dia_breaking_levels.proofs.parts.kind_parts.Given as goal
 

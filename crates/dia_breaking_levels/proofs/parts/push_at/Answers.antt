@@ -2,7 +2,7 @@ use Rattle.std.proofs.Common.{List, sym, ap, ◌∙◌}
 use Rattle.std.specs.Prelude.{slice_get}
 use Rattle.std.proofs.lemmas.Result.{on_ok_weaker}
 use Rattle.dia_book.specs.declared.DRule.{DRule}
-use Rattle.dia_rules.specs.Rules.{rules_in}
+use Rattle.dia_valid.specs.Rules.{rules_in}
 use Rattle.dia_breaking_levels.specs.Chosen.{plain_demand}
 use Rattle.dia_breaking_levels.proofs.PartsOfLevels.{at_none, at_some}
 use Rattle.dia_breaking_levels.proofs.parts.push_at.Goals as goal

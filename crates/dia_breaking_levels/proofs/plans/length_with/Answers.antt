@@ -1,4 +1,4 @@
-use Rattle.dia_rules.specs.Rules.{rules_in}
+use Rattle.dia_valid.specs.Rules.{rules_in}
 use Rattle.dia_breaking_levels.proofs.AloneBounds.{with_within}
 use Rattle.dia_breaking_levels.proofs.plans.length_with.Goals as goal
 

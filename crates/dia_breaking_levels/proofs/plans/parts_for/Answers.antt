@@ -1,6 +1,6 @@
 use Rattle.std.proofs.lemmas.Result.{IfOk-weaker}
 use Rattle.std.proofs.Common.{subst}
-use Rattle.dia_rules.specs.Rules.{rules_in}
+use Rattle.dia_valid.specs.Rules.{rules_in}
 use Rattle.dia_breaking_levels.specs.declared.floor.Floor.{Floor}
 use Rattle.dia_breaking_levels.specs.Chosen.{IsDemandOf, plain_demand, reads}
 use Rattle.dia_breaking_levels.proofs.FloorFacts.{floor_is}

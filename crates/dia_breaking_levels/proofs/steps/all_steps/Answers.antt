@@ -1,7 +1,7 @@
 use Rattle.std.proofs.Common.{None}
 use Rattle.dia_book.specs.declared.DRule.{DRule}
 use Rattle.dia_book.specs.declared.RuleKind.TheVariants.{Fixed}
-use Rattle.dia_rules.specs.Rules.{rules_in}
+use Rattle.dia_valid.specs.Rules.{rules_in}
 use Rattle.dia_breaking_levels.specs.Steps.{steps_of}
 use Rattle.dia_breaking_levels.proofs.LinesMore.{steps_all, steps_more}
 use Rattle.dia_breaking_levels.proofs.steps.all_steps.Goals as goal

@@ -1,7 +1,7 @@
 use Rattle.std.proofs.Common.{ap, ◌∙◌, arith}
 use Rattle.std.specs.Prelude.{slice_get}
 use Rattle.dia_book.specs.Dictionary.{DictEntry}
-use Rattle.dia_rules.proofs.Members.{at_some}
+use Rattle.dia_valid.proofs.Members.{at_some}
 use Rattle.dia_breaking_shortest.specs.Kept.{AreDataOf}
 use Rattle.dia_breaking_shortest.proofs.LeafData.{IsKeptFor, IsTheDataOf, all_data, kept_more}
 use Rattle.dia_breaking_shortest.proofs.LeafLengths.{pushed_length}

@@ -1,7 +1,7 @@
 use Rattle.std.proofs.Common.{◌≡◌, length, ap, ◌∙◌, arith}
 use Rattle.std.specs.Prelude.{slice_get}
 use Rattle.dia_book.specs.Dictionary.{DictEntry}
-use Rattle.dia_rules.proofs.Members.{at_some}
+use Rattle.dia_valid.proofs.Members.{at_some}
 use Rattle.dia_breaking_shortest.specs.Floors.{IsSpellable}
 use Rattle.dia_breaking_shortest.specs.Lengths.{IsLeafLength}
 use Rattle.dia_breaking_shortest.proofs.LeafLengths.{pushed_length, one_leaf_more, one_spelled_more, all_spelled, leaves_kept}

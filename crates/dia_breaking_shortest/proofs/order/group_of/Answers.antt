@@ -1,7 +1,7 @@
 use Rattle.std.proofs.Common.{◌<◌, ℕ, Option, length, sym, subst}
 use Rattle.std.specs.Prelude.{IfSome}
 use Rattle.dia_book.specs.Dictionary.{definitions}
-use Rattle.dia_rules.proofs.GroupNumbers.{group_within}
+use Rattle.dia_valid.proofs.GroupNumbers.{group_within}
 use Rattle.dia_breaking_shortest.proofs.order.group_of.Goals as goal
 
 pub returns-clause-within : goal.returns-clause-within

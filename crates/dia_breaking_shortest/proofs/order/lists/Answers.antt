@@ -2,7 +2,7 @@ use Rattle.std.proofs.Common.{ap, ◌∙◌}
 use Rattle.std.specs.Prelude.{is_some}
 use Rattle.dia_book.specs.Dictionary.{lists_key}
 use Rattle.dia_book.proofs.Members.{find-is_some}
-use Rattle.dia_rules.specs.Rules.{rules_in}
+use Rattle.dia_valid.specs.Rules.{rules_in}
 use Rattle.dia_breaking_shortest.proofs.order.lists.Goals as goal
 
 pub returns : goal.returns

@@ -1,8 +1,8 @@
 use Rattle.std.proofs.Common.{sym, ap, ◌∙◌}
 use Rattle.std.specs.Prelude.{slice_get, option_and_then}
 use Rattle.dia_book.specs.declared.Slot.{Slot}
-use Rattle.dia_rules.specs.Rules.{rules_in}
-use Rattle.dia_rules.proofs.RulesOfKeys.{place_in, rule_at}
+use Rattle.dia_valid.specs.Rules.{rules_in}
+use Rattle.dia_valid.proofs.RulesOfKeys.{place_in, rule_at}
 use Rattle.dia_breaking_shortest.proofs.order.rule.Goals as goal
 
 pub returns-in-Fixed : goal.returns-in-Fixed

@@ -3,7 +3,8 @@ use Rattle.dia_wire.specs.declared.Key.{Key}
 use Rattle.dia_wire.specs.Wire.{plain_avp}
 use Rattle.dia_book.specs.Dictionary.{definitions}
 use Rattle.dia_check.specs.OpenLevels.{AreOpen, and_key}
-use Rattle.dia_check.proofs.AvpFaults.{entry_within, fine_known, fine_unknown, wrong_refused, wrong_data}
+use Rattle.dia_valid.proofs.Entries.{entry_within}
+use Rattle.dia_check.proofs.AvpFaults.{fine_known, fine_unknown, wrong_refused, wrong_data}
 use Rattle.dia_check.proofs.admission.check_avp.Goals as goal
 
 pub returns-in-Some : goal.returns-in-Some

@@ -6,7 +6,7 @@ use Rattle.std.proofs.lemmas.Option.{slice_get_within}
 use Rattle.std.proofs.lemmas.Result.{err_from_is_err_and}
 use Rattle.std.specs.Coded.{le_prop}
 use Rattle.dia_book.specs.Dictionary.{definitions}
-use Rattle.dia_check.specs.Valid.{IsValidOf}
+use Rattle.dia_valid.specs.Valid.{IsValidOf}
 use Rattle.dia_check.specs.Reading.{LiesAt}
 use Rattle.dia_check.proofs.AvpsInPieces.{found_at_stop, opens_body}
 use Rattle.dia_check.proofs.CheckAnswers.{walk_answers}

@@ -1,7 +1,7 @@
 use Rattle.std.proofs.Common.{◌<◌, Option, ℕ, length, subst, sym}
 use Rattle.std.specs.Prelude.{IfSome}
 use Rattle.dia_book.specs.Dictionary.{definitions}
-use Rattle.dia_rules.proofs.GroupNumbers.{group_within}
+use Rattle.dia_valid.proofs.GroupNumbers.{group_within}
 use Rattle.dia_compared_json.proofs.sides.group_of.Goals as goal
 
 pub def-requires : goal.def-requires

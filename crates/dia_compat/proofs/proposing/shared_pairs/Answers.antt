@@ -4,7 +4,7 @@ use Rattle.std.proofs.lemmas.List.{take_all}
 use Rattle.std.specs.Prelude.{slice_get}
 use Rattle.dia_book.specs.Dictionary.{DictEntry, Dictionary}
 use Rattle.dia_compat.specs.NamedCommands.{shared_pair}
-use Rattle.dia_rules.proofs.Members.{there_is}
+use Rattle.dia_valid.proofs.Members.{there_is}
 use Rattle.dia_compat.proofs.WantedDefinitions.{filter_map_more}
 use Rattle.dia_compat.proofs.proposing.shared_pairs.Goals as goal
 

@@ -4,7 +4,7 @@ use Rattle.dia_book.specs.declared.Class.{Class}
 use Rattle.dia_book.specs.Dictionary.{PlainDefinition, plain_definition}
 use Rattle.dia_breaking.specs.Headers.{app_row}
 use Rattle.dia_breaking.proofs.Lists.{filter_map_more}
-use Rattle.dia_rules.proofs.SelectedCommands.{command_at}
+use Rattle.dia_valid.proofs.SelectedCommands.{command_at}
 use Rattle.dia_breaking.proofs.apps.Apps.new.Goals as goal
 
 pub loop-index-preserved : goal.loop-index-preserved

@@ -1,5 +1,5 @@
 use Rattle.std.proofs.Common.{refl, sym, ◌∙◌, Some, None}
-use Rattle.dia_rules.specs.Rules.{rules_in}
+use Rattle.dia_valid.specs.Rules.{rules_in}
 use Rattle.dia_breaking_levels.specs.LevelTests.{least_filler}
 use Rattle.dia_breaking_levels.proofs.FloorFacts.{rules_in_are}
 use Rattle.dia_breaking.proofs.LevelCosts.{cost_with}

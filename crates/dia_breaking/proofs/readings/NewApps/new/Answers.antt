@@ -1,7 +1,7 @@
 use Rattle.std.proofs.Common.{ℕ, List, [], ◌∷◌, ◌++◌, ap, sym, ◌∙◌}
 use Rattle.std.specs.List.{filter_map}
 use Rattle.dia_book.specs.Dictionary.{PlainDefinition, plain_definition}
-use Rattle.dia_rules.proofs.SelectedCommands.{command_at}
+use Rattle.dia_valid.proofs.SelectedCommands.{command_at}
 use Rattle.dia_breaking.specs.Readings.{new_app}
 use Rattle.dia_breaking.proofs.Lists.{filter_map_more}
 use Rattle.dia_breaking.proofs.readings.NewApps.new.Goals as goal

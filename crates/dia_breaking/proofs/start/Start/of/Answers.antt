@@ -2,7 +2,7 @@ use Rattle.std.proofs.Common.{map, refl, subst}
 use Rattle.dia_breaking.specs.Exits.{AreExits}
 use Rattle.std.proofs.lemmas.Option.{slice_get_within}
 use Rattle.dia_book.specs.Dictionary.{definitions}
-use Rattle.dia_rules.specs.Rules.{rules_in}
+use Rattle.dia_valid.specs.Rules.{rules_in}
 use Rattle.dia_breaking.specs.Sender.{costs_of}
 use Rattle.dia_breaking.specs.TheLines.{AreLevels, IsCommandLevel}
 use Rattle.dia_breaking.specs.Upgrades.{sides_of}

@@ -2,7 +2,7 @@ use Rattle.std.proofs.Common.{◌≡◌, ℕ, List, Option, is_some, sym, refl, 
 use Rattle.std.specs.Prelude.{IfOk, IfSome, slice_get}
 use Rattle.std.proofs.Math.Logic.{∥∥₁_map}
 use Rattle.dia_book.specs.Dictionary.{definitions, PlainDefinition}
-use Rattle.dia_rules.proofs.Members.{there_is, at_some}
+use Rattle.dia_valid.proofs.Members.{there_is, at_some}
 use Rattle.dia_breaking.specs.Confirmed.{HaveStandings, IsConfirmed, left_after}
 use Rattle.dia_breaking.specs.declared.heads.Head.{Head}
 use Rattle.dia_breaking.specs.Free.{AllAreValid}

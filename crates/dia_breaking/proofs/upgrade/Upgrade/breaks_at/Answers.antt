@@ -1,10 +1,10 @@
 use Rattle.std.proofs.Common.{ℕ, List, refl, sym, subst, ◌∙◌}
 use Rattle.std.specs.Prelude.{◌↔◌, IsTrue}
 use Rattle.dia_policy.specs.declared.Levels.TheVariants as levels
-use Rattle.dia_check.specs.Valid.{IsValid}
+use Rattle.dia_valid.specs.Valid.{IsValid}
 use Rattle.dia_check.proofs.OneAnswer.{valid_length}
 use Rattle.dia_breaking_sites.specs.Sent.{own_policy}
-use Rattle.dia_rules.proofs.Members.{at_some}
+use Rattle.dia_valid.proofs.Members.{at_some}
 use Rattle.dia_breaking.specs.Upgrades.{sides_of}
 use Rattle.dia_breaking.proofs.Confirmed.{command_within, valid_of}
 use Rattle.dia_breaking.proofs.MendedHeaders.{header_same}

@@ -1,7 +1,7 @@
 use Rattle.std.proofs.Common.{◌≡◌, true, false, Some, refl, sym, ◌∙◌}
 use Rattle.std.specs.Prelude.{slice_get}
 use Rattle.dia_book.specs.Dictionary.{PlainDefinition, definitions}
-use Rattle.dia_rules.proofs.Members.{there_is, at_some}
+use Rattle.dia_valid.proofs.Members.{there_is, at_some}
 use Rattle.dia_breaking.specs.Headers.{head_in}
 use Rattle.dia_breaking.specs.Upgrades.{sides_of}
 use Rattle.dia_breaking.proofs.MendedLines.{mended_at}

@@ -1,7 +1,7 @@
 use Rattle.std.proofs.Common.{◌≡◌, false, true, List, ap, map, sym, subst, ◌∙◌}
 use Rattle.std.specs.Prelude.{is_some}
 use Rattle.std.proofs.Math.Logic.{∥∥₁_elim}
-use Rattle.dia_rules.specs.Rules.{rules_in}
+use Rattle.dia_valid.specs.Rules.{rules_in}
 use Rattle.dia_breaking_sites.specs.Selection.{max_body}
 use Rattle.dia_breaking_ways.specs.Walks.{AreLevelsShorter, PlainNode, plain_exits, plain_node}
 use Rattle.dia_breaking.specs.Upgrades.{sides_of}

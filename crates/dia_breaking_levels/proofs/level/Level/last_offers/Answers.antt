@@ -1,8 +1,8 @@
 use Rattle.std.proofs.Common.{rules, ◌≡◌, ◌+◌, List, length, sym, ap, ◌∙◌, arith, inl, inr}
 use Rattle.std.specs.Prelude.{vec_len}
 use Rattle.dia_book.specs.declared.DRule.{DRule}
-use Rattle.dia_check.specs.Valid.{is_listed}
-use Rattle.dia_rules.specs.Rules.{rules_in}
+use Rattle.dia_valid.specs.Valid.{is_listed}
+use Rattle.dia_valid.specs.Rules.{rules_in}
 use Rattle.dia_breaking_levels.proofs.OfferedKeys.{nothing_true}
 use Rattle.dia_breaking_levels.proofs.level.Level.last_offers.Goals as goal
 

@@ -1,5 +1,5 @@
 use Rattle.std.proofs.Common.{◌≡◌, ℕ, ◌+◌, ◌<◌, ◌≤◌, List, length, sym, ap, subst, ◌∙◌, arith, inl, inr}
-use Rattle.dia_rules.specs.Rules.{rules_in}
+use Rattle.dia_valid.specs.Rules.{rules_in}
 use Rattle.dia_breaking_levels.specs.declared.line.Line.{Line}
 use Rattle.dia_breaking_levels.specs.declared.offers.Offer.{Offer}
 use Rattle.dia_breaking_levels.specs.Exact.{IsOrderAt, unless_long}

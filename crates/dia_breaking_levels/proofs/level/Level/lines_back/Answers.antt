@@ -4,7 +4,7 @@ use Rattle.std.proofs.lemmas.List.{drop_all}
 use Rattle.std.proofs.lemmas.Option.{slice_get-get_or}
 use Rattle.dia_book.specs.declared.DRule.{DRule}
 use Rattle.dia_book.specs.declared.RuleKind.TheVariants.{Fixed}
-use Rattle.dia_rules.specs.Rules.{rules_in}
+use Rattle.dia_valid.specs.Rules.{rules_in}
 use Rattle.dia_breaking_levels.specs.Exact.{IsOrderOf, AreOrderLines}
 use Rattle.dia_breaking_levels.specs.Offers.{AreTrueFrom, AreOfferedFrom}
 use Rattle.dia_breaking_levels.proofs.OfferedKeys.{listed_at, at_or_last, true_lower, offered_more, order_lines_more}

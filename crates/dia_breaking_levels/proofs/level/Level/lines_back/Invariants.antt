@@ -1,6 +1,6 @@
 use Rattle.std.proofs.Common.{◌≤◌, length, drop}
 use Rattle.std.specs.Prelude.{reverse}
-use Rattle.dia_rules.specs.Rules.{rules_in}
+use Rattle.dia_valid.specs.Rules.{rules_in}
 use Rattle.dia_breaking_levels.specs.Exact.{AreOrderLines}
 use Rattle.dia_breaking_levels.specs.Offers.{AreOffers, AreOfferedFrom, AreTrueFrom}
 use Rattle.dia_breaking_levels.proofs.level.Level.lines_back.Given as goal

@@ -1,7 +1,7 @@
 use Rattle.std.proofs.Common.{◌≡◌, ℕ, ◌+◌, ◌/◌, ◌≤◌, List, ◌++◌, take, drop, length, sym, ap, subst, ◌∙◌, arith}
 use Rattle.std.specs.Prelude.{◌⊎◌}
 use Rattle.std.proofs.lemmas.List.{drop_all, take_all, append-nil}
-use Rattle.dia_rules.specs.Rules.{rules_in}
+use Rattle.dia_valid.specs.Rules.{rules_in}
 use Rattle.dia_breaking_levels.specs.declared.offers.Offer.{Offer}
 use Rattle.dia_breaking_levels.specs.Offers.{lesser, node_at, offer_of, weight, weight_at, AreLeast, AreAttained, AreHeldFrom, IsOtherFrom}
 use Rattle.dia_breaking_levels.proofs.HeldOffers.{less_other, less_put, offered_other, offered_put}

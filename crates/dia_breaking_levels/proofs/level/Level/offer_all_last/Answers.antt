@@ -2,7 +2,7 @@ use Rattle.std.proofs.Common.{None, get_or}
 use Rattle.std.proofs.lemmas.Option.{slice_get-get_or}
 use Rattle.dia_book.specs.declared.DRule.{DRule}
 use Rattle.dia_book.specs.declared.RuleKind.TheVariants.{Fixed}
-use Rattle.dia_rules.specs.Rules.{rules_in}
+use Rattle.dia_valid.specs.Rules.{rules_in}
 use Rattle.dia_breaking_levels.specs.Offers.{IsOffered}
 use Rattle.dia_breaking_levels.proofs.OfferedKeys.{kept, less_twice, one_rule_more, listed_at}
 use Rattle.dia_breaking_levels.proofs.level.Level.offer_all_last.Goals as goal

@@ -1,7 +1,7 @@
 use Rattle.std.proofs.Common.{◌≡◌, true, length, take, Option}
 use Rattle.dia_wire.specs.declared.Key.{Key}
-use Rattle.dia_check.specs.Valid.{is_listed}
-use Rattle.dia_rules.specs.Rules.{rules_in}
+use Rattle.dia_valid.specs.Valid.{is_listed}
+use Rattle.dia_valid.specs.Rules.{rules_in}
 use Rattle.dia_breaking_levels.specs.Offers.{AreOffers, AreLess, IsOffered, MayCome, AreTrueFrom}
 use Rattle.dia_breaking_levels.specs.Places.{place}
 use Rattle.dia_breaking_levels.proofs.level.Level.offer_all_last.Given as goal

@@ -1,6 +1,6 @@
 use Rattle.std.proofs.Common.{◌≡◌, ℕ, ◌+◌, Option, sym, subst, ◌∙◌}
 use Rattle.dia_wire.specs.declared.Key.{Key}
-use Rattle.dia_rules.specs.Rules.{rules_in}
+use Rattle.dia_valid.specs.Rules.{rules_in}
 use Rattle.dia_breaking_levels.specs.declared.line.Line.{Line}
 use Rattle.dia_breaking_levels.specs.Exact.{IsOrderAt, IsOrderOf}
 use Rattle.dia_breaking_levels.specs.Offers.{AreOfferedFrom, AreTrueFrom}

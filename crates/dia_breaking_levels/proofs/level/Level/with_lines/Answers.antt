@@ -2,7 +2,7 @@ use Rattle.std.proofs.Common.{None, sym}
 use Rattle.std.proofs.lemmas.List.{append-nil}
 use Rattle.dia_book.specs.declared.DRule.{DRule}
 use Rattle.dia_book.specs.declared.RuleKind.TheVariants.{Fixed}
-use Rattle.dia_rules.specs.Rules.{rules_in}
+use Rattle.dia_valid.specs.Rules.{rules_in}
 use Rattle.dia_breaking_levels.specs.LevelTests.{line_of}
 use Rattle.dia_breaking_levels.proofs.LinesMore.{lines_all, lines_more, lines_same}
 use Rattle.dia_breaking_levels.proofs.level.Level.with_lines.Goals as goal

@@ -1,6 +1,6 @@
 use Rattle.std.proofs.Common.{◌≡◌, ◌++◌, take}
 use Rattle.std.specs.Prelude.{filter_map}
-use Rattle.dia_rules.specs.Rules.{rules_in}
+use Rattle.dia_valid.specs.Rules.{rules_in}
 use Rattle.dia_breaking_levels.specs.LevelTests.{line_of}
 use Rattle.dia_breaking_levels.proofs.level.Level.with_lines.Given as goal
 

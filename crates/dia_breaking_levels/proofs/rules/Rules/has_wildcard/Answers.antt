@@ -1,8 +1,8 @@
 use Rattle.std.proofs.Common.{ap, ◌∙◌}
 use Rattle.std.specs.Prelude.{is_some}
 use Rattle.dia_book.proofs.Members.{find-is_some}
-use Rattle.dia_check.specs.Valid.{is_wildcard}
-use Rattle.dia_rules.specs.Rules.{rules_in}
+use Rattle.dia_valid.specs.Valid.{is_wildcard}
+use Rattle.dia_valid.specs.Rules.{rules_in}
 use Rattle.dia_breaking_levels.proofs.rules.Rules.has_wildcard.Goals as goal
 
 pub returns : goal.returns

@@ -2,7 +2,7 @@ use Rattle.std.proofs.Common.{◌≡◌, ◌<◌, ℕ, List, [], ◌∷◌, ◌+
 use Rattle.std.specs.Prelude.{slice_get}
 use Rattle.dia_wire.specs.declared.Key.{Key}
 use Rattle.dia_book.specs.Dictionary.{DictEntry}
-use Rattle.dia_rules.proofs.Members.{there_is, at_some}
+use Rattle.dia_valid.proofs.Members.{there_is, at_some}
 use Rattle.dia_breaking_shortest.specs.declared.order.Ranked.{Ranked}
 use Rattle.dia_breaking_shortest.specs.Lengths.{length_of}
 use Rattle.dia_breaking_shortest.proofs.LeafLengths.{one_rank_more}

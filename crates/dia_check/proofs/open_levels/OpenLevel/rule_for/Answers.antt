@@ -3,7 +3,8 @@ use Rattle.std.proofs.lemmas.Option.{slice_get-get_or}
 use Rattle.std.proofs.Math.Logic.{∥∥₁_elim}
 use Rattle.std.specs.Coded.{le_prop}
 use Rattle.std.specs.Prelude.{◌≤◌}
-use Rattle.dia_check.proofs.KeysByCounts.{fixed_few, to_within, missing_first, not_allowed_first}
+use Rattle.dia_valid.proofs.Entries.{fixed_few}
+use Rattle.dia_check.proofs.KeysByCounts.{to_within, missing_first, not_allowed_first}
 use Rattle.dia_check.proofs.Tallies.{rising_prop}
 use Rattle.dia_check.specs.OpenLevels.{Leads}
 use Rattle.dia_check.proofs.open_levels.OpenLevel.rule_for.Goals as goal

@@ -3,7 +3,7 @@ use Rattle.std.specs.Prelude.{◌≡◌, Option, [], IfSome}
 use Rattle.dia_data.specs.Plain.{PlainFormat, plain_format}
 use Rattle.dia_data.specs.State.{StandsForData}
 use Rattle.dia_book.specs.Dictionary.{DictEntry}
-use Rattle.dia_check.proofs.AvpFaults.{entry_here}
+use Rattle.dia_valid.proofs.Entries.{entry_here}
 use Rattle.dia_check.proofs.stream.leaf.start_leaf.Goals as goal
 
 pub returns-in-Some : goal.returns-in-Some

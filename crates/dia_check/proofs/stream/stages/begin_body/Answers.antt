@@ -5,7 +5,7 @@ use Rattle.std.specs.Prelude.{slice_get, Some}
 use Rattle.std.specs.Coded.{le_prop}
 use Rattle.std.proofs.lemmas.Result.{err_from_is_err_and}
 use Rattle.dia_book.specs.Dictionary.{definitions}
-use Rattle.dia_check.specs.Valid.{IsValidOf}
+use Rattle.dia_valid.specs.Valid.{IsValidOf}
 use Rattle.dia_check.proofs.CheckAnswers.{walk_answers}
 use Rattle.dia_check.proofs.HeaderAnswers.{found_answers}
 use Rattle.dia_policy.specs.declared.Unknown.TheVariants.{Kept}

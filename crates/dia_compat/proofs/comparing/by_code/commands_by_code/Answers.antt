@@ -1,7 +1,7 @@
 use Rattle.std.proofs.Common.{◌++◌, ◌∷◌, [], filter, List, ap, sym, ◌∙◌}
 use Rattle.dia_book.specs.Dictionary.{PlainDefinition, plain_definition}
 use Rattle.dia_compat.specs.CommandsByCode.{has_code}
-use Rattle.dia_rules.proofs.SelectedCommands.{command_at}
+use Rattle.dia_valid.proofs.SelectedCommands.{command_at}
 use Rattle.dia_compat.proofs.CommandsByCode.{one_filtered}
 use Rattle.dia_compat.proofs.comparing.by_code.commands_by_code.Goals as goal
 

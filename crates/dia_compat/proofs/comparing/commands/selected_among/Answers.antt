@@ -3,7 +3,7 @@ use Rattle.std.proofs.lemmas.List.{take_all}
 use Rattle.dia_book.specs.Dictionary.{Dictionary, PlainDefinition, plain_definition}
 use Rattle.dia_compat.specs.Sides.{Sides}
 use Rattle.dia_compat.specs.PairTests.{plain_names, is_selected}
-use Rattle.dia_rules.proofs.SelectedCommands.{command_at}
+use Rattle.dia_valid.proofs.SelectedCommands.{command_at}
 use Rattle.dia_compat.proofs.CommandsByCode.{map_more}
 use Rattle.dia_compat.proofs.comparing.commands.selected_among.Goals as goal
 

@@ -5,7 +5,7 @@ use Rattle.dia_book.specs.Dictionary.{Dictionary, PlainDefinition, plain_definit
 use Rattle.dia_compat.specs.declared.reasons.Failing.TheVariants.{NotBeside}
 use Rattle.dia_compat.specs.PairTests.{plain_names, is_ready}
 use Rattle.dia_compat.specs.Failings.{unless}
-use Rattle.dia_rules.proofs.SelectedCommands.{command_at}
+use Rattle.dia_valid.proofs.SelectedCommands.{command_at}
 use Rattle.dia_compat.proofs.ListsOfFailings.{numbered_more}
 use Rattle.dia_compat.proofs.comparing.failing_heads.apart_from.Goals as goal
 

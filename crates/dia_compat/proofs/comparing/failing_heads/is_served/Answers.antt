@@ -1,6 +1,6 @@
 use Rattle.dia_book.specs.Dictionary.{PlainDefinition, plain_definition}
 use Rattle.dia_compat.specs.PairTests.{serves}
-use Rattle.dia_rules.proofs.SelectedCommands.{command_at}
+use Rattle.dia_valid.proofs.SelectedCommands.{command_at}
 use Rattle.dia_compat.proofs.FilteredMembers.{none_more_at, found_at}
 use Rattle.dia_compat.proofs.comparing.failing_heads.is_served.Goals as goal
 

@@ -3,9 +3,9 @@ use Rattle.std.specs.Prelude.{IfOk, slice_get, if◌then◌else◌}
 use Rattle.dia_book.specs.declared.DRule.{DRule}
 use Rattle.dia_book.specs.Dictionary.{Dictionary, plain_definition, definitions, groups}
 use Rattle.dia_book.proofs.Members.{into_right}
-use Rattle.dia_rules.specs.Rules.{rules_in}
-use Rattle.dia_rules.proofs.Members.{there_is}
-use Rattle.dia_rules.proofs.SelectedCommands.{command_at}
+use Rattle.dia_valid.specs.Rules.{rules_in}
+use Rattle.dia_valid.proofs.Members.{there_is}
+use Rattle.dia_valid.proofs.SelectedCommands.{command_at}
 use Rattle.dia_compat.specs.Sides.{Sides}
 use Rattle.dia_compat.specs.Failings.{head_failings, rule_failings}
 use Rattle.dia_compat.proofs.FailingPairs.{at_places, rules_at}

@@ -2,7 +2,7 @@ use Rattle.std.proofs.Common.{◌≡◌, ◌<◌, ℕ, Option, length, sym, ap, 
 use Rattle.std.specs.Prelude.{IfSome}
 use Rattle.dia_book.specs.Dictionary.{Dictionary, definitions, group_place}
 use Rattle.dia_compat.specs.Sides.{Sides}
-use Rattle.dia_rules.proofs.GroupNumbers.{group_within}
+use Rattle.dia_valid.proofs.GroupNumbers.{group_within}
 use Rattle.dia_compat.proofs.comparing.failing_pairs.entry_failings.Goals as goal
 
 pub group_failings-requires-clause-first : goal.group_failings-requires-clause-first

@@ -3,7 +3,7 @@ use Rattle.std.specs.List.{filter_map}
 use Rattle.std.proofs.lemmas.List.{take_all}
 use Rattle.dia_compat.specs.Failings.{unless}
 use Rattle.dia_wire.specs.declared.Key.{Key}
-use Rattle.dia_check.specs.Valid.{is_listed}
+use Rattle.dia_valid.specs.Valid.{is_listed}
 use Rattle.dia_compat.specs.declared.reasons.Failing.TheVariants.{LetIn}
 use Rattle.dia_compat.proofs.ListsOfFailings.{failing_more}
 use Rattle.dia_compat.proofs.comparing.failing_wildcards.fails_known.Goals as goal

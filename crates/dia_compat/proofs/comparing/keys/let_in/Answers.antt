@@ -1,5 +1,5 @@
 use Rattle.std.proofs.Common.{refl}
-use Rattle.dia_check.specs.Valid.{has_wildcard}
+use Rattle.dia_valid.specs.Valid.{has_wildcard}
 use Rattle.dia_compat.specs.Tests.{let_in_rule}
 use Rattle.dia_compat.proofs.FilteredMembers.{all_more_at, all_stops_at}
 use Rattle.dia_compat.proofs.comparing.keys.let_in.Goals as goal

@@ -1,6 +1,6 @@
 use Rattle.std.proofs.Common.{◌≡◌, true, take}
 use Rattle.std.specs.List.{list_all}
-use Rattle.dia_check.specs.Valid.{has_wildcard}
+use Rattle.dia_valid.specs.Valid.{has_wildcard}
 use Rattle.dia_compat.specs.Tests.{let_in_rule}
 use Rattle.dia_compat.proofs.comparing.keys.let_in.Given as goal
 

@@ -1,6 +1,6 @@
 use Rattle.std.proofs.Common.{refl}
 use Rattle.dia_compat.specs.Tests.{may_come, own_rule}
-use Rattle.dia_rules.specs.Rules.{wildcard_of}
+use Rattle.dia_valid.specs.Rules.{wildcard_of}
 use Rattle.dia_compat.proofs.FilteredMembers.{all_more_at, all_stops_at}
 use Rattle.dia_compat.proofs.comparing.keys.own_fit.Goals as goal
 

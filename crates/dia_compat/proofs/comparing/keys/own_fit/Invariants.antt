@@ -1,7 +1,7 @@
 use Rattle.std.proofs.Common.{◌≡◌, true, take}
 use Rattle.std.specs.List.{list_all}
 use Rattle.dia_compat.specs.Tests.{may_come, own_rule}
-use Rattle.dia_rules.specs.Rules.{wildcard_of}
+use Rattle.dia_valid.specs.Rules.{wildcard_of}
 use Rattle.dia_compat.proofs.comparing.keys.own_fit.Given as goal
 
 abbrev pub invariant-loop-rule : goal.invariant-loop-rule

@@ -3,7 +3,7 @@ use Rattle.std.specs.Prelude.{IfSome, slice_get}
 use Rattle.dia_book.specs.Dictionary.{Dictionary, definitions, group_place}
 use Rattle.dia_compat.specs.Sides.{Sides}
 use Rattle.dia_compat.specs.PairTests.{failed_groups}
-use Rattle.dia_rules.proofs.GroupNumbers.{group_within}
+use Rattle.dia_valid.proofs.GroupNumbers.{group_within}
 use Rattle.dia_compat.proofs.comparing.pair_tests.failed_avps.Goals as goal
 
 pub failed_groups-requires-clause-first : goal.failed_groups-requires-clause-first

@@ -3,7 +3,7 @@ use Rattle.std.specs.Prelude.{slice_get}
 use Rattle.dia_book.specs.declared.DRule.{DRule}
 use Rattle.dia_book.specs.Dictionary.{Dictionary, plain_definition, definitions, groups}
 use Rattle.dia_compat.specs.Sides.{Sides}
-use Rattle.dia_rules.specs.Rules.{rules_in}
+use Rattle.dia_valid.specs.Rules.{rules_in}
 use Rattle.dia_compat.specs.PairTests.{failed_rules}
 use Rattle.dia_compat.proofs.CommandsByCode.{pair_fails, pair_fails_tenth}
 use Rattle.dia_compat.proofs.comparing.pair_tests.failed_commands.Goals as goal

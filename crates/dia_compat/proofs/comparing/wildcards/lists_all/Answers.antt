@@ -1,5 +1,5 @@
 use Rattle.std.proofs.Common.{refl}
-use Rattle.dia_check.specs.Valid.{is_listed}
+use Rattle.dia_valid.specs.Valid.{is_listed}
 use Rattle.dia_compat.specs.Tests.{of_key}
 use Rattle.dia_compat.proofs.FilteredMembers.{all_more_at, all_stops_at}
 use Rattle.dia_compat.proofs.comparing.wildcards.lists_all.Goals as goal

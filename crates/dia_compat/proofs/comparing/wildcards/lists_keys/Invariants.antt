@@ -1,6 +1,6 @@
 use Rattle.std.proofs.Common.{◌≡◌, true, take}
 use Rattle.std.specs.List.{list_all}
-use Rattle.dia_check.specs.Valid.{is_listed}
+use Rattle.dia_valid.specs.Valid.{is_listed}
 use Rattle.dia_compat.proofs.comparing.wildcards.lists_keys.Given as goal
 
 abbrev pub invariant-loop-key : goal.invariant-loop-key

@@ -3,11 +3,11 @@ use Rattle.std.specs.Prelude.{slice_get}
 use Rattle.std.proofs.lemmas.Option.{slice_get_within}
 use Rattle.dia_data.specs.Plain.{plain_format}
 use Rattle.dia_book.specs.Dictionary.{Dictionary, DictEntry, PlainDefinition, definitions}
-use Rattle.dia_check.specs.Valid.{known}
+use Rattle.dia_valid.specs.Valid.{known}
 use Rattle.dia_compat.specs.ReachedKeys.{IsSharedGroup}
-use Rattle.dia_rules.proofs.KnownKeys.{known_by_entry}
-use Rattle.dia_rules.proofs.GroupNumbers.{group_number}
-use Rattle.dia_rules.proofs.Members.{when_some, at_some}
+use Rattle.dia_valid.proofs.KnownKeys.{known_by_entry}
+use Rattle.dia_valid.proofs.GroupNumbers.{group_number}
+use Rattle.dia_valid.proofs.Members.{when_some, at_some}
 use Rattle.dia_compat.proofs.proposing.reaching.shared_group.Goals as goal
 
 pub returns-then-is_grouped-2-clause-within : goal.returns-then-is_grouped-2-clause-within

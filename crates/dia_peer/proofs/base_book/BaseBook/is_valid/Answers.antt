@@ -5,7 +5,7 @@ use Rattle.dia_check.specs.declared.Unknown.TheVariants.{Kept}
 use Rattle.dia_check.specs.declared.Levels.TheVariants.{Any}
 use Rattle.dia_check.specs.declared.Refusal.{Refusal}
 use Rattle.dia_check.specs.declared.Refusal.TheVariants as refusal
-use Rattle.dia_check.specs.Valid.{IsValid, IsValidOf}
+use Rattle.dia_valid.specs.Valid.{IsValid, IsValidOf}
 use Rattle.dia_peer.proofs.base_book.BaseBook.is_valid.Goals as goal
 
 -- a valid message is refused for no other reason than memory

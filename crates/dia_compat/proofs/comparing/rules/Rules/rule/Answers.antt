@@ -2,8 +2,8 @@ use Rattle.std.proofs.Common.{List, sym, ap, ◌∙◌}
 use Rattle.std.specs.Prelude.{slice_get, option_and_then}
 use Rattle.dia_book.specs.declared.DRule.{DRule}
 use Rattle.dia_book.specs.declared.Slot.{Slot}
-use Rattle.dia_rules.specs.Rules.{rules_in, rule_of}
-use Rattle.dia_rules.proofs.RulesOfKeys.{place_in, rule_at}
+use Rattle.dia_valid.specs.Rules.{rules_in, rule_of}
+use Rattle.dia_valid.proofs.RulesOfKeys.{place_in, rule_at}
 use Rattle.dia_compat.proofs.comparing.rules.Rules.rule.Goals as goal
 
 pub returns-in-Fixed : goal.returns-in-Fixed

@@ -1,7 +1,7 @@
 use Rattle.std.proofs.Common.{ℕ, Option, sym, ap, ◌∙◌}
 use Rattle.std.specs.Prelude.{slice_get, option_and_then}
 use Rattle.dia_book.proofs.LookUpsByName.{find-place}
-use Rattle.dia_check.specs.Valid.{is_wildcard}
+use Rattle.dia_valid.specs.Valid.{is_wildcard}
 use Rattle.dia_compat.proofs.comparing.rules.Rules.wildcard.Goals as goal
 
 pub returns-in-Some : goal.returns-in-Some

@@ -5,7 +5,7 @@ use Rattle.dia_book.specs.declared.DRule.{DRule}
 use Rattle.dia_book.specs.Dictionary.{Dictionary, PlainDefinition, plain_definition, definitions, groups}
 use Rattle.dia_book.proofs.Members.{into_right}
 use Rattle.dia_compat.specs.Sides.{Sides}
-use Rattle.dia_rules.specs.Rules.{rules_in}
+use Rattle.dia_valid.specs.Rules.{rules_in}
 use Rattle.dia_compat.specs.ReachedKeys.{Admits, ComesToAll}
 use Rattle.dia_compat.specs.WantedNames.{names_beside, AddsPairs}
 use Rattle.dia_compat.proofs.ReachedKeys.{rules_at}

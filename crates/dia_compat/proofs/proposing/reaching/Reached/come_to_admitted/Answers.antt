@@ -1,7 +1,7 @@
 use Rattle.std.proofs.Common.{List, subst}
 use Rattle.dia_book.specs.declared.DRule.{DRule}
 use Rattle.dia_compat.specs.Below.{IsAboveZero}
-use Rattle.dia_rules.specs.Rules.{HasWildcard}
+use Rattle.dia_valid.specs.Rules.{HasWildcard}
 use Rattle.dia_compat.specs.ReachedKeys.{ComesToAll, IsAllowed}
 use Rattle.dia_compat.proofs.ReachedKeys.{admitted, rest_then}
 use Rattle.dia_compat.proofs.proposing.reaching.Reached.come_to_admitted.Goals as goal

@@ -1,7 +1,10 @@
+pub mod LongestRuns
+pub mod RunsOfOneKeyMore
+pub mod RuleCounts
+pub mod Entries
 pub mod GroupNumbers
 pub mod Members
 pub mod RulesOfKeys
 pub mod Searches
 pub mod SelectedCommands
 pub mod KnownKeys
-pub mod KindsOfRefusal

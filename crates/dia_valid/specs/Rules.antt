@@ -4,7 +4,7 @@ use Rattle.std.specs.Option.{option_map_or}
 use Rattle.dia_wire.specs.declared.Key.{Key}
 use Rattle.dia_book.specs.declared.DRule.{DRule}
 use Rattle.dia_book.specs.Dictionary.{Dictionary, definitions, lists_key}
-use Rattle.dia_check.specs.Valid.{is_wildcard}
+use Rattle.dia_valid.specs.Valid.{is_wildcard}
 
 -- the rules of a definition by its number
 abbrev pub rules_in : Dictionary → ℕ → List DRule

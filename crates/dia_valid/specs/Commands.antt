@@ -1,5 +1,5 @@
 -- What the head of a command says: its code and class, or that it is the definition for errors (RFC 6733 sections 3 and 7.2).
-use Rattle.std.specs.Prelude.{◌≡◌, ℕ, List, Option, Contains}
+use Rattle.std.specs.Prelude.{◌≡◌, ℕ, Option, Contains}
 use Rattle.dia_book.specs.declared.Class.{Class}
 use Rattle.dia_book.specs.declared.Pxy.{Pxy}
 use Rattle.dia_book.specs.declared.DefHead.TheVariants.{Command, Error}

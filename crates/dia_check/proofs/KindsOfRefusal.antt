@@ -1,7 +1,7 @@
 use Rattle.std.proofs.Common.{◌≡◌, sym, ◌∙◌}
-use Rattle.dia_check.specs.declared.Fault.{Fault}
-use Rattle.dia_check.specs.declared.Refusal.{Refusal}
-use Rattle.dia_check.specs.declared.Refusal.TheVariants as refusal
+use Rattle.dia_check.specs.declared.fault.Fault.{Fault}
+use Rattle.dia_check.specs.declared.fault.Refusal.{Refusal}
+use Rattle.dia_check.specs.declared.fault.Refusal.TheVariants as refusal
 
 -- these are no want of memory
 pub no_want_fault : (r : Refusal) (f : Fault) → r ≡ refusal.Fault f → r ≡ refusal.NoMemory → ⊥

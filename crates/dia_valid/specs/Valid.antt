@@ -84,6 +84,14 @@ IsAccepted Refused flags = ⊥
 abbrev pub known : Dictionary → Key → Option DictEntry
 known d key = option_and_then (λ i. slice_get d.entries i) (entry_of d key)
 
+-- the definition of a known group
+abbrev pub group_at : Dictionary → PlainAvp → Option PlainDefinition
+group_at d v = option_and_then (λ e. e.group) (known d (key_of v))
+
+-- the M flag is as the entry's rule says, or as the policy for unknown AVPs
+abbrev pub HasFlags : Dictionary → Unknown → Key → ℕ → Type 0
+HasFlags d u key flags = MatchOption (known d key) (IsAccepted u flags) (λ e. MHolds e.rule flags)
+
 -- the bytes are AVPs that stand as the rules say, and each has P
 abbrev pub IsLevel : (PlainAvp → Type 0) → List DRule → List ℕ → Type 0
 IsLevel P rules bytes = (avps : List PlainAvp) × SpellsAll avps bytes × Placed rules (map key_of avps) × AllByRecursion P avps

@@ -11,13 +11,13 @@ use Rattle.dia_book.specs.declared.DRule.{DRule}
 use Rattle.dia_book.specs.Keys.{same_key}
 use Rattle.dia_book.proofs.SameKeys.{same_key-refl, same_key-true}
 use Rattle.dia_book.specs.Dictionary.{Dictionary, is_fixed, lists_key, PlainDefinition, definitions, slot_at, slot_of}
-use Rattle.dia_check.specs.Valid.{InBounds, Runs, is_listed}
-use Rattle.dia_check.proofs.LongestRuns.{AreDistinct}
+use Rattle.dia_valid.specs.Valid.{InBounds, Runs, is_listed}
+use Rattle.dia_valid.proofs.LongestRuns.{AreDistinct}
 use Rattle.dia_book.specs.declared.Slot.{Slot}
 use Rattle.dia_book.specs.declared.Slot.TheVariants.{Fixed, Loose, Unlisted}
 use Rattle.dia_book.proofs.LookUpsByName.{find-place}
-use Rattle.dia_rules.specs.Rules.{rule_of, rules_in}
-use Rattle.dia_rules.proofs.Members.{IsIn, all_append, all_map, any_in, count_all, count_append, count_none, in_all, in_any}
+use Rattle.dia_valid.specs.Rules.{rule_of, rules_in}
+use Rattle.dia_valid.proofs.Members.{IsIn, all_append, all_map, any_in, count_all, count_append, count_none, in_all, in_any}
 
 pub key_of_test : (key : Key) (o : Option Key) → option_map_or (same_key key) o false ≡ true → o ≡ Some key
 key_of_test key None h = absurd (let e : false ≡ true = h in cc)

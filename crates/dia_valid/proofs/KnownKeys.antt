@@ -5,8 +5,8 @@ use Rattle.std.proofs.lemmas.Option.{same_Some}
 use Rattle.dia_wire.specs.declared.Key.{Key}
 use Rattle.dia_book.specs.Keys.{same_key}
 use Rattle.dia_book.specs.Dictionary.{Dictionary, DictEntry, entry_of}
-use Rattle.dia_check.specs.Valid.{known}
-use Rattle.dia_rules.proofs.Searches.{Found, NotFound, found_or_not}
+use Rattle.dia_valid.specs.Valid.{known}
+use Rattle.dia_valid.proofs.Searches.{Found, NotFound, found_or_not}
 
 pub known_by_entry : (d : Dictionary) (key : Key) (i : ℕ) → entry_of d key ≡ Some i → (e : DictEntry) × (slice_get d.entries i ≡ Some e) × (known d key ≡ Some e)
 known_by_entry d key i at = by (found_or_not (λ (e : DictEntry). same_key key e.key) d.entries)

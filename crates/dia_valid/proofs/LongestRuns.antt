@@ -11,8 +11,8 @@ use Rattle.dia_wire.specs.declared.Key.{Key}
 use Rattle.dia_book.specs.declared.DRule.{DRule}
 use Rattle.dia_book.specs.Keys.{same_key}
 use Rattle.dia_book.specs.Dictionary.{lists_key}
-use Rattle.dia_check.specs.Valid.{InBounds, Runs}
-use Rattle.dia_check.specs.Faults.{runs}
+use Rattle.dia_valid.specs.Valid.{InBounds, Runs}
+use Rattle.dia_valid.specs.LongestRuns.{runs}
 
 abbrev is_of : DRule → Key → Bool
 is_of rule key = lists_key key rule

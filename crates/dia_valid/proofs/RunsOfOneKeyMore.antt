@@ -6,8 +6,8 @@ use Rattle.std.proofs.lemmas.List.{drop-append-le, length-append}
 use Rattle.dia_wire.specs.declared.Key.{Key}
 use Rattle.dia_book.specs.declared.DRule.{DRule}
 use Rattle.dia_book.specs.Dictionary.{lists_key}
-use Rattle.dia_check.specs.Faults.{runs}
-use Rattle.dia_check.specs.OpenLevels.{IsAt}
+use Rattle.dia_valid.specs.LongestRuns.{runs}
+use Rattle.dia_valid.specs.LongestRuns.{IsAt}
 
 abbrev pub is_of : DRule → Key → Bool
 is_of rule key = lists_key key rule

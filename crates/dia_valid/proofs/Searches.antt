@@ -5,7 +5,7 @@ use Rattle.std.proofs.lemmas.Bool.{false_from_ne_true}
 use Rattle.std.proofs.lemmas.Option.{none-some, slice_get-get_or}
 use Rattle.std.proofs.lemmas.List.Quantifiers.{position-Some}
 use Rattle.dia_book.proofs.Members.{position-is_some}
-use Rattle.dia_rules.proofs.Members.{IsIn, at_in}
+use Rattle.dia_valid.proofs.Members.{IsIn, at_in}
 
 pub record Found {X : Type 0} (p : X → Bool) (xs : List X) : Type 0 where
   pub place : ℕ

@@ -10,9 +10,9 @@ use Rattle.dia_book.specs.declared.DefHead.{DefHead}
 use Rattle.dia_book.specs.declared.DefHead.TheVariants.{Group, Command, Error}
 use Rattle.dia_book.specs.Dictionary.{Dictionary, PlainDefinition, IsDictionary, AreRules, IsCommandHead, groups, definitions, selected, is_command, same_class}
 use Rattle.dia_book.proofs.NumberedGroups.{slice_get-append_right}
-use Rattle.dia_rules.specs.Commands.{HasCode, IsError, NamesApp}
-use Rattle.dia_rules.proofs.Members.{IsIn, at_in, in_contains, in_right, all_of}
-use Rattle.dia_rules.proofs.Searches.{Found, NotFound, found_or_not}
+use Rattle.dia_valid.specs.Commands.{HasCode, IsError, NamesApp}
+use Rattle.dia_valid.proofs.Members.{IsIn, at_in, in_contains, in_right, all_of}
+use Rattle.dia_valid.proofs.Searches.{Found, NotFound, found_or_not}
 
 -- ---- the command of a header
 

@@ -13,11 +13,11 @@ use Rattle.dia_book.specs.declared.DRule.{DRule}
 use Rattle.dia_book.specs.Dictionary.{AreRules, is_fixed, lists_key}
 use Rattle.dia_book.proofs.Members.{at_filter}
 use Rattle.dia_book.proofs.NumberedGroups.{slice_get-append_left}
-use Rattle.dia_check.specs.Valid.{InBounds, Placed, MayBeLoose, fixed_rules, loose_rules, counted, is_wildcard, is_listed}
-use Rattle.dia_check.specs.Faults.{runs, met, loose_start}
-use Rattle.dia_check.proofs.LongestRuns.{AllInBounds, longest_are_runs, sum-cons}
-use Rattle.dia_check.specs.OpenLevels.{IsAt}
-use Rattle.dia_check.proofs.RunsOfOneKeyMore.{is_of, NoneFrom, Reaches, one_more, same_runs, longer_run, in_run}
+use Rattle.dia_valid.specs.Valid.{InBounds, Placed, MayBeLoose, fixed_rules, loose_rules, counted, is_wildcard, is_listed}
+use Rattle.dia_valid.specs.LongestRuns.{runs, met, loose_start}
+use Rattle.dia_valid.proofs.LongestRuns.{AllInBounds, longest_are_runs, sum-cons}
+use Rattle.dia_valid.specs.LongestRuns.{IsAt}
+use Rattle.dia_valid.proofs.RunsOfOneKeyMore.{is_of, NoneFrom, Reaches, one_more, same_runs, longer_run, in_run}
 
 both : (a b : Bool) → (a && b) ≡ true → (a ≡ true) × (b ≡ true)
 both true b h = (refl, h)
