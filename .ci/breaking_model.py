@@ -9,14 +9,15 @@ import math
 import re
 from dataclasses import dataclass, field
 
+from formats import SIZES, of_data
+
 LONGEST = 16777212
 """The most bytes of a message."""
 OUTSIDE = 0
 """Stands for every key that neither dictionary knows."""
 BELOW = [("DiameterIdentity", "UTF8String"), ("DiameterURI", "UTF8String"), ("Enumerated", "Integer32")]
 """Formats whose values are those of another."""
-ANY_DATA = ("OctetString", "IPFilterRule", "QoSFilterRule")
-SIZES = {"Integer32": 4, "Unsigned32": 4, "Float32": 4, "Time": 4, "Enumerated": 4, "Integer64": 8, "Unsigned64": 8, "Float64": 8}
+ANY_DATA = of_data("any")
 SHORTEST = {"Address": 2, "DiameterIdentity": 1, "DiameterURI": 7, "UTF8String": 0, **{name: 0 for name in ANY_DATA}, **SIZES}
 
 

@@ -2,6 +2,8 @@
 
 The AVPs of keys 1 to 5 are leaves, 6 and 7 groups; each is called K and its number, and has the code 9000 and its number."""
 
+from formats import of_data
+
 LEAVES, GROUPS = range(1, 6), (6, 7)
 FORMATS = [
     "OctetString", "UTF8String", "Unsigned32", "Integer64", "Address", "DiameterIdentity", "DiameterURI", "Time", "Enumerated",
@@ -14,8 +16,7 @@ DATA = {
 }
 """Data of each format. Those of Enumerated are of a list mostly."""
 SAME_BYTES = [
-    ["Unsigned32", "Integer32", "Float32", "Time", "Enumerated"], ["Integer64", "Unsigned64", "Float64"],
-    ["OctetString", "UTF8String", "IPFilterRule", "QoSFilterRule"], ["DiameterURI", "DiameterIdentity", "Address"],
+    [*of_data(4), "Enumerated"], of_data(8), [*of_data("any"), "UTF8String"], ["DiameterURI", "DiameterIdentity", "Address"],
 ]
 """Formats of which each has data of another in its row."""
 COUNTS = [("", ""), ("", ""), ("1", ""), ("", "2"), ("2", ""), ("1", "3"), ("0", "1"), ("2", "2")]

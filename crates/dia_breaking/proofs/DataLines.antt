@@ -6,7 +6,7 @@ use Rattle.std.proofs.lemmas.Option.{none-some, same_Some}
 use Rattle.std.proofs.lemmas.Str.{IsUtf8-nil}
 use Rattle.dia_wire.specs.declared.Key.{Key}
 use Rattle.dia_wire.specs.Wire.{PlainAvp, SpellsAll, avp_length}
-use Rattle.dia_data.specs.Plain.{PlainFormat, Integer64, Unsigned64, Float64, Address, Utf8String}
+use Rattle.dia_data.specs.Plain.{PlainFormat, EightBytes, Address, Utf8String}
 use Rattle.dia_book.specs.declared.DRule.{DRule}
 use Rattle.dia_book.specs.Dictionary.{Dictionary, DictEntry, PlainDefinition}
 use Rattle.dia_policy.specs.declared.Sends.{Sends}
@@ -63,9 +63,7 @@ ordinary = short (least ∷ []) least (0, omega arith, refl) (let size : avp_len
 
 -- each format of eight bytes accepts that level
 accepts_eight : (rules : List DRule) (f : PlainFormat) → HasEightBytes f → RefusesLeastLevel rules f → ⊥
-accepts_eight rules Integer64 may refuses = refuses (least ∷ []) least_bytes spelled ordinary refl
-accepts_eight rules Unsigned64 may refuses = refuses (least ∷ []) least_bytes spelled ordinary refl
-accepts_eight rules Float64 may refuses = refuses (least ∷ []) least_bytes spelled ordinary refl
+accepts_eight rules (EightBytes name) may refuses = refuses (least ∷ []) least_bytes spelled ordinary refl
 accepts_eight rules f may refuses = absurd may
 
 -- each undecided format accepts some ordinary level, or no level is empty

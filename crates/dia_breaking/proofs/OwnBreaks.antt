@@ -8,7 +8,7 @@ use Rattle.std.proofs.lemmas.List.{length-append}
 use Rattle.std.proofs.lemmas.Str.{is_utf8-from_IsUtf8}
 use Rattle.dia_wire.specs.declared.Key.{Key}
 use Rattle.dia_data.specs.Leaf.{IsLeaf, IsAddress}
-use Rattle.dia_data.specs.Plain.{PlainFormat, Integer64, Unsigned64, Float64, Address, Utf8String}
+use Rattle.dia_data.specs.Plain.{PlainFormat, EightBytes, Address, Utf8String}
 use Rattle.dia_book.specs.declared.DRule.{DRule}
 use Rattle.dia_book.specs.Dictionary.{Dictionary, DictEntry, PlainDefinition}
 use Rattle.dia_valid.specs.Valid.{known}
@@ -49,9 +49,7 @@ least_all rules Address refuses all = no_address (all [])
 least_all rules format refuses all = refuses [] [] refl empty (all [])
 
 eight_all : (format : PlainFormat) → HasEightBytes format → ((bytes : List ℕ) → IsLeaf format bytes) → ⊥
-eight_all Integer64 has all = let e : 0 ≡ 8 = all [] in omega (arith, e)
-eight_all Unsigned64 has all = let e : 0 ≡ 8 = all [] in omega (arith, e)
-eight_all Float64 has all = let e : 0 ≡ 8 = all [] in omega (arith, e)
+eight_all (EightBytes name) has all = let e : 0 ≡ 8 = all [] in omega (arith, e)
 eight_all format has all = absurd has
 
 undecided_all : (d : Dictionary) (who : Sends) (rules : List DRule) (format : PlainFormat) → IsUndecided d who rules format → ((bytes : List ℕ) → IsLeaf format bytes) → ⊥

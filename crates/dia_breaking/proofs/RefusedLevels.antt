@@ -7,7 +7,7 @@ use Rattle.std.proofs.lemmas.Option.{slice_get_within}
 use Rattle.dia_wire.specs.declared.Key.{Key}
 use Rattle.dia_wire.specs.Wire.{PlainAvp, SpellsAll}
 use Rattle.dia_data.specs.Leaf.{IsLeaf}
-use Rattle.dia_data.specs.Plain.{PlainFormat, OctetString, Integer32, Integer64, Unsigned32, Unsigned64, Float32, Float64, Grouped, Address, Time, Utf8String, DiameterIdentity, DiameterUri, Enumerated, IpFilterRule, QosFilterRule}
+use Rattle.dia_data.specs.Plain.{PlainFormat, AnyBytes, FourBytes, EightBytes, Grouped, Address, Utf8String, DiameterIdentity, DiameterUri, Enumerated}
 use Rattle.dia_book.specs.declared.DRule.{DRule}
 use Rattle.dia_book.specs.Dictionary.{DictEntry, PlainDefinition}
 use Rattle.dia_valid.specs.Valid.{Fits, IsLevel, known}
@@ -51,39 +51,25 @@ module _ (rules : List DRule) (bytes : List ℕ) (avps : List PlainAvp) (spelled
       let cut = length-append leaf.family leaf.rest in
       let two = leaf.width in
       absurd (omega (arith, none, size, cut, two))
-  level_refused OctetString h leaf = h avps bytes spelled own leaf
-  level_refused Integer32 h leaf = h avps bytes spelled own leaf
-  level_refused Integer64 h leaf = h avps bytes spelled own leaf
-  level_refused Unsigned32 h leaf = h avps bytes spelled own leaf
-  level_refused Unsigned64 h leaf = h avps bytes spelled own leaf
-  level_refused Float32 h leaf = h avps bytes spelled own leaf
-  level_refused Float64 h leaf = h avps bytes spelled own leaf
+  level_refused (AnyBytes name) h leaf = h avps bytes spelled own leaf
+  level_refused (FourBytes name) h leaf = h avps bytes spelled own leaf
+  level_refused (EightBytes name) h leaf = h avps bytes spelled own leaf
   level_refused Grouped h leaf = h avps bytes spelled own leaf
-  level_refused Time h leaf = h avps bytes spelled own leaf
   level_refused Utf8String h leaf = h avps bytes spelled own leaf
   level_refused DiameterIdentity h leaf = h avps bytes spelled own leaf
   level_refused DiameterUri h leaf = h avps bytes spelled own leaf
   level_refused (Enumerated ranges) h leaf = h avps bytes spelled own leaf
-  level_refused IpFilterRule h leaf = h avps bytes spelled own leaf
-  level_refused QosFilterRule h leaf = h avps bytes spelled own leaf
 
 eight_long : (format : PlainFormat) (bytes : List ℕ) → HasEightBytes format → IsLeaf format bytes → length bytes ≡ 8
-eight_long Integer64 bytes has leaf = leaf
-eight_long Unsigned64 bytes has leaf = leaf
-eight_long Float64 bytes has leaf = leaf
-eight_long OctetString bytes has leaf = absurd has
-eight_long Integer32 bytes has leaf = absurd has
-eight_long Unsigned32 bytes has leaf = absurd has
-eight_long Float32 bytes has leaf = absurd has
+eight_long (EightBytes name) bytes has leaf = leaf
+eight_long (AnyBytes name) bytes has leaf = absurd has
+eight_long (FourBytes name) bytes has leaf = absurd has
 eight_long Grouped bytes has leaf = absurd has
 eight_long Address bytes has leaf = absurd has
-eight_long Time bytes has leaf = absurd has
 eight_long Utf8String bytes has leaf = absurd has
 eight_long DiameterIdentity bytes has leaf = absurd has
 eight_long DiameterUri bytes has leaf = absurd has
 eight_long (Enumerated ranges) bytes has leaf = absurd has
-eight_long IpFilterRule bytes has leaf = absurd has
-eight_long QosFilterRule bytes has leaf = absurd has
 
 eight_or_more : (vendor code n : ℕ) → 8 ≤ shortest_head (record { code = code; vendor = vendor }) + n
 eight_or_more zero code n = omega arith

@@ -11,7 +11,7 @@ use Rattle.dia_book.specs.Dictionary.{Dictionary, DictEntry, PlainDefinition}
 use Rattle.dia_policy.specs.declared.Unknown.{Unknown}
 use Rattle.dia_policy.specs.declared.Sends.{Sends}
 use Rattle.dia_valid.specs.Valid.{Fits, IsLevel}
-use Rattle.dia_check.proofs.FaultlessMessages.{leaf_fits}
+use Rattle.dia_data.proofs.Leaves.{leaf_fits}
 use Rattle.dia_breaking_avps.specs.Breaks.{IsDataBreak}
 use Rattle.dia_breaking_avps.specs.Levels.{IsUndecided}
 use Rattle.dia_breaking_avps.specs.Sent.{IsAcceptedData, group_rules}

@@ -8,8 +8,7 @@ use Rattle.std.specs.Borrow.{Bor}
 use Rattle.std.specs.Fmt.{decimal}
 use Rattle.dia_wire.specs.declared.Key.{Key}
 use Rattle.dia_data.specs.declared.Format.{Format}
-use Rattle.dia_data.specs.Plain.{PlainFormat, plain_format, OctetString, Integer32, Integer64, Unsigned32, Unsigned64, Float32, Float64, Grouped, Address}
-use Rattle.dia_data.specs.Plain.{Time, Utf8String, DiameterIdentity, DiameterUri, Enumerated, IpFilterRule, QosFilterRule}
+use Rattle.dia_data.specs.Plain.{PlainFormat, plain_format, word_of}
 use Rattle.dia_breaking.specs.Runs.{canonical, lacking_of, ranges_in}
 use Rattle.dia_book.specs.declared.DRule.{DRule}
 use Rattle.dia_book.specs.Dictionary.{Dictionary, definitions, groups, selected}
@@ -155,26 +154,6 @@ abbrev pub level_text : Sides → (Key → ℕ) → ℕ → Option Site → Leve
 level_text s other c site line = reason_word line.reason ++ codes " " ++ subject_name s line.key ++ codes ": "
     ++ option_map_or (λ at. level_detail s other c line at.place) site []
 
--- ---- formats
-
-abbrev pub format_word : PlainFormat → List ℕ
-format_word OctetString = codes "OctetString"
-format_word Integer32 = codes "Integer32"
-format_word Integer64 = codes "Integer64"
-format_word Unsigned32 = codes "Unsigned32"
-format_word Unsigned64 = codes "Unsigned64"
-format_word Float32 = codes "Float32"
-format_word Float64 = codes "Float64"
-format_word Grouped = codes "Grouped"
-format_word Address = codes "Address"
-format_word Time = codes "Time"
-format_word Utf8String = codes "UTF8String"
-format_word DiameterIdentity = codes "DiameterIdentity"
-format_word DiameterUri = codes "DiameterURI"
-format_word (Enumerated ranges) = codes "Enumerated"
-format_word IpFilterRule = codes "IPFilterRule"
-format_word QosFilterRule = codes "QoSFilterRule"
-
 abbrev pub plain_of : Option (Bor Format) → Option PlainFormat
 plain_of format = option_map (λ f. plain_format f.now) format
 
@@ -195,7 +174,7 @@ list_text ranges = option_map_or (λ numbers. codes " ( " ++ ranges_text numbers
 
 -- the word of a format, and all numbers of its list
 abbrev pub whole_format : PlainFormat → List ℕ
-whole_format format = format_word format ++ list_text (ranges_in format)
+whole_format format = word_of format ++ list_text (ranges_in format)
 
 abbrev pub formats_text : Option PlainFormat → Option PlainFormat → List ℕ
 formats_text sent accepted =

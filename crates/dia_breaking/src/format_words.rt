@@ -3,7 +3,7 @@ ghost use Rattle.std.specs.Prelude.{◌≡◌, ◌++◌, IfOk, OnOk, codes};
 ghost use Rattle.std.specs.Option.{option_map, option_map_or};
 ghost use Rattle.dia_data.specs.Plain.{plain_format};
 ghost use Rattle.dia_breaking.specs.Runs.{lacking_of};
-ghost use Rattle.dia_breaking.specs.Words.{format_detail, format_word, formats_text, plain_of};
+ghost use Rattle.dia_breaking.specs.Words.{format_detail, formats_text, plain_of};
 ghost use Rattle.dia_breaking.specs.Words.{range_text, ranges_at, ranges_text, readings_text};
 ghost use Rattle.dia_breaking.specs.Words.{whole_format, Writes};
 
@@ -114,7 +114,7 @@ fn push_format_or(
 fn push_whole(out: &mut String, format: &Format) -> Result<(), AllocError>
     ensures { OnOk result (Writes out.old out.new (whole_format (plain_format format.now))) }
 {
-    out.push_str(format_word(format))?;
+    out.push_str(format.word())?;
     match numbers_of(format) {
         Some(numbers) => push_list(out, numbers),
         None => Ok(()),
@@ -127,27 +127,4 @@ fn push_list(out: &mut String, numbers: &[(u32, u32)]) -> Result<(), AllocError>
     out.push_str(" ( ")?;
     push_ranges(out, numbers)?;
     out.push_str(")")
-}
-
-fn format_word(format: &Format) -> &'static str
-    ensures { result.now ≡ format_word (plain_format format.now) }
-{
-    match format {
-        Format::OctetString => "OctetString",
-        Format::Integer32 => "Integer32",
-        Format::Integer64 => "Integer64",
-        Format::Unsigned32 => "Unsigned32",
-        Format::Unsigned64 => "Unsigned64",
-        Format::Float32 => "Float32",
-        Format::Float64 => "Float64",
-        Format::Grouped => "Grouped",
-        Format::Address => "Address",
-        Format::Time => "Time",
-        Format::Utf8String => "UTF8String",
-        Format::DiameterIdentity => "DiameterIdentity",
-        Format::DiameterUri => "DiameterURI",
-        Format::Enumerated(_) => "Enumerated",
-        Format::IpFilterRule => "IPFilterRule",
-        Format::QosFilterRule => "QoSFilterRule",
-    }
 }

@@ -1,5 +1,6 @@
 pub mod Entries
 pub mod FirstAvps
+pub mod KindsOfLeaves
 pub mod EmptyLevels
 pub mod NoLevels
 pub mod Heads

@@ -4,8 +4,7 @@ use Rattle.std.specs.Prelude.{◌⊎◌, codes}
 use Rattle.std.specs.List.{AllByRecursion}
 use Rattle.std.proofs.lemmas.Str.{IsUtf8-nil}
 use Rattle.dia_wire.specs.Wire.{PlainAvp, key_of, SpellsAll}
-use Rattle.dia_data.specs.Plain.{PlainFormat, OctetString, Integer32, Integer64, Unsigned32, Unsigned64, Float32, Float64, Grouped, Address}
-use Rattle.dia_data.specs.Plain.{Time, Utf8String, DiameterIdentity, DiameterUri, Enumerated, IpFilterRule, QosFilterRule}
+use Rattle.dia_data.specs.Plain.{PlainFormat, AnyBytes, FourBytes, EightBytes, Grouped, Address, Utf8String, DiameterIdentity, DiameterUri, Enumerated}
 use Rattle.dia_data.specs.Leaf.{IsAddress, IsGraphic, IsIdentity, IsLeaf, IsUri, NamesScheme}
 use Rattle.dia_data.proofs.FormatsBelow.{leaf_below}
 use Rattle.dia_book.specs.declared.DRule.{DRule}
@@ -72,35 +71,23 @@ below w n le less = omega (arith, le, less)
 
 -- shortest data has less than 8 bytes, or any 8 bytes are data of the format
 short_or_eight : (f : PlainFormat) (w : List ℕ) → IsShortestLeaf f w → (length w < 8) ⊎ ((bytes : List ℕ) → length bytes ≡ 8 → IsLeaf f bytes)
-short_or_eight OctetString w s = inl (below w 0 (s.least [] tt) (omega arith))
-short_or_eight Integer32 w s = let four : length w ≡ 4 = s.leaf in inl (omega (arith, four))
-short_or_eight Integer64 w s = inr (λ bytes e. e)
-short_or_eight Unsigned32 w s = let four : length w ≡ 4 = s.leaf in inl (omega (arith, four))
-short_or_eight Unsigned64 w s = inr (λ bytes e. e)
-short_or_eight Float32 w s = let four : length w ≡ 4 = s.leaf in inl (omega (arith, four))
-short_or_eight Float64 w s = inr (λ bytes e. e)
+short_or_eight (AnyBytes name) w s = inl (below w 0 (s.least [] tt) (omega arith))
+short_or_eight (FourBytes name) w s = let four : length w ≡ 4 = s.leaf in inl (omega (arith, four))
+short_or_eight (EightBytes name) w s = inr (λ bytes e. e)
 short_or_eight Grouped w s = absurd s.leaf
 short_or_eight Address w s = inl (below w 2 (s.least (0 ∷ 0 ∷ []) no_family) (omega arith))
-short_or_eight Time w s = let four : length w ≡ 4 = s.leaf in inl (omega (arith, four))
 short_or_eight Utf8String w s = inl (below w 0 (s.least [] IsUtf8-nil) (omega arith))
 short_or_eight DiameterIdentity w s = inl (below w 1 (s.least (97 ∷ []) one_letter) (omega arith))
 short_or_eight DiameterUri w s = inl (below w 7 (s.least least_uri is_uri) (omega arith))
 short_or_eight (Enumerated ranges) w s = let four : length w ≡ 4 = s.leaf.0 in inl (omega (arith, four))
-short_or_eight IpFilterRule w s = inl (below w 0 (s.least [] tt) (omega arith))
-short_or_eight QosFilterRule w s = inl (below w 0 (s.least [] tt) (omega arith))
 
 -- a format of no data is one of a letter
 letter_too : (f : PlainFormat) → IsLeaf f [] → IsLeaf f (97 ∷ [])
-letter_too OctetString h = tt
-letter_too Integer32 h = absurd (let e : 0 ≡ 4 = h in omega (arith, e))
-letter_too Integer64 h = absurd (let e : 0 ≡ 8 = h in omega (arith, e))
-letter_too Unsigned32 h = absurd (let e : 0 ≡ 4 = h in omega (arith, e))
-letter_too Unsigned64 h = absurd (let e : 0 ≡ 8 = h in omega (arith, e))
-letter_too Float32 h = absurd (let e : 0 ≡ 4 = h in omega (arith, e))
-letter_too Float64 h = absurd (let e : 0 ≡ 8 = h in omega (arith, e))
+letter_too (AnyBytes name) h = tt
+letter_too (FourBytes name) h = absurd (let e : 0 ≡ 4 = h in omega (arith, e))
+letter_too (EightBytes name) h = absurd (let e : 0 ≡ 8 = h in omega (arith, e))
 letter_too Grouped h = absurd h
 letter_too Address h = absurd (let e = ap length h.parts in omega (arith, e, length-append h.family h.rest, h.width))
-letter_too Time h = absurd (let e : 0 ≡ 4 = h in omega (arith, e))
 letter_too Utf8String h = leaf_below DiameterIdentity Utf8String tt (97 ∷ []) one_letter
 letter_too DiameterIdentity h = absurd (let some = h.0 in omega (arith, some))
 letter_too DiameterUri h = absurd (no_uri h)
@@ -112,8 +99,6 @@ letter_too DiameterUri h = absurd (no_uri h)
     no_uri (inl n, all) = some _ n
     no_uri (inr n, all) = some _ n
 letter_too (Enumerated ranges) h = absurd (let e : 0 ≡ 4 = h.0 in omega (arith, e))
-letter_too IpFilterRule h = tt
-letter_too QosFilterRule h = tt
 
 -- ---- levels
 

@@ -3,7 +3,7 @@ use Rattle.std.proofs.Common.{◌≡◌, ℕ, List, [], Option, Some, None, refl
 use Rattle.std.specs.Prelude.{is_some, slice_get, option_and_then, MatchOption, IfSome, ⊤}
 use Rattle.std.specs.Option.{option_map, option_map_or}
 use Rattle.dia_wire.specs.declared.Key.{Key}
-use Rattle.dia_data.specs.Plain.{PlainFormat, OctetString}
+use Rattle.dia_data.specs.Plain.{PlainFormat, AnyBytes, EightBytes, OctetString}
 use Rattle.dia_data.specs.Leaf.{IsLeaf}
 use Rattle.dia_book.specs.declared.DRule.{DRule}
 use Rattle.dia_book.specs.Dictionary.{Dictionary, DictEntry, PlainDefinition, IsDictionary, definitions, entry_of, group_place}
@@ -141,9 +141,9 @@ module _ (da db : Dictionary) (who : Sends) (u : Unknown) (key : Key) (e : DictE
       by found.Undecided k = absurd k
 
   -- A doesn't know the AVP
-  pub from_unknown : known da key ≡ None → (r : DataBreak) → who ≡ senders.Any → IsLeafBreak (IsLeaf OctetString) (IsEntryData db u e) r → IsDataBreak da db who u key r
+  pub from_unknown : known da key ≡ None → (r : DataBreak) → who ≡ senders.Any → IsLeafBreak (IsLeaf (AnyBytes OctetString)) (IsEntryData db u e) r → IsDataBreak da db who u key r
   from_unknown none r any h = leaf_break r (ap (λ (o : Option DictEntry). option_and_then (λ x. x.group) o) none)
-      (same_break (IsLeaf OctetString) (IsSentData da who key) (IsEntryData db u e) (IsEntryData db u e) (λ bytes k. sent bytes) (λ bytes k. tt) (λ bytes k. k) (λ bytes k. k) r h)
+      (same_break (IsLeaf (AnyBytes OctetString)) (IsSentData da who key) (IsEntryData db u e) (IsEntryData db u e) (λ bytes k. sent bytes) (λ bytes k. tt) (λ bytes k. k) (λ bytes k. k) r h)
     where
       sent : (bytes : List ℕ) → IsSentData da who key bytes
       sent bytes = subst

@@ -5,7 +5,7 @@ use Rattle.std.proofs.lemmas.List.{length-append}
 use Rattle.std.proofs.lemmas.Option.{none-some}
 use Rattle.dia_wire.specs.declared.Key.{Key}
 use Rattle.dia_wire.specs.Wire.{PlainAvp, SpellsAll}
-use Rattle.dia_data.specs.Plain.{PlainFormat, Integer64, Unsigned64, Float64}
+use Rattle.dia_data.specs.Plain.{PlainFormat, EightBytes}
 use Rattle.dia_data.specs.Leaf.{IsLeaf}
 use Rattle.dia_book.specs.Dictionary.{Dictionary, DictEntry, PlainDefinition}
 use Rattle.dia_policy.specs.declared.sends.Sends.{Sends}
@@ -46,9 +46,7 @@ eight avps bytes h some less = by (level_long avps bytes h) (aligned avps bytes 
     by (inr long) four = omega (arith, long, less, four)
 
 is_leaf : (format : PlainFormat) → HasEightBytes format → (bytes : List ℕ) → length bytes ≡ 8 → IsLeaf format bytes
-is_leaf Integer64 has bytes e = e
-is_leaf Unsigned64 has bytes e = e
-is_leaf Float64 has bytes e = e
+is_leaf (EightBytes name) has bytes e = e
 is_leaf format has bytes e = absurd has
 
 pub short_accepted : ShortLevelsAreAccepted

@@ -9,8 +9,7 @@ use Rattle.std.proofs.lemmas.Option.{none-some}
 use Rattle.std.proofs.lemmas.Str.{IsUtf8-from_is_utf8, is_utf8-from_IsUtf8}
 use Rattle.dia_wire.specs.declared.Key.{Key}
 use Rattle.dia_data.specs.Number.{number}
-use Rattle.dia_data.specs.Plain.{PlainFormat, OctetString, Integer32, Integer64, Unsigned32, Unsigned64, Float32, Float64, Grouped, Address}
-use Rattle.dia_data.specs.Plain.{Time, Utf8String, DiameterIdentity, DiameterUri, Enumerated, IpFilterRule, QosFilterRule}
+use Rattle.dia_data.specs.Plain.{PlainFormat, AnyBytes, FourBytes, EightBytes, Grouped, Address, Utf8String, DiameterIdentity, DiameterUri, Enumerated}
 use Rattle.dia_data.specs.Leaf.{IsAddress, IsGraphic, IsLeaf, IsListed, IsWithin, NamesScheme}
 use Rattle.dia_data.specs.Ranges.{covers}
 use Rattle.dia_data.proofs.Addresses.{address_from_long, long_from_address}
@@ -138,22 +137,15 @@ listed_told (Some ranges) n = by (list_any (covers n) ranges) refl
     by false e = inr (λ any. absurd (both_ways (list_any (covers n) ranges) e ((any_within n ranges).1 any)))
 
 leaf_told : (f : PlainFormat) (bytes : List ℕ) → Told (IsLeaf f bytes)
-leaf_told OctetString bytes = inl tt
-leaf_told Integer32 bytes = same_told (length bytes) 4
-leaf_told Integer64 bytes = same_told (length bytes) 8
-leaf_told Unsigned32 bytes = same_told (length bytes) 4
-leaf_told Unsigned64 bytes = same_told (length bytes) 8
-leaf_told Float32 bytes = same_told (length bytes) 4
-leaf_told Float64 bytes = same_told (length bytes) 8
+leaf_told (AnyBytes name) bytes = inl tt
+leaf_told (FourBytes name) bytes = same_told (length bytes) 4
+leaf_told (EightBytes name) bytes = same_told (length bytes) 8
 leaf_told Grouped bytes = inr (λ leaf. leaf)
 leaf_told Address bytes = address_told bytes
-leaf_told Time bytes = same_told (length bytes) 4
 leaf_told Utf8String bytes = text_told bytes
 leaf_told DiameterIdentity bytes = both (less_told 0 (length bytes)) (graphic_told bytes)
 leaf_told DiameterUri bytes = both (either (scheme_told (codes "aaa://") bytes) (scheme_told (codes "aaas://") bytes)) (graphic_told bytes)
 leaf_told (Enumerated ranges) bytes = both (same_told (length bytes) 4) (listed_told ranges (number bytes))
-leaf_told IpFilterRule bytes = inl tt
-leaf_told QosFilterRule bytes = inl tt
 
 -- ---- data that are no level
 
@@ -165,22 +157,15 @@ one_byte : IsNoLevel (97 ∷ [])
 one_byte = record { short = inl (omega arith, omega arith) }
 
 no_level : (f : PlainFormat) (bytes : List ℕ) → IsLeaf f bytes → 8 ≤ length bytes → (other : List ℕ) × IsLeaf f other × IsNoLevel other
-no_level OctetString bytes leaf long = (97 ∷ [], tt, one_byte)
-no_level Integer32 bytes leaf long = absurd (let e : length bytes ≡ 4 = leaf in omega (arith, e, long))
-no_level Integer64 bytes leaf long = (eight_zeros, refl, record { short = inr refl })
-no_level Unsigned32 bytes leaf long = absurd (let e : length bytes ≡ 4 = leaf in omega (arith, e, long))
-no_level Unsigned64 bytes leaf long = (eight_zeros, refl, record { short = inr refl })
-no_level Float32 bytes leaf long = absurd (let e : length bytes ≡ 4 = leaf in omega (arith, e, long))
-no_level Float64 bytes leaf long = (eight_zeros, refl, record { short = inr refl })
+no_level (AnyBytes name) bytes leaf long = (97 ∷ [], tt, one_byte)
+no_level (FourBytes name) bytes leaf long = absurd (let e : length bytes ≡ 4 = leaf in omega (arith, e, long))
+no_level (EightBytes name) bytes leaf long = (eight_zeros, refl, record { short = inr refl })
 no_level Grouped bytes leaf long = absurd leaf
 no_level Address bytes leaf long = (0 ∷ 0 ∷ [], no_family, record { short = inl (omega arith, omega arith) })
-no_level Time bytes leaf long = absurd (let e : length bytes ≡ 4 = leaf in omega (arith, e, long))
 no_level Utf8String bytes leaf long = (97 ∷ [], leaf_below DiameterIdentity Utf8String tt (97 ∷ []) one_letter, one_byte)
 no_level DiameterIdentity bytes leaf long = (97 ∷ [], one_letter, one_byte)
 no_level DiameterUri bytes leaf long = (least_uri, is_uri, record { short = inl (omega arith, omega arith) })
 no_level (Enumerated ranges) bytes leaf long = absurd (let e : length bytes ≡ 4 = leaf.0 in omega (arith, e, long))
-no_level IpFilterRule bytes leaf long = (97 ∷ [], tt, one_byte)
-no_level QosFilterRule bytes leaf long = (97 ∷ [], tt, one_byte)
 
 -- ---- shorter data
 

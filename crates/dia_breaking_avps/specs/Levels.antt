@@ -2,7 +2,7 @@
 use Rattle.std.specs.Prelude.{◌≡◌, ℕ, ◌<◌, ◌≤◌, List, [], All, Contains, MatchOption, ⊤}
 use Rattle.dia_wire.specs.declared.Key.{Key}
 use Rattle.dia_wire.specs.Wire.{PlainAvp, SpellsAll, avp_length}
-use Rattle.dia_data.specs.Plain.{PlainFormat, Integer64, Unsigned64, Float64, Address, Utf8String}
+use Rattle.dia_data.specs.Plain.{PlainFormat, EightBytes, Address, Utf8String}
 use Rattle.dia_data.specs.Leaf.{IsLeaf}
 use Rattle.dia_book.specs.declared.DRule.{DRule}
 use Rattle.dia_book.specs.Dictionary.{Dictionary}
@@ -27,9 +27,7 @@ RefusesOrdinaryLevels format = (avps : List PlainAvp) (bytes : List ℕ) → Spe
 
 -- the data of the format are those of eight bytes
 abbrev pub HasEightBytes : PlainFormat → Type 0
-HasEightBytes Integer64 = ⊤
-HasEightBytes Unsigned64 = ⊤
-HasEightBytes Float64 = ⊤
+HasEightBytes (EightBytes name) = ⊤
 HasEightBytes format = ⊥
 
 -- ---- Addresses

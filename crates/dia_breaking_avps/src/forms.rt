@@ -16,6 +16,7 @@ use crate::addresses::level_as_address;
 use crate::breaking::DataBreak;
 use dia_book::{Book, DRule, DefId, Entry, Format};
 use dia_breaking_data::{Witness, shortest, witness};
+use dia_data::FormatKind;
 use dia_policy::Sends;
 
 /// What breaks of leaves of a format, where B's entry says how they are read.
@@ -63,23 +64,16 @@ pub(crate) fn sent_level<A: Book, B: Book>(
 fn level_as_leaf<A: Book>(a: &A, sends: Sends, rules: &[DRule], format: &Format) -> DataBreak
     ensures { IsLevelAsLeaf (A.meaning a.now) sends rules.now (plain_format format.now) result }
 {
-    match format {
-        Format::OctetString => DataBreak::Fits,
-        Format::Integer32 => DataBreak::LeastLevel,
-        Format::Integer64 => DataBreak::EightBytes,
-        Format::Unsigned32 => DataBreak::LeastLevel,
-        Format::Unsigned64 => DataBreak::EightBytes,
-        Format::Float32 => DataBreak::LeastLevel,
-        Format::Float64 => DataBreak::EightBytes,
-        Format::Grouped => DataBreak::LeastLevel,
-        Format::Address => level_as_address(a, sends, rules),
-        Format::Time => DataBreak::LeastLevel,
-        Format::Utf8String => DataBreak::Undecided,
-        Format::DiameterIdentity => DataBreak::LeastLevel,
-        Format::DiameterUri => DataBreak::LeastLevel,
-        Format::Enumerated(_) => DataBreak::LeastLevel,
-        Format::IpFilterRule => DataBreak::Fits,
-        Format::QosFilterRule => DataBreak::Fits,
+    match format.kind() {
+        FormatKind::AnyBytes => DataBreak::Fits,
+        FormatKind::EightBytes(_) => DataBreak::EightBytes,
+        FormatKind::Address => level_as_address(a, sends, rules),
+        FormatKind::Utf8String => DataBreak::Undecided,
+        FormatKind::FourBytes(_)
+        | FormatKind::Grouped
+        | FormatKind::DiameterIdentity
+        | FormatKind::DiameterUri
+        | FormatKind::Enumerated => DataBreak::LeastLevel,
     }
 }
 

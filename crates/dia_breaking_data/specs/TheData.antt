@@ -1,8 +1,7 @@
 -- Which shortest data of a format is kept.
 use Rattle.std.specs.Prelude.{ℕ, nat_le, min, if◌then◌else◌, List, [], ◌∷◌, Option, Some, None}
 use Rattle.std.specs.Option.{option_map, option_map_or}
-use Rattle.dia_data.specs.Plain.{PlainFormat, OctetString, Integer32, Integer64, Unsigned32, Unsigned64, Float32, Float64, Grouped, Address, Time, Utf8String}
-use Rattle.dia_data.specs.Plain.{DiameterIdentity, DiameterUri, Enumerated, IpFilterRule, QosFilterRule}
+use Rattle.dia_data.specs.Plain.{PlainFormat, AnyBytes, FourBytes, EightBytes, Grouped, Address, Utf8String, DiameterIdentity, DiameterUri, Enumerated}
 use Rattle.dia_breaking_data.specs.Kinds.{Kind, Octets, Four, Eight, Level, Host, Text, Identity, Link, Listed, four_bytes}
 
 -- the least number of the ranges, if they hold any
@@ -26,23 +25,16 @@ one_letter_uri = 97 ∷ 97 ∷ 97 ∷ 58 ∷ 47 ∷ 47 ∷ 97 ∷ []
 
 -- a number is 0, or the least of its list; of text there is as little as there can be; and an address is of the family 0. Grouped has no leaf
 abbrev pub the_data : PlainFormat → Option (List ℕ)
-the_data OctetString = Some []
-the_data Integer32 = Some four_zeros
-the_data Integer64 = Some eight_zeros
-the_data Unsigned32 = Some four_zeros
-the_data Unsigned64 = Some eight_zeros
-the_data Float32 = Some four_zeros
-the_data Float64 = Some eight_zeros
+the_data (AnyBytes name) = Some []
+the_data (FourBytes name) = Some four_zeros
+the_data (EightBytes name) = Some eight_zeros
 the_data Grouped = None
 the_data Address = Some (0 ∷ 0 ∷ [])
-the_data Time = Some four_zeros
 the_data Utf8String = Some []
 the_data DiameterIdentity = Some one_letter
 the_data DiameterUri = Some one_letter_uri
 the_data (Enumerated None) = Some four_zeros
 the_data (Enumerated (Some list)) = option_map four_bytes (least_number list)
-the_data IpFilterRule = Some []
-the_data QosFilterRule = Some []
 
 -- the same of a kind, whose ranges are in order
 abbrev pub first_number : List (ℕ × ℕ) → Option ℕ

@@ -36,16 +36,11 @@ pub(crate) fn kind_of(format: &Format) -> Kind<'_>
     ensures least { kind_data (shown result) ≡ the_data (plain_format format.now) }
 {
     match format {
-        Format::OctetString => Kind::Octets,
-        Format::Integer32 => Kind::Four,
-        Format::Integer64 => Kind::Eight,
-        Format::Unsigned32 => Kind::Four,
-        Format::Unsigned64 => Kind::Eight,
-        Format::Float32 => Kind::Four,
-        Format::Float64 => Kind::Eight,
+        Format::OctetString | Format::IpFilterRule | Format::QosFilterRule => Kind::Octets,
+        Format::Integer32 | Format::Unsigned32 | Format::Float32 | Format::Time => Kind::Four,
+        Format::Integer64 | Format::Unsigned64 | Format::Float64 => Kind::Eight,
         Format::Grouped => Kind::Level,
         Format::Address => Kind::Host,
-        Format::Time => Kind::Four,
         Format::Utf8String => Kind::Text,
         Format::DiameterIdentity => Kind::Identity,
         Format::DiameterUri => Kind::Link,
@@ -53,7 +48,5 @@ pub(crate) fn kind_of(format: &Format) -> Kind<'_>
             Some(numbers) => Kind::Listed(numbers),
             None => Kind::Four,
         },
-        Format::IpFilterRule => Kind::Octets,
-        Format::QosFilterRule => Kind::Octets,
     }
 }

@@ -7,8 +7,7 @@ use Rattle.std.proofs.lemmas.Bool.{and_parts, false_from_ne_true, leb-false, leb
 use Rattle.std.proofs.lemmas.Option.{none-some, same_Some}
 use Rattle.dia_data.specs.Leaf.{IsLeaf, IsWithin}
 use Rattle.dia_data.specs.Number.{number}
-use Rattle.dia_data.specs.Plain.{PlainFormat, OctetString, Integer32, Integer64, Unsigned32, Unsigned64, Float32, Float64, Grouped, Address, Time, Utf8String}
-use Rattle.dia_data.specs.Plain.{DiameterIdentity, DiameterUri, Enumerated, IpFilterRule, QosFilterRule}
+use Rattle.dia_data.specs.Plain.{PlainFormat, AnyBytes, FourBytes, EightBytes, Grouped, Address, Utf8String, DiameterIdentity, DiameterUri, Enumerated}
 use Rattle.dia_data.specs.Ranges.{covers}
 use Rattle.dia_data.proofs.RangeSets.{any_within}
 use Rattle.dia_breaking_data.specs.declared.short_data.Witness.{Witness}
@@ -64,20 +63,13 @@ of_list list found bytes kept four listed = by (least_number list) refl found ke
     by (Some n) e (Some w) is = (w, refl, ap length (same_Some (witness_bytes w) (four_bytes n) is) ∙ sym four)
 
 pub kept_size : (f : PlainFormat) (found : Option Witness) (bytes : List ℕ) → option_map witness_bytes found ≡ the_data f → AreBytes bytes → IsLeaf f bytes → AreLeast f bytes → IsAsLong found bytes
-kept_size OctetString found bytes is are leaf least = of_kind Octets OctetString found bytes tt (λ b. (λ h. h, λ h. h)) is are leaf least
-kept_size Integer32 found bytes is are leaf least = of_kind Four Integer32 found bytes tt (λ b. (λ h. h, λ h. h)) is are leaf least
-kept_size Integer64 found bytes is are leaf least = of_kind Eight Integer64 found bytes tt (λ b. (λ h. h, λ h. h)) is are leaf least
-kept_size Unsigned32 found bytes is are leaf least = of_kind Four Unsigned32 found bytes tt (λ b. (λ h. h, λ h. h)) is are leaf least
-kept_size Unsigned64 found bytes is are leaf least = of_kind Eight Unsigned64 found bytes tt (λ b. (λ h. h, λ h. h)) is are leaf least
-kept_size Float32 found bytes is are leaf least = of_kind Four Float32 found bytes tt (λ b. (λ h. h, λ h. h)) is are leaf least
-kept_size Float64 found bytes is are leaf least = of_kind Eight Float64 found bytes tt (λ b. (λ h. h, λ h. h)) is are leaf least
+kept_size (AnyBytes name) found bytes is are leaf least = of_kind Octets (AnyBytes name) found bytes tt (λ b. (λ h. h, λ h. h)) is are leaf least
+kept_size (FourBytes name) found bytes is are leaf least = of_kind Four (FourBytes name) found bytes tt (λ b. (λ h. h, λ h. h)) is are leaf least
+kept_size (EightBytes name) found bytes is are leaf least = of_kind Eight (EightBytes name) found bytes tt (λ b. (λ h. h, λ h. h)) is are leaf least
 kept_size Grouped found bytes is are leaf least = absurd leaf
 kept_size Address found bytes is are leaf least = of_kind Host Address found bytes tt (λ b. (λ h. h, λ h. h)) is are leaf least
-kept_size Time found bytes is are leaf least = of_kind Four Time found bytes tt (λ b. (λ h. h, λ h. h)) is are leaf least
 kept_size Utf8String found bytes is are leaf least = of_kind Text Utf8String found bytes tt (λ b. (λ h. h, λ h. h)) is are leaf least
 kept_size DiameterIdentity found bytes is are leaf least = of_kind Identity DiameterIdentity found bytes tt (λ b. (λ h. h, λ h. h)) is are leaf least
 kept_size DiameterUri found bytes is are leaf least = of_kind Link DiameterUri found bytes tt (λ b. (λ h. h, λ h. h)) is are leaf least
 kept_size (Enumerated None) found bytes is are leaf least = of_kind Four (Enumerated None) found bytes tt (λ b. (λ h. h.0, λ h. (h, tt))) is are leaf least
 kept_size (Enumerated (Some list)) found bytes is are leaf least = of_list list found bytes is leaf.0 leaf.1
-kept_size IpFilterRule found bytes is are leaf least = of_kind Octets IpFilterRule found bytes tt (λ b. (λ h. h, λ h. h)) is are leaf least
-kept_size QosFilterRule found bytes is are leaf least = of_kind Octets QosFilterRule found bytes tt (λ b. (λ h. h, λ h. h)) is are leaf least

@@ -8,8 +8,8 @@ use Rattle.std.specs.Fmt.{decimal}
 use Rattle.std.proofs.lemmas.List.{append-nil}
 use Rattle.std.proofs.lemmas.List.Elements.{filter_map-append}
 use Rattle.std.proofs.lemmas.Bool.{and_parts, ltb-true, leb-true, eqb-true}
-use Rattle.dia_ccf.specs.declared.source.FormatName.{FormatName}
-use Rattle.dia_ccf.specs.declared.source.FormatName.TheVariants as format
+use Rattle.dia_terms.specs.declared.FormatName.{FormatName}
+use Rattle.dia_terms.specs.declared.FormatName.TheVariants as format
 use Rattle.dia_terms.specs.declared.MRule.{MRule}
 use Rattle.dia_terms.specs.declared.MRule.TheVariants.{Must, MustNot, Any}
 use Rattle.dia_terms.specs.declared.Pxy.{Pxy}
@@ -26,7 +26,8 @@ use Rattle.dia_ccf.specs.declared.source.Source.{Source}
 use Rattle.dia_ccf.specs.Names.{is_name, is_name_run, is_rule_name, is_number, is_number_or_none, is_qualifier, is_range, fits_values, is_head, is_fixed, fixed_first, is_group, same_bytes}
 use Rattle.dia_ccf.specs.Plain.{PlainDef, plain_source, plain_decl, plain_rule, plain_def}
 use Rattle.dia_ccf.specs.Tokens.{Less, Greater, Open_brace, Close_brace, Open_bracket, Close_bracket, Open_parenthesis, Close_parenthesis, Star, Comma, Dots, Assign, Colon, Declares, Name, tokens}
-use Rattle.dia_ccf.specs.Grammar.{◌then◌, one, either, word, name, number, each, format_word, rule_word, vendor, range, values, declaration, diameter_header, avp_header}
+use Rattle.dia_ccf.specs.Grammar.{◌then◌, one, either, word, name, number, each, rule_word, vendor, range, values, declaration, diameter_header, avp_header}
+use Rattle.dia_terms.specs.Formats.{format_word}
 use Rattle.dia_ccf.specs.Grammar.{comma, flag, application, group_vendor, error_proxy, head, count, qualifier, slot, bracketed, rule, IsFixed, FixedFirst, definition}
 use Rattle.dia_ccf.specs.Grammar.{Item, Declaration, Definition, item, declared, item_group, item_command, group_of_head, command_of_head, source_of, Derives}
 use Rattle.dia_ccf.specs.Limits.{max_number, max_command_code, max_value}

@@ -14,7 +14,8 @@ use Rattle.dia_ccf.specs.Machine.{State, Place, Between, Decl_name, Decl_code, D
 use Rattle.dia_ccf.specs.Machine.{Def_assign, Head_open, In_head, HeadPlace, Head_word, Diameter_word, Avp_word, Diameter_colon, Avp_colon, Command_code, Group_code, Flags, Group_vendor, Error_word}
 use Rattle.dia_ccf.specs.Machine.{Error_flags, Error_either, Error_close, Head_end, Rules, Qual_min, Qual_star, Qual_done, Fixed_name, Fixed_close, Angle_name, Angle_close, After_angle, Loose_name}
 use Rattle.dia_ccf.specs.Machine.{Loose_close, next, step, on_item, on_values, on_loose, on_bracket, on_qualifier, on_rules, begins_qualifier, begins_loose, add_decl, add_def, with_values, with_rule}
-use Rattle.dia_ccf.specs.Machine.{fixed_rule, all_fixed, is_enumerated, is_none, closing_sign, head_at, next_in_head, same_sign, is_word, is_number, sign_at, number_at, name_at, format_at, rule_at}
+use Rattle.dia_ccf.specs.Machine.{fixed_rule, all_fixed, is_none, closing_sign, head_at, next_in_head, same_sign, is_word, is_number, sign_at, number_at, name_at, format_at, rule_at}
+use Rattle.dia_terms.specs.Formats.{is_enumerated}
 use Rattle.dia_ccf.specs.Machine.{slot_at, Outcome, Reads, Stops, outcome}
 use Rattle.dia_ccf.proofs.TokenTests.{number_at-is}
 use Rattle.dia_ccf.proofs.MachineRuns.{take_one, number_at-some}

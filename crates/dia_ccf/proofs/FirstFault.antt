@@ -16,7 +16,8 @@ use Rattle.dia_ccf.specs.Limits.{max_value}
 use Rattle.dia_ccf.specs.Faults.{CanBegin, IsFirstFault, Fits, IsNumberFault, IsLimitFault}
 use Rattle.dia_ccf.specs.Machine.{State, Place, Between, In_values, After_value, After_dots, In_head, Flags, Group_vendor, Error_flags, Loose_close, with_rule, closing_sign}
 use Rattle.dia_ccf.specs.Machine.{sign_at, Command_code, Group_code, Rules, Qual_star, Qual_done, After_angle, Decl_code, Decl_number, Decl_values, HeadPlace}
-use Rattle.dia_ccf.specs.Machine.{is_none, all_fixed, is_enumerated, number_at, next, step, whole, refused, least_at, outcome, Reads, Stops, gone_on, ended}
+use Rattle.dia_ccf.specs.Machine.{is_none, all_fixed, number_at, next, step, whole, refused, least_at, outcome, Reads, Stops, gone_on, ended}
+use Rattle.dia_terms.specs.Formats.{is_enumerated}
 use Rattle.dia_ccf.specs.declared.wanted.Wanted.{Wanted}
 use Rattle.dia_ccf.specs.declared.wanted.Wanted.TheVariants.{Item}
 use Rattle.dia_ccf.specs.Wanting.{fits, may_end, wanted_at, behind_all}

@@ -3,10 +3,12 @@ use Rattle.std.proofs.Common.{◌≡◌, ℕ, ◌≤◌, Bool, true, false, cond
 use Rattle.std.specs.Prelude.{codes, ◌&&◌, not, nat_le}
 use Rattle.std.specs.Option.{option_map}
 use Rattle.std.specs.List.{list_all}
+use Rattle.std.proofs.lemmas.Option.{none-some}
 use Rattle.std.proofs.lemmas.List.{append-nil}
-use Rattle.dia_ccf.specs.declared.source.FormatName.{FormatName}
-use Rattle.dia_ccf.specs.declared.source.FormatName.TheVariants as format
+use Rattle.dia_terms.specs.declared.FormatName.{FormatName}
+use Rattle.dia_terms.specs.declared.FormatName.TheVariants as format
 use Rattle.dia_terms.specs.declared.MRule.{MRule}
+use Rattle.dia_terms.specs.Formats.{format_named, format_word, is_enumerated}
 use Rattle.dia_ccf.specs.declared.source.Head.{Head}
 use Rattle.dia_terms.specs.declared.RuleKind.{RuleKind}
 use Rattle.dia_terms.specs.declared.RuleKind.TheVariants.{Fixed, Required, Optional}
@@ -14,15 +16,16 @@ use Rattle.dia_ccf.specs.declared.source.Qual.{Qual}
 use Rattle.dia_ccf.specs.Names.{is_name, is_name_run, is_fixed, same_bytes}
 use Rattle.dia_ccf.specs.Plain.{PlainDecl, PlainRule, PlainDef, PlainSource}
 use Rattle.dia_ccf.specs.Tokens.{Token, Less, Greater, Open_brace, Open_bracket, Open_parenthesis, Close_parenthesis, Star, Dots, Assign, Declares, Number, Name}
-use Rattle.dia_ccf.specs.Grammar.{Tokens, ◌then◌, one, word, name, number, each, either, nothing, format_word, rule_word, vendor, range, values}
+use Rattle.dia_ccf.specs.Grammar.{Tokens, ◌then◌, one, word, name, number, each, either, nothing, rule_word, vendor, range, values}
 use Rattle.dia_ccf.specs.Grammar.{declaration, head, count, qualifier, slot, bracketed, rule, Item, Declaration, Definition, item, Derives}
 use Rattle.dia_ccf.specs.Limits.{max_number, max_value}
 use Rattle.dia_ccf.specs.Machine.{State, Between, Decl_name, Decl_code, Decl_vendor, Decl_number, Decl_format, Decl_rule, Decl_values, In_values, After_value, After_dots, Def_name, Def_close}
 use Rattle.dia_ccf.specs.Machine.{Def_assign, Head_open, In_head, Head_word, Rules, Qual_min, Qual_star, Qual_done, Fixed_name, Fixed_close, Angle_name, Angle_close, After_angle, Loose_name}
-use Rattle.dia_ccf.specs.Machine.{Loose_close, next, on_item, add_decl, add_def, with_values, with_rule, fixed_rule, all_fixed, is_enumerated, is_none, closing_sign, same_sign, is_word, format_at}
+use Rattle.dia_ccf.specs.Machine.{Loose_close, next, on_item, add_decl, add_def, with_values, with_rule, fixed_rule, all_fixed, is_none, closing_sign, same_sign, is_word, format_at}
 use Rattle.dia_ccf.specs.Machine.{Reads, outcome}
 use Rattle.dia_ccf.specs.ReaderFunctions.{nothing_read, begins_with}
-use Rattle.dia_ccf.proofs.TokenTests.{both, format_named-word, rule_named-word}
+use Rattle.dia_ccf.proofs.TokenTests.{both, rule_named-word, same_bytes-is}
+use Rattle.dia_terms.proofs.FormatWords.{format_named-word}
 use Rattle.dia_ccf.proofs.WhatFollows.{after, add_item, after-source, in_order, with_rules, fixed-in_order}
 use Rattle.dia_ccf.proofs.MachineRuns.{take_one, outcome_same, number_at-some, name_at-some}
 use Rattle.dia_ccf.proofs.HeadCompleteness.{Taken, taken_then, taken_one, taken_nothing, taken_number, head_taken}
@@ -86,22 +89,14 @@ values_taken done d (r ∷ rs) ranges ws us (xs, ys, parts, h, k) some =
 -- ---- declarations
 
 no_vendor : (f : FormatName) → is_word (codes "vendor") (Name (format_word f)) ≡ false
-no_vendor format.OctetString = refl
-no_vendor format.Integer32 = refl
-no_vendor format.Integer64 = refl
-no_vendor format.Unsigned32 = refl
-no_vendor format.Unsigned64 = refl
-no_vendor format.Float32 = refl
-no_vendor format.Float64 = refl
-no_vendor format.Grouped = refl
-no_vendor format.Address = refl
-no_vendor format.Time = refl
-no_vendor format.Utf8String = refl
-no_vendor format.DiameterIdentity = refl
-no_vendor format.DiameterUri = refl
-no_vendor format.Enumerated = refl
-no_vendor format.IpFilterRule = refl
-no_vendor format.QosFilterRule = refl
+no_vendor f = by (same_bytes (format_word f) (codes "vendor")) refl
+  where
+    by : (b : Bool) → same_bytes (format_word f) (codes "vendor") ≡ b → b ≡ false
+    by false e = refl
+    by true e =
+        let same : format_word f ≡ codes "vendor" = same_bytes-is (format_word f) (codes "vendor") e in
+        let none : format_named (codes "vendor") ≡ None = refl in
+        absurd (none-some f (sym none ∙ ap format_named (sym same) ∙ format_named-word f))
 
 format_at-word : (f : FormatName) → format_at (Name (format_word f)) ≡ Some f
 format_at-word f = format_named-word f

@@ -2,8 +2,8 @@
 use Rattle.std.proofs.Common.{◌≡◌, ℕ, ◌≤◌, true, false, List, [], ◌∷◌, ◌++◌, Option, Some, None, refl, sym, ap, subst, ◌∙◌, append_assoc, arith, inl, inr, ⊎_elim}
 use Rattle.std.specs.Prelude.{IfSome, codes, ◌&&◌, not, ⊤}
 use Rattle.std.specs.Option.{option_map}
-use Rattle.dia_ccf.specs.declared.source.FormatName.{FormatName}
-use Rattle.dia_ccf.specs.declared.source.FormatName.TheVariants as format
+use Rattle.dia_terms.specs.declared.FormatName.{FormatName}
+use Rattle.dia_terms.specs.declared.FormatName.TheVariants as format
 use Rattle.dia_ccf.specs.declared.source.Head.{Head}
 use Rattle.dia_terms.specs.declared.RuleKind.{RuleKind}
 use Rattle.dia_terms.specs.declared.RuleKind.TheVariants.{Fixed, Required, Optional}
@@ -11,12 +11,14 @@ use Rattle.dia_ccf.specs.declared.source.Qual.{Qual}
 use Rattle.dia_ccf.specs.Names.{is_name, is_fixed}
 use Rattle.dia_ccf.specs.Plain.{PlainDecl, PlainRule, PlainDef, PlainSource}
 use Rattle.dia_ccf.specs.Tokens.{Token, Less, Greater, Open_brace, Close_brace, Open_bracket, Close_bracket, Open_parenthesis, Close_parenthesis, Star, Dots, Assign, Declares, Number, Name}
-use Rattle.dia_ccf.specs.Grammar.{Tokens, ◌then◌, one, name, either, format_word, vendor, values, count, qualifier, slot, bracketed, rule, definition, Definition, Derives}
+use Rattle.dia_ccf.specs.Grammar.{Tokens, ◌then◌, one, name, either, vendor, values, count, qualifier, slot, bracketed, rule, definition, Definition, Derives}
+use Rattle.dia_terms.specs.Formats.{format_word}
 use Rattle.dia_ccf.specs.Limits.{max_number, max_value}
 use Rattle.dia_ccf.specs.Machine.{State, Place, Between, Decl_name, Decl_code, Decl_vendor, Decl_number, Decl_format, Decl_rule, Decl_values, In_values, After_value, After_dots, Def_name, Def_close}
 use Rattle.dia_ccf.specs.Machine.{Def_assign, Head_open, In_head, HeadPlace, Head_word, Rules, Qual_min, Qual_star, Qual_done, Fixed_name, Fixed_close, Angle_name, Angle_close, After_angle}
 use Rattle.dia_ccf.specs.Machine.{Loose_name, Loose_close, next, step, whole, whole_at, on_item, on_values, on_loose, on_bracket, on_star, on_qualifier, on_rules, begins_qualifier, begins_loose}
-use Rattle.dia_ccf.specs.Machine.{add_decl, add_def, with_values, with_rule, fixed_rule, all_fixed, is_enumerated, is_none, closing_sign, head_at, next_in_head, same_sign, is_word, is_number}
+use Rattle.dia_ccf.specs.Machine.{add_decl, add_def, with_values, with_rule, fixed_rule, all_fixed, is_none, closing_sign, head_at, next_in_head, same_sign, is_word, is_number}
+use Rattle.dia_terms.specs.Formats.{is_enumerated}
 use Rattle.dia_ccf.specs.Machine.{sign_at, number_at, name_at, format_at, rule_at, slot_at, Outcome, Reads, outcome, ended, gone_on}
 use Rattle.dia_ccf.specs.ReaderFunctions.{nothing_read}
 use Rattle.dia_ccf.proofs.TokenTests.{slot_tokens, Is_slot, slot_at-is, both, chosen, mapped, guarded, some_is, same_sign-is, sign_at-is, name_at-is, number_at-is, word-is, format_at-is, rule_at-is}

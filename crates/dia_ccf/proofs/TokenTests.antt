@@ -6,15 +6,16 @@ use Rattle.std.specs.Option.{option_map}
 use Rattle.std.specs.Char.{to_ascii_lowercase}
 use Rattle.std.proofs.lemmas.Bool.{leb-true}
 use lib.Pointwise.{bytes_decides}
-use Rattle.dia_ccf.specs.declared.source.FormatName.{FormatName}
-use Rattle.dia_ccf.specs.declared.source.FormatName.TheVariants as format
+use Rattle.dia_terms.specs.declared.FormatName.{FormatName}
 use Rattle.dia_terms.specs.declared.MRule.{MRule}
 use Rattle.dia_terms.specs.declared.MRule.TheVariants.{Must, MustNot, Any}
 use Rattle.dia_ccf.specs.Names.{is_name, same_bytes}
 use Rattle.dia_ccf.specs.Tokens.{Token, Less, Greater, Open_brace, Close_brace, Open_bracket, Close_bracket, Open_parenthesis}
 use Rattle.dia_ccf.specs.Tokens.{Close_parenthesis, Star, Comma, Dots, Assign, Colon, Declares, Number, Name}
-use Rattle.dia_ccf.specs.Grammar.{format_word, rule_word}
-use Rattle.dia_ccf.specs.Machine.{same_sign, is_word, is_keyword, sign_at, keyword_at, number_at, name_at, format_at, formats, format_named, rule_at, rule_named, slot_at}
+use Rattle.dia_terms.specs.Formats.{format_word}
+use Rattle.dia_ccf.specs.Grammar.{rule_word}
+use Rattle.dia_ccf.specs.Machine.{same_sign, is_word, is_keyword, sign_at, keyword_at, number_at, name_at, format_at, rule_at, rule_named, slot_at}
+use Rattle.dia_terms.specs.Formats.{formats, format_named}
 
 -- ---- tests and options
 
@@ -115,24 +116,6 @@ format_named-is word f h = found_word format_word word formats f h
 pub format_at-is : (token : Token) (f : FormatName) → format_at token ≡ Some f → token ≡ Name (format_word f)
 format_at-is (Name word) f h = ap Name (format_named-is word f h)
 format_at-is token f h = absurd cc
-
-pub format_named-word : (f : FormatName) → format_named (format_word f) ≡ Some f
-format_named-word format.OctetString = refl
-format_named-word format.Integer32 = refl
-format_named-word format.Integer64 = refl
-format_named-word format.Unsigned32 = refl
-format_named-word format.Unsigned64 = refl
-format_named-word format.Float32 = refl
-format_named-word format.Float64 = refl
-format_named-word format.Grouped = refl
-format_named-word format.Address = refl
-format_named-word format.Time = refl
-format_named-word format.Utf8String = refl
-format_named-word format.DiameterIdentity = refl
-format_named-word format.DiameterUri = refl
-format_named-word format.Enumerated = refl
-format_named-word format.IpFilterRule = refl
-format_named-word format.QosFilterRule = refl
 
 pub rule_named-word : (r : MRule) → rule_named (rule_word r) ≡ Some r
 rule_named-word Must = refl

@@ -2,9 +2,9 @@
 use Rattle.std.proofs.Common.{◌≡◌, ℕ, Bool, true, false, cond, List, [], ◌∷◌, ◌++◌, map, Option, Some, None, refl, sym, ap, subst, ◌∙◌, arith, lit<}
 use Rattle.std.specs.Prelude.{codes, ◌&&◌, ◌||◌, not, ⊤}
 use Rattle.std.specs.Option.{option_map}
-use Rattle.dia_ccf.specs.declared.source.FormatName.{FormatName}
-use Rattle.dia_ccf.specs.declared.source.FormatName.TheVariants as format
+use Rattle.dia_terms.specs.declared.FormatName.{FormatName}
 use Rattle.dia_terms.specs.declared.Pxy.TheVariants.{Either}
+use Rattle.dia_terms.proofs.FormatWords.{enumerated_is}
 use Rattle.dia_ccf.specs.declared.source.Head.TheVariants as heads
 use Rattle.dia_terms.specs.declared.RuleKind.TheVariants.{Required, Optional}
 use Rattle.dia_ccf.specs.declared.source.Qual.{Qual}
@@ -18,15 +18,15 @@ use Rattle.dia_ccf.specs.declared.wanted.InRules.{InRules}
 use Rattle.dia_ccf.specs.declared.wanted.InRules.TheVariants as rules
 use Rattle.dia_ccf.specs.Names.{is_fixed}
 use Rattle.dia_ccf.specs.Plain.{PlainDecl, PlainRule, PlainDef, PlainSource}
-use Rattle.dia_ccf.specs.Tokens.{Token, Less, Greater, Open_brace, Open_bracket, Close_bracket, Open_parenthesis, Close_parenthesis, Star, Comma, Dots, Assign, Colon, Declares, Number, Name}
-use Rattle.dia_ccf.specs.Grammar.{format_word}
+use Rattle.dia_ccf.specs.Tokens.{Token, Less, Greater, Open_brace, Open_bracket, Close_bracket, Open_parenthesis, Close_parenthesis, Star, Comma, Dots, Assign, Colon, Declares, Number}
 use Rattle.dia_ccf.specs.Limits.{max_number, max_command_code, max_value}
 use Rattle.dia_ccf.specs.LexerTokens.{capped}
 use Rattle.dia_ccf.specs.Machine.{State, HeadPlace, Head_word, Diameter_word, Avp_word, Diameter_colon, Avp_colon, Command_code, Group_code, Flags, Group_vendor}
 use Rattle.dia_ccf.specs.Machine.{Error_word, Error_flags, Error_either, Error_close, Head_end, Place, Between, Decl_name, Decl_code, Decl_vendor, Decl_number}
 use Rattle.dia_ccf.specs.Machine.{Decl_format, Decl_rule, Decl_values, In_values, After_value, After_dots, Def_name, Def_close, Def_assign, Head_open, In_head}
 use Rattle.dia_ccf.specs.Machine.{Rules, Qual_min, Qual_star, Qual_done, Fixed_name, Fixed_close, Angle_name, Angle_close, After_angle, Loose_name, Loose_close}
-use Rattle.dia_ccf.specs.Machine.{same_sign, is_word, is_keyword, is_number, sign_at, keyword_at, number_at, name_at, format_at, rule_at, slot_at, is_enumerated, is_none, all_fixed, closing_sign}
+use Rattle.dia_ccf.specs.Machine.{same_sign, is_word, is_keyword, is_number, sign_at, keyword_at, number_at, name_at, format_at, rule_at, slot_at, is_none, all_fixed, closing_sign}
+use Rattle.dia_terms.specs.Formats.{is_enumerated}
 use Rattle.dia_ccf.specs.Machine.{add_decl, add_def, with_values, with_rule, fixed_rule, head_at, next_flag, next_in_head, on_item, on_values, on_loose, on_bracket, on_qualifier}
 use Rattle.dia_ccf.specs.Machine.{on_rules, begins_qualifier, begins_loose, step, next}
 use Rattle.dia_ccf.specs.Wanting.{wanted_at, wanted_in_head, value_of, small_value, behind, behind_all, behind_item, behind_value, next_wanted, behind_loose}
@@ -81,24 +81,6 @@ values_leads done d ranges t = by_tests (not (is_none ranges)) (same_sign Close_
 pub none_grown : (ranges : List (ℕ × ℕ)) (r : ℕ × ℕ) → is_none (ranges ++ r ∷ []) ≡ false
 none_grown [] r = refl
 none_grown (x ∷ xs) r = refl
-
-enumerated_is : (f : FormatName) → is_enumerated f ≡ is_word (codes "Enumerated") (Name (format_word f))
-enumerated_is format.OctetString = refl
-enumerated_is format.Integer32 = refl
-enumerated_is format.Integer64 = refl
-enumerated_is format.Unsigned32 = refl
-enumerated_is format.Unsigned64 = refl
-enumerated_is format.Float32 = refl
-enumerated_is format.Float64 = refl
-enumerated_is format.Grouped = refl
-enumerated_is format.Address = refl
-enumerated_is format.Time = refl
-enumerated_is format.Utf8String = refl
-enumerated_is format.DiameterIdentity = refl
-enumerated_is format.DiameterUri = refl
-enumerated_is format.Enumerated = refl
-enumerated_is format.IpFilterRule = refl
-enumerated_is format.QosFilterRule = refl
 
 format_leads : (done : PlainSource) (name : List ℕ) (code vendor : ℕ) (t : Token) (o : Option FormatName) → format_at t ≡ o
     → LeadsTo (option_map (λ f. (done, Decl_rule name code vendor f)) o) (wants.Declaration (declaration.MRule (is_word (codes "Enumerated") t)))

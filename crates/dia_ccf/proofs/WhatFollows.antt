@@ -3,8 +3,8 @@ use Rattle.std.proofs.Common.{◌≡◌, ℕ, ◌≤◌, Bool, true, false, cond
 use Rattle.std.specs.Prelude.{not}
 use Rattle.std.specs.List.{cons_option, list_all, AllByRecursion}
 use Rattle.std.proofs.lemmas.List.{append-nil}
-use Rattle.dia_ccf.specs.declared.source.FormatName.{FormatName}
-use Rattle.dia_ccf.specs.declared.source.FormatName.TheVariants as format
+use Rattle.dia_terms.specs.declared.FormatName.{FormatName}
+use Rattle.dia_terms.specs.declared.FormatName.TheVariants as format
 use Rattle.dia_ccf.specs.declared.source.Head.{Head}
 use Rattle.dia_ccf.specs.declared.source.Head.TheVariants.{Group, Command, Error}
 use Rattle.dia_terms.specs.declared.RuleKind.{RuleKind}
@@ -12,7 +12,8 @@ use Rattle.dia_terms.specs.declared.RuleKind.TheVariants.{Fixed, Required, Optio
 use Rattle.dia_ccf.specs.Names.{is_name, is_fixed, fixed_first}
 use Rattle.dia_ccf.specs.Plain.{PlainDecl, PlainRule, PlainDef, PlainSource}
 use Rattle.dia_ccf.specs.Tokens.{Token, Open_parenthesis, Close_parenthesis, Declares, Number, Name}
-use Rattle.dia_ccf.specs.Grammar.{Tokens, ◌then◌, each, format_word, rule_word, vendor, range, values, rule, FixedFirst, IsFixed}
+use Rattle.dia_ccf.specs.Grammar.{Tokens, ◌then◌, each, rule_word, vendor, range, values, rule, FixedFirst, IsFixed}
+use Rattle.dia_terms.specs.Formats.{format_word}
 use Rattle.dia_ccf.specs.Grammar.{Item, Declaration, Definition, item, group_of_head, command_of_head, source_of}
 use Rattle.dia_ccf.specs.Limits.{max_number}
 use Rattle.dia_ccf.specs.Machine.{add_decl, add_def, add_by_head, with_values, with_rule, all_fixed}

@@ -10,7 +10,8 @@ use Rattle.dia_terms.specs.declared.RuleKind.{RuleKind}
 use Rattle.dia_terms.specs.declared.RuleKind.TheVariants.{Fixed, Required, Optional}
 use Rattle.dia_ccf.specs.declared.source.Qual.{Qual}
 use Rattle.dia_ccf.specs.Plain.{PlainDecl, PlainRule, PlainDef, PlainSource}
-use Rattle.dia_ccf.specs.Grammar.{format_word, rule_word}
+use Rattle.dia_terms.specs.Formats.{format_word}
+use Rattle.dia_ccf.specs.Grammar.{rule_word}
 
 abbrev pub line_feed : List ℕ
 line_feed = 10 ∷ []

@@ -3,12 +3,13 @@
 use Rattle.std.specs.Prelude.{◌≡◌, ℕ, ◌≤◌, ◌⊎◌, Bool, true, false, List, [], ◌∷◌, ◌++◌, map, Option, Some, None, codes, IsTrue}
 use Rattle.std.specs.List.{filter_map, AllByRecursion}
 use Rattle.std.specs.Char.{to_ascii_lowercase}
-use Rattle.dia_ccf.specs.declared.source.FormatName.{FormatName}
-use Rattle.dia_ccf.specs.declared.source.FormatName.TheVariants as format
+use Rattle.dia_terms.specs.declared.FormatName.{FormatName}
+use Rattle.dia_terms.specs.declared.FormatName.TheVariants as format
 use Rattle.dia_terms.specs.declared.MRule.{MRule}
 use Rattle.dia_terms.specs.declared.MRule.TheVariants.{Must, MustNot, Any}
 use Rattle.dia_terms.specs.declared.Pxy.{Pxy}
 use Rattle.dia_terms.specs.declared.Pxy.TheVariants.{Clear, Set, Either}
+use Rattle.dia_terms.specs.Formats.{format_word}
 use Rattle.dia_ccf.specs.declared.source.Head.{Head}
 use Rattle.dia_ccf.specs.declared.source.Head.TheVariants.{Group, Command, Error}
 use Rattle.dia_terms.specs.declared.RuleKind.{RuleKind}
@@ -60,24 +61,6 @@ each class [] ts = nothing ts
 each class (x ∷ xs) ts = (class x then each class xs) ts
 
 -- ---- declarations
-
-abbrev pub format_word : FormatName → List ℕ
-format_word format.OctetString = codes "OctetString"
-format_word format.Integer32 = codes "Integer32"
-format_word format.Integer64 = codes "Integer64"
-format_word format.Unsigned32 = codes "Unsigned32"
-format_word format.Unsigned64 = codes "Unsigned64"
-format_word format.Float32 = codes "Float32"
-format_word format.Float64 = codes "Float64"
-format_word format.Grouped = codes "Grouped"
-format_word format.Address = codes "Address"
-format_word format.Time = codes "Time"
-format_word format.Utf8String = codes "UTF8String"
-format_word format.DiameterIdentity = codes "DiameterIdentity"
-format_word format.DiameterUri = codes "DiameterURI"
-format_word format.Enumerated = codes "Enumerated"
-format_word format.IpFilterRule = codes "IPFilterRule"
-format_word format.QosFilterRule = codes "QoSFilterRule"
 
 abbrev pub rule_word : MRule → List ℕ
 rule_word Must = codes "must"

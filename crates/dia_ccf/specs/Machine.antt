@@ -4,11 +4,11 @@ use Rattle.std.specs.Prelude.{ℕ, nat_le, nat_lt, Bool, true, false, not, ◌&&
 use Rattle.std.specs.List.{find, list_all}
 use Rattle.std.specs.Option.{option_map}
 use Rattle.std.specs.Char.{to_ascii_lowercase}
-use Rattle.dia_ccf.specs.declared.source.FormatName.{FormatName}
-use Rattle.dia_ccf.specs.declared.source.FormatName.TheVariants as format
+use Rattle.dia_terms.specs.declared.FormatName.{FormatName}
 use Rattle.dia_terms.specs.declared.MRule.{MRule}
 use Rattle.dia_terms.specs.declared.MRule.TheVariants.{Must, MustNot, Any}
 use Rattle.dia_terms.specs.declared.Pxy.TheVariants.{Clear, Set, Either}
+use Rattle.dia_terms.specs.Formats.{format_named, is_enumerated}
 use Rattle.dia_ccf.specs.declared.source.Head.{Head}
 use Rattle.dia_ccf.specs.declared.source.Head.TheVariants.{Group, Command, Error}
 use Rattle.dia_terms.specs.declared.RuleKind.{RuleKind}
@@ -20,7 +20,7 @@ use Rattle.dia_ccf.specs.Names.{is_name, is_fixed, same_bytes}
 use Rattle.dia_ccf.specs.Plain.{PlainDecl, PlainRule, PlainDef, PlainSource}
 use Rattle.dia_ccf.specs.Tokens.{Token, Less, Greater, Open_brace, Close_brace, Open_bracket, Close_bracket, Open_parenthesis}
 use Rattle.dia_ccf.specs.Tokens.{Close_parenthesis, Star, Comma, Dots, Assign, Colon, Declares, Number, Name}
-use Rattle.dia_ccf.specs.Grammar.{format_word, rule_word}
+use Rattle.dia_ccf.specs.Grammar.{rule_word}
 use Rattle.dia_ccf.specs.Limits.{max_name, max_number, max_command_code, max_value}
 
 -- ---- places
@@ -128,14 +128,6 @@ abbrev pub name_at : Token → Option (List ℕ)
 name_at (Name text) = cond (is_name text) (Some text) None
 name_at token = None
 
-abbrev pub formats : List FormatName
-formats =
-    format.OctetString ∷ format.Integer32 ∷ format.Integer64 ∷ format.Unsigned32 ∷ format.Unsigned64 ∷ format.Float32 ∷ format.Float64 ∷ format.Grouped
-    ∷ format.Address ∷ format.Time ∷ format.Utf8String ∷ format.DiameterIdentity ∷ format.DiameterUri ∷ format.Enumerated ∷ format.IpFilterRule ∷ format.QosFilterRule ∷ []
-
-abbrev pub format_named : List ℕ → Option FormatName
-format_named word = find (λ f. same_bytes word (format_word f)) formats
-
 abbrev pub format_at : Token → Option FormatName
 format_at (Name word) = format_named word
 format_at token = None
@@ -216,10 +208,6 @@ add_def done d = add_by_head done d d.head
 
 abbrev pub all_fixed : List PlainRule → Bool
 all_fixed rules = list_all (λ rule. is_fixed rule.kind) rules
-
-abbrev pub is_enumerated : FormatName → Bool
-is_enumerated format.Enumerated = true
-is_enumerated name = false
 
 abbrev pub is_none : {X : Type 0} → List X → Bool
 is_none [] = true

@@ -4,8 +4,8 @@ use Rattle.std.specs.List.{list_all}
 use Rattle.std.specs.Global.{Vec, Global}
 pub use Rattle.dia_terms.specs.Names.{is_run_byte, same_bytes, is_name_run, is_name}
 use Rattle.dia_ccf.specs.Limits.{max_number, max_command_code, max_value}
-use Rattle.dia_ccf.specs.declared.source.FormatName.{FormatName}
-use Rattle.dia_ccf.specs.declared.source.FormatName.TheVariants.{Enumerated}
+use Rattle.dia_terms.specs.declared.FormatName.{FormatName}
+use Rattle.dia_terms.specs.declared.FormatName.TheVariants.{Enumerated}
 use Rattle.dia_terms.specs.declared.RuleKind.{RuleKind}
 use Rattle.dia_terms.specs.declared.RuleKind.TheVariants.{Fixed, Required, Optional}
 use Rattle.dia_ccf.specs.declared.source.Head.{Head}

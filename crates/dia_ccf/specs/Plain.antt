@@ -1,7 +1,7 @@
 -- Sources without where they lie in memory.
 use Rattle.std.specs.Prelude.{ℕ, List, map, Option, string_bytes}
 use Rattle.std.specs.Option.{option_map}
-use Rattle.dia_ccf.specs.declared.source.FormatName.{FormatName}
+use Rattle.dia_terms.specs.declared.FormatName.{FormatName}
 use Rattle.dia_terms.specs.declared.MRule.{MRule}
 use Rattle.dia_ccf.specs.declared.source.Head.{Head}
 use Rattle.dia_terms.specs.declared.RuleKind.{RuleKind}

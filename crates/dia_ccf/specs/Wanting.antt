@@ -17,7 +17,8 @@ use Rattle.dia_ccf.specs.Machine.{HeadPlace, Head_word, Diameter_word, Avp_word,
 use Rattle.dia_ccf.specs.Machine.{Error_word, Error_flags, Error_either, Error_close, Head_end, Place, Between, Decl_name, Decl_code, Decl_vendor, Decl_number}
 use Rattle.dia_ccf.specs.Machine.{Decl_format, Decl_rule, Decl_values, In_values, After_value, After_dots, Def_name, Def_close, Def_assign, Head_open, In_head}
 use Rattle.dia_ccf.specs.Machine.{Rules, Qual_min, Qual_star, Qual_done, Fixed_name, Fixed_close, Angle_name, Angle_close, After_angle, Loose_name, Loose_close}
-use Rattle.dia_ccf.specs.Machine.{same_sign, is_word, is_keyword, is_number, number_at, name_at, format_at, rule_at, slot_at, is_enumerated, is_none, all_fixed, closing_sign, begins_qualifier, begins_loose}
+use Rattle.dia_ccf.specs.Machine.{same_sign, is_word, is_keyword, is_number, number_at, name_at, format_at, rule_at, slot_at, is_none, all_fixed, closing_sign, begins_qualifier, begins_loose}
+use Rattle.dia_terms.specs.Formats.{is_enumerated}
 
 -- ---- which tokens
 

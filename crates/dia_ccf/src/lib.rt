@@ -16,7 +16,6 @@
 #![tactic(auto)]
 
 mod fault;
-mod format_words;
 mod lexemes;
 mod lexer;
 mod limits;
@@ -25,10 +24,11 @@ mod parsing;
 mod reading;
 mod refused;
 mod rendering;
+mod rule_words;
 mod source;
 mod wanted;
 
-pub use dia_terms::{MAX_NAME, MRule, Pxy, RuleKind};
+pub use dia_terms::{FormatName, MAX_NAME, MRule, Pxy, RuleKind};
 pub use fault::CcfFault;
 pub use lexemes::{Kind, Lexeme, first_name, next_lexeme};
 pub use limits::MAX_TEXT;
@@ -36,5 +36,5 @@ pub use names::is_name;
 pub use parsing::{one_fault, one_source, parse, read};
 pub use refused::{Misfit, Refused};
 pub use rendering::render;
-pub use source::{Decl, Def, FormatName, Head, Qual, Rule, Source};
+pub use source::{Decl, Def, Head, Qual, Rule, Source};
 pub use wanted::{InDeclaration, InDefinition, InHead, InRules, Wanted};

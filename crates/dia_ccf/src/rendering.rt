@@ -6,14 +6,15 @@ ghost use Rattle.std.specs.List.{flat_map};
 ghost use Rattle.std.specs.Fmt.{decimal};
 ghost use Rattle.dia_ccf.specs.Plain.{plain_source, plain_decl, plain_rule, plain_def};
 ghost use Rattle.dia_ccf.specs.Tokens.{tokens};
-ghost use Rattle.dia_ccf.specs.Grammar.{Derives, format_word, rule_word};
+ghost use Rattle.dia_ccf.specs.Grammar.{Derives, rule_word};
+ghost use Rattle.dia_terms.specs.Formats.{format_word};
 ghost use Rattle.dia_ccf.specs.CanonicalText.{canonical, declaration_line, vendor_text};
 ghost use Rattle.dia_ccf.specs.CanonicalText.{values_text, range_text, definition_lines};
 ghost use Rattle.dia_ccf.specs.CanonicalText.{head_text, flag_text, application_text};
 ghost use Rattle.dia_ccf.specs.CanonicalText.{error_proxy_text, rule_line, qualifier_text};
 ghost use Rattle.dia_ccf.specs.CanonicalText.{count_text, bracketed_text};
 
-use crate::format_words::{format_name, rule_name};
+use crate::rule_words::rule_name;
 use crate::source::{Decl, Def, Head, Qual, Rule, Source};
 use dia_terms::{Pxy, RuleKind};
 use std::alloc::{AllocError, Global};
@@ -68,12 +69,7 @@ fn put_type(text: &mut String, decl: &Decl) -> Result<(), AllocError>
         ++ (codes " " ++ format_word decl.now.format
         ++ codes " " ++ rule_word decl.now.rule ++ values_text (plain_decl decl.now).values)) }
 {
-    write!(
-        text,
-        " {} {}",
-        format_name(decl.format),
-        rule_name(decl.rule)
-    )?;
+    write!(text, " {} {}", decl.format.word(), rule_name(decl.rule))?;
     put_values(text, decl)
 }
 

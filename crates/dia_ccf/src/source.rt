@@ -4,28 +4,7 @@ ghost use Rattle.std.specs.List.{list_all};
 ghost use Rattle.dia_ccf.specs.Names.{is_name, is_rule_name, is_number, is_qualifier};
 ghost use Rattle.dia_ccf.specs.Names.{fits_values, is_head, fixed_first, is_group};
 
-use dia_terms::{MRule, Pxy, RuleKind};
-
-/// The formats by their names (RFC 6733 sections 4.2 and 4.3, and QoSFilterRule of RFC 3588 section 4.3).
-#[derive(Clone, Copy, PartialEq, Eq)]
-pub enum FormatName {
-    OctetString,
-    Integer32,
-    Integer64,
-    Unsigned32,
-    Unsigned64,
-    Float32,
-    Float64,
-    Grouped,
-    Address,
-    Time,
-    Utf8String,
-    DiameterIdentity,
-    DiameterUri,
-    Enumerated,
-    IpFilterRule,
-    QosFilterRule,
-}
+use dia_terms::{FormatName, MRule, Pxy, RuleKind};
 
 /// A declared AVP (our profile).
 #[derive(Drop)]

@@ -8,9 +8,9 @@ use Rattle.dia_wire.specs.declared.Header.{Header}
 use Rattle.dia_wire.specs.declared.Key.{Key}
 use Rattle.dia_wire.specs.Wire.{PlainAvp, key_of, SpellsAll, BeginsWith, IsHead}
 use Rattle.dia_wire.proofs.OneHeader.{one_header}
-use Rattle.dia_data.specs.Plain.{PlainFormat, OctetString, Integer32, Integer64, Unsigned32, Unsigned64, Float32, Float64, Grouped}
-use Rattle.dia_data.specs.Plain.{Address, Time, Utf8String, DiameterIdentity, DiameterUri, Enumerated, IpFilterRule, QosFilterRule}
+use Rattle.dia_data.specs.Plain.{PlainFormat, Grouped}
 use Rattle.dia_data.specs.Leaf.{IsLeaf, LengthFits}
+use Rattle.dia_data.proofs.Leaves.{leaf_fits}
 use Rattle.dia_book.specs.declared.DRule.{DRule}
 use Rattle.dia_book.specs.Dictionary.{Dictionary, DictEntry, IsDictionary, AreRules, PlainDefinition, definitions, selected}
 use Rattle.dia_policy.specs.declared.Unknown.{Unknown}
@@ -29,25 +29,6 @@ use Rattle.dia_check.proofs.FaultlessLevels.{AreEnough, grouped_at, group_rules,
 use Rattle.dia_valid.proofs.Entries.{all_at}
 use Rattle.dia_check.proofs.FoundFaultsStand.{walks_stands}
 use Rattle.dia_check.proofs.FirstFaults.{none_stands}
-
--- a leaf has a length that its format can have
-pub leaf_fits : (f : PlainFormat) (bytes : List ℕ) → IsLeaf f bytes → LengthFits f bytes
-leaf_fits OctetString bytes h = tt
-leaf_fits Integer32 bytes h = h
-leaf_fits Integer64 bytes h = h
-leaf_fits Unsigned32 bytes h = h
-leaf_fits Unsigned64 bytes h = h
-leaf_fits Float32 bytes h = h
-leaf_fits Float64 bytes h = h
-leaf_fits Grouped bytes h = tt
-leaf_fits Address bytes h = h
-leaf_fits Time bytes h = h
-leaf_fits Utf8String bytes h = tt
-leaf_fits DiameterIdentity bytes h = tt
-leaf_fits DiameterUri bytes h = tt
-leaf_fits (Enumerated ranges) bytes h = h.0
-leaf_fits IpFilterRule bytes h = tt
-leaf_fits QosFilterRule bytes h = tt
 
 -- so many levels may still be opened at a depth
 abbrev pub AreLeft : Levels → ℕ → ℕ → Type 0

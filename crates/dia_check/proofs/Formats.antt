@@ -9,8 +9,7 @@ use Rattle.std.proofs.lemmas.Bool.{ltb-false, ltb-true, both_ways}
 use Rattle.std.proofs.lemmas.List.{length-append, length-map, length-take, length-drop, take_at, drop_at, take-append-drop}
 use Rattle.std.proofs.lemmas.List.Folds.{Any-from_list_any, list_any-from_Any}
 use Rattle.dia_data.specs.Number.{number}
-use Rattle.dia_data.specs.Plain.{PlainFormat, OctetString, Integer32, Integer64, Unsigned32, Unsigned64, Float32, Float64, Grouped}
-use Rattle.dia_data.specs.Plain.{Address, Time, Utf8String, DiameterIdentity, DiameterUri, Enumerated, IpFilterRule, QosFilterRule}
+use Rattle.dia_data.specs.Plain.{PlainFormat, AnyBytes, FourBytes, EightBytes, Grouped, Address, Utf8String, DiameterIdentity, DiameterUri, Enumerated}
 use Rattle.dia_data.specs.Leaf.{IsLeaf, IsAddress, IsIdentity, IsGraphic, IsUri, NamesScheme, IsListed, IsWithin}
 use Rattle.dia_check.proofs.OneAnswer.{one_number}
 
@@ -144,22 +143,15 @@ text_stable bytes h = by (is_utf8 bytes) refl
 -- ---- formats
 
 leaf_stable : (f : PlainFormat) (bytes : List ℕ) → ¬ ¬ IsLeaf f bytes → IsLeaf f bytes
-leaf_stable OctetString bytes h = tt
-leaf_stable Integer32 bytes h = one_number (length bytes) 4 h
-leaf_stable Integer64 bytes h = one_number (length bytes) 8 h
-leaf_stable Unsigned32 bytes h = one_number (length bytes) 4 h
-leaf_stable Unsigned64 bytes h = one_number (length bytes) 8 h
-leaf_stable Float32 bytes h = one_number (length bytes) 4 h
-leaf_stable Float64 bytes h = one_number (length bytes) 8 h
+leaf_stable (AnyBytes name) bytes h = tt
+leaf_stable (FourBytes name) bytes h = one_number (length bytes) 4 h
+leaf_stable (EightBytes name) bytes h = one_number (length bytes) 8 h
 leaf_stable Grouped bytes h = h (λ x. x)
 leaf_stable Address bytes h = address_stable bytes h
-leaf_stable Time bytes h = one_number (length bytes) 4 h
 leaf_stable Utf8String bytes h = text_stable bytes h
 leaf_stable DiameterIdentity bytes h = identity_stable bytes h
 leaf_stable DiameterUri bytes h = uri_stable bytes h
 leaf_stable (Enumerated ranges) bytes h = (one_number (length bytes) 4 (λ other. h (λ l. other l.0)), listed_stable ranges (number bytes) (λ other. h (λ l. other l.1)))
-leaf_stable IpFilterRule bytes h = tt
-leaf_stable QosFilterRule bytes h = tt
 
 abbrev grouped : PlainFormat → ℕ
 grouped Grouped = 1

@@ -26,7 +26,7 @@ use Rattle.dia_check.specs.UnderWay.{Owes}
 use Rattle.dia_check.specs.Walks.{Found, Rest, behind, inside, IsFine, IsFirstWrong, Walks, group, bad_group}
 use Rattle.dia_valid.specs.Valid.{group_at}
 use Rattle.dia_check.proofs.AvpFaults.{no_number}
-use Rattle.dia_check.proofs.FaultlessMessages.{leaf_fits}
+use Rattle.dia_data.proofs.Leaves.{leaf_fits}
 
 -- ---- what is owed
 

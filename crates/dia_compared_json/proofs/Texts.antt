@@ -8,8 +8,10 @@ use Rattle.serde_json.specs.Data.{Data, Members, array, boolean, member, no_memb
 use Rattle.serde_json.specs.Written.{compact_text, items_text, members_text}
 use Rattle.serde_json.proofs.OnLiterals.{serde_json_on_literals}
 use Rattle.dia_wire.specs.declared.Key.{Key}
-use Rattle.dia_data.specs.Plain.{PlainFormat, OctetString, Integer32, Integer64, Unsigned32, Unsigned64, Float32, Float64, Grouped, Address}
-use Rattle.dia_data.specs.Plain.{Time, Utf8String, DiameterIdentity, DiameterUri, Enumerated, IpFilterRule, QosFilterRule}
+use Rattle.dia_terms.specs.declared.FormatName.{FormatName}
+use Rattle.dia_terms.specs.declared.FormatName.TheVariants as name
+use Rattle.dia_terms.specs.Formats.{format_word}
+use Rattle.dia_data.specs.Plain.{PlainFormat, Enumerated, name_of, word_of}
 use Rattle.dia_book.specs.declared.MRule.{MRule}
 use Rattle.dia_book.specs.declared.MRule.TheVariants.{Must, MustNot, Any}
 use Rattle.dia_book.specs.declared.DefHead.{DefHead}
@@ -27,7 +29,7 @@ use Rattle.dia_run.specs.Pairs.{test_word}
 use Rattle.dia_refused_json.specs.Members.{json_line, named_members}
 use Rattle.dia_compared_json.specs.Failures.{failure_members, kind_word}
 use Rattle.dia_compared_json.specs.Parts.{why_word}
-use Rattle.dia_compared_json.specs.Objects.{app_of, code_of, command_members, declared_members, element, format_word, head_members, is_of_requests, items_of, m_word}
+use Rattle.dia_compared_json.specs.Objects.{app_of, code_of, command_members, declared_members, element, head_members, is_of_requests, items_of, m_word}
 use Rattle.dia_compared_json.specs.Objects.{number_or_null, p_value, rule_members, slot_name, taken_members, values_members, values_value}
 
 abbrev Text : Type 0
@@ -113,29 +115,29 @@ abbrev taken_text : (word m values : Text) → Text
 taken_text word m values = codes ",\"format\":" ++ (word ++ (codes ",\"m\":" ++ (m ++ values)))
 
 taken_is : (format : PlainFormat) (m : MRule)
-    → members_text true (taken_members format m) ≡ taken_text (quoted (format_word format)) (quoted (m_word m)) (members_text true (values_members format))
+    → members_text true (taken_members format m) ≡ taken_text (quoted (word_of format)) (quoted (m_word m)) (members_text true (values_members format))
 unfolding serde_json_on_literals
 taken_is format m = refl
 
 -- no byte of these words is escaped
-format_is_plain : (f : PlainFormat) → plain (format_word f) ≡ quoted (format_word f)
+format_is_plain : (f : FormatName) → plain (format_word f) ≡ quoted (format_word f)
 unfolding serde_json_on_literals
-format_is_plain OctetString = refl
-format_is_plain Integer32 = refl
-format_is_plain Integer64 = refl
-format_is_plain Unsigned32 = refl
-format_is_plain Unsigned64 = refl
-format_is_plain Float32 = refl
-format_is_plain Float64 = refl
-format_is_plain Grouped = refl
-format_is_plain Address = refl
-format_is_plain Time = refl
-format_is_plain Utf8String = refl
-format_is_plain DiameterIdentity = refl
-format_is_plain DiameterUri = refl
-format_is_plain (Enumerated ranges) = refl
-format_is_plain IpFilterRule = refl
-format_is_plain QosFilterRule = refl
+format_is_plain name.OctetString = refl
+format_is_plain name.Integer32 = refl
+format_is_plain name.Integer64 = refl
+format_is_plain name.Unsigned32 = refl
+format_is_plain name.Unsigned64 = refl
+format_is_plain name.Float32 = refl
+format_is_plain name.Float64 = refl
+format_is_plain name.Grouped = refl
+format_is_plain name.Address = refl
+format_is_plain name.Time = refl
+format_is_plain name.Utf8String = refl
+format_is_plain name.DiameterIdentity = refl
+format_is_plain name.DiameterUri = refl
+format_is_plain name.Enumerated = refl
+format_is_plain name.IpFilterRule = refl
+format_is_plain name.QosFilterRule = refl
 
 m_is_plain : (m : MRule) → plain (m_word m) ≡ quoted (m_word m)
 unfolding serde_json_on_literals
@@ -149,12 +151,12 @@ written_taken word m values = codes ",\"format\":\"" ++ (word ++ (codes "\",\"m\
 taken_joined : (word m values : Text) → written_taken word m values ≡ taken_text (plain word) (plain m) values
 taken_joined word m values = simp append_assoc
 
-pub taken_told : (format : PlainFormat) (rule : MRule) (word m values text : Text) → word ≡ format_word format → m ≡ m_word rule
+pub taken_told : (format : PlainFormat) (rule : MRule) (word m values text : Text) → word ≡ word_of format → m ≡ m_word rule
     → values ≡ members_text true (values_members format) → text ≡ written_taken word m values → text ≡ members_text true (taken_members format rule)
 taken_told format rule word m values text is_word is_m is_values is =
     is ∙ taken_joined word m values ∙ ap₂ (λ (x y : Text). taken_text (plain x) (plain y) values) is_word is_m
-    ∙ ap₂ (λ (x y : Text). taken_text x y values) (format_is_plain format) (m_is_plain rule)
-    ∙ ap (λ (x : Text). taken_text (quoted (format_word format)) (quoted (m_word rule)) x) is_values ∙ sym (taken_is format rule)
+    ∙ ap₂ (λ (x y : Text). taken_text x y values) (format_is_plain (name_of format)) (m_is_plain rule)
+    ∙ ap (λ (x : Text). taken_text (quoted (word_of format)) (quoted (m_word rule)) x) is_values ∙ sym (taken_is format rule)
 
 -- ---- commands
 

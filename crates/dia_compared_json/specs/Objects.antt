@@ -5,8 +5,7 @@ use Rattle.std.specs.Option.{option_map, option_map_or}
 use Rattle.serde_json.specs.Data.{Data, Items, Members, array, boolean, item, member, no_items, no_members, null, number, object, string, unsigned}
 use Rattle.serde_json.specs.Written.{compact_text}
 use Rattle.dia_wire.specs.declared.Key.{Key}
-use Rattle.dia_data.specs.Plain.{PlainFormat, OctetString, Integer32, Integer64, Unsigned32, Unsigned64, Float32, Float64, Grouped, Address}
-use Rattle.dia_data.specs.Plain.{Time, Utf8String, DiameterIdentity, DiameterUri, Enumerated, IpFilterRule, QosFilterRule}
+use Rattle.dia_data.specs.Plain.{PlainFormat, Enumerated, word_of}
 use Rattle.dia_book.specs.declared.MRule.{MRule}
 use Rattle.dia_book.specs.declared.MRule.TheVariants.{Must, MustNot, Any}
 use Rattle.dia_book.specs.declared.Pxy.{Pxy}
@@ -49,25 +48,6 @@ rule_members d n r = member (codes "number") (number (unsigned n)) (member (code
 
 -- ---- a declaration of an AVP (RFC 6733 section 4.5)
 
--- the word that a dictionary's text has for a format
-abbrev pub format_word : PlainFormat → List ℕ
-format_word OctetString = codes "OctetString"
-format_word Integer32 = codes "Integer32"
-format_word Integer64 = codes "Integer64"
-format_word Unsigned32 = codes "Unsigned32"
-format_word Unsigned64 = codes "Unsigned64"
-format_word Float32 = codes "Float32"
-format_word Float64 = codes "Float64"
-format_word Grouped = codes "Grouped"
-format_word Address = codes "Address"
-format_word Time = codes "Time"
-format_word Utf8String = codes "UTF8String"
-format_word DiameterIdentity = codes "DiameterIdentity"
-format_word DiameterUri = codes "DiameterURI"
-format_word (Enumerated ranges) = codes "Enumerated"
-format_word IpFilterRule = codes "IPFilterRule"
-format_word QosFilterRule = codes "QoSFilterRule"
-
 abbrev pub m_word : MRule → List ℕ
 m_word Must = codes "must"
 m_word MustNot = codes "mustnot"
@@ -88,7 +68,7 @@ values_members (Enumerated ranges) = member (codes "values") (values_value range
 values_members format = no_members
 
 abbrev pub taken_members : PlainFormat → MRule → Members
-taken_members format m = member (codes "format") (string (format_word format)) (member (codes "m") (string (m_word m)) (values_members format))
+taken_members format m = member (codes "format") (string (word_of format)) (member (codes "m") (string (m_word m)) (values_members format))
 
 -- in the order of the line of a dictionary's text: name, code, vendor (0 for none), format, M rule and values
 abbrev pub declared_members : DictEntry → Members

@@ -10,7 +10,7 @@ ghost use Rattle.dia_compared_json.specs.Objects.{avp_value, declared_members, d
 ghost use Rattle.dia_compared_json.specs.Objects.{taken_members, values_members, values_value};
 
 use crate::arrays::{array_text, null_text};
-use crate::words::{format_word, m_word};
+use crate::words::m_word;
 use dia_book::{Book, Entry, Format, Key, MRule};
 use dia_data::Values;
 use dia_refused_json::quoted;
@@ -70,7 +70,7 @@ fn entry_text<B: Book>(alloc: Global, book: &B, entry: Entry) -> Result<String, 
 fn taken_text(alloc: Global, format: &Format, rule: MRule) -> Result<String, AllocError>
     ensures { IfOk result (λ text. string_bytes text ≡ members_text true (taken_members (plain_format format.now) rule)) }
 {
-    let word = format_word(format);
+    let word = format.word();
     let m = m_word(rule);
     let values = values_text(alloc, format)?;
     format!(in alloc; ",\"format\":\"{word}\",\"m\":\"{m}\"{values}")

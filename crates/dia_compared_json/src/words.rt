@@ -1,34 +1,9 @@
 //! Words of dictionaries' texts.
 
 ghost use Rattle.std.specs.Prelude.{◌≡◌};
-ghost use Rattle.dia_data.specs.Plain.{plain_format};
-ghost use Rattle.dia_compared_json.specs.Objects.{format_word, m_word, p_word};
+ghost use Rattle.dia_compared_json.specs.Objects.{m_word, p_word};
 
-use dia_book::{Format, MRule, Pxy};
-
-/// The word of a format.
-pub fn format_word(format: &Format) -> &'static str
-    ensures { result.now ≡ format_word (plain_format format.now) }
-{
-    match format {
-        Format::OctetString => "OctetString",
-        Format::Integer32 => "Integer32",
-        Format::Integer64 => "Integer64",
-        Format::Unsigned32 => "Unsigned32",
-        Format::Unsigned64 => "Unsigned64",
-        Format::Float32 => "Float32",
-        Format::Float64 => "Float64",
-        Format::Grouped => "Grouped",
-        Format::Address => "Address",
-        Format::Time => "Time",
-        Format::Utf8String => "UTF8String",
-        Format::DiameterIdentity => "DiameterIdentity",
-        Format::DiameterUri => "DiameterURI",
-        Format::Enumerated(_) => "Enumerated",
-        Format::IpFilterRule => "IPFilterRule",
-        Format::QosFilterRule => "QoSFilterRule",
-    }
-}
+use dia_book::{MRule, Pxy};
 
 /// The word of an M rule.
 pub fn m_word(rule: MRule) -> &'static str

@@ -10,7 +10,7 @@ use Rattle.dia_wire.specs.declared.Key.{Key}
 use Rattle.dia_book.specs.Keys.{same_key}
 use Rattle.dia_book.proofs.SameKeys.{same_key-refl, same_key-true}
 use Rattle.dia_book.proofs.Members.{at_find, find-found}
-use Rattle.dia_data.specs.Plain.{OctetString}
+use Rattle.dia_data.specs.Plain.{AnyBytes, OctetString}
 use Rattle.dia_book.specs.declared.MRule.TheVariants.{Must}
 use Rattle.dia_book.specs.declared.DRule.{DRule}
 use Rattle.dia_book.specs.Dictionary.{Dictionary, DictEntry, AreRules, is_fixed, lists_key}
@@ -223,7 +223,7 @@ module _ (c : Compared) (paired : (Key → Type 0)) (a b : List DRule) (are_a : 
     (comes : (key : Key) → Decides (may_come c.sides key) ((c.sides.unknown ≡ Kept) ⊎ IsKnown c.sides.first key))
     (is_uncovered : (key : Key) → IsIn key (uncovered_keys c) ↔ (IsKnown c.sides.first key × (is_covered c key ≡ false)))
     (fits : Decides (strangers_fit c.sides)
-    (c.sides.unknown ≡ Kept → (key : Key) (e : DictEntry) → known c.sides.second key ≡ Some e → ¬ IsKnown c.sides.first key → (e.format ≡ OctetString) × (e.rule ≢ Must))) where
+    (c.sides.unknown ≡ Kept → (key : Key) (e : DictEntry) → known c.sides.second key ≡ Some e → ¬ IsKnown c.sides.first key → (e.format ≡ AnyBytes OctetString) × (e.rule ≢ Must))) where
   abbrev da : Dictionary
   da = c.sides.first
 

@@ -5,7 +5,7 @@ use Rattle.std.specs.List.{AllByRecursion}
 use Rattle.std.proofs.lemmas.Option.{same_Some}
 use Rattle.dia_wire.specs.declared.Key.{Key}
 use Rattle.dia_wire.specs.Wire.{PlainAvp, key_of}
-use Rattle.dia_data.specs.Plain.{PlainFormat, OctetString, Grouped}
+use Rattle.dia_data.specs.Plain.{PlainFormat, AnyBytes, OctetString, Grouped}
 use Rattle.dia_data.specs.Leaf.{IsLeaf}
 use Rattle.dia_data.specs.Below.{FormatBelow}
 use Rattle.dia_data.proofs.FormatsBelow.{leaf_below}
@@ -86,8 +86,8 @@ below_grouped : (x : PlainFormat) → FormatBelow x Grouped → ⊥
 below_grouped Grouped h = h
 below_grouped x h = absurd cc
 
-grouped_below : (y : PlainFormat) → FormatBelow Grouped y → y ≡ OctetString
-grouped_below OctetString h = refl
+grouped_below : (y : PlainFormat) → FormatBelow Grouped y → y ≡ AnyBytes OctetString
+grouped_below (AnyBytes OctetString) h = refl
 grouped_below Grouped h = absurd h
 grouped_below y h = absurd cc
 
@@ -200,7 +200,7 @@ module _ (da db : Dictionary) (sa : IsDictionary da) (sb : IsDictionary db) (u :
 
   -- what B may make of a key that A does not know
   abbrev pub IsNew : Key → Type 0
-  IsNew key = (known da key ≡ None) × (u ≡ Kept → (f : DictEntry) → known db key ≡ Some f → (f.format ≡ OctetString) × (f.rule ≢ Must))
+  IsNew key = (known da key ≡ None) × (u ≡ Kept → (f : DictEntry) → known db key ≡ Some f → (f.format ≡ AnyBytes OctetString) × (f.rule ≢ Must))
 
   abbrev pub MayCome : Key → Type 0
   MayCome key = IsCovered da db u (IsPairKey da db table) key ⊎ IsNew key
@@ -247,7 +247,7 @@ module _ (da db : Dictionary) (sa : IsDictionary da) (sb : IsDictionary db) (u :
   new_at Q v (Some f) at h new =
       let k = only_kept u v.flags h in
       let n = new.1 k.0 f at in
-      let none = no_group db f sb (known_entry db (key_of v) f at).0 (λ is. absurd (let e : OctetString ≡ Grouped = sym n.0 ∙ is in cc)) in (
+      let none = no_group db f sb (known_entry db (key_of v) f at).0 (λ is. absurd (let e : (AnyBytes OctetString) ≡ Grouped = sym n.0 ∙ is in cc)) in (
         m_clear f.rule v.flags n.1 k.1,
         subst (λ (g : Option PlainDefinition). MatchOption g (IsLeaf f.format v.bytes) (λ group. Q group.rules v.bytes)) (sym none)
             (subst (λ (x : PlainFormat). IsLeaf x v.bytes) (sym n.0) tt),

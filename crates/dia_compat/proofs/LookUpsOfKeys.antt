@@ -9,7 +9,7 @@ use Rattle.std.proofs.lemmas.List.Quantifiers.{position-Some}
 use Rattle.std.proofs.lemmas.Option.{none-some, same_Some, get_or_from_slice_get, slice_get-get_or}
 use Rattle.std.proofs.lemmas.Slice.Eq.{bytes_eq-Decides}
 use Rattle.dia_wire.specs.declared.Key.{Key}
-use Rattle.dia_data.specs.Plain.{PlainFormat, OctetString}
+use Rattle.dia_data.specs.Plain.{PlainFormat, AnyBytes, OctetString}
 use Rattle.dia_book.specs.declared.MRule.{MRule}
 use Rattle.dia_book.specs.declared.MRule.TheVariants.{Must, MustNot, Any as AnyM}
 use Rattle.dia_book.specs.Keys.{same_key}
@@ -160,11 +160,11 @@ may_be_clear_decides Must = (λ e. absurd (let f : false ≡ true = e in cc), λ
 may_be_clear_decides MustNot = (λ e h. absurd cc, λ h. refl)
 may_be_clear_decides AnyM = (λ e h. absurd cc, λ h. refl)
 
-octets_right : (f : PlainFormat) → is_octets f ≡ true → f ≡ OctetString
-octets_right OctetString h = refl
+octets_right : (f : PlainFormat) → is_octets f ≡ true → f ≡ AnyBytes OctetString
+octets_right (AnyBytes OctetString) h = refl
 octets_right f h = absurd cc
 
-octets_decides : (f : PlainFormat) → Decides (is_octets f) (f ≡ OctetString)
+octets_decides : (f : PlainFormat) → Decides (is_octets f) (f ≡ AnyBytes OctetString)
 octets_decides f = (octets_right f, λ h. ap is_octets h)
 
 absent_decides : (d : Dictionary) (key : Key) → Decides (not (is_some (entry_of d key))) (known d key ≡ None)
@@ -240,15 +240,15 @@ module _ (c : Compared) (sa : IsDictionary c.sides.first) (sb : IsDictionary c.s
       back : IsKnown da key × (is_covered c key ≡ false) → IsIn key (uncovered_keys c)
       back h = into_filter (λ (k : Key). not (is_covered c k)) (map (λ (e : DictEntry). e.key) da.entries) key ((keys_known key).1 h.0) (ap not h.1)
 
-  stranger_decides : (e : DictEntry) → Decides (stranger_fits da e) (¬ IsKnown da e.key → (e.format ≡ OctetString) × (e.rule ≢ Must))
+  stranger_decides : (e : DictEntry) → Decides (stranger_fits da e) (¬ IsKnown da e.key → (e.format ≡ AnyBytes OctetString) × (e.rule ≢ Must))
   stranger_decides e = unless (is_some (entry_of da e.key)) (is_octets e.format && may_be_clear e.rule) (known_decides da e.key)
       (Decides-and (is_octets e.format) (may_be_clear e.rule) (octets_decides e.format) (may_be_clear_decides e.rule))
 
   pub fit_decides : Decides (strangers_fit c.sides)
-      (c.sides.unknown ≡ Kept → (key : Key) (e : DictEntry) → known c.sides.second key ≡ Some e → ¬ IsKnown c.sides.first key → (e.format ≡ OctetString) × (e.rule ≢ Must))
+      (c.sides.unknown ≡ Kept → (key : Key) (e : DictEntry) → known c.sides.second key ≡ Some e → ¬ IsKnown c.sides.first key → (e.format ≡ AnyBytes OctetString) × (e.rule ≢ Must))
   fit_decides =
       implied (is_kept u) (list_all (stranger_fits da) db.entries) (kept_decides u)
       (Decides-like (list_all (stranger_fits da) db.entries)
       (λ h key e at new. let r = known_entry db key e at in h e r.0 (λ k. new (subst (λ (z : Key). IsKnown da z) r.1 k)))
       (λ h e i new. h e.key e (entry_known db e.key e sb i refl) new)
-      (all_in_decides (stranger_fits da) (λ e. ¬ IsKnown da e.key → (e.format ≡ OctetString) × (e.rule ≢ Must)) db.entries (λ e i. stranger_decides e)))
+      (all_in_decides (stranger_fits da) (λ e. ¬ IsKnown da e.key → (e.format ≡ AnyBytes OctetString) × (e.rule ≢ Must)) db.entries (λ e i. stranger_decides e)))

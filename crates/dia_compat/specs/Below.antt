@@ -1,7 +1,7 @@
 -- When what stands as one definition says stands as another says.
 use Rattle.std.specs.Prelude.{◌≡◌, ◌≢◌, ℕ, ◌<◌, ◌≤◌, ◌⊎◌, List, [], ◌∷◌, Option, Some, None, IsSome, IfSome, ⊤}
 use Rattle.dia_wire.specs.declared.Key.{Key}
-use Rattle.dia_data.specs.Plain.{OctetString}
+use Rattle.dia_data.specs.Plain.{AnyBytes, OctetString}
 use Rattle.dia_book.specs.declared.MRule.TheVariants.{Must, MustNot}
 use Rattle.dia_book.specs.declared.DRule.{DRule}
 use Rattle.dia_book.specs.Dictionary.{Dictionary, DictEntry}
@@ -45,7 +45,7 @@ IsKnown d key = IsSome (known d key)
 -- a wildcard of the first lets every known key in that its definition does not list, and every unknown one
 pub record WildcardCovered (da db : Dictionary) (u : Unknown) (paired : (Key → Type 0)) (a : List DRule) : Type 0 where
   pub known_keys : (key : Key) → IsKnown da key → ¬ IsListed a key → IsCovered da db u paired key
-  pub new_keys : u ≡ Kept → (key : Key) (e : DictEntry) → known db key ≡ Some e → ¬ IsKnown da key → (e.format ≡ OctetString) × (e.rule ≢ Must)
+  pub new_keys : u ≡ Kept → (key : Key) (e : DictEntry) → known db key ≡ Some e → ¬ IsKnown da key → (e.format ≡ AnyBytes OctetString) × (e.rule ≢ Must)
 
 -- one test of two definitions. The tenth is of their pair
 abbrev pub Passes : Test → Dictionary → Dictionary → Unknown → (Key → Type 0) → List DRule → List DRule → Type 0

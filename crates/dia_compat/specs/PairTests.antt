@@ -5,7 +5,7 @@ use Rattle.std.specs.List.{list_all, list_any}
 use Rattle.std.specs.Option.{option_eq, option_map, option_map_or}
 use Rattle.std.specs.Str.{bytes_eq}
 use Rattle.dia_wire.specs.declared.Key.{Key}
-use Rattle.dia_data.specs.Plain.{PlainFormat, OctetString}
+use Rattle.dia_data.specs.Plain.{PlainFormat, AnyBytes, OctetString}
 use Rattle.dia_book.specs.declared.MRule.{MRule}
 use Rattle.dia_book.specs.declared.MRule.TheVariants.{Must, MustNot, Any as AnyM}
 use Rattle.dia_book.specs.declared.Pxy.{Pxy}
@@ -61,7 +61,7 @@ may_be_clear MustNot = true
 may_be_clear AnyM = true
 
 abbrev pub is_octets : PlainFormat → Bool
-is_octets OctetString = true
+is_octets (AnyBytes OctetString) = true
 is_octets f = false
 
 abbrev pub is_alone : Sides → Key → Bool

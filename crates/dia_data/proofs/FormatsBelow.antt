@@ -5,7 +5,7 @@ use Rattle.std.proofs.lemmas.Bool.{cases_lt}
 use Rattle.std.proofs.lemmas.List.{get_or_past}
 use Rattle.std.specs.Str.{IsUtf8}
 use Rattle.std.proofs.lemmas.Str.{IsUtf8-from_ascii}
-use Rattle.dia_data.specs.Plain.{PlainFormat, OctetString, Integer32, Grouped, Utf8String, DiameterIdentity, DiameterUri, Enumerated}
+use Rattle.dia_data.specs.Plain.{PlainFormat, AnyBytes, FourBytes, OctetString, Integer32, Grouped, Utf8String, DiameterIdentity, DiameterUri, Enumerated}
 use Rattle.dia_data.specs.Number.{number}
 use Rattle.dia_data.specs.Leaf.{IsLeaf, IsGraphic, IsListed, IsWithin}
 use Rattle.dia_data.specs.Below.{FormatBelow, IsDataIncluded, ValuesBelow}
@@ -26,16 +26,16 @@ listed_below v w n (inr each) listed = each.1 n listed
 
 -- the leaves of a format below another
 pub leaf_below : (f g : PlainFormat) → FormatBelow f g → (bytes : List ℕ) → IsLeaf f bytes → IsLeaf g bytes
-leaf_below f OctetString h bytes leaf = tt
+leaf_below f (AnyBytes OctetString) h bytes leaf = tt
 leaf_below (Enumerated v) (Enumerated w) h bytes leaf = (leaf.0, listed_below v w (number bytes) h leaf.1)
-leaf_below (Enumerated v) Integer32 h bytes leaf = leaf.0
+leaf_below (Enumerated v) (FourBytes Integer32) h bytes leaf = leaf.0
 leaf_below DiameterIdentity Utf8String h bytes leaf = graphic_text bytes leaf.1
 leaf_below DiameterUri Utf8String h bytes leaf = graphic_text bytes leaf.1
 leaf_below Grouped Grouped h bytes leaf = leaf
 leaf_below f g h bytes leaf = subst (λ (x : PlainFormat). IsLeaf x bytes) h leaf
 
 pub included : (f g : PlainFormat) → FormatBelow f g → IsDataIncluded f g
-included Grouped OctetString h = inr (refl, refl)
+included Grouped (AnyBytes OctetString) h = inr (refl, refl)
 included Grouped Grouped h = absurd h
 included Grouped g h = absurd (cc)
 included f g h = inl (λ e. absurd (cc), leaf_below f g h)

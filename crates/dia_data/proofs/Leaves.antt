@@ -4,14 +4,25 @@ use Rattle.std.specs.Prelude.{◌↔◌, codes}
 use Rattle.std.specs.Char.{to_ascii_lowercase}
 use Rattle.std.proofs.lemmas.List.{length-take, take-take, take_all}
 use Rattle.std.proofs.lemmas.List.Elements.{All-take}
-use Rattle.dia_data.specs.Plain.{PlainFormat, OctetString, Integer32, Integer64, Unsigned32, Unsigned64, Float32, Float64, Grouped, Address}
-use Rattle.dia_data.specs.Plain.{Time, Utf8String, DiameterIdentity, DiameterUri, Enumerated, IpFilterRule, QosFilterRule}
+use Rattle.dia_data.specs.Plain.{PlainFormat, AnyBytes, FourBytes, EightBytes, Grouped, Address, Utf8String, DiameterIdentity, DiameterUri, Enumerated}
 use Rattle.dia_data.specs.declared.accept.Leaf.{Leaf}
 use Rattle.dia_data.specs.declared.accept.Leaf.TheVariants.{Fine, BadLength, BadValue}
 use Rattle.dia_data.specs.Number.{number}
 use Rattle.dia_data.specs.Leaf.{IsLeaf, LengthFits, IsLeafAnswer, IsListed, IsGraphic, IsAddress, IsUri, NamesScheme}
 use Rattle.dia_data.proofs.Addresses.{IsLong, long_from_address, address_from_long}
 use Rattle.dia_data.proofs.Schemes.{scheme_from_front, front_from_scheme}
+
+-- a leaf has a length that its format can have
+pub leaf_fits : (f : PlainFormat) (bytes : List ℕ) → IsLeaf f bytes → LengthFits f bytes
+leaf_fits (AnyBytes name) bytes leaf = tt
+leaf_fits (FourBytes name) bytes leaf = leaf
+leaf_fits (EightBytes name) bytes leaf = leaf
+leaf_fits Grouped bytes leaf = tt
+leaf_fits Address bytes leaf = leaf
+leaf_fits Utf8String bytes leaf = tt
+leaf_fits DiameterIdentity bytes leaf = tt
+leaf_fits DiameterUri bytes leaf = tt
+leaf_fits (Enumerated ranges) bytes leaf = leaf.0
 
 -- a format says the same of two lists of bytes
 pub record IsSame (kind : PlainFormat) (xs ys : List ℕ) : Type 0 where
@@ -59,22 +70,15 @@ listed_front ranges bytes = (
 
 -- the first 20 bytes decide, but for texts, identities and URIs
 pub front_decides : (kind : PlainFormat) (bytes : List ℕ) → kind ≢ Utf8String → kind ≢ DiameterIdentity → kind ≢ DiameterUri → IsSame kind (take 20 bytes) bytes
-front_decides OctetString bytes t i u = record { leaf = (λ h. tt, λ h. tt); fits = (λ h. tt, λ h. tt) }
-front_decides Integer32 bytes t i u = record { leaf = length-front 4 bytes (omega arith); fits = length-front 4 bytes (omega arith) }
-front_decides Integer64 bytes t i u = record { leaf = length-front 8 bytes (omega arith); fits = length-front 8 bytes (omega arith) }
-front_decides Unsigned32 bytes t i u = record { leaf = length-front 4 bytes (omega arith); fits = length-front 4 bytes (omega arith) }
-front_decides Unsigned64 bytes t i u = record { leaf = length-front 8 bytes (omega arith); fits = length-front 8 bytes (omega arith) }
-front_decides Float32 bytes t i u = record { leaf = length-front 4 bytes (omega arith); fits = length-front 4 bytes (omega arith) }
-front_decides Float64 bytes t i u = record { leaf = length-front 8 bytes (omega arith); fits = length-front 8 bytes (omega arith) }
+front_decides (AnyBytes name) bytes t i u = record { leaf = (λ h. tt, λ h. tt); fits = (λ h. tt, λ h. tt) }
+front_decides (FourBytes name) bytes t i u = record { leaf = length-front 4 bytes (omega arith); fits = length-front 4 bytes (omega arith) }
+front_decides (EightBytes name) bytes t i u = record { leaf = length-front 8 bytes (omega arith); fits = length-front 8 bytes (omega arith) }
 front_decides Grouped bytes t i u = record { leaf = (λ h. h, λ h. h); fits = (λ h. tt, λ h. tt) }
 front_decides Address bytes t i u = record { leaf = address_front bytes; fits = address_front bytes }
-front_decides Time bytes t i u = record { leaf = length-front 4 bytes (omega arith); fits = length-front 4 bytes (omega arith) }
 front_decides Utf8String bytes t i u = absurd (t refl)
 front_decides DiameterIdentity bytes t i u = absurd (i refl)
 front_decides DiameterUri bytes t i u = absurd (u refl)
 front_decides (Enumerated ranges) bytes t i u = record { leaf = listed_front ranges bytes; fits = length-front 4 bytes (omega arith) }
-front_decides IpFilterRule bytes t i u = record { leaf = (λ h. tt, λ h. tt); fits = (λ h. tt, λ h. tt) }
-front_decides QosFilterRule bytes t i u = record { leaf = (λ h. tt, λ h. tt); fits = (λ h. tt, λ h. tt) }
 
 scheme_front : (scheme bytes : List ℕ) → length scheme < 20 → NamesScheme scheme (take 20 bytes) ↔ NamesScheme scheme bytes
 scheme_front scheme bytes short =

@@ -11,3 +11,4 @@ pub mod FormatsBelow
 pub mod AddressGroups
 pub mod ShownValues
 pub mod Decimals
+pub mod NamedFormats

@@ -1,6 +1,6 @@
 -- Which format accepts all that another accepts.
 use Rattle.std.specs.Prelude.{◌≡◌, ◌≢◌, ℕ, ◌⊎◌, Any, IsSome, IsNone, List, Option, ⊤}
-use Rattle.dia_data.specs.Plain.{PlainFormat, OctetString, Integer32, Grouped, Utf8String, DiameterIdentity, DiameterUri, Enumerated}
+use Rattle.dia_data.specs.Plain.{PlainFormat, AnyBytes, FourBytes, OctetString, Integer32, Grouped, Utf8String, DiameterIdentity, DiameterUri, Enumerated}
 use Rattle.dia_data.specs.Leaf.{IsLeaf, IsListed, IsWithin}
 
 -- no list, or each number of the first list's ranges is in some range of the second
@@ -9,9 +9,9 @@ ValuesBelow v w = IsNone w ⊎ (IsSome v × ((n : ℕ) → IsListed v n → IsLi
 
 -- which format stands below another (our profile): its data are included then (`IsDataIncluded`), and more is asked, so that Time isn't below Unsigned32
 abbrev pub FormatBelow : PlainFormat → PlainFormat → Type 0
-FormatBelow f OctetString = ⊤
+FormatBelow f (AnyBytes OctetString) = ⊤
 FormatBelow (Enumerated v) (Enumerated w) = ValuesBelow v w
-FormatBelow (Enumerated v) Integer32 = ⊤
+FormatBelow (Enumerated v) (FourBytes Integer32) = ⊤
 FormatBelow DiameterIdentity Utf8String = ⊤
 FormatBelow DiameterUri Utf8String = ⊤
 FormatBelow Grouped Grouped = ⊥
@@ -19,7 +19,7 @@ FormatBelow f g = f ≡ g
 
 -- each leaf of the first format is one of the second, or the first is Grouped and the second is OctetString
 abbrev pub IsDataIncluded : PlainFormat → PlainFormat → Type 0
-IsDataIncluded f g = ((f ≢ Grouped) × ((bytes : List ℕ) → IsLeaf f bytes → IsLeaf g bytes)) ⊎ ((f ≡ Grouped) × (g ≡ OctetString))
+IsDataIncluded f g = ((f ≢ Grouped) × ((bytes : List ℕ) → IsLeaf f bytes → IsLeaf g bytes)) ⊎ ((f ≡ Grouped) × (g ≡ AnyBytes OctetString))
 
 -- each number of some range of the first list is in some range of the second
 abbrev pub RangesBelow : List (ℕ × ℕ) → List (ℕ × ℕ) → Type 0

@@ -3,8 +3,7 @@ use Rattle.std.specs.Prelude.{◌≡◌, ◌≢◌, ℕ, ◌<◌, ◌≤◌, ◌
 use Rattle.std.specs.Str.{IsUtf8}
 use Rattle.std.specs.Char.{to_ascii_lowercase}
 use Rattle.dia_data.specs.Number.{number}
-use Rattle.dia_data.specs.Plain.{PlainFormat, OctetString, Integer32, Integer64, Unsigned32, Unsigned64, Float32, Float64, Grouped, Address}
-use Rattle.dia_data.specs.Plain.{Time, Utf8String, DiameterIdentity, DiameterUri, Enumerated, IpFilterRule, QosFilterRule}
+use Rattle.dia_data.specs.Plain.{PlainFormat, AnyBytes, FourBytes, EightBytes, Grouped, Address, Utf8String, DiameterIdentity, DiameterUri, Enumerated}
 use Rattle.dia_data.specs.declared.accept.Leaf.{Leaf}
 use Rattle.dia_data.specs.declared.accept.Leaf.TheVariants.{Fine, BadLength, BadValue}
 
@@ -47,41 +46,23 @@ IsUri bytes = (NamesScheme (codes "aaa://") bytes ⊎ NamesScheme (codes "aaas:/
 
 -- the data is one that the format accepts. The data of Grouped is a level of AVPs and no leaf
 abbrev pub IsLeaf : PlainFormat → List ℕ → Type 0
-IsLeaf OctetString bytes = ⊤
-IsLeaf Integer32 bytes = length bytes ≡ 4
-IsLeaf Integer64 bytes = length bytes ≡ 8
-IsLeaf Unsigned32 bytes = length bytes ≡ 4
-IsLeaf Unsigned64 bytes = length bytes ≡ 8
-IsLeaf Float32 bytes = length bytes ≡ 4
-IsLeaf Float64 bytes = length bytes ≡ 8
+IsLeaf (AnyBytes name) bytes = ⊤
+IsLeaf (FourBytes name) bytes = length bytes ≡ 4
+IsLeaf (EightBytes name) bytes = length bytes ≡ 8
 IsLeaf Grouped bytes = ⊥
 IsLeaf Address bytes = IsAddress bytes
-IsLeaf Time bytes = length bytes ≡ 4
 IsLeaf Utf8String bytes = IsUtf8 bytes
 IsLeaf DiameterIdentity bytes = IsIdentity bytes
 IsLeaf DiameterUri bytes = IsUri bytes
 IsLeaf (Enumerated ranges) bytes = (length bytes ≡ 4) × IsListed ranges (number bytes)
-IsLeaf IpFilterRule bytes = ⊤
-IsLeaf QosFilterRule bytes = ⊤
 
 -- the data has a length that the format can have
 abbrev pub LengthFits : PlainFormat → List ℕ → Type 0
-LengthFits OctetString bytes = ⊤
-LengthFits Integer32 bytes = length bytes ≡ 4
-LengthFits Integer64 bytes = length bytes ≡ 8
-LengthFits Unsigned32 bytes = length bytes ≡ 4
-LengthFits Unsigned64 bytes = length bytes ≡ 8
-LengthFits Float32 bytes = length bytes ≡ 4
-LengthFits Float64 bytes = length bytes ≡ 8
-LengthFits Grouped bytes = ⊤
+LengthFits (FourBytes name) bytes = length bytes ≡ 4
+LengthFits (EightBytes name) bytes = length bytes ≡ 8
 LengthFits Address bytes = IsAddress bytes
-LengthFits Time bytes = length bytes ≡ 4
-LengthFits Utf8String bytes = ⊤
-LengthFits DiameterIdentity bytes = ⊤
-LengthFits DiameterUri bytes = ⊤
 LengthFits (Enumerated ranges) bytes = length bytes ≡ 4
-LengthFits IpFilterRule bytes = ⊤
-LengthFits QosFilterRule bytes = ⊤
+LengthFits format bytes = ⊤
 
 -- what is said of the data: accepted, or a wrong length, or else a wrong value. A level is not looked at
 abbrev pub IsLeafAnswer : Leaf → PlainFormat → List ℕ → Type 0

@@ -1,9 +1,11 @@
 -- How a value is printed (our profile).
 use Rattle.std.specs.Prelude.{◌≡◌, ℕ, ◌+◌, ◌/◌, ◌%◌, ◌&&◌, nat_lt, nat_le, ◌==◌, not, if◌then◌else◌, List, [], ◌∷◌, ◌++◌, map, take, drop, codes}
 use Rattle.std.specs.List.{flat_map, join_with_byte}
-use Rattle.std.specs.Int.{w32, w64, cast_signed}
+use Rattle.std.specs.Int.{Width, w32, w64, cast_signed}
 use Rattle.std.specs.Fmt.{decimal, signed_decimal}
-use Rattle.dia_data.specs.Plain.{PlainFormat, Integer32, Integer64, Unsigned32, Unsigned64, Address, Time, Utf8String, DiameterIdentity, DiameterUri, Enumerated}
+use Rattle.dia_data.specs.Plain.{PlainFormat, FourBytes, EightBytes, Address, Utf8String, DiameterIdentity, DiameterUri, Enumerated, four_reading, eight_reading}
+use Rattle.dia_data.specs.declared.format.Reading.{Reading}
+use Rattle.dia_data.specs.declared.format.Reading.TheVariants.{Signed, Unsigned, Bits}
 use Rattle.dia_data.specs.Number.{number}
 use Rattle.dia_data.specs.Leaf.{IsLeaf}
 
@@ -41,13 +43,16 @@ address bytes =
     else (if family == 2 then join_with_byte 58 (groups rest)
     else codes "family " ++ decimal family ++ codes " " ++ hexadecimal rest)
 
+-- the text of bytes that are as wide as a number
+abbrev pub number_text : Width → Reading → List ℕ → List ℕ
+number_text width Signed bytes = signed_decimal (cast_signed width (number bytes))
+number_text width Unsigned bytes = decimal (number bytes)
+number_text width Bits bytes = hexadecimal bytes
+
 -- the text of data that the format accepts
 abbrev pub value_text : PlainFormat → List ℕ → List ℕ
-value_text Integer32 bytes = signed_decimal (cast_signed w32 (number bytes))
-value_text Integer64 bytes = signed_decimal (cast_signed w64 (number bytes))
-value_text Unsigned32 bytes = decimal (number bytes)
-value_text Unsigned64 bytes = decimal (number bytes)
-value_text Time bytes = decimal (number bytes)
+value_text (FourBytes name) bytes = number_text w32 (four_reading name) bytes
+value_text (EightBytes name) bytes = number_text w64 (eight_reading name) bytes
 value_text (Enumerated ranges) bytes = signed_decimal (cast_signed w32 (number bytes))
 value_text Address bytes = address bytes
 value_text Utf8String bytes = quoted bytes

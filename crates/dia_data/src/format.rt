@@ -1,5 +1,6 @@
 //! The data formats.
 use crate::values::Values;
+use dia_terms::FormatName;
 use std::alloc::AllocError;
 
 /// How the data of an AVP is to be read (RFC 6733 sections 4.2 to 4.4, and QoSFilterRule of RFC 3588 section 4.3).
@@ -41,6 +42,34 @@ pub enum Format {
     QosFilterRule,
 }
 
+/// How 4 or 8 bytes are read.
+#[derive(Clone, Copy, PartialEq, Eq)]
+pub enum Reading {
+    /// As a signed number.
+    Signed,
+    /// As an unsigned number.
+    Unsigned,
+    /// They are not read as a number.
+    Bits,
+}
+
+/// Formats by what data they accept, and how it is read.
+#[derive(Clone, Copy, PartialEq, Eq)]
+pub enum FormatKind {
+    /// Any bytes.
+    AnyBytes,
+    /// Any 4 bytes.
+    FourBytes(Reading),
+    /// Any 8 bytes.
+    EightBytes(Reading),
+    Grouped,
+    Address,
+    Utf8String,
+    DiameterIdentity,
+    DiameterUri,
+    Enumerated,
+}
+
 /// A copy is the same format.
 impl Clone for Format {
     ghost use Rattle.std.specs.Prelude.{◌≡◌};
@@ -67,5 +96,87 @@ impl Clone for Format {
             Format::IpFilterRule => Format::IpFilterRule,
             Format::QosFilterRule => Format::QosFilterRule,
         })
+    }
+}
+
+impl Format {
+    ghost use Rattle.std.specs.Prelude.{◌≡◌};
+    ghost use Rattle.dia_data.specs.Plain.{format_of, kind_of, name_of, plain_format, ranges_of, word_of};
+
+    /// Its name.
+    pub fn name(&self) -> FormatName
+        ensures { result ≡ name_of (plain_format self.now) }
+    {
+        match self {
+            Format::OctetString => FormatName::OctetString,
+            Format::Integer32 => FormatName::Integer32,
+            Format::Integer64 => FormatName::Integer64,
+            Format::Unsigned32 => FormatName::Unsigned32,
+            Format::Unsigned64 => FormatName::Unsigned64,
+            Format::Float32 => FormatName::Float32,
+            Format::Float64 => FormatName::Float64,
+            Format::Grouped => FormatName::Grouped,
+            Format::Address => FormatName::Address,
+            Format::Time => FormatName::Time,
+            Format::Utf8String => FormatName::Utf8String,
+            Format::DiameterIdentity => FormatName::DiameterIdentity,
+            Format::DiameterUri => FormatName::DiameterUri,
+            Format::Enumerated(_) => FormatName::Enumerated,
+            Format::IpFilterRule => FormatName::IpFilterRule,
+            Format::QosFilterRule => FormatName::QosFilterRule,
+        }
+    }
+
+    /// Its name, as dictionary texts have it.
+    pub fn word(&self) -> &'static str
+        ensures { result.now ≡ word_of (plain_format self.now) }
+    {
+        self.name().word()
+    }
+
+    /// Its kind.
+    pub fn kind(&self) -> FormatKind
+        ensures { result ≡ kind_of (plain_format self.now) }
+    {
+        match self {
+            Format::OctetString | Format::IpFilterRule | Format::QosFilterRule =>
+                FormatKind::AnyBytes,
+            Format::Integer32 => FormatKind::FourBytes(Reading::Signed),
+            Format::Unsigned32 | Format::Time => FormatKind::FourBytes(Reading::Unsigned),
+            Format::Float32 => FormatKind::FourBytes(Reading::Bits),
+            Format::Integer64 => FormatKind::EightBytes(Reading::Signed),
+            Format::Unsigned64 => FormatKind::EightBytes(Reading::Unsigned),
+            Format::Float64 => FormatKind::EightBytes(Reading::Bits),
+            Format::Grouped => FormatKind::Grouped,
+            Format::Address => FormatKind::Address,
+            Format::Utf8String => FormatKind::Utf8String,
+            Format::DiameterIdentity => FormatKind::DiameterIdentity,
+            Format::DiameterUri => FormatKind::DiameterUri,
+            Format::Enumerated(_) => FormatKind::Enumerated,
+        }
+    }
+
+    /// The format of a name, which has these numbers if it is Enumerated.
+    pub fn named(name: FormatName, values: Values) -> Format
+        ensures { plain_format result ≡ format_of name (ranges_of values) }
+    {
+        match name {
+            FormatName::OctetString => Format::OctetString,
+            FormatName::Integer32 => Format::Integer32,
+            FormatName::Integer64 => Format::Integer64,
+            FormatName::Unsigned32 => Format::Unsigned32,
+            FormatName::Unsigned64 => Format::Unsigned64,
+            FormatName::Float32 => Format::Float32,
+            FormatName::Float64 => Format::Float64,
+            FormatName::Grouped => Format::Grouped,
+            FormatName::Address => Format::Address,
+            FormatName::Time => Format::Time,
+            FormatName::Utf8String => Format::Utf8String,
+            FormatName::DiameterIdentity => Format::DiameterIdentity,
+            FormatName::DiameterUri => Format::DiameterUri,
+            FormatName::Enumerated => Format::Enumerated(values),
+            FormatName::IpFilterRule => Format::IpFilterRule,
+            FormatName::QosFilterRule => Format::QosFilterRule,
+        }
     }
 }

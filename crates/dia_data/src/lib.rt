@@ -26,7 +26,7 @@ mod values;
 
 pub use accept::{Leaf, accepts};
 pub use below::{format_below, inclusion};
-pub use format::Format;
+pub use format::{Format, FormatKind, Reading};
 pub use leaf_state::{LeafState, SeenData};
 pub use print::{print_value, push_decimal, push_hex_byte, push_value};
 pub use values::Values;

@@ -4,9 +4,10 @@ use Rattle.std.specs.Prelude.{slice_get, is_some, IsSome, IfSome, Contains, not,
 use Rattle.std.specs.List.{list_any, list_all}
 use Rattle.std.specs.Option.{option_map, option_map_or, option_or, option_eq}
 use Rattle.dia_wire.specs.declared.Key.{Key}
-use Rattle.dia_data.specs.Plain.{Grouped}
-use Rattle.dia_ccf.specs.declared.source.FormatName.{FormatName}
-use Rattle.dia_ccf.specs.declared.source.FormatName.TheVariants as name
+use Rattle.dia_data.specs.Plain.{Grouped, format_of}
+use Rattle.dia_data.proofs.NamedFormats.{name_of-grouped}
+use Rattle.dia_terms.specs.declared.FormatName.{FormatName}
+use Rattle.dia_terms.specs.declared.FormatName.TheVariants as name
 use Rattle.dia_ccf.specs.declared.source.Head.{Head}
 use Rattle.dia_ccf.specs.declared.source.Qual.{Qual}
 use Rattle.dia_terms.specs.declared.RuleKind.{RuleKind}
@@ -25,7 +26,7 @@ use Rattle.dia_book.specs.declared.DefHead.{DefHead}
 use Rattle.dia_book.specs.declared.DefHead.TheVariants.{Group, Command, Error}
 use Rattle.dia_book.specs.Dictionary.{PlainDefinition, DictEntry, IsDictionary, AreRules, IsSameSelector, IsCommandHead, IsLeast, is_fixed, groups as groups_of, definitions, entry_of}
 use Rattle.dia_dict.specs.Resolution.{resolved, declared_entry, bare_entry, bare_groups, definition_of, rule_of, head_of, key_of_name, key_of_decl, group_key, names_decl, names_def}
-use Rattle.dia_dict.specs.Resolution.{is_bare, repeats, same_selector, agrees_with, is_grouped, format_of, class_of, is_bad, least, greatest, slot_name, same_slot}
+use Rattle.dia_dict.specs.Resolution.{is_bare, repeats, same_selector, agrees_with, is_grouped, class_of, is_bad, least, greatest, slot_name, same_slot}
 use Rattle.std.proofs.lemmas.Bool.{and_from, and_parts, eq-eqb, both_ways, not-false, not-true, or_from, ltb-false, eqb-false}
 use Rattle.std.proofs.lemmas.List.{map-append, length-map, length-append}
 use Rattle.std.proofs.lemmas.List.Filters.{length-filter_both}
@@ -91,41 +92,15 @@ head_of-command (head.Group c v) e = absurd (let x : false ≡ true = e in cc)
 head_of-command (head.Command c r p a) e = class_of-error r
 head_of-command (head.Error p) e = tt
 
+named_grouped : (f : FormatName) → is_grouped f ≡ true → f ≡ name.Grouped
+named_grouped name.Grouped e = refl
+named_grouped f e = absurd cc
+
 format_of-grouped : (f : FormatName) (values : Option (List (ℕ × ℕ))) → format_of f values ≡ Grouped → is_grouped f ≡ true
-format_of-grouped name.Grouped values e = refl
-format_of-grouped name.OctetString values e = absurd cc
-format_of-grouped name.Integer32 values e = absurd cc
-format_of-grouped name.Integer64 values e = absurd cc
-format_of-grouped name.Unsigned32 values e = absurd cc
-format_of-grouped name.Unsigned64 values e = absurd cc
-format_of-grouped name.Float32 values e = absurd cc
-format_of-grouped name.Float64 values e = absurd cc
-format_of-grouped name.Address values e = absurd cc
-format_of-grouped name.Time values e = absurd cc
-format_of-grouped name.Utf8String values e = absurd cc
-format_of-grouped name.DiameterIdentity values e = absurd cc
-format_of-grouped name.DiameterUri values e = absurd cc
-format_of-grouped name.Enumerated values e = absurd cc
-format_of-grouped name.IpFilterRule values e = absurd cc
-format_of-grouped name.QosFilterRule values e = absurd cc
+format_of-grouped f values e = ap is_grouped (name_of-grouped f values e)
 
 grouped_format : (f : FormatName) (values : Option (List (ℕ × ℕ))) → is_grouped f ≡ true → format_of f values ≡ Grouped
-grouped_format name.Grouped values e = refl
-grouped_format name.OctetString values e = absurd cc
-grouped_format name.Integer32 values e = absurd cc
-grouped_format name.Integer64 values e = absurd cc
-grouped_format name.Unsigned32 values e = absurd cc
-grouped_format name.Unsigned64 values e = absurd cc
-grouped_format name.Float32 values e = absurd cc
-grouped_format name.Float64 values e = absurd cc
-grouped_format name.Address values e = absurd cc
-grouped_format name.Time values e = absurd cc
-grouped_format name.Utf8String values e = absurd cc
-grouped_format name.DiameterIdentity values e = absurd cc
-grouped_format name.DiameterUri values e = absurd cc
-grouped_format name.Enumerated values e = absurd cc
-grouped_format name.IpFilterRule values e = absurd cc
-grouped_format name.QosFilterRule values e = absurd cc
+grouped_format f values e = ap (λ (g : FormatName). format_of g values) (named_grouped f e)
 
 -- ---- rules
 

@@ -7,8 +7,7 @@ use Rattle.std.specs.Option.{option_eq, option_map, option_map_or, option_or}
 use Rattle.dia_terms.specs.declared.Pxy.{Pxy}
 use Rattle.dia_terms.specs.declared.Pxy.TheVariants.{Clear, Set}
 use Rattle.dia_wire.specs.declared.Key.{Key}
-use Rattle.dia_data.specs.Plain as formats
-use Rattle.dia_data.specs.Plain.{PlainFormat}
+use Rattle.dia_data.specs.Plain.{Grouped, format_of}
 use Rattle.dia_ccf.specs.declared.FormatName.{FormatName}
 use Rattle.dia_ccf.specs.declared.FormatName.TheVariants as name
 use Rattle.dia_terms.specs.declared.MRule.TheVariants as m_rule
@@ -37,24 +36,6 @@ use Rattle.dia_dict.specs.declared.findings.PartKind.TheVariants as part
 use Rattle.dia_book.specs.Dictionary.{PlainDefinition, DictEntry, Dictionary}
 
 -- ---- the meaning
-
-abbrev pub format_of : FormatName → Option (List (ℕ × ℕ)) → PlainFormat
-format_of name.OctetString ranges = formats.OctetString
-format_of name.Integer32 ranges = formats.Integer32
-format_of name.Integer64 ranges = formats.Integer64
-format_of name.Unsigned32 ranges = formats.Unsigned32
-format_of name.Unsigned64 ranges = formats.Unsigned64
-format_of name.Float32 ranges = formats.Float32
-format_of name.Float64 ranges = formats.Float64
-format_of name.Grouped ranges = formats.Grouped
-format_of name.Address ranges = formats.Address
-format_of name.Time ranges = formats.Time
-format_of name.Utf8String ranges = formats.Utf8String
-format_of name.DiameterIdentity ranges = formats.DiameterIdentity
-format_of name.DiameterUri ranges = formats.DiameterUri
-format_of name.Enumerated ranges = formats.Enumerated ranges
-format_of name.IpFilterRule ranges = formats.IpFilterRule
-format_of name.QosFilterRule ranges = formats.QosFilterRule
 
 abbrev pub key_of_decl : PlainDecl → Key
 key_of_decl d = record { code = d.code; vendor = d.vendor }
@@ -121,7 +102,7 @@ declared_entry s d = record {
 }
 
 abbrev pub bare_entry : PlainSource → PlainDef → DictEntry
-bare_entry s g = record { name = g.name; key = group_key g.head; format = formats.Grouped; rule = m_rule.Any; group = Some (definition_of s g) }
+bare_entry s g = record { name = g.name; key = group_key g.head; format = Grouped; rule = m_rule.Any; group = Some (definition_of s g) }
 
 -- the dictionary that the source names: the declarations, then the groups without one, and the commands
 abbrev pub resolved : PlainSource → Dictionary

@@ -16,6 +16,7 @@
 
 use crate::words::{number_of, same};
 use dia_breaking_data::{Witness, shortest, witness};
+use dia_ccf::FormatName;
 use dia_data::{Format, Leaf, Values, accepts, format_below, inclusion, print_value};
 use dia_rows::{Names, Row, bytes_of, word};
 use std::process::Abort;
@@ -147,25 +148,7 @@ fn format_of(rt: &(impl AllocGlobal + Abort), word: &str) -> Format {
 
 /// The format of a word without a list.
 fn plain_format(word: &str) -> Option<Format> {
-    Some(match word {
-        "OctetString" => Format::OctetString,
-        "Integer32" => Format::Integer32,
-        "Integer64" => Format::Integer64,
-        "Unsigned32" => Format::Unsigned32,
-        "Unsigned64" => Format::Unsigned64,
-        "Float32" => Format::Float32,
-        "Float64" => Format::Float64,
-        "Grouped" => Format::Grouped,
-        "Address" => Format::Address,
-        "Time" => Format::Time,
-        "UTF8String" => Format::Utf8String,
-        "DiameterIdentity" => Format::DiameterIdentity,
-        "DiameterURI" => Format::DiameterUri,
-        "Enumerated" => Format::Enumerated(Values::any()),
-        "IPFilterRule" => Format::IpFilterRule,
-        "QoSFilterRule" => Format::QosFilterRule,
-        _ => return None,
-    })
+    Some(Format::named(FormatName::named(word)?, Values::any()))
 }
 
 /// The Enumerated format of a list of ranges.

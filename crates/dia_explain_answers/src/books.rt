@@ -3,7 +3,7 @@
 ghost use Rattle.std.specs.Prelude.{◌<◌, IfSome, length};
 ghost use Rattle.dia_book.specs.Dictionary.{definitions};
 
-use crate::rule_text::{format_word, m_word, push_vendor};
+use crate::rule_text::{m_word, push_vendor};
 use crate::texts::{Added, Scene, push_number};
 use dia_book::{Book, Class, DRule, DefHead, DefId, Definition, Format, Key, MRule, Slot};
 use dia_wire::Header;
@@ -45,7 +45,7 @@ impl Known<'_> {
     /// What a word about the format or the rule stands for.
     pub fn declared_word(&self, word: &str) -> &'static str {
         match word {
-            "format" => format_word(self.format),
+            "format" => self.format.word(),
             "m" => m_word(self.rule),
             "sends" => sent_flag(self.rule),
             "takes" => taken_flag(self.rule),

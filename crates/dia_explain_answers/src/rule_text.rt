@@ -1,8 +1,8 @@
-//! Rules, counts, keys, formats and M rules as a dictionary's text has them.
+//! Rules, counts, keys and M rules as a dictionary's text has them.
 
 use crate::sides::Side;
 use crate::texts::Added;
-use dia_book::{DRule, Format, Key, MRule, RuleKind};
+use dia_book::{DRule, Key, MRule, RuleKind};
 
 /// Adds a rule as a text has it, with a qualifier where its counts aren't those of its brackets.
 pub fn push_rule(out: &mut String, side: &Side<'_>, rule: &DRule) -> Added {
@@ -107,27 +107,5 @@ pub fn m_word(rule: MRule) -> &'static str {
         MRule::Must => "must",
         MRule::MustNot => "mustnot",
         MRule::Any => "any",
-    }
-}
-
-/// The word of a format.
-pub fn format_word(format: &Format) -> &'static str {
-    match format {
-        Format::OctetString => "OctetString",
-        Format::Integer32 => "Integer32",
-        Format::Integer64 => "Integer64",
-        Format::Unsigned32 => "Unsigned32",
-        Format::Unsigned64 => "Unsigned64",
-        Format::Float32 => "Float32",
-        Format::Float64 => "Float64",
-        Format::Grouped => "Grouped",
-        Format::Address => "Address",
-        Format::Time => "Time",
-        Format::Utf8String => "UTF8String",
-        Format::DiameterIdentity => "DiameterIdentity",
-        Format::DiameterUri => "DiameterURI",
-        Format::Enumerated(_) => "Enumerated",
-        Format::IpFilterRule => "IPFilterRule",
-        Format::QosFilterRule => "QoSFilterRule",
     }
 }

@@ -11,18 +11,13 @@ use Rattle.dia_ccf.specs.declared.wanted.InHead.TheVariants as head
 use Rattle.dia_ccf.specs.declared.wanted.InRules.{InRules}
 use Rattle.dia_ccf.specs.declared.wanted.InRules.TheVariants as rules
 use Rattle.dia_terms.specs.declared.RuleKind.TheVariants.{Optional}
-
--- the words of all data formats
-abbrev pub formats : List (List ℕ)
-formats = codes "OctetString" ∷ codes "Integer32" ∷ codes "Integer64" ∷ codes "Unsigned32" ∷ codes "Unsigned64" ∷ codes "Float32" ∷ codes "Float64"
-    ∷ codes "Grouped" ∷ codes "Address" ∷ codes "Time" ∷ codes "UTF8String" ∷ codes "DiameterIdentity" ∷ codes "DiameterURI" ∷ codes "Enumerated"
-    ∷ codes "IPFilterRule" ∷ codes "QoSFilterRule" ∷ []
+use Rattle.dia_terms.specs.Formats.{format_words}
 
 abbrev pub expected_in_declaration : InDeclaration → List (List ℕ)
 expected_in_declaration declaration.Name = codes "the name of an AVP" ∷ []
 expected_in_declaration declaration.Code = codes "the AVP code, a number below 2^32" ∷ []
-expected_in_declaration declaration.VendorOrFormat = codes "vendor" ∷ formats
-expected_in_declaration declaration.Format = formats
+expected_in_declaration declaration.VendorOrFormat = codes "vendor" ∷ format_words
+expected_in_declaration declaration.Format = format_words
 expected_in_declaration declaration.Vendor = codes "the vendor's number, below 2^32" ∷ []
 expected_in_declaration (declaration.MRule is_enumerated) = codes "must" ∷ codes "mustnot" ∷ codes "any" ∷ []
 expected_in_declaration declaration.ValuesOrItem =

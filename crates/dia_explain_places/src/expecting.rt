@@ -1,31 +1,11 @@
 //! What can stand at a place of a dictionary's text, in words.
 
 ghost use Rattle.std.specs.Prelude.{◌≡◌, map};
-ghost use Rattle.dia_explain_places.specs.Expecting.{expected, expected_in_declaration, expected_in_definition, formats};
+ghost use Rattle.dia_explain_places.specs.Expecting.{expected, expected_in_declaration, expected_in_definition};
 ghost use Rattle.dia_explain_places.specs.Expecting.{expected_in_head, expected_in_rules, flags_at};
 
 use dia_ccf::{InDeclaration, InDefinition, InHead, InRules, RuleKind, Wanted};
-
-/// The word in front of a vendor's number, and the words of all data formats.
-static VENDOR_OR_FORMATS: [&str; 17] = [
-    "vendor",
-    "OctetString",
-    "Integer32",
-    "Integer64",
-    "Unsigned32",
-    "Unsigned64",
-    "Float32",
-    "Float64",
-    "Grouped",
-    "Address",
-    "Time",
-    "UTF8String",
-    "DiameterIdentity",
-    "DiameterURI",
-    "Enumerated",
-    "IPFilterRule",
-    "QoSFilterRule",
-];
+use dia_terms::{format_words, vendor_or_format_words};
 
 /// What can stand at a place: a word or a few for each.
 pub fn expected(wanted: Wanted) -> &'static [&'static str]
@@ -40,21 +20,14 @@ pub fn expected(wanted: Wanted) -> &'static [&'static str]
     }
 }
 
-/// The words of all data formats.
-pub fn formats() -> &'static [&'static str]
-    ensures { map (λ item. item.now) result.now ≡ formats }
-{
-    &VENDOR_OR_FORMATS[1..]
-}
-
 fn expected_in_declaration(place: InDeclaration) -> &'static [&'static str]
     ensures { map (λ item. item.now) result.now ≡ expected_in_declaration place }
 {
     match place {
         InDeclaration::Name => &["the name of an AVP"],
         InDeclaration::Code => &["the AVP code, a number below 2^32"],
-        InDeclaration::VendorOrFormat => VENDOR_OR_FORMATS.as_slice(),
-        InDeclaration::Format => formats(),
+        InDeclaration::VendorOrFormat => vendor_or_format_words(),
+        InDeclaration::Format => format_words(),
         InDeclaration::Vendor => &["the vendor's number, below 2^32"],
         InDeclaration::MRule { .. } => &["must", "mustnot", "any"],
         InDeclaration::ValuesOrItem => &[

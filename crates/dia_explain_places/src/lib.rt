@@ -16,7 +16,7 @@ mod sites;
 mod tables;
 
 pub use digits::{count_digits, place_of_byte};
-pub use expecting::{expected, formats};
+pub use expecting::expected;
 pub use input_texts::{InputTexts, NamedText};
 pub use lines::{PairWords, Word, start_of_line, words_of};
 pub use nearest::{nearest_command, nearest_name};

@@ -4,6 +4,7 @@ use Rattle.std.specs.Prelude.{◌⊎◌, ◌==◌, if◌then◌else◌}
 use Rattle.std.specs.List.{flat_map}
 use Rattle.std.specs.Str.{IsUtf8}
 use Rattle.std.specs.Fmt.{decimal, signed_decimal}
+use Rattle.std.specs.Int.{w32, w64}
 use Rattle.std.proofs.lemmas.Bool.{eqb-true, false≢true}
 use Rattle.std.proofs.lemmas.List.{length-append, length-drop}
 use Rattle.std.proofs.Math.Seq.{take-length}
@@ -15,17 +16,20 @@ use Rattle.serde_json.specs.Written.{compact_text}
 use Rattle.serde_json.proofs.OnLiterals.{serde_json_on_literals}
 use Rattle.dia_data.specs.declared.accept.Leaf.{Leaf}
 use Rattle.dia_data.specs.declared.accept.Leaf.TheVariants.{Fine, BadLength, BadValue}
-use Rattle.dia_data.specs.Plain.{PlainFormat, OctetString, Integer32, Integer64, Unsigned32, Unsigned64, Float32, Float64, Grouped, Address}
-use Rattle.dia_data.specs.Plain.{Time, Utf8String, DiameterIdentity, DiameterUri, Enumerated, IpFilterRule, QosFilterRule}
-use Rattle.dia_data.specs.Leaf.{IsAddress, IsLeaf, IsLeafAnswer, LengthFits}
+use Rattle.dia_data.specs.declared.FormatKind.TheVariants as of_format
+use Rattle.dia_data.specs.declared.Reading.{Reading}
+use Rattle.dia_data.specs.declared.Reading.TheVariants.{Signed, Unsigned, Bits}
+use Rattle.dia_data.specs.Plain.{PlainFormat, AnyBytes, FourBytes, EightBytes, Grouped, Address, Utf8String, DiameterIdentity, DiameterUri, Enumerated, eight_reading, four_reading}
+use Rattle.dia_data.specs.Leaf.{IsAddress, IsLeaf, IsLeafAnswer}
 use Rattle.dia_data.specs.Number as numbers
-use Rattle.dia_data.specs.Shown.{IsValueText, address, hex_byte, value_text}
+use Rattle.dia_data.specs.Shown.{IsValueText, address, hex_byte, number_text, value_text}
 use Rattle.dia_data.proofs.Numbers.{big_from-number}
 use Rattle.dia_data.proofs.FormatsBelow.{leaf_below}
 use Rattle.dia_data.proofs.ShownValues.{leaf_from_fine}
+use Rattle.dia_data.proofs.Leaves.{leaf_fits}
 use Rattle.dia_json.specs.declared.values.ValueKind.{ValueKind}
 use Rattle.dia_json.specs.declared.values.ValueKind.TheVariants as kind
-use Rattle.dia_json.specs.Messages.{IsValue, address_value, hex_value, integer_of, kind_of, other_address, value_as}
+use Rattle.dia_json.specs.Messages.{IsValue, address_value, hex_value, integer_of, kind_as, kind_of, number_as, other_address, value_as}
 
 -- ---- kinds
 
@@ -46,45 +50,51 @@ is_numeric kind.Number = true
 is_numeric kind.LongNumber = true
 is_numeric k = false
 
+shown_four : (r : Reading) (bytes : List ℕ) → is_numeric (kind_as (of_format.FourBytes r)) ≡ true → number_text w32 r bytes ≡ signed_decimal (number_as w32 r bytes)
+shown_four Signed bytes h = refl
+shown_four Unsigned bytes h = refl
+shown_four Bits bytes h = absurd (false≢true h)
+
+shown_eight : (r : Reading) (bytes : List ℕ) → is_numeric (kind_as (of_format.EightBytes r)) ≡ true → number_text w64 r bytes ≡ signed_decimal (number_as w64 r bytes)
+shown_eight Signed bytes h = refl
+shown_eight Unsigned bytes h = refl
+shown_eight Bits bytes h = absurd (false≢true h)
+
 shown_integer : (f : PlainFormat) (bytes : List ℕ) → is_numeric (kind_of f) ≡ true → value_text f bytes ≡ signed_decimal (integer_of f bytes)
-shown_integer OctetString bytes h = absurd (false≢true h)
-shown_integer Integer32 bytes h = refl
-shown_integer Integer64 bytes h = refl
-shown_integer Unsigned32 bytes h = refl
-shown_integer Unsigned64 bytes h = refl
-shown_integer Float32 bytes h = absurd (false≢true h)
-shown_integer Float64 bytes h = absurd (false≢true h)
+shown_integer (AnyBytes name) bytes h = absurd (false≢true h)
+shown_integer (FourBytes name) bytes h = shown_four (four_reading name) bytes h
+shown_integer (EightBytes name) bytes h = shown_eight (eight_reading name) bytes h
 shown_integer Grouped bytes h = absurd (false≢true h)
 shown_integer Address bytes h = absurd (false≢true h)
-shown_integer Time bytes h = refl
 shown_integer Utf8String bytes h = absurd (false≢true h)
 shown_integer DiameterIdentity bytes h = absurd (false≢true h)
 shown_integer DiameterUri bytes h = absurd (false≢true h)
 shown_integer (Enumerated ranges) bytes h = refl
-shown_integer IpFilterRule bytes h = absurd (false≢true h)
-shown_integer QosFilterRule bytes h = absurd (false≢true h)
 
 abbrev is_text : ValueKind → Bool
 is_text kind.Text = true
 is_text k = false
 
+four_no_text : (r : Reading) → is_text (kind_as (of_format.FourBytes r)) ≡ false
+four_no_text Signed = refl
+four_no_text Unsigned = refl
+four_no_text Bits = refl
+
+eight_no_text : (r : Reading) → is_text (kind_as (of_format.EightBytes r)) ≡ false
+eight_no_text Signed = refl
+eight_no_text Unsigned = refl
+eight_no_text Bits = refl
+
 text_leaf : (f : PlainFormat) (bytes : List ℕ) → is_text (kind_of f) ≡ true → IsLeaf f bytes → IsUtf8 bytes
-text_leaf OctetString bytes h leaf = absurd (false≢true h)
-text_leaf Integer32 bytes h leaf = absurd (false≢true h)
-text_leaf Integer64 bytes h leaf = absurd (false≢true h)
-text_leaf Unsigned32 bytes h leaf = absurd (false≢true h)
-text_leaf Unsigned64 bytes h leaf = absurd (false≢true h)
-text_leaf Float32 bytes h leaf = absurd (false≢true h)
-text_leaf Float64 bytes h leaf = absurd (false≢true h)
+text_leaf (AnyBytes name) bytes h leaf = absurd (false≢true h)
+text_leaf (FourBytes name) bytes h leaf = absurd (false≢true (sym (four_no_text (four_reading name)) ∙ h))
+text_leaf (EightBytes name) bytes h leaf = absurd (false≢true (sym (eight_no_text (eight_reading name)) ∙ h))
 text_leaf Grouped bytes h leaf = absurd (false≢true h)
 text_leaf Address bytes h leaf = absurd (false≢true h)
-text_leaf Time bytes h leaf = absurd (false≢true h)
 text_leaf Utf8String bytes h leaf = leaf
 text_leaf DiameterIdentity bytes h leaf = leaf_below DiameterIdentity Utf8String tt bytes leaf
 text_leaf DiameterUri bytes h leaf = leaf_below DiameterUri Utf8String tt bytes leaf
 text_leaf (Enumerated ranges) bytes h leaf = absurd (false≢true h)
-text_leaf IpFilterRule bytes h leaf = absurd (false≢true h)
-text_leaf QosFilterRule bytes h leaf = absurd (false≢true h)
 
 -- accepted data of a text's kind is UTF-8
 pub text_kind : (f : PlainFormat) (bytes : List ℕ) → kind_of f ≡ kind.Text → IsLeafAnswer Fine f bytes → IsUtf8 bytes
@@ -94,23 +104,26 @@ abbrev is_address : ValueKind → Bool
 is_address kind.Address = true
 is_address k = false
 
+four_no_address : (r : Reading) → is_address (kind_as (of_format.FourBytes r)) ≡ false
+four_no_address Signed = refl
+four_no_address Unsigned = refl
+four_no_address Bits = refl
+
+eight_no_address : (r : Reading) → is_address (kind_as (of_format.EightBytes r)) ≡ false
+eight_no_address Signed = refl
+eight_no_address Unsigned = refl
+eight_no_address Bits = refl
+
 address_format : (f : PlainFormat) → is_address (kind_of f) ≡ true → f ≡ Address
-address_format OctetString h = absurd (false≢true h)
-address_format Integer32 h = absurd (false≢true h)
-address_format Integer64 h = absurd (false≢true h)
-address_format Unsigned32 h = absurd (false≢true h)
-address_format Unsigned64 h = absurd (false≢true h)
-address_format Float32 h = absurd (false≢true h)
-address_format Float64 h = absurd (false≢true h)
+address_format (AnyBytes name) h = absurd (false≢true h)
+address_format (FourBytes name) h = absurd (false≢true (sym (four_no_address (four_reading name)) ∙ h))
+address_format (EightBytes name) h = absurd (false≢true (sym (eight_no_address (eight_reading name)) ∙ h))
 address_format Grouped h = absurd (false≢true h)
 address_format Address h = refl
-address_format Time h = absurd (false≢true h)
 address_format Utf8String h = absurd (false≢true h)
 address_format DiameterIdentity h = absurd (false≢true h)
 address_format DiameterUri h = absurd (false≢true h)
 address_format (Enumerated ranges) h = absurd (false≢true h)
-address_format IpFilterRule h = absurd (false≢true h)
-address_format QosFilterRule h = absurd (false≢true h)
 
 pub address_kind : (f : PlainFormat) → kind_of f ≡ kind.Address → f ≡ Address
 address_kind f is = address_format f (ap is_address is)
@@ -156,27 +169,9 @@ pub accepted_value : (f : PlainFormat) (bytes text : List ℕ) → IsLeafAnswer 
     → (value : Data) × IsValue f bytes value × (text ≡ compact_text value)
 accepted_value f bytes text fine is = (value_as (kind_of f) f bytes, record { accepted = λ leaf. refl; refused = fine_is f bytes fine }, is)
 
-leaf_length : (f : PlainFormat) (bytes : List ℕ) → IsLeaf f bytes → LengthFits f bytes
-leaf_length OctetString bytes leaf = tt
-leaf_length Integer32 bytes leaf = leaf
-leaf_length Integer64 bytes leaf = leaf
-leaf_length Unsigned32 bytes leaf = leaf
-leaf_length Unsigned64 bytes leaf = leaf
-leaf_length Float32 bytes leaf = leaf
-leaf_length Float64 bytes leaf = leaf
-leaf_length Grouped bytes leaf = absurd leaf
-leaf_length Address bytes leaf = leaf
-leaf_length Time bytes leaf = leaf
-leaf_length Utf8String bytes leaf = tt
-leaf_length DiameterIdentity bytes leaf = tt
-leaf_length DiameterUri bytes leaf = tt
-leaf_length (Enumerated ranges) bytes leaf = leaf.0
-leaf_length IpFilterRule bytes leaf = tt
-leaf_length QosFilterRule bytes leaf = tt
-
 no_leaf : (answer : Leaf) (f : PlainFormat) (bytes : List ℕ) → IsLeafAnswer answer f bytes → answer ≢ Fine → ¬ IsLeaf f bytes
 no_leaf Fine f bytes said other = λ leaf. other refl
-no_leaf BadLength f bytes said other = λ leaf. said (leaf_length f bytes leaf)
+no_leaf BadLength f bytes said other = λ leaf. said (leaf_fits f bytes leaf)
 no_leaf BadValue f bytes said other = said.1
 
 pub refused_value : (answer : Leaf) (f : PlainFormat) (bytes text : List ℕ) → IsLeafAnswer answer f bytes → answer ≢ Fine → text ≡ compact_text (hex_value bytes)

@@ -1,14 +1,17 @@
 -- A message as JSON values: an object for its header, and one for each AVP, with the members of the groups that the dictionary knows.
 use Rattle.std.specs.Prelude.{◌≡◌, ℕ, ◌+◌, ◌<◌, ◌==◌, if◌then◌else◌, ℤ, pos, Bool, true, false, List, [], ◌∷◌, ◌++◌, length, take, drop, Option, Some, None, codes, slice_get}
 use Rattle.std.specs.List.{flat_map}
-use Rattle.std.specs.Int.{w32, w64, cast_signed}
+use Rattle.std.specs.Int.{Width, w32, w64, cast_signed}
 use Rattle.std.specs.Fmt.{signed_decimal}
 use Rattle.serde_json.specs.Data.{Data, Members, member, no_members, null, number, object, string, unsigned}
 use Rattle.serde_json.specs.Find.{of_integer}
 use Rattle.dia_wire.specs.declared.Header.{Header}
 use Rattle.dia_wire.specs.Wire.{PlainAvp, key_of, avp_length, BeginsWith, BeginsWithNone, IsHead, IsMessageLength}
-use Rattle.dia_data.specs.Plain.{PlainFormat, OctetString, Integer32, Integer64, Unsigned32, Unsigned64, Float32, Float64, Grouped, Address}
-use Rattle.dia_data.specs.Plain.{Time, Utf8String, DiameterIdentity, DiameterUri, Enumerated, IpFilterRule, QosFilterRule}
+use Rattle.dia_data.specs.declared.FormatKind.{FormatKind}
+use Rattle.dia_data.specs.declared.FormatKind.TheVariants as of_format
+use Rattle.dia_data.specs.declared.Reading.{Reading}
+use Rattle.dia_data.specs.declared.Reading.TheVariants.{Signed, Bits}
+use Rattle.dia_data.specs.Plain.{PlainFormat, Grouped, FourBytes, EightBytes, Enumerated, eight_reading, four_reading, kind_of as format_kind}
 use Rattle.dia_data.specs.Leaf.{IsLeaf}
 use Rattle.dia_data.specs.Number as numbers
 use Rattle.dia_data.specs.Shown.{address, hex_byte}
@@ -37,29 +40,31 @@ address_value bytes =
     let family = numbers.number (take 2 bytes) in
     if family == 1 then string (address bytes) else (if family == 2 then string (address bytes) else other_address family (drop 2 bytes))
 
+abbrev pub kind_as : FormatKind → ValueKind
+kind_as (of_format.FourBytes Bits) = kind.Octets
+kind_as (of_format.FourBytes reading) = kind.Number
+kind_as (of_format.EightBytes Bits) = kind.Octets
+kind_as (of_format.EightBytes reading) = kind.LongNumber
+kind_as of_format.Enumerated = kind.Number
+kind_as of_format.Address = kind.Address
+kind_as of_format.Utf8String = kind.Text
+kind_as of_format.DiameterIdentity = kind.Text
+kind_as of_format.DiameterUri = kind.Text
+kind_as format = kind.Octets
+
 abbrev pub kind_of : PlainFormat → ValueKind
-kind_of OctetString = kind.Octets
-kind_of Integer32 = kind.Number
-kind_of Integer64 = kind.LongNumber
-kind_of Unsigned32 = kind.Number
-kind_of Unsigned64 = kind.LongNumber
-kind_of Float32 = kind.Octets
-kind_of Float64 = kind.Octets
-kind_of Grouped = kind.Octets
-kind_of Address = kind.Address
-kind_of Time = kind.Number
-kind_of Utf8String = kind.Text
-kind_of DiameterIdentity = kind.Text
-kind_of DiameterUri = kind.Text
-kind_of (Enumerated ranges) = kind.Number
-kind_of IpFilterRule = kind.Octets
-kind_of QosFilterRule = kind.Octets
+kind_of format = kind_as (format_kind format)
+
+-- the number that bytes of this width are
+abbrev pub number_as : Width → Reading → List ℕ → ℤ
+number_as width Signed bytes = cast_signed width (numbers.number bytes)
+number_as width reading bytes = pos (numbers.number bytes)
 
 -- the number that the bytes are, signed or not as the format is
 abbrev pub integer_of : PlainFormat → List ℕ → ℤ
-integer_of Integer32 bytes = cast_signed w32 (numbers.number bytes)
+integer_of (FourBytes name) bytes = number_as w32 (four_reading name) bytes
+integer_of (EightBytes name) bytes = number_as w64 (eight_reading name) bytes
 integer_of (Enumerated ranges) bytes = cast_signed w32 (numbers.number bytes)
-integer_of Integer64 bytes = cast_signed w64 (numbers.number bytes)
 integer_of format bytes = pos (numbers.number bytes)
 
 -- a number of 32 bits is a number. One of 64 bits is a string: readers may keep numbers as floats, which have 53 bits

@@ -11,7 +11,7 @@ ghost use Rattle.dia_data.specs.Shown.{IsValueText, hex_byte};
 ghost use Rattle.dia_json.specs.Messages.{IsValue, address_value, hex_value, kind_of, value_as};
 
 use byteorder::{BigEndian, ByteOrder};
-use dia_data::{Format, Leaf, accepts, print_value, push_hex_byte};
+use dia_data::{Format, FormatKind, Leaf, Reading, accepts, print_value, push_hex_byte};
 use dia_refused_json::quoted;
 use std::alloc::{AllocError, Global};
 use std::str;
@@ -63,19 +63,19 @@ fn accepted_text(alloc: Global, format: &Format, bytes: &[u8]) -> Result<String,
 fn kind_of(format: &Format) -> ValueKind
     ensures { result ≡ kind_of (plain_format format.now) }
 {
-    match format {
-        Format::Integer32 | Format::Unsigned32 | Format::Time | Format::Enumerated(_) => {
+    match format.kind() {
+        FormatKind::FourBytes(Reading::Signed | Reading::Unsigned) | FormatKind::Enumerated => {
             ValueKind::Number
         }
-        Format::Integer64 | Format::Unsigned64 => ValueKind::LongNumber,
-        Format::Utf8String | Format::DiameterIdentity | Format::DiameterUri => ValueKind::Text,
-        Format::Address => ValueKind::Address,
-        Format::OctetString
-        | Format::Float32
-        | Format::Float64
-        | Format::IpFilterRule
-        | Format::QosFilterRule
-        | Format::Grouped => ValueKind::Octets,
+        FormatKind::EightBytes(Reading::Signed | Reading::Unsigned) => ValueKind::LongNumber,
+        FormatKind::Utf8String | FormatKind::DiameterIdentity | FormatKind::DiameterUri => {
+            ValueKind::Text
+        }
+        FormatKind::Address => ValueKind::Address,
+        FormatKind::FourBytes(Reading::Bits)
+        | FormatKind::EightBytes(Reading::Bits)
+        | FormatKind::AnyBytes
+        | FormatKind::Grouped => ValueKind::Octets,
     }
 }
 

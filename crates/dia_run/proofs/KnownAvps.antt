@@ -5,7 +5,7 @@ use Rattle.std.proofs.lemmas.Option.{slice_get_cases}
 use Rattle.dia_wire.specs.Wire.{PlainAvp, key_of}
 use Rattle.dia_data.specs.declared.Format.{Format}
 use Rattle.dia_data.specs.declared.Format.TheVariants as format
-use Rattle.dia_data.specs.Plain.{plain_format, Grouped, OctetString}
+use Rattle.dia_data.specs.Plain.{AnyBytes, plain_format, Grouped, OctetString}
 use Rattle.dia_dict.specs.Dictionary.{Dictionary, DictEntry, entry_of}
 use Rattle.dia_dict.specs.Keys.{same_key}
 use Rattle.dia_dict.proofs.Lists.{position-within}
@@ -25,7 +25,7 @@ group_joined : (old columns name : List ℕ) → ((old ++ columns) ++ name) ++ c
 group_joined old columns name = simp append_assoc
 
 pub unknown_added : (d : Dictionary) (place depth : ℕ) (v : PlainAvp) (old front new : List ℕ) → None ≡ entry_of d (key_of v) → front ≡ old ++ avp_columns place depth v
-    → AddsNameAndValue (codes "?") OctetString v.bytes front new
+    → AddsNameAndValue (codes "?") (AnyBytes OctetString) v.bytes front new
     → AddsAvp d place depth v old new false
 unknown_added d place depth v old front new none is_front (value, shown, is_new) = (
   codes "?",

@@ -7,7 +7,7 @@ use Rattle.dia_data.specs.declared.Format.{Format}
 use Rattle.dia_data.specs.declared.Format.TheVariants as format
 use Rattle.std.proofs.lemmas.Bool.{eqb-true}
 use Rattle.dia_data.specs.Number.{number}
-use Rattle.dia_data.specs.Plain.{PlainFormat, plain_format, Grouped, OctetString, Time}
+use Rattle.dia_data.specs.Plain.{PlainFormat, AnyBytes, FourBytes, plain_format, Grouped, OctetString, Time}
 use Rattle.dia_dict.specs.Dictionary.{Dictionary, DictEntry, entry_of}
 use Rattle.dia_dict.specs.Keys.{same_key}
 use Rattle.dia_dict.proofs.Lists.{position-within}
@@ -31,7 +31,7 @@ group_joined : (old front name : List ℕ) → ((old ++ front) ++ name) ++ codes
 group_joined old front name = simp append_assoc
 
 pub unknown_added : (m : Manner) (d : Dictionary) (place depth : ℕ) (v : PlainAvp) (old front new : List ℕ) → None ≡ entry_of d (key_of v) → front ≡ old ++ columns m.names place depth v
-    → AddsNameAndTold m (codes "?") OctetString v.bytes front new
+    → AddsNameAndTold m (codes "?") (AnyBytes OctetString) v.bytes front new
     → AddsAvp m d place depth v old new false
 unknown_added m d place depth v old front new none is_front (value, shown, is_new) = (
   codes "?",
@@ -104,7 +104,7 @@ header_joined old a f c t r last one two three four new e1 e2 e3 e4 e5 =
 -- the bytes of a Time are four
 pub four_bytes : (names : Bool) (format : PlainFormat) (bytes : List ℕ) → has_date names format bytes ≡ true → length bytes ≡ 4
 four_bytes false format bytes h = absurd cc
-four_bytes true Time bytes h = eqb-true (length bytes) 4 h
+four_bytes true (FourBytes Time) bytes h = eqb-true (length bytes) 4 h
 four_bytes true format bytes h = absurd cc
 
 -- a date behind a blank

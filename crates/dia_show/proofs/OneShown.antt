@@ -10,7 +10,7 @@ use Rattle.dia_wire.specs.Wire.{PlainAvp, key_of, avp_length, BeginsWith, Begins
 use Rattle.dia_wire.proofs.Spelling.{one_spelling, opened, rounded-le, at_least_8}
 use Rattle.dia_data.specs.Leaf.{IsLeaf}
 use Rattle.dia_data.specs.Number.{number}
-use Rattle.dia_data.specs.Plain.{PlainFormat, OctetString}
+use Rattle.dia_data.specs.Plain.{PlainFormat, AnyBytes, OctetString}
 use Rattle.dia_data.specs.Shown.{IsValueText}
 use Rattle.dia_dict.specs.Dictionary.{Dictionary, DictEntry}
 use Rattle.dia_valid.specs.Valid.{known}
@@ -63,7 +63,7 @@ begins_some v level rest (front, s, p) =
 
 module _ (m : Manner) (d : Dictionary) where
   one_leaf : (v : PlainAvp) (a b t u : List ℕ) → IsLeafTold m d v a t → IsLeafTold m d v b u → (a ≡ b) × (t ≡ u)
-  one_leaf v a b t u (unknown lacks is_a told) (unknown lacks' is_b told') = (is_a ∙ sym is_b, one_told m (codes "?") OctetString v.bytes t u told told')
+  one_leaf v a b t u (unknown lacks is_a told) (unknown lacks' is_b told') = (is_a ∙ sym is_b, one_told m (codes "?") (AnyBytes OctetString) v.bytes t u told told')
   one_leaf v a b t u (unknown lacks is_a told) (leaf f h no_group is_b told') = absurd (none-some f (sym lacks ∙ h))
   one_leaf v a b t u (leaf e h no_group is_a told) (unknown lacks is_b told') = absurd (none-some e (sym lacks ∙ h))
   one_leaf v a b t u (leaf e h no_group is_a told) (leaf f k no_group' is_b told') =

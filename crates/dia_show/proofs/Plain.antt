@@ -13,7 +13,7 @@ use Rattle.dia_io.specs.declared.Input.TheVariants.{Bytes, TooLong}
 use Rattle.dia_io.specs.declared.Inputs.{Inputs}
 use Rattle.dia_io.specs.Inputs.{Holds}
 use Rattle.dia_wire.specs.Wire.{PlainAvp}
-use Rattle.dia_data.specs.Plain.{PlainFormat, OctetString}
+use Rattle.dia_data.specs.Plain.{PlainFormat, AnyBytes, OctetString}
 use Rattle.dia_data.specs.Shown.{IsValueText}
 use Rattle.dia_dict.specs.Dictionary.{Dictionary}
 use Rattle.dia_run.specs.Listing.{Level, IsLeafText}
@@ -36,7 +36,7 @@ plain_told name format bytes told t =
     subst (IsValueText format bytes) (sym alone) t.is_value
 
 plain_leaf : (d : Dictionary) (v : PlainAvp) (name told : List ℕ) → IsLeafTold plain_manner d v name told → IsLeafText d v name told
-plain_leaf d v name told (unknown is_none is_name t) = plain.unknown is_none is_name ((plain_told (codes "?") OctetString v.bytes told t).accepted tt)
+plain_leaf d v name told (unknown is_none is_name t) = plain.unknown is_none is_name ((plain_told (codes "?") (AnyBytes OctetString) v.bytes told t).accepted tt)
 plain_leaf d v name told (leaf e is_known no_group is_name t) = plain.leaf e is_known no_group is_name (plain_told e.name e.format v.bytes told t)
 
 plain_listing : (d : Dictionary) (level : Level) (text : List ℕ) (bad : Bool) → IsListing plain_manner d level text bad → plain.IsListing d level text bad

@@ -5,7 +5,7 @@ use Rattle.std.specs.List.{list_all}
 use Rattle.dia_wire.specs.declared.Header.{Header}
 use Rattle.dia_wire.specs.Wire.{PlainAvp, key_of, avp_length, BeginsWith, BeginsWithNone}
 use Rattle.dia_data.specs.Number.{number}
-use Rattle.dia_data.specs.Plain.{PlainFormat, Grouped, OctetString, Utf8String, IpFilterRule, QosFilterRule, Time}
+use Rattle.dia_data.specs.Plain.{PlainFormat, AnyBytes, FourBytes, Grouped, OctetString, Utf8String, Time}
 use Rattle.dia_data.specs.Shown.{hex_byte, IsValueText}
 use Rattle.dia_dict.specs.Dictionary.{Dictionary, DictEntry, PlainDefinition, definitions, selected}
 use Rattle.dia_valid.specs.Valid.{known, class_of}
@@ -102,9 +102,8 @@ is_printable bytes = nat_lt 0 (length bytes) && list_all is_printing bytes
 
 -- the data is told as a text would be: filter rules, and octets that are printable
 abbrev pub is_text : Bool → PlainFormat → List ℕ → Bool
-is_text true OctetString bytes = is_printable bytes
-is_text true IpFilterRule bytes = true
-is_text true QosFilterRule bytes = true
+is_text true (AnyBytes OctetString) bytes = is_printable bytes
+is_text true (AnyBytes name) bytes = true
 is_text names format bytes = false
 
 abbrev pub told_format : Bool → PlainFormat → List ℕ → PlainFormat
@@ -117,7 +116,7 @@ word_note (Some word) = codes " " ++ word
 
 -- the data has a date
 abbrev pub has_date : Bool → PlainFormat → List ℕ → Bool
-has_date true Time bytes = length bytes == 4
+has_date true (FourBytes Time) bytes = length bytes == 4
 has_date names format bytes = false
 
 -- the date of a Time behind its number
@@ -136,7 +135,7 @@ pub record IsTold (m : Manner) (name : List ℕ) (format : PlainFormat) (bytes t
 
 -- the name and the data of an AVP that the dictionary doesn't know, or knows as no group
 pub data IsLeafTold (m : Manner) (d : Dictionary) (v : PlainAvp) (name told : List ℕ) : Type 0 where
-  unknown : known d (key_of v) ≡ None → name ≡ codes "?" → IsTold m (codes "?") OctetString v.bytes told → IsLeafTold m d v name told
+  unknown : known d (key_of v) ≡ None → name ≡ codes "?" → IsTold m (codes "?") (AnyBytes OctetString) v.bytes told → IsLeafTold m d v name told
   leaf : (e : DictEntry) → known d (key_of v) ≡ Some e → ¬ (e.format ≡ Grouped) → name ≡ e.name → IsTold m e.name e.format v.bytes told
       → IsLeafTold m d v name told
 

@@ -2,3 +2,4 @@ pub mod Limits
 pub mod Names
 pub mod Number
 pub mod Texts
+pub mod Formats

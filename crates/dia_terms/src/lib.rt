@@ -1,5 +1,10 @@
-//! What dictionary texts and dictionaries have in common: names, M rules, P rules, and the brackets of rules.
+//! What dictionary texts and dictionaries have in common: names, M rules, P rules, the brackets of rules, and the names of the
+//! data formats.
 #![tactic(auto)]
+
+mod formats;
+
+pub use formats::{FormatName, format_words, vendor_or_format_words};
 
 /// The most bytes of a name (our profile).
 pub const MAX_NAME: usize = 128;

@@ -2,10 +2,10 @@
 use Rattle.std.proofs.Common.{◌≡◌, ℕ, List, Some, inl, inr, refl, subst}
 use Rattle.dia_data.specs.declared.accept.Leaf.{Leaf}
 use Rattle.dia_data.specs.declared.accept.Leaf.TheVariants.{Fine, BadLength, BadValue}
-use Rattle.dia_data.specs.Plain.{PlainFormat, OctetString, Integer32, Integer64, Unsigned32, Unsigned64, Float32, Float64, Grouped, Address}
-use Rattle.dia_data.specs.Plain.{Time, Utf8String, DiameterIdentity, DiameterUri, Enumerated, IpFilterRule, QosFilterRule}
-use Rattle.dia_data.specs.Leaf.{IsLeaf, LengthFits, IsLeafAnswer}
+use Rattle.dia_data.specs.Plain.{PlainFormat}
+use Rattle.dia_data.specs.Leaf.{IsLeaf, IsLeafAnswer}
 use Rattle.dia_data.specs.Shown.{hexadecimal, IsValueText}
+use Rattle.dia_data.proofs.Leaves.{leaf_fits}
 use Rattle.dia_text.specs.LineTexts.{IsValueWord}
 
 pub fine_word : (format : PlainFormat) (bytes text : List ℕ) → IsLeafAnswer Fine format bytes → IsValueText format bytes text → IsValueWord (Some format) bytes text
@@ -14,25 +14,7 @@ fine_word format bytes text (inr grouped) t =
     let no_leaf : ¬ IsLeaf format bytes = λ leaf. subst (λ (f : PlainFormat). IsLeaf f bytes) grouped leaf in
     inr (no_leaf, t.refused no_leaf)
 
-fits : (format : PlainFormat) (bytes : List ℕ) → IsLeaf format bytes → LengthFits format bytes
-fits OctetString bytes leaf = tt
-fits Integer32 bytes leaf = leaf
-fits Integer64 bytes leaf = leaf
-fits Unsigned32 bytes leaf = leaf
-fits Unsigned64 bytes leaf = leaf
-fits Float32 bytes leaf = leaf
-fits Float64 bytes leaf = leaf
-fits Grouped bytes leaf = tt
-fits Address bytes leaf = leaf
-fits Time bytes leaf = leaf
-fits Utf8String bytes leaf = tt
-fits DiameterIdentity bytes leaf = tt
-fits DiameterUri bytes leaf = tt
-fits (Enumerated ranges) bytes leaf = leaf.0
-fits IpFilterRule bytes leaf = tt
-fits QosFilterRule bytes leaf = tt
-
 pub other_word : (answer : Leaf) (format : PlainFormat) (bytes : List ℕ) → ¬ (answer ≡ Fine) → IsLeafAnswer answer format bytes → IsValueWord (Some format) bytes (hexadecimal bytes)
 other_word Fine format bytes other said = absurd (other refl)
-other_word BadLength format bytes other said = inr (λ leaf. said (fits format bytes leaf), refl)
+other_word BadLength format bytes other said = inr (λ leaf. said (leaf_fits format bytes leaf), refl)
 other_word BadValue format bytes other said = inr (said.1, refl)

@@ -10,12 +10,13 @@ use Rattle.std.proofs.lemmas.Bool.Decides.{nat_tests}
 use Rattle.std.proofs.lemmas.Fmt.{digits_decimal, decimal_nonempty}
 use Rattle.byteorder.specs.Endian.{big_bytes}
 use Rattle.dia_terms.specs.Number.{number}
-use Rattle.dia_data.specs.Plain.{PlainFormat, OctetString, Integer32, Integer64, Unsigned32, Unsigned64, Float32, Float64, Grouped, Address}
-use Rattle.dia_data.specs.Plain.{Time, Utf8String, DiameterIdentity, DiameterUri, Enumerated, IpFilterRule, QosFilterRule}
+use Rattle.dia_data.specs.declared.Reading.{Reading}
+use Rattle.dia_data.specs.declared.Reading.TheVariants.{Signed, Unsigned, Bits}
+use Rattle.dia_data.specs.Plain.{PlainFormat, AnyBytes, FourBytes, EightBytes, Grouped, Address, Utf8String, DiameterIdentity, DiameterUri, Enumerated, eight_reading, four_reading}
 use Rattle.dia_data.specs.Leaf.{IsLeaf}
-use Rattle.dia_data.specs.Shown.{value_text}
+use Rattle.dia_data.specs.Shown.{number_text, value_text}
 use Rattle.dia_text.specs.Numbers.{number_below, number_of, complement, signed_below}
-use Rattle.dia_text.specs.Values.{number_bytes, formatted}
+use Rattle.dia_text.specs.Values.{number_bytes, formatted, four_read, eight_read}
 use Rattle.dia_text.specs.LineTexts.{IsValueWord}
 use Rattle.dia_text.proofs.NumbersOfWords.{digits_model}
 use Rattle.dia_text.proofs.Bytes.{AreBytes, number_back as bytes_of_number, number_small}
@@ -154,23 +155,29 @@ signed_64 format bytes width h read =
     (signed_reads format (2 ^ 63) (number bytes) bytes (omega arith) (omega (arith, small))
     (λ w is. read w ∙ as_bytes 8 (number bytes) bytes _ is (bytes_of_number 8 bytes width h))))
 
+-- how a format has words of 4 or 8 bytes
+four_reads : (format : PlainFormat) (r : Reading) (bytes : List ℕ) → length bytes ≡ 4 → AreBytes bytes → ((w : List ℕ) → formatted (Some format) w ≡ four_read r w)
+    → ReadsBack (Some format) bytes (number_text w32 r bytes)
+four_reads format Signed bytes width h read = signed_32 (Some format) bytes width h read
+four_reads format Unsigned bytes width h read = unsigned_32 (Some format) bytes width h read
+four_reads format Bits bytes width h read = hexadecimal_reads (Some format) bytes h
+
+eight_reads : (format : PlainFormat) (r : Reading) (bytes : List ℕ) → length bytes ≡ 8 → AreBytes bytes → ((w : List ℕ) → formatted (Some format) w ≡ eight_read r w)
+    → ReadsBack (Some format) bytes (number_text w64 r bytes)
+eight_reads format Signed bytes width h read = signed_64 (Some format) bytes width h read
+eight_reads format Unsigned bytes width h read = unsigned_64 (Some format) bytes width h read
+eight_reads format Bits bytes width h read = hexadecimal_reads (Some format) bytes h
+
 accepted : (format : PlainFormat) (bytes : List ℕ) → IsLeaf format bytes → AreBytes bytes → ReadsBack (Some format) bytes (value_text format bytes)
-accepted Integer32 bytes leaf h = signed_32 (Some Integer32) bytes leaf h (λ w. refl)
-accepted Integer64 bytes leaf h = signed_64 (Some Integer64) bytes leaf h (λ w. refl)
-accepted Unsigned32 bytes leaf h = unsigned_32 (Some Unsigned32) bytes leaf h (λ w. refl)
-accepted Unsigned64 bytes leaf h = unsigned_64 (Some Unsigned64) bytes leaf h (λ w. refl)
-accepted Time bytes leaf h = unsigned_32 (Some Time) bytes leaf h (λ w. refl)
+accepted (AnyBytes name) bytes leaf h = hexadecimal_reads (Some (AnyBytes name)) bytes h
+accepted (FourBytes name) bytes leaf h = four_reads (FourBytes name) (four_reading name) bytes leaf h (λ w. refl)
+accepted (EightBytes name) bytes leaf h = eight_reads (EightBytes name) (eight_reading name) bytes leaf h (λ w. refl)
 accepted (Enumerated ranges) bytes leaf h = signed_32 (Some (Enumerated ranges)) bytes leaf.0 h (λ w. refl)
 accepted Address bytes leaf h = address_reads bytes leaf h
 accepted Utf8String bytes leaf h = quoted_reads (Some Utf8String) bytes refl h
 accepted DiameterIdentity bytes leaf h = quoted_reads (Some DiameterIdentity) bytes refl h
 accepted DiameterUri bytes leaf h = quoted_reads (Some DiameterUri) bytes refl h
-accepted OctetString bytes leaf h = hexadecimal_reads (Some OctetString) bytes h
-accepted Float32 bytes leaf h = hexadecimal_reads (Some Float32) bytes h
-accepted Float64 bytes leaf h = hexadecimal_reads (Some Float64) bytes h
 accepted Grouped bytes leaf h = hexadecimal_reads (Some Grouped) bytes h
-accepted IpFilterRule bytes leaf h = hexadecimal_reads (Some IpFilterRule) bytes h
-accepted QosFilterRule bytes leaf h = hexadecimal_reads (Some QosFilterRule) bytes h
 
 pub value_back : (format : Option PlainFormat) (bytes w : List ℕ) → AreBytes bytes → IsValueWord format bytes w → ReadsBack format bytes w
 value_back None bytes w h is = subst (ReadsBack None bytes) (sym is) (hexadecimal_reads None bytes h)

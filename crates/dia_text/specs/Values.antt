@@ -6,8 +6,11 @@ use Rattle.byteorder.specs.Endian.{big_bytes}
 use Rattle.hex.specs.Hex.{decode_sized}
 use Rattle.hex.specs.declared.error.FromHexError.{FromHexError}
 use Rattle.dia_terms.specs.Names.{same_bytes}
-use Rattle.dia_data.specs.Plain.{PlainFormat, OctetString, Integer32, Integer64, Unsigned32, Unsigned64, Time, Enumerated}
-use Rattle.dia_data.specs.Plain.{Address, Utf8String, DiameterIdentity, DiameterUri, IpFilterRule, QosFilterRule}
+use Rattle.dia_data.specs.declared.FormatKind.{FormatKind}
+use Rattle.dia_data.specs.declared.FormatKind.TheVariants as of_format
+use Rattle.dia_data.specs.declared.Reading.{Reading}
+use Rattle.dia_data.specs.declared.Reading.TheVariants.{Signed, Unsigned, Bits}
+use Rattle.dia_data.specs.Plain.{PlainFormat, Address, kind_of}
 use Rattle.dia_text.specs.declared.fault.Kind.{Kind}
 use Rattle.dia_text.specs.declared.fault.Kind.TheVariants.{Syntax, Value}
 use Rattle.dia_text.specs.Words.{unblanked, first_word, behind_word}
@@ -83,29 +86,43 @@ text_at text =
 -- ---- values
 
 -- formats of texts, and of bytes that may be text
+abbrev pub is_text : FormatKind → Bool
+is_text of_format.AnyBytes = true
+is_text of_format.Utf8String = true
+is_text of_format.DiameterIdentity = true
+is_text of_format.DiameterUri = true
+is_text kind = false
+
 abbrev pub may_be_text : Option PlainFormat → Bool
-may_be_text (Some OctetString) = true
-may_be_text (Some Utf8String) = true
-may_be_text (Some DiameterIdentity) = true
-may_be_text (Some DiameterUri) = true
-may_be_text (Some IpFilterRule) = true
-may_be_text (Some QosFilterRule) = true
-may_be_text format = false
+may_be_text (Some format) = is_text (kind_of format)
+may_be_text None = false
 
 abbrev pub is_address : Option PlainFormat → Bool
 is_address (Some Address) = true
 is_address format = false
 
--- a number in decimal, or an address
+-- a number in decimal of 4 bytes, or of 8
+abbrev pub four_read : Reading → List ℕ → Result (List ℕ) Kind
+four_read Signed word = number_bytes 4 (signed_below (2 ^ 31) word)
+four_read Unsigned word = number_bytes 4 (number_below (2 ^ 32) word)
+four_read Bits word = Err Value
+
+abbrev pub eight_read : Reading → List ℕ → Result (List ℕ) Kind
+eight_read Signed word = number_bytes 8 (signed_below (2 ^ 63) word)
+eight_read Unsigned word = number_bytes 8 (number_of word)
+eight_read Bits word = Err Value
+
+-- a number, or an address
+abbrev pub formatted_as : FormatKind → List ℕ → Result (List ℕ) Kind
+formatted_as (of_format.FourBytes reading) word = four_read reading word
+formatted_as (of_format.EightBytes reading) word = eight_read reading word
+formatted_as of_format.Enumerated word = number_bytes 4 (signed_below (2 ^ 31) word)
+formatted_as of_format.Address word = some_or (address_of word) Value
+formatted_as kind word = Err Value
+
 abbrev pub formatted : Option PlainFormat → List ℕ → Result (List ℕ) Kind
-formatted (Some Unsigned32) word = number_bytes 4 (number_below (2 ^ 32) word)
-formatted (Some Time) word = number_bytes 4 (number_below (2 ^ 32) word)
-formatted (Some Integer32) word = number_bytes 4 (signed_below (2 ^ 31) word)
-formatted (Some (Enumerated ranges)) word = number_bytes 4 (signed_below (2 ^ 31) word)
-formatted (Some Unsigned64) word = number_bytes 8 (number_of word)
-formatted (Some Integer64) word = number_bytes 8 (signed_below (2 ^ 63) word)
-formatted (Some Address) word = some_or (address_of word) Value
-formatted format word = Err Value
+formatted (Some format) word = formatted_as (kind_of format) word
+formatted None word = Err Value
 
 -- `x` and hexadecimal digits for any AVP, or what the format has
 abbrev pub value_of : Option PlainFormat → List ℕ → Result (List ℕ) Kind

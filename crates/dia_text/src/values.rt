@@ -9,7 +9,8 @@ ghost use Rattle.dia_text.specs.Fields.{behind_letter};
 ghost use Rattle.dia_text.specs.Reading.{Gives, some_or};
 ghost use Rattle.dia_text.specs.Values.{value_at, words_at, text_at, family_at, value_of, formatted};
 ghost use Rattle.dia_text.specs.Values.{number_bytes, address_of, in_family, each, unescaped};
-ghost use Rattle.dia_text.specs.Values.{may_be_text, is_address};
+ghost use Rattle.dia_text.specs.Values.{may_be_text, is_address, is_text};
+ghost use Rattle.dia_text.specs.Values.{eight_read, formatted_as, four_read};
 ghost use Rattle.dia_text.specs.ValueParts.{part_bytes};
 
 use crate::fault::{Kind, Misread};
@@ -19,7 +20,7 @@ use crate::splitting::{split, split_once};
 use crate::value_parts::{Part, push_parts};
 use crate::words::{next_word, without_blanks};
 use byteorder::{BigEndian, ByteOrder};
-use dia_data::Format;
+use dia_data::{Format, FormatKind, Reading};
 use std::alloc::Global;
 
 /// The data that a value writes for an AVP of this format, or for one that the dictionary doesn't know; and what follows it.
@@ -50,16 +51,21 @@ fn may_be_text(format: Option<&Format>) -> bool
     ensures { result
         ≡ may_be_text (option_map (λ format. plain_format format.now) format.entry) }
 {
+    match format {
+        Some(format) => is_text(format.kind()),
+        None => false,
+    }
+}
+
+fn is_text(kind: FormatKind) -> bool
+    ensures { result ≡ is_text kind }
+{
     matches!(
-        format,
-        Some(
-            Format::OctetString
-                | Format::Utf8String
-                | Format::DiameterIdentity
-                | Format::DiameterUri
-                | Format::IpFilterRule
-                | Format::QosFilterRule
-        )
+        kind,
+        FormatKind::AnyBytes
+            | FormatKind::Utf8String
+            | FormatKind::DiameterIdentity
+            | FormatKind::DiameterUri
     )
 }
 
@@ -156,12 +162,46 @@ fn formatted(alloc: Global, format: Option<&Format>, word: &[u8]) -> Result<Vec<
         (formatted (option_map (λ format. plain_format format.now) format.entry) word.now) }
 {
     match format {
-        Some(Format::Unsigned32 | Format::Time) => four(alloc, number_below(1 << 32, word)),
-        Some(Format::Integer32 | Format::Enumerated(_)) => four(alloc, signed_below(1 << 31, word)),
-        Some(Format::Unsigned64) => eight(alloc, number_of(word)),
-        Some(Format::Integer64) => eight(alloc, signed_below(1 << 63, word)),
-        Some(Format::Address) => address_of(alloc, word),
-        _ => Err(Misread::Fault(Kind::Value)),
+        Some(format) => formatted_as(alloc, format.kind(), word),
+        None => Err(Misread::Fault(Kind::Value)),
+    }
+}
+
+fn formatted_as(alloc: Global, kind: FormatKind, word: &[u8]) -> Result<Vec<u8>, Misread>
+    ensures { Gives (λ bytes. bytes.items) result (formatted_as kind word.now) }
+{
+    match kind {
+        FormatKind::FourBytes(reading) => four_read(alloc, reading, word),
+        FormatKind::EightBytes(reading) => eight_read(alloc, reading, word),
+        FormatKind::Enumerated => four(alloc, signed_below(1 << 31, word)),
+        FormatKind::Address => address_of(alloc, word),
+        FormatKind::AnyBytes
+        | FormatKind::Grouped
+        | FormatKind::Utf8String
+        | FormatKind::DiameterIdentity
+        | FormatKind::DiameterUri => Err(Misread::Fault(Kind::Value)),
+    }
+}
+
+/// The 4 bytes of a number that is read so.
+fn four_read(alloc: Global, reading: Reading, word: &[u8]) -> Result<Vec<u8>, Misread>
+    ensures { Gives (λ bytes. bytes.items) result (four_read reading word.now) }
+{
+    match reading {
+        Reading::Signed => four(alloc, signed_below(1 << 31, word)),
+        Reading::Unsigned => four(alloc, number_below(1 << 32, word)),
+        Reading::Bits => Err(Misread::Fault(Kind::Value)),
+    }
+}
+
+/// The 8 bytes of a number that is read so.
+fn eight_read(alloc: Global, reading: Reading, word: &[u8]) -> Result<Vec<u8>, Misread>
+    ensures { Gives (λ bytes. bytes.items) result (eight_read reading word.now) }
+{
+    match reading {
+        Reading::Signed => eight(alloc, signed_below(1 << 63, word)),
+        Reading::Unsigned => eight(alloc, number_of(word)),
+        Reading::Bits => Err(Misread::Fault(Kind::Value)),
     }
 }
 

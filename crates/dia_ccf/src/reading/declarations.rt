@@ -1,11 +1,10 @@
 //! Declarations of AVPs.
 use super::Reader;
 use super::refusal::Refusal;
-use crate::format_words::format_named;
 use crate::lexer::{Sign, Token};
 use crate::limits::MAX_VALUE;
-use crate::source::{Decl, FormatName};
-use dia_terms::MRule;
+use crate::source::Decl;
+use dia_terms::{FormatName, MRule};
 
 impl<'a> Reader<'a> {
     ghost use Rattle.std.specs.Prelude.{◌≡◌, ◌<◌, ◌≤◌, ℕ, ◌++◌, [], ◌∷◌, List};
@@ -65,7 +64,7 @@ impl<'a> Reader<'a> {
         ensures { Accepts false false format_at (λ format. format) self.old result self.new }
     {
         if let Some(Token::Name(word)) = self.token {
-            if let Some(format) = format_named(word) {
+            if let Some(format) = FormatName::named(word) {
                 self.advance();
                 return Ok(format);
             }

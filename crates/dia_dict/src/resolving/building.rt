@@ -1,19 +1,19 @@
 //! The dictionary of a sound source.
 ghost use Rattle.std.specs.Prelude.{◌≡◌, ◌++◌, ◌∷◌, [], IfOk, OnOk, map, filter, string_bytes};
-ghost use Rattle.dia_data.specs.Plain.{plain_format, ranges_of};
+ghost use Rattle.dia_data.specs.Plain.{format_of, plain_format, ranges_of};
 ghost use Rattle.dia_ccf.specs.Plain.{plain_source, plain_decl, plain_def, plain_rule};
 ghost use Rattle.dia_book.specs.Dictionary.{plain_definition};
 ghost use Rattle.dia_dict.specs.PlainMeaning.{entries_of};
 ghost use Rattle.dia_dict.specs.Resolution.{resolved, all_findings, declared_entry};
 ghost use Rattle.dia_dict.specs.Resolution.{bare_entry, is_bare, definition_of};
-ghost use Rattle.dia_dict.specs.Resolution.{rule_of, head_of, class_of, proxy_of, format_of};
+ghost use Rattle.dia_dict.specs.Resolution.{rule_of, head_of, class_of, proxy_of};
 
 use super::names::{Names, key_of_declaration, key_of_group};
 use super::rules;
 use crate::entry_list::EntryList;
 use crate::plain_book::PlainBook;
 use dia_book::{Book, Class, DRule, DefHead, Definition};
-use dia_ccf::{Decl, Def, FormatName, Head, MRule, Pxy, Rule};
+use dia_ccf::{Decl, Def, Head, MRule, Pxy, Rule};
 use dia_data::{Format, Values};
 use dia_wire::Key;
 use std::alloc::{AllocError, Global};
@@ -182,28 +182,13 @@ fn proxy(set: bool) -> Pxy
     if set { Pxy::Set } else { Pxy::Clear }
 }
 
+/// The format that the declaration names.
 fn format(alloc: Global, decl: &Decl) -> Result<Format, AllocError>
     ensures { IfOk result (λ format. plain_format format
         ≡ format_of (plain_decl decl.now).format (plain_decl decl.now).values) }
 {
-    match decl.format {
-        FormatName::OctetString => Ok(Format::OctetString),
-        FormatName::Integer32 => Ok(Format::Integer32),
-        FormatName::Integer64 => Ok(Format::Integer64),
-        FormatName::Unsigned32 => Ok(Format::Unsigned32),
-        FormatName::Unsigned64 => Ok(Format::Unsigned64),
-        FormatName::Float32 => Ok(Format::Float32),
-        FormatName::Float64 => Ok(Format::Float64),
-        FormatName::Grouped => Ok(Format::Grouped),
-        FormatName::Address => Ok(Format::Address),
-        FormatName::Time => Ok(Format::Time),
-        FormatName::Utf8String => Ok(Format::Utf8String),
-        FormatName::DiameterIdentity => Ok(Format::DiameterIdentity),
-        FormatName::DiameterUri => Ok(Format::DiameterUri),
-        FormatName::Enumerated => Ok(Format::Enumerated(values(alloc, decl)?)),
-        FormatName::IpFilterRule => Ok(Format::IpFilterRule),
-        FormatName::QosFilterRule => Ok(Format::QosFilterRule),
-    }
+    let values = values(alloc, decl)?;
+    Ok(Format::named(decl.format, values))
 }
 
 /// The numbers that the declaration lists, or all.

@@ -9,7 +9,7 @@ use crate::rule_text::{push_key, push_vendor};
 use crate::texts::{Added, push_number};
 use dia_book::Format;
 use dia_check::{Reason, Unknown};
-use dia_data::push_value;
+use dia_data::{FormatKind, push_value};
 use dia_wire::next_avp;
 
 /// What is wrong, and on the line behind it what to do.
@@ -174,9 +174,11 @@ fn graphic_front(data: &[u8]) -> usize {
 
 /// The lengths that data of a format may have.
 fn lengths_of(format: &Format) -> &'static str {
-    match format {
-        Format::Integer64 | Format::Unsigned64 | Format::Float64 => "8",
-        Format::Address => { "2 of family, and then 4 in family 1 (IPv4) or 16 in family 2 (IPv6)" }
+    match format.kind() {
+        FormatKind::EightBytes(_) => "8",
+        FormatKind::Address => {
+            "2 of family, and then 4 in family 1 (IPv4) or 16 in family 2 (IPv6)"
+        }
         _ => "4",
     }
 }

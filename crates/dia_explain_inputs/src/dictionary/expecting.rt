@@ -2,7 +2,8 @@
 
 use crate::notes::Added;
 use dia_ccf::{InDeclaration, InDefinition, InHead, InRules, Wanted};
-use dia_explain_places::{expected, formats};
+use dia_explain_places::expected;
+use dia_terms::format_words;
 
 /// Which number can stand at a place where other tokens can, too.
 pub fn number_at(wanted: Wanted) -> Option<&'static str> {
@@ -40,7 +41,7 @@ fn sort_of(wanted: Wanted) -> &'static str {
 
 fn items_at(wanted: Wanted) -> &'static [&'static str] {
     match wanted {
-        Wanted::Declaration(InDeclaration::VendorOrFormat) => formats(),
+        Wanted::Declaration(InDeclaration::VendorOrFormat) => format_words(),
         _ => expected(wanted),
     }
 }

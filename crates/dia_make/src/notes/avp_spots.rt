@@ -6,6 +6,7 @@ use crate::notes::tests_of_words::{
     is_uneven, number_of,
 };
 use crate::notes::words::{Word, Words};
+use dia_data::{FormatKind, Reading};
 use dia_dict::{Book, Format, Key};
 
 /// The first length that no AVP can have.
@@ -135,36 +136,38 @@ fn family_spot<'a>(words: &mut Words<'a>) -> Option<Spot<'a>> {
 
 /// Whether a word is a number, an address or a text of the format.
 fn is_value_of(format: Option<&Format>, word: &[u8]) -> bool {
-    match format {
-        Some(Format::Unsigned32 | Format::Time) => is_number(word, 1 << 32),
-        Some(Format::Integer32 | Format::Enumerated(_)) => is_signed(word, 1 << 31),
-        Some(Format::Unsigned64) => number_of(word).is_some(),
-        Some(Format::Integer64) => is_signed(word, 1 << 63),
-        Some(Format::Address) => is_address(word),
+    match kind_of(format) {
+        Some(FormatKind::FourBytes(Reading::Unsigned)) => is_number(word, 1 << 32),
+        Some(FormatKind::FourBytes(Reading::Signed) | FormatKind::Enumerated) => {
+            is_signed(word, 1 << 31)
+        }
+        Some(FormatKind::EightBytes(Reading::Unsigned)) => number_of(word).is_some(),
+        Some(FormatKind::EightBytes(Reading::Signed)) => is_signed(word, 1 << 63),
+        Some(FormatKind::Address) => is_address(word),
         _ => has_text(format) && is_text(word),
     }
 }
 
 fn wanted_of(format: Option<&Format>) -> &'static str {
-    match format {
-        Some(Format::Unsigned32 | Format::Time) => {
+    match kind_of(format) {
+        Some(FormatKind::FourBytes(Reading::Unsigned)) => {
             "a number, at most 4294967295; or `x` and pairs of hexadecimal digits"
         }
-        Some(Format::Integer32 | Format::Enumerated(_)) => {
+        Some(FormatKind::FourBytes(Reading::Signed) | FormatKind::Enumerated) => {
             "a number, from -2147483648 to 2147483647; or `x` and pairs of hexadecimal digits"
         }
-        Some(Format::Unsigned64) => {
+        Some(FormatKind::EightBytes(Reading::Unsigned)) => {
             "a number below 2^64; or `x` and pairs of hexadecimal digits"
         }
-        Some(Format::Integer64) => {
+        Some(FormatKind::EightBytes(Reading::Signed)) => {
             "a number of 64 bits with its sign; or `x` and pairs of hexadecimal digits"
         }
-        Some(Format::Grouped) => "`{`, or `x` and pairs of hexadecimal digits",
-        Some(Format::Address) => {
+        Some(FormatKind::Grouped) => "`{`, or `x` and pairs of hexadecimal digits",
+        Some(FormatKind::Address) => {
             "an address such as 10.0.0.1 or 2001:0db8:0000:0000:0000:0000:0000:0001, `family` with its number and `x` and pairs \
              of hexadecimal digits, or these bytes alone"
         }
-        Some(Format::Float32 | Format::Float64) => BYTES,
+        Some(FormatKind::FourBytes(Reading::Bits) | FormatKind::EightBytes(Reading::Bits)) => BYTES,
         Some(_) => "a text in double quotes, or `x` and pairs of hexadecimal digits",
         None => "`x` and pairs of hexadecimal digits, as the dictionary doesn't know the AVP",
     }
@@ -173,16 +176,21 @@ fn wanted_of(format: Option<&Format>) -> &'static str {
 /// Whether a text may be written for data of the format.
 fn has_text(format: Option<&Format>) -> bool {
     matches!(
-        format,
+        kind_of(format),
         Some(
-            Format::OctetString
-                | Format::Utf8String
-                | Format::DiameterIdentity
-                | Format::DiameterUri
-                | Format::IpFilterRule
-                | Format::QosFilterRule
+            FormatKind::AnyBytes
+                | FormatKind::Utf8String
+                | FormatKind::DiameterIdentity
+                | FormatKind::DiameterUri
         )
     )
+}
+
+fn kind_of(format: Option<&Format>) -> Option<FormatKind> {
+    match format {
+        Some(format) => Some(format.kind()),
+        None => None,
+    }
 }
 
 /// The key of an AVP's word, if it is a number or a name of the dictionary.

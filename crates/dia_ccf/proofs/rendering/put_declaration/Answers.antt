@@ -1,7 +1,8 @@
 use Rattle.std.proofs.Common.{◌≡◌, ℕ, List, ◌++◌, codes, cond, Result, Ok, Err, OnOk, is_ok, string_bytes, encode_utf8, lit<, ap, ◌∙◌, append_assoc}
 use Rattle.std.specs.Fmt.{decimal}
 use Rattle.dia_ccf.specs.Plain.{plain_decl}
-use Rattle.dia_ccf.specs.Grammar.{format_word, rule_word}
+use Rattle.dia_terms.specs.Formats.{format_word}
+use Rattle.dia_ccf.specs.Grammar.{rule_word}
 use Rattle.dia_ccf.specs.CanonicalText.{vendor_text, values_text, line_feed}
 use Rattle.dia_ccf.proofs.rendering.put_declaration.Goals as goal
 
