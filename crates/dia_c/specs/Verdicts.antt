@@ -16,7 +16,8 @@ use Rattle.dia_wire.specs.Wire.{BeginsMessage, IsMessageLength}
 use Rattle.dia_wire.specs.declared.header.MessageFault.{MessageFault}
 use Rattle.dia_wire.specs.declared.header.MessageFault.TheVariants as message
 use Rattle.dia_check.specs.declared.fault.Reason.TheVariants as reason
-use Rattle.dia_check.specs.Faults.{IsAnswer, row_of, simple}
+use Rattle.dia_check.specs.Faults.{IsAnswer, simple}
+use Rattle.dia_check.specs.Reasons.{row_of}
 use Rattle.dia_c.specs.declared.verdict.Verdict.{Verdict}
 
 abbrev pub IsUnknownPolicy : ℕ → Type 0

@@ -1,7 +1,7 @@
 //! What is said of a message.
 
 ghost use Rattle.std.specs.Prelude.{◌≡◌, ◌↔◌, None, Err, IfOk, IfErr, IfSome, Result};
-ghost use Rattle.dia_check.specs.Faults.{HasLength, IsAnswer, code_of, row_of, simple};
+ghost use Rattle.dia_check.specs.Faults.{HasLength, IsAnswer, simple};
 ghost use Rattle.dia_c.specs.Verdicts.{IsHeadVerdict, IsUnknownPolicy, IsVerdict, fault_verdict, limit_of, no_message, policy_of};
 
 use dia_book::Book;
@@ -127,8 +127,8 @@ pub fn message_length(bytes: &[u8]) -> Result<u32, Verdict>
     match read_header(bytes) {
         Ok((_, length)) => Ok(length),
         Err(HeadFault::Short) => Err(TRUNCATED),
-        Err(HeadFault::Version) => Err(header_fault(0, 5011, Reason::Version)),
-        Err(HeadFault::Length) => Err(header_fault(1, 5015, Reason::Length)),
+        Err(HeadFault::Version) => Err(header_fault(0, Reason::Version)),
+        Err(HeadFault::Length) => Err(header_fault(1, Reason::Length)),
     }
 }
 
@@ -138,20 +138,20 @@ pub fn no_message(fault: MessageFault) -> Verdict
 {
     match fault {
         MessageFault::Short => TRUNCATED,
-        MessageFault::Version => header_fault(0, 5011, Reason::Version),
-        MessageFault::Length => header_fault(1, 5015, Reason::Length),
+        MessageFault::Version => header_fault(0, Reason::Version),
+        MessageFault::Length => header_fault(1, Reason::Length),
         MessageFault::Truncated => TRUNCATED,
         MessageFault::Trailing => TRAILING,
     }
 }
 
 /// The verdict of a fault of the header.
-fn header_fault(place: u32, code: u32, reason: Reason) -> Verdict
-    ensures { code ≡ code_of reason → result ≡ fault_verdict (simple place reason) }
+fn header_fault(place: u32, reason: Reason) -> Verdict
+    ensures { result ≡ fault_verdict (simple place reason) }
 {
     faulty(Fault {
         place,
-        code,
+        code: reason.code(),
         reason,
         subject: Subject::Nothing,
     })
@@ -161,7 +161,7 @@ fn header_fault(place: u32, code: u32, reason: Reason) -> Verdict
 fn faulty(fault: Fault) -> Verdict
     ensures { result ≡ fault_verdict fault }
 {
-    let reason = reason_number(fault.reason);
+    let reason = fault.reason.rank();
     match fault.subject {
         Subject::Nothing => Verdict {
             outcome: 1,
@@ -188,28 +188,5 @@ fn faulty(fault: Fault) -> Verdict
             subject: 2,
             ..ALL_ZERO
         },
-    }
-}
-
-/// The number of a reason.
-fn reason_number(reason: Reason) -> u32
-    ensures { result ≡ row_of reason }
-{
-    match reason {
-        Reason::Version => 0,
-        Reason::Length => 1,
-        Reason::Bits => 2,
-        Reason::Command => 3,
-        Reason::Application => 4,
-        Reason::Proxiable => 5,
-        Reason::AvpLength => 6,
-        Reason::Unknown => 7,
-        Reason::MBit => 8,
-        Reason::Missing => 9,
-        Reason::NotAllowed => 10,
-        Reason::TooMany => 11,
-        Reason::LeafLength => 12,
-        Reason::LeafValue => 13,
-        Reason::Depth => 14,
     }
 }

@@ -10,7 +10,7 @@ use Rattle.std.proofs.lemmas.List.Folds.{list_any_more}
 use Rattle.dia_check.specs.declared.Fault.{Fault}
 use Rattle.dia_check.specs.declared.Subject.{Subject}
 use Rattle.dia_check.specs.declared.Subject.TheVariants.{Nothing, Avp, Wildcard}
-use Rattle.dia_check.specs.Faults.{row_of}
+use Rattle.dia_check.specs.Reasons.{row_of}
 use Rattle.dia_check.proofs.Uniqueness.{reason_at, reason_at-row}
 use Rattle.dia_captures.specs.declared.verdicts.Flaw.{Flaw}
 use Rattle.dia_captures.specs.declared.verdicts.Flaw.TheVariants as flaw

@@ -3,7 +3,7 @@ use Rattle.std.specs.Prelude.{◌≡◌, ℕ, suc, ◌+◌, ◌==◌, min, not, 
 use Rattle.std.specs.List.{count_by, flat_map, list_any}
 use Rattle.dia_check.specs.declared.Subject.{Subject}
 use Rattle.dia_check.specs.declared.Subject.TheVariants.{Nothing, Avp, Wildcard}
-use Rattle.dia_check.specs.Faults.{row_of}
+use Rattle.dia_check.specs.Reasons.{row_of}
 use Rattle.dia_io.specs.declared.Exit.{Exit}
 use Rattle.dia_captures.specs.declared.verdicts.Checked.{Checked}
 use Rattle.dia_captures.specs.declared.verdicts.Checked.TheVariants.{Valid, Wrong}

@@ -13,7 +13,8 @@ use Rattle.dia_io.specs.declared.Inputs.{Inputs}
 use Rattle.dia_lines.specs.Lines.{IsAnswered}
 use Rattle.dia_streams.specs.Streams.{IsStreamTold, StillGives}
 use Rattle.dia_run.specs.Texts.{IsDictionaryText}
-use Rattle.dia_run.specs.Verdict.{reason_word, subject_text}
+use Rattle.dia_check.specs.Reasons.{reason_word}
+use Rattle.dia_run.specs.Verdict.{subject_text}
 use Rattle.dia_captures.specs.declared.verdicts.Checked.{Checked}
 use Rattle.dia_captures.specs.declared.verdicts.Flaw.{Flaw}
 use Rattle.dia_captures.specs.declared.verdicts.Flaw.TheVariants as flaw

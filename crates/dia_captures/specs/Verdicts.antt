@@ -16,7 +16,8 @@ use Rattle.dia_io.specs.declared.Exit.{Exit}
 use Rattle.dia_io.specs.declared.Exit.TheVariants.{Yes, No, Bad}
 use Rattle.dia_io.specs.Inputs.{Holds, IsOver}
 use Rattle.dia_run.specs.Texts.{IsMessageText, digits_of, line}
-use Rattle.dia_run.specs.Verdict.{reason_word, subject_text}
+use Rattle.dia_check.specs.Reasons.{reason_word}
+use Rattle.dia_run.specs.Verdict.{subject_text}
 use Rattle.dia_captures.specs.declared.verdicts.Checked.{Checked}
 use Rattle.dia_captures.specs.declared.verdicts.Checked.TheVariants.{Valid, Wrong}
 use Rattle.dia_captures.specs.declared.verdicts.Flaw.{Flaw}

@@ -8,7 +8,7 @@ ghost use Rattle.dia_captures.specs.Summaries.{place_words, reason_text, yes_wor
 use crate::reasons::{Met, Seen};
 use crate::verdicts::Flaw;
 use dia_dict::Book;
-use dia_run::{push_subject, reason_word};
+use dia_run::push_subject;
 use std::alloc::AllocError;
 
 /// Which messages are judged, and how.
@@ -100,7 +100,7 @@ fn push_reason<B: Book>(text: &mut String, book: &B, flaw: &Flaw) -> Result<(), 
     match flaw {
         Flaw::Fault(fault) => {
             let code = fault.code;
-            let reason = reason_word(fault.reason);
+            let reason = fault.reason.word();
             write!(text, "fault {code} {reason} ")?;
             push_subject(text, book, fault.subject)
         }

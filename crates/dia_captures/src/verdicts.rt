@@ -8,7 +8,7 @@ ghost use Rattle.dia_captures.specs.Verdicts.{is_valid, refuted_exit, refuted_li
 use dia_check::{Fault, Refusal, Selected};
 use dia_dict::Book;
 use dia_io::Exit;
-use dia_run::{push_subject, reason_word};
+use dia_run::push_subject;
 use std::alloc::AllocError;
 
 /// What `check` finds of a message.
@@ -206,7 +206,7 @@ fn push_fault<B: Book>(text: &mut String, book: &B, fault: &Fault) -> Result<(),
 {
     let code = fault.code;
     let place = fault.place;
-    let reason = reason_word(fault.reason);
+    let reason = fault.reason.word();
     write!(text, "fault {code} at {place} {reason} ")?;
     push_subject(text, book, fault.subject)
 }

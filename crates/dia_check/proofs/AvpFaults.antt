@@ -23,7 +23,7 @@ use Rattle.dia_check.specs.declared.open_levels.OpenLevels.{OpenLevels}
 use Rattle.dia_check.specs.declared.open_levels.Wrong.{Wrong}
 use Rattle.dia_valid.specs.Valid.{known, MHolds, IsAccepted}
 use Rattle.dia_check.specs.Levels.{MayOpen}
-use Rattle.dia_check.specs.Faults.{row_of}
+use Rattle.dia_check.specs.Reasons.{row_of}
 use Rattle.dia_check.specs.OpenLevels.{IsMisplaced, missing, not_allowed, too_many, IsWellPlaced, IsFirstMisplaced, SoFar, AreOpen}
 use Rattle.dia_valid.specs.Valid.{HasFlags}
 use Rattle.dia_check.specs.Admission.{IsWrongFlags, IsRefused, unknown, m_bit, misplaced, IsAdmitted, IsFirstRefused, IsFineData, IsWrongData, IsFineAvp, IsWrongAvp}

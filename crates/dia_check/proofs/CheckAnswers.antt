@@ -15,7 +15,8 @@ use Rattle.dia_check.specs.declared.fault.Selected.{Selected}
 use Rattle.dia_check.specs.declared.fault.Refusal.{Refusal}
 use Rattle.dia_check.specs.declared.fault.Refusal.TheVariants as refusal
 use Rattle.dia_valid.specs.Valid.{HasR, HasE, HasT, class_of, AllowsP, IsValidOf}
-use Rattle.dia_check.specs.Faults.{At, Spot, spot, row_of, IsBefore, Stands, HasGoodHeader, HasHeader, HasLength, IsFirst, IsAnswer, simple}
+use Rattle.dia_check.specs.Faults.{At, Spot, spot, IsBefore, Stands, HasGoodHeader, HasHeader, HasLength, IsFirst, IsAnswer, simple}
+use Rattle.dia_check.specs.Reasons.{row_of}
 use Rattle.dia_check.specs.Faults as faults
 use Rattle.dia_check.specs.Walks.{Found, Walks, whole, fault_of}
 use Rattle.dia_check.proofs.FoundFaultsStand.{walks_stands}

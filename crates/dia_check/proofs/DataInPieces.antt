@@ -24,7 +24,8 @@ use Rattle.dia_check.specs.declared.stream.parts.Part.{Part}
 use Rattle.dia_check.specs.declared.stream.parts.DataPart.{DataPart}
 use Rattle.dia_valid.specs.Valid.{known}
 use Rattle.dia_check.specs.Levels.{between, MayOpen}
-use Rattle.dia_check.specs.Faults.{HasGoodHeader, code_of}
+use Rattle.dia_check.specs.Faults.{HasGoodHeader}
+use Rattle.dia_check.specs.Reasons.{code_of}
 use Rattle.dia_check.specs.OpenLevels.{begun, and_key, AreOpen}
 use Rattle.dia_check.specs.Admission.{IsAdmitted, IsFirstRefused, IsFineAvp, IsFineData, IsWrongData}
 use Rattle.dia_check.specs.Walks.{Rest, inside, whole, IsFoundIn}

@@ -19,7 +19,8 @@ use Rattle.dia_check.specs.declared.fault.Subject.TheVariants.{Nothing}
 use Rattle.dia_valid.specs.Valid.{HasR, HasE, HasT, class_of, AllowsP}
 use Rattle.dia_check.specs.Levels.{Level, IsMember, IsOpen, IsCommandOf, MayOpen, between}
 use Rattle.dia_check.specs.Levels as levels
-use Rattle.dia_check.specs.Faults.{End, Spot, spot, row_of, IsBefore, subject_of, IsFirstMissing, IsWrong, Stands, HasGoodHeader, HasHeader}
+use Rattle.dia_check.specs.Faults.{End, Spot, spot, IsBefore, subject_of, IsFirstMissing, IsWrong, Stands, HasGoodHeader, HasHeader}
+use Rattle.dia_check.specs.Reasons.{row_of}
 use Rattle.dia_check.specs.Faults as faults
 use Rattle.dia_check.specs.Walks.{Found, Rest, behind, inside, whole, Walks, ended, missing, broken, wrong, leaf, group, bad_group}
 use Rattle.dia_valid.specs.Valid.{group_at}

@@ -22,7 +22,8 @@ use Rattle.dia_check.proofs.Tallies.{IsMore}
 use Rattle.std.specs.List.{prefix_len}
 use Rattle.dia_valid.specs.Valid.{fixed_rules, counted}
 use Rattle.dia_valid.specs.LongestRuns.{runs, met, run_end, loose_start}
-use Rattle.dia_check.specs.Faults.{row_of, subject_of, IsFirstShort}
+use Rattle.dia_check.specs.Reasons.{row_of}
+use Rattle.dia_check.specs.Faults.{subject_of, IsFirstShort}
 use Rattle.dia_check.specs.OpenLevels.{AreMet, IsFirstUnmet, IsCounted, Leads, IsMet, IsMisplaced, missing, not_allowed, too_many, IsFirstMisplaced}
 use Rattle.dia_valid.proofs.RunsOfOneKeyMore.{is_of}
 use Rattle.dia_valid.proofs.RuleCounts.{met_fixed, counts_key, fixed_place}

@@ -23,7 +23,8 @@ use Rattle.dia_check.specs.declared.fault.Selected.{Selected}
 use Rattle.dia_check.specs.declared.fault.Refusal.{Refusal}
 use Rattle.dia_check.specs.declared.fault.Refusal.TheVariants as refusal
 use Rattle.dia_valid.specs.Valid.{known, IsValidOf}
-use Rattle.dia_check.specs.Faults.{Row, At, Spot, spot, row_of, code_of, IsBefore, IsWrong, Stands, HasGoodHeader, HasLength, IsFirst, IsTold, IsAnswer, simple}
+use Rattle.dia_check.specs.Faults.{Row, At, Spot, spot, IsBefore, IsWrong, Stands, HasGoodHeader, HasLength, IsFirst, IsTold, IsAnswer, simple}
+use Rattle.dia_check.specs.Reasons.{row_of, code_of}
 use Rattle.dia_check.specs.Faults as faults
 use Rattle.dia_check.specs.Walks.{Found, Rest, behind, inside, whole, IsFine, IsFirstWrong, Walks, ended, missing, broken, wrong, leaf, group, bad_group}
 use Rattle.dia_valid.specs.Valid.{group_at}

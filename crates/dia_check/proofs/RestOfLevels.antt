@@ -18,7 +18,8 @@ use Rattle.dia_check.specs.declared.fault.Subject.TheVariants.{Avp}
 use Rattle.dia_check.specs.declared.open_levels.Wrong.{Wrong}
 use Rattle.dia_valid.specs.Valid.{known}
 use Rattle.dia_check.specs.Levels.{MayOpen}
-use Rattle.dia_check.specs.Faults.{row_of, subject_of, IsWrong}
+use Rattle.dia_check.specs.Reasons.{row_of}
+use Rattle.dia_check.specs.Faults.{subject_of, IsWrong}
 use Rattle.dia_check.specs.Faults as faults
 use Rattle.dia_check.specs.OpenLevels.{missing, not_allowed, too_many}
 use Rattle.dia_check.specs.Admission.{IsRefused, unknown, m_bit, misplaced, IsFineData, IsWrongData, IsFineAvp, IsWrongAvp}

@@ -19,7 +19,8 @@ use Rattle.dia_check.specs.declared.open_levels.OpenLevel.{OpenLevel}
 use Rattle.dia_check.specs.declared.open_levels.OpenLevels.{OpenLevels}
 use Rattle.dia_check.specs.declared.open_levels.Wrong.{Wrong}
 use Rattle.dia_check.specs.Levels.{between}
-use Rattle.dia_check.specs.Faults.{code_of, subject_of, spot, End, HasGoodHeader}
+use Rattle.dia_check.specs.Reasons.{code_of}
+use Rattle.dia_check.specs.Faults.{subject_of, spot, End, HasGoodHeader}
 use Rattle.dia_check.specs.OpenLevels.{SoFar, begun, and_key, AreOpen, IsMetAtEnd, IsMissingAtEnd}
 use Rattle.dia_check.specs.Admission.{IsFineAvp, IsWrongAvp}
 use Rattle.dia_check.specs.Walks.{Found, Rest, behind, inside, whole, fault_of, IsFoundIn, IsFine, Walks, ended, broken, wrong, leaf, group}

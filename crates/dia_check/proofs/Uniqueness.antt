@@ -22,7 +22,8 @@ use Rattle.dia_check.specs.declared.fault.Subject.{Subject}
 use Rattle.dia_check.specs.declared.fault.Subject.TheVariants.{Avp}
 use Rattle.dia_valid.specs.Valid.{fixed_rules}
 use Rattle.dia_check.specs.Levels.{Level}
-use Rattle.dia_check.specs.Faults.{Row, End, At, Sooner, Spot, spot, row_of, IsBefore, subject_of, keys_to, IsFirstShort, IsFirstMissing, IsWrong}
+use Rattle.dia_check.specs.Faults.{Row, End, At, Sooner, Spot, spot, IsBefore, subject_of, keys_to, IsFirstShort, IsFirstMissing, IsWrong}
+use Rattle.dia_check.specs.Reasons.{row_of}
 use Rattle.dia_check.specs.Faults as faults
 use Rattle.dia_check.proofs.FaultlessFronts.{at_any}
 use Rattle.dia_check.specs.Walks.{Found, Rest, behind, inside, IsFine, IsFirstWrong, Walks, ended, missing, broken, wrong, leaf, group, bad_group}

@@ -17,7 +17,7 @@ use Rattle.dia_check.specs.declared.open_levels.Wrong.{Wrong}
 use Rattle.dia_check.specs.Basis.{PlainBasis}
 use Rattle.dia_valid.specs.Valid.{known, MHolds, IsAccepted}
 use Rattle.dia_check.specs.Levels.{MayOpen}
-use Rattle.dia_check.specs.Faults.{row_of}
+use Rattle.dia_check.specs.Reasons.{row_of}
 use Rattle.dia_check.specs.OpenLevels.{SoFar, begun, HasRoom, and_key, AreOpenUnder, IsMetAtEnd, IsMissingAtEnd, IsMisplaced}
 
 -- ---- by its key and flags

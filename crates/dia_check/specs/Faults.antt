@@ -21,6 +21,7 @@ use Rattle.dia_check.specs.declared.fault.Refusal.{Refusal}
 use Rattle.dia_check.specs.declared.fault.Refusal.TheVariants as refusal
 use Rattle.dia_valid.specs.Valid.{HasR, HasE, HasT, class_of, AllowsP, known, MHolds, IsAccepted, IsValidOf, fixed_rules, is_listed, has_wildcard}
 use Rattle.dia_valid.specs.LongestRuns.{runs, run_end, loose_start, met}
+use Rattle.dia_check.specs.Reasons.{code_of, row_of}
 use Rattle.dia_check.specs.Levels.{Level, between, IsMember, IsOpen, MayOpen}
 
 -- ---- where faults stand, and their order
@@ -42,42 +43,6 @@ pub record Spot : Type 0 where
 
 abbrev pub IsBefore : Spot → Spot → Type 0
 IsBefore a b = (a.place < b.place) ⊎ ((a.place ≡ b.place) × Sooner a.row b.row)
-
--- the result code of a reason
-abbrev pub code_of : Reason → ℕ
-code_of reason.Version = 5011
-code_of reason.Length = 5015
-code_of reason.Bits = 5013
-code_of reason.Command = 3001
-code_of reason.Application = 3007
-code_of reason.Proxiable = 3008
-code_of reason.AvpLength = 5014
-code_of reason.Unknown = 5001
-code_of reason.MBit = 3009
-code_of reason.Missing = 5005
-code_of reason.NotAllowed = 5008
-code_of reason.TooMany = 5009
-code_of reason.LeafLength = 5014
-code_of reason.LeafValue = 5004
-code_of reason.Depth = 5012
-
--- the order of the reasons at one place
-abbrev pub row_of : Reason → ℕ
-row_of reason.Version = 0
-row_of reason.Length = 1
-row_of reason.Bits = 2
-row_of reason.Command = 3
-row_of reason.Application = 4
-row_of reason.Proxiable = 5
-row_of reason.AvpLength = 6
-row_of reason.Unknown = 7
-row_of reason.MBit = 8
-row_of reason.Missing = 9
-row_of reason.NotAllowed = 10
-row_of reason.TooMany = 11
-row_of reason.LeafLength = 12
-row_of reason.LeafValue = 13
-row_of reason.Depth = 14
 
 abbrev pub spot : ℕ → Reason → Spot
 spot place r = record { place = place; row = At (row_of r) }

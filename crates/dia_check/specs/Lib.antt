@@ -1,5 +1,6 @@
 pub mod Basis
 pub mod Levels
+pub mod Reasons
 pub mod Faults
 pub mod Walks
 pub mod Tallies

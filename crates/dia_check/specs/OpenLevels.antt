@@ -14,7 +14,8 @@ use Rattle.dia_check.specs.declared.open_levels.tally.Met.{Met}
 use Rattle.dia_check.specs.Tallies.{count_in, AreRising, AreBelow}
 use Rattle.dia_valid.specs.Valid.{fixed_rules, is_listed, has_wildcard}
 use Rattle.dia_valid.specs.LongestRuns.{runs, run_end, loose_start, met, IsAt}
-use Rattle.dia_check.specs.Faults.{subject_of, row_of, IsFirstShort, IsFirstMissing}
+use Rattle.dia_check.specs.Faults.{subject_of, IsFirstShort, IsFirstMissing}
+use Rattle.dia_check.specs.Reasons.{row_of}
 
 -- ---- what is wrong with a key behind others, by the rules of their level
 

@@ -17,7 +17,8 @@ use Rattle.dia_check.specs.declared.fault.Refusal.{Refusal}
 use Rattle.dia_check.specs.declared.fault.Refusal.TheVariants as refusal
 use Rattle.dia_valid.specs.Valid.{known, group_at}
 use Rattle.dia_check.specs.Levels.{Level}
-use Rattle.dia_check.specs.Faults.{Spot, End, spot, row_of, code_of, subject_of, IsFirstMissing, IsWrong}
+use Rattle.dia_check.specs.Faults.{Spot, End, spot, subject_of, IsFirstMissing, IsWrong}
+use Rattle.dia_check.specs.Reasons.{row_of, code_of}
 
 pub record Found : Type 0 where
   pub spot : Spot

@@ -45,6 +45,56 @@ pub enum Reason {
     Depth,
 }
 
+impl Reason {
+    ghost use Rattle.std.specs.Prelude.{◌≡◌};
+    ghost use Rattle.dia_check.specs.Reasons.{code_of, reason_word, row_of};
+
+    /// Its place in the order, from 0.
+    pub fn rank(self) -> u32
+        ensures { result ≡ row_of self }
+    {
+        self.row().0
+    }
+
+    /// Its result code (RFC 6733 section 7.1).
+    pub fn code(self) -> u32
+        ensures { result ≡ code_of self }
+    {
+        self.row().1
+    }
+
+    /// Its word in the line of a verdict.
+    pub fn word(self) -> &'static str
+        ensures { result.now ≡ reason_word self }
+    {
+        self.row().2
+    }
+
+    fn row(self) -> (u32, u32, &'static str)
+        ensures rank { result.0 ≡ row_of self }
+        ensures code { result.1 ≡ code_of self }
+        ensures word { result.2.now ≡ reason_word self }
+    {
+        match self {
+            Reason::Version => (0, 5011, "version"),
+            Reason::Length => (1, 5015, "length"),
+            Reason::Bits => (2, 5013, "bits"),
+            Reason::Command => (3, 3001, "command"),
+            Reason::Application => (4, 3007, "application"),
+            Reason::Proxiable => (5, 3008, "proxiable"),
+            Reason::AvpLength => (6, 5014, "avp-length"),
+            Reason::Unknown => (7, 5001, "unknown"),
+            Reason::MBit => (8, 3009, "m-bit"),
+            Reason::Missing => (9, 5005, "missing"),
+            Reason::NotAllowed => (10, 5008, "not-allowed"),
+            Reason::TooMany => (11, 5009, "too-many"),
+            Reason::LeafLength => (12, 5014, "leaf-length"),
+            Reason::LeafValue => (13, 5004, "leaf-value"),
+            Reason::Depth => (14, 5012, "depth"),
+        }
+    }
+}
+
 /// What a fault is about.
 #[derive(Debug, Clone, Copy, PartialEq, Eq)]
 pub enum Subject {

@@ -1,7 +1,7 @@
 //! From what is wrong to the fault that is told.
 
 ghost use Rattle.std.specs.Prelude.{◌≡◌, ◌<◌, ◌^◌};
-ghost use Rattle.dia_check.specs.Faults.{code_of, simple};
+ghost use Rattle.dia_check.specs.Faults.{simple};
 ghost use Rattle.dia_check.specs.Telling.{told};
 
 use crate::fault::{Fault, Reason, Refusal, Subject};
@@ -14,7 +14,7 @@ pub(crate) fn fault(place: usize, wrong: Wrong) -> Refusal
 {
     Refusal::Fault(Fault {
         place: place as u32,
-        code: code_of(wrong.reason),
+        code: wrong.reason.code(),
         reason: wrong.reason,
         subject: wrong.subject,
     })
@@ -38,26 +38,4 @@ pub(crate) fn broken(at: usize) -> Refusal
     ensures { result ≡ Refusal.Fault (simple at Reason.AvpLength) }
 {
     simple_fault(at, Reason::AvpLength)
-}
-
-/// The result code of a reason (RFC 6733 section 7.1).
-fn code_of(reason: Reason) -> u32
-    ensures { result ≡ code_of reason }
-{
-    match reason {
-        Reason::Version => 5011,
-        Reason::Length => 5015,
-        Reason::Bits => 5013,
-        Reason::Command => 3001,
-        Reason::Application => 3007,
-        Reason::Proxiable => 3008,
-        Reason::AvpLength | Reason::LeafLength => 5014,
-        Reason::Unknown => 5001,
-        Reason::MBit => 3009,
-        Reason::Missing => 5005,
-        Reason::NotAllowed => 5008,
-        Reason::TooMany => 5009,
-        Reason::LeafValue => 5004,
-        Reason::Depth => 5012,
-    }
 }

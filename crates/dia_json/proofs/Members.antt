@@ -16,7 +16,7 @@ use Rattle.dia_captures.specs.declared.verdicts.Checked.TheVariants.{Valid, Wron
 use Rattle.dia_captures.specs.declared.verdicts.Flaw.TheVariants as flaw
 use Rattle.dia_captures.specs.declared.verdicts.Refuted.{Refuted}
 use Rattle.dia_captures.specs.Verdicts.{refutes, unless_refused}
-use Rattle.dia_run.specs.Verdict.{reason_word}
+use Rattle.dia_check.specs.Reasons.{reason_word}
 use Rattle.dia_json.specs.Values.{about, both_members, checked_members, fault_members, not_hexadecimal_members, numbered, placed_json, refuted_members}
 use Rattle.dia_refused_json.specs.Members.{json_line, named_members}
 use Rattle.dia_json.specs.Values.{subject_members, too_long_members}

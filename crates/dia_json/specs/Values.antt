@@ -7,7 +7,7 @@ use Rattle.dia_check.specs.declared.Fault.{Fault}
 use Rattle.dia_check.specs.declared.Subject.{Subject}
 use Rattle.dia_check.specs.declared.Subject.TheVariants.{Nothing, Avp, Wildcard}
 use Rattle.dia_valid.specs.Valid.{known}
-use Rattle.dia_run.specs.Verdict.{reason_word}
+use Rattle.dia_check.specs.Reasons.{reason_word}
 use Rattle.dia_captures.specs.declared.verdicts.Checked.{Checked}
 use Rattle.dia_captures.specs.declared.verdicts.Checked.TheVariants.{Valid, Wrong}
 use Rattle.dia_captures.specs.declared.verdicts.Flaw.TheVariants as flaw

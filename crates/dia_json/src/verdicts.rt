@@ -12,7 +12,6 @@ use dia_captures::{Checked, Flaw, Refuted};
 use dia_check::{Fault, Subject};
 use dia_dict::Book;
 use dia_refused_json::quoted;
-use dia_run::reason_word;
 use dia_wire::Key;
 use std::alloc::{AllocError, Global};
 
@@ -194,7 +193,7 @@ fn push_fault<B: Book>(
 {
     let code = fault.code;
     let at = fault.place;
-    let reason = reason_word(fault.reason);
+    let reason = fault.reason.word();
     write!(
         text,
         "\"verdict\":\"fault\",\"code\":{code},\"at\":{at},\"reason\":\"{reason}\""

@@ -21,7 +21,8 @@ use Rattle.dia_check.specs.declared.Reason.TheVariants as reason
 use Rattle.dia_check.specs.declared.Subject.{Subject}
 use Rattle.dia_check.specs.declared.Progress.{Progress}
 use Rattle.dia_check.specs.Faults as faults
-use Rattle.dia_check.specs.Faults.{HasLength, IsAnswer, IsWrong, Spot, Stands, row_of}
+use Rattle.dia_check.specs.Faults.{HasLength, IsAnswer, IsWrong, Spot, Stands}
+use Rattle.dia_check.specs.Reasons.{row_of}
 use Rattle.dia_check.specs.Levels.{Level}
 use Rattle.dia_check.specs.Streaming.{is_sound, wanted, taken_of, Takes}
 use Rattle.dia_check.proofs.StreamMessages.{length_sound, same_sound, same_wanted, sound_length}

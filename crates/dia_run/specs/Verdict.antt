@@ -3,9 +3,8 @@ use Rattle.std.specs.Prelude.{◌≡◌, ℕ, List, ◌++◌, Option, Some, None
 use Rattle.std.specs.Fmt.{decimal}
 use Rattle.dia_wire.specs.declared.Key.{Key}
 use Rattle.dia_dict.specs.Dictionary.{Dictionary, DictEntry, PlainDefinition, definitions}
+use Rattle.dia_check.specs.Reasons.{reason_word}
 use Rattle.dia_check.specs.declared.Fault.{Fault}
-use Rattle.dia_check.specs.declared.Reason.{Reason}
-use Rattle.dia_check.specs.declared.Reason.TheVariants as reason
 use Rattle.dia_check.specs.declared.Subject.{Subject}
 use Rattle.dia_check.specs.declared.Subject.TheVariants.{Nothing, Avp, Wildcard}
 use Rattle.dia_check.specs.declared.Selected.{Selected}
@@ -15,23 +14,6 @@ use Rattle.dia_valid.specs.Valid.{known}
 use Rattle.dia_io.specs.declared.Exit.{Exit}
 use Rattle.dia_io.specs.declared.Exit.TheVariants.{Yes, No}
 use Rattle.dia_run.specs.Texts.{line}
-
-abbrev pub reason_word : Reason → List ℕ
-reason_word reason.Version = codes "version"
-reason_word reason.Length = codes "length"
-reason_word reason.Bits = codes "bits"
-reason_word reason.Command = codes "command"
-reason_word reason.Application = codes "application"
-reason_word reason.Proxiable = codes "proxiable"
-reason_word reason.AvpLength = codes "avp-length"
-reason_word reason.Unknown = codes "unknown"
-reason_word reason.MBit = codes "m-bit"
-reason_word reason.Missing = codes "missing"
-reason_word reason.NotAllowed = codes "not-allowed"
-reason_word reason.TooMany = codes "too-many"
-reason_word reason.LeafLength = codes "leaf-length"
-reason_word reason.LeafValue = codes "leaf-value"
-reason_word reason.Depth = codes "depth"
 
 -- the AVP's name, or code and vendor of one that the dictionary doesn't know
 abbrev pub known_name : Key → Option DictEntry → List ℕ

@@ -4,7 +4,7 @@
 use crate::check::pieces::check_pieces;
 use crate::words::same;
 use dia_ccf::parse;
-use dia_check::{Levels, Reason, Refusal, Selected, Subject, Unknown, check};
+use dia_check::{Levels, Refusal, Selected, Subject, Unknown, check};
 use dia_dict::{Book, DefId, IndexedBook, PlainBook, resolve};
 use std::alloc::{AllocError, Global};
 use std::process::Abort;
@@ -77,7 +77,7 @@ fn verdict<B: Book>(
             format!(in alloc; "0 valid {name}\n")
         }
         Err(Refusal::Fault(fault)) => {
-            let (code, place, reason) = (fault.code, fault.place, reason_word(fault.reason));
+            let (code, place, reason) = (fault.code, fault.place, fault.reason.word());
             let subject = subject_of(alloc, book, fault.subject)?;
             format!(in alloc; "1 fault {code} at {place} {reason} {subject}\n")
         }
@@ -107,25 +107,5 @@ fn subject_of<B: Book>(alloc: Global, book: &B, subject: Subject) -> Result<Stri
             Some(entry) => String::from_str(alloc, book.entry_name(entry)),
             None => format!(in alloc; "{key}"),
         },
-    }
-}
-
-fn reason_word(reason: Reason) -> &'static str {
-    match reason {
-        Reason::Version => "version",
-        Reason::Length => "length",
-        Reason::Bits => "bits",
-        Reason::Command => "command",
-        Reason::Application => "application",
-        Reason::Proxiable => "proxiable",
-        Reason::AvpLength => "avp-length",
-        Reason::Unknown => "unknown",
-        Reason::MBit => "m-bit",
-        Reason::Missing => "missing",
-        Reason::NotAllowed => "not-allowed",
-        Reason::TooMany => "too-many",
-        Reason::LeafLength => "leaf-length",
-        Reason::LeafValue => "leaf-value",
-        Reason::Depth => "depth",
     }
 }

@@ -7,7 +7,7 @@ ghost use Rattle.dia_check.specs.Faults.{IsAnswer};
 ghost use Rattle.dia_run.specs.Outcome.{IsCheckOutcome};
 ghost use Rattle.dia_run.specs.Report.{Answers, HasReport, IsReport};
 ghost use Rattle.dia_run.specs.Texts.{line};
-ghost use Rattle.dia_run.specs.Verdict.{IsVerdict, fault_line, reason_word, subject_text};
+ghost use Rattle.dia_run.specs.Verdict.{IsVerdict, fault_line, subject_text};
 
 mod feeding;
 
@@ -15,7 +15,7 @@ pub use crate::commands::check::feeding::{check_message, is_endless};
 use crate::commands::{Outcome, told};
 use crate::inputs::dictionary::read_dictionary;
 use crate::inputs::message::read_message;
-use dia_check::{Fault, Levels, Reason, Refusal, Selected, Subject, Unknown};
+use dia_check::{Fault, Levels, Refusal, Selected, Subject, Unknown};
 use dia_dict::{Book, DefId, IndexedBook};
 use dia_io::{Exit, Inputs};
 use dia_report::{Answered, Invalid, Refused, Report};
@@ -93,7 +93,7 @@ fn faulty<B: Book>(alloc: Global, book: &B, fault: &Fault) -> Result<Outcome, Al
 {
     let code = fault.code;
     let place = fault.place;
-    let reason = reason_word(fault.reason);
+    let reason = fault.reason.word();
     let mut text = format!(in alloc; "fault {code} at {place} {reason} ")?;
     push_subject(&mut text, book, fault.subject)?;
     text.push('\n')?;
@@ -121,28 +121,5 @@ pub fn push_subject<B: Book>(
                 write!(text, "{code}:{vendor}")
             }
         },
-    }
-}
-
-/// The word of a reason.
-pub fn reason_word(reason: Reason) -> &'static str
-    ensures { result.now ≡ reason_word reason }
-{
-    match reason {
-        Reason::Version => "version",
-        Reason::Length => "length",
-        Reason::Bits => "bits",
-        Reason::Command => "command",
-        Reason::Application => "application",
-        Reason::Proxiable => "proxiable",
-        Reason::AvpLength => "avp-length",
-        Reason::Unknown => "unknown",
-        Reason::MBit => "m-bit",
-        Reason::Missing => "missing",
-        Reason::NotAllowed => "not-allowed",
-        Reason::TooMany => "too-many",
-        Reason::LeafLength => "leaf-length",
-        Reason::LeafValue => "leaf-value",
-        Reason::Depth => "depth",
     }
 }

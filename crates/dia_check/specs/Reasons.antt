@@ -1,0 +1,31 @@
+-- The reasons: their order, their result codes (RFC 6733 section 7.1), and their words. Which code each gives, and the order, are this project's.
+use Rattle.std.specs.Prelude.{ℕ, List, codes}
+use Rattle.dia_check.specs.declared.fault.Reason.{Reason}
+use Rattle.dia_check.specs.declared.fault.Reason.TheVariants as reason
+
+-- its place in the order of the reasons at one place, its result code, and its word
+abbrev pub reason_row : Reason → ℕ × ℕ × List ℕ
+reason_row reason.Version = (0, 5011, codes "version")
+reason_row reason.Length = (1, 5015, codes "length")
+reason_row reason.Bits = (2, 5013, codes "bits")
+reason_row reason.Command = (3, 3001, codes "command")
+reason_row reason.Application = (4, 3007, codes "application")
+reason_row reason.Proxiable = (5, 3008, codes "proxiable")
+reason_row reason.AvpLength = (6, 5014, codes "avp-length")
+reason_row reason.Unknown = (7, 5001, codes "unknown")
+reason_row reason.MBit = (8, 3009, codes "m-bit")
+reason_row reason.Missing = (9, 5005, codes "missing")
+reason_row reason.NotAllowed = (10, 5008, codes "not-allowed")
+reason_row reason.TooMany = (11, 5009, codes "too-many")
+reason_row reason.LeafLength = (12, 5014, codes "leaf-length")
+reason_row reason.LeafValue = (13, 5004, codes "leaf-value")
+reason_row reason.Depth = (14, 5012, codes "depth")
+
+abbrev pub row_of : Reason → ℕ
+row_of r = (reason_row r).0
+
+abbrev pub code_of : Reason → ℕ
+code_of r = (reason_row r).1
+
+abbrev pub reason_word : Reason → List ℕ
+reason_word r = (reason_row r).2
