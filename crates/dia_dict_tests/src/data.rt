@@ -4,6 +4,7 @@
 //! accepts FORMAT DATA => Fine, BadLength or BadValue
 //! lengths FORMAT => the one length of data that it accepts, or any
 //! below FORMAT FORMAT => true or false
+//! kind FORMAT => its name: its kind
 //! copies FORMAT FORMAT => whether a copy of the first equals the second
 //! print FORMAT DATA => TEXT
 //! shortest FORMAT => its shortest data
@@ -17,20 +18,24 @@
 use crate::words::{number_of, same};
 use dia_breaking_data::{Witness, shortest, witness};
 use dia_ccf::FormatName;
-use dia_data::{Format, Leaf, Values, accepts, format_below, inclusion, print_value};
+use dia_data::{
+    Format, FormatKind, Leaf, Reading, Values, accepts, format_below, inclusion, print_value,
+};
 use dia_rows::{Names, Row, bytes_of, word};
 use std::process::Abort;
 
 mod accept;
 mod below;
+mod kinds;
 mod leaf_state;
 mod print;
 mod values;
 mod witness;
 
-const TEXTS: [&str; 5] = [
+const TEXTS: [&str; 6] = [
     accept::ROWS,
     below::ROWS,
+    kinds::ROWS,
     print::ROWS,
     leaf_state::ROWS,
     witness::ROWS,
@@ -60,6 +65,7 @@ fn answer(rt: &(impl AllocGlobal + Abort), row: &Row<'_>) {
     let second = word(row.call, 2);
     match word(row.call, 0) {
         "accepts" => is_accepted(rt, row, &format, second),
+        "kind" => is_kind(rt, row, &format),
         "lengths" => has_length(rt, row, &format),
         "print" => is_printed(rt, row, &format, second),
         "shortest" => is_data(rt, row, shortest(&format)),
@@ -93,6 +99,31 @@ fn is_accepted(rt: &(impl AllocGlobal + Abort), row: &Row<'_>, format: &Format, 
     };
     is_leaf(rt, accepts(format, data.as_slice()), wanted, row.line);
     leaf_state::is_leaf_in_pieces(rt, format, data.as_slice(), wanted, row.line);
+}
+
+/// Checks the name and the kind of a format.
+fn is_kind(rt: &(impl AllocGlobal + Abort), row: &Row<'_>, format: &Format) {
+    let (name, kind) = (format.word(), kind_word(format.kind()));
+    let found = format!(in rt.alloc(); "{name}: {kind}").expect(rt, "memory");
+    same(rt, found.as_bytes(), row.wanted.as_bytes(), row.line);
+}
+
+fn kind_word(kind: FormatKind) -> &'static str {
+    match kind {
+        FormatKind::AnyBytes => "any bytes",
+        FormatKind::FourBytes(Reading::Signed) => "4 bytes, signed",
+        FormatKind::FourBytes(Reading::Unsigned) => "4 bytes, unsigned",
+        FormatKind::FourBytes(Reading::Bits) => "4 bytes, no number",
+        FormatKind::EightBytes(Reading::Signed) => "8 bytes, signed",
+        FormatKind::EightBytes(Reading::Unsigned) => "8 bytes, unsigned",
+        FormatKind::EightBytes(Reading::Bits) => "8 bytes, no number",
+        FormatKind::Grouped => "AVPs",
+        FormatKind::Address => "an address",
+        FormatKind::Utf8String => "a text",
+        FormatKind::DiameterIdentity => "an identity",
+        FormatKind::DiameterUri => "a URI",
+        FormatKind::Enumerated => "a listed number",
+    }
 }
 
 /// Checks which lengths of data are accepted, up to 9 bytes.

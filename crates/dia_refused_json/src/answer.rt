@@ -1,6 +1,7 @@
 //! The answer of a command that refuses an input.
 
-ghost use Rattle.std.specs.Prelude.{IfOk, string_bytes};
+ghost use Rattle.std.specs.Prelude.{◌≡◌, IfOk, string_bytes};
+ghost use Rattle.dia_report.specs.declared.bad_input.BadInput.{BadInput as AnyBad};
 ghost use Rattle.dia_refused_json.specs.Telling.{TellsBad};
 
 use crate::refusals::bad_input_line;
@@ -10,7 +11,8 @@ use std::alloc::{AllocError, Global};
 
 /// The answer where this input is refused.
 pub fn refuse(alloc: Global, input: &Input, refused: Refused) -> Result<Answered, AllocError>
-    ensures { IfOk result (λ answered. TellsBad input.now refused (string_bytes answered.text) answered.exit) }
+    ensures told { IfOk result (λ answered. TellsBad input.now refused (string_bytes answered.text) answered.exit) }
+    ensures report { (bad : AnyBad) → refused ≡ Refused.Bad bad → IfOk result (λ answered. answered.report ≡ Report.Refused bad) }
 {
     match refused {
         Refused::Bad(bad) => {

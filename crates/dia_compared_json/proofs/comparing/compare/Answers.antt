@@ -12,14 +12,14 @@ pub returns-in-Err : goal.returns-in-Err
 returns-in-Err c =
     IfOk-weaker c.refuse.result _ _
     (λ answered is. inr (inl (inl (dictionary_refused (RefusesFirst c.args.inputs.now) c.args.inputs.now.first c.in-Err.refused c.in-Err.ensures.told c.in-Err.ensures.kept
-    (string_bytes answered.text) answered.exit is)))) c.refuse.ensures
+    (string_bytes answered.text) answered.exit is)))) c.refuse.ensures.told
 
 pub returns-in-Err-read_dictionary : goal.returns-in-Err-read_dictionary
 returns-in-Err-read_dictionary c =
     let tells = second_refused c.args.inputs.now _ c.in-Err-read_dictionary.refused c.in-Ok.ensures.book c.in-Err-read_dictionary.ensures.told in
     IfOk-weaker c.refuse-in-Err-read_dictionary.result _ _
     (λ answered is. inr (inl (inr (dictionary_refused (RefusesSecond c.args.inputs.now) c.args.inputs.now.second c.in-Err-read_dictionary.refused tells
-    c.in-Err-read_dictionary.ensures.kept (string_bytes answered.text) answered.exit is)))) c.refuse-in-Err-read_dictionary.ensures
+    c.in-Err-read_dictionary.ensures.kept (string_bytes answered.text) answered.exit is)))) c.refuse-in-Err-read_dictionary.ensures.told
 
 pub returns-in-Err-read_table : goal.returns-in-Err-read_table
 returns-in-Err-read_table c =
@@ -27,7 +27,7 @@ returns-in-Err-read_table c =
     let tells = Ends-no_table c.args.unknown inputs _ _ c.in-Err-read_table.refused c.in-Ok.ensures.book c.in-Ok-read_dictionary.ensures.book c.in-Err-read_table.ensures.told in
     IfOk-weaker c.refuse-in-Err-read_table.result _ _
     (λ answered is. inr (inr (input_refused (RefusesAs (IsCompareOutcome c.args.unknown inputs)) inputs.table c.in-Err-read_table.refused tells
-    (string_bytes answered.text) answered.exit is))) c.refuse-in-Err-read_table.ensures
+    (string_bytes answered.text) answered.exit is))) c.refuse-in-Err-read_table.ensures.told
 
 pub returns : goal.returns
 returns c =

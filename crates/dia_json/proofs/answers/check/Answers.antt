@@ -9,7 +9,7 @@ pub returns-in-Err : goal.returns-in-Err
 returns-in-Err c =
     IfOk-weaker c.refuse.result _ _
     (λ answered is. inr (dictionary_refused (RefusesFirst c.args.inputs.now) c.args.inputs.now.first c.in-Err.refused c.in-Err.ensures.told c.in-Err.ensures.kept (string_bytes answered.text)
-    answered.exit is)) c.refuse.ensures
+    answered.exit is)) c.refuse.ensures.told
 
 pub returns : goal.returns
 returns c =

@@ -10,14 +10,14 @@ pub returns-in-Err : goal.returns-in-Err
 returns-in-Err c =
     IfOk-weaker c.refuse.result _ _
     (λ answered is. inr (inl (dictionary_refused (RefusesFirst c.args.inputs.now) c.args.inputs.now.first c.in-Err.refused c.in-Err.ensures.told c.in-Err.ensures.kept
-    (string_bytes answered.text) answered.exit is))) c.refuse.ensures
+    (string_bytes answered.text) answered.exit is))) c.refuse.ensures.told
 
 pub returns-in-Err-read_dictionary : goal.returns-in-Err-read_dictionary
 returns-in-Err-read_dictionary c =
     let tells = second_refused c.args.inputs.now _ c.in-Err-read_dictionary.refused c.in-Ok.ensures.book c.in-Err-read_dictionary.ensures.told in
     IfOk-weaker c.refuse-in-Err-read_dictionary.result _ _
     (λ answered is. inr (inr (dictionary_refused (RefusesSecond c.args.inputs.now) c.args.inputs.now.second c.in-Err-read_dictionary.refused tells
-    c.in-Err-read_dictionary.ensures.kept (string_bytes answered.text) answered.exit is))) c.refuse-in-Err-read_dictionary.ensures
+    c.in-Err-read_dictionary.ensures.kept (string_bytes answered.text) answered.exit is))) c.refuse-in-Err-read_dictionary.ensures.told
 
 pub returns-in-Ok-propose : goal.returns-in-Ok-propose
 returns-in-Ok-propose c =

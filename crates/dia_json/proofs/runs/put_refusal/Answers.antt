@@ -5,11 +5,11 @@ use Rattle.dia_json.proofs.runs.put_refusal.Goals as goal
 
 pub returns-in_err-put_all-clause-front : goal.returns-in_err-put_all-clause-front
 returns-in_err-put_all-clause-front g c = λ _.
-    let tells = c.in_ok-text.ensures in
+    let tells = c.in_ok-text.ensures.told in
     (_, subst (TellsBad c.args.input.now c.args.refused _) (ends_badly c.args.input.now c.args.refused _ _ tells) tells, (rw c.as_bytes.ensures.value at c.put_all.ensures.front))
 
 pub returns-clause-exit : goal.returns-clause-exit
-returns-clause-exit g c = ends_badly c.args.input.now c.args.refused _ _ c.in_ok-text.ensures
+returns-clause-exit g c = ends_badly c.args.input.now c.args.refused _ _ c.in_ok-text.ensures.told
 
 pub returns-clause-told : goal.returns-clause-told
-returns-clause-told g c = (_, c.in_ok-text.ensures, (rw c.as_bytes.ensures.value at c.in_ok-put_all.ensures.ok))
+returns-clause-told g c = (_, c.in_ok-text.ensures.told, (rw c.as_bytes.ensures.value at c.in_ok-put_all.ensures.ok))

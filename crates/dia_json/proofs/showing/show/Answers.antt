@@ -15,7 +15,7 @@ returns-in-Err c =
     let inputs = c.args.inputs.now in
     IfOk-weaker c.refuse.result _ _
     (λ answered is. inr (inl (dictionary_refused (RefusesAs (IsShowOutcome inputs)) inputs.first c.in-Err.refused
-    (Ends-no_dictionary IsMessageShown inputs c.in-Err.refused c.in-Err.ensures.told) c.in-Err.ensures.kept (string_bytes answered.text) answered.exit is))) c.refuse.ensures
+    (Ends-no_dictionary IsMessageShown inputs c.in-Err.refused c.in-Err.ensures.told) c.in-Err.ensures.kept (string_bytes answered.text) answered.exit is))) c.refuse.ensures.told
 
 pub returns-in-Err-read_message : goal.returns-in-Err-read_message
 returns-in-Err-read_message c =
@@ -23,7 +23,7 @@ returns-in-Err-read_message c =
     IfOk-weaker c.refuse-in-Err-read_message.result _ _
     (λ answered is. inr (inr (input_refused (RefusesAs (IsShowOutcome inputs)) inputs.message c.in-Err-read_message.refused
     (Ends-no_message IsMessageShown inputs _ c.in-Err-read_message.refused c.in-Ok.ensures.book c.in-Err-read_message.ensures.told) (string_bytes answered.text) answered.exit is)))
-    c.refuse-in-Err-read_message.ensures
+    c.refuse-in-Err-read_message.ensures.told
 
 pub returns-in-Err-split_message : goal.returns-in-Err-split_message
 returns-in-Err-split_message c =
@@ -36,7 +36,7 @@ returns-in-Err-split_message c =
     (Ends-unsplit _ bytes _ why.fault c.from.result refl c.from.ensures why.ensures.short.0 why.ensures.version.0 why.ensures.length_fault.0 why.ensures.truncated.0 why.ensures.trailing.0) in
     IfOk-weaker c.refuse-in-Err-split_message.result _ _
     (λ answered is. inr (inr (input_refused (RefusesAs (IsShowOutcome inputs)) inputs.message c.from.result tells (string_bytes answered.text) answered.exit is)))
-    c.refuse-in-Err-split_message.ensures
+    c.refuse-in-Err-split_message.ensures.told
 
 pub returns : goal.returns
 returns c =
