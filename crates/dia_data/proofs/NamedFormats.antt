@@ -6,21 +6,7 @@ use Rattle.dia_data.specs.Plain.{Grouped, format_of, name_of}
 
 pub name_of-format : (f : FormatName) (ranges : Option (List (ℕ × ℕ))) → name_of (format_of f ranges) ≡ f
 name_of-format name.OctetString ranges = refl
-name_of-format name.Integer32 ranges = refl
-name_of-format name.Integer64 ranges = refl
-name_of-format name.Unsigned32 ranges = refl
-name_of-format name.Unsigned64 ranges = refl
-name_of-format name.Float32 ranges = refl
-name_of-format name.Float64 ranges = refl
-name_of-format name.Grouped ranges = refl
-name_of-format name.Address ranges = refl
-name_of-format name.Time ranges = refl
-name_of-format name.Utf8String ranges = refl
-name_of-format name.DiameterIdentity ranges = refl
-name_of-format name.DiameterUri ranges = refl
-name_of-format name.Enumerated ranges = refl
-name_of-format name.IpFilterRule ranges = refl
-name_of-format name.QosFilterRule ranges = refl
+name_of-format f ranges = refl
 
 pub name_of-grouped : (f : FormatName) (ranges : Option (List (ℕ × ℕ))) → format_of f ranges ≡ Grouped → f ≡ name.Grouped
 name_of-grouped f ranges e = sym (name_of-format f ranges) ∙ ap name_of e

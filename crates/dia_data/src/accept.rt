@@ -1,9 +1,9 @@
 //! Which data a format accepts.
 ghost use Rattle.std.specs.Prelude.{◌≡◌, ◌↔◌, All, IsTrue, if◌then◌else◌};
 ghost use Rattle.dia_data.specs.Leaf.{IsLeafAnswer, IsAddress, IsGraphic, IsUri, NamesScheme};
-ghost use Rattle.dia_data.specs.Plain.{plain_format};
+ghost use Rattle.dia_data.specs.Plain.{kind_of, plain_format};
 
-use crate::format::Format;
+use crate::format::{Format, FormatKind};
 use byteorder::{BigEndian, ByteOrder};
 use std::str;
 
@@ -25,25 +25,26 @@ pub enum Leaf {
 pub fn accepts(format: &Format, bytes: &[u8]) -> Leaf
     ensures { IsLeafAnswer result (plain_format format.now) bytes.now }
 {
-    match format {
-        Format::OctetString | Format::IpFilterRule | Format::QosFilterRule | Format::Grouped => {
-            Leaf::Fine
-        }
-        Format::Integer32 | Format::Unsigned32 | Format::Float32 | Format::Time => {
-            by_length(bytes.len() == 4)
-        }
-        Format::Integer64 | Format::Unsigned64 | Format::Float64 => by_length(bytes.len() == 8),
-        Format::Address => by_length(is_address(bytes)),
-        Format::Utf8String => by_value(str::from_utf8(bytes).is_ok()),
-        Format::DiameterIdentity => by_value(!bytes.is_empty() && is_graphic(bytes)),
-        Format::DiameterUri => by_value(is_uri(bytes)),
-        Format::Enumerated(values) => {
-            if bytes.len() == 4 {
-                by_value(values.contains(BigEndian::read_u32(bytes)))
-            } else {
-                Leaf::BadLength
-            }
-        }
+    match format.kind() {
+        FormatKind::AnyBytes | FormatKind::Grouped => Leaf::Fine,
+        FormatKind::FourBytes(_) => by_length(bytes.len() == 4),
+        FormatKind::EightBytes(_) => by_length(bytes.len() == 8),
+        FormatKind::Address => by_length(is_address(bytes)),
+        FormatKind::Utf8String => by_value(str::from_utf8(bytes).is_ok()),
+        FormatKind::DiameterIdentity => by_value(!bytes.is_empty() && is_graphic(bytes)),
+        FormatKind::DiameterUri => by_value(is_uri(bytes)),
+        FormatKind::Enumerated => listed(format, bytes),
+    }
+}
+
+/// Whether an Enumerated format accepts the data.
+fn listed(format: &Format, bytes: &[u8]) -> Leaf
+    requires { kind_of (plain_format format.now) ≡ FormatKind.Enumerated }
+    ensures { IsLeafAnswer result (plain_format format.now) bytes.now }
+{
+    match format.values() {
+        Some(values) if bytes.len() == 4 => by_value(values.contains(BigEndian::read_u32(bytes))),
+        _ => Leaf::BadLength,
     }
 }
 

@@ -100,8 +100,8 @@ impl Clone for Format {
 }
 
 impl Format {
-    ghost use Rattle.std.specs.Prelude.{◌≡◌};
-    ghost use Rattle.dia_data.specs.Plain.{format_of, kind_of, name_of, plain_format, ranges_of, word_of};
+    ghost use Rattle.std.specs.Prelude.{◌≡◌, ◌≢◌, MatchOption};
+    ghost use Rattle.dia_data.specs.Plain.{Enumerated, format_of, kind_of, name_of, plain_format, ranges_of, word_of};
 
     /// Its name.
     pub fn name(&self) -> FormatName
@@ -153,6 +153,17 @@ impl Format {
             Format::DiameterIdentity => FormatKind::DiameterIdentity,
             Format::DiameterUri => FormatKind::DiameterUri,
             Format::Enumerated(_) => FormatKind::Enumerated,
+        }
+    }
+
+    /// Its numbers, if it is Enumerated.
+    pub fn values(&self) -> Option<&Values>
+        ensures { MatchOption result (kind_of (plain_format self.now) ≢ FormatKind.Enumerated)
+            (λ values. plain_format self.now ≡ Enumerated (ranges_of values.now)) }
+    {
+        match self {
+            Format::Enumerated(values) => Some(values),
+            _ => None,
         }
     }
 

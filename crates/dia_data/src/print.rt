@@ -1,15 +1,16 @@
 //! Values as text.
 ghost use Rattle.std.specs.Prelude.{◌≡◌, ◌<◌, ◌++◌, IfOk, OnOk, length, map, string_bytes};
 ghost use Rattle.std.specs.Fmt.{decimal};
+ghost use Rattle.std.specs.Int.{w32, w64};
 ghost use Rattle.std.specs.List.{join_with_byte};
 ghost use Rattle.dia_data.specs.Leaf.{IsAddress, IsLeafAnswer};
 ghost use Rattle.dia_data.specs.Shown.{IsValueText, AddsValueText, address};
-ghost use Rattle.dia_data.specs.Shown.{groups, hex_byte, hex_digit};
-ghost use Rattle.dia_data.specs.Shown.{hexadecimal, quoted, quoted_byte, value_text};
+ghost use Rattle.dia_data.specs.Shown.{groups, hex_byte, hex_digit, hexadecimal, number_text};
+ghost use Rattle.dia_data.specs.Shown.{quoted, quoted_byte, value_text};
 ghost use Rattle.dia_data.specs.Plain.{plain_format};
 
 use crate::accept::{Leaf, accepts};
-use crate::format::Format;
+use crate::format::{Format, FormatKind, Reading};
 use byteorder::{BigEndian, ByteOrder};
 use itoa::{Buffer, Integer};
 use std::alloc::{AllocError, Global};
@@ -49,21 +50,38 @@ fn push_accepted(out: &mut String, format: &Format, bytes: &[u8]) -> Result<(), 
     ensures { OnOk result (string_bytes out.new
         ≡ string_bytes out.old ++ value_text (plain_format format.now) bytes.now) }
 {
-    match format {
-        Format::Integer32 | Format::Enumerated(_) => push_number(out, BigEndian::read_i32(bytes)),
-        Format::Integer64 => push_number(out, BigEndian::read_i64(bytes)),
-        Format::Unsigned32 | Format::Time => push_number(out, BigEndian::read_u32(bytes)),
-        Format::Unsigned64 => push_number(out, BigEndian::read_u64(bytes)),
-        Format::Address => push_address(out, bytes),
-        Format::Utf8String | Format::DiameterIdentity | Format::DiameterUri => push_quoted(
-            out, bytes,
-        ),
-        Format::OctetString
-        | Format::Float32
-        | Format::Float64
-        | Format::IpFilterRule
-        | Format::QosFilterRule
-        | Format::Grouped => push_hexadecimal(out, bytes),
+    match format.kind() {
+        FormatKind::FourBytes(reading) => push_four(out, reading, bytes),
+        FormatKind::EightBytes(reading) => push_eight(out, reading, bytes),
+        FormatKind::Enumerated => push_four(out, Reading::Signed, bytes),
+        FormatKind::Address => push_address(out, bytes),
+        FormatKind::Utf8String | FormatKind::DiameterIdentity | FormatKind::DiameterUri =>
+            push_quoted(out, bytes),
+        FormatKind::AnyBytes | FormatKind::Grouped => push_hexadecimal(out, bytes),
+    }
+}
+
+fn push_four(out: &mut String, reading: Reading, bytes: &[u8]) -> Result<(), AllocError>
+    requires { length bytes.now ≡ 4 }
+    ensures { OnOk result (string_bytes out.new
+        ≡ string_bytes out.old ++ number_text w32 reading bytes.now) }
+{
+    match reading {
+        Reading::Signed => push_number(out, BigEndian::read_i32(bytes)),
+        Reading::Unsigned => push_number(out, BigEndian::read_u32(bytes)),
+        Reading::Bits => push_hexadecimal(out, bytes),
+    }
+}
+
+fn push_eight(out: &mut String, reading: Reading, bytes: &[u8]) -> Result<(), AllocError>
+    requires { length bytes.now ≡ 8 }
+    ensures { OnOk result (string_bytes out.new
+        ≡ string_bytes out.old ++ number_text w64 reading bytes.now) }
+{
+    match reading {
+        Reading::Signed => push_number(out, BigEndian::read_i64(bytes)),
+        Reading::Unsigned => push_number(out, BigEndian::read_u64(bytes)),
+        Reading::Bits => push_hexadecimal(out, bytes),
     }
 }
 
