@@ -1,10 +1,10 @@
 //! Formats by the data that they accept.
 ghost use Rattle.std.specs.Prelude.{◌≡◌};
-ghost use Rattle.dia_data.specs.Plain.{plain_format};
+ghost use Rattle.dia_data.specs.Plain.{Enumerated, plain_format, ranges_of};
 ghost use Rattle.dia_breaking_data.specs.Kinds.{IsApart, IsKindOf, shown};
 ghost use Rattle.dia_breaking_data.specs.TheData.{kind_data, the_data};
 
-use dia_data::Format;
+use dia_data::{Format, FormatKind, Values};
 
 /// What data a format accepts.
 #[derive(Clone, Copy)]
@@ -35,18 +35,30 @@ pub(crate) fn kind_of(format: &Format) -> Kind<'_>
     ensures apart { IsApart (shown result) }
     ensures least { kind_data (shown result) ≡ the_data (plain_format format.now) }
 {
-    match format {
-        Format::OctetString | Format::IpFilterRule | Format::QosFilterRule => Kind::Octets,
-        Format::Integer32 | Format::Unsigned32 | Format::Float32 | Format::Time => Kind::Four,
-        Format::Integer64 | Format::Unsigned64 | Format::Float64 => Kind::Eight,
-        Format::Grouped => Kind::Level,
-        Format::Address => Kind::Host,
-        Format::Utf8String => Kind::Text,
-        Format::DiameterIdentity => Kind::Identity,
-        Format::DiameterUri => Kind::Link,
-        Format::Enumerated(values) => match values.numbers() {
-            Some(numbers) => Kind::Listed(numbers),
+    match format.kind() {
+        FormatKind::AnyBytes => Kind::Octets,
+        FormatKind::FourBytes(_) => Kind::Four,
+        FormatKind::EightBytes(_) => Kind::Eight,
+        FormatKind::Grouped => Kind::Level,
+        FormatKind::Address => Kind::Host,
+        FormatKind::Utf8String => Kind::Text,
+        FormatKind::DiameterIdentity => Kind::Identity,
+        FormatKind::DiameterUri => Kind::Link,
+        FormatKind::Enumerated => match format.values() {
+            Some(values) => kind_of_values(values),
             None => Kind::Four,
         },
+    }
+}
+
+/// What data an Enumerated format of these numbers accepts.
+fn kind_of_values(values: &Values) -> Kind<'_>
+    ensures same { IsKindOf (shown result) (Enumerated (ranges_of values.now)) }
+    ensures apart { IsApart (shown result) }
+    ensures least { kind_data (shown result) ≡ the_data (Enumerated (ranges_of values.now)) }
+{
+    match values.numbers() {
+        Some(numbers) => Kind::Listed(numbers),
+        None => Kind::Four,
     }
 }
