@@ -4,9 +4,9 @@ import argparse
 import re
 import sys
 
-FORMATS = {name: name for name in (
-    'OctetString Integer32 Integer64 Unsigned32 Unsigned64 Float32 Float64 Grouped Address Time UTF8String '
-    'DiameterIdentity DiameterURI Enumerated IPFilterRule QoSFilterRule').split()}
+from format_rows import ROWS
+
+FORMATS = {name: name for name, _, _ in ROWS}
 # as the RFCs' tables and Erlang write them
 FORMATS.update(DiamIdent='DiameterIdentity', DiamURI='DiameterURI')
 NAME = re.compile(r'(?=.*[A-Za-z])[A-Za-z0-9][A-Za-z0-9-]*')
