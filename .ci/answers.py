@@ -1,7 +1,8 @@
 """What is explained on standard error of answers that aren't yes: rows of `show`, `check`, `refute` and `compare`.
 
 Each row is the words, the files, the status, and the text of standard error. Places, lengths and counts are worked out by
-hand from RFC 6733 sections 3 and 4.1 and from the texts below."""
+hand from RFC 6733 sections 3 and 4.1 and from the texts below. What each reason of `check` says of an example, `.ci/examples`
+compares with docs/FAULTS.md; here are the groups, places and options on which it depends."""
 
 D = """; credit control
 %avp Session-Id 263 UTF8String must

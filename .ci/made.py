@@ -1,7 +1,9 @@
 """Cases of .ci/cases whose inputs are made here: long and deep messages, messages in pieces, and pairs of faults."""
 
 import itertools
+import re
 
+from documents import faults_of_messages
 from room import REQUEST
 
 IDS = "000000000000000100000002"
@@ -44,39 +46,35 @@ def deep(room):
     room.check("refute --lines nodes.txt @base - --levels 2", 0, "refutes\ndoes not refute", stdin=lines, err="1 of 2 lines refute")
 
 
-LEVELS = """%avp S 9001 Unsigned32 any %avp Must 9002 Unsigned32 must %avp Never 9003 OctetString any
-%avp Number 9004 Unsigned32 any %avp Name 9005 DiameterIdentity any <Full> ::= < AVP Header: 9006 > { Number }
-<Nest> ::= < AVP Header: 9007 > < S > *0 [ Never ] * [ AVP ]
-<T> ::= < Diameter Header: 302, REQ > < S > *0 [ Never ] * [ AVP ]"""
-"""Each level begins with one S and has no Never."""
-
-FRONT = "000023290000000c000000010000232c0000000c00000007"
-"""An S and a Number in front of the faults of a level."""
-
-FAULTS = [
-    ("0000232c00000007", 0, 5014, "avp-length -"),
-    ("0000270f40000008", 0, 5001, "unknown 9999:0"),
-    ("0000232a0000000c00000001", 0, 3009, "m-bit Must"),
-    ("000023290000000c00000001", 0, 5008, "not-allowed S"),
-    ("0000232b00000008", 0, 5009, "too-many Never"),
-    ("0000232c0000000a00010000", 0, 5014, "leaf-length Number"),
-    ("0000232d00000008", 0, 5004, "leaf-value Name"),
-    ("0000232e00000008", 8, 5005, "missing Number"),
-]
-"""AVPs with one fault each behind `FRONT`: the AVP, the fault's place from the AVP's, its code, its reason and its subject."""
+def faults_of_levels():
+    """Of docs/FAULTS.md: the dictionary, with a group Nest that has the rules of the command, and that may stand in it and in itself;
+    the header of its messages behind their length, and the AVP that stands first in a level; and the faults of AVPs that are there
+    whatever follows, each as the AVPs of its level, its place from the first of them, its code, and its words."""
+    dictionary, valid, faults = faults_of_messages()
+    others, header, rules = re.fullmatch(r"(.*\n)(<\w+> ::= <[^>]*>)(.*)\n", dictionary, re.S).groups()
+    dictionary = f"{others}<Nest> ::= < AVP Header: 9006 >{rules} [ Nest ]\n{header}{rules} [ Nest ]\n"
+    valid = re.sub(r"\s", "", valid)
+    found = []
+    for fault in faults:
+        avps = fault.message.replace(" ", "")[40:]
+        _, code, _, _, words = fault.line.split(" ", 4)
+        if fault.place >= 20 and avps and not fault.options:
+            found.append((avps, fault.place - 20, code, words))
+    return dictionary, valid[8:40], valid[40:64], found
 
 
 def two_faults(room):
     """Of two faults behind one another, in the body and in groups, the first is told."""
-    room.write("levels.txt", LEVELS)
-    for groups, first, second in itertools.product(range(3), FAULTS, FAULTS):
-        avp, place, code, words = first
-        avps = FRONT + avp + second[0]
+    dictionary, head, session, faults = faults_of_levels()
+    room.write("levels.txt", dictionary)
+    for groups, first, second in itertools.product(range(3), faults, faults):
+        avps, place, code, words = first
+        avps += second[0]
         for _ in range(groups):
-            avps = f"{FRONT}0000232f00{8 + len(avps) // 2:06x}{avps}"
-        # 24 bytes of FRONT in each level, and the first 8 bytes of each group
-        place += 20 + 32 * groups + 24
-        room.write("two.hex", message(302, avps))
+            avps = f"{session}0000232e00{8 + len(avps) // 2:06x}{avps}"
+        # in front of the AVPs of each group stand 12 bytes of the first AVP and 8 of the group
+        place += 20 + 20 * groups
+        room.write("two.hex", f"01{20 + len(avps) // 2:06x}{head}{avps}")
         room.check("check levels.txt two.hex", 1, f"fault {code} at {place} {words}", shown=f"check, {words} in {groups} groups, before {second[3]}")
 
 

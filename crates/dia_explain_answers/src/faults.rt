@@ -6,6 +6,7 @@ mod header;
 mod in_body;
 mod lengths;
 mod level;
+mod reasons;
 mod results;
 mod rules;
 mod showing;
@@ -15,11 +16,12 @@ use crate::books::{Level, definition};
 use crate::checking::Asked;
 use crate::sides::Side;
 use crate::texts::Added;
-use dia_check::{Fault, Reason, Refusal};
+use dia_check::{Fault, Refusal};
 use dia_explain_places::{NamedText, place_of_byte, push_start};
 use dia_wire::{Header, read_header};
 use header::push_header_fault;
 use in_body::InBody;
+use reasons::{Topic, topic_of};
 use results::push_result;
 pub use showing::{push_show, push_unnamed};
 
@@ -73,13 +75,14 @@ fn push_fault(
     header: &Header,
     fault: &Fault,
 ) -> Added {
-    match fault.reason {
-        Reason::Bits | Reason::Proxiable => push_in_header(out, side, message, header, fault),
-        Reason::Command | Reason::Application => {
+    match topic_of(fault.reason) {
+        Topic::Bytes => Ok(()),
+        Topic::Flags => push_in_header(out, side, message, header, fault),
+        Topic::Command => {
             push_in_header(out, side, message, header, fault)?;
             push_result(out, side, header, message.bytes)
         }
-        _ => {
+        Topic::Lengths | Topic::Rules | Topic::Avp => {
             push_in_body(out, side, message, asked, header, fault)?;
             push_result(out, side, header, message.bytes)
         }

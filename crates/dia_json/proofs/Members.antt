@@ -51,20 +51,7 @@ named_told old new written name key is_quoted is_new =
 reason_is_plain : (r : Reason) → quoted (reason_word r) ≡ codes "\"" ++ reason_word r ++ codes "\""
 unfolding serde_json_on_literals
 reason_is_plain reason.Version = refl
-reason_is_plain reason.Length = refl
-reason_is_plain reason.Bits = refl
-reason_is_plain reason.Command = refl
-reason_is_plain reason.Application = refl
-reason_is_plain reason.Proxiable = refl
-reason_is_plain reason.AvpLength = refl
-reason_is_plain reason.Unknown = refl
-reason_is_plain reason.MBit = refl
-reason_is_plain reason.Missing = refl
-reason_is_plain reason.NotAllowed = refl
-reason_is_plain reason.TooMany = refl
-reason_is_plain reason.LeafLength = refl
-reason_is_plain reason.LeafValue = refl
-reason_is_plain reason.Depth = refl
+reason_is_plain other = refl
 
 -- up to the reason's word
 abbrev fault_front : ℕ → ℕ → List ℕ → List ℕ

@@ -127,22 +127,11 @@ nothing_follows = ((λ no. absurd (false≢true no)), λ less. absurd (omega (ar
 wrong_late : (d : Dictionary) (u : Unknown) (most : Levels) (level : Level) (earlier : List PlainAvp) (v : PlainAvp) (r : Reason) (s : Subject)
     → IsWrong d u most level earlier v r s → 2 ≤ row_of r
 wrong_late d u most level earlier v r s (faults.unknown none refused) = omega arith
-wrong_late d u most level earlier v r s (faults.m_bit e is bad) = omega arith
-wrong_late d u most level earlier v r s (faults.missing i rule first end) = omega arith
-wrong_late d u most level earlier v r s (faults.not_allowed loose bad) = omega arith
-wrong_late d u most level earlier v r s (faults.too_many i rule passes) = omega arith
-wrong_late d u most level earlier v r s (faults.leaf_length e is bad) = omega arith
-wrong_late d u most level earlier v r s (faults.leaf_value e is fits bad leaf) = omega arith
-wrong_late d u most level earlier v r s (faults.depth e is group deep) = omega arith
+wrong_late d u most level earlier v r s other = omega arith
 
 stands_late : (d : Dictionary) (u : Unknown) (most : Levels) (bytes : List ℕ) (spot : Spot) (r : Reason) (s : Subject) → Stands d u most bytes spot r s → 2 ≤ row_of r
-stands_late d u most bytes spot r s (faults.bits h is bad) = omega arith
-stands_late d u most bytes spot r s (faults.command h is none) = omega arith
-stands_late d u most bytes spot r s (faults.application h is some none) = omega arith
-stands_late d u most bytes spot r s (faults.proxiable h c command is select is_command bad) = omega arith
-stands_late d u most bytes spot r s (faults.avp_length level earlier at looks from lt before none) = omega arith
 stands_late d u most bytes spot r s (faults.avp level earlier v at q w meets bad) = wrong_late d u most level earlier v q w bad
-stands_late d u most bytes spot r s (faults.missing_at_end level avps i rule looks spells first) = omega arith
+stands_late d u most bytes spot r s other = omega arith
 
 endless_early : (r : Reason) → (r ≡ reason.Version) ⊎ (r ≡ reason.Length) → row_of r < 2
 endless_early r (inl e) = omega (arith, ap row_of e)

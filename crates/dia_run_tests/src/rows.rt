@@ -27,7 +27,7 @@ use std::process::Abort;
 
 mod comparisons;
 mod cut;
-mod first_faults;
+mod faults;
 mod names;
 mod pieces;
 mod proposals;
@@ -38,7 +38,7 @@ mod verdicts;
 const TEXTS: [&str; 8] = [
     verdicts::ROWS,
     cut::ROWS,
-    first_faults::ROWS,
+    faults::ROWS,
     tallies::ROWS,
     pieces::ROWS,
     comparisons::ROWS,

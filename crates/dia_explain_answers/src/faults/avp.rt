@@ -4,49 +4,16 @@ use crate::books::{Known, Wanted, find_avp};
 use crate::faults::avp_bytes::{is_mandatory, part, push_hex};
 use crate::faults::in_body::InBody;
 use crate::faults::lengths::push_length_word;
+use crate::faults::reasons::{Topic, topic_of};
 use crate::faults::rules::push_rule_word;
 use crate::rule_text::{push_key, push_vendor};
 use crate::texts::{Added, push_number};
 use dia_book::Format;
-use dia_check::{Reason, Unknown};
 use dia_data::{FormatKind, push_value};
 use dia_wire::next_avp;
 
-/// What is wrong, and on the line behind it what to do.
-pub fn text_of_avp(scene: &InBody<'_>) -> &'static str {
-    match scene.fault.reason {
-        Reason::Unknown => text_of_unknown(scene),
-        Reason::MBit => "the M flag of {subject} is {flag}, and its rule is {m}\n\
-             write any as the rule in the declaration, or mend the sender",
-        Reason::LeafLength => "{subject} has {bytes} bytes of data, and {format} has {lengths}\n\
-             mend the sender, or declare a format with such data{fits}",
-        Reason::LeafValue => match scene.avp() {
-            Some(avp) => text_of_value(avp.format, data_of(scene)),
-            None => "",
-        },
-        _ => "{subject} is a group in {depth} groups, and --levels {levels} opens no more\n\
-             allow more levels, or leave --levels out",
-    }
-}
-
-fn text_of_unknown(scene: &InBody<'_>) -> &'static str {
-    match (scene.asked.unknown, same_code(scene)) {
-        (Unknown::Refused, Some(_)) =>
-            "the dictionary has no AVP of code {key}, and unknown AVPs are refused\n\
-             that AVP has this code, and {vendor}: compare the V flag and the Vendor-ID",
-        (Unknown::Refused, None) =>
-            "the dictionary has no AVP of code {key}, and unknown AVPs are refused\n\
-             declare it, as %avp NAME {declared} OctetString any",
-        (Unknown::Kept, Some(_)) =>
-            "the dictionary has no AVP of code {key}, and the M flag says that the receiver has to know it\n\
-             that AVP has this code, and {vendor}: compare the V flag and the Vendor-ID",
-        (Unknown::Kept, None) =>
-            "the dictionary has no AVP of code {key}, and the M flag says that the receiver has to know it\n\
-             declare it, as %avp NAME {declared} OctetString any; or have the sender clear the M flag",
-    }
-}
-
-fn text_of_value(format: &Format, data: &[u8]) -> &'static str {
+/// What is wrong with data that its format doesn't accept, and on the line behind it what to do.
+pub fn text_of_value(format: &Format, data: &[u8]) -> &'static str {
     match format {
         Format::Enumerated(_) => "{subject} has the value {value}, which isn't in its list\n\
              add the number to the list of the declaration, or mend the sender",
@@ -68,22 +35,13 @@ fn text_of_value(format: &Format, data: &[u8]) -> &'static str {
     }
 }
 
-/// The AVP whose declaration is shown: that of the fault, or of an unknown one an AVP with its code.
-pub fn shown_avp<'a>(scene: &InBody<'a>) -> Option<Known<'a>> {
-    match scene.fault.reason {
-        Reason::Unknown => same_code(scene),
-        Reason::Depth => None,
-        _ => scene.avp(),
-    }
-}
-
 /// An AVP with the code of the one of the fault, of another vendor.
-fn same_code<'a>(scene: &InBody<'a>) -> Option<Known<'a>> {
+pub fn same_code<'a>(scene: &InBody<'a>) -> Option<Known<'a>> {
     find_avp(scene.side.book, Wanted::Code(scene.key()?.code))
 }
 
 /// The data of the AVP at the fault.
-fn data_of<'a>(scene: &InBody<'a>) -> &'a [u8] {
+pub fn data_of<'a>(scene: &InBody<'a>) -> &'a [u8] {
     match next_avp(scene.own()) {
         Ok(Some((avp, _))) => avp.bytes,
         _ => b"".as_slice(),
@@ -108,7 +66,7 @@ pub fn push_avp_word(out: &mut String, scene: &InBody<'_>, word: &str) -> Added 
 
 /// Adds what a word of a fault that is about no AVP stands for.
 fn push_level_word(out: &mut String, scene: &InBody<'_>, word: &str) -> Added {
-    if scene.fault.reason == Reason::AvpLength {
+    if matches!(topic_of(scene.fault.reason), Topic::Lengths) {
         push_length_word(out, scene, word)
     } else {
         push_rule_word(out, scene, word)

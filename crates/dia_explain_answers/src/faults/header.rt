@@ -3,6 +3,7 @@
 use crate::applications::{Application, application_of};
 use crate::books::{Level, Wanted, class_of, command_at, definition, find_command, name_of};
 use crate::faults::avp_bytes::push_command_flags;
+use crate::faults::reasons::text_of_header;
 use crate::sides::Side;
 use crate::texts::{Added, Scene, fault_and_hint, push_hint, push_number, push_text};
 use dia_book::{Book, Class, DefHead, Definition};
@@ -44,7 +45,8 @@ pub fn push_header_fault(
 
 impl InHeader<'_> {
     fn push(&self, out: &mut String, reason: Reason) -> Added {
-        let (fault, hint) = fault_and_hint(self.text_of(reason));
+        let text = text_of_header(reason, &self.header, self.command);
+        let (fault, hint) = fault_and_hint(text);
         self.push_fault(out, fault)?;
         self.push_commands(out, reason)?;
         push_hint(out, self, hint)?;
@@ -59,33 +61,6 @@ impl InHeader<'_> {
 
     fn class(&self) -> Class {
         class_of(&self.header)
-    }
-
-    /// What is wrong, and on the line behind it what to do.
-    fn text_of(&self, reason: Reason) -> &'static str {
-        match (reason, self.class(), self.command) {
-            (Reason::Bits, Class::Request, _) => "a request has the E flag\n\
-                 mend the sender: only an answer may have E, and only a request R",
-            (Reason::Bits, _, _) => "a message that is no request has the T flag\n\
-                 mend the sender: only a request is sent again with T",
-            (Reason::Command, Class::Error, _) =>
-                "the dictionary has no definition for answers with the E flag\n\
-                 add one with the header < Diameter Header: code, ERR >; it serves the errors of all commands",
-            (Reason::Command, _, Some(_)) =>
-                "the dictionary has no {class} with Command Code {code}\n\
-                 a definition with REQ serves requests alone, and one without answers alone: add the other one",
-            (Reason::Command, _, None) => "the dictionary has no {class} with Command Code {code}\n\
-                 add the definition, < Diameter Header: {code}{req}{pxy} >",
-            (Reason::Application, _, _) =>
-                "the dictionary has no {class} with Command Code {code} for application {app}\n\
-                 add a definition for application {app}, or leave the Application-ID out of the header of one: \
-                 it then serves all",
-            _ if self.header.is_proxiable() =>
-                "the P flag is set, and the header of {name} has no PXY\n\
-                 add PXY to the header, or mend the sender",
-            _ => "the P flag is clear, and the header of {name} has PXY\n\
-                 take PXY out of the header, or mend the sender",
-        }
     }
 
     /// Adds where the dictionary says otherwise.

@@ -3,16 +3,15 @@
 use crate::books::{Known, Level, avp_of, name_of};
 use crate::checking::Asked;
 use crate::faults::Message;
-use crate::faults::avp::{push_avp_word, shown_avp, text_of_avp};
+use crate::faults::avp::push_avp_word;
 use crate::faults::avp_bytes::{part, push_avp};
-use crate::faults::lengths::text_of_length;
 use crate::faults::level::Counting;
-use crate::faults::rules::text_of_rule;
+use crate::faults::reasons::{Topic, shown_avp, text_in_body, topic_of};
 use crate::faults::walk::{Group, walk_to};
 use crate::sides::Side;
 use crate::texts::{Added, Scene, fault_and_hint, push_hint, push_number, push_text};
 use dia_book::Key;
-use dia_check::{Fault, Levels, Reason, Subject};
+use dia_check::{Fault, Levels, Subject};
 
 /// How many groups are told at each end of a long way.
 const TOLD: usize = 4;
@@ -63,19 +62,11 @@ impl<'a> InBody<'a> {
 
     /// Adds what is wrong, where in the message and in the dictionary, and what to do.
     pub fn push(&self, out: &mut String) -> Added {
-        let (fault, hint) = fault_and_hint(self.text());
+        let (fault, hint) = fault_and_hint(text_in_body(self));
         self.message.push_spot(out, self.place())?;
         push_text(out, self, fault)?;
         self.push_places(out)?;
         push_hint(out, self, hint)
-    }
-
-    fn text(&self) -> &'static str {
-        match self.fault.reason {
-            Reason::AvpLength => text_of_length(self),
-            _ if self.is_of_rule() => text_of_rule(self),
-            _ => text_of_avp(self),
-        }
     }
 
     /// Adds where in the message and in the dictionary.
@@ -87,10 +78,7 @@ impl<'a> InBody<'a> {
 
     /// Whether a rule of the level is broken.
     fn is_of_rule(&self) -> bool {
-        matches!(
-            self.fault.reason,
-            Reason::Missing | Reason::NotAllowed | Reason::TooMany
-        )
+        matches!(topic_of(self.fault.reason), Topic::Rules)
     }
 
     /// Adds the groups with their places: of many the first and the last.

@@ -5,25 +5,6 @@ use crate::faults::in_body::InBody;
 use crate::texts::{Added, push_number};
 use dia_book::Key;
 use dia_explain_places::{Unpadded, find_unpadded};
-use dia_wire::AVP_HEAD_LENGTH;
-
-/// What is wrong, and on the line behind it what to do.
-pub fn text_of_length(scene: &InBody<'_>) -> &'static str {
-    let own = scene.own();
-    let length = length_of(own);
-    if own.len() < AVP_HEAD_LENGTH {
-        "no AVP begins here: {left} bytes are left of {level}, and an AVP has at least 8\n{length-hint}"
-    } else if length < head_of(own) {
-        "no AVP begins here: the AVP Length is {length}, and the head alone has {head} bytes\n{length-hint}"
-    } else if length > own.len() {
-        "no AVP begins here: the AVP Length is {length}, and with {left} bytes left of {level} it may be at most {most}\n\
-         {length-hint}"
-    } else {
-        "no AVP begins here: the AVP Length is {length}, and with {left} bytes left of {level} it may be at most {most}, \
-         since the padding to a multiple of four has to be there\n\
-         the last AVP of a group is padded as well, and the group's AVP Length counts that padding: mend the sender"
-    }
-}
 
 /// Adds what a word about the lengths of AVPs stands for.
 pub fn push_length_word(out: &mut String, scene: &InBody<'_>, word: &str) -> Added {

@@ -1,0 +1,186 @@
+//! What is told of each reason: what its texts are about, and the texts. A text has what is wrong, and on the line behind it
+//! what to do. What the words in braces stand for, the other files here say.
+
+use crate::books::{Known, class_of};
+use crate::faults::avp::{data_of, same_code, text_of_value};
+use crate::faults::avp_bytes::{head_of, length_of};
+use crate::faults::in_body::InBody;
+use crate::faults::level::Counting;
+use crate::faults::rules::place_behind;
+use dia_book::{Class, Definition};
+use dia_check::{Reason, Unknown};
+use dia_wire::{AVP_HEAD_LENGTH, Header};
+
+/// What the texts of a reason are about.
+#[derive(Clone, Copy)]
+pub enum Topic {
+    /// Bytes that are no message, of which other notes tell.
+    Bytes,
+    /// The flags of a header.
+    Flags,
+    /// The command of a header. A request may be an answer.
+    Command,
+    /// A place where no AVP begins.
+    Lengths,
+    /// The rules of a level.
+    Rules,
+    /// An AVP by itself.
+    Avp,
+}
+
+pub fn topic_of(reason: Reason) -> Topic {
+    match reason {
+        Reason::Version | Reason::Length => Topic::Bytes,
+        Reason::Bits | Reason::Proxiable => Topic::Flags,
+        Reason::Command | Reason::Application => Topic::Command,
+        Reason::AvpLength => Topic::Lengths,
+        Reason::Missing | Reason::NotAllowed | Reason::TooMany => Topic::Rules,
+        Reason::Unknown | Reason::MBit | Reason::LeafLength | Reason::LeafValue | Reason::Depth =>
+            Topic::Avp,
+    }
+}
+
+/// Of a header, with the command that it selects, or else one of its code.
+pub fn text_of_header(
+    reason: Reason,
+    header: &Header,
+    command: Option<&Definition>,
+) -> &'static str {
+    match (reason, class_of(header), command) {
+        (Reason::Bits, Class::Request, _) => "a request has the E flag\n\
+             mend the sender: only an answer may have E, and only a request R",
+        (Reason::Bits, _, _) => "a message that is no request has the T flag\n\
+             mend the sender: only a request is sent again with T",
+        (Reason::Command, Class::Error, _) =>
+            "the dictionary has no definition for answers with the E flag\n\
+             add one with the header < Diameter Header: code, ERR >; it serves the errors of all commands",
+        (Reason::Command, _, Some(_)) => "the dictionary has no {class} with Command Code {code}\n\
+             a definition with REQ serves requests alone, and one without answers alone: add the other one",
+        (Reason::Command, _, None) => "the dictionary has no {class} with Command Code {code}\n\
+             add the definition, < Diameter Header: {code}{req}{pxy} >",
+        (Reason::Application, _, _) =>
+            "the dictionary has no {class} with Command Code {code} for application {app}\n\
+             add a definition for application {app}, or leave the Application-ID out of the header of one: \
+             it then serves all",
+        _ if header.is_proxiable() => "the P flag is set, and the header of {name} has no PXY\n\
+             add PXY to the header, or mend the sender",
+        _ => "the P flag is clear, and the header of {name} has PXY\n\
+             take PXY out of the header, or mend the sender",
+    }
+}
+
+/// Of a fault in the body of a message.
+pub fn text_in_body(scene: &InBody<'_>) -> &'static str {
+    match topic_of(scene.fault.reason) {
+        Topic::Lengths => text_of_length(scene),
+        Topic::Rules => text_of_rule(scene),
+        _ => text_of_avp(scene),
+    }
+}
+
+/// Of a place where no AVP begins.
+fn text_of_length(scene: &InBody<'_>) -> &'static str {
+    let own = scene.own();
+    let length = length_of(own);
+    if own.len() < AVP_HEAD_LENGTH {
+        "no AVP begins here: {left} bytes are left of {level}, and an AVP has at least 8\n{length-hint}"
+    } else if length < head_of(own) {
+        "no AVP begins here: the AVP Length is {length}, and the head alone has {head} bytes\n{length-hint}"
+    } else if length > own.len() {
+        "no AVP begins here: the AVP Length is {length}, and with {left} bytes left of {level} it may be at most {most}\n\
+         {length-hint}"
+    } else {
+        "no AVP begins here: the AVP Length is {length}, and with {left} bytes left of {level} it may be at most {most}, \
+         since the padding to a multiple of four has to be there\n\
+         the last AVP of a group is padded as well, and the group's AVP Length counts that padding: mend the sender"
+    }
+}
+
+/// Of AVPs that don't stand as the rules of their level say.
+fn text_of_rule(scene: &InBody<'_>) -> &'static str {
+    let Some(Counting { rule, .. }) = scene.counting else {
+        return text_of_unlisted(scene);
+    };
+    match scene.fault.reason {
+        Reason::Missing if rule.key.is_none() =>
+            "an AVP that no rule of {level} names is missing at the end of {level}: {wanted} wanted, {found} found\n\
+             have the sender add one, or, where it may be missing, write {optional}",
+        Reason::Missing if scene.own().is_empty() =>
+            "{subject} is missing at the end of {level}: {wanted} wanted, {found} found\n\
+             have the sender add {subject}, or, where it may be missing, write {optional}",
+        Reason::Missing => text_of_front(scene),
+        Reason::TooMany if rule.key.is_none() =>
+            "{subject} is AVP number {count} in {level} that no rule names, and {most} may stand\n\
+             have the sender send fewer, or write {unbounded} for any number",
+        Reason::TooMany => "this is {subject} number {count} in {level}, and {most} may stand\n\
+             have the sender send fewer, or write {unbounded} for any number",
+        _ => "{subject} may stand only at the front of {level}, in the order of the fixed rules\n\
+             have the sender put it at the front, or write {loose}",
+    }
+}
+
+/// Of an AVP that no rule counts.
+fn text_of_unlisted(scene: &InBody<'_>) -> &'static str {
+    match scene.avp() {
+        Some(_) =>
+            "{subject} may not stand in {level}: no rule names it, and there is no rule for AVP\n\
+             add [ {subject} ] or * [ AVP ] to the rules of {level}, or mend the sender",
+        None =>
+            "{subject} may not stand in {level}: no rule names it, and there is no rule for AVP\n\
+             add * [ AVP ] to the rules of {level}, or mend the sender",
+    }
+}
+
+/// Of an AVP that should stand in front of the place.
+fn text_of_front(scene: &InBody<'_>) -> &'static str {
+    match place_behind(scene) {
+        Some(_) => "{subject} is missing in front of this AVP: {wanted} wanted, {found} found\n\
+             it stands at {behind}, and a fixed rule wants it at the front: mend the sender, or write {loose}",
+        None => "{subject} is missing in front of this AVP: {wanted} wanted, {found} found\n\
+             a fixed rule wants its AVP at the front: have the sender put it here; \
+             or, where it may stand elsewhere, write {loose}",
+    }
+}
+
+/// Of an AVP by itself.
+fn text_of_avp(scene: &InBody<'_>) -> &'static str {
+    match scene.fault.reason {
+        Reason::Unknown => text_of_unknown(scene),
+        Reason::MBit => "the M flag of {subject} is {flag}, and its rule is {m}\n\
+             write any as the rule in the declaration, or mend the sender",
+        Reason::LeafLength => "{subject} has {bytes} bytes of data, and {format} has {lengths}\n\
+             mend the sender, or declare a format with such data{fits}",
+        Reason::LeafValue => match scene.avp() {
+            Some(avp) => text_of_value(avp.format, data_of(scene)),
+            None => "",
+        },
+        _ => "{subject} is a group in {depth} groups, and --levels {levels} opens no more\n\
+             allow more levels, or leave --levels out",
+    }
+}
+
+fn text_of_unknown(scene: &InBody<'_>) -> &'static str {
+    match (scene.asked.unknown, same_code(scene)) {
+        (Unknown::Refused, Some(_)) =>
+            "the dictionary has no AVP of code {key}, and unknown AVPs are refused\n\
+             that AVP has this code, and {vendor}: compare the V flag and the Vendor-ID",
+        (Unknown::Refused, None) =>
+            "the dictionary has no AVP of code {key}, and unknown AVPs are refused\n\
+             declare it, as %avp NAME {declared} OctetString any",
+        (Unknown::Kept, Some(_)) =>
+            "the dictionary has no AVP of code {key}, and the M flag says that the receiver has to know it\n\
+             that AVP has this code, and {vendor}: compare the V flag and the Vendor-ID",
+        (Unknown::Kept, None) =>
+            "the dictionary has no AVP of code {key}, and the M flag says that the receiver has to know it\n\
+             declare it, as %avp NAME {declared} OctetString any; or have the sender clear the M flag",
+    }
+}
+
+/// The AVP whose declaration is shown: that of the fault, or of an unknown one an AVP with its code.
+pub fn shown_avp<'a>(scene: &InBody<'a>) -> Option<Known<'a>> {
+    match scene.fault.reason {
+        Reason::Unknown => same_code(scene),
+        Reason::Depth => None,
+        _ => scene.avp(),
+    }
+}
