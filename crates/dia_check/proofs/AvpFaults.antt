@@ -63,8 +63,7 @@ module _ (d : Dictionary) (u : Unknown) (key : Key) (flags : ℕ) where
   module _ (rules : List DRule) (keys : List Key) where
     late : (r : Reason) (s : Subject) → IsMisplaced rules keys key r s → 9 ≤ row_of r
     late r s (missing i rule first end) = omega arith
-    late r s (not_allowed h) = omega arith
-    late r s (too_many i rule max at is before now) = omega arith
+    late r s other = omega arith
 
     pub refused_by_flags : (wrong : Wrong) → IsWrongFlags d u key flags wrong → IsFirstRefused d u rules keys key flags wrong
     refused_by_flags wrong h = by (known d key) refl h.1
@@ -73,9 +72,8 @@ module _ (d : Dictionary) (u : Unknown) (key : Key) (flags : ℕ) where
         is_wrong r e = ap (λ (s : Subject). record { reason = wrong.reason; subject = s }) h.0 ∙ ap (λ (q : Reason). record { reason = q; subject = Avp key }) e
 
         after_unknown : (r : Reason) (s : Subject) → IsRefused d u rules keys key flags r s → 7 ≤ row_of r
-        after_unknown r s (unknown none bad) = omega arith
-        after_unknown r s (m_bit e some bad) = omega arith
         after_unknown r s (misplaced q t m) = omega (arith, late q t m)
+        after_unknown r s other = omega arith
 
         after_m_bit : (e : DictEntry) → known d key ≡ Some e → (r : Reason) (s : Subject) → IsRefused d u rules keys key flags r s → 8 ≤ row_of r
         after_m_bit e some r s (unknown none bad) = absurd (none-some e (sym none ∙ some))

@@ -111,8 +111,7 @@ module _ (rules : List DRule) (are : AreRules rules) (keys : List Key) (key : Ke
 
       sooner : (r : Reason) (s : Subject) → IsMisplaced rules keys key r s → 9 ≤ row_of r
       sooner r s (missing j q first end) = omega arith
-      sooner r s (not_allowed h) = omega arith
-      sooner r s (too_many j q max here is before now) = omega arith
+      sooner r s other = omega arith
 
   module _ (enough : AreMet rules tally level.run run) where
     none_missing : (i : ℕ) (rule : DRule) → IsFirstShort rules (keys ++ key ∷ []) i rule → run_end rules i (keys ++ key ∷ []) ≡ length keys → ⊥
@@ -135,8 +134,7 @@ module _ (rules : List DRule) (are : AreRules rules) (keys : List Key) (key : Ke
       where
         sooner : (r : Reason) (s : Subject) → IsMisplaced rules keys key r s → 10 ≤ row_of r
         sooner r s (missing j q first end) = absurd (none_missing j q first end)
-        sooner r s (not_allowed h) = omega arith
-        sooner r s (too_many j q max here is before now) = omega arith
+        sooner r s other = omega arith
 
     module _ (i : ℕ) (some : o ≡ Some i) (rule : DRule) (at : slice_get rules i ≡ Some rule) where
       met_next : (j : ℕ) (other : DRule) → slice_get rules j ≡ Some other → met rules (keys ++ key ∷ []) j other ≡ count_in tally j + (if j == i then 1 else 0)

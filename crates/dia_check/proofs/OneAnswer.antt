@@ -168,13 +168,10 @@ module _ (d : Dictionary) (sound : IsDictionary d) (u : Unknown) (most : Levels)
 
   -- a fault of the header, where the header isn't good
   good_or_header : (other : Spot) (r : Reason) (t : Subject) → Stands d u most bytes other r t → HasGoodHeader d bytes ⊎ ((t ≡ Nothing) × (other.row ≡ At (row_of r)))
-  good_or_header other r t (faults.bits h is bad) = inr (refl, refl)
-  good_or_header other r t (faults.command h is none) = inr (refl, refl)
-  good_or_header other r t (faults.application h is some none) = inr (refl, refl)
-  good_or_header other r t (faults.proxiable h c command is select is_command bad) = inr (refl, refl)
   good_or_header other r t (faults.avp_length level earlier at looks from lt before none) = inl looks.good
   good_or_header other r t (faults.avp level earlier v at q w meets bad) = inl meets.looks.good
   good_or_header other r t (faults.missing_at_end level avps i rule looks spells first) = inl looks.good
+  good_or_header other r t of_header = inr (refl, refl)
 
   one_header_fault : (f g : Fault) (x : IsFirst d u most bytes f) (y : IsFirst d u most bytes g) → (f.subject ≡ Nothing) × (x.row ≡ At (row_of f.reason))
       → (g.subject ≡ Nothing) × (y.row ≡ At (row_of g.reason)) → f ≡ g

@@ -67,11 +67,9 @@ module _ (d : Dictionary) (u : Unknown) (most : Levels) where
   refused_wrong s v r t (misplaced q w (too_many i rule max at is before now)) = faults.too_many i rule (record { is_rule = at; max = max; is_max = is; before = before; now = now })
 
   refused_row : (rules : List DRule) (keys : List Key) (key : Key) (flags : ℕ) (r : Reason) (t : Subject) → IsRefused d u rules keys key flags r t → row_of r ≤ 11
-  refused_row rules keys key flags r t (unknown none bad) = omega arith
-  refused_row rules keys key flags r t (m_bit e some bad) = omega arith
   refused_row rules keys key flags r t (misplaced q w (missing i rule first end)) = omega arith
-  refused_row rules keys key flags r t (misplaced q w (not_allowed h)) = omega arith
-  refused_row rules keys key flags r t (misplaced q w (too_many i rule max at is before now)) = omega arith
+  refused_row rules keys key flags r t (misplaced q w other) = omega arith
+  refused_row rules keys key flags r t other = omega arith
 
   -- what is wrong by its data
   data ByData (s : Rest) (v : PlainAvp) : Reason → Subject → Type 0 where
@@ -91,8 +89,7 @@ module _ (d : Dictionary) (u : Unknown) (most : Levels) where
 
   data_row : (s : Rest) (v : PlainAvp) (r : Reason) (t : Subject) → ByData s v r t → 12 ≤ row_of r
   data_row s v r t (by_length e some bad) = omega arith
-  data_row s v r t (by_value e some fits bad single) = omega arith
-  data_row s v r t (by_depth e some is_group deep) = omega arith
+  data_row s v r t other = omega arith
 
   fits_of : (e : DictEntry) (bytes : List ℕ) → IsLeaf e.format bytes ⊎ (e.format ≡ Grouped) → LengthFits e.format bytes
   fits_of e bytes (inl l) = leaf_fits e.format bytes l
@@ -149,27 +146,15 @@ module _ (d : Dictionary) (u : Unknown) (most : Levels) where
 
       after_length : LengthFits e.format v.bytes → (q : Reason) (t : Subject) → ByData s v q t → 13 ≤ row_of q
       after_length fits q t (by_length x other no_fit) = absurd (no_fit (subst (λ (y : DictEntry). LengthFits y.format v.bytes) (same_entry x other) fits))
-      after_length fits q t (by_value x other f b single) = omega arith
-      after_length fits q t (by_depth x other is deep) = omega arith
+      after_length fits q t later = omega arith
 
       after_value : IsLeaf e.format v.bytes ⊎ (e.format ≡ Grouped) → (q : Reason) (t : Subject) → ByData s v q t → 14 ≤ row_of q
       after_value has q t (by_length x other no_fit) = absurd (no_fit (subst (λ (y : DictEntry). LengthFits y.format v.bytes) (same_entry x other) (fits_of e v.bytes has)))
       after_value has q t (by_value x other f b single) = absurd (⊎_elim b single (subst (λ (y : DictEntry). IsLeaf y.format v.bytes ⊎ (y.format ≡ Grouped)) (same_entry x other) has))
-      after_value has q t (by_depth x other is deep) = omega arith
+      after_value has q t later = omega arith
 
       by : (r : Reason) → IsWrongData most s.level.depth e v.bytes r → IsFirstWrong d u most s v r (Avp (key_of v))
       by reason.LeafLength no_fit = record { wrong = faults.leaf_length e some no_fit; none_sooner = sooner reason.LeafLength (λ q t h. data_row s v q t h) }
       by reason.LeafValue (fits, b, single) = record { wrong = faults.leaf_value e some fits b single; none_sooner = sooner reason.LeafValue (λ q t h. after_length fits q t h) }
       by reason.Depth (has, is, deep) = record { wrong = faults.depth e some is deep; none_sooner = sooner reason.Depth (λ q t h. after_value has q t h) }
-      by reason.Version h = absurd h
-      by reason.Length h = absurd h
-      by reason.Bits h = absurd h
-      by reason.Command h = absurd h
-      by reason.Application h = absurd h
-      by reason.Proxiable h = absurd h
-      by reason.AvpLength h = absurd h
-      by reason.Unknown h = absurd h
-      by reason.MBit h = absurd h
-      by reason.Missing h = absurd h
-      by reason.NotAllowed h = absurd h
-      by reason.TooMany h = absurd h
+      by other h = absurd h

@@ -24,6 +24,7 @@ use Rattle.dia_valid.specs.Valid.{fixed_rules}
 use Rattle.dia_check.specs.Levels.{Level}
 use Rattle.dia_check.specs.Faults.{Row, End, At, Sooner, Spot, spot, IsBefore, subject_of, keys_to, IsFirstShort, IsFirstMissing, IsWrong}
 use Rattle.dia_check.specs.Reasons.{row_of}
+pub use Rattle.dia_check.specs.Reasons.{reason_at}
 use Rattle.dia_check.specs.Faults as faults
 use Rattle.dia_check.proofs.FaultlessFronts.{at_any}
 use Rattle.dia_check.specs.Walks.{Found, Rest, behind, inside, IsFine, IsFirstWrong, Walks, ended, missing, broken, wrong, leaf, group, bad_group}
@@ -44,27 +45,9 @@ le_split i j le = ⊎_elim (λ h. inl h) (λ h. ⊎_elim (λ more. absurd (omega
 
 -- ---- one thing is wrong, and of one AVP
 
-abbrev pub reason_at : ℕ → Reason
-reason_at n = if n == 0 then reason.Version else if n == 1 then reason.Length else if n == 2 then reason.Bits else if n == 3 then reason.Command else if n == 4 then reason.Application
-    else if n == 5 then reason.Proxiable else if n == 6 then reason.AvpLength else if n == 7 then reason.Unknown else if n == 8 then reason.MBit else if n == 9 then reason.Missing
-    else if n == 10 then reason.NotAllowed else if n == 11 then reason.TooMany else if n == 12 then reason.LeafLength else if n == 13 then reason.LeafValue else reason.Depth
-
 pub reason_at-row : (r : Reason) → reason_at (row_of r) ≡ r
 reason_at-row reason.Version = refl
-reason_at-row reason.Length = refl
-reason_at-row reason.Bits = refl
-reason_at-row reason.Command = refl
-reason_at-row reason.Application = refl
-reason_at-row reason.Proxiable = refl
-reason_at-row reason.AvpLength = refl
-reason_at-row reason.Unknown = refl
-reason_at-row reason.MBit = refl
-reason_at-row reason.Missing = refl
-reason_at-row reason.NotAllowed = refl
-reason_at-row reason.TooMany = refl
-reason_at-row reason.LeafLength = refl
-reason_at-row reason.LeafValue = refl
-reason_at-row reason.Depth = refl
+reason_at-row r = refl
 
 pub one_reason : (q r : Reason) → row_of q ≡ row_of r → q ≡ r
 one_reason q r e = sym (reason_at-row q) ∙ ap reason_at e ∙ reason_at-row r
@@ -91,14 +74,8 @@ Subjects level earlier v r t = ((row_of r ≢ 9) × (t ≡ Avp (key_of v))) ⊎ 
 
 pub subjects : (d : Dictionary) (u : Unknown) (most : Levels) (level : Level) (earlier : List PlainAvp) (v : PlainAvp) (r : Reason) (t : Subject) → IsWrong d u most level earlier v r t
     → Subjects level earlier v r t
-subjects d u most level earlier v r t (faults.unknown none bad) = inl ((λ e. omega (arith, e)), refl)
-subjects d u most level earlier v r t (faults.m_bit e is bad) = inl ((λ e. omega (arith, e)), refl)
 subjects d u most level earlier v r t (faults.missing i rule first ends) = inr (refl, (i, rule, first, refl))
-subjects d u most level earlier v r t (faults.not_allowed behind_runs other) = inl ((λ e. omega (arith, e)), refl)
-subjects d u most level earlier v r t (faults.too_many i rule passes) = inl ((λ e. omega (arith, e)), refl)
-subjects d u most level earlier v r t (faults.leaf_length e is bad) = inl ((λ e. omega (arith, e)), refl)
-subjects d u most level earlier v r t (faults.leaf_value e is fits bad single) = inl ((λ e. omega (arith, e)), refl)
-subjects d u most level earlier v r t (faults.depth e is is_group bad) = inl ((λ e. omega (arith, e)), refl)
+subjects d u most level earlier v r t other = inl ((λ e. omega (arith, e)), refl)
 
 pub one_subject : (d : Dictionary) (u : Unknown) (most : Levels) (level : Level) (earlier : List PlainAvp) (v : PlainAvp) (q r : Reason) (s t : Subject)
     → IsWrong d u most level earlier v q s → IsWrong d u most level earlier v r t → q ≡ r → s ≡ t

@@ -1,5 +1,5 @@
 -- The reasons: their order, their result codes (RFC 6733 section 7.1), and their words. Which code each gives, and the order, are this project's.
-use Rattle.std.specs.Prelude.{ℕ, List, codes}
+use Rattle.std.specs.Prelude.{ℕ, ◌==◌, if◌then◌else◌, List, codes}
 use Rattle.dia_check.specs.declared.fault.Reason.{Reason}
 use Rattle.dia_check.specs.declared.fault.Reason.TheVariants as reason
 
@@ -20,6 +20,12 @@ reason_row reason.TooMany = (11, 5009, codes "too-many")
 reason_row reason.LeafLength = (12, 5014, codes "leaf-length")
 reason_row reason.LeafValue = (13, 5004, codes "leaf-value")
 reason_row reason.Depth = (14, 5012, codes "depth")
+
+-- the reason of a row: no two have one
+abbrev pub reason_at : ℕ → Reason
+reason_at n = if n == 0 then reason.Version else if n == 1 then reason.Length else if n == 2 then reason.Bits else if n == 3 then reason.Command else if n == 4 then reason.Application
+    else if n == 5 then reason.Proxiable else if n == 6 then reason.AvpLength else if n == 7 then reason.Unknown else if n == 8 then reason.MBit else if n == 9 then reason.Missing
+    else if n == 10 then reason.NotAllowed else if n == 11 then reason.TooMany else if n == 12 then reason.LeafLength else if n == 13 then reason.LeafValue else reason.Depth
 
 abbrev pub row_of : Reason → ℕ
 row_of r = (reason_row r).0
