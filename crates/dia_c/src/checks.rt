@@ -2,15 +2,14 @@
 
 ghost use Rattle.std.specs.Prelude.{◌⊎◌, ◌≡◌, ◌≢◌, None, IfSome, IsSome};
 ghost use Rattle.dia_check.specs.Faults.{HasLength};
-ghost use Rattle.dia_c.specs.Held.{dict_in, text_in};
-ghost use Rattle.dia_c.specs.VerdictLines.{IsVerdictLine};
-ghost use Rattle.dia_c.specs.Verdicts.{Answers, IsHeadVerdict, IsUnknownPolicy, limit_of, policy_of};
+ghost use Rattle.dia_c_calls.specs.Held.{dict_in, text_in};
+ghost use Rattle.dia_c_calls.specs.VerdictLines.{IsVerdictLine};
+ghost use Rattle.dia_c_calls.specs.Verdicts.{Answers, IsHeadVerdict, IsUnknownPolicy, limit_of, policy_of};
 
-use crate::handle::{DictHandle, TextHandle, check_in, owner_in};
-use crate::status::{BAD_ARGUMENT, DONE, IS_CLOSED, IS_OPEN, NO_MEMORY, REFUSED};
-use crate::verdict::{Verdict, limit_of, message_length, policy_of};
-use crate::verdict_line::verdict_line;
-use std::alloc::{AllocError, Global};
+use dia_c_calls::{
+    BAD_ARGUMENT, DONE, DictHandle, IS_CLOSED, IS_OPEN, NO_MEMORY, REFUSED, TextHandle, Verdict,
+};
+use std::alloc::Global;
 
 /// What `diacmd check` says of a message.
 #[unsafe(no_mangle)]
@@ -32,22 +31,7 @@ pub extern "C" fn dia_check(
     ensures good { result ≢ BAD_ARGUMENT → IsUnknownPolicy unknown }
     ensures only { result ≢ DONE → verdict.new ≡ verdict.old }
 {
-    let Some(unknown) = policy_of(unknown) else {
-        return BAD_ARGUMENT;
-    };
-    let levels = limit_of(levels);
-    let Some(mut held) = handle.take(alloc) else {
-        return IS_CLOSED;
-    };
-    let answer = check_in(&mut *held, unknown, levels, message);
-    handle.put(held);
-    match answer {
-        Ok(told) => {
-            *verdict = told;
-            DONE
-        }
-        Err(AllocError) => NO_MEMORY,
-    }
+    dia_c_calls::check(alloc, handle, unknown, levels, message, verdict)
 }
 
 /// The line that `diacmd check --json` writes of a message.
@@ -73,25 +57,7 @@ pub extern "C" fn dia_check_json(
     ensures bad { result ≡ BAD_ARGUMENT → ¬ IsUnknownPolicy unknown }
     ensures good { result ≢ BAD_ARGUMENT → IsUnknownPolicy unknown }
 {
-    let Some(unknown) = policy_of(unknown) else {
-        return BAD_ARGUMENT;
-    };
-    if line.is_open() {
-        return IS_OPEN;
-    }
-    let levels = limit_of(levels);
-    let Some(held) = handle.take(alloc) else {
-        return IS_CLOSED;
-    };
-    let made = verdict_line(alloc, &**owner_in(&held), unknown, levels, message);
-    handle.put(held);
-    match made {
-        Ok(text) => {
-            line.put(text);
-            DONE
-        }
-        Err(AllocError) => NO_MEMORY,
-    }
+    dia_c_calls::check_json(alloc, handle, unknown, levels, message, line)
 }
 
 /// How many bytes the message has whose header begins these.
@@ -103,14 +69,5 @@ pub extern "C" fn dia_message_length(header: &[u8], length: &mut u32, verdict: &
     ensures only { result ≡ DONE → verdict.new ≡ verdict.old }
     ensures kept { result ≡ REFUSED → length.new ≡ length.old }
 {
-    match message_length(header) {
-        Ok(found) => {
-            *length = found;
-            DONE
-        }
-        Err(told) => {
-            *verdict = told;
-            REFUSED
-        }
-    }
+    dia_c_calls::message_length(header, length, verdict)
 }

@@ -1,16 +1,13 @@
 //! Comparisons of two dictionaries.
 
 ghost use Rattle.std.specs.Prelude.{◌⊎◌, ◌≡◌, ◌≢◌, None, IfSome, IsSome};
-ghost use Rattle.dia_c.specs.Comparisons.{HasCompared, IsNoTable, table_place};
-ghost use Rattle.dia_c.specs.Held.{dict_in, text_in};
-ghost use Rattle.dia_c.specs.Verdicts.{IsUnknownPolicy, policy_of};
+ghost use Rattle.dia_c_calls.specs.Comparisons.{HasCompared, IsNoTable, table_place};
+ghost use Rattle.dia_c_calls.specs.Held.{dict_in, text_in};
+ghost use Rattle.dia_c_calls.specs.Verdicts.{IsUnknownPolicy, policy_of};
 
-use crate::comparison::compared;
-use crate::handle::{DictHandle, TextHandle, owner_in};
-use crate::opening::{Problem, Refused};
-use crate::status::{BAD_ARGUMENT, DONE, IS_CLOSED, IS_OPEN, NO_MEMORY, REFUSED};
-use crate::verdict::policy_of;
-use dia_explain_places::{limit_place, syntax_place};
+use dia_c_calls::{
+    BAD_ARGUMENT, DONE, DictHandle, IS_CLOSED, IS_OPEN, NO_MEMORY, Problem, REFUSED, TextHandle,
+};
 use std::alloc::Global;
 
 /// What `diacmd compare` says of two dictionaries and the text of a table.
@@ -45,42 +42,7 @@ pub extern "C" fn dia_compare(
     ensures bad { result ≡ BAD_ARGUMENT → ¬ IsUnknownPolicy unknown }
     ensures good { result ≢ BAD_ARGUMENT → IsUnknownPolicy unknown }
 {
-    let Some(unknown) = policy_of(unknown) else {
-        return BAD_ARGUMENT;
-    };
-    if line.is_open() {
-        return IS_OPEN;
-    }
-    let Some(first) = a.take(alloc) else {
-        return IS_CLOSED;
-    };
-    let Some(second) = b.take(alloc) else {
-        a.put(first);
-        return IS_CLOSED;
-    };
-    let answer = compared(
-        alloc,
-        &**owner_in(&first),
-        &**owner_in(&second),
-        unknown,
-        table,
-    );
-    a.put(first);
-    b.put(second);
-    match answer {
-        Ok(found) => {
-            *holds = found.holds;
-            line.put(found.text);
-            DONE
-        }
-        Err(refused) => match refused {
-            Refused::Bad(told) => {
-                *problem = told;
-                REFUSED
-            }
-            Refused::NoMemory => NO_MEMORY,
-        },
-    }
+    dia_c_calls::compare(alloc, a, b, unknown, table, line, holds, problem)
 }
 
 /// The place in the text of a table where it is refused, by the kind and the line of the problem that `dia_compare` told: that of
@@ -89,9 +51,5 @@ pub extern "C" fn dia_compare(
 pub extern "C" fn dia_table_place(table: &[u8], kind: u32, line: u32) -> usize
     ensures place { result ≡ table_place table.now kind line }
 {
-    match kind {
-        1 => syntax_place(table, line),
-        3 => limit_place(table, line),
-        _ => 0,
-    }
+    dia_c_calls::table_place(table, kind, line)
 }

@@ -1,23 +1,17 @@
 //! Dictionaries: opened from a text or built in, shared, closed, and asked for names.
 
 ghost use Rattle.std.specs.Prelude.{◌⊎◌, ◌≡◌, ◌≢◌, ◌≤◌, ◌<◌, ℕ, List, length, take};
-ghost use Rattle.std.specs.Prelude.{None, Some, IsSome, IfSome, IfOk};
+ghost use Rattle.std.specs.Prelude.{None, Some, IsSome, IfSome};
 ghost use Rattle.dia_book.specs.Dictionary.{definitions, entry_of, groups};
 ghost use Rattle.dia_dict.specs.Base.{base};
-ghost use Rattle.dia_c.specs.Held.{dict_in, MayBeDict};
-ghost use Rattle.dia_c.specs.Names.{IsCommandName, IsAvpName};
-ghost use Rattle.dia_c.specs.Openings.{IsTextOf, HasProblem};
+ghost use Rattle.dia_c_calls.specs.Held.{dict_in};
+ghost use Rattle.dia_c_calls.specs.Names.{IsCommandName, IsAvpName};
+ghost use Rattle.dia_c_calls.specs.Openings.{IsTextOf, HasProblem};
 
-use crate::handle::{DictHandle, owner_in};
-use crate::held::Held;
-use crate::names::{avp_name, command_name, copied};
-use crate::opening::{Problem, Refused, base_opened, opened};
-use crate::status::{DONE, IS_CLOSED, IS_OPEN, NO_MEMORY, NO_ROOM, NONE, REFUSED};
-use dia_book::Key;
-use dia_check::Room;
-use dia_dict::IndexedBook;
-use std::alloc::{AllocError, Global};
-use std::sync::Arc;
+use dia_c_calls::{
+    DONE, DictHandle, IS_CLOSED, IS_OPEN, NO_MEMORY, NO_ROOM, NONE, Problem, REFUSED,
+};
+use std::alloc::Global;
 
 /// Opens the dictionary of a text.
 #[unsafe(no_mangle)]
@@ -36,20 +30,7 @@ pub extern "C" fn dia_dict_open(
     ensures was_closed { result ≢ IS_OPEN → handle.old.slot.seal.held ≡ None }
     ensures was_open { result ≡ IS_OPEN → IsSome handle.old.slot.seal.held }
 {
-    if handle.is_open() {
-        return IS_OPEN;
-    }
-    match opened(alloc, text) {
-        Ok(book) => {
-            handle.put(book);
-            DONE
-        }
-        Err(Refused::Bad(told)) => {
-            *problem = told;
-            REFUSED
-        }
-        Err(Refused::NoMemory) => NO_MEMORY,
-    }
+    dia_c_calls::dict_open(alloc, text, handle, problem)
 }
 
 /// Opens the built-in dictionary of RFC 6733.
@@ -61,16 +42,7 @@ pub extern "C" fn dia_dict_open_base(alloc: Global, handle: &mut DictHandle) -> 
     ensures was_closed { result ≢ IS_OPEN → handle.old.slot.seal.held ≡ None }
     ensures was_open { result ≡ IS_OPEN → IsSome handle.old.slot.seal.held }
 {
-    if handle.is_open() {
-        return IS_OPEN;
-    }
-    match base_opened(alloc) {
-        Ok(book) => {
-            handle.put(book);
-            DONE
-        }
-        Err(AllocError) => NO_MEMORY,
-    }
+    dia_c_calls::dict_open_base(alloc, handle)
 }
 
 /// Lets the dictionary go, if the handle has one.
@@ -78,7 +50,7 @@ pub extern "C" fn dia_dict_open_base(alloc: Global, handle: &mut DictHandle) -> 
 pub extern "C" fn dia_dict_close(alloc: Global, handle: &mut DictHandle)
     ensures closed { handle.new.slot.seal.held ≡ None }
 {
-    drop(handle.take(alloc));
+    dia_c_calls::dict_close(alloc, handle);
 }
 
 /// Makes a closed handle another one of the same dictionary.
@@ -97,30 +69,7 @@ pub extern "C" fn dia_dict_share(
     ensures was_open { result ≡ IS_OPEN → IsSome other.old.slot.seal.held }
     ensures closed { result ≡ IS_CLOSED → handle.old.slot.seal.held ≡ None }
 {
-    if other.is_open() {
-        return IS_OPEN;
-    }
-    let Some(held) = handle.take(alloc) else {
-        return IS_CLOSED;
-    };
-    let made = owner_of(alloc, owner_in(&held));
-    handle.put(held);
-    match made {
-        Ok(owner) => {
-            other.put(owner);
-            DONE
-        }
-        Err(AllocError) => NO_MEMORY,
-    }
-}
-
-/// Another owner of a dictionary.
-fn owner_of(alloc: Global, owner: &Arc<IndexedBook>) -> Result<Box<Held>, AllocError>
-    ensures { IfOk result (λ held. (dict_in (Some held.value) ≡ dict_in (Some (Held.Dict owner.now tt)))
-        × ∥ MayBeDict (Some held.value) ∥₁) }
-{
-    let other = Arc::try_clone(owner)?;
-    Ok(Box::new(alloc, Held::Dict(other, Room::new(alloc)))?)
+    dia_c_calls::dict_share(alloc, handle, other)
 }
 
 /// The name of the command that a verdict's number stands for.
@@ -146,15 +95,7 @@ pub extern "C" fn dia_command_name(
     ensures closed { result ≡ IS_CLOSED → handle.old.slot.seal.held ≡ None }
     ensures was_open { result ≢ IS_CLOSED → IsSome (dict_in handle.old.slot.seal.held) }
 {
-    let Some(held) = handle.take(alloc) else {
-        return IS_CLOSED;
-    };
-    let answer = match command_name(&**owner_in(&held), command) {
-        Some(name) => copied(name, out, count),
-        None => NONE,
-    };
-    handle.put(held);
-    answer
+    dia_c_calls::command_name(alloc, handle, command, out, count)
 }
 
 /// The name of an AVP.
@@ -181,13 +122,5 @@ pub extern "C" fn dia_avp_name(
     ensures closed { result ≡ IS_CLOSED → handle.old.slot.seal.held ≡ None }
     ensures was_open { result ≢ IS_CLOSED → IsSome (dict_in handle.old.slot.seal.held) }
 {
-    let Some(held) = handle.take(alloc) else {
-        return IS_CLOSED;
-    };
-    let answer = match avp_name(&**owner_in(&held), Key { code, vendor }) {
-        Some(name) => copied(name, out, count),
-        None => NONE,
-    };
-    handle.put(held);
-    answer
+    dia_c_calls::avp_name(alloc, handle, code, vendor, out, count)
 }

@@ -1,18 +1,13 @@
 //! All faults of a dictionary's text, and the lines and columns of places.
 
-ghost use Rattle.std.specs.Prelude.{◌⊎◌, ◌≡◌, ◌≢◌, ◌≤◌, ◌<◌, length, slice_get, None, Some, IsSome, IfSome, IfOk};
+ghost use Rattle.std.specs.Prelude.{◌⊎◌, ◌≡◌, ◌≢◌, ◌≤◌, ◌<◌, length, slice_get, None, IsSome, IfSome};
 ghost use Rattle.dia_explain_places.specs.Places.{line_at, column_at};
-ghost use Rattle.dia_c.specs.AllFaults.{AreFaultsOf};
-ghost use Rattle.dia_c.specs.Held.{MayBeFaults, faults_in};
-ghost use Rattle.dia_c.specs.PlainFaults.{IsToldFault};
+ghost use Rattle.dia_c_calls.specs.AllFaults.{AreFaultsOf};
+ghost use Rattle.dia_c_calls.specs.Held.{faults_in};
+ghost use Rattle.dia_c_calls.specs.PlainFaults.{IsToldFault};
 
-use crate::findings::faults_of;
-use crate::handle::{FaultsHandle, faults_in};
-use crate::held::Held;
-use crate::status::{DONE, IS_CLOSED, IS_OPEN, NO_MEMORY, NONE};
-use crate::told_fault::{ToldFault, told_at};
-use dia_explain_places::place_of;
-use std::alloc::{AllocError, Global};
+use dia_c_calls::{DONE, FaultsHandle, IS_CLOSED, IS_OPEN, NO_MEMORY, NONE, ToldFault};
+use std::alloc::Global;
 
 /// Finds all faults of a dictionary's text.
 #[unsafe(no_mangle)]
@@ -31,26 +26,7 @@ pub extern "C" fn dia_faults_open(
     ensures was_closed { result ≢ IS_OPEN → handle.old.slot.seal.held ≡ None }
     ensures was_open { result ≡ IS_OPEN → IsSome handle.old.slot.seal.held }
 {
-    if handle.is_open() {
-        return IS_OPEN;
-    }
-    match found(alloc, text) {
-        Ok(held) => {
-            *count = faults_in(&held).len();
-            handle.put(held);
-            DONE
-        }
-        Err(AllocError) => NO_MEMORY,
-    }
-}
-
-/// All faults of a text.
-fn found(alloc: Global, text: &[u8]) -> Result<Box<Held>, AllocError>
-    ensures { IfOk result (λ held. (∥ MayBeFaults (Some held.value) ∥₁) × IsSome (faults_in (Some held.value))
-        × IfSome (faults_in (Some held.value)) (AreFaultsOf text.now)) }
-{
-    let faults = faults_of(alloc, text)?;
-    Ok(Box::new(alloc, Held::Faults(faults))?)
+    dia_c_calls::faults_open(alloc, text, handle, count)
 }
 
 /// Tells a fault by its place in the list, from 0.
@@ -71,18 +47,7 @@ pub extern "C" fn dia_faults_get(
     ensures closed { result ≡ IS_CLOSED → handle.old.slot.seal.held ≡ None }
     ensures was_open { result ≢ IS_CLOSED → IsSome (faults_in handle.old.slot.seal.held) }
 {
-    let Some(held) = handle.take(alloc) else {
-        return IS_CLOSED;
-    };
-    let found = told_at(faults_in(&held).as_slice(), index);
-    handle.put(held);
-    match found {
-        Some(told) => {
-            *fault = told;
-            DONE
-        }
-        None => NONE,
-    }
+    dia_c_calls::faults_get(alloc, handle, index, fault)
 }
 
 /// Lets the faults go, if the handle has some.
@@ -90,7 +55,7 @@ pub extern "C" fn dia_faults_get(
 pub extern "C" fn dia_faults_close(alloc: Global, handle: &mut FaultsHandle)
     ensures closed { handle.new.slot.seal.held ≡ None }
 {
-    drop(handle.take(alloc));
+    dia_c_calls::faults_close(alloc, handle);
 }
 
 /// The line and the column of a place of a text.
@@ -99,7 +64,5 @@ pub extern "C" fn dia_line_column(text: &[u8], at: usize, line: &mut usize, colu
     ensures line { line.new ≡ line_at text.now at }
     ensures column { column.new ≡ column_at text.now at }
 {
-    let place = place_of(text, at);
-    *line = place.line;
-    *column = place.column;
+    dia_c_calls::line_column(text, at, line, column);
 }

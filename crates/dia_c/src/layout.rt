@@ -1,11 +1,9 @@
 //! The sizes that `c/tests/layout.c` has, too.
 
-use crate::handle::{DictHandle, FaultsHandle, PeerHandle, StreamHandle, TextHandle};
-use crate::opening::Problem;
-use crate::peer_config::{PeerAddress, PeerApp, PeerNumbers};
-use crate::streams::Fed;
-use crate::told_fault::ToldFault;
-use crate::verdict::Verdict;
+use dia_c_calls::{
+    DictHandle, FaultsHandle, Fed, PeerAddress, PeerApp, PeerHandle, PeerNumbers, Problem,
+    StreamHandle, TextHandle, ToldFault, Verdict,
+};
 
 const _: () = prove!(size_of::<DictHandle>() == 16);
 

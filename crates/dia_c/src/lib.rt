@@ -1,38 +1,19 @@
 //! The proved dictionaries and checks for programs in C: `c/dia.h` says how they are called, and `docs/LIBRARY.md` how a
-//! program begins. Each export calls a function of a library below, and states its clauses again.
+//! program begins. Each export calls a function of `dia_c_calls`, and states its clauses again.
 #![tactic(auto)]
 
 ghost use Rattle.std.specs.Prelude.{◌≡◌};
 
-mod answer;
 mod checks;
-mod comparison;
 mod comparisons;
 mod dictionaries;
 mod fault_lists;
-mod feeding;
-mod findings;
-mod handle;
-mod held;
 mod layout;
-mod listing;
 mod listings;
-mod names;
-mod opening;
-mod peer;
-mod peer_config;
-mod peer_numbers;
 mod peers;
-mod sink;
-mod status;
 mod streams;
 mod texts;
-mod told_fault;
-mod upgrade;
 mod upgrades;
-mod verdict;
-mod verdict_line;
-mod wanted;
 
 pub use checks::{dia_check, dia_check_json, dia_message_length};
 pub use comparisons::{dia_compare, dia_table_place};
@@ -41,20 +22,15 @@ pub use dictionaries::{
     dia_dict_share,
 };
 pub use fault_lists::{dia_faults_close, dia_faults_get, dia_faults_open, dia_line_column};
-pub use handle::{DictHandle, FaultsHandle, PeerHandle, StreamHandle, TextHandle};
 pub use listings::dia_show;
-pub use opening::Problem;
-pub use peer_config::{PeerAddress, PeerApp, PeerNumbers};
 pub use peers::{
     dia_peer_close, dia_peer_common, dia_peer_event, dia_peer_open, dia_peer_output, dia_peer_state,
 };
 pub use streams::{
-    Fed, dia_stream_close, dia_stream_feed, dia_stream_finish, dia_stream_levels, dia_stream_open,
+    dia_stream_close, dia_stream_feed, dia_stream_finish, dia_stream_levels, dia_stream_open,
 };
 pub use texts::{dia_render, dia_text_close, dia_text_length, dia_text_read};
-pub use told_fault::ToldFault;
 pub use upgrades::dia_breaking;
-pub use verdict::Verdict;
 
 /// The version of this interface, which a program compares with `DIA_ABI_VERSION` of its header.
 const ABI_VERSION: u32 = 1;
@@ -65,27 +41,4 @@ pub extern "C" fn dia_abi_version() -> u32
     ensures { result ≡ ABI_VERSION }
 {
     ABI_VERSION
-}
-
-fn sent<T: Send>(x: T) -> T {
-    x
-}
-
-/// C may give a handle to another thread: this asks for the proofs.
-pub fn crossed(
-    handles: (
-        DictHandle,
-        TextHandle,
-        FaultsHandle,
-        PeerHandle,
-        StreamHandle,
-    ),
-) -> (
-    DictHandle,
-    TextHandle,
-    FaultsHandle,
-    PeerHandle,
-    StreamHandle,
-) {
-    sent(handles)
 }

@@ -1,14 +1,11 @@
 //! Messages as texts.
 
 ghost use Rattle.std.specs.Prelude.{◌⊎◌, ◌≡◌, ◌≢◌, IfSome, IsSome, None};
-ghost use Rattle.dia_c.specs.Held.{dict_in, text_in};
-ghost use Rattle.dia_c.specs.Listings.{HasShown};
-ghost use Rattle.dia_c.specs.Verdicts.{IsNoMessage};
+ghost use Rattle.dia_c_calls.specs.Held.{dict_in, text_in};
+ghost use Rattle.dia_c_calls.specs.Listings.{HasShown};
+ghost use Rattle.dia_c_calls.specs.Verdicts.{IsNoMessage};
 
-use crate::handle::{DictHandle, TextHandle, owner_in};
-use crate::listing::{Unshown, shown};
-use crate::status::{DONE, IS_CLOSED, IS_OPEN, NO_MEMORY, REFUSED};
-use crate::verdict::Verdict;
+use dia_c_calls::{DONE, DictHandle, IS_CLOSED, IS_OPEN, NO_MEMORY, REFUSED, TextHandle, Verdict};
 use std::alloc::Global;
 
 /// What `diacmd show` writes of a message, with the names of a dictionary.
@@ -33,28 +30,8 @@ pub extern "C" fn dia_show(
     ensures was_closed { result ≢ IS_OPEN → text.old.slot.seal.held ≡ None }
     ensures was_open { result ≡ IS_OPEN → IsSome text.old.slot.seal.held }
     ensures closed { result ≡ IS_CLOSED → handle.old.slot.seal.held ≡ None }
-    ensures dict_is_open { (result ≡ DONE) ⊎ (result ≡ REFUSED) ⊎ (result ≡ NO_MEMORY) → IsSome (dict_in handle.old.slot.seal.held) }
+    ensures dict_is_open { (result ≡ DONE) ⊎ (result ≡ REFUSED) ⊎ (result ≡ NO_MEMORY)
+        → IsSome (dict_in handle.old.slot.seal.held) }
 {
-    if text.is_open() {
-        return IS_OPEN;
-    }
-    let Some(held) = handle.take(alloc) else {
-        return IS_CLOSED;
-    };
-    let answer = shown(alloc, &**owner_in(&held), message);
-    handle.put(held);
-    match answer {
-        Ok(found) => {
-            *whole = found.holds;
-            text.put(found.text);
-            DONE
-        }
-        Err(unshown) => match unshown {
-            Unshown::NoMessage(told) => {
-                *verdict = told;
-                REFUSED
-            }
-            Unshown::NoMemory => NO_MEMORY,
-        },
-    }
+    dia_c_calls::show(alloc, handle, message, text, whole, verdict)
 }

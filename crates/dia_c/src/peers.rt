@@ -1,29 +1,16 @@
 //! One end of a connection: opened, told what happens, asked what is to be done, closed.
 
-ghost use Rattle.std.specs.Prelude.{◌⊎◌, ◌≡◌, ◌≢◌, ◌<◌, ◌≤◌, [], length, slice_get, take, IfErr, IfOk, IfSome, IsSome, None, Some};
-ghost use Rattle.dia_peer.specs.Core.{plain_config};
-ghost use Rattle.dia_peer.specs.Machine.{IsRefusedAs};
+ghost use Rattle.std.specs.Prelude.{◌⊎◌, ◌≡◌, ◌≢◌, ◌<◌, ◌≤◌, [], length, slice_get, take, IfSome, IsSome, None};
 ghost use Rattle.dia_peer.specs.Outputs.{PlainOutput};
-ghost use Rattle.dia_c.specs.Held.{MayBePeer, Takes, peer_in};
-ghost use Rattle.dia_c.specs.Peers.{HasFault, IsBegun, IsBegunAs, IsFaultOf, IsRole, config_of, told_pair};
-ghost use Rattle.dia_c.specs.PeerSteps.{HasHappened, IsEventNumber, IsToldOutput, WantsRoom, plain_end, state_number};
+ghost use Rattle.dia_c_calls.specs.Held.{Takes, peer_in};
+ghost use Rattle.dia_c_calls.specs.Peers.{HasFault, IsBegun, IsRole, config_of, told_pair};
+ghost use Rattle.dia_c_calls.specs.PeerSteps.{HasHappened, IsEventNumber, IsToldOutput, WantsRoom, state_number};
 
-use crate::handle::{PeerHandle, give_in, peer_in, tell_in};
-use crate::held::Held;
-use crate::peer::{Given, Peer};
-use crate::peer_config::{Names, PeerAddress, PeerApp, PeerNumbers, common_at, config_of};
-use crate::peer_numbers::{event_of, fault_number, role_of, state_number, why_number};
-use crate::status::{
-    BAD_ARGUMENT, DONE, IS_CLOSED, IS_OPEN, NO_MEMORY, NO_ROOM, NONE, OUTPUTS_LEFT, REFUSED,
+use dia_c_calls::{
+    BAD_ARGUMENT, DONE, IS_CLOSED, IS_OPEN, NO_MEMORY, NO_ROOM, NONE, OUTPUTS_LEFT, PeerAddress,
+    PeerApp, PeerHandle, PeerNumbers, REFUSED,
 };
-use dia_peer::{Config, ConfigFault, Role};
-use std::alloc::{AllocError, Global};
-
-/// The number of an output that is a message to be sent.
-const SEND: u32 = 0;
-
-/// The number of an output that closes the connection.
-const CLOSE: u32 = 1;
+use std::alloc::Global;
 
 /// Opens one end of a connection.
 #[unsafe(no_mangle)]
@@ -52,77 +39,9 @@ pub extern "C" fn dia_peer_open(
     ensures bad { result ≡ BAD_ARGUMENT → ¬ IsRole role }
     ensures good { result ≢ BAD_ARGUMENT → IsRole role }
 {
-    let Some(role) = role_of(role) else {
-        return BAD_ARGUMENT;
-    };
-    if handle.is_open() {
-        return IS_OPEN;
-    }
-    match begun(alloc, role, host, realm, product, addresses, apps, numbers) {
-        Ok(held) => {
-            handle.put(held);
-            DONE
-        }
-        Err(found) => match fault_number(found) {
-            Some(number) => {
-                *fault = number;
-                REFUSED
-            }
-            None => NO_MEMORY,
-        },
-    }
-}
-
-/// An end of this configuration.
-fn begun(
-    alloc: Global,
-    role: Role,
-    host: &[u8],
-    realm: &[u8],
-    product: &[u8],
-    addresses: &[PeerAddress],
-    apps: &[PeerApp],
-    numbers: &PeerNumbers,
-) -> Result<Box<Held>, ConfigFault>
-    ensures ok { IfOk result (λ held. IfSome (peer_in (Some held.value))
-        (IsBegunAs role (config_of host.now realm.now product.now addresses.now apps.now numbers.now))) }
-    ensures is_peer { IfOk result (λ held. (∥ MayBePeer (Some held.value) ∥₁) × IsSome (peer_in (Some held.value))) }
-    ensures err { IfErr result (λ found. found ≢ ConfigFault.NoMemory
-        → IsFaultOf (config_of host.now realm.now product.now addresses.now apps.now numbers.now) found) }
-{
-    let Ok(host) = str::from_utf8(host) else {
-        return Err(ConfigFault::Host);
-    };
-    let Ok(realm) = str::from_utf8(realm) else {
-        return Err(ConfigFault::Realm);
-    };
-    let Ok(product) = str::from_utf8(product) else {
-        return Err(ConfigFault::Product);
-    };
-    let names = Names {
-        host,
-        realm,
-        product,
-    };
-    let config = config_of(alloc, names, addresses, apps, numbers)?;
-    begun_of(alloc, config, role)
-}
-
-/// An end of this configuration, in a box.
-fn begun_of(alloc: Global, config: Config, role: Role) -> Result<Box<Held>, ConfigFault>
-    ensures ok { IfOk result (λ held. IfSome (peer_in (Some held.value)) (IsBegunAs role (plain_config config))) }
-    ensures is_peer { IfOk result (λ held. (∥ MayBePeer (Some held.value) ∥₁) × IsSome (peer_in (Some held.value))) }
-    ensures err { IfErr result (IsRefusedAs (plain_config config)) }
-{
-    let peer = Peer::new(alloc, config, role)?;
-    Ok(boxed(alloc, peer)?)
-}
-
-fn boxed(alloc: Global, peer: Peer) -> Result<Box<Held>, AllocError>
-    ensures { IfOk result (λ held. (peer_in (Some held.value) ≡ Some (plain_end peer)) × ∥ MayBePeer (Some held.value) ∥₁) }
-{
-    let peer = Box::new(alloc, peer)?;
-    Ok(Box::new(alloc, Held::Peer(peer))?)
+    dia_c_calls::peer_open(
+        alloc, role, host, realm, product, addresses, apps, numbers, handle, fault,
+    )
 }
 
 /// Tells what happened at an end.
@@ -134,7 +53,8 @@ pub extern "C" fn dia_peer_event(
     bytes: &[u8],
     cause: u32,
 ) -> u32
-    ensures ends { (result ≡ DONE) ⊎ (result ≡ NO_MEMORY) ⊎ (result ≡ OUTPUTS_LEFT) ⊎ (result ≡ IS_CLOSED) ⊎ (result ≡ BAD_ARGUMENT) }
+    ensures ends { (result ≡ DONE) ⊎ (result ≡ NO_MEMORY) ⊎ (result ≡ OUTPUTS_LEFT) ⊎ (result ≡ IS_CLOSED)
+        ⊎ (result ≡ BAD_ARGUMENT) }
     ensures done { result ≡ DONE → IfSome (peer_in handle.old.slot.seal.held)
         (λ old. IfSome (peer_in handle.new.slot.seal.held) (HasHappened event bytes.now cause old)) }
     ensures is_open { result ≡ DONE → IsSome (peer_in handle.new.slot.seal.held) }
@@ -146,15 +66,7 @@ pub extern "C" fn dia_peer_event(
     ensures bad { result ≡ BAD_ARGUMENT → ¬ IsEventNumber event cause }
     ensures good { result ≢ BAD_ARGUMENT → IsEventNumber event cause }
 {
-    let Some(event) = event_of(event, bytes, cause) else {
-        return BAD_ARGUMENT;
-    };
-    let Some(mut held) = handle.take(alloc) else {
-        return IS_CLOSED;
-    };
-    let status = tell_in(&mut held, event);
-    handle.put(held);
-    status
+    dia_c_calls::peer_event(alloc, handle, event, bytes, cause)
 }
 
 /// Takes the next output of an end.
@@ -182,30 +94,7 @@ pub extern "C" fn dia_peer_output(
     ensures closed { result ≡ IS_CLOSED → handle.old.slot.seal.held ≡ None }
     ensures was_open { result ≢ IS_CLOSED → IsSome (peer_in handle.old.slot.seal.held) }
 {
-    let Some(mut held) = handle.take(alloc) else {
-        return IS_CLOSED;
-    };
-    let given = give_in(&mut held, out);
-    handle.put(held);
-    match given {
-        Given::Sent(sent) => {
-            *output = SEND;
-            *count = sent;
-            *why = 0;
-            DONE
-        }
-        Given::Closed(reason) => {
-            *output = CLOSE;
-            *count = 0;
-            *why = why_number(reason);
-            DONE
-        }
-        Given::NoRoom(wanted) => {
-            *count = wanted;
-            NO_ROOM
-        }
-        Given::Nothing => NONE,
-    }
+    dia_c_calls::peer_output(alloc, handle, output, out, count, why)
 }
 
 /// Where the connection stands.
@@ -219,12 +108,7 @@ pub extern "C" fn dia_peer_state(alloc: Global, handle: &mut PeerHandle, state: 
     ensures was_open { result ≡ DONE → IsSome (peer_in handle.old.slot.seal.held) }
     ensures only { result ≡ IS_CLOSED → state.new ≡ state.old }
 {
-    let Some(held) = handle.take(alloc) else {
-        return IS_CLOSED;
-    };
-    *state = state_number(peer_in(&held).core.state());
-    handle.put(held);
-    DONE
+    dia_c_calls::peer_state(alloc, handle, state)
 }
 
 /// Tells an application that both ends advertise by its place, from 0: none before the connection is open.
@@ -245,18 +129,7 @@ pub extern "C" fn dia_peer_common(
     ensures was_open { result ≢ IS_CLOSED → IsSome (peer_in handle.old.slot.seal.held) }
     ensures only { result ≢ DONE → app.new ≡ app.old }
 {
-    let Some(held) = handle.take(alloc) else {
-        return IS_CLOSED;
-    };
-    let found = common_at(peer_in(&held).core.common(), index);
-    handle.put(held);
-    match found {
-        Some(told) => {
-            *app = told;
-            DONE
-        }
-        None => NONE,
-    }
+    dia_c_calls::peer_common(alloc, handle, index, app)
 }
 
 /// Lets the end go, if the handle has one.
@@ -264,5 +137,5 @@ pub extern "C" fn dia_peer_common(
 pub extern "C" fn dia_peer_close(alloc: Global, handle: &mut PeerHandle)
     ensures closed { handle.new.slot.seal.held ≡ None }
 {
-    drop(handle.take(alloc));
+    dia_c_calls::peer_close(alloc, handle);
 }

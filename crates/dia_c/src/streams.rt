@@ -1,31 +1,15 @@
 //! Messages that come in pieces: opened, fed, asked, finished, closed.
 
-ghost use Rattle.std.specs.Prelude.{◌⊎◌, ◌≡◌, ◌≢◌, ◌↔◌, [], None, IfOk, IfSome, IsSome, Some};
-ghost use Rattle.dia_c.specs.Held.{MayBeStream, StandsFor, dict_in};
-ghost use Rattle.dia_c.specs.Streams.{HasFed, HasFinished, HasLevels, IsKept, IsSpent, OpensIn, StandsForNone};
-ghost use Rattle.dia_c.specs.Streams.{fed_of};
-ghost use Rattle.dia_c.specs.Verdicts.{IsUnknownPolicy, limit_of, policy_of};
+ghost use Rattle.std.specs.Prelude.{◌⊎◌, ◌≡◌, ◌≢◌, ◌↔◌, [], None, IfSome, IsSome};
+ghost use Rattle.dia_c_calls.specs.Held.{StandsFor, dict_in};
+ghost use Rattle.dia_c_calls.specs.Streams.{HasFed, HasFinished, HasLevels, IsKept, IsSpent, OpensIn, StandsForNone};
+ghost use Rattle.dia_c_calls.specs.Verdicts.{IsUnknownPolicy, limit_of, policy_of};
 
-use crate::feeding::Feeding;
-use crate::handle::{DictHandle, StreamHandle, feeding_in, owner_in};
-use crate::held::Held;
-use crate::status::{BAD_ARGUMENT, DONE, IS_CLOSED, IS_OPEN, NO_MEMORY, SPENT};
-use crate::verdict::{Untold, Verdict, limit_of, policy_of, verdict_of};
-use dia_book::Book;
-use dia_check::{Levels, Progress, StreamFault, Unknown};
-use dia_dict::IndexedBook;
-use std::alloc::{AllocError, Global};
-use std::sync::Arc;
-
-/// What was done with a piece.
-#[repr(C)]
-#[derive(Clone, Copy, PartialEq, Eq)]
-pub struct Fed {
-    /// How many of its first bytes belong to the message.
-    pub taken: usize,
-    /// 1 where the message takes no more, else 0.
-    pub done: u32,
-}
+use dia_c_calls::{
+    BAD_ARGUMENT, DONE, DictHandle, Fed, IS_CLOSED, IS_OPEN, NO_MEMORY, SPENT, StreamHandle,
+    Verdict,
+};
+use std::alloc::Global;
 
 /// Begins a message that is checked by a dictionary.
 #[unsafe(no_mangle)]
@@ -48,41 +32,7 @@ pub extern "C" fn dia_stream_open(
     ensures bad { result ≡ BAD_ARGUMENT → ¬ IsUnknownPolicy unknown }
     ensures good { result ≢ BAD_ARGUMENT → IsUnknownPolicy unknown }
 {
-    let Some(unknown) = policy_of(unknown) else {
-        return BAD_ARGUMENT;
-    };
-    let levels = limit_of(levels);
-    if stream.is_open() {
-        return IS_OPEN;
-    }
-    let Some(held) = handle.take(alloc) else {
-        return IS_CLOSED;
-    };
-    let made = begun(alloc, owner_in(&held), unknown, levels);
-    handle.put(held);
-    match made {
-        Ok(made) => {
-            stream.put(made);
-            DONE
-        }
-        Err(AllocError) => NO_MEMORY,
-    }
-}
-
-/// A message of which nothing came, beside another owner of its dictionary.
-fn begun(
-    alloc: Global,
-    owner: &Arc<IndexedBook>,
-    unknown: Unknown,
-    levels: Levels,
-) -> Result<Box<Held>, AllocError>
-    ensures stands { IfOk result (λ held. StandsFor (Some held.value)
-        (⟦<IndexedBook as Book>⟧.meaning owner.now.value) unknown levels []) }
-    ensures is_stream { IfOk result (λ held. ∥ MayBeStream (Some held.value) ∥₁) }
-{
-    let other = Arc::try_clone(owner)?;
-    let feeding = Feeding::new(alloc, other, unknown, levels);
-    Ok(Box::new(alloc, Held::Stream(feeding))?)
+    dia_c_calls::stream_open(alloc, handle, unknown, levels, stream)
 }
 
 /// Takes the next piece of the message, as far as it belongs to it.
@@ -105,31 +55,7 @@ pub extern "C" fn dia_stream_feed(
     ensures closed { result ≡ IS_CLOSED → (stream.old.slot.seal.held ≡ None) × (stream.new.slot.seal.held ≡ None) }
     ensures was_open { result ≢ IS_CLOSED → IsSome stream.old.slot.seal.held }
 {
-    let Some(mut held) = stream.take(alloc) else {
-        return IS_CLOSED;
-    };
-    let (feeding, answer) = feeding_in(&mut held).fed(piece);
-    Box::replace(&mut held, Held::Stream(feeding));
-    stream.put(held);
-    match answer {
-        Ok(progress) => {
-            *fed = fed_of(progress);
-            DONE
-        }
-        Err(fault) => match fault {
-            StreamFault::NoMemory => NO_MEMORY,
-            StreamFault::Spent => SPENT,
-        },
-    }
-}
-
-fn fed_of(progress: Progress) -> Fed
-    ensures { result ≡ fed_of progress }
-{
-    Fed {
-        taken: progress.taken,
-        done: if progress.done { 1 } else { 0 },
-    }
+    dia_c_calls::stream_feed(alloc, stream, piece, fed)
 }
 
 /// How many levels are open.
@@ -147,14 +73,7 @@ pub extern "C" fn dia_stream_levels(
     ensures closed { result ≡ IS_CLOSED → (stream.old.slot.seal.held ≡ None) × (stream.new.slot.seal.held ≡ None) }
     ensures was_open { result ≡ DONE → IsSome stream.old.slot.seal.held × IsSome stream.new.slot.seal.held }
 {
-    let Some(mut held) = stream.take(alloc) else {
-        return IS_CLOSED;
-    };
-    let (feeding, count) = feeding_in(&mut held).counted();
-    Box::replace(&mut held, Held::Stream(feeding));
-    stream.put(held);
-    *levels = count;
-    DONE
+    dia_c_calls::stream_levels(alloc, stream, levels)
 }
 
 /// What `diacmd check` says of the bytes that came, and lets the message go.
@@ -173,17 +92,7 @@ pub extern "C" fn dia_stream_finish(
     ensures closed { result ≡ IS_CLOSED → stream.old.slot.seal.held ≡ None }
     ensures was_open { result ≢ IS_CLOSED → IsSome stream.old.slot.seal.held }
 {
-    let Some(mut held) = stream.take(alloc) else {
-        return IS_CLOSED;
-    };
-    match verdict_of(feeding_in(&mut held).finished()) {
-        Ok(told) => {
-            *verdict = told;
-            DONE
-        }
-        Err(Untold::Spent) => SPENT,
-        Err(Untold::NoMemory) => unreachable!(),
-    }
+    dia_c_calls::stream_finish(alloc, stream, verdict)
 }
 
 /// Lets the message go, if the handle has one.
@@ -191,5 +100,5 @@ pub extern "C" fn dia_stream_finish(
 pub extern "C" fn dia_stream_close(alloc: Global, stream: &mut StreamHandle)
     ensures closed { stream.new.slot.seal.held ≡ None }
 {
-    drop(stream.take(alloc));
+    dia_c_calls::stream_close(alloc, stream);
 }

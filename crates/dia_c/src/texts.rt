@@ -1,13 +1,10 @@
 //! Texts that the library writes, read in pieces.
 
 ghost use Rattle.std.specs.Prelude.{◌⊎◌, ◌≡◌, ◌≢◌, ◌-◌, length, take, drop, min, None, IsSome, IfSome};
-ghost use Rattle.dia_c.specs.Held.{text_in};
-ghost use Rattle.dia_c.specs.Openings.{IsUnread, IsRenderedOf};
+ghost use Rattle.dia_c_calls.specs.Held.{text_in};
+ghost use Rattle.dia_c_calls.specs.Openings.{IsUnread, IsRenderedOf};
 
-use crate::handle::{TextHandle, bytes_in};
-use crate::names::copied_from;
-use crate::opening::{Problem, Refused, canonical};
-use crate::status::{DONE, IS_CLOSED, IS_OPEN, NO_MEMORY, REFUSED};
+use dia_c_calls::{DONE, IS_CLOSED, IS_OPEN, NO_MEMORY, Problem, REFUSED, TextHandle};
 use std::alloc::Global;
 
 /// The canonical text of the definitions of a dictionary's text.
@@ -27,20 +24,7 @@ pub extern "C" fn dia_render(
     ensures was_closed { result ≢ IS_OPEN → rendered.old.slot.seal.held ≡ None }
     ensures was_open { result ≡ IS_OPEN → IsSome rendered.old.slot.seal.held }
 {
-    if rendered.is_open() {
-        return IS_OPEN;
-    }
-    match canonical(alloc, text) {
-        Ok(held) => {
-            rendered.put(held);
-            DONE
-        }
-        Err(Refused::Bad(told)) => {
-            *problem = told;
-            REFUSED
-        }
-        Err(Refused::NoMemory) => NO_MEMORY,
-    }
+    dia_c_calls::render(alloc, text, rendered, problem)
 }
 
 /// Copies as much of the text, from a place in bytes on, as there is room for.
@@ -61,12 +45,7 @@ pub extern "C" fn dia_text_read(
     ensures was_open { result ≡ DONE → IsSome (text_in handle.old.slot.seal.held) }
     ensures only { result ≡ IS_CLOSED → (count.new ≡ count.old) × (out.new ≡ out.old) }
 {
-    let Some(held) = handle.take(alloc) else {
-        return IS_CLOSED;
-    };
-    *count = copied_from(bytes_in(&held).as_slice(), from, out);
-    handle.put(held);
-    DONE
+    dia_c_calls::text_read(alloc, handle, from, out, count)
 }
 
 /// How many bytes the text has.
@@ -80,12 +59,7 @@ pub extern "C" fn dia_text_length(alloc: Global, handle: &mut TextHandle, count:
     ensures was_open { result ≡ DONE → IsSome (text_in handle.old.slot.seal.held) }
     ensures only { result ≡ IS_CLOSED → count.new ≡ count.old }
 {
-    let Some(held) = handle.take(alloc) else {
-        return IS_CLOSED;
-    };
-    *count = bytes_in(&held).len();
-    handle.put(held);
-    DONE
+    dia_c_calls::text_length(alloc, handle, count)
 }
 
 /// Lets the text go, if the handle has one.
@@ -93,5 +67,5 @@ pub extern "C" fn dia_text_length(alloc: Global, handle: &mut TextHandle, count:
 pub extern "C" fn dia_text_close(alloc: Global, handle: &mut TextHandle)
     ensures closed { handle.new.slot.seal.held ≡ None }
 {
-    drop(handle.take(alloc));
+    dia_c_calls::text_close(alloc, handle);
 }

@@ -1,14 +1,12 @@
 //! What breaks where messages of one dictionary are read by another.
 
 ghost use Rattle.std.specs.Prelude.{◌⊎◌, ◌≡◌, ◌≢◌, None, IfSome, IsSome};
-ghost use Rattle.dia_c.specs.Held.{dict_in, text_in};
-ghost use Rattle.dia_c.specs.Upgrades.{AreNumbers, HasListed, IsNotListed, wanted_of};
+ghost use Rattle.dia_c_calls.specs.Held.{dict_in, text_in};
+ghost use Rattle.dia_c_calls.specs.Upgrades.{AreNumbers, HasListed, IsNotListed, wanted_of};
 
-use crate::handle::{DictHandle, TextHandle, owner_in};
-use crate::opening::{Problem, Refused};
-use crate::status::{BAD_ARGUMENT, DONE, IS_CLOSED, IS_OPEN, NO_MEMORY, REFUSED};
-use crate::upgrade::listed;
-use crate::wanted::wanted_of;
+use dia_c_calls::{
+    BAD_ARGUMENT, DONE, DictHandle, IS_CLOSED, IS_OPEN, NO_MEMORY, Problem, REFUSED, TextHandle,
+};
 use std::alloc::Global;
 
 /// What `diacmd breaking` writes of two dictionaries.
@@ -47,41 +45,7 @@ pub extern "C" fn dia_breaking(
     ensures bad { result ≡ BAD_ARGUMENT → ¬ AreNumbers sends unknown options }
     ensures good { result ≢ BAD_ARGUMENT → AreNumbers sends unknown options }
 {
-    let Some(wanted) = wanted_of(sends, unknown, options) else {
-        return BAD_ARGUMENT;
-    };
-    if text.is_open() {
-        return IS_OPEN;
-    }
-    let Some(first) = a.take(alloc) else {
-        return IS_CLOSED;
-    };
-    let Some(second) = b.take(alloc) else {
-        a.put(first);
-        return IS_CLOSED;
-    };
-    let answer = listed(
-        alloc,
-        &**owner_in(&first),
-        &**owner_in(&second),
-        wanted,
-        commands,
-        accepted,
-    );
-    a.put(first);
-    b.put(second);
-    match answer {
-        Ok(found) => {
-            *safe = found.holds;
-            text.put(found.text);
-            DONE
-        }
-        Err(refused) => match refused {
-            Refused::Bad(told) => {
-                *problem = told;
-                REFUSED
-            }
-            Refused::NoMemory => NO_MEMORY,
-        },
-    }
+    dia_c_calls::breaking(
+        alloc, a, b, sends, unknown, options, commands, accepted, text, safe, problem,
+    )
 }

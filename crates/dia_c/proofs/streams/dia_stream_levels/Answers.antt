@@ -1,5 +1,0 @@
-use Rattle.dia_c.proofs.FedStreams.{has_levels}
-use Rattle.dia_c.proofs.streams.dia_stream_levels.Goals as goal
-
-pub returns-clause-done : goal.returns-clause-done
-returns-clause-done c is = has_levels _ _ _ c.in-Some.ensures.some c.feeding_in.ensures _ c.counted-feeding.ensures.levels

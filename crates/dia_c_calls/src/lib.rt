@@ -1,0 +1,73 @@
+//! What each call of `c/dia.h` does: the handles with what they hold, and a function for each call. `dia_c` exports these
+//! functions to C, with the same clauses.
+#![tactic(auto)]
+
+mod answer;
+mod checks;
+mod comparison;
+mod comparisons;
+mod dictionaries;
+mod fault_lists;
+mod feeding;
+mod findings;
+mod handle;
+mod held;
+mod listing;
+mod listings;
+mod names;
+mod opening;
+mod peer;
+mod peer_config;
+mod peer_numbers;
+mod peers;
+mod sink;
+mod status;
+mod streams;
+mod texts;
+mod told_fault;
+mod upgrade;
+mod upgrades;
+mod verdict;
+mod verdict_line;
+mod wanted;
+
+pub use checks::{check, check_json, message_length};
+pub use comparisons::{compare, table_place};
+pub use dictionaries::{avp_name, command_name, dict_close, dict_open, dict_open_base, dict_share};
+pub use fault_lists::{faults_close, faults_get, faults_open, line_column};
+pub use handle::{DictHandle, FaultsHandle, PeerHandle, StreamHandle, TextHandle};
+pub use listings::show;
+pub use opening::Problem;
+pub use peer_config::{PeerAddress, PeerApp, PeerNumbers};
+pub use peers::{peer_close, peer_common, peer_event, peer_open, peer_output, peer_state};
+pub use status::{
+    BAD_ARGUMENT, DONE, IS_CLOSED, IS_OPEN, NO_MEMORY, NO_ROOM, NONE, OUTPUTS_LEFT, REFUSED, SPENT,
+};
+pub use streams::{Fed, stream_close, stream_feed, stream_finish, stream_levels, stream_open};
+pub use texts::{render, text_close, text_length, text_read};
+pub use told_fault::ToldFault;
+pub use upgrades::breaking;
+pub use verdict::Verdict;
+
+fn sent<T: Send>(x: T) -> T {
+    x
+}
+
+/// C may give a handle to another thread: this asks for the proofs.
+pub fn crossed(
+    handles: (
+        DictHandle,
+        TextHandle,
+        FaultsHandle,
+        PeerHandle,
+        StreamHandle,
+    ),
+) -> (
+    DictHandle,
+    TextHandle,
+    FaultsHandle,
+    PeerHandle,
+    StreamHandle,
+) {
+    sent(handles)
+}

@@ -1,0 +1,259 @@
+//! One end of a connection: opened, told what happens, asked what is to be done, closed.
+
+ghost use Rattle.std.specs.Prelude.{◌⊎◌, ◌≡◌, ◌≢◌, ◌<◌, ◌≤◌, [], length, slice_get, take};
+ghost use Rattle.std.specs.Prelude.{IfErr, IfOk, IfSome, IsSome, None, Some};
+ghost use Rattle.dia_peer.specs.Core.{plain_config};
+ghost use Rattle.dia_peer.specs.Machine.{IsRefusedAs};
+ghost use Rattle.dia_peer.specs.Outputs.{PlainOutput};
+ghost use Rattle.dia_c_calls.specs.Held.{MayBePeer, Takes, peer_in};
+ghost use Rattle.dia_c_calls.specs.Peers.{HasFault, IsBegun, IsBegunAs, IsFaultOf, IsRole, config_of, told_pair};
+ghost use Rattle.dia_c_calls.specs.PeerSteps.{HasHappened, IsEventNumber, IsToldOutput, WantsRoom, plain_end, state_number};
+
+use crate::handle::{PeerHandle, give_in, peer_in, tell_in};
+use crate::held::Held;
+use crate::peer::{Given, Peer};
+use crate::peer_config::{Names, PeerAddress, PeerApp, PeerNumbers, common_at, config_of};
+use crate::peer_numbers::{event_of, fault_number, role_of, state_number, why_number};
+use crate::status::{
+    BAD_ARGUMENT, DONE, IS_CLOSED, IS_OPEN, NO_MEMORY, NO_ROOM, NONE, OUTPUTS_LEFT, REFUSED,
+};
+use dia_peer::{Config, ConfigFault, Role};
+use std::alloc::{AllocError, Global};
+
+/// The number of an output that is a message to be sent.
+const SEND: u32 = 0;
+
+/// The number of an output that closes the connection.
+const CLOSE: u32 = 1;
+
+/// Opens one end of a connection.
+pub fn peer_open(
+    alloc: Global,
+    role: u32,
+    host: &[u8],
+    realm: &[u8],
+    product: &[u8],
+    addresses: &[PeerAddress],
+    apps: &[PeerApp],
+    numbers: &PeerNumbers,
+    handle: &mut PeerHandle,
+    fault: &mut u32,
+) -> u32
+    ensures ends { (result ≡ DONE) ⊎ (result ≡ REFUSED) ⊎ (result ≡ NO_MEMORY) ⊎ (result ≡ IS_OPEN) ⊎ (result ≡ BAD_ARGUMENT) }
+    ensures done { result ≡ DONE → IfSome (peer_in handle.new.slot.seal.held)
+        (IsBegun role (config_of host.now realm.now product.now addresses.now apps.now numbers.now)) }
+    ensures is_open { result ≡ DONE → IsSome (peer_in handle.new.slot.seal.held) }
+    ensures kept { result ≢ DONE → handle.new.slot.seal.held ≡ handle.old.slot.seal.held }
+    ensures refused { result ≡ REFUSED
+        → HasFault (config_of host.now realm.now product.now addresses.now apps.now numbers.now) fault.new }
+    ensures only { result ≢ REFUSED → fault.new ≡ fault.old }
+    ensures was_closed { result ≢ IS_OPEN → result ≢ BAD_ARGUMENT → handle.old.slot.seal.held ≡ None }
+    ensures was_open { result ≡ IS_OPEN → IsSome handle.old.slot.seal.held }
+    ensures bad { result ≡ BAD_ARGUMENT → ¬ IsRole role }
+    ensures good { result ≢ BAD_ARGUMENT → IsRole role }
+{
+    let Some(role) = role_of(role) else {
+        return BAD_ARGUMENT;
+    };
+    if handle.is_open() {
+        return IS_OPEN;
+    }
+    match begun(alloc, role, host, realm, product, addresses, apps, numbers) {
+        Ok(held) => {
+            handle.put(held);
+            DONE
+        }
+        Err(found) => match fault_number(found) {
+            Some(number) => {
+                *fault = number;
+                REFUSED
+            }
+            None => NO_MEMORY,
+        },
+    }
+}
+
+/// An end of this configuration.
+fn begun(
+    alloc: Global,
+    role: Role,
+    host: &[u8],
+    realm: &[u8],
+    product: &[u8],
+    addresses: &[PeerAddress],
+    apps: &[PeerApp],
+    numbers: &PeerNumbers,
+) -> Result<Box<Held>, ConfigFault>
+    ensures ok { IfOk result (λ held. IfSome (peer_in (Some held.value))
+        (IsBegunAs role (config_of host.now realm.now product.now addresses.now apps.now numbers.now))) }
+    ensures is_peer { IfOk result (λ held. (∥ MayBePeer (Some held.value) ∥₁) × IsSome (peer_in (Some held.value))) }
+    ensures err { IfErr result (λ found. found ≢ ConfigFault.NoMemory
+        → IsFaultOf (config_of host.now realm.now product.now addresses.now apps.now numbers.now) found) }
+{
+    let Ok(host) = str::from_utf8(host) else {
+        return Err(ConfigFault::Host);
+    };
+    let Ok(realm) = str::from_utf8(realm) else {
+        return Err(ConfigFault::Realm);
+    };
+    let Ok(product) = str::from_utf8(product) else {
+        return Err(ConfigFault::Product);
+    };
+    let names = Names {
+        host,
+        realm,
+        product,
+    };
+    let config = config_of(alloc, names, addresses, apps, numbers)?;
+    begun_of(alloc, config, role)
+}
+
+/// An end of this configuration, in a box.
+fn begun_of(alloc: Global, config: Config, role: Role) -> Result<Box<Held>, ConfigFault>
+    ensures ok { IfOk result (λ held. IfSome (peer_in (Some held.value)) (IsBegunAs role (plain_config config))) }
+    ensures is_peer { IfOk result (λ held. (∥ MayBePeer (Some held.value) ∥₁) × IsSome (peer_in (Some held.value))) }
+    ensures err { IfErr result (IsRefusedAs (plain_config config)) }
+{
+    let peer = Peer::new(alloc, config, role)?;
+    Ok(boxed(alloc, peer)?)
+}
+
+fn boxed(alloc: Global, peer: Peer) -> Result<Box<Held>, AllocError>
+    ensures { IfOk result (λ held. (peer_in (Some held.value) ≡ Some (plain_end peer)) × ∥ MayBePeer (Some held.value) ∥₁) }
+{
+    let peer = Box::new(alloc, peer)?;
+    Ok(Box::new(alloc, Held::Peer(peer))?)
+}
+
+/// Tells what happened at an end.
+pub fn peer_event(
+    alloc: Global,
+    handle: &mut PeerHandle,
+    event: u32,
+    bytes: &[u8],
+    cause: u32,
+) -> u32
+    ensures ends { (result ≡ DONE) ⊎ (result ≡ NO_MEMORY) ⊎ (result ≡ OUTPUTS_LEFT) ⊎ (result ≡ IS_CLOSED)
+        ⊎ (result ≡ BAD_ARGUMENT) }
+    ensures done { result ≡ DONE → IfSome (peer_in handle.old.slot.seal.held)
+        (λ old. IfSome (peer_in handle.new.slot.seal.held) (HasHappened event bytes.now cause old)) }
+    ensures is_open { result ≡ DONE → IsSome (peer_in handle.new.slot.seal.held) }
+    ensures kept { result ≢ DONE → handle.new.slot.seal.held ≡ handle.old.slot.seal.held }
+    ensures left { result ≡ OUTPUTS_LEFT → IfSome (peer_in handle.old.slot.seal.held) (λ old. old.left ≢ []) }
+    ensures none_left { result ≡ NO_MEMORY → IfSome (peer_in handle.old.slot.seal.held) (λ old. old.left ≡ []) }
+    ensures closed { result ≡ IS_CLOSED → handle.old.slot.seal.held ≡ None }
+    ensures was_open { result ≢ IS_CLOSED → result ≢ BAD_ARGUMENT → IsSome (peer_in handle.old.slot.seal.held) }
+    ensures bad { result ≡ BAD_ARGUMENT → ¬ IsEventNumber event cause }
+    ensures good { result ≢ BAD_ARGUMENT → IsEventNumber event cause }
+{
+    let Some(event) = event_of(event, bytes, cause) else {
+        return BAD_ARGUMENT;
+    };
+    let Some(mut held) = handle.take(alloc) else {
+        return IS_CLOSED;
+    };
+    let status = tell_in(&mut held, event);
+    handle.put(held);
+    status
+}
+
+/// Takes the next output of an end.
+pub fn peer_output(
+    alloc: Global,
+    handle: &mut PeerHandle,
+    output: &mut u32,
+    out: &mut [u8],
+    count: &mut usize,
+    why: &mut u32,
+) -> u32
+    ensures ends { (result ≡ DONE) ⊎ (result ≡ NONE) ⊎ (result ≡ NO_ROOM) ⊎ (result ≡ IS_CLOSED) }
+    ensures done { result ≡ DONE → (taken : PlainOutput)
+        × Takes (peer_in handle.old.slot.seal.held) (peer_in handle.new.slot.seal.held) taken
+        × IsToldOutput taken output.new (take count.new out.new) why.new }
+    ensures count { result ≡ DONE → count.new ≤ length out.new }
+    ensures is_open { result ≡ DONE → IsSome (peer_in handle.new.slot.seal.held) }
+    ensures kept { result ≢ DONE → handle.new.slot.seal.held ≡ handle.old.slot.seal.held }
+    ensures none { result ≡ NONE → IfSome (peer_in handle.old.slot.seal.held) (λ old. old.left ≡ []) }
+    ensures room { result ≡ NO_ROOM → length out.new < count.new }
+    ensures wanted { result ≡ NO_ROOM → IfSome (peer_in handle.old.slot.seal.held) (WantsRoom count.new) }
+    ensures only { result ≢ DONE → (output.new ≡ output.old) × (why.new ≡ why.old) }
+    ensures only_count { (result ≡ NONE) ⊎ (result ≡ IS_CLOSED) → count.new ≡ count.old }
+    ensures closed { result ≡ IS_CLOSED → handle.old.slot.seal.held ≡ None }
+    ensures was_open { result ≢ IS_CLOSED → IsSome (peer_in handle.old.slot.seal.held) }
+{
+    let Some(mut held) = handle.take(alloc) else {
+        return IS_CLOSED;
+    };
+    let given = give_in(&mut held, out);
+    handle.put(held);
+    match given {
+        Given::Sent(sent) => {
+            *output = SEND;
+            *count = sent;
+            *why = 0;
+            DONE
+        }
+        Given::Closed(reason) => {
+            *output = CLOSE;
+            *count = 0;
+            *why = why_number(reason);
+            DONE
+        }
+        Given::NoRoom(wanted) => {
+            *count = wanted;
+            NO_ROOM
+        }
+        Given::Nothing => NONE,
+    }
+}
+
+/// Where the connection stands.
+pub fn peer_state(alloc: Global, handle: &mut PeerHandle, state: &mut u32) -> u32
+    ensures ends { (result ≡ DONE) ⊎ (result ≡ IS_CLOSED) }
+    ensures kept { handle.new.slot.seal.held ≡ handle.old.slot.seal.held }
+    ensures done { result ≡ DONE → IfSome (peer_in handle.old.slot.seal.held)
+        (λ peer. state.new ≡ state_number peer.core.state) }
+    ensures closed { result ≡ IS_CLOSED → handle.old.slot.seal.held ≡ None }
+    ensures was_open { result ≡ DONE → IsSome (peer_in handle.old.slot.seal.held) }
+    ensures only { result ≡ IS_CLOSED → state.new ≡ state.old }
+{
+    let Some(held) = handle.take(alloc) else {
+        return IS_CLOSED;
+    };
+    *state = state_number(peer_in(&held).core.state());
+    handle.put(held);
+    DONE
+}
+
+/// Tells an application that both ends advertise by its place, from 0: none before the connection is open.
+pub fn peer_common(alloc: Global, handle: &mut PeerHandle, index: usize, app: &mut PeerApp) -> u32
+    ensures ends { (result ≡ DONE) ⊎ (result ≡ NONE) ⊎ (result ≡ IS_CLOSED) }
+    ensures kept { handle.new.slot.seal.held ≡ handle.old.slot.seal.held }
+    ensures done { result ≡ DONE → IfSome (peer_in handle.old.slot.seal.held)
+        (λ peer. IfSome (slice_get peer.core.common index) (λ p. app.new ≡ told_pair p)) }
+    ensures some { result ≡ DONE → IfSome (peer_in handle.old.slot.seal.held) (λ peer. index < length peer.core.common) }
+    ensures none { result ≡ NONE → IfSome (peer_in handle.old.slot.seal.held) (λ peer. length peer.core.common ≤ index) }
+    ensures closed { result ≡ IS_CLOSED → handle.old.slot.seal.held ≡ None }
+    ensures was_open { result ≢ IS_CLOSED → IsSome (peer_in handle.old.slot.seal.held) }
+    ensures only { result ≢ DONE → app.new ≡ app.old }
+{
+    let Some(held) = handle.take(alloc) else {
+        return IS_CLOSED;
+    };
+    let found = common_at(peer_in(&held).core.common(), index);
+    handle.put(held);
+    match found {
+        Some(told) => {
+            *app = told;
+            DONE
+        }
+        None => NONE,
+    }
+}
+
+/// Lets the end go, if the handle has one.
+pub fn peer_close(alloc: Global, handle: &mut PeerHandle)
+    ensures closed { handle.new.slot.seal.held ≡ None }
+{
+    drop(handle.take(alloc));
+}

@@ -1,0 +1,193 @@
+//! What is said of a message.
+
+ghost use Rattle.std.specs.Prelude.{◌≡◌, ◌↔◌, None, Err, IfOk, IfErr, IfSome, Result};
+ghost use Rattle.dia_check.specs.Faults.{HasLength, IsAnswer, simple};
+ghost use Rattle.dia_c_calls.specs.Verdicts.{IsHeadVerdict, IsUnknownPolicy, IsVerdict};
+ghost use Rattle.dia_c_calls.specs.Verdicts.{fault_verdict, limit_of, no_message, policy_of};
+
+use dia_book::Book;
+use dia_check::{Fault, Levels, Reason, Refusal, Room, Selected, Subject, Unknown, check_in};
+use dia_wire::{HeadFault, MessageFault, read_header};
+use std::alloc::AllocError;
+
+/// What is said of a message.
+#[repr(C)]
+#[derive(Clone, Copy, PartialEq, Eq)]
+pub struct Verdict {
+    /// 0: valid. 1: a fault. 2: truncated. 3: trailing.
+    pub outcome: u32,
+    /// Of a valid message: the definition of its command.
+    pub command: u32,
+    /// Of a fault: the result code (RFC 6733 section 7.1).
+    pub code: u32,
+    /// Of a fault: its place in bytes from the first.
+    pub place: u32,
+    /// Of a fault: the number of its reason.
+    pub reason: u32,
+    /// Of a fault: 0 where it is about no AVP, 1 about the AVP of this code and vendor, 2 about AVPs that no rule lists.
+    pub subject: u32,
+    pub avp_code: u32,
+    pub avp_vendor: u32,
+}
+
+const ALL_ZERO: Verdict = Verdict {
+    outcome: 0,
+    command: 0,
+    code: 0,
+    place: 0,
+    reason: 0,
+    subject: 0,
+    avp_code: 0,
+    avp_vendor: 0,
+};
+
+/// There are fewer bytes than the header or than Message Length.
+const TRUNCATED: Verdict = Verdict {
+    outcome: 2,
+    ..ALL_ZERO
+};
+
+/// There are more bytes than Message Length.
+const TRAILING: Verdict = Verdict {
+    outcome: 3,
+    ..ALL_ZERO
+};
+
+/// The policy of a number.
+pub fn policy_of(unknown: u32) -> Option<Unknown>
+    ensures some { IfSome result (λ policy. (policy ≡ policy_of unknown) × IsUnknownPolicy unknown) }
+    ensures none { result ≡ None → ¬ IsUnknownPolicy unknown }
+{
+    match unknown {
+        0 => Some(Unknown::Kept),
+        1 => Some(Unknown::Refused),
+        _ => None,
+    }
+}
+
+/// The limit of a number.
+pub fn limit_of(levels: u32) -> Levels
+    ensures { result ≡ limit_of levels }
+{
+    if levels == u32::MAX {
+        return Levels::Any;
+    }
+    Levels::AtMost(levels)
+}
+
+/// The verdict on a message.
+pub fn checked<B: Book>(
+    room: &mut Room,
+    book: &B,
+    unknown: Unknown,
+    levels: Levels,
+    message: &[u8],
+) -> Result<Verdict, AllocError>
+    ensures { IfOk result (λ verdict. (answer : Result Selected Refusal)
+        × IsAnswer (B.meaning book.now) unknown levels message.now answer × IsVerdict answer verdict) }
+{
+    match verdict_of(check_in(room, book, unknown, levels, message)) {
+        Ok(verdict) => Ok(verdict),
+        Err(Untold::NoMemory) => Err(AllocError),
+        Err(Untold::Spent) => unreachable!(),
+    }
+}
+
+/// Why there is no verdict.
+#[derive(Clone, Copy)]
+pub enum Untold {
+    NoMemory,
+    /// The stream was refused memory before.
+    Spent,
+}
+
+/// The verdict of an answer.
+pub fn verdict_of(answer: Result<Selected, Refusal>) -> Result<Verdict, Untold>
+    ensures told { IfOk result (IsVerdict answer) }
+    ensures no_memory { result ≡ Err Untold.NoMemory → answer ≡ Err Refusal.NoMemory }
+    ensures spent { (result ≡ Err Untold.Spent) ↔ (answer ≡ Err Refusal.Spent) }
+{
+    match answer {
+        Ok(found) => Ok(Verdict {
+            command: found.def.index() as u32,
+            ..ALL_ZERO
+        }),
+        Err(Refusal::Fault(fault)) => Ok(faulty(fault)),
+        Err(Refusal::Truncated) => Ok(TRUNCATED),
+        Err(Refusal::Trailing) => Ok(TRAILING),
+        Err(Refusal::NoMemory) => Err(Untold::NoMemory),
+        Err(Refusal::Spent) => Err(Untold::Spent),
+    }
+}
+
+/// The Message Length of the header with which the bytes begin, or what is wrong with it.
+pub fn message_length(bytes: &[u8]) -> Result<u32, Verdict>
+    ensures length { IfOk result (HasLength bytes.now) }
+    ensures fault { IfErr result (IsHeadVerdict bytes.now) }
+{
+    match read_header(bytes) {
+        Ok((_, length)) => Ok(length),
+        Err(HeadFault::Short) => Err(TRUNCATED),
+        Err(HeadFault::Version) => Err(header_fault(0, Reason::Version)),
+        Err(HeadFault::Length) => Err(header_fault(1, Reason::Length)),
+    }
+}
+
+/// The verdict on bytes that are no message.
+pub fn no_message(fault: MessageFault) -> Verdict
+    ensures { result ≡ no_message fault }
+{
+    match fault {
+        MessageFault::Short => TRUNCATED,
+        MessageFault::Version => header_fault(0, Reason::Version),
+        MessageFault::Length => header_fault(1, Reason::Length),
+        MessageFault::Truncated => TRUNCATED,
+        MessageFault::Trailing => TRAILING,
+    }
+}
+
+/// The verdict of a fault of the header.
+fn header_fault(place: u32, reason: Reason) -> Verdict
+    ensures { result ≡ fault_verdict (simple place reason) }
+{
+    faulty(Fault {
+        place,
+        code: reason.code(),
+        reason,
+        subject: Subject::Nothing,
+    })
+}
+
+/// The verdict of a fault.
+fn faulty(fault: Fault) -> Verdict
+    ensures { result ≡ fault_verdict fault }
+{
+    let reason = fault.reason.rank();
+    match fault.subject {
+        Subject::Nothing => Verdict {
+            outcome: 1,
+            code: fault.code,
+            place: fault.place,
+            reason,
+            ..ALL_ZERO
+        },
+        Subject::Avp(key) => Verdict {
+            outcome: 1,
+            code: fault.code,
+            place: fault.place,
+            reason,
+            subject: 1,
+            avp_code: key.code,
+            avp_vendor: key.vendor,
+            ..ALL_ZERO
+        },
+        Subject::Wildcard => Verdict {
+            outcome: 1,
+            code: fault.code,
+            place: fault.place,
+            reason,
+            subject: 2,
+            ..ALL_ZERO
+        },
+    }
+}
