@@ -21,6 +21,6 @@ pub fn push_answer(
         Report::Invalid(found) => push_check(out, texts, found),
         Report::Unrefuting(found) => push_refute(out, texts, found),
         Report::Compared(found) => push_compare(out, texts, found),
-        Report::Done | Report::Refused(_) | Report::NoCommand(_) => Ok(()),
+        Report::Done | Report::Refused(_) | Report::NoCommand(_) | Report::Shown(_) => Ok(()),
     }
 }

@@ -50,7 +50,7 @@ pub fn show(alloc: Global, inputs: &Inputs) -> Result<Answered, AllocError>
     let Shown { text, exit } = shown_of(alloc, &first.book, message.as_slice(), &header, body)?;
     let report = match exit {
         Exit::No => Report::Cut(CutListing { first, message }),
-        _ => Report::Done,
+        _ => Report::Shown(message),
     };
     Ok(Answered { text, exit, report })
 }

@@ -1,6 +1,6 @@
 //! `show --as-text`, from its inputs to what is written.
 
-ghost use Rattle.std.specs.Prelude.{◌≡◌, ◌↔◌, ℕ, List, IfOk, Err, IsTrue, string_bytes};
+ghost use Rattle.std.specs.Prelude.{◌≡◌, ◌≢◌, ◌↔◌, ℕ, List, IfOk, OnOk, Err, IsTrue, string_bytes};
 ghost use Rattle.std.specs.Io.KnownBytes.{Appends};
 ghost use Rattle.dia_policy.specs.Limits.{max_message_text};
 ghost use Rattle.dia_io.specs.declared.Exit.{Exit as AnyExit};
@@ -30,23 +30,26 @@ use std::alloc::{AllocError, Global};
 /// Writes the text of a message with the first dictionary, which `make` reads as the same bytes; or why it has none.
 ///
 /// The message's input is hexadecimal text, as `show` reads it. What is written is made first, and then written in whatever
-/// pieces the sink takes.
+/// pieces the sink takes. `shown` becomes the bytes of the message, unless an input is refused.
 pub fn show_text<S: Sink>(
     alloc: Global,
     inputs: &Inputs,
+    shown: &mut Vec<u8>,
     sink: &mut S,
 ) -> Result<Reported, RunFault>
     requires { ¬ IsTrue (S.has_failed sink.old) }
     ensures text { IfOk result (λ reported. (text : List ℕ) × IsShowTextOutcome inputs.now text reported.exit
         × IsTold reported.report text reported.exit
         × Appends (S.written sink.old) (S.written sink.new) text) }
+    ensures shown { IfOk result (λ reported. reported.exit ≢ Exit.Bad
+        → IsMessageText inputs.now.message shown.new.items) }
     ensures device { (result ≡ Err RunFault.Device) ↔ IsTrue (S.has_failed sink.new) }
     ensures front { result ≡ Err RunFault.Device
         → (text : List ℕ) × (exit : AnyExit) × IsShowTextOutcome inputs.now text exit
         × AppendsFront (S.written sink.old) (S.written sink.new) text }
     ensures no_memory { result ≡ Err RunFault.NoMemory → S.written sink.new ≡ S.written sink.old }
 {
-    let Answered { text, exit, report } = answer(alloc, inputs)?;
+    let Answered { text, exit, report } = answer(alloc, inputs, shown)?;
     put_all(sink, text.as_bytes())?;
     Ok(Reported { exit, report })
 }
@@ -61,12 +64,14 @@ pub fn shown_is_made()
 {}
 
 /// The text for the inputs, how it ends, and what was found.
-fn answer(alloc: Global, inputs: &Inputs) -> Result<Answered, AllocError>
+fn answer(alloc: Global, inputs: &Inputs, shown: &mut Vec<u8>) -> Result<Answered, AllocError>
     ensures outcome { IfOk result
         (λ answered. IsShowTextOutcome inputs.now (string_bytes answered.text) answered.exit) }
     ensures report { IfOk result HasReport }
+    ensures shown { IfOk result (λ answered. answered.exit ≢ Exit.Bad
+        → IsMessageText inputs.now.message shown.new.items) }
 {
-    match attempt(alloc, inputs) {
+    match attempt(alloc, inputs, shown) {
         Ok(answered) => Ok(answered),
         Err(Refused::Bad(bad)) => refuse(alloc, bad),
         Err(Refused::NoMemory) => Err(AllocError),
@@ -74,13 +79,16 @@ fn answer(alloc: Global, inputs: &Inputs) -> Result<Answered, AllocError>
 }
 
 /// The answer, or why an input is refused.
-fn attempt(alloc: Global, inputs: &Inputs) -> Result<Answered, Refused>
+fn attempt(alloc: Global, inputs: &Inputs, shown: &mut Vec<u8>) -> Result<Answered, Refused>
     ensures outcome { Gives (IsShowTextOutcome inputs.now) result }
     ensures report { IfOk result HasReport }
+    ensures shown { OnOk result (IsMessageText inputs.now.message shown.new.items) }
 {
     let first = read_dictionary(alloc, 1, &inputs.first)?;
     let message = read_message(alloc, &inputs.message)?;
-    text_of(alloc, &first.book, message.as_slice())
+    let answered = text_of(alloc, &first.book, message.as_slice());
+    *shown = message;
+    answered
 }
 
 /// The text of a message, or the place at which it ends too early.

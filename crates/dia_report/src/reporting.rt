@@ -84,6 +84,8 @@ pub enum Report {
     Refused(BadInput),
     /// A name that is asked for is that of no command of the first dictionary.
     NoCommand(BothBooks),
+    /// A message that was shown to its end: its bytes.
+    Shown(Vec<u8>),
     Cut(CutListing),
     Invalid(Invalid),
     Unrefuting(Unrefuting),

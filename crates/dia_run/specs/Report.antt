@@ -19,7 +19,7 @@ use Rattle.dia_report.specs.declared.reporting.Answered.{Answered}
 use Rattle.dia_report.specs.declared.reporting.ReadBook.{ReadBook}
 use Rattle.dia_report.specs.declared.reporting.BothBooks.{BothBooks}
 use Rattle.dia_report.specs.declared.reporting.Report.{Report}
-use Rattle.dia_report.specs.declared.reporting.Report.TheVariants.{Done, Refused, NoCommand, Cut, Invalid, Unrefuting, Compared}
+use Rattle.dia_report.specs.declared.reporting.Report.TheVariants.{Done, Refused, NoCommand, Shown, Cut, Invalid, Unrefuting, Compared}
 use Rattle.dia_report.specs.declared.refusing.Refused.{Refused as AnyRefusal}
 use Rattle.dia_report.specs.declared.refusing.Refused.TheVariants as refusal
 use Rattle.dia_report.specs.declared.bad_input.BadInput.TheVariants.{Dictionary}
@@ -47,6 +47,7 @@ abbrev pub IsReport : (IndexedBook → AnyDictionary) → Inputs → Report → 
 IsReport meaning inputs Done text exit = exit ≡ Yes
 IsReport meaning inputs (Refused bad) text exit = Refuses (bad_input_text bad) text exit
 IsReport meaning inputs (NoCommand both) text exit = AreReadFrom meaning inputs both × (exit ≡ Bad)
+IsReport meaning inputs (Shown message) text exit = IsMessageText inputs.message message.items × (exit ≡ Yes)
 IsReport meaning inputs (Cut listing) text exit =
     IsReadFrom meaning inputs.first listing.first.value × IsMessageText inputs.message listing.message.items × (exit ≡ No)
 IsReport meaning inputs (Invalid found) text exit =

@@ -21,7 +21,7 @@ mod commands;
 mod inputs;
 mod running;
 
-pub use commands::check::{check_message, is_endless, push_subject, verdict};
+pub use commands::check::{push_subject, verdict};
 pub use commands::show::show_message;
 pub use commands::{Outcome, answer_of, outcome_of, told};
 pub use dia_io::{

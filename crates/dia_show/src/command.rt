@@ -115,7 +115,7 @@ fn listed(
     let message = read_message(alloc, &inputs.message)?;
     let Outcome { text, exit } = show_message(alloc, manner, &first.book, message.as_slice())?;
     let report = match exit {
-        Exit::Yes => dia_report::Report::Done,
+        Exit::Yes => dia_report::Report::Shown(message),
         Exit::No => dia_report::Report::Cut(CutListing { first, message }),
         Exit::Bad => unreachable!(),
     };

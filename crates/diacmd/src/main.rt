@@ -100,7 +100,7 @@ where
         let texts = texts_of(&origins, &inputs);
         note(rt, &texts, names_of(&task), &reported.report);
         if let (Some(sign), Origin::Base) = (sign_of(&task), origins.first) {
-            note_unnamed(rt, &inputs, sign);
+            note_unnamed(rt, &reported.report, sign);
         }
     }
     Ok(reported.exit)
@@ -281,8 +281,8 @@ fn sign_of(task: &Task) -> Option<&'static str> {
 }
 
 /// Tells how AVPs are named that the base dictionary doesn't have. Where memory or the device fails, nothing is told.
-fn note_unnamed<R: AllocGlobal + Eprint>(rt: &R, inputs: &Inputs, sign: &str) {
-    if let Ok(text) = unnamed(rt.alloc(), inputs, sign) {
+fn note_unnamed<R: AllocGlobal + Eprint>(rt: &R, report: &Report, sign: &str) {
+    if let Ok(text) = unnamed(rt.alloc(), report, sign) {
         let _ = eprint!(rt; "{text}");
     }
 }

@@ -13,7 +13,7 @@ use dia_explain_upgrades::{
 };
 use dia_policy::Sends;
 use dia_report::{BothBooks, Compared, Report};
-use dia_run::{Inputs, read_message};
+use dia_run::Inputs;
 use dia_upgrades::{Asked, Found, Told, lines_left};
 use std::alloc::{AllocError, Global};
 
@@ -43,7 +43,7 @@ pub(crate) fn explain(
         Report::Invalid(found) => push_length(&mut out, &texts.message, &found.message)?,
         Report::Unrefuting(found) => push_length(&mut out, &texts.message, &found.message)?,
         Report::Compared(found) => push_table(alloc, &mut out, texts, found)?,
-        Report::Done | Report::Cut(_) => {}
+        Report::Done | Report::Shown(_) | Report::Cut(_) => {}
     }
     Ok(out)
 }
@@ -69,10 +69,12 @@ pub(crate) fn explain_upgrade(
 
 /// What is told on standard error of a message that was shown by the base dictionary. `sign` is what stands for a name that it
 /// doesn't have.
-pub(crate) fn unnamed(alloc: Global, inputs: &Inputs, sign: &str) -> Result<String, AllocError> {
+pub(crate) fn unnamed(alloc: Global, report: &Report, sign: &str) -> Result<String, AllocError> {
     let mut out = String::new(alloc);
-    if let Ok(message) = read_message(alloc, &inputs.message) {
-        push_unnamed(alloc, &mut out, &message, sign)?;
+    match report {
+        Report::Shown(message) => push_unnamed(alloc, &mut out, message, sign)?,
+        Report::Cut(listing) => push_unnamed(alloc, &mut out, &listing.message, sign)?,
+        _ => {}
     }
     Ok(out)
 }

@@ -34,9 +34,15 @@ where
     R: AllocGlobal + Print + Eprint,
 {
     let mut sink = ToWriter::new(io::writer(rt));
-    let ended = show_text(rt.alloc(), inputs, &mut sink);
+    let mut bytes = Vec::new(rt.alloc());
+    let ended = show_text(rt.alloc(), inputs, &mut bytes, &mut sink);
     let shown = answered(ended, sink.failure())?;
-    Ok(explained(rt, shown, inputs, message, quiet))
+    let Reported { exit, report } = explained(rt, shown, inputs, message, quiet);
+    let report = match report {
+        Report::Done => Report::Shown(bytes),
+        refused => refused,
+    };
+    Ok(Reported { exit, report })
 }
 
 /// How a command ended that wrote to standard output. `error` is what the system said of that.

@@ -11,10 +11,9 @@ ghost use Rattle.dia_run.specs.Verdict.{IsVerdict, fault_line, subject_text};
 
 mod feeding;
 
-pub use crate::commands::check::feeding::{check_message, is_endless};
+use crate::commands::check::feeding::{CheckedMessage, check_message};
 use crate::commands::{Outcome, told};
 use crate::inputs::dictionary::read_dictionary;
-use crate::inputs::message::read_message;
 use dia_check::{Fault, Levels, Refusal, Selected, Subject, Unknown};
 use dia_dict::{Book, DefId, IndexedBook};
 use dia_io::{Exit, Inputs};
@@ -32,13 +31,15 @@ pub fn check(
     ensures report { IfOk result (HasReport ⟦<IndexedBook as Book>⟧.meaning inputs.now) }
 {
     let first = read_dictionary(alloc, 1, &inputs.first)?;
-    let answer = check_message(alloc, &first.book, unknown, levels, &inputs.message)?;
+    let CheckedMessage {
+        bytes: message,
+        answer,
+    } = check_message(alloc, &first.book, unknown, levels, &inputs.message)?;
     let Outcome { text, exit } = verdict(alloc, &first.book, &answer)?;
     let Err(refusal) = answer else {
         let report = Report::Done;
         return Ok(Answered { text, exit, report });
     };
-    let message = read_message(alloc, &inputs.message)?;
     let report = Report::Invalid(Invalid {
         first,
         message,

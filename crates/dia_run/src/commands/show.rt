@@ -30,7 +30,7 @@ pub fn show(alloc: Global, inputs: &Inputs) -> Result<Answered, Refused>
         Exit::Yes => return Ok(Answered {
             text,
             exit,
-            report: Report::Done,
+            report: Report::Shown(message),
         }),
         Exit::No => Report::Cut(CutListing { first, message }),
         Exit::Bad => unreachable!(),

@@ -1,3 +1,4 @@
+use Rattle.std.proofs.lemmas.Result.{IfOk-weaker}
 use Rattle.dia_make.specs.Shown.{IsShowTextOutcome}
 use Rattle.dia_make.proofs.Answers.{told_refused}
 use Rattle.dia_make.proofs.Shown.{refused_ends}
@@ -9,3 +10,6 @@ returns-in-Err-Bad-clause-outcome c =
 
 pub returns-in-Err-Bad-clause-report : goal.returns-in-Err-Bad-clause-report
 returns-in-Err-Bad-clause-report c = told_refused _ _ c.refuse.ensures.text c.refuse.ensures.exit c.refuse.ensures.report
+
+pub returns-in-Err-Bad-clause-shown : goal.returns-in-Err-Bad-clause-shown
+returns-in-Err-Bad-clause-shown c = IfOk-weaker c.refuse.result _ _ (λ answered bad not. absurd (not bad)) c.refuse.ensures.exit

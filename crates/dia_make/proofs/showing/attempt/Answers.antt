@@ -14,4 +14,4 @@ returns-in_err-message-clause-outcome c =
 
 pub returns-clause-outcome : goal.returns-clause-outcome
 returns-clause-outcome c =
-    gives_for c.args.inputs.now _ _ _ c.in_ok-first.ensures.book (rw c.as_slice.ensures.value c.in_ok-message.ensures.message) (rw c.deref.ensures at c.text_of.ensures.outcome)
+    gives_for c.args.inputs.now _ _ _ c.in_ok-first.ensures.book (rw c.as_slice.ensures.value c.in_ok-message.ensures.message) (rw c.deref.ensures at c.text_of-answered.ensures.outcome)

@@ -21,6 +21,13 @@ use dia_io::Input;
 use dia_report::Refused;
 use std::alloc::Global;
 
+/// A message that was checked as its text was decoded: its bytes, and what the check answers.
+#[derive(Drop)]
+pub(crate) struct CheckedMessage {
+    pub bytes: Vec<u8>,
+    pub answer: Result<Selected, Refusal>,
+}
+
 /// How far a text was fed to a stream.
 #[derive(Clone, Copy)]
 struct Fed<'a> {
@@ -30,36 +37,41 @@ struct Fed<'a> {
     trailing: bool,
 }
 
-/// What `check` answers of the message that an input spells.
-///
-/// It takes memory for the levels that are open, and none for the bytes.
-pub fn check_message<B: Book>(
+/// Checks the message that an input spells.
+pub(crate) fn check_message<B: Book>(
     alloc: Global,
     book: &B,
     unknown: Unknown,
     levels: Levels,
     input: &Input,
-) -> Result<Result<Selected, Refusal>, Refused>
-    ensures answer { IfOk result (λ answer. (bytes : List ℕ) × IsMessageText input.now bytes
-        × IsAnswer (B.meaning book.now) unknown levels bytes answer) }
+) -> Result<CheckedMessage, Refused>
+    ensures message { IfOk result (λ checked. IsMessageText input.now checked.bytes.items) }
+    ensures answer { IfOk result
+        (λ checked. IsAnswer (B.meaning book.now) unknown levels checked.bytes.items checked.answer) }
     ensures told { IfErr result (TellsOf (IsNoMessageText input.now)) }
 {
     let text = message_text(input)?;
+    let mut bytes = Vec::with_capacity(alloc, text.len() / 2)?;
     let mut stream = Stream::new(alloc, book, unknown, levels);
-    let trailing = feed_text(&mut stream, text)?;
-    Ok(answer_of_all(stream.finish(), trailing))
+    let trailing = feed_text(&mut stream, text, &mut bytes)?;
+    let answer = answer_of_all(stream.finish(), trailing);
+    Ok(CheckedMessage { bytes, answer })
 }
 
-/// Feeds the message that a text spells to a stream. Answers whether bytes follow it.
+/// Feeds the message that a text spells to a stream, and adds its bytes. Answers whether bytes follow it.
 ///
 /// Text behind the message, or behind a fault, is read to its end, too.
-fn feed_text<'a, B: Book>(stream: &mut Stream<'a, B>, text: &[u8]) -> Result<bool, Refused>
-    requires { ¬ IsSpent stream.old }
-    ensures fed { IfOk result (λ trailing. (bytes : List ℕ)
-        × (decode_of (digits_of text.now) ≡ Ok bytes)
-        × ((d : Dictionary) (u : AnyPolicy) (most : AnyLevels)
+fn feed_text<'a, B: Book>(
+    stream: &mut Stream<'a, B>,
+    text: &[u8],
+    bytes: &mut Vec<u8>,
+) -> Result<bool, Refused>
+    requires live { ¬ IsSpent stream.old }
+    requires empty { bytes.old.items ≡ [] }
+    ensures spelled { OnOk result (decode_of (digits_of text.now) ≡ Ok bytes.new.items) }
+    ensures fed { IfOk result (λ trailing. (d : Dictionary) (u : AnyPolicy) (most : AnyLevels)
         → StandsFor B.meaning stream.old d u most []
-        → WasFed B.meaning stream.new d u most bytes trailing)) }
+        → WasFed B.meaning stream.new d u most bytes.new.items trailing) }
     ensures goes_on { OnOk result (¬ IsSpent stream.new) }
     ensures told { IfErr result (TellsOf (IsNoHexadecimal text.now)) }
 {
@@ -68,27 +80,33 @@ fn feed_text<'a, B: Book>(stream: &mut Stream<'a, B>, text: &[u8]) -> Result<boo
         trailing: false,
     };
     while !fed.rest.is_empty() {
-        fed = feed_piece(stream, fed)?;
+        fed = feed_piece(stream, fed, bytes)?;
     }
     Ok(fed.trailing)
 }
 
-/// Feeds the next piece of a text to a stream.
-fn feed_piece<'a, 'b, B: Book>(stream: &mut Stream<'a, B>, fed: Fed<'b>) -> Result<Fed<'b>, Refused>
+/// Feeds the next piece of a text to a stream, and adds its bytes.
+fn feed_piece<'a, 'b, B: Book>(
+    stream: &mut Stream<'a, B>,
+    fed: Fed<'b>,
+    bytes: &mut Vec<u8>,
+) -> Result<Fed<'b>, Refused>
     requires { ¬ IsSpent stream.old }
     ensures fed { IfOk result (λ next. (piece : List ℕ)
         × SpellsFirst fed.entry.rest.now piece next.rest.now
-        × ((d : Dictionary) (u : AnyPolicy) (most : AnyLevels) (bytes : List ℕ)
-        → WasFed B.meaning stream.old d u most bytes fed.entry.trailing
-        → WasFed B.meaning stream.new d u most (bytes ++ piece) next.trailing)) }
+        × (bytes.new.items ≡ bytes.old.items ++ piece)
+        × ((d : Dictionary) (u : AnyPolicy) (most : AnyLevels) (before : List ℕ)
+        → WasFed B.meaning stream.old d u most before fed.entry.trailing
+        → WasFed B.meaning stream.new d u most (before ++ piece) next.trailing)) }
     ensures shorter { 0 < length fed.entry.rest.now
         → IfOk result (λ next. length next.rest.now < length fed.entry.rest.now) }
     ensures goes_on { OnOk result (¬ IsSpent stream.new) }
     ensures told { IfErr result (TellsOf (IsNoHexadecimal fed.entry.rest.now)) }
 {
-    let mut bytes = [0u8; MAX_PIECE];
-    let piece = next_piece(fed.rest, &mut bytes)?;
-    let progress = match stream.feed(&bytes[..piece.length]) {
+    let mut space = [0u8; MAX_PIECE];
+    let piece = next_piece(fed.rest, &mut space)?;
+    bytes.extend_from_slice(&space[..piece.length])?;
+    let progress = match stream.feed(&space[..piece.length]) {
         Ok(progress) => progress,
         Err(StreamFault::NoMemory) => return Err(Refused::NoMemory),
         Err(StreamFault::Spent) => unreachable!(),
@@ -115,7 +133,7 @@ fn answer_of_all(answer: Result<Selected, Refusal>, trailing: bool) -> Result<Se
 }
 
 /// Whether it isn't known where the message ends: its version or its Message Length is at fault.
-pub fn is_endless(answer: &Result<Selected, Refusal>) -> bool
+fn is_endless(answer: &Result<Selected, Refusal>) -> bool
     ensures { IsTrue result ↔ IsEndless answer.now }
 {
     matches!(

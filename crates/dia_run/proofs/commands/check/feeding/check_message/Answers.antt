@@ -10,12 +10,11 @@ returns-in_err-trailing-clause-told g c =
     rw (p.1, p.2) (TellsOf-map (IsNoHexadecimal c.in_ok-text.text.now) (IsNoMessageText c.args.input.now) _
     (λ told no. not_hexadecimal c.in_ok-text.text.now c.in_ok-text.ensures.text no.0 no.1) c.in_err-trailing.ensures.told)
 
+pub returns-clause-message : goal.returns-clause-message
+returns-clause-message g c = (c.in_ok-text.text.now, c.in_ok-text.ensures.text, c.in_ok-trailing.ensures.spelled)
+
 pub returns-clause-answer : goal.returns-clause-answer
 returns-clause-answer g c =
-    let (bytes, spells, fed) = c.in_ok-trailing.ensures.fed in
-    let was = fed _ _ _ c.new-stream.ensures.empty in (
-      bytes,
-      (c.in_ok-text.text.now, c.in_ok-text.ensures.text, spells),
-      c.answer_of_all.ensures (g.B.Book.meaning c.args.book.now) c.args.unknown c.args.levels bytes was.stands.taken.sound was.follow
-          (c.finish.ensures.answer c.in_ok-trailing.ensures.goes_on _ _ _ _ was.stands),
-    )
+    let was = c.in_ok-trailing.ensures.fed _ _ _ c.new-stream.ensures.empty in
+    c.answer_of_all-answer.ensures (g.B.Book.meaning c.args.book.now) c.args.unknown c.args.levels c.feed_text.new.bytes.items was.stands.taken.sound was.follow
+    (c.finish.ensures.answer c.in_ok-trailing.ensures.goes_on _ _ _ _ was.stands)

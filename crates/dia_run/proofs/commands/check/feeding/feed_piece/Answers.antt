@@ -13,6 +13,7 @@ returns-clause-fed g c =
     let size : length piece ≡ c.in_ok-piece.piece.length = length-take-le c.in_ok-piece.piece.length c.next_piece.new.bytes (omega (arith, c.next_piece.array_long, c.in_ok-piece.ensures.within)) in (
       piece,
       c.in_ok-piece.ensures.spells,
+      c.in_ok-extend_from_slice.ensures.items,
       λ d u most bytes was.
           let (takes, stands) = c.in-Ok.ensures.taken d u most (taken_of bytes) was.stands in record {
             stands = subst (StandsFor g.B.Book.meaning c.feed.new.self d u most) (takes_more bytes piece progress takes) stands;

@@ -1,4 +1,4 @@
-use Rattle.std.proofs.Common.{ℕ, List, [], length}
+use Rattle.std.proofs.Common.{[], length}
 use Rattle.dia_dict.specs.Dictionary.{Dictionary}
 use Rattle.dia_check.specs.declared.Unknown.{Unknown}
 use Rattle.dia_check.specs.declared.Levels.{Levels}
@@ -10,8 +10,9 @@ use Rattle.dia_run.proofs.commands.check.feeding.feed_text.Given as goal
 abbrev pub invariant-loop-stream : goal.invariant-loop-stream
 invariant-loop-stream g l = record {
   live : ¬ IsSpent l.stream;
-  fed : (bytes : List ℕ) × SpellsFirst l.text bytes l.fed.rest.now × ((d : Dictionary) (u : Unknown) (most : Levels)
-      → StandsFor g.B.Book.meaning l.fn.stream d u most [] → WasFed g.B.Book.meaning l.stream d u most bytes l.fed.trailing);
+  spelled : SpellsFirst l.text l.bytes.items l.fed.rest.now;
+  fed : (d : Dictionary) (u : Unknown) (most : Levels)
+      → StandsFor g.B.Book.meaning l.fn.stream d u most [] → WasFed g.B.Book.meaning l.stream d u most l.bytes.items l.fed.trailing;
 }
 
 abbrev pub decreases-loop-stream : goal.decreases-loop-stream
