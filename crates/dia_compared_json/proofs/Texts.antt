@@ -13,7 +13,7 @@ use Rattle.dia_terms.specs.declared.FormatName.TheVariants as name
 use Rattle.dia_terms.specs.Formats.{format_word}
 use Rattle.dia_data.specs.Plain.{PlainFormat, Enumerated, name_of, word_of}
 use Rattle.dia_book.specs.declared.MRule.{MRule}
-use Rattle.dia_book.specs.declared.MRule.TheVariants.{Must, MustNot, Any}
+use Rattle.dia_book.specs.declared.MRule.TheVariants.{Must}
 use Rattle.dia_book.specs.declared.DefHead.{DefHead}
 use Rattle.dia_book.specs.declared.DRule.{DRule}
 use Rattle.dia_book.specs.Dictionary.{Dictionary, DictEntry, PlainDefinition, is_fixed}
@@ -123,27 +123,12 @@ taken_is format m = refl
 format_is_plain : (f : FormatName) → plain (format_word f) ≡ quoted (format_word f)
 unfolding serde_json_on_literals
 format_is_plain name.OctetString = refl
-format_is_plain name.Integer32 = refl
-format_is_plain name.Integer64 = refl
-format_is_plain name.Unsigned32 = refl
-format_is_plain name.Unsigned64 = refl
-format_is_plain name.Float32 = refl
-format_is_plain name.Float64 = refl
-format_is_plain name.Grouped = refl
-format_is_plain name.Address = refl
-format_is_plain name.Time = refl
-format_is_plain name.Utf8String = refl
-format_is_plain name.DiameterIdentity = refl
-format_is_plain name.DiameterUri = refl
-format_is_plain name.Enumerated = refl
-format_is_plain name.IpFilterRule = refl
-format_is_plain name.QosFilterRule = refl
+format_is_plain f = refl
 
 m_is_plain : (m : MRule) → plain (m_word m) ≡ quoted (m_word m)
 unfolding serde_json_on_literals
 m_is_plain Must = refl
-m_is_plain MustNot = refl
-m_is_plain Any = refl
+m_is_plain m = refl
 
 abbrev written_taken : (word m values : Text) → Text
 written_taken word m values = codes ",\"format\":\"" ++ (word ++ (codes "\",\"m\":\"" ++ (m ++ (codes "\"" ++ values))))
@@ -208,27 +193,7 @@ failing_is f sent accepted more = refl
 why_is_plain : (f : Failing) → plain (why_word f) ≡ quoted (why_word f)
 unfolding serde_json_on_literals
 why_is_plain (failing.Fixed first second) = refl
-why_is_plain (failing.Counts first second) = refl
-why_is_plain (failing.Unlisted first) = refl
-why_is_plain (failing.Uncovered first) = refl
-why_is_plain (failing.Required second) = refl
-why_is_plain (failing.Crowded first second) = refl
-why_is_plain (failing.NoWildcard first) = refl
-why_is_plain (failing.CountsAsOther first wildcard) = refl
-why_is_plain (failing.WildcardMost first second) = refl
-why_is_plain (failing.WildcardLeast first second) = refl
-why_is_plain (failing.NotCounted second wildcard) = refl
-why_is_plain (failing.Stranger first key) = refl
-why_is_plain (failing.LetIn first key) = refl
-why_is_plain failing.FirstName = refl
-why_is_plain failing.SecondName = refl
-why_is_plain failing.Keys = refl
-why_is_plain failing.MRules = refl
-why_is_plain failing.Formats = refl
-why_is_plain failing.Heads = refl
-why_is_plain failing.PFlags = refl
-why_is_plain failing.Unserved = refl
-why_is_plain (failing.NotBeside second) = refl
+why_is_plain f = refl
 
 abbrev written_failing : (why sent accepted more : Text) → Text
 written_failing why sent accepted more = codes "{\"why\":\"" ++ (why ++ (codes "\",\"sent\":" ++ (sent ++ (codes ",\"accepted\":" ++ (accepted ++ more)))))
@@ -266,20 +231,12 @@ failure_ends kind first second test fails = simp append_assoc
 kind_is_plain : (k : PairKind) → plain (kind_word k) ≡ quoted (kind_word k)
 unfolding serde_json_on_literals
 kind_is_plain kind.Command = refl
-kind_is_plain kind.Avp = refl
+kind_is_plain k = refl
 
 test_is_plain : (t : Test) → plain (test_word t) ≡ quoted (test_word t)
 unfolding serde_json_on_literals
 test_is_plain tests.N1 = refl
-test_is_plain tests.N2 = refl
-test_is_plain tests.N3 = refl
-test_is_plain tests.N4 = refl
-test_is_plain tests.N5 = refl
-test_is_plain tests.N6 = refl
-test_is_plain tests.N7 = refl
-test_is_plain tests.N8 = refl
-test_is_plain tests.N9 = refl
-test_is_plain tests.N10 = refl
+test_is_plain t = refl
 
 abbrev written_failure : (kind first second test fails : Text) → Text
 written_failure kind first second test fails = codes "{\"verdict\":\"no\",\"kind\":\"" ++ (kind ++ (codes "\",\"first\":" ++ (first ++ (codes ",\"second\":"
