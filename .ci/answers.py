@@ -157,7 +157,7 @@ BODIES = [
     # data
     (unit(avp(420, bytes(8))), 84, "CC-Time has 8 bytes of data, and Unsigned32 has 4", RSU,
      "84: code 420 (000001a4), flags 40 M, length 16 (000010), data 0000000000000000", ("4:6", "CC-Time is declared here"),
-     "mend the sender, or declare a format with such data: Unsigned64, Integer64, Float64 or OctetString", ""),
+     "mend the sender, or declare a format with such data: Integer64, Unsigned64, Float64 or OctetString", ""),
     (SID + HOST + avp(416, number(5)) + NUM, 44, "CC-Request-Type has the value 5, which isn't in its list", "CCR",
      "44: code 416 (000001a0), flags 40 M, length 12 (00000c), data 00000005", ("6:6", "CC-Request-Type is declared here"),
      "add the number to the list of the declaration, or mend the sender", ""),

@@ -9,7 +9,8 @@ use crate::faults::rules::push_rule_word;
 use crate::rule_text::{push_key, push_vendor};
 use crate::texts::{Added, push_number};
 use dia_book::Format;
-use dia_data::{FormatKind, push_value};
+use dia_data::{FormatKind, Values, push_value};
+use dia_terms::{FormatName, format_words};
 use dia_wire::next_avp;
 
 /// What is wrong with data that its format doesn't accept, and on the line behind it what to do.
@@ -79,7 +80,7 @@ fn push_data_word(out: &mut String, scene: &InBody<'_>, word: &str) -> Added {
     match word {
         "flag" => out.push_str(m_flag(scene.own())),
         "bytes" => push_number(out, data.len()),
-        "fits" => out.push_str(fitting_formats(data.len())),
+        "fits" => push_fitting(out, data.len()),
         "value" => push_value(out, &Format::Integer32, data),
         _ => push_declared_word(out, scene, data, word),
     }
@@ -141,11 +142,28 @@ fn lengths_of(format: &Format) -> &'static str {
     }
 }
 
-/// The formats whose data has this length.
-fn fitting_formats(length: usize) -> &'static str {
-    match length {
-        4 => ": Unsigned32, Integer32, Enumerated, Time, Float32 or OctetString",
-        8 => ": Unsigned64, Integer64, Float64 or OctetString",
-        _ => ", such as OctetString",
+/// Adds the formats whose data has this length.
+fn push_fitting(out: &mut String, length: usize) -> Added {
+    let mut lead = ": ";
+    let mut last = ", such as OctetString";
+    for word in format_words() {
+        if has_length(word, length) {
+            write!(out, "{lead}{word}")?;
+            lead = ", ";
+            last = " or OctetString";
+        }
+    }
+    out.push_str(last)
+}
+
+/// Whether the data of the format with this name has this length, and no other.
+fn has_length(word: &str, length: usize) -> bool {
+    let Some(name) = FormatName::named(word) else {
+        return false;
+    };
+    match Format::named(name, Values::any()).kind() {
+        FormatKind::FourBytes(_) | FormatKind::Enumerated => length == 4,
+        FormatKind::EightBytes(_) => length == 8,
+        _ => false,
     }
 }
