@@ -13,7 +13,7 @@ use crate::dates::push_time;
 use crate::manner::Manner;
 use crate::words::Words;
 use byteorder::{BigEndian, ByteOrder};
-use dia_data::print_value;
+use dia_data::{FormatKind, print_value};
 use dia_dict::Format;
 use std::alloc::{AllocError, Global};
 
@@ -59,8 +59,7 @@ fn is_text(names: bool, format: &Format, bytes: &[u8]) -> bool
     }
     match format {
         Format::OctetString => is_printable(bytes),
-        Format::IpFilterRule | Format::QosFilterRule => true,
-        _ => false,
+        _ => format.kind() == FormatKind::AnyBytes,
     }
 }
 
