@@ -138,8 +138,9 @@ def told(room):
     for path in sorted(OWN_ROWS.glob("*.told")):
         for part in re.split(r"^\$ diacmd", path.read_text(), flags=re.M)[1:]:
             words, text = part.split("\n", 1)
+            words, _, status = words.partition(" => ")
             text = text.rstrip("\n")
-            if text.startswith("error: "):
-                room.check(words.split(), 2, "", err=text)
+            if text.startswith("error: ") or status == "3":
+                room.check(words.split(), int(status or 2), "", err=text)
             else:
-                room.check(words.split(), 0, text)
+                room.check(words.split(), int(status or 0), text)

@@ -8,5 +8,7 @@ pub mod Ends
 pub mod Fits
 pub mod FormRows
 pub mod Says
+pub mod Named
+pub mod Commands
 pub mod Requests
 pub mod Accepted

@@ -11,8 +11,8 @@ use Rattle.clap.specs.Words.{App, HasKind, fault_of, kind_of, subcommand_of}
 use Rattle.clap.specs.declared.builder.value_parser.ValueParser.TheVariants as vp
 use Rattle.clap.specs.declared.error.Error.{Error}
 use Rattle.clap.specs.declared.error.kind.ErrorKind.TheVariants.{OutOfMemory}
-use Rattle.dia_cli.specs.Asking.{IsAtFault, IsRefused, IsUnrun, is_asked, is_limit}
-use Rattle.dia_cli.specs.Words.{IsProgram, IsRequestOf}
+use Rattle.dia_cli.specs.Asking.{IsAtFault, IsProgram, IsRefused, IsRequestOf, IsUnrun, is_asked}
+use Rattle.dia_cli.specs.Words.{is_limit}
 use Rattle.dia_cli.specs.Origins.{reads_twice}
 use Rattle.dia_cli.specs.Request.{read_once}
 use Rattle.dia_cli.specs.declared.ending.Ending.{Ending}

@@ -1,95 +1,51 @@
--- Which words are accepted, by what clap says of a command line of this shape.
-use Rattle.std.specs.Prelude.{◌≡◌, ◌⊎◌, ◌&&◌, ◌||◌, ⊤, Bool, true, false, if◌then◌else◌, List, Option, Some, is_some, codes, IsSomeAnd}
+-- What the words of the command line ask for, and which are accepted, by what clap says of a command line of this shape.
+use Rattle.std.specs.Prelude.{◌≡◌, ◌⊎◌, ◌&&◌, ⊤, Bool, true, false, List, [], ◌∷◌, Option, Some, codes, IsSomeAnd}
+use Rattle.std.specs.Borrow.{Bor}
 use Rattle.std.specs.Option.{option_map_or}
-use Rattle.std.specs.Str.{bytes_eq}
-use Rattle.clap.specs.ValueTests.{is_unsigned_in}
-use Rattle.clap.specs.Walk.{Row, Text, all_of, first_of}
+use Rattle.clap.specs.Walk.{Row, Text, first_of, texts}
 use Rattle.clap.specs.Words.{App, IsAmong, Kinds, fault_of, kind_of, subcommand_of}
+use Rattle.dia_policy.specs.declared.Sends.TheVariants as sent
+use Rattle.dia_policy.specs.declared.Unknown.TheVariants.{Kept, Refused}
+use Rattle.dia_cli.specs.Forms.{IsTaskOf, arguments_of, has_arguments}
+use Rattle.dia_cli.specs.InputWords.{AreFound}
+use Rattle.dia_cli.specs.Lines.{program_app}
 use Rattle.dia_cli.specs.Origins.{reads_twice}
-use Rattle.dia_cli.specs.Words.{IsProgram, IsRequestOf, apart_in, flag_word}
+use Rattle.dia_cli.specs.Rows.{command_rows, with_commands}
+use Rattle.dia_cli.specs.Words.{IsFlag, apart_in, flag_word, is_flag, is_given, policy_word, sends_word}
+use Rattle.dia_cli.specs.declared.task.Task.{Task}
 use Rattle.dia_cli.specs.declared.ending.Ending.{Ending}
 use Rattle.dia_cli.specs.declared.ending.Ending.TheVariants as ending
+use Rattle.dia_cli.specs.declared.origin.Origins.{Origins}
 use Rattle.dia_cli.specs.declared.request.Request.{Request}
 use Rattle.dia_cli.specs.declared.arguments.Unasked.{Unasked}
 use Rattle.dia_cli.specs.declared.arguments.Unasked.TheVariants as unasked
 use Rattle.dia_cli.specs.declared.apart.Apart.{Apart}
 use Rattle.dia_cli.specs.declared.apart.Apart.TheVariants.{LinesAndStream}
 
-abbrev pub is_flag : Option Text → Bool
-is_flag word = option_map_or (λ w. bytes_eq w (codes "true") || bytes_eq w (codes "false")) word false
+abbrev pub line_shape : Bor (List (Bor Text)) → Bor (List (Bor Text)) → App
+line_shape policies senders = with_commands policies senders program_app command_rows
 
-abbrev pub is_policy : Option Text → Bool
-is_policy word = option_map_or (λ w. bytes_eq w (codes "kept") || bytes_eq w (codes "refused")) word false
+-- the task was found, and its inputs come from where the words of its arguments say
+abbrev pub IsAsked : Task → Origins → Text × List Row → Type 0
+IsAsked task origins found = IsTaskOf task found × AreFound (arguments_of task) origins found.1
 
-abbrev pub is_sender : Option Text → Bool
-is_sender word =
-    option_map_or (λ w. bytes_eq w (codes "any") || (bytes_eq w (codes "known") || bytes_eq w (codes "listed"))) word false
+-- the request that was found
+abbrev pub IsRequestOf : Request → Text × List Row → Type 0
+IsRequestOf request found =
+    IsAsked request.task request.origins found × IsFlag (codes "quiet") request.quiet found.1
+    × (request.json ≡ is_given (first_of (codes "json") found.1))
 
--- no word, or a decimal number below 2 ^ 32, which a `+` may begin
-abbrev pub is_limit : Option Text → Bool
-is_limit word = option_map_or (is_unsigned_in 0 4294967295) word true
+-- the program's line, where `--unknown` is one of the two policies and `--sends` one of the three senders
+pub record IsProgram (line : App) : Type 0 where
+  pub policies : Bor (List (Bor Text))
+  pub senders : Bor (List (Bor Text))
+  pub two : texts policies.now ≡ policy_word Kept ∷ policy_word Refused ∷ []
+  pub three : texts senders.now ≡ sends_word sent.Any ∷ sends_word sent.Known ∷ sends_word sent.Listed ∷ []
+  pub shape : line ≡ line_shape policies senders
 
--- a word was found for this id
-abbrev pub has_word : Text → List Row → Bool
-has_word id rows = is_some (first_of id rows)
-
--- the two dictionaries
-abbrev pub has_pair : List Row → Bool
-has_pair rows = has_word (codes "A") rows && has_word (codes "B") rows
-
--- `--unknown POLICY`
-abbrev pub has_policy : List Row → Bool
-has_policy rows = is_policy (first_of (codes "unknown") rows)
-
--- the policies of `check` and `refute`
-abbrev pub is_judged : List Row → Bool
-is_judged rows = has_policy rows && is_limit (first_of (codes "levels") rows)
-
--- the policies of `check`, and its dictionary
-abbrev pub has_judged : List Row → Bool
-has_judged rows = is_judged rows && has_word (codes "D") rows
-
-abbrev pub has_shown : List Row → Bool
-has_shown rows = has_word (codes "dict") rows && (has_word (codes "MESSAGE") rows && has_word (codes "values") rows)
-
-abbrev pub has_made : List Row → Bool
-has_made rows = has_word (codes "dict") rows && has_word (codes "TEXT") rows
-
-abbrev pub has_checked : List Row → Bool
-has_checked rows = is_flag (first_of (codes "lines") rows) && (is_flag (first_of (codes "stream") rows)
-    && (has_judged rows && has_word (codes "MESSAGE") rows))
-
-abbrev pub has_compared : List Row → Bool
-has_compared rows = has_policy rows && (has_pair rows && has_word (codes "TABLE") rows)
-
-abbrev pub has_refuted : List Row → Bool
-has_refuted rows = is_judged rows && (has_pair rows
-    && (is_flag (first_of (codes "lines") rows) && has_word (codes "MESSAGE") rows))
-
-abbrev pub has_proposed : List Row → Bool
-has_proposed rows = has_policy rows && (has_pair rows && is_some (all_of (codes "COMMAND") rows))
-
--- `--messages`, `--once` and `--meaning`, given or not
-abbrev pub has_flags : List Row → Bool
-has_flags rows = is_flag (first_of (codes "messages") rows)
-    && (is_flag (first_of (codes "once") rows) && is_flag (first_of (codes "meaning") rows))
-
-abbrev pub has_listed : List Row → Bool
-has_listed rows = has_policy rows && (has_pair rows
-    && (is_sender (first_of (codes "sends") rows) && (has_flags rows && has_word (codes "accepted") rows)))
-
--- the arguments that the subcommand of this name has
-abbrev pub has_arguments : Text → List Row → Bool
-has_arguments name rows =
-    if bytes_eq name (codes "show") then has_shown rows
-    else (if bytes_eq name (codes "make") then has_made rows
-    else (if bytes_eq name (codes "check") then has_checked rows
-    else (if bytes_eq name (codes "render") then has_word (codes "D") rows
-    else (if bytes_eq name (codes "compare") then has_compared rows
-    else (if bytes_eq name (codes "refute") then has_refuted rows
-    else (if bytes_eq name (codes "propose") then has_proposed rows
-    else (if bytes_eq name (codes "breaking") then has_listed rows
-    else false)))))))
+-- the request that clap's specification gives for the words
+abbrev pub IsAskedBy : List Text → Request → Type 0
+IsAskedBy words request = (line : App) × IsProgram line × IsSomeAnd (subcommand_of line words) (IsRequestOf request)
 
 -- what was found is a subcommand with its arguments
 abbrev pub is_asked : Option (Text × List Row) → Bool

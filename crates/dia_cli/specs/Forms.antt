@@ -1,18 +1,19 @@
--- The forms of the commands, the words of each, and what these ask for.
-use Rattle.std.specs.Prelude.{◌≡◌, ⊤, Bool, true, false, List, [], ◌∷◌, ◌++◌, map, Option, Some, None, Result, Ok, Err, codes, string_bytes, unwrap_or}
+-- The commands: the forms of each, the words of these, what they ask for, and what is found of it.
+use Rattle.std.specs.Prelude.{◌≡◌, ◌&&◌, ⊤, Bool, true, false, if◌then◌else◌, List, [], ◌∷◌, ◌++◌, map, Option, Some, None, Result, Ok, Err, codes, is_some, string_bytes, unwrap_or}
 use Rattle.std.specs.List.{list_all}
-use Rattle.clap.specs.Walk.{Text}
+use Rattle.std.specs.Str.{bytes_eq}
+use Rattle.clap.specs.Walk.{Row, Text, all_of, first_of}
 use Rattle.dia_io.specs.declared.Command.TheVariants as command
 use Rattle.dia_cli.specs.declared.task.Task.{Task}
 use Rattle.dia_cli.specs.declared.task.Task.TheVariants.{Whole, Make, ShowText, ShowNamed, ShowLines, Breaking, CheckLines, RefuteLines, CheckStream}
+use Rattle.dia_policy.specs.declared.Levels.{Levels}
 use Rattle.dia_policy.specs.declared.Sends.{Sends}
-use Rattle.dia_policy.specs.declared.Sends.TheVariants.{Any, Known, Listed}
 use Rattle.dia_policy.specs.declared.Unknown.{Unknown}
-use Rattle.dia_policy.specs.declared.Unknown.TheVariants.{Kept, Refused}
 use Rattle.dia_cli.specs.InputWords.{AreNamed, InputTexts, one_text, pair_texts}
 use Rattle.dia_cli.specs.Origins.{reads_twice}
-use Rattle.dia_cli.specs.Slots.{Slot, choice, flag, is_plain_slot, number, text, word, words, words_of_slots}
-use Rattle.dia_cli.specs.Words.{IsLimitOf}
+use Rattle.dia_cli.specs.Rows.{CommandRow, breaking_row, check_row, compare_row, make_row, propose_row, refute_row, render_row, show_row}
+use Rattle.dia_cli.specs.Slots.{Slot, choice, flag, is_given_slot, is_plain_slot, number, pair_slots, sender_given, text, unknown_slot, word, words, words_of_slots}
+use Rattle.dia_cli.specs.Words.{AreJudged, IsFlag, IsLimitOf, IsPolicy, apart_in, has_pair, has_policy, has_word, is_flag, is_given, is_judged, is_sender, sends_word}
 use Rattle.dia_cli.specs.declared.ending.Ending.{Ending}
 use Rattle.dia_cli.specs.declared.ending.Ending.TheVariants as ending
 use Rattle.dia_cli.specs.declared.request.Request.{Request}
@@ -41,25 +42,19 @@ pub data Form : Type 0 where
   propose : Bool → Unknown → Text → Text → Text → List Text → Form
   breaking : Bool → Sends → Unknown → Bool → Bool → Bool → Option Text → Text → Text → List Text → Form
 
+-- its row
+abbrev pub form_row : Form → CommandRow
+form_row (show telling dictionary message) = show_row
+form_row (make dictionary written) = make_row
+form_row (check manner json unknown levels dictionary message) = check_row
+form_row (render dictionary) = render_row
+form_row (compare json unknown first second table) = compare_row
+form_row (refute many json unknown levels first second message) = refute_row
+form_row (propose json unknown first second name names) = propose_row
+form_row (breaking json sends unknown messages once meaning accepted first second names) = breaking_row
+
 abbrev pub form_name : Form → Text
-form_name (show telling dictionary message) = codes "show"
-form_name (make dictionary written) = codes "make"
-form_name (check manner json unknown levels dictionary message) = codes "check"
-form_name (render dictionary) = codes "render"
-form_name (compare json unknown first second table) = codes "compare"
-form_name (refute many json unknown levels first second message) = codes "refute"
-form_name (propose json unknown first second name names) = codes "propose"
-form_name (breaking json sends unknown messages once meaning accepted first second names) = codes "breaking"
-
--- a word of an option is left out where it says what holds without it
-abbrev pub policy_given : Unknown → Option Text
-policy_given Kept = None
-policy_given Refused = Some (codes "refused")
-
-abbrev pub sender_given : Sends → Option Text
-sender_given Any = None
-sender_given Known = Some (codes "known")
-sender_given Listed = Some (codes "listed")
+form_name form = (form_row form).name
 
 abbrev pub is_lines : Manner → Bool
 is_lines in_lines = true
@@ -89,9 +84,6 @@ abbrev pub has_lines : Telling → Bool
 has_lines (as_listing many names values) = many
 has_lines telling = false
 
-abbrev pub unknown_slot : Unknown → Slot
-unknown_slot unknown = choice (codes "unknown") (policy_given unknown)
-
 abbrev pub form_options : Form → List Slot
 form_options (show telling dictionary message) =
     text (codes "dict") dictionary ∷ flag (codes "as-text") (is_text telling) ∷ flag (codes "names") (has_names telling)
@@ -109,9 +101,6 @@ form_options (breaking json sends unknown messages once meaning accepted first s
     unknown_slot unknown ∷ choice (codes "sends") (sender_given sends) ∷ flag (codes "messages") messages
     ∷ flag (codes "once") once ∷ flag (codes "meaning") meaning ∷ flag (codes "json") json ∷ text (codes "accepted") accepted ∷ []
 
-abbrev pub pair_slots : Text → Text → Slot → List Slot
-pair_slots first second third = word (codes "A") first ∷ word (codes "B") second ∷ third ∷ []
-
 abbrev pub form_inputs : Form → List Slot
 form_inputs (show telling dictionary message) = word (codes "MESSAGE") message ∷ []
 form_inputs (make dictionary written) = word (codes "TEXT") written ∷ []
@@ -122,22 +111,7 @@ form_inputs (refute many json unknown levels first second message) = pair_slots 
 form_inputs (propose json unknown first second name names) = pair_slots first second (words (codes "COMMAND") (name ∷ names))
 form_inputs (breaking json sends unknown messages once meaning accepted first second names) = pair_slots first second (words (codes "COMMAND") names)
 
--- the words behind the command's name, with `--quiet` or without it
-abbrev pub words_of : Bool → Form → List Text
-words_of quiet form = words_of_slots (flag (codes "quiet") quiet ∷ form_options form ++ form_inputs form)
-
-abbrev pub is_plain_form : Form → Bool
-is_plain_form form = list_all is_plain_slot (form_options form ++ form_inputs form)
-
--- `--json`, or not. Other commands don't have it
-abbrev pub form_json : Form → Bool
-form_json (check manner json unknown levels dictionary message) = json
-form_json (refute many json unknown levels first second message) = json
-form_json (show telling dictionary message) = is_json telling
-form_json (compare json unknown first second table) = json
-form_json (propose json unknown first second name names) = json
-form_json (breaking json sends unknown messages once meaning accepted first second names) = json
-form_json form = false
+-- ---- its task, and the words of its inputs
 
 -- the task is the form's
 abbrev pub IsTaskOfForm : Form → Task → Type 0
@@ -184,6 +158,147 @@ form_words (refute true json unknown levels first second messages) = record (pai
 form_words (propose json unknown first second name names) = pair_texts first second
 form_words (breaking json sends unknown messages once meaning accepted first second names) =
     record (pair_texts first second) { table = Some (unwrap_or accepted (codes "@none")) }
+
+-- ---- what is found of a task
+
+-- the name of the command of a task
+abbrev pub task_name : Task → Text
+task_name (Whole command.Show) = codes "show"
+task_name ShowText = codes "show"
+task_name ShowNamed = codes "show"
+task_name (ShowLines names) = codes "show"
+task_name Make = codes "make"
+task_name (Whole command.Render) = codes "render"
+task_name (Whole (command.Check unknown levels)) = codes "check"
+task_name (CheckLines unknown levels) = codes "check"
+task_name (CheckStream unknown levels) = codes "check"
+task_name (Whole (command.Compare unknown)) = codes "compare"
+task_name (Whole (command.Refute unknown levels)) = codes "refute"
+task_name (RefuteLines unknown levels) = codes "refute"
+task_name (Whole (command.Propose unknown names)) = codes "propose"
+task_name (Breaking sends unknown messages once meaning names) = codes "breaking"
+
+-- `check` with `--lines` and `--stream`, or without them
+abbrev pub IsCheck : Bool → Bool → Unknown → Levels → List Row → Type 0
+IsCheck lines stream unknown levels rows =
+    IsFlag (codes "lines") lines rows × IsFlag (codes "stream") stream rows × AreJudged unknown levels rows
+
+-- `refute` with `--lines`, or without it
+abbrev pub IsRefute : Bool → Unknown → Levels → List Row → Type 0
+IsRefute lines unknown levels rows = IsFlag (codes "lines") lines rows × AreJudged unknown levels rows
+
+-- `show` with `--as-text`, `--names` and `--lines`, or without them, and with no two options that don't go together
+abbrev pub IsShow : Bool → Bool → Bool → List Row → Type 0
+IsShow written names lines rows =
+    (written ≡ is_given (first_of (codes "as-text") rows)) × (names ≡ is_given (first_of (codes "names") rows))
+    × (lines ≡ is_given (first_of (codes "lines") rows)) × (apart_in rows ≡ None)
+
+-- what was found of a task's options: their first values, and all names of commands
+abbrev pub HasOptionsOf : Task → List Row → Type 0
+HasOptionsOf (Whole command.Show) rows = IsShow false false false rows
+HasOptionsOf ShowText rows = IsShow true false false rows
+HasOptionsOf ShowNamed rows = IsShow false true false rows
+HasOptionsOf (ShowLines names) rows = IsShow false names true rows
+HasOptionsOf Make rows = ⊤
+HasOptionsOf (Whole command.Render) rows = ⊤
+HasOptionsOf (Whole (command.Check unknown levels)) rows = IsCheck false false unknown levels rows
+HasOptionsOf (CheckLines unknown levels) rows = IsCheck true false unknown levels rows
+HasOptionsOf (CheckStream unknown levels) rows = IsCheck false true unknown levels rows
+HasOptionsOf (Whole (command.Compare unknown)) rows = IsPolicy unknown rows
+HasOptionsOf (Whole (command.Refute unknown levels)) rows = IsRefute false unknown levels rows
+HasOptionsOf (RefuteLines unknown levels) rows = IsRefute true unknown levels rows
+HasOptionsOf (Whole (command.Propose unknown names)) rows =
+    IsPolicy unknown rows × (all_of (codes "COMMAND") rows ≡ Some (map string_bytes names.items))
+HasOptionsOf (Breaking sends unknown messages once meaning names) rows =
+    IsPolicy unknown rows × (first_of (codes "sends") rows ≡ Some (sends_word sends)) × IsFlag (codes "messages") messages rows
+    × IsFlag (codes "once") once rows × IsFlag (codes "meaning") meaning rows
+    × (unwrap_or (all_of (codes "COMMAND") rows) [] ≡ map string_bytes names.items)
+
+-- the task that was found: the name of its command, and its options
+abbrev pub IsTaskOf : Task → Text × List Row → Type 0
+IsTaskOf task found = (found.0 ≡ task_name task) × HasOptionsOf task found.1
+
+-- the arguments that take the words of a task's inputs
+abbrev pub arguments_of : Task → InputTexts
+arguments_of (Whole command.Show) = record (one_text (codes "dict")) { table = Some (codes "values"); message = Some (codes "MESSAGE") }
+arguments_of ShowNamed = record (one_text (codes "dict")) { table = Some (codes "values"); message = Some (codes "MESSAGE") }
+arguments_of (ShowLines names) = record (one_text (codes "dict")) { table = Some (codes "values"); messages = Some (codes "MESSAGE") }
+arguments_of ShowText = record (one_text (codes "dict")) { message = Some (codes "MESSAGE") }
+arguments_of Make = record (one_text (codes "dict")) { message = Some (codes "TEXT") }
+arguments_of (Whole command.Render) = one_text (codes "D")
+arguments_of (Whole (command.Check unknown levels)) = record (one_text (codes "D")) { message = Some (codes "MESSAGE") }
+arguments_of (CheckLines unknown levels) = record (one_text (codes "D")) { messages = Some (codes "MESSAGE") }
+arguments_of (CheckStream unknown levels) = record (one_text (codes "D")) { messages = Some (codes "MESSAGE") }
+arguments_of (Whole (command.Compare unknown)) =
+    record (pair_texts (codes "A") (codes "B")) { table = Some (codes "TABLE") }
+arguments_of (Whole (command.Refute unknown levels)) =
+    record (pair_texts (codes "A") (codes "B")) { message = Some (codes "MESSAGE") }
+arguments_of (RefuteLines unknown levels) =
+    record (pair_texts (codes "A") (codes "B")) { messages = Some (codes "MESSAGE") }
+arguments_of (Whole (command.Propose unknown names)) = pair_texts (codes "A") (codes "B")
+arguments_of (Breaking sends unknown messages once meaning names) =
+    record (pair_texts (codes "A") (codes "B")) { table = Some (codes "accepted") }
+
+-- ---- the arguments that a command has
+
+-- the policies of `check`, and its dictionary
+abbrev pub has_judged : List Row → Bool
+has_judged rows = is_judged rows && has_word (codes "D") rows
+
+abbrev pub has_shown : List Row → Bool
+has_shown rows = has_word (codes "dict") rows && (has_word (codes "MESSAGE") rows && has_word (codes "values") rows)
+
+abbrev pub has_made : List Row → Bool
+has_made rows = has_word (codes "dict") rows && has_word (codes "TEXT") rows
+
+abbrev pub has_checked : List Row → Bool
+has_checked rows = is_flag (first_of (codes "lines") rows) && (is_flag (first_of (codes "stream") rows)
+    && (has_judged rows && has_word (codes "MESSAGE") rows))
+
+abbrev pub has_compared : List Row → Bool
+has_compared rows = has_policy rows && (has_pair rows && has_word (codes "TABLE") rows)
+
+abbrev pub has_refuted : List Row → Bool
+has_refuted rows = is_judged rows && (has_pair rows
+    && (is_flag (first_of (codes "lines") rows) && has_word (codes "MESSAGE") rows))
+
+abbrev pub has_proposed : List Row → Bool
+has_proposed rows = has_policy rows && (has_pair rows && is_some (all_of (codes "COMMAND") rows))
+
+-- `--messages`, `--once` and `--meaning`, given or not
+abbrev pub has_flags : List Row → Bool
+has_flags rows = is_flag (first_of (codes "messages") rows)
+    && (is_flag (first_of (codes "once") rows) && is_flag (first_of (codes "meaning") rows))
+
+abbrev pub has_listed : List Row → Bool
+has_listed rows = has_policy rows && (has_pair rows
+    && (is_sender (first_of (codes "sends") rows) && (has_flags rows && has_word (codes "accepted") rows)))
+
+-- the arguments that the subcommand of this name has
+abbrev pub has_arguments : Text → List Row → Bool
+has_arguments name rows =
+    if bytes_eq name (codes "show") then has_shown rows
+    else (if bytes_eq name (codes "make") then has_made rows
+    else (if bytes_eq name (codes "check") then has_checked rows
+    else (if bytes_eq name (codes "render") then has_word (codes "D") rows
+    else (if bytes_eq name (codes "compare") then has_compared rows
+    else (if bytes_eq name (codes "refute") then has_refuted rows
+    else (if bytes_eq name (codes "propose") then has_proposed rows
+    else (if bytes_eq name (codes "breaking") then has_listed rows
+    else false)))))))
+
+-- ---- what the words of a form ask for
+
+-- the words behind the command's name, with `--quiet` or without it
+abbrev pub words_of : Bool → Form → List Text
+words_of quiet form = words_of_slots (flag (codes "quiet") quiet ∷ form_options form ++ form_inputs form)
+
+abbrev pub is_plain_form : Form → Bool
+is_plain_form form = list_all is_plain_slot (form_options form ++ form_inputs form)
+
+-- `--json`, or not. A command that doesn't have it isn't given it
+abbrev pub form_json : Form → Bool
+form_json form = is_given_slot (codes "json") (form_options form)
 
 -- the request is the form's, and its inputs come from where the words say
 abbrev pub IsOfForm : Form → Request → Type 0

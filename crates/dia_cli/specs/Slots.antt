@@ -1,11 +1,15 @@
 -- What a command line gives to the options and the inputs of a command.
-use Rattle.std.specs.Prelude.{◌&&◌, ◌||◌, Bool, true, false, not, List, [], ◌∷◌, ◌++◌, Option, Some, None, codes, is_some, length, nat_le}
+use Rattle.std.specs.Prelude.{◌&&◌, ◌||◌, Bool, true, false, if◌then◌else◌, not, List, [], ◌∷◌, ◌++◌, Option, Some, None, codes, is_some, length, nat_le}
 use Rattle.std.specs.List.{list_all}
 use Rattle.std.specs.Option.{option_map_or}
 use Rattle.std.specs.Str.{bytes_eq}
 use Rattle.clap.specs.Lexer.{strip_byte, usize_max}
 use Rattle.clap.specs.ValueTests.{is_unsigned_in}
 use Rattle.clap.specs.Walk.{Text}
+use Rattle.dia_policy.specs.declared.Sends.{Sends}
+use Rattle.dia_policy.specs.declared.Sends.TheVariants.{Any, Known, Listed}
+use Rattle.dia_policy.specs.declared.Unknown.{Unknown}
+use Rattle.dia_policy.specs.declared.Unknown.TheVariants.{Kept, Refused}
 
 -- an option or an input, by its name, with what it is given
 pub data Slot : Type 0 where
@@ -64,3 +68,27 @@ is_plain_slot (text id given) = option_map_or is_plain given true
 is_plain_slot (number id given) = option_map_or (λ n. is_plain n && is_unsigned_in 0 4294967295 n) given true
 is_plain_slot (word id given) = is_plain given
 is_plain_slot (words id given) = list_all is_plain given && nat_le (length given) usize_max
+
+-- whether the option of this name is given, which has no value. Slots that don't have it aren't given it
+abbrev pub is_given_slot : Text → List Slot → Bool
+is_given_slot id [] = false
+is_given_slot id (flag name given ∷ rest) = if bytes_eq name id then given else is_given_slot id rest
+is_given_slot id (slot ∷ rest) = is_given_slot id rest
+
+-- ---- slots of several commands
+
+-- a word of an option is left out where it says what holds without it
+abbrev pub policy_given : Unknown → Option Text
+policy_given Kept = None
+policy_given Refused = Some (codes "refused")
+
+abbrev pub sender_given : Sends → Option Text
+sender_given Any = None
+sender_given Known = Some (codes "known")
+sender_given Listed = Some (codes "listed")
+
+abbrev pub unknown_slot : Unknown → Slot
+unknown_slot unknown = choice (codes "unknown") (policy_given unknown)
+
+abbrev pub pair_slots : Text → Text → Slot → List Slot
+pair_slots first second third = word (codes "A") first ∷ word (codes "B") second ∷ third ∷ []

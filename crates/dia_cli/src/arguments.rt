@@ -4,14 +4,19 @@ ghost use Rattle.std.specs.Prelude.{◌≡◌, IfOk, IfSome, IsSomeAnd, Some, co
 ghost use Rattle.std.specs.Prelude.{◌∷◌, true, Bool, ℕ, IfErr, List, None, Option, false, map};
 ghost use Rattle.clap.specs.Walk.{Row, Text};
 ghost use Rattle.clap.specs.Words.{app_of, found_of, first_of, rows_of, subcommand_rows_of};
-ghost use Rattle.dia_cli.specs.Asking.{IsRefused, IsUnasked, IsUnrun, IsWanting, has_judged, has_pair};
-ghost use Rattle.dia_cli.specs.Asking.{has_compared, has_made, has_refuted, has_word, is_asked, is_judged};
-ghost use Rattle.dia_cli.specs.Asking.{is_policy};
+ghost use Rattle.dia_cli.specs.Asking.{IsRefused, IsUnasked, IsUnrun, IsWanting};
+ghost use Rattle.dia_cli.specs.Forms.{has_judged};
+ghost use Rattle.dia_cli.specs.Words.{has_pair};
+ghost use Rattle.dia_cli.specs.Forms.{has_compared, has_made, has_refuted};
+ghost use Rattle.dia_cli.specs.Words.{has_word, is_judged};
+ghost use Rattle.dia_cli.specs.Asking.{is_asked};
+ghost use Rattle.dia_cli.specs.Words.{is_policy};
 ghost use Rattle.dia_cli.specs.Forms.{Form, IsAccepted, form_name, is_plain_form, words_of};
 ghost use Rattle.dia_cli.specs.Origins.{reads_twice};
 ghost use Rattle.dia_cli.specs.InputWords.{AreFound, one_text, pair_texts};
 ghost use Rattle.dia_cli.specs.Request.{read_once};
-ghost use Rattle.dia_cli.specs.Words.{IsAsked, IsAskedBy, IsPolicy, IsProgram, IsRequestOf};
+ghost use Rattle.dia_cli.specs.Asking.{IsAsked, IsAskedBy, IsProgram, IsRequestOf};
+ghost use Rattle.dia_cli.specs.Words.{IsPolicy};
 ghost use Rattle.dia_cli.specs.Words.{AreJudged};
 
 use crate::apart::Apart;
@@ -125,7 +130,7 @@ struct Asked<'a> {
 }
 
 /// Why arguments that clap found are no request.
-#[derive(Clone, Copy, PartialEq, Eq)]
+#[derive(Clone, Copy)]
 enum Unasked {
     /// They are no subcommand with its arguments.
     Nothing,
@@ -172,8 +177,12 @@ fn request_of<'a>(alloc: Global, matches: &ArgMatches<'a>) -> Result<Request<'a>
         (λ request. IsSomeAnd (subcommand_rows_of matches.now) (IsRequestOf request)) }
     ensures unasked { IfErr result (IsUnasked (subcommand_rows_of matches.now)) }
 {
-    let (name, found) = matches.subcommand().ok_or(Unasked::Nothing)?;
-    let quiet = flag_of(found, "quiet").ok_or(Unasked::Nothing)?;
+    let Some((name, found)) = matches.subcommand() else {
+        return Err(Unasked::Nothing);
+    };
+    let Some(quiet) = flag_of(found, "quiet") else {
+        return Err(Unasked::Nothing);
+    };
     let json = is_given(found, "json");
     let Asked { task, origins } = task_of(alloc, name, found)?;
     Ok(Request {
@@ -342,9 +351,15 @@ fn propose_of<'a>(alloc: Global, found: &ArgMatches<'a>) -> Result<Asked<'a>, Un
         (λ made. IsAsked made.task made.origins (codes "propose", rows_of (found_of found.now))) }
     ensures wanting { IfErr result (IsWanting (codes "propose") (rows_of (found_of found.now))) }
 {
-    let unknown = unknown_of(found).ok_or(Unasked::Nothing)?;
-    let origins = pair_of(found).ok_or(Unasked::Nothing)?;
-    let words = words_of(found, "COMMAND").ok_or(Unasked::Nothing)?;
+    let Some(unknown) = unknown_of(found) else {
+        return Err(Unasked::Nothing);
+    };
+    let Some(origins) = pair_of(found) else {
+        return Err(Unasked::Nothing);
+    };
+    let Some(words) = words_of(found, "COMMAND") else {
+        return Err(Unasked::Nothing);
+    };
     let names = copies_of(alloc, words)?;
     Ok(Asked {
         task: Task::Whole(Command::Propose { unknown, names }),

@@ -6,17 +6,10 @@ ghost use Rattle.dia_cli.specs.Lines.{IsLine, command_of, input_of, option_of, p
 ghost use Rattle.dia_cli.specs.Lines.{has_globals};
 ghost use Rattle.dia_cli.specs.Rows.{input_rule, option_rule, row_shape, with_commands, with_inputs, with_options};
 
-use crate::rows::{CommandRow, Count, InputRow, OptionRow, Value};
+use crate::rows::{CommandRow, Count, InputRow, OptionRow, STATUSES, Value};
 use clap::builder::ValueParser;
 use clap::{Arg, ArgAction};
 use std::alloc::{AllocError, Global};
-
-/// What the statuses of the process mean.
-const STATUSES: &str = "Status:
-  0  done; for make, the messages made; for check, valid; for compare, yes; for refute, refutes; for breaking, nothing breaks
-  1  for check, not valid; for compare, no; for refute, does not refute; for breaking, something breaks; for show, a bad AVP length, or with --lines a line that is no message
-  2  bad input, or a bad command line
-  3  a file or a device failed, or memory was refused";
 
 /// The words that options take, and the version that is told.
 #[derive(Clone, Copy)]
@@ -37,15 +30,22 @@ pub(crate) fn command_line<'a>(
     ensures { IfOk result (λ line. app_of line
         ≡ with_commands words.entry.policies words.entry.senders program_app (map command_of rows.now)) }
 {
-    let mut line = clap::Command::new(alloc, "diacmd")
-        .about("A workbench for Diameter (RFC 6733) dictionaries and messages")
-        .version(words.version)
-        .after_help(STATUSES)
-        .subcommand_required(true);
+    let mut line = program(alloc, words.version);
     for row in rows {
         line = line.subcommand(row.line(alloc, words)?)?;
     }
     Ok(line)
+}
+
+/// The command line without its commands.
+fn program<'a>(alloc: Global, version: &'a str) -> clap::Command<'a>
+    ensures { app_of result ≡ program_app }
+{
+    clap::Command::new(alloc, "diacmd")
+        .about("A workbench for Diameter (RFC 6733) dictionaries and messages")
+        .version(version)
+        .after_help(STATUSES)
+        .subcommand_required(true)
 }
 
 impl<'a> CommandRow<'a> {

@@ -18,7 +18,7 @@ pub const BASE_DICTIONARY: &str = "@base";
 pub const NO_TABLE: &str = "@none";
 
 /// Where the text of an input comes from. A limit is the most bytes that the text may have.
-#[derive(Clone, Copy, PartialEq, Eq)]
+#[derive(Clone, Copy)]
 pub enum Origin<'a> {
     /// The command takes no such input.
     Nowhere,
@@ -83,7 +83,7 @@ impl<'a> Origin<'a> {
 }
 
 /// Where each input comes from: the first four by the fields of `Inputs`, and messages that are read a piece at a time.
-#[derive(Clone, Copy, PartialEq, Eq)]
+#[derive(Clone, Copy)]
 pub struct Origins<'a> {
     pub first: Origin<'a>,
     pub second: Origin<'a>,

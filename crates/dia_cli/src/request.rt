@@ -4,7 +4,7 @@ use crate::origin::Origins;
 use crate::task::Task;
 
 /// What the program is to do, and where its inputs come from.
-#[derive(PartialEq, Eq, Drop)]
+#[derive(Drop)]
 pub struct Request<'a> {
     pub task: Task,
     pub origins: Origins<'a>,

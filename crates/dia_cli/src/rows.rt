@@ -1,4 +1,4 @@
-//! The commands of the program, a row each. The command line is made of them.
+//! The commands of the program, a row each. The command line is made of them, and so are the usages in tips.
 
 ghost use Rattle.std.specs.Prelude.{◌≡◌, map};
 ghost use Rattle.dia_cli.specs.Lines.{command_of};
@@ -78,8 +78,11 @@ const JSON: OptionRow<'static> = OptionRow {
     help: "Prints each answer as a JSON object, a line each",
 };
 
+/// The option that gives the dictionary of a command.
+pub(crate) const DICT_ID: &str = "dict";
+
 const DICT: OptionRow<'static> = OptionRow {
-    id: "dict",
+    id: DICT_ID,
     value: Value::Word {
         name: "D",
         default: BASE_DICTIONARY,
@@ -286,6 +289,13 @@ static ROWS: [CommandRow<'static>; 8] = [
         ],
     },
 ];
+
+/// What the statuses of the process mean, of each command in the order of the rows.
+pub(crate) const STATUSES: &str = "Status:
+  0  done; for make, the messages made; for check, valid; for compare, yes; for refute, refutes; for breaking, nothing breaks
+  1  for check, not valid; for compare, no; for refute, does not refute; for breaking, something breaks; for show, a bad AVP length, or with --lines a line that is no message
+  2  bad input, or a bad command line
+  3  a file or a device failed, or memory was refused";
 
 /// The commands of the program. It stands alone, since each function that reads the rows is proved with all of them.
 pub(crate) fn command_rows<'a>() -> &'a [CommandRow<'a>]

@@ -2,7 +2,7 @@
 
 ghost use Rattle.std.specs.Prelude.{◌≡◌, IfSome, None, codes, false, option_map};
 ghost use Rattle.clap.specs.Words.{found_of, rows_of};
-ghost use Rattle.dia_cli.specs.Asking.{has_flags};
+ghost use Rattle.dia_cli.specs.Forms.{has_flags};
 ghost use Rattle.dia_cli.specs.Words.{IsFlag, apart_in, is_file};
 
 use crate::apart::{Apart, show_apart};
@@ -11,7 +11,7 @@ use crate::values::{flag_of, is_given, word_of};
 use clap::ArgMatches;
 
 /// What `breaking` prints beside its lines, or in their place.
-#[derive(Clone, Copy, PartialEq, Eq)]
+#[derive(Clone, Copy)]
 pub(crate) struct Shown {
     pub messages: bool,
     pub once: bool,

@@ -2,7 +2,7 @@ use dia_io::Command;
 use dia_policy::{Levels, Sends, Unknown};
 
 /// What the command line asks the program to do.
-#[derive(PartialEq, Eq, Drop)]
+#[derive(Drop)]
 pub enum Task {
     /// A command whose inputs are read whole.
     Whole(Command),

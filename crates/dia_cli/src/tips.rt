@@ -1,5 +1,5 @@
-//! Tips about words that clap refuses, where its own tip leads astray: `--dict` belongs to `show` and `make`, and the
-//! dictionaries of the other commands are words.
+//! Tips about words that clap refuses, where its own tip leads astray: `--dict` belongs to some commands, and the dictionaries of
+//! the others are words.
 
 ghost use Rattle.std.specs.Prelude.{◌≡◌, IfSome};
 ghost use Rattle.clap.specs.declared.error.kind.ErrorKind.TheVariants.{UnknownArgument};
@@ -7,6 +7,7 @@ ghost use Rattle.clap.specs.Words.{kind_of};
 ghost use Rattle.dia_cli.specs.Ending.{IsAdvised};
 
 use crate::ending::Ending;
+use crate::rows::{CommandRow, Count, DICT_ID, InputRow, command_rows};
 use clap::error::ErrorKind;
 use std::alloc::{AllocError, Global};
 
@@ -39,36 +40,75 @@ fn better_fault(alloc: Global, words: &[String], fault: &clap::Error) -> Option<
 fn unexpected(alloc: Global, words: &[String]) -> Option<clap::Error>
     ensures { IfSome result (λ fault. kind_of fault ≡ UnknownArgument) }
 {
-    let command = words.get(1)?.as_str();
+    let row = row_of(command_rows(), words.get(1)?.as_str())?;
     let rest = words.get(2..)?;
-    let usage = usage_of(command)?;
-    if has_dict(command) {
-        given(alloc, command, usage, rest)
+    if has_dict(row) {
+        given(alloc, row, rest)
     } else if is_given_dict(rest) {
-        worded(alloc, command, usage)
+        worded(alloc, row)
     } else {
         None
     }
 }
 
-/// The usage of a command.
-fn usage_of(command: &str) -> Option<&'static str> {
-    match command {
-        "show" => Some("diacmd show [OPTIONS] <MESSAGE>"),
-        "make" => Some("diacmd make [OPTIONS] <TEXT>"),
-        "check" => Some("diacmd check [OPTIONS] <D> <MESSAGE>"),
-        "render" => Some("diacmd render [OPTIONS] <D>"),
-        "compare" => Some("diacmd compare [OPTIONS] <A> <B> <TABLE>"),
-        "refute" => Some("diacmd refute [OPTIONS] <A> <B> <MESSAGE>"),
-        "propose" => Some("diacmd propose [OPTIONS] <A> <B> <COMMAND>..."),
-        "breaking" => Some("diacmd breaking [OPTIONS] <A> <B> [COMMAND]..."),
-        _ => None,
+/// The row of the command of this name.
+fn row_of<'r, 'a>(rows: &'r [CommandRow<'a>], name: &str) -> Option<&'r CommandRow<'a>> {
+    for row in rows {
+        if row.name == name {
+            return Some(row);
+        }
     }
+    None
+}
+
+/// The usage of a command.
+fn usage_of(alloc: Global, row: &CommandRow<'_>) -> Result<String, AllocError> {
+    let mut usage = format!(in alloc; "diacmd {} [OPTIONS]", row.name)?;
+    for input in row.inputs {
+        push_input(&mut usage, input)?;
+    }
+    Ok(usage)
+}
+
+/// An input in a usage.
+fn push_input(usage: &mut String, input: &InputRow<'_>) -> Result<(), AllocError> {
+    let (opened, closed) = match input.count {
+        Count::One => (" <", ">"),
+        Count::Some => (" <", ">..."),
+        Count::Any => (" [", "]..."),
+    };
+    usage.push_str(opened)?;
+    usage.push_str(input.id)?;
+    usage.push_str(closed)
 }
 
 /// Whether the dictionary of a command is given by `--dict`. The others take their dictionaries as words.
-fn has_dict(command: &str) -> bool {
-    command == "show" || command == "make"
+fn has_dict(row: &CommandRow<'_>) -> bool {
+    for option in row.options {
+        if option.id == DICT_ID {
+            return true;
+        }
+    }
+    false
+}
+
+/// The names of the commands that have `--dict`.
+fn with_dict(alloc: Global, rows: &[CommandRow<'_>]) -> Result<String, AllocError> {
+    let mut names = String::new(alloc);
+    for row in rows {
+        if has_dict(row) {
+            push_name(&mut names, row.name)?;
+        }
+    }
+    Ok(names)
+}
+
+/// One more name.
+fn push_name(names: &mut String, name: &str) -> Result<(), AllocError> {
+    if !names.is_empty() {
+        names.push_str(" and ")?;
+    }
+    names.push_str(name)
 }
 
 /// Whether one of the words is the option `--dict`.
@@ -92,7 +132,7 @@ fn is_given_option(words: &[String]) -> bool {
 }
 
 /// What is told of `show D MESSAGE`, and of `make D TEXT`.
-fn given(alloc: Global, command: &str, usage: &str, rest: &[String]) -> Option<clap::Error>
+fn given(alloc: Global, row: &CommandRow<'_>, rest: &[String]) -> Option<clap::Error>
     ensures { IfSome result (λ fault. kind_of fault ≡ UnknownArgument) }
 {
     if is_given_option(rest) {
@@ -100,32 +140,45 @@ fn given(alloc: Global, command: &str, usage: &str, rest: &[String]) -> Option<c
     }
     let first = rest.first()?.as_str();
     let second = rest.get(1)?.as_str();
+    let command = row.name;
     let told = format!(in alloc;
         "unexpected argument '{second}' found\n\n  tip: the dictionary of {command} is given by --dict, as in \
          {command} --dict {first} {second}"
     );
-    fault(alloc, told, usage)
+    fault(alloc, row, told)
 }
 
 /// What is told of `--dict` for a command whose dictionaries are words.
-fn worded(alloc: Global, command: &str, usage: &str) -> Option<clap::Error>
+fn worded(alloc: Global, row: &CommandRow<'_>) -> Option<clap::Error>
     ensures { IfSome result (λ fault. kind_of fault ≡ UnknownArgument) }
 {
-    let told = format!(in alloc;
-        "unexpected argument '--dict' found\n\n  tip: only show and make have --dict, and \
-         {command} takes each dictionary as a word"
-    );
-    fault(alloc, told, usage)
+    fault(alloc, row, only_with_dict(alloc, row.name))
 }
 
-/// The fault with this text, and a usage.
-fn fault(alloc: Global, told: Result<String, AllocError>, usage: &str) -> Option<clap::Error>
+/// That only some commands have `--dict`, and not this one.
+fn only_with_dict(alloc: Global, command: &str) -> Result<String, AllocError> {
+    let names = with_dict(alloc, command_rows())?;
+    format!(in alloc;
+        "unexpected argument '--dict' found\n\n  tip: only {names} have --dict, and \
+         {command} takes each dictionary as a word"
+    )
+}
+
+/// The fault with this text, and the usage of the command.
+fn fault(
+    alloc: Global,
+    row: &CommandRow<'_>,
+    told: Result<String, AllocError>,
+) -> Option<clap::Error>
     ensures { IfSome result (λ fault. kind_of fault ≡ UnknownArgument) }
 {
-    match told {
-        Ok(told) => fault_of(alloc, told.as_str(), usage),
-        Err(_) => None,
-    }
+    let Ok(told) = told else {
+        return None;
+    };
+    let Ok(usage) = usage_of(alloc, row) else {
+        return None;
+    };
+    fault_of(alloc, told.as_str(), usage.as_str())
 }
 
 fn fault_of(alloc: Global, told: &str, usage: &str) -> Option<clap::Error>

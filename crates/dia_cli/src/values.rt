@@ -4,7 +4,7 @@ ghost use Rattle.std.specs.Prelude.{◌≡◌, [], IfOk, IfSome, None, Some, fal
 ghost use Rattle.std.specs.Prelude.{codes, unwrap_or};
 ghost use Rattle.clap.specs.Walk.{texts};
 ghost use Rattle.clap.specs.Words.{all_of, first_of, found_of, rows_of};
-ghost use Rattle.dia_cli.specs.Asking.{has_word, is_flag, is_limit, is_policy, is_sender};
+ghost use Rattle.dia_cli.specs.Words.{has_word, is_flag, is_limit, is_policy, is_sender};
 ghost use Rattle.dia_cli.specs.InputWords.{IsFound};
 ghost use Rattle.dia_cli.specs.Origins.{dictionary_origin, message_origin, messages_origin, table_origin};
 ghost use Rattle.dia_cli.specs.Words.{IsLimitOf, flag_word, is_given, policy_word, sends_word};

@@ -4,15 +4,13 @@ use Rattle.std.specs.Prelude.{IfErr, IfOk, IsSomeAnd}
 use Rattle.clap.specs.Walk.{Row, Text}
 use Rattle.clap.specs.Words.{App, IsAmong, Kinds, fault_of, kind_of, subcommand_of}
 use Rattle.clap.specs.declared.error.kind.ErrorKind.{ErrorKind}
-use Rattle.dia_cli.specs.Asking.{IsApart, IsRefused, is_asked}
+use Rattle.dia_cli.specs.Asking.{IsApart, IsAskedBy, IsProgram, IsRefused, IsRequestOf, is_asked}
 use Rattle.dia_cli.specs.Forms.{Form, IsAccepted, IsOfForm, form_json, form_name, is_plain_form, words_of}
-use Rattle.dia_cli.specs.Words.{IsAskedBy, IsProgram, IsRequestOf}
 use Rattle.dia_cli.specs.declared.ending.Ending.{Ending}
 use Rattle.dia_cli.specs.declared.ending.Ending.TheVariants as ending
 use Rattle.dia_cli.specs.declared.request.Request.{Request}
-use Rattle.dia_cli.proofs.Forms.FormRows.{form_taken}
-use Rattle.dia_cli.proofs.Forms.Requests.{form_goes_together, form_is_asked, request_is}
-use Rattle.dia_cli.proofs.Forms.Says.{Says, found_says}
+use Rattle.dia_cli.proofs.Forms.Requests.{form_goes_together, form_is_asked, form_taken, found_says, request_is}
+use Rattle.dia_cli.proofs.Forms.Commands.{Says}
 use Rattle.dia_cli.proofs.Forms.Walked.{IsTaken}
 
 abbrev Taken : App → Text → Bool → Form → Type 0

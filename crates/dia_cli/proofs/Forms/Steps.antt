@@ -17,11 +17,10 @@ use Rattle.clap.specs.declared.builder.value_parser.Reading.{Reading}
 use Rattle.clap.specs.declared.builder.value_parser.ValueParser.{ValueParser}
 use Rattle.clap.specs.declared.builder.value_parser.ValueParser.TheVariants as vp
 use Rattle.clap.specs.declared.parser.matches.ValueSource.TheVariants.{CommandLine}
-use Rattle.dia_cli.specs.Slots.{Slot, slot_id}
+use Rattle.dia_cli.specs.Slots.{Slot, choice, flag, number, slot_id, text, word, words}
 use Rattle.dia_cli.proofs.Forms.Lookup.{Found, found, found_used, fresh_row, has_found, or_found, or_none, values_from}
 use Rattle.dia_cli.proofs.Forms.NamesWalked.{some_pass, texts_pass}
 use Rattle.dia_cli.proofs.Forms.Walked.{given}
-use Rattle.dia_cli.specs.Slots.{flag, choice, text, number, word, words}
 
 -- ---- the rules of a command that is built
 

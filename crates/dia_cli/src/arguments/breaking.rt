@@ -2,8 +2,10 @@
 
 ghost use Rattle.std.specs.Prelude.{◌≡◌, IfErr, IfOk, IfSome, None, Some, codes, false};
 ghost use Rattle.clap.specs.Words.{first_of, found_of, rows_of};
-ghost use Rattle.dia_cli.specs.Asking.{IsWanting, is_sender};
-ghost use Rattle.dia_cli.specs.Words.{IsAsked, sends_word};
+ghost use Rattle.dia_cli.specs.Asking.{IsWanting};
+ghost use Rattle.dia_cli.specs.Words.{is_sender};
+ghost use Rattle.dia_cli.specs.Asking.{IsAsked};
+ghost use Rattle.dia_cli.specs.Words.{sends_word};
 
 use crate::arguments::{Asked, Unasked, pair_of, unknown_of};
 use crate::origin::Origins;
@@ -20,15 +22,28 @@ pub(super) fn breaking_of<'a>(alloc: Global, found: &ArgMatches<'a>) -> Result<A
         (λ made. IsAsked made.task made.origins (codes "breaking", rows_of (found_of found.now))) }
     ensures wanting { IfErr result (IsWanting (codes "breaking") (rows_of (found_of found.now))) }
 {
-    let unknown = unknown_of(found).ok_or(Unasked::Nothing)?;
-    let origins = pair_of(found).ok_or(Unasked::Nothing)?;
-    let sends = sender_of(found).ok_or(Unasked::Nothing)?;
-    let Shown {
-        messages,
-        once,
-        meaning,
-    } = shown_of(found).ok_or(Unasked::Nothing)?;
-    let table = table_of(found, "accepted").ok_or(Unasked::Nothing)?;
+    let Some(unknown) = unknown_of(found) else {
+        return Err(Unasked::Nothing);
+    };
+    let Some(origins) = pair_of(found) else {
+        return Err(Unasked::Nothing);
+    };
+    let Some(sends) = sender_of(found) else {
+        return Err(Unasked::Nothing);
+    };
+    let Some(
+        Shown {
+            messages,
+            once,
+            meaning,
+        },
+    ) = shown_of(found)
+    else {
+        return Err(Unasked::Nothing);
+    };
+    let Some(table) = table_of(found, "accepted") else {
+        return Err(Unasked::Nothing);
+    };
     let names = names_of(alloc, found)?;
     Ok(Asked {
         task: Task::Breaking {

@@ -3,7 +3,7 @@
 ghost use Rattle.std.specs.Prelude.{IfErr, IfOk, codes};
 ghost use Rattle.clap.specs.Words.{found_of, rows_of};
 ghost use Rattle.dia_cli.specs.Asking.{IsWanting};
-ghost use Rattle.dia_cli.specs.Words.{IsAsked};
+ghost use Rattle.dia_cli.specs.Asking.{IsAsked};
 
 use crate::arguments::{Asked, Unasked};
 use crate::origin::Origins;

@@ -2,8 +2,7 @@ use Rattle.std.proofs.Common.{ap, inr, map, subst}
 use Rattle.std.proofs.lemmas.Result.{IfErr-weaker, IfOk-weaker}
 use Rattle.std.specs.Prelude.{IsSomeAnd}
 use Rattle.clap.specs.Words.{app_of, is_simple, is_simple_and_free}
-use Rattle.dia_cli.specs.Asking.{IsUnrun}
-use Rattle.dia_cli.specs.Words.{IsRequestOf}
+use Rattle.dia_cli.specs.Asking.{IsRequestOf, IsUnrun}
 use Rattle.dia_cli.proofs.Words.{error_is_refused}
 use Rattle.dia_cli.proofs.arguments.asked_by.Goals as goal
 

@@ -2,7 +2,7 @@ use Rattle.std.proofs.Common.{◌≡◌, ◌∙◌, ap, map, refl, rules, subst,
 use Rattle.clap.specs.Words.{app_of}
 use Rattle.dia_cli.specs.Lines.{program_app}
 use Rattle.dia_cli.specs.Rows.{with_commands}
-use Rattle.dia_cli.specs.Words.{IsProgram, line_shape}
+use Rattle.dia_cli.specs.Asking.{IsProgram, line_shape}
 use Rattle.dia_cli.proofs.Words.{none_is_refused}
 use Rattle.dia_cli.proofs.arguments.parsed.Goals as goal
 
