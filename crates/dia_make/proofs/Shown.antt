@@ -82,7 +82,7 @@ cut_ends d message a no_text (place, is_cut, is, report) exit = cut place no_tex
 pub law : (shown given : Inputs) (text : List ℕ) → IsShowTextOutcome shown text exits.Yes → given.first ≡ shown.first → Holds given.message max_message_text text
     → (bytes : List ℕ) × IsMessageText shown.message bytes × IsMakeOutcome given (digits_line bytes) exits.Yes
 law s given text (ended d bytes is_d is_m (written is_text makes ends)) same holds =
-    (bytes, is_m, made d text (subst (λ i. IsDictionaryText i d) (sym same) is_d) holds makes refl)
+    (bytes, is_m, made d (subst (λ i. IsDictionaryText i d) (sym same) is_d) (text, holds, makes) refl)
 law s given text (ended d bytes is_d is_m (cut place begins is_cut is_line ends)) same holds = absurd (let e : exits.Yes ≡ exits.No = ends in cc)
 law s given text (ended d bytes is_d is_m (bad_message why none (is_line, ends))) same holds = absurd (let e : exits.Yes ≡ exits.Bad = ends in cc)
 law s given text (no_dictionary why none (is_line, ends)) same holds = absurd (let e : exits.Yes ≡ exits.Bad = ends in cc)

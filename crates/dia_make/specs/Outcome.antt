@@ -4,10 +4,10 @@ use Rattle.std.specs.Fmt.{decimal}
 use Rattle.dia_policy.specs.Limits.{max_message_text}
 use Rattle.dia_io.specs.declared.Exit.{Exit}
 use Rattle.dia_io.specs.declared.Exit.TheVariants.{Yes}
+use Rattle.dia_io.specs.declared.Input.{Input}
 use Rattle.dia_io.specs.declared.Inputs.{Inputs}
 use Rattle.dia_io.specs.Inputs.{Holds, IsOver}
 use Rattle.dia_dict.specs.Dictionary.{Dictionary}
-use Rattle.dia_text.specs.declared.Fault.{Fault}
 use Rattle.dia_text.specs.Faults.{kind_word}
 use Rattle.dia_text.specs.Made.{made_lines}
 use Rattle.dia_run.specs.Outcome.{Refuses}
@@ -24,13 +24,19 @@ bad_text_words (bad.Fault f) = kind_word f.kind ++ codes " at line " ++ decimal 
 abbrev pub text_line : BadText → List ℕ
 text_line why = codes "text: " ++ bad_text_words why
 
+-- the lines that the text of an input makes with a dictionary
+abbrev pub Makes : Dictionary → Input → List ℕ → Type 0
+Makes d input made = (bytes : List ℕ) × Holds input max_message_text bytes × (made_lines d bytes ≡ Ok made)
+
+-- why it makes none
+abbrev pub MakesNone : Dictionary → Input → BadText → Type 0
+MakesNone d input bad.TooLong = IsOver input max_message_text
+MakesNone d input (bad.Fault f) = (bytes : List ℕ) × Holds input max_message_text bytes × (made_lines d bytes ≡ Err f)
+
 -- the dictionary is judged first
 pub data IsMakeOutcome (inputs : Inputs) (text : List ℕ) (exit : Exit) : Type 0 where
-  made : (d : Dictionary) (bytes : List ℕ) → IsDictionaryText inputs.first d → Holds inputs.message max_message_text bytes
-      → made_lines d bytes ≡ Ok text → exit ≡ Yes → IsMakeOutcome inputs text exit
-  fault : (d : Dictionary) (bytes : List ℕ) (f : Fault) → IsDictionaryText inputs.first d → Holds inputs.message max_message_text bytes
-      → made_lines d bytes ≡ Err f → Refuses (text_line (bad.Fault f)) text exit → IsMakeOutcome inputs text exit
-  too_long : (d : Dictionary) → IsDictionaryText inputs.first d → IsOver inputs.message max_message_text
-      → Refuses (text_line bad.TooLong) text exit → IsMakeOutcome inputs text exit
+  made : (d : Dictionary) → IsDictionaryText inputs.first d → Makes d inputs.message text → exit ≡ Yes → IsMakeOutcome inputs text exit
+  refused : (d : Dictionary) (why : BadText) → IsDictionaryText inputs.first d → MakesNone d inputs.message why
+      → Refuses (text_line why) text exit → IsMakeOutcome inputs text exit
   no_dictionary : (why : List ℕ) → IsNoDictionaryText inputs.first why → Refuses (dictionary_line 1 why) text exit
       → IsMakeOutcome inputs text exit

@@ -1,19 +1,20 @@
 //! The command, from its inputs to what is written.
 
-ghost use Rattle.std.specs.Prelude.{◌≡◌, ◌↔◌, ℕ, List, IfOk, Err, IsTrue, string_bytes};
+ghost use Rattle.std.specs.Prelude.{◌≡◌, ◌↔◌, ℕ, List, IfOk, IfErr, Err, IsTrue, string_bytes};
 ghost use Rattle.std.specs.Io.KnownBytes.{Appends};
 ghost use Rattle.dia_io.specs.declared.Exit.{Exit as AnyExit};
 ghost use Rattle.dia_io.specs.Writing.{AppendsFront};
-ghost use Rattle.dia_run.specs.Texts.{line, IsDictionaryText};
-ghost use Rattle.dia_make.specs.Outcome.{IsMakeOutcome, text_line};
-ghost use Rattle.dia_make.specs.Reports.{IsTold, HasReport};
+ghost use Rattle.dia_run.specs.Report.{IsReadFrom};
+ghost use Rattle.dia_run.specs.Texts.{line};
+ghost use Rattle.dia_make.specs.Outcome.{IsMakeOutcome, Makes, MakesNone, text_line};
+ghost use Rattle.dia_make.specs.Reports.{IsTold, HasReport, IsReadBy};
 
 use crate::refusing::refuse;
-use crate::reporting::{Answered, BadText, Report, Reported};
-use dia_dict::Book;
-use dia_io::{Exit, Inputs, RunFault, Sink, put_all};
+use crate::reporting::{Answered, BadText, RefusedText, Report, Reported};
+use dia_dict::{Book, IndexedBook};
+use dia_io::{Exit, Input, Inputs, RunFault, Sink, put_all};
 use dia_policy::MAX_MESSAGE_TEXT;
-use dia_report::Refused;
+use dia_report::{ReadBook, Refused};
 use dia_run::read_dictionary;
 use dia_text::{NotMade, make_all};
 use std::alloc::{AllocError, Global};
@@ -27,6 +28,8 @@ pub fn make<S: Sink>(alloc: Global, inputs: &Inputs, sink: &mut S) -> Result<Rep
     ensures text { IfOk result (λ reported. (text : List ℕ) × IsMakeOutcome inputs.now text reported.exit
         × IsTold reported.report text reported.exit
         × Appends (S.written sink.old) (S.written sink.new) text) }
+    // Of a text that is refused the report has the dictionary by which it was read.
+    ensures read { IfOk result (λ reported. IsReadBy ⟦<IndexedBook as Book>⟧.meaning inputs.now reported.report) }
     ensures device { (result ≡ Err RunFault.Device) ↔ IsTrue (S.has_failed sink.new) }
     ensures front { result ≡ Err RunFault.Device
         → (text : List ℕ) × (exit : AnyExit) × IsMakeOutcome inputs.now text exit
@@ -43,43 +46,61 @@ fn answer(alloc: Global, inputs: &Inputs) -> Result<Answered, AllocError>
     ensures outcome { IfOk result
         (λ answered. IsMakeOutcome inputs.now (string_bytes answered.text) answered.exit) }
     ensures report { IfOk result HasReport }
+    ensures read { IfOk result (λ answered. IsReadBy ⟦<IndexedBook as Book>⟧.meaning inputs.now answered.report) }
 {
     match read_dictionary(alloc, 1, &inputs.first) {
-        Ok(first) => answer_for(alloc, &first.book, inputs),
+        Ok(first) => answer_by(alloc, first, inputs),
         Err(Refused::Bad(bad)) => refuse(alloc, bad),
         Err(Refused::NoMemory) => Err(AllocError),
     }
 }
 
-/// The answer with this dictionary.
-fn answer_for<B: Book>(alloc: Global, book: &B, inputs: &Inputs) -> Result<Answered, AllocError>
+/// The answer by the dictionary that was read.
+fn answer_by(alloc: Global, first: Box<ReadBook>, inputs: &Inputs) -> Result<Answered, AllocError>
+    requires { IsReadFrom ⟦<IndexedBook as Book>⟧.meaning inputs.now.first first.value }
     ensures outcome { IfOk result
-        (λ answered. IsDictionaryText inputs.now.first (B.meaning book.now)
-        → IsMakeOutcome inputs.now (string_bytes answered.text) answered.exit) }
+        (λ answered. IsMakeOutcome inputs.now (string_bytes answered.text) answered.exit) }
     ensures report { IfOk result HasReport }
+    ensures read { IfOk result (λ answered. IsReadBy ⟦<IndexedBook as Book>⟧.meaning inputs.now answered.report) }
 {
-    let Some(bytes) = inputs.message.within(MAX_MESSAGE_TEXT) else {
-        return tell(alloc, BadText::TooLong);
-    };
-    match make_all(alloc, book, bytes) {
+    match made(alloc, &first.book, &inputs.message)? {
         Ok(text) => Ok(Answered {
             text,
             exit: Exit::Yes,
             report: Report::Done,
         }),
-        Err(NotMade::Fault(fault)) => tell(alloc, BadText::Fault(fault)),
+        Err(why) => tell(alloc, RefusedText { first, why }),
+    }
+}
+
+/// The lines that the text of an input makes with a dictionary, or why it makes none.
+fn made<B: Book>(
+    alloc: Global,
+    book: &B,
+    input: &Input,
+) -> Result<Result<String, BadText>, AllocError>
+    ensures made { IfOk result (λ made. IfOk made (λ text. Makes (B.meaning book.now) input.now (string_bytes text))) }
+    ensures none { IfOk result (λ made. IfErr made (MakesNone (B.meaning book.now) input.now)) }
+{
+    let Some(bytes) = input.within(MAX_MESSAGE_TEXT) else {
+        return Ok(Err(BadText::TooLong));
+    };
+    match make_all(alloc, book, bytes) {
+        Ok(text) => Ok(Ok(text)),
+        Err(NotMade::Fault(fault)) => Ok(Err(BadText::Fault(fault))),
         Err(NotMade::NoMemory) => Err(AllocError),
     }
 }
 
 /// The answer of a text that is refused.
-fn tell(alloc: Global, bad: BadText) -> Result<Answered, AllocError>
-    ensures text { IfOk result (λ answered. string_bytes answered.text ≡ line (text_line bad)) }
+fn tell(alloc: Global, refused: RefusedText) -> Result<Answered, AllocError>
+    ensures text { IfOk result (λ answered. string_bytes answered.text ≡ line (text_line refused.why)) }
     ensures exit { IfOk result (λ answered. answered.exit ≡ Exit.Bad) }
-    ensures report { IfOk result (λ answered. answered.report ≡ Report.Text bad) }
+    ensures report { IfOk result (λ answered. answered.report ≡ Report.Text refused) }
 {
-    let text = format!(in alloc; "text: {bad}\n")?;
+    let why = refused.why;
+    let text = format!(in alloc; "text: {why}\n")?;
     let exit = Exit::Bad;
-    let report = Report::Text(bad);
+    let report = Report::Text(refused);
     Ok(Answered { text, exit, report })
 }

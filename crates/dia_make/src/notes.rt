@@ -5,12 +5,10 @@ use crate::notes::spots::{Meant, Spot, spot_of};
 use crate::notes::tests_of_words::number_of;
 use crate::reporting::{BadText, Report};
 use dia_data::{Format, push_hex_byte, push_value};
-use dia_dict::base_text;
+use dia_dict::{IndexedBook, base_text};
 use dia_explain_places::{push_excerpt, push_place, push_shown};
 use dia_io::{Input, Inputs};
 use dia_policy::MAX_MESSAGE_TEXT;
-use dia_report::Refused;
-use dia_run::read_dictionary;
 use dia_text::Fault;
 use std::alloc::{AllocError, Global};
 
@@ -37,10 +35,12 @@ pub fn note(
 ) -> Result<String, AllocError> {
     match report {
         Report::Done | Report::Refused(_) => Ok(String::new(alloc)),
-        Report::Text(BadText::TooLong) => format!(in alloc;
-            "{name}: the text has more than {MAX_MESSAGE_TEXT} bytes\n"
-        ),
-        Report::Text(BadText::Fault(fault)) => fault_note(alloc, name, inputs, fault),
+        Report::Text(refused) => match &refused.why {
+            BadText::TooLong => format!(in alloc;
+                "{name}: the text has more than {MAX_MESSAGE_TEXT} bytes\n"
+            ),
+            BadText::Fault(fault) => fault_note(alloc, name, inputs, &refused.first.book, fault),
+        },
         Report::Cut { place } => format!(in alloc;
             "{name}: byte {place}: no AVP begins here, so the message has no text: fewer than 8 bytes are left, or the AVP \
              Length is under 8 (12 with a Vendor-ID), or leads behind the message's end; `diacmd show` lists the AVPs before it\n"
@@ -48,27 +48,18 @@ pub fn note(
     }
 }
 
-/// The note of a text that is refused for a fault.
+/// The note of a text that is refused for a fault. `book` is the dictionary by which it was read.
 fn fault_note(
     alloc: Global,
     name: &str,
     inputs: &Inputs,
+    book: &IndexedBook,
     fault: &Fault,
 ) -> Result<String, AllocError> {
     let mut out = String::new(alloc);
-    let Some(text) = inputs.message.within(MAX_MESSAGE_TEXT) else {
-        return Ok(out);
-    };
-    match read_dictionary(alloc, 1, &inputs.first) {
-        Ok(first) => {
-            let names = NamesOf {
-                book: &first.book,
-                is_base: is_base(&inputs.first),
-            };
-            push_fault(&mut out, name, &names, text, fault)?;
-        }
-        Err(Refused::Bad(_bad)) => {}
-        Err(Refused::NoMemory) => return Err(AllocError),
+    if let Some(text) = inputs.message.within(MAX_MESSAGE_TEXT) {
+        let is_base = is_base(&inputs.first);
+        push_fault(&mut out, name, &NamesOf { book, is_base }, text, fault)?;
     }
     Ok(out)
 }

@@ -1,7 +1,7 @@
 //! What a command answers.
 
 use dia_io::Exit;
-use dia_report::BadInput;
+use dia_report::{BadInput, ReadBook};
 use dia_text::Fault;
 use std::fmt;
 
@@ -14,6 +14,13 @@ pub enum BadText {
     Fault(Fault),
 }
 
+/// A text that makes no messages, and the dictionary by which it was read.
+#[derive(Drop)]
+pub struct RefusedText {
+    pub first: Box<ReadBook>,
+    pub why: BadText,
+}
+
 /// What a command found in its inputs.
 #[derive(Drop)]
 pub enum Report {
@@ -22,7 +29,7 @@ pub enum Report {
     /// The dictionary or the message is refused.
     Refused(BadInput),
     /// The text is refused.
-    Text(BadText),
+    Text(RefusedText),
     /// At this byte of the message, outside groups, no AVP begins.
     Cut { place: usize },
 }
