@@ -3,7 +3,6 @@
 use crate::notes::push_texts;
 use dia_ccf::{Decl, Def, Source};
 use dia_explain_places::{nearest_command, nearest_name};
-use indexmap::IndexSet;
 use std::alloc::{AllocError, Global};
 
 /// What a dictionary's text says, and the word that names the text.
@@ -20,12 +19,12 @@ pub enum Named {
     Avp,
 }
 
-/// The names of a dictionary, to look them up.
+/// The names of a dictionary, each kind in order, to look them up.
 #[derive(Drop)]
 pub struct Vocabulary<'a> {
     pub dictionary: NamedSource<'a>,
-    commands: Box<IndexSet<&'a str>>,
-    avps: Box<IndexSet<&'a str>>,
+    commands: Vec<&'a str>,
+    avps: Vec<&'a str>,
 }
 
 /// The names of commands, or those of declarations and groups.
@@ -57,24 +56,22 @@ fn declared(alloc: Global, decls: &[Decl]) -> Result<Vec<&str>, AllocError> {
     Ok(names)
 }
 
-fn set_of<'a>(
+fn sorted_names<'a>(
     alloc: Global,
     source: &'a Source,
     named: Named,
-) -> Result<Box<IndexSet<&'a str>>, AllocError> {
-    let mut set = Box::new(alloc, IndexSet::new(alloc))?;
-    for name in &names_of(alloc, source, named)? {
-        set.insert(*name)?;
-    }
-    Ok(set)
+) -> Result<Vec<&'a str>, AllocError> {
+    let mut names = names_of(alloc, source, named)?;
+    names.sort_unstable();
+    Ok(names)
 }
 
 impl<'a> Vocabulary<'a> {
     pub fn of(alloc: Global, dictionary: &NamedSource<'a>) -> Result<Self, AllocError> {
         Ok(Vocabulary {
             dictionary: *dictionary,
-            commands: set_of(alloc, dictionary.source, Named::Command)?,
-            avps: set_of(alloc, dictionary.source, Named::Avp)?,
+            commands: sorted_names(alloc, dictionary.source, Named::Command)?,
+            avps: sorted_names(alloc, dictionary.source, Named::Avp)?,
         })
     }
 
@@ -83,7 +80,7 @@ impl<'a> Vocabulary<'a> {
             Named::Command => &self.commands,
             Named::Avp => &self.avps,
         };
-        names.contains(&name)
+        names.binary_search(&name).is_ok()
     }
 
     /// Adds what is meant by a name that isn't there, and tells whether that is known. `instead` says what it is where it is one

@@ -1,8 +1,6 @@
 //! The faults as they are told: each undefined name once.
 
-use crate::notes::Added;
 use dia_dict::{DictKind, Finding, Part};
-use indexmap::IndexMap;
 use std::alloc::{AllocError, Global};
 
 /// A fault. Of the rules for an undefined name it is the first, `more` is how many more there are, and the first of those is what
@@ -15,38 +13,71 @@ pub struct Note<'a> {
 
 /// The faults, of which those for one undefined name are one.
 pub fn notes_of<'a>(alloc: Global, findings: &[Finding<'a>]) -> Result<Vec<Note<'a>>, AllocError> {
+    let uses = uses_of(alloc, findings)?;
     let mut notes = Vec::new(alloc);
-    let mut undefined = Box::new(alloc, IndexMap::new(alloc))?;
-    for finding in findings {
-        push_note(&mut notes, &mut undefined, *finding)?;
+    for (place, finding) in findings.iter().enumerate() {
+        if let Some(note) = note_of(findings, &uses, place, *finding) {
+            notes.push(note)?;
+        }
     }
     Ok(notes)
 }
 
-/// Adds a fault. `undefined` has the indexes of the notes on undefined names.
-fn push_note<'a>(
-    notes: &mut Vec<Note<'a>>,
-    undefined: &mut IndexMap<&'a str, usize>,
-    finding: Finding<'a>,
-) -> Added {
-    if finding.told.kind == DictKind::UndefinedName {
-        let name = finding.told.slot;
-        if let Some(index) = undefined.get(&name) {
-            count_use(notes, *index, finding.part);
-            return Ok(());
+/// The undefined names of faults in order, each with the places of its faults.
+fn uses_of<'a>(
+    alloc: Global,
+    findings: &[Finding<'a>],
+) -> Result<Vec<(&'a str, usize)>, AllocError> {
+    let mut uses = Vec::new(alloc);
+    for (place, finding) in findings.iter().enumerate() {
+        if finding.told.kind == DictKind::UndefinedName {
+            uses.push((finding.told.slot, place))?;
         }
-        undefined.insert(name, notes.len())?;
     }
-    notes.push(Note { finding, more: 0 })?;
-    Ok(())
+    uses.sort_unstable();
+    Ok(uses)
 }
 
-/// Counts a further rule for an undefined name.
-fn count_use(notes: &mut Vec<Note<'_>>, index: usize, part: Option<Part>) {
-    if let Some(note) = notes.get_mut(index) {
-        if note.more == 0 {
-            note.finding.other = part;
-        }
-        note.more = note.more.saturating_add(1);
+/// The note of a fault at a place, unless an earlier one is for the same undefined name.
+fn note_of<'a>(
+    findings: &[Finding<'a>],
+    uses: &[(&str, usize)],
+    place: usize,
+    finding: Finding<'a>,
+) -> Option<Note<'a>> {
+    if finding.told.kind != DictKind::UndefinedName {
+        return Some(Note { finding, more: 0 });
     }
+    let name = finding.told.slot;
+    let of_name = uses.get(first_from(uses, name, 0)..first_from(uses, name, usize::MAX))?;
+    if of_name.first()?.1 == place {
+        Some(note_of_name(findings, finding, of_name))
+    } else {
+        None
+    }
+}
+
+/// The place of the first use that isn't before this place of a name.
+fn first_from(uses: &[(&str, usize)], name: &str, place: usize) -> usize {
+    match uses.binary_search(&(name, place)) {
+        Ok(at) | Err(at) => at,
+    }
+}
+
+/// The note of the first fault for a name with these uses.
+fn note_of_name<'a>(
+    findings: &[Finding<'a>],
+    finding: Finding<'a>,
+    uses: &[(&str, usize)],
+) -> Note<'a> {
+    let mut finding = finding;
+    if let Some((_, second)) = uses.get(1) {
+        finding.other = part_at(findings, *second);
+    }
+    let more = uses.len().saturating_sub(1);
+    Note { finding, more }
+}
+
+fn part_at(findings: &[Finding<'_>], place: usize) -> Option<Part> {
+    findings.get(place)?.part
 }
