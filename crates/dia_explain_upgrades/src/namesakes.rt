@@ -2,7 +2,6 @@
 
 use dia_ccf::{Decl, Def, Head, Source};
 use dia_upgrades::Told;
-use indexmap::IndexMap;
 use std::alloc::{AllocError, Global};
 
 /// The most names that are told.
@@ -16,50 +15,63 @@ pub struct Side<'a> {
 }
 
 /// The code of an AVP, and its vendor or 0.
-#[derive(Clone, Copy, PartialEq, Eq)]
+#[derive(Clone, Copy, PartialEq, Eq, PartialOrd, Ord)]
 struct Number {
     code: u32,
     vendor: u32,
 }
 
-/// The AVPs of a dictionary by their names.
-type Numbers<'a> = IndexMap<&'a str, Number>;
-
-/// A dictionary's AVPs, and the word that names its text.
+/// The AVPs of a dictionary in the order of their names, and the word that names its text.
 #[derive(Drop)]
 struct Numbered<'a> {
     dictionary: &'a str,
-    numbers: Box<Numbers<'a>>,
+    numbers: Vec<(&'a str, Number)>,
 }
 
 impl<'a> Numbered<'a> {
     fn of(alloc: Global, side: Side<'a>) -> Result<Numbered<'a>, AllocError> {
-        let mut numbers = Box::new(alloc, IndexMap::new(alloc))?;
+        let mut numbers = Vec::new(alloc);
         add_declared(&mut numbers, &side.source.avps)?;
         add_groups(&mut numbers, &side.source.groups)?;
+        numbers.sort_unstable();
         let dictionary = side.name;
         Ok(Numbered {
             dictionary,
             numbers,
         })
     }
+
+    fn number(&self, name: &str) -> Option<Number> {
+        let least = Number { code: 0, vendor: 0 };
+        let place = match self.numbers.binary_search(&(name, least)) {
+            Ok(place) | Err(place) => place,
+        };
+        let (found, number) = *self.numbers.get(place)?;
+        if found == name { Some(number) } else { None }
+    }
 }
 
-fn add_declared<'a>(numbers: &mut Numbers<'a>, avps: &'a [Decl]) -> Result<(), AllocError> {
+fn add_declared<'a>(
+    numbers: &mut Vec<(&'a str, Number)>,
+    avps: &'a [Decl],
+) -> Result<(), AllocError> {
     for avp in avps {
         let number = Number {
             code: avp.code,
             vendor: avp.vendor,
         };
-        numbers.insert(avp.name.as_str(), number)?;
+        numbers.push((avp.name.as_str(), number))?;
     }
     Ok(())
 }
 
-fn add_groups<'a>(numbers: &mut Numbers<'a>, groups: &'a [Def]) -> Result<(), AllocError> {
+fn add_groups<'a>(
+    numbers: &mut Vec<(&'a str, Number)>,
+    groups: &'a [Def],
+) -> Result<(), AllocError> {
     for group in groups {
         if let Head::Group { code, vendor } = group.head {
-            numbers.insert(group.name.as_str(), Number { code, vendor })?;
+            numbers.push((group.name.as_str(), Number { code, vendor }))?;
         }
     }
     Ok(())
@@ -103,11 +115,11 @@ fn push_twins(
     second: &Numbered<'_>,
     name: &str,
 ) -> Result<bool, AllocError> {
-    match (first.numbers.get(&name), second.numbers.get(&name)) {
+    match (first.number(name), second.number(name)) {
         (Some(own), Some(other)) if own != other => {
             out.push_str(name)?;
-            push_number(out, " is ", *own, first.dictionary)?;
-            push_number(out, " and ", *other, second.dictionary)?;
+            push_number(out, " is ", own, first.dictionary)?;
+            push_number(out, " and ", other, second.dictionary)?;
             out.push('\n')?;
             Ok(true)
         }

@@ -3,7 +3,6 @@
 use crate::namesakes::Side;
 use dia_ccf::{Def, Head, Source};
 use dia_upgrades::Told;
-use indexmap::{IndexMap, IndexSet};
 use std::alloc::{AllocError, Global};
 
 /// The most applications that are told, but for a last one.
@@ -17,24 +16,16 @@ struct Single {
     app: u32,
 }
 
-/// What the second dictionary has for a code and a class.
-#[derive(Clone, Copy)]
-struct Offer {
-    /// Whether one of its commands is for all applications.
-    is_for_all: bool,
-    /// How many are for an application that the first dictionary doesn't have.
-    new: usize,
-}
+/// Commands by code, class and application, in order. The application of a command for all is `None`, which is before the others.
+type Kinds = Vec<(u32, bool, Option<u32>)>;
 
-/// Commands for one application each, by code, class and application.
-type Singles = IndexSet<(u32, bool, u32)>;
-
-/// The applications that two dictionaries have.
+/// The commands that two dictionaries have.
 #[derive(Drop)]
 struct Applications {
-    first: Box<Singles>,
-    second: Box<Singles>,
-    offers: Box<IndexMap<(u32, bool), Offer>>,
+    first: Kinds,
+    second: Kinds,
+    /// Those of the second for one application, where the first doesn't have them.
+    new: Kinds,
 }
 
 /// Adds for which applications the second dictionary has a command that it refuses for the first dictionary's application. It is
@@ -63,7 +54,7 @@ pub fn push_unchosen(
 fn first_unchosen<'a>(
     commands: &'a [Def],
     names: &[String],
-    refused: &IndexSet<u32>,
+    refused: &[u32],
     apps: &Applications,
 ) -> Option<&'a Def> {
     for command in commands {
@@ -74,14 +65,15 @@ fn first_unchosen<'a>(
     None
 }
 
-/// The applications that the lines refuse.
-fn refusals_of(alloc: Global, causes: &[Told]) -> Result<Box<IndexSet<u32>>, AllocError> {
-    let mut refused = Box::new(alloc, IndexSet::new(alloc))?;
+/// The applications that the lines refuse, in order.
+fn refusals_of(alloc: Global, causes: &[Told]) -> Result<Vec<u32>, AllocError> {
+    let mut refused = Vec::new(alloc);
     for cause in causes {
         if let Some(app) = refused_by(cause.words.as_str()) {
-            refused.insert(app)?;
+            refused.push(app)?;
         }
     }
+    refused.sort_unstable();
     Ok(refused)
 }
 
@@ -102,9 +94,9 @@ fn is_asked(names: &[String], command: &Def) -> bool {
 }
 
 /// Whether a command is for an application that is refused, and none takes its place.
-fn is_unchosen(apps: &Applications, refused: &IndexSet<u32>, command: &Def) -> bool {
+fn is_unchosen(apps: &Applications, refused: &[u32], command: &Def) -> bool {
     match single_of(command) {
-        Some(single) => refused.contains(&single.app) && apps.has_no_place_for(single),
+        Some(single) => refused.binary_search(&single.app).is_ok() && apps.has_no_place_for(single),
         None => false,
     }
 }
@@ -123,84 +115,86 @@ fn single_of(command: &Def) -> Option<Single> {
 
 impl Applications {
     fn of(alloc: Global, first: &Source, second: &Source) -> Result<Applications, AllocError> {
-        let first = singles_of(alloc, first)?;
-        let offers = offers_of(alloc, second, &first)?;
-        let second = singles_of(alloc, second)?;
-        Ok(Applications {
-            first,
-            second,
-            offers,
-        })
+        let first = kinds_of(alloc, first)?;
+        let second = kinds_of(alloc, second)?;
+        let new = new_of(alloc, &first, &second)?;
+        Ok(Applications { first, second, new })
     }
 
     /// Whether the second dictionary has the command, but not for its application, and not for just one that is new.
     fn has_no_place_for(&self, single: Single) -> bool {
         let Single { code, request, app } = single;
-        match self.offers.get(&(code, request)) {
-            Some(offer) => {
-                let is_there = self.second.contains(&(code, request, app));
-                !offer.is_for_all && offer.new != 1 && !is_there
+        let is_there = has(&self.second, (code, request, Some(app)));
+        !is_there && self.is_for_some(code, request) && !self.has_one_new(code, request)
+    }
+
+    /// Whether the second dictionary has commands of a code and a class, each for one application.
+    fn is_for_some(&self, code: u32, request: bool) -> bool {
+        match self.second.binary_search(&(code, request, None)) {
+            Ok(_) => false,
+            Err(place) => is_of(&self.second, place, code, request),
+        }
+    }
+
+    /// Whether just one of these commands is new.
+    fn has_one_new(&self, code: u32, request: bool) -> bool {
+        match self.new.binary_search(&(code, request, None)) {
+            Ok(place) | Err(place) => {
+                let next = place.saturating_add(1);
+                is_of(&self.new, place, code, request) && !is_of(&self.new, next, code, request)
             }
-            None => false,
         }
     }
 
     fn is_new(&self, single: Single) -> bool {
         let Single { code, request, app } = single;
-        !self.first.contains(&(code, request, app))
+        !has(&self.first, (code, request, Some(app)))
     }
 }
 
-/// The commands of a dictionary that are for one application.
-fn singles_of(alloc: Global, source: &Source) -> Result<Box<Singles>, AllocError> {
-    let mut singles = Box::new(alloc, IndexSet::new(alloc))?;
+fn has(kinds: &[(u32, bool, Option<u32>)], kind: (u32, bool, Option<u32>)) -> bool {
+    kinds.binary_search(&kind).is_ok()
+}
+
+/// Whether there is a command of a code and a class at a place.
+fn is_of(kinds: &[(u32, bool, Option<u32>)], place: usize, code: u32, request: bool) -> bool {
+    match kinds.get(place) {
+        Some((other, class, _)) => *other == code && *class == request,
+        None => false,
+    }
+}
+
+/// The commands of a dictionary.
+fn kinds_of(alloc: Global, source: &Source) -> Result<Kinds, AllocError> {
+    let mut kinds = Vec::new(alloc);
     for command in &source.commands {
-        if let Some(Single { code, request, app }) = single_of(command) {
-            singles.insert((code, request, app))?;
+        if let Head::Command {
+            code,
+            request,
+            app,
+            ..
+        } = command.head
+        {
+            kinds.push((code, request, app))?;
         }
     }
-    Ok(singles)
+    kinds.sort_unstable();
+    Ok(kinds)
 }
 
-/// What the second dictionary has for each code and class, where these are the commands of the first.
-fn offers_of(
+/// The commands of the second for one application, in order, that the first doesn't have.
+fn new_of(
     alloc: Global,
-    second: &Source,
-    first: &Singles,
-) -> Result<Box<IndexMap<(u32, bool), Offer>>, AllocError> {
-    let mut offers = Box::new(alloc, IndexMap::new(alloc))?;
-    for command in &second.commands {
-        add_offer(&mut offers, first, command)?;
+    first: &[(u32, bool, Option<u32>)],
+    second: &[(u32, bool, Option<u32>)],
+) -> Result<Kinds, AllocError> {
+    let mut new = Vec::new(alloc);
+    for kind in second {
+        if kind.2.is_some() && !has(first, *kind) {
+            new.push(*kind)?;
+        }
     }
-    Ok(offers)
-}
-
-fn add_offer(
-    offers: &mut IndexMap<(u32, bool), Offer>,
-    first: &Singles,
-    command: &Def,
-) -> Result<(), AllocError> {
-    let Head::Command {
-        code,
-        request,
-        app,
-        ..
-    } = command.head
-    else {
-        return Ok(());
-    };
-    let none = Offer {
-        is_for_all: false,
-        new: 0,
-    };
-    let mut offer = offers.get(&(code, request)).copied().unwrap_or(none);
-    match app {
-        Some(app) if first.contains(&(code, request, app)) => {}
-        Some(_) => offer.new = offer.new.saturating_add(1),
-        None => offer.is_for_all = true,
-    }
-    offers.insert((code, request), offer)?;
-    Ok(())
+    Ok(new)
 }
 
 /// Adds for which applications the second dictionary has a command of the first.
