@@ -28,6 +28,11 @@ use Rattle.dia_check.specs.declared.Levels.{Levels}
 use Rattle.dia_io.specs.declared.Inputs.{Inputs}
 use Rattle.dia_dict.specs.declared.IndexedBook.{IndexedBook}
 use Rattle.dia_report.specs.declared.reporting.Answered.{Answered}
+use Rattle.dia_report.specs.declared.reporting.Report.TheVariants as reports
+use Rattle.dia_report.specs.declared.bad_input.BadInput.{BadInput}
+use Rattle.dia_io.specs.declared.Command.{Command}
+use Rattle.dia_io.specs.declared.Command.TheVariants as command
+use Rattle.dia_run.specs.Kinds.{IsReportOf, Reports}
 use Rattle.dia_run.specs.Report.{Answers, HasReport, TellsRefusal}
 use Rattle.dia_run.specs.Outcome.{Ends, IsRenderOutcome, no_source, IsMessageOutcome, no_dictionary, no_message, IsPairOutcome, ended, no_first, no_second, IsComparison, no_table, IsRefutation}
 
@@ -84,6 +89,23 @@ report_is meaning inputs (Ok a) r done refusal has = rw done has
 report_is meaning inputs (Err (Bad bad)) (Ok a) done refusal has = rw refusal.0 refusal.1
 report_is meaning inputs (Err NoMemory) (Ok a) done refusal has = absurd refusal
 report_is meaning inputs (Err refused) (Err e) done refusal has = tt
+
+-- each command may refuse an input
+refusal_of : (c : Command) (bad : BadInput) → IsReportOf c (reports.Refused bad)
+refusal_of command.Show bad = tt
+refusal_of command.Render bad = tt
+refusal_of (command.Check u most) bad = tt
+refusal_of (command.Compare u) bad = tt
+refusal_of (command.Refute u most) bad = tt
+refusal_of (command.Propose u names) bad = tt
+
+-- and it is one of the command
+pub kind_is : {E : Type 0} (c : Command) (made : Result Answered Refused) (r : Result Answered E) → IfOk made (λ a. r ≡ Ok a)
+    → IfErr made (λ refused. IfOk r (TellsRefusal refused)) → IfOk made (Reports (IsReportOf c)) → IfOk r (Reports (IsReportOf c))
+kind_is c (Ok a) r done refusal has = rw done has
+kind_is c (Err (Bad bad)) (Ok a) done refusal has = rw refusal.0 (refusal_of c bad)
+kind_is c (Err NoMemory) (Ok a) done refusal has = absurd refusal
+kind_is c (Err refused) (Err e) done refusal has = tt
 
 -- a refusal of an input ends the command
 pub Ends-no_source : (inputs : Inputs) (r : Refused) → TellsOf (λ told. (why : List ℕ) × IsNoSourceText inputs.first why × (told ≡ dictionary_line 1 why)) r → Ends (IsRenderOutcome inputs) (Err r)

@@ -7,3 +7,4 @@ pub mod RefusedDictionaries
 pub mod Inclusion
 pub mod FedTexts
 pub mod Report
+pub mod Kinds

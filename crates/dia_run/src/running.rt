@@ -7,6 +7,7 @@ ghost use Rattle.dia_io.specs.declared.Exit.{Exit as AnyExit};
 ghost use Rattle.dia_io.specs.Writing.{AppendsFront};
 ghost use Rattle.dia_run.specs.Outcome.{IsOutcome};
 ghost use Rattle.dia_run.specs.Inclusion.{ShowsInclusion};
+ghost use Rattle.dia_run.specs.Kinds.{IsReportOf, Reports};
 ghost use Rattle.dia_run.specs.Report.{Answers, HasReport, IsReport};
 
 use crate::commands::answer_of;
@@ -63,6 +64,7 @@ pub fn run_reporting<S: Sink>(
     ensures text { IfOk result (λ reported. (text : List ℕ) × IsOutcome command.now inputs.now text reported.exit
         × IsReport ⟦<IndexedBook as Book>⟧.meaning inputs.now reported.report text reported.exit
         × Appends (S.written sink.old) (S.written sink.new) text) }
+    ensures kind { IfOk result (λ reported. IsReportOf command.now reported.report) }
     // For these inputs there is one text, and one end.
     ensures one { (a b : List ℕ) (x y : AnyExit)
         → IsOutcome command.now inputs.now a x → IsOutcome command.now inputs.now b y
@@ -88,6 +90,7 @@ pub fn answer(alloc: Global, command: &Command, inputs: &Inputs) -> Result<Answe
     ensures outcome { IfOk result (λ answered. IsOutcome command.now inputs.now
         (string_bytes answered.text) answered.exit) }
     ensures report { IfOk result (HasReport ⟦<IndexedBook as Book>⟧.meaning inputs.now) }
+    ensures kind { IfOk result (Reports (IsReportOf command.now)) }
 {
     answer_of(alloc, attempt(alloc, command, inputs))
 }
@@ -96,6 +99,7 @@ pub fn answer(alloc: Global, command: &Command, inputs: &Inputs) -> Result<Answe
 fn attempt(alloc: Global, command: &Command, inputs: &Inputs) -> Result<Answered, Refused>
     ensures outcome { Answers (IsOutcome command.now inputs.now) result }
     ensures report { IfOk result (HasReport ⟦<IndexedBook as Book>⟧.meaning inputs.now) }
+    ensures kind { IfOk result (Reports (IsReportOf command.now)) }
 {
     match command {
         Command::Show => show(alloc, inputs),

@@ -4,6 +4,7 @@ ghost use Rattle.std.specs.Prelude.{◌≡◌, ◌≢◌, ◌<◌, ◌++◌, len
 ghost use Rattle.std.specs.Prelude.{OnOk, string_bytes, slice_get, Some};
 ghost use Rattle.dia_dict.specs.Dictionary.{PlainDefinition, definitions};
 ghost use Rattle.dia_check.specs.Faults.{IsAnswer};
+ghost use Rattle.dia_run.specs.Kinds.{IsOfCheck, Reports};
 ghost use Rattle.dia_run.specs.Outcome.{IsCheckOutcome};
 ghost use Rattle.dia_run.specs.Report.{Answers, HasReport, IsReport};
 ghost use Rattle.dia_run.specs.Texts.{line};
@@ -29,6 +30,7 @@ pub fn check(
 ) -> Result<Answered, Refused>
     ensures outcome { Answers (IsCheckOutcome unknown levels inputs.now) result }
     ensures report { IfOk result (HasReport ⟦<IndexedBook as Book>⟧.meaning inputs.now) }
+    ensures kind { IfOk result (Reports (IsOfCheck unknown levels)) }
 {
     let first = read_dictionary(alloc, 1, &inputs.first)?;
     let CheckedMessage {

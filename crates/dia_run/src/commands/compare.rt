@@ -2,6 +2,7 @@
 
 ghost use Rattle.std.specs.Prelude.{◌≡◌, IfOk, string_bytes};
 ghost use Rattle.dia_compat.specs.TableText.{plain_table, plain_pair};
+ghost use Rattle.dia_run.specs.Kinds.{IsOfCompare, Reports};
 ghost use Rattle.dia_run.specs.Outcome.{IsCompareOutcome};
 ghost use Rattle.dia_run.specs.Pairs.{IsAnswerText, NamesPair, failure_line, test_word};
 ghost use Rattle.dia_run.specs.Report.{Answers, HasReport};
@@ -20,6 +21,7 @@ use std::alloc::{AllocError, Global};
 pub fn compare(alloc: Global, unknown: Unknown, inputs: &Inputs) -> Result<Answered, Refused>
     ensures outcome { Answers (IsCompareOutcome unknown inputs.now) result }
     ensures report { IfOk result (HasReport ⟦<IndexedBook as Book>⟧.meaning inputs.now) }
+    ensures kind { IfOk result (Reports (IsOfCompare unknown)) }
 {
     let first = read_dictionary(alloc, 1, &inputs.first)?;
     let second = read_dictionary(alloc, 2, &inputs.second)?;

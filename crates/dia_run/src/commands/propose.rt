@@ -3,6 +3,7 @@
 ghost use Rattle.std.specs.Prelude.{◌≡◌, map, IfOk, string_bytes};
 ghost use Rattle.dia_compat.specs.WrittenTable.{table_text};
 ghost use Rattle.dia_compat.specs.TableText.{plain_table};
+ghost use Rattle.dia_run.specs.Kinds.{IsOfPropose, Reports};
 ghost use Rattle.dia_run.specs.Outcome.{IsProposeOutcome, no_command_line};
 ghost use Rattle.dia_run.specs.Report.{Answers, HasReport};
 ghost use Rattle.dia_run.specs.Texts.{line};
@@ -25,6 +26,7 @@ pub fn propose(
     ensures outcome { Answers (IsProposeOutcome unknown
         (map (λ name. string_bytes name) names.now) inputs.now) result }
     ensures report { IfOk result (HasReport ⟦<IndexedBook as Book>⟧.meaning inputs.now) }
+    ensures kind { IfOk result (Reports IsOfPropose) }
 {
     let first = read_dictionary(alloc, 1, &inputs.first)?;
     let second = read_dictionary(alloc, 2, &inputs.second)?;

@@ -1,8 +1,9 @@
 //! `refute`: whether a message is valid under the first dictionary and not under the second.
 
-ghost use Rattle.std.specs.Prelude.{◌↔◌, IfOk, IsErr, IsOk, IsTrue};
+ghost use Rattle.std.specs.Prelude.{◌≢◌, ◌↔◌, Err, IfOk, IsErr, IsOk, IsTrue};
 ghost use Rattle.dia_check.specs.Faults.{IsAnswer};
 ghost use Rattle.dia_valid.specs.Valid.{IsValid};
+ghost use Rattle.dia_run.specs.Kinds.{IsOfRefute, Reports};
 ghost use Rattle.dia_run.specs.Outcome.{IsRefuteOutcome};
 ghost use Rattle.dia_run.specs.Report.{Answers, HasReport};
 
@@ -24,6 +25,7 @@ pub fn refute(
 ) -> Result<Answered, Refused>
     ensures outcome { Answers (IsRefuteOutcome unknown levels inputs.now) result }
     ensures report { IfOk result (HasReport ⟦<IndexedBook as Book>⟧.meaning inputs.now) }
+    ensures kind { IfOk result (Reports (IsOfRefute unknown levels)) }
 {
     let first = read_dictionary(alloc, 1, &inputs.first)?;
     let second = read_dictionary(alloc, 2, &inputs.second)?;
@@ -68,6 +70,7 @@ fn checked<B: Book>(
     ensures answer { IfOk result (IsAnswer (B.meaning book.now) unknown levels message.now) }
     ensures valid { IfOk result
         (λ answer. IsOk answer ↔ IsValid (B.meaning book.now) unknown levels message.now) }
+    ensures memory { IfOk result (λ answer. answer ≢ Err Refusal.NoMemory) }
 {
     let refusal = match check(alloc, book, unknown, levels, message) {
         Ok(found) => return Ok(Ok(found)),

@@ -1,6 +1,7 @@
 //! `render`: the canonical text of a dictionary text.
 
 ghost use Rattle.std.specs.Prelude.{IfOk};
+ghost use Rattle.dia_run.specs.Kinds.{IsOfRender, Reports};
 ghost use Rattle.dia_run.specs.Outcome.{IsRenderOutcome};
 ghost use Rattle.dia_run.specs.Report.{Answers, HasReport};
 
@@ -14,6 +15,7 @@ use std::alloc::Global;
 pub fn render(alloc: Global, inputs: &Inputs) -> Result<Answered, Refused>
     ensures outcome { Answers (IsRenderOutcome inputs.now) result }
     ensures report { IfOk result (HasReport ⟦<IndexedBook as Book>⟧.meaning inputs.now) }
+    ensures kind { IfOk result (Reports IsOfRender) }
 {
     let source = read_source(alloc, 1, &inputs.first)?;
     let text = dia_ccf::render(alloc, &source)?;

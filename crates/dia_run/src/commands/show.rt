@@ -1,6 +1,7 @@
 //! `show`: a message, an AVP a line.
 
 ghost use Rattle.std.specs.Prelude.{◌≡◌, ◌≢◌, ◌++◌, IfOk, OnOk, string_bytes};
+ghost use Rattle.dia_run.specs.Kinds.{IsOfShow, Reports};
 ghost use Rattle.dia_run.specs.Listing.{header_line};
 ghost use Rattle.dia_run.specs.Outcome.{Ends, IsShowOutcome, IsMessageShown, listing_exit};
 ghost use Rattle.dia_run.specs.Report.{Answers, HasReport};
@@ -22,6 +23,7 @@ mod listing;
 pub fn show(alloc: Global, inputs: &Inputs) -> Result<Answered, Refused>
     ensures outcome { Answers (IsShowOutcome inputs.now) result }
     ensures report { IfOk result (HasReport ⟦<IndexedBook as Book>⟧.meaning inputs.now) }
+    ensures kind { IfOk result (Reports IsOfShow) }
 {
     let first = read_dictionary(alloc, 1, &inputs.first)?;
     let message = read_message(alloc, &inputs.message)?;
