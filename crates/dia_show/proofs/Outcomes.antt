@@ -20,7 +20,7 @@ use Rattle.dia_show.specs.declared.reporting.Report.{Report}
 use Rattle.dia_show.specs.declared.reporting.Report.TheVariants.{OfShow}
 use Rattle.dia_show.specs.Listing.{Manner, header_of, AddsLevel}
 use Rattle.dia_show.specs.Outcome.{Gives, IsNamedOutcome, IsShown, listing, refused, shown, no_dictionary, no_message}
-use Rattle.dia_show.specs.Report.{HasReport, IsTold}
+use Rattle.dia_show.specs.Report.{HasReport, IsTold, IsToldOfLines}
 use Rattle.dia_show.specs.Words.{Word, IsValuesText}
 
 -- ---- one message
@@ -70,5 +70,10 @@ with_report meaning inputs a report is told = subst (λ (r : Report). IsTold mea
 
 pub told_refused : {E : Type 0} (meaning : IndexedBook → Dictionary) (inputs : Inputs) (bad : BadInput) (r : Result Answered E) → IfOk r (λ a. string_bytes a.text ≡ line (bad_input_text bad))
     → IfOk r (λ a. a.exit ≡ exits.Bad) → IfOk r (λ a. a.report ≡ OfShow (reports.Refused bad)) → IfOk r (HasReport meaning inputs)
-told_refused meaning inputs bad (Ok a) text exit report = with_report meaning inputs a (OfShow (reports.Refused bad)) report (text, exit)
+told_refused meaning inputs bad (Ok a) text exit report = with_report meaning inputs a (OfShow (reports.Refused bad)) report (tt, (text, exit))
 told_refused meaning inputs bad (Err e) text exit report = tt
+
+-- the report of an input that is refused before the lines
+pub refused_before : (inputs : Inputs) (a : Answered) (report : Report) → a.report ≡ report → IsToldOfLines inputs report (string_bytes a.text) a.exit
+    → IsToldOfLines inputs a.report (string_bytes a.text) a.exit
+refused_before inputs a report is told = subst (λ (r : Report). IsToldOfLines inputs r (string_bytes a.text) a.exit) (sym is) told

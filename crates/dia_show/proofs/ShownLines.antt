@@ -1,5 +1,5 @@
 -- The lines of a text, each of which is shown.
-use Rattle.std.proofs.Common.{◌≡◌, ◌&&◌, ℕ, suc, Bool, List, [], ◌∷◌, ◌++◌, Option, Result, Ok, Err, map, refl, sym, ap, subst, ◌∙◌, inl, inr}
+use Rattle.std.proofs.Common.{◌≡◌, ◌≢◌, ◌&&◌, ℕ, suc, Bool, List, [], ◌∷◌, ◌++◌, Option, Result, Ok, Err, map, refl, sym, ap, subst, ◌∙◌, inl, inr}
 use Rattle.std.specs.Prelude.{IfOk, if◌then◌else◌, string_bytes}
 use Rattle.std.specs.Io.KnownBytes.{Appends}
 use Rattle.std.specs.Str.{IsUtf8}
@@ -25,7 +25,12 @@ use Rattle.dia_run.specs.Texts.{line, IsDictionaryText, IsMessageText, IsNoMessa
 use Rattle.dia_run.proofs.OneInput.{dictionary_or_not, held_once, not_over}
 use Rattle.dia_show.specs.declared.reading.BadValues.{BadValues}
 use Rattle.dia_show.specs.declared.reading.BadValues.TheVariants as bads
+use Rattle.dia_report.specs.declared.reporting.Report.TheVariants as reports
+use Rattle.dia_show.specs.declared.reporting.Answered.{Answered}
+use Rattle.dia_show.specs.declared.reporting.Report.{Report}
+use Rattle.dia_show.specs.declared.reporting.Report.TheVariants.{OfShow}
 use Rattle.dia_show.specs.declared.reporting.Reported.{Reported}
+use Rattle.dia_show.specs.Report.{HasLinesReport, IsToldOfLines}
 use Rattle.dia_show.specs.Lines.{Answer, AreLinesListed, AreLinesShown, IsFrontShown, IsLineShown, IsLinesOutcome, OfLine, RefusesInputs, answer_of, each_whole, is_yes, numbered, refused, shown as all_lines}
 use Rattle.dia_show.specs.Listing.{Manner}
 use Rattle.dia_show.specs.Outcome.{IsShown, shown, no_message}
@@ -164,6 +169,22 @@ pub refusal_shown : {E : Type 0} (names : Bool) (inputs : Inputs) (fed old new :
     → IfOk r (λ x. AreLinesShown names inputs fed fed old new x.exit)
 refusal_shown names inputs fed old new text ended (Ok x) refuses same is_put = refused_shown names inputs fed old new text ended x.exit refuses same is_put
 refusal_shown names inputs fed old new text ended (Err e) refuses same is_put = tt
+
+-- what is told of lines that were listed
+pub lines_reported : {E : Type 0} (inputs : Inputs) (m : Manner) (d : Dictionary) (fed_old fed old new : Option (List ℕ)) (r : Result Reported E)
+    → IfOk r (λ x. AreLinesListed m d fed_old fed old new x.exit) → IfOk r (λ x. x.exit ≢ exits.Bad) → IfOk r (λ x. x.report ≡ OfShow reports.Done)
+    → IfOk r (HasLinesReport inputs old new)
+lines_reported inputs m d fed_old fed old new (Ok x) listed some is =
+    let text = told_lines numbered listed.answers in
+    (text, subst (λ (k : Report). IsToldOfLines inputs k text x.exit) (sym is) some, listed.is_put)
+lines_reported inputs m d fed_old fed old new (Err e) listed some is = tt
+
+-- what is told of an input that is refused
+pub refusal_reported : {E : Type 0} (inputs : Inputs) (old new : Option (List ℕ)) (a : Answered) (r : Result Reported E)
+    → IsToldOfLines inputs a.report (string_bytes a.text) a.exit → IfOk r (λ x. x.report ≡ a.report) → IfOk r (λ x. x.exit ≡ a.exit)
+    → IfOk r (λ x. Appends old new (string_bytes a.text)) → IfOk r (HasLinesReport inputs old new)
+refusal_reported inputs old new a (Ok x) told report exit is_put = (string_bytes a.text, rw (report, exit) told, is_put)
+refusal_reported inputs old new a (Err e) told report exit is_put = tt
 
 -- no memory for the inputs
 pub no_lines : (names : Bool) (inputs : Inputs) (fed put : Option (List ℕ)) → LinesAnswered (OfLine names inputs) (told_lines numbered) fed fed put put

@@ -21,6 +21,7 @@ use Rattle.dia_show.specs.declared.lines.Opening.TheVariants.{Ready, Refused}
 use Rattle.dia_show.specs.declared.reading.BadValues.{BadValues}
 use Rattle.dia_show.specs.Listing.{Manner}
 use Rattle.dia_show.specs.Outcome.{IsNamedOutcome, IsShown}
+use Rattle.dia_show.specs.Report.{IsToldOfLines}
 use Rattle.dia_show.specs.Words.{IsNoValuesText, IsValuesText, plain_words, values_line}
 
 -- what `show` writes for one message, and how it ends
@@ -93,5 +94,5 @@ pub record AreLinesListed (m : Manner) (d : Dictionary) (fed_old fed put_old put
 abbrev pub IsOpening : (IndexedBook → Dictionary) → Bool → Inputs → Opening → Type 0
 IsOpening meaning names inputs (Ready manner first) =
     IsDictionaryText inputs.first (meaning first.value.book) × IsValuesText inputs.table (plain_words manner.value.words) × (manner.value.names ≡ names)
-IsOpening meaning names inputs (Refused answered) =
-    (told : List ℕ) × RefusesInputs inputs told × Refuses told (string_bytes answered.text) answered.exit
+IsOpening meaning names inputs (Refused answered) = IsToldOfLines inputs answered.report (string_bytes answered.text) answered.exit
+    × ((told : List ℕ) × RefusesInputs inputs told × Refuses told (string_bytes answered.text) answered.exit)

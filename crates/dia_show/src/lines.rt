@@ -7,9 +7,11 @@ ghost use Rattle.dia_io.specs.Writing.{AppendsFront};
 ghost use Rattle.dia_lines.specs.declared.fault.LinesFault.TheVariants.{NoMemory, Device, Endless};
 ghost use Rattle.dia_lines.specs.FeedToSink.{FrontAnswered, LinesAnswered, most_pieces};
 ghost use Rattle.dia_lines.specs.Lines.{told_lines};
+ghost use Rattle.dia_report.specs.declared.reporting.Report.TheVariants.{Done as NothingToTell};
 ghost use Rattle.dia_run.specs.Texts.{IsDictionaryText};
 ghost use Rattle.dia_show.specs.Lines.{AreLinesListed, AreLinesShown, IsFrontShown, IsLineShown, IsOpening, OfLine, numbered};
 ghost use Rattle.dia_show.specs.Manners.{plain_manner_of};
+ghost use Rattle.dia_show.specs.Report.{HasLinesReport};
 
 use crate::command::{no_values, refuse};
 use crate::judging::{Endings, ShowJudge};
@@ -36,6 +38,7 @@ pub fn show_lines<F: Feed, S: Sink>(
     requires sound_sink { ¬ IsTrue (S.has_failed sink.old) }
     ensures shown { IfOk result (λ reported. AreLinesShown names inputs.now (F.remaining feed.old)
         (F.remaining feed.new) (S.written sink.old) (S.written sink.new) reported.exit) }
+    ensures report { IfOk result (HasLinesReport inputs.now (S.written sink.old) (S.written sink.new)) }
     ensures all { IfOk result (λ reported. reported.exit ≢ Exit.Bad → IsAtEnd (F.remaining feed.new)) }
     ensures unread { IfOk result (λ reported. reported.exit ≡ Exit.Bad → feed.new ≡ feed.old) }
     ensures device { (result ≡ Err Device)
@@ -107,6 +110,7 @@ fn list_lines<B: Book, F: Feed, S: Sink>(
         (F.remaining feed.old) (F.remaining feed.new) (S.written sink.old) (S.written sink.new) reported.exit) }
     ensures all { IfOk result (λ reported. IsAtEnd (F.remaining feed.new)) }
     ensures exit { IfOk result (λ reported. reported.exit ≢ Exit.Bad) }
+    ensures report { IfOk result (λ reported. reported.report ≡ Report.OfShow NothingToTell) }
     ensures device { (result ≡ Err Device)
         ↔ (IsTrue (F.has_failed feed.new) ⊎ IsTrue (S.has_failed sink.new)) }
     ensures front { IsErr result
@@ -129,7 +133,8 @@ fn list_lines<B: Book, F: Feed, S: Sink>(
 
 /// How lines ended: yes where each was shown to its end.
 fn ended(each: bool) -> Reported
-    ensures { result.exit ≡ (if each then Exit.Yes else Exit.No) }
+    ensures exit { result.exit ≡ (if each then Exit.Yes else Exit.No) }
+    ensures report { result.report ≡ Report.OfShow NothingToTell }
 {
     let exit = if each { Exit::Yes } else { Exit::No };
     let report = Report::OfShow(dia_report::Report::Done);
@@ -140,6 +145,7 @@ fn ended(each: bool) -> Reported
 fn put_refusal<S: Sink>(answered: Answered, sink: &mut S) -> Result<Reported, LinesFault>
     requires { ¬ IsTrue (S.has_failed sink.old) }
     ensures exit { IfOk result (λ reported. reported.exit ≡ answered.exit) }
+    ensures report { IfOk result (λ reported. reported.report ≡ answered.report) }
     ensures put { IfOk result
         (λ reported. Appends (S.written sink.old) (S.written sink.new) (string_bytes answered.text)) }
     ensures front { IsErr result

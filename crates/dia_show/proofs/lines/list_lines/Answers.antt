@@ -23,4 +23,4 @@ returns-in_err-answer_lines-clause-endless g c = λ e.
 pub returns-clause-listed : goal.returns-clause-listed
 returns-clause-listed g c =
     all_listed (plain_manner_of c.args.manner.now) (g.B.Book.meaning c.args.book.now) _ _ _ _ _ _ _ c.in_ok-answer_lines.ensures.answered
-    c.answer_lines.new.watch.each c.ended.result.exit c.ended.ensures refl (λ verdicts ends. ends)
+    c.answer_lines.new.watch.each c.ended.result.exit c.ended.ensures.exit refl (λ verdicts ends. ends)

@@ -1,7 +1,7 @@
 use Rattle.std.proofs.Common.{◌∙◌}
 use Rattle.std.proofs.lemmas.Result.{IfOk-weaker}
 use Rattle.dia_show.specs.Manners.{plain_manner_of}
-use Rattle.dia_show.proofs.ShownLines.{all_shown, front_shown, lines_shown, no_front, no_lines, refused_front, refusal_shown}
+use Rattle.dia_show.proofs.ShownLines.{all_shown, front_shown, lines_shown, no_front, no_lines, lines_reported, refused_front, refusal_reported, refusal_shown}
 use Rattle.dia_show.proofs.lines.show_lines.Goals as goal
 
 pub returns-in_err-opening-clause-front : goal.returns-in_err-opening-clause-front
@@ -45,17 +45,17 @@ returns-in-Ready-clause-all g c = IfOk-weaker c.list_lines.result _ _ (λ report
 pub returns-in-Refused-clause-shown : goal.returns-in-Refused-clause-shown
 returns-in-Refused-clause-shown g c =
     let opened = rw c.in-Refused.is at c.in_ok-opening.ensures in
-    refusal_shown c.args.names c.args.inputs.now (g.F.Feed.remaining c.args.feed.now) _ _ _ _ c.put_refusal.result opened c.put_refusal.ensures.exit c.put_refusal.ensures.put
+    refusal_shown c.args.names c.args.inputs.now (g.F.Feed.remaining c.args.feed.now) _ _ _ _ c.put_refusal.result opened.1 c.put_refusal.ensures.exit c.put_refusal.ensures.put
 
 pub returns-in-Refused-clause-all : goal.returns-in-Refused-clause-all
 returns-in-Refused-clause-all g c =
     let opened = rw c.in-Refused.is at c.in_ok-opening.ensures in
-    IfOk-weaker c.put_refusal.result _ _ (λ reported is some. absurd (some (is ∙ opened.2.1))) c.put_refusal.ensures.exit
+    IfOk-weaker c.put_refusal.result _ _ (λ reported is some. absurd (some (is ∙ opened.1.2.1))) c.put_refusal.ensures.exit
 
 pub returns-in-Refused-clause-front : goal.returns-in-Refused-clause-front
 returns-in-Refused-clause-front g c = λ err.
     let opened = rw c.in-Refused.is at c.in_ok-opening.ensures in
-    refused_front c.args.names c.args.inputs.now (g.F.Feed.remaining c.args.feed.now) _ _ _ _ opened (c.put_refusal.ensures.front err)
+    refused_front c.args.names c.args.inputs.now (g.F.Feed.remaining c.args.feed.now) _ _ _ _ opened.1 (c.put_refusal.ensures.front err)
 
 pub returns-in-Refused-clause-no_memory : goal.returns-in-Refused-clause-no_memory
 returns-in-Refused-clause-no_memory g c = λ e. absurd (c.put_refusal.ensures.memory e)
@@ -65,3 +65,12 @@ returns-in-Refused-clause-endless g c = λ e. absurd (c.put_refusal.ensures.coun
 
 pub returns-in-Refused-clause-pieces : goal.returns-in-Refused-clause-pieces
 returns-in-Refused-clause-pieces g c = λ e. absurd (c.put_refusal.ensures.counted e)
+
+pub returns-in-Ready-clause-report : goal.returns-in-Ready-clause-report
+returns-in-Ready-clause-report g c =
+    lines_reported c.args.inputs.now _ _ _ _ _ _ c.list_lines.result c.list_lines.ensures.listed c.list_lines.ensures.exit c.list_lines.ensures.report
+
+pub returns-in-Refused-clause-report : goal.returns-in-Refused-clause-report
+returns-in-Refused-clause-report g c =
+    let opened = rw c.in-Refused.is at c.in_ok-opening.ensures in
+    refusal_reported c.args.inputs.now _ _ c.in-Refused.answered c.put_refusal.result opened.0 c.put_refusal.ensures.report c.put_refusal.ensures.exit c.put_refusal.ensures.put
