@@ -32,7 +32,7 @@ IsOfCompare u (Refused bad) = ⊤
 IsOfCompare u (Compared found) = found.unknown ≡ u
 IsOfCompare u report = ⊥
 
--- no check wanted memory
+-- neither check was refused memory
 abbrev pub IsOfRefute : Unknown → Levels → Report → Type 0
 IsOfRefute u most (Refused bad) = ⊤
 IsOfRefute u most Done = ⊤
