@@ -113,6 +113,29 @@ impl<'a> Pair<'a> {
         }
     }
 
+    /// The number that a word stands for.
+    fn number_of(&self, word: &str) -> usize {
+        match word {
+            "app" => self.app().unwrap_or(0) as usize,
+            "own" => from_one(self.places().0),
+            _ => from_one(self.places().1),
+        }
+    }
+
+    /// The name or the option that a word stands for.
+    fn text_for(&self, word: &str) -> Option<&str> {
+        let pairing = self.pairing;
+        match word {
+            "a" => Some(pairing.a.name),
+            "b" => Some(pairing.b.name),
+            "table" => Some(pairing.name),
+            "policy" => Some(policy_words(pairing.unknown)),
+            "x" => Some(name_of(self.x)),
+            "y" => Some(name_of(self.y)),
+            _ => None,
+        }
+    }
+
     fn push_rule_word(&self, out: &mut String, word: &str) -> Added {
         let (a, b) = (&self.pairing.a, &self.pairing.b);
         let Some(rule) = self.rule_of(word) else {
@@ -188,24 +211,12 @@ fn push_witness(out: &mut String, first: &Format, second: &Format) -> Added {
 
 impl Scene for Pair<'_> {
     fn push_word(&self, out: &mut String, word: &str) -> Added {
-        let Pairing {
-            a,
-            b,
-            unknown,
-            name,
-            ..
-        } = *self.pairing;
         match word {
-            "a" => out.push_str(a.name),
-            "b" => out.push_str(b.name),
-            "table" => out.push_str(name),
-            "policy" => out.push_str(policy_words(unknown)),
-            "x" => out.push_str(name_of(self.x)),
-            "y" => out.push_str(name_of(self.y)),
-            "app" => push_number(out, self.app().unwrap_or(0) as usize),
-            "own" => push_number(out, from_one(self.places().0)),
-            "place" => push_number(out, from_one(self.places().1)),
-            _ => self.push_avp_word(out, word),
+            "app" | "own" | "place" => push_number(out, self.number_of(word)),
+            _ => match self.text_for(word) {
+                Some(text) => out.push_str(text),
+                None => self.push_avp_word(out, word),
+            },
         }
     }
 }

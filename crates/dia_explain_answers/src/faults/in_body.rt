@@ -10,7 +10,7 @@ use crate::faults::reasons::{Topic, shown_avp, text_in_body, topic_of};
 use crate::faults::walk::{Group, walk_to};
 use crate::sides::Side;
 use crate::texts::{Added, Scene, fault_and_hint, push_hint, push_number, push_text};
-use dia_book::Key;
+use dia_book::{Definition, Key};
 use dia_check::{Fault, Levels, Subject};
 
 /// How many groups are told at each end of a long way.
@@ -113,20 +113,31 @@ impl<'a> InBody<'a> {
 
     /// Adds where the rule, the definition or the AVP is declared that the fault is about.
     fn push_declared(&self, out: &mut String) -> Added {
-        let side = &self.side;
-        match (self.def(), self.counting, shown_avp(self)) {
-            (Some(def), Some(counting), _) if self.is_of_rule() => {
-                let at = side.definition_at(def, Some(counting.place));
-                side.push_part(out, at, self, "the rule is {rule}")
+        match self.def() {
+            Some(def) if self.is_of_rule() => self.push_rule_declared(out, def),
+            _ => self.push_avp_declared(out),
+        }
+    }
+
+    /// Adds where the rule is, or else the definition.
+    fn push_rule_declared(&self, out: &mut String, def: &Definition) -> Added {
+        let (place, told) = match self.counting {
+            Some(counting) => (Some(counting.place), "the rule is {rule}"),
+            None => (None, "{level} is defined here"),
+        };
+        let at = self.side.definition_at(def, place);
+        self.side.push_part(out, at, self, told)
+    }
+
+    /// Adds where the AVP is declared.
+    fn push_avp_declared(&self, out: &mut String) -> Added {
+        match shown_avp(self) {
+            Some(avp) => {
+                let at = self.side.avp_at(avp.name);
+                self.side
+                    .push_part(out, at, &avp, "{name} is declared here")
             }
-            (Some(def), None, _) if self.is_of_rule() => {
-                let at = side.definition_at(def, None);
-                side.push_part(out, at, self, "{level} is defined here")
-            }
-            (_, _, Some(avp)) => {
-                side.push_part(out, side.avp_at(avp.name), &avp, "{name} is declared here")
-            }
-            _ => Ok(()),
+            None => Ok(()),
         }
     }
 
