@@ -135,8 +135,9 @@ IsTaskOfForm (refute true json unknown levels first second messages) (RefuteLine
     (policy ≡ unknown) × IsLimitOf levels limit
 IsTaskOfForm (propose json unknown first second name names) (Whole (command.Propose policy commands)) =
     (policy ≡ unknown) × (map string_bytes commands.items ≡ name ∷ names)
-IsTaskOfForm (breaking json sends unknown messages once meaning accepted first second names) (Breaking sender policy shown counted meant commands) =
-    (sender ≡ sends) × (policy ≡ unknown) × (shown ≡ messages) × (counted ≡ once) × (meant ≡ meaning) × (map string_bytes commands.items ≡ names)
+IsTaskOfForm (breaking json sends unknown messages once meaning accepted first second names) (Breaking asked) =
+    (asked.sends ≡ sends) × (asked.unknown ≡ unknown) × (asked.messages ≡ messages) × (asked.once ≡ once) × (asked.meaning ≡ meaning)
+    × (map string_bytes asked.names.items ≡ names)
 IsTaskOfForm form task = ⊥
 
 -- the words of its inputs
@@ -176,7 +177,7 @@ task_name (Whole (command.Compare unknown)) = codes "compare"
 task_name (Whole (command.Refute unknown levels)) = codes "refute"
 task_name (RefuteLines unknown levels) = codes "refute"
 task_name (Whole (command.Propose unknown names)) = codes "propose"
-task_name (Breaking sends unknown messages once meaning names) = codes "breaking"
+task_name (Breaking asked) = codes "breaking"
 
 -- `check` with `--lines` and `--stream`, or without them
 abbrev pub IsCheck : Bool → Bool → Unknown → Levels → List Row → Type 0
@@ -209,10 +210,10 @@ HasOptionsOf (Whole (command.Refute unknown levels)) rows = IsRefute false unkno
 HasOptionsOf (RefuteLines unknown levels) rows = IsRefute true unknown levels rows
 HasOptionsOf (Whole (command.Propose unknown names)) rows =
     IsPolicy unknown rows × (all_of (codes "COMMAND") rows ≡ Some (map string_bytes names.items))
-HasOptionsOf (Breaking sends unknown messages once meaning names) rows =
-    IsPolicy unknown rows × (first_of (codes "sends") rows ≡ Some (sends_word sends)) × IsFlag (codes "messages") messages rows
-    × IsFlag (codes "once") once rows × IsFlag (codes "meaning") meaning rows
-    × (unwrap_or (all_of (codes "COMMAND") rows) [] ≡ map string_bytes names.items)
+HasOptionsOf (Breaking asked) rows =
+    IsPolicy asked.unknown rows × (first_of (codes "sends") rows ≡ Some (sends_word asked.sends)) × IsFlag (codes "messages") asked.messages rows
+    × IsFlag (codes "once") asked.once rows × IsFlag (codes "meaning") asked.meaning rows
+    × (unwrap_or (all_of (codes "COMMAND") rows) [] ≡ map string_bytes asked.names.items)
 
 -- the task that was found: the name of its command, and its options
 abbrev pub IsTaskOf : Task → Text × List Row → Type 0
@@ -236,7 +237,7 @@ arguments_of (Whole (command.Refute unknown levels)) =
 arguments_of (RefuteLines unknown levels) =
     record (pair_texts (codes "A") (codes "B")) { messages = Some (codes "MESSAGE") }
 arguments_of (Whole (command.Propose unknown names)) = pair_texts (codes "A") (codes "B")
-arguments_of (Breaking sends unknown messages once meaning names) =
+arguments_of (Breaking asked) =
     record (pair_texts (codes "A") (codes "B")) { table = Some (codes "accepted") }
 
 -- ---- the arguments that a command has

@@ -41,5 +41,5 @@ pub use opened_inputs::open_inputs;
 pub use opener::{OfProcess, Opener};
 pub use origin::{BASE_DICTIONARY, Origin, Origins, STANDARD_INPUT};
 pub use request::Request;
-pub use task::Task;
+pub use task::{Breaking, Task};
 pub use tips::advised;

@@ -13,34 +13,28 @@ pub enum Task {
     /// Prints a message, an AVP a line, with names of flags, commands and dates.
     ShowNamed,
     /// Prints the message of each line behind the line's number, with names or without.
-    ShowLines {
-        names: bool,
-    },
-    /// Prints each way in which messages that A's side sends break under B, for these commands of A, or for all.
-    Breaking {
-        sends: Sends,
-        unknown: Unknown,
-        /// Whether each line is followed by a message that shows it.
-        messages: bool,
-        /// Whether lines of one cause are one line.
-        once: bool,
-        /// Whether AVPs that are read as another format are printed too.
-        meaning: bool,
-        names: Vec<String>,
-    },
+    ShowLines { names: bool },
+    /// Prints each way in which messages that A's side sends break under B.
+    Breaking(Breaking),
     /// Tells of each line, a message, whether it is valid.
-    CheckLines {
-        unknown: Unknown,
-        levels: Levels,
-    },
+    CheckLines { unknown: Unknown, levels: Levels },
     /// Tells of each line, a message, whether it is valid under the first dictionary and not under the second.
-    RefuteLines {
-        unknown: Unknown,
-        levels: Levels,
-    },
+    RefuteLines { unknown: Unknown, levels: Levels },
     /// Tells of each message of a stream of bytes whether it is valid.
-    CheckStream {
-        unknown: Unknown,
-        levels: Levels,
-    },
+    CheckStream { unknown: Unknown, levels: Levels },
+}
+
+/// What `breaking` prints.
+#[derive(Drop)]
+pub struct Breaking {
+    pub sends: Sends,
+    pub unknown: Unknown,
+    /// Whether each line is followed by a message that shows it.
+    pub messages: bool,
+    /// Whether lines of one cause are one line.
+    pub once: bool,
+    /// Whether AVPs that are read as another format are printed too.
+    pub meaning: bool,
+    /// The commands of A that are asked for: all where there is none.
+    pub names: Vec<String>,
 }

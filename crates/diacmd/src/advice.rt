@@ -2,7 +2,7 @@
 
 use dia_cli::{BASE_DICTIONARY, Ending};
 use dia_explain_places::nearest_name;
-use dia_run::Exit;
+use dia_io::Exit;
 use std::io;
 
 /// Whether a pipe that was written to is read by nobody any more.

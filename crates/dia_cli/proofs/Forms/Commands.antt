@@ -253,7 +253,7 @@ asked_is (refute false json unknown levels first second third) rows (RefuteLines
 asked_is (refute true json unknown levels first second third) rows (Whole (command.Refute policy limit)) origins says named is found = other_flag _ false true is.0 says.1 not_true
 asked_is (propose json unknown first second name names) rows (Whole (command.Propose policy commands)) origins says named is found =
     ((same_policy _ _ _ is.0 says.0.0, sym (same_value _ _ _ says.1 is.1)), pair_named origins rows first second says.0.1 says.0.2 found)
-asked_is (breaking json sends unknown messages once meaning accepted first second names) rows (Breaking sender policy shown counted meant commands) origins says named is found = (
+asked_is (breaking json sends unknown messages once meaning accepted first second names) rows (Breaking asked) origins says named is found = (
   (
     same_sender _ _ _ is.1 says.1,
     same_policy _ _ _ is.0 says.0.0,

@@ -10,7 +10,7 @@ ghost use Rattle.dia_cli.specs.Words.{sends_word};
 use crate::arguments::{Asked, Unasked, pair_of, unknown_of};
 use crate::origin::Origins;
 use crate::shown::{Shown, shown_of};
-use crate::task::Task;
+use crate::task::{Breaking, Task};
 use crate::values::{names_of, sends_of, table_of, word_of};
 use clap::ArgMatches;
 use dia_policy::Sends;
@@ -46,14 +46,14 @@ pub(super) fn breaking_of<'a>(alloc: Global, found: &ArgMatches<'a>) -> Result<A
     };
     let names = names_of(alloc, found)?;
     Ok(Asked {
-        task: Task::Breaking {
+        task: Task::Breaking(Breaking {
             sends,
             unknown,
             messages,
             once,
             meaning,
             names,
-        },
+        }),
         origins: Origins { table, ..origins },
     })
 }

@@ -1,14 +1,14 @@
 //! Commands on messages as text: `make`, and `show --as-text`.
 
-use crate::word_of;
+use crate::inputs::word_of;
 use dia_cli::{Ending, Origin};
+use dia_io::{Inputs, RunFault, ToWriter};
 use dia_make::{make, note, show_text};
 use dia_report::{Report, Reported};
-use dia_run::{Inputs, RunFault, ToWriter};
 use std::io;
 
 /// Writes the messages that a text makes, and explains why it makes none, unless it is to be quiet.
-pub(crate) fn made<'a, R>(
+pub fn made<'a, R>(
     rt: &R,
     inputs: &Inputs,
     text: Origin<'a>,
@@ -24,7 +24,7 @@ where
 }
 
 /// Writes the text of a message, and explains why it has none, unless it is to be quiet.
-pub(crate) fn shown<'a, R>(
+pub fn shown<'a, R>(
     rt: &R,
     inputs: &Inputs,
     message: Origin<'a>,

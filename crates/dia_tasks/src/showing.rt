@@ -1,6 +1,6 @@
 //! `show` with `--values` or `--names`.
 
-use crate::word_of;
+use crate::inputs::word_of;
 use dia_cli::{Ending, Origins};
 use dia_io::{Inputs, ToWriter};
 use dia_report::Reported;
@@ -14,7 +14,7 @@ const FORM: &str =
 
 /// Writes the lines of a message with words of values, with names or without, and explains why the words are refused, unless
 /// it is to be quiet. What else is reported is explained with the reports of other commands.
-pub(crate) fn show_named<'a, R>(
+pub fn show_named<'a, R>(
     rt: &R,
     names: bool,
     inputs: &Inputs,
@@ -34,7 +34,7 @@ where
 }
 
 /// Explains why words of values are refused, unless it is to be quiet, and answers what else is reported.
-pub(crate) fn told_of<R: AllocGlobal + Eprint>(
+pub fn told_of<R: AllocGlobal + Eprint>(
     rt: &R,
     report: Report,
     origins: &Origins<'_>,

@@ -3,7 +3,8 @@
 ghost use Rattle.std.specs.Prelude.{IsTrue};
 
 use crate::front::Front;
-use crate::{Manner, word_of};
+use crate::inputs::word_of;
+use crate::manner::Manner;
 use dia_captures::{Captured, Lines, check_lines, check_stream, refute_lines};
 use dia_cli::{Ending, Origin, Origins};
 use dia_explain_answers::{Asked, push_check_alone, push_refute_alone};
@@ -22,14 +23,14 @@ const OUTPUT: &str = "standard output";
 
 /// A command whose messages are read a piece at a time: the lines that it puts, and how messages are checked.
 #[derive(Clone, Copy)]
-pub(crate) struct Capture {
+pub struct Capture {
     lines: Lines,
     unknown: Unknown,
     levels: Levels,
 }
 
 impl Capture {
-    pub(crate) fn new(lines: Lines, unknown: Unknown, levels: Levels) -> Self {
+    pub fn new(lines: Lines, unknown: Unknown, levels: Levels) -> Self {
         Capture {
             lines,
             unknown,
@@ -86,7 +87,7 @@ impl Capture {
 
 /// Runs a command that reads its messages a piece at a time, and tells on standard error what came of them, unless it is to be
 /// quiet.
-pub(crate) fn captured<'a, R>(
+pub fn captured<'a, R>(
     rt: &R,
     capture: Capture,
     inputs: &Inputs,
@@ -163,7 +164,7 @@ where
 
 /// How the program ends where lines weren't answered to their end. `name` is the word that names their text; `output` and `input`
 /// are the errors that writing and reading met.
-pub(crate) fn ending_of(
+pub fn ending_of(
     fault: LinesFault,
     name: &str,
     output: Option<io::Error>,
@@ -203,7 +204,7 @@ fn advice(alloc: Global, capture: Capture, origins: &Origins<'_>) -> Result<Stri
 }
 
 /// Tells what a text is whose front shows that it has no messages, or not one a line.
-pub(crate) fn tell_front<R: AllocGlobal + Eprint>(rt: &R, name: &str, lines: Lines, front: &[u8]) {
+pub fn tell_front<R: AllocGlobal + Eprint>(rt: &R, name: &str, lines: Lines, front: &[u8]) {
     let mut out = String::new(rt.alloc());
     let in_lines = lines != Lines::Placed;
     if push_front(rt.alloc(), &mut out, name, front, in_lines).is_ok() {

@@ -2,8 +2,8 @@
 
 use crate::captured::{ending_of, tell_front};
 use crate::front::Front;
+use crate::inputs::word_of;
 use crate::showing::told_of;
-use crate::word_of;
 use dia_captures::Lines;
 use dia_cli::{BASE_DICTIONARY, Ending, Origin, Origins, STANDARD_INPUT};
 use dia_io::{Exit, FromReader, Inputs, ToWriter};
@@ -15,7 +15,7 @@ use std::{fs, io};
 
 /// Shows the message of each line, with names or without, and tells on standard error what came of them, unless it is to be
 /// quiet.
-pub(crate) fn list_lines<'a, R>(
+pub fn list_lines<'a, R>(
     rt: &R,
     names: bool,
     inputs: &Inputs,

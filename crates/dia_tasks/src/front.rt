@@ -11,14 +11,14 @@ const MOST: usize = 1024;
 
 /// Hands on what a feed gives, and keeps its first bytes.
 #[derive(Drop)]
-pub(crate) struct Front<F> {
+pub struct Front<F> {
     pub feed: F,
     pub kept: Vec<u8>,
 }
 
 impl<F: Feed> Front<F> {
     /// Of a feed of which nothing was read.
-    pub(crate) fn new(alloc: Global, feed: F) -> Front<F>
+    pub fn new(alloc: Global, feed: F) -> Front<F>
         ensures { result.feed ≡ feed }
     {
         Front {
@@ -28,7 +28,7 @@ impl<F: Feed> Front<F> {
     }
 
     /// Whether what is kept shows how the text begins: it is all of the text, or more than blanks.
-    pub(crate) fn is_telling(&self) -> bool {
+    pub fn is_telling(&self) -> bool {
         self.kept.len() < MOST || self.kept.iter().any(|byte| !is_white(*byte))
     }
 }

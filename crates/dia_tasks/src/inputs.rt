@@ -1,0 +1,37 @@
+//! The inputs with the words that name them.
+
+use dia_cli::{BASE_DICTIONARY, Origin, Origins, STANDARD_INPUT};
+use dia_explain_places::{InputTexts, NamedText};
+use dia_io::{Input, Inputs};
+
+/// The texts of the inputs, with the words that name them.
+pub fn texts_of<'a>(origins: &Origins<'a>, inputs: &'a Inputs) -> InputTexts<'a> {
+    InputTexts {
+        first: named(origins.first, &inputs.first),
+        second: named(origins.second, &inputs.second),
+        table: named(origins.table, &inputs.table),
+        message: named(origins.message, &inputs.message),
+    }
+}
+
+/// The text of an input, with the word that names it.
+fn named<'a>(origin: Origin<'a>, input: &'a Input) -> NamedText<'a> {
+    let text = match input {
+        Input::Bytes(bytes) => bytes.as_slice(),
+        Input::TooLong => b"".as_slice(),
+    };
+    NamedText {
+        name: word_of(origin),
+        text,
+    }
+}
+
+/// The word that names an input.
+pub fn word_of(origin: Origin<'_>) -> &str {
+    match origin {
+        Origin::Nowhere => "",
+        Origin::Base => BASE_DICTIONARY,
+        Origin::StandardInput { .. } => STANDARD_INPUT,
+        Origin::File { path, .. } => path,
+    }
+}

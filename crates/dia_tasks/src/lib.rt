@@ -1,0 +1,18 @@
+//! What the program does for a task, over the devices of the process, and what it tells of it on standard error: each task but
+//! `breaking`, which stands on more crates than these.
+#![tactic(auto)]
+
+mod answering;
+mod captured;
+mod front;
+mod inputs;
+mod listing;
+mod manner;
+mod notes;
+mod running;
+mod showing;
+mod text;
+
+pub use inputs::texts_of;
+pub use manner::Manner;
+pub use running::{Outcome, run_task};

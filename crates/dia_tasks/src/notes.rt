@@ -1,0 +1,112 @@
+//! The note of a report: what is told on standard error of an input that is refused, and of an answer that isn't yes.
+
+use dia_compat::Answer;
+use dia_explain_answers::{push_answer, push_unnamed};
+use dia_explain_inputs::{
+    NamedSource, push_empty, push_length, push_no_pairs, push_refused, push_strangers,
+    push_unknown_commands,
+};
+use dia_explain_places::InputTexts;
+use dia_report::{BothBooks, Compared, Report};
+use std::alloc::{AllocError, Global};
+
+/// Explains a report on standard error. `names` are those of the commands that were asked for. Where memory or the device fails,
+/// there is no note.
+pub fn note<R: AllocGlobal + Eprint>(
+    rt: &R,
+    texts: &InputTexts<'_>,
+    names: &[String],
+    report: &Report,
+) {
+    if let Ok(text) = explain(rt.alloc(), texts, names, report) {
+        let _ = eprint!(rt; "{text}");
+    }
+}
+
+/// Tells how AVPs are named that the base dictionary doesn't have. `sign` is what stands for a name in what was shown. Where
+/// memory or the device fails, nothing is told.
+pub fn note_unnamed<R: AllocGlobal + Eprint>(rt: &R, report: &Report, sign: &str) {
+    if let Ok(text) = unnamed(rt.alloc(), report, sign) {
+        let _ = eprint!(rt; "{text}");
+    }
+}
+
+/// What is told on standard error of a report. It is empty where there is nothing to tell.
+fn explain(
+    alloc: Global,
+    texts: &InputTexts<'_>,
+    names: &[String],
+    report: &Report,
+) -> Result<String, AllocError> {
+    let mut out = String::new(alloc);
+    if !matches!(report, Report::Refused(_)) {
+        push_empty(&mut out, &texts.first)?;
+        push_empty(&mut out, &texts.second)?;
+    }
+    push_answer(alloc, &mut out, texts, report)?;
+    match report {
+        Report::Refused(bad) => push_refused(alloc, &mut out, texts, bad)?,
+        Report::NoCommand(books) => push_missing(alloc, &mut out, texts, names, books)?,
+        Report::Invalid(found) => push_length(&mut out, &texts.message, &found.message)?,
+        Report::Unrefuting(found) => push_length(&mut out, &texts.message, &found.message)?,
+        Report::Compared(found) => push_table(alloc, &mut out, texts, found)?,
+        Report::Done | Report::Shown(_) | Report::Cut(_) => {}
+    }
+    Ok(out)
+}
+
+/// What is told on standard error of a message that was shown by the base dictionary. `sign` is what stands for a name that it
+/// doesn't have.
+fn unnamed(alloc: Global, report: &Report, sign: &str) -> Result<String, AllocError> {
+    let mut out = String::new(alloc);
+    match report {
+        Report::Shown(message) => push_unnamed(alloc, &mut out, message, sign)?,
+        Report::Cut(listing) => push_unnamed(alloc, &mut out, &listing.message, sign)?,
+        _ => {}
+    }
+    Ok(out)
+}
+
+/// Adds the names that no command of the first dictionary has.
+fn push_missing(
+    alloc: Global,
+    out: &mut String,
+    texts: &InputTexts<'_>,
+    names: &[String],
+    books: &BothBooks,
+) -> Result<(), AllocError> {
+    let first = first_of(texts, books);
+    let second = second_of(texts, books);
+    push_unknown_commands(alloc, out, names, &first, &second)
+}
+
+/// Adds what a table lacks: pairs of commands where the answer is yes, and else names that the dictionaries have.
+fn push_table(
+    alloc: Global,
+    out: &mut String,
+    texts: &InputTexts<'_>,
+    found: &Compared,
+) -> Result<(), AllocError> {
+    match found.answer {
+        Answer::Yes => push_no_pairs(out, texts, &found.table),
+        Answer::No { .. } => {
+            let first = first_of(texts, &found.books);
+            let second = second_of(texts, &found.books);
+            push_strangers(alloc, out, &texts.table, &first, &second)
+        }
+    }
+}
+
+fn first_of<'a>(texts: &InputTexts<'a>, books: &'a BothBooks) -> NamedSource<'a> {
+    NamedSource {
+        name: texts.first.name,
+        source: &books.first.source,
+    }
+}
+
+fn second_of<'a>(texts: &InputTexts<'a>, books: &'a BothBooks) -> NamedSource<'a> {
+    NamedSource {
+        name: texts.second.name,
+        source: &books.second.source,
+    }
+}
