@@ -4,3 +4,4 @@ mod Members
 mod Objects
 mod ObjectsOfLevels
 mod Pairs
+mod Reports

@@ -1,5 +1,6 @@
 pub mod Listing
 pub mod Messages
+pub mod Reports
 pub mod Runs
 pub mod Values
 pub mod Whole

@@ -1,6 +1,8 @@
 //! The answers for one message.
 
-ghost use Rattle.std.specs.Prelude.{IfOk, string_bytes};
+ghost use Rattle.std.specs.Prelude.{◌≡◌, IfOk, string_bytes};
+ghost use Rattle.dia_refused_json.specs.Telling.{HasReport};
+ghost use Rattle.dia_json.specs.Reports.{IsNothing};
 ghost use Rattle.dia_json.specs.Runs.{IsCheckJson, IsRefuteJson, TellsChecked, TellsRefuted};
 
 use crate::verdicts::{push_checked, push_refuted};
@@ -20,8 +22,9 @@ pub fn check(
     levels: Levels,
     inputs: &Inputs,
 ) -> Result<Answered, AllocError>
-    ensures { IfOk result (λ answered. IsCheckJson unknown levels inputs.now
+    ensures outcome { IfOk result (λ answered. IsCheckJson unknown levels inputs.now
         (string_bytes answered.text) answered.exit) }
+    ensures report { IfOk result (HasReport IsNothing) }
 {
     let first = match read_dictionary(alloc, 1, &inputs.first) {
         Ok(read) => read,
@@ -37,8 +40,9 @@ pub fn refute(
     levels: Levels,
     inputs: &Inputs,
 ) -> Result<Answered, AllocError>
-    ensures { IfOk result (λ answered. IsRefuteJson unknown levels inputs.now
+    ensures outcome { IfOk result (λ answered. IsRefuteJson unknown levels inputs.now
         (string_bytes answered.text) answered.exit) }
+    ensures report { IfOk result (HasReport IsNothing) }
 {
     let first = match read_dictionary(alloc, 1, &inputs.first) {
         Ok(read) => read,
@@ -65,8 +69,9 @@ fn checked<B: Book>(
     levels: Levels,
     message: &Input,
 ) -> Result<Answered, AllocError>
-    ensures { IfOk result (λ answered. TellsChecked unknown levels (B.meaning book.now) message.now
+    ensures outcome { IfOk result (λ answered. TellsChecked unknown levels (B.meaning book.now) message.now
         (string_bytes answered.text) answered.exit) }
+    ensures report { IfOk result (λ answered. answered.report ≡ Report.Done) }
 {
     let mut space = Vec::new(alloc);
     let verdict = check_line(alloc, book, unknown, levels, message, &mut space)?;
@@ -85,9 +90,10 @@ fn refuted<A: Book, B: Book>(
     judge: &RefuteJudge<'_, A, B>,
     message: &Input,
 ) -> Result<Answered, AllocError>
-    ensures { IfOk result (λ answered. TellsRefuted judge.now.unknown judge.now.levels
+    ensures outcome { IfOk result (λ answered. TellsRefuted judge.now.unknown judge.now.levels
         (A.meaning judge.now.first.now) (B.meaning judge.now.second.now) message.now
         (string_bytes answered.text) answered.exit) }
+    ensures report { IfOk result (λ answered. answered.report ≡ Report.Done) }
 {
     let mut space = Vec::new(alloc);
     let verdict = judge.refute_line(alloc, message, &mut space)?;

@@ -4,10 +4,13 @@ ghost use Rattle.std.specs.Prelude.{◌≡◌, ◌++◌, map, IfOk, OnOk, string
 ghost use Rattle.std.specs.List.{flat_map};
 ghost use Rattle.dia_compat.specs.TableText.{plain_pair, plain_table};
 ghost use Rattle.dia_refused_json.specs.Members.{json_line};
+ghost use Rattle.dia_refused_json.specs.Telling.{HasReport};
+ghost use Rattle.dia_json.specs.Reports.{IsProposeReport};
 ghost use Rattle.dia_json.specs.Whole.{IsProposeJson, no_command_members, pair_json, table_json};
 
 use dia_check::Unknown;
 use dia_compat::{ProposeFault, Table};
+use dia_dict::{Book, IndexedBook};
 use dia_io::{Exit, Inputs};
 use dia_refused_json::{quoted, refuse};
 use dia_report::{Answered, BothBooks, Report};
@@ -21,8 +24,9 @@ pub fn propose(
     names: &[String],
     inputs: &Inputs,
 ) -> Result<Answered, AllocError>
-    ensures { IfOk result (λ answered. IsProposeJson unknown (map (λ name. string_bytes name) names.now) inputs.now
+    ensures outcome { IfOk result (λ answered. IsProposeJson unknown (map (λ name. string_bytes name) names.now) inputs.now
         (string_bytes answered.text) answered.exit) }
+    ensures report { IfOk result (HasReport (IsProposeReport ⟦<IndexedBook as Book>⟧.meaning inputs.now)) }
 {
     let first = match read_dictionary(alloc, 1, &inputs.first) {
         Ok(read) => read,
@@ -46,6 +50,7 @@ fn no_command(alloc: Global, name: &str, books: BothBooks) -> Result<Answered, A
     ensures text { IfOk result
         (λ answered. string_bytes answered.text ≡ json_line (no_command_members name.now)) }
     ensures exit { IfOk result (λ answered. answered.exit ≡ Exit.Bad) }
+    ensures report { IfOk result (λ answered. answered.report ≡ Report.NoCommand books) }
 {
     let name = quoted(alloc, name)?;
     let text = format!(in alloc;
@@ -63,6 +68,7 @@ fn listed(alloc: Global, table: &Table) -> Result<Answered, AllocError>
     ensures text { IfOk result
         (λ answered. string_bytes answered.text ≡ table_json (plain_table table.now)) }
     ensures exit { IfOk result (λ answered. answered.exit ≡ Exit.Yes) }
+    ensures report { IfOk result (λ answered. answered.report ≡ Report.Done) }
 {
     let mut text = String::new(alloc);
     push_pairs(alloc, &mut text, "command", &table.commands)?;

@@ -1,19 +1,21 @@
 //! `show` of a message as JSON.
 
-ghost use Rattle.std.specs.Prelude.{◌≡◌, ◌<◌, ◌^◌, ◌++◌, ◌∷◌, List, Bool, drop, length, take, true, IfOk, OnOk, string_bytes};
+ghost use Rattle.std.specs.Prelude.{◌≡◌, ◌≢◌, ◌<◌, ◌^◌, ◌++◌, ◌∷◌, List, Bool, drop, length, take, true, IfOk, OnOk, string_bytes};
 ghost use Rattle.serde_json.specs.Data.{Members};
 ghost use Rattle.serde_json.specs.Written.{members_text};
 ghost use Rattle.dia_valid.specs.Valid.{class_of};
 ghost use Rattle.dia_dict.specs.Dictionary.{selected};
 ghost use Rattle.dia_run.specs.Outcome.{listing_exit};
 ghost use Rattle.dia_refused_json.specs.Members.{json_line};
+ghost use Rattle.dia_refused_json.specs.Telling.{HasReport};
 ghost use Rattle.dia_wire.specs.Wire.{IsHead, IsMessageLength};
 ghost use Rattle.dia_json.specs.Messages.{AreShown, TellsMessage, command_member, header_members, lines_of};
+ghost use Rattle.dia_json.specs.Reports.{IsShowReport};
 ghost use Rattle.dia_json.specs.Whole.{IsShowJson};
 
 use crate::listing::push_level;
 use dia_book::Class;
-use dia_dict::Book;
+use dia_dict::{Book, IndexedBook};
 use dia_io::{Exit, Inputs};
 use dia_refused_json::{quoted, refuse};
 use dia_report::{Answered, CutListing, Refused, Report};
@@ -33,7 +35,8 @@ struct Shown {
 
 /// `show` of the message, with the names of the first dictionary.
 pub fn show(alloc: Global, inputs: &Inputs) -> Result<Answered, AllocError>
-    ensures { IfOk result (λ answered. IsShowJson inputs.now (string_bytes answered.text) answered.exit) }
+    ensures outcome { IfOk result (λ answered. IsShowJson inputs.now (string_bytes answered.text) answered.exit) }
+    ensures report { IfOk result (HasReport (IsShowReport ⟦<IndexedBook as Book>⟧.meaning inputs.now)) }
 {
     let first = match read_dictionary(alloc, 1, &inputs.first) {
         Ok(read) => read,
@@ -49,8 +52,9 @@ pub fn show(alloc: Global, inputs: &Inputs) -> Result<Answered, AllocError>
     };
     let Shown { text, exit } = shown_of(alloc, &first.book, message.as_slice(), &header, body)?;
     let report = match exit {
+        Exit::Yes => Report::Shown(message),
         Exit::No => Report::Cut(CutListing { first, message }),
-        _ => Report::Shown(message),
+        Exit::Bad => unreachable!(),
     };
     Ok(Answered { text, exit, report })
 }
@@ -67,7 +71,8 @@ fn shown_of<B: Book>(
     requires long { IsMessageLength (length bytes.now) }
     requires body { body.now ≡ drop 20 bytes.now }
     requires room { length body.now < 2 ^ 62 }
-    ensures { IfOk result (λ shown. TellsMessage (B.meaning book.now) bytes.now (string_bytes shown.text) shown.exit) }
+    ensures told { IfOk result (λ shown. TellsMessage (B.meaning book.now) bytes.now (string_bytes shown.text) shown.exit) }
+    ensures exit { IfOk result (λ shown. shown.exit ≢ Exit.Bad) }
 {
     objects_of(alloc, book, header, bytes.len(), body)
 }
@@ -81,10 +86,11 @@ fn objects_of<B: Book>(
     body: &[u8],
 ) -> Result<Shown, AllocError>
     requires { length body.now < 2 ^ 62 }
-    ensures { IfOk result (λ shown. (avps : List Members) × (bad : Bool)
+    ensures told { IfOk result (λ shown. (avps : List Members) × (bad : Bool)
         × AreShown (B.meaning book.now) (record { depth = 0; place = 20; bytes = body.now }) avps bad
         × (string_bytes shown.text ≡ lines_of (header_members (B.meaning book.now) header.now size ∷ avps))
         × (shown.exit ≡ listing_exit bad)) }
+    ensures exit { IfOk result (λ shown. shown.exit ≢ Exit.Bad) }
 {
     let mut text = String::new(alloc);
     push_header(alloc, &mut text, book, header, size)?;

@@ -1,5 +1,6 @@
 -- That an input is refused follows from what was found of it, and what is told.
-use Rattle.std.proofs.Common.{◌≡◌, ℕ, List}
+use Rattle.std.proofs.Common.{◌≡◌, ℕ, List, Result, Ok, Err, refl, subst, sym}
+use Rattle.std.specs.Prelude.{IfOk, string_bytes}
 use Rattle.dia_ccf.specs.Plain.{plain_source}
 use Rattle.dia_dict.specs.Dictionary.{Dictionary}
 use Rattle.dia_io.specs.declared.Input.{Input}
@@ -10,12 +11,15 @@ use Rattle.dia_report.specs.declared.refusing.Refused.TheVariants.{Bad, NoMemory
 use Rattle.dia_report.specs.declared.bad_input.BadInput.{BadInput}
 use Rattle.dia_report.specs.declared.bad_input.BadInput.TheVariants as bads
 use Rattle.dia_report.specs.declared.bad_input.BadDictionary.TheVariants as dictionary
+use Rattle.dia_report.specs.declared.reporting.Answered.{Answered}
+use Rattle.dia_report.specs.declared.reporting.Report.{Report}
+use Rattle.dia_report.specs.declared.reporting.Report.TheVariants as reports
 use Rattle.dia_report.specs.Refusals.{TellsOf, dictionary_line}
 use Rattle.dia_run.specs.RefusedDictionaries.{RefusesSecond}
 use Rattle.dia_run.specs.Report.{HasFinding}
 use Rattle.dia_run.specs.Texts.{IsDictionaryText, IsNoDictionaryText}
 use Rattle.dia_refused_json.specs.Refusals.{IsFoundIn}
-use Rattle.dia_refused_json.specs.Telling.{IsDictionaryRefusal, IsRefusal, TellsBad}
+use Rattle.dia_refused_json.specs.Telling.{HasReport, IsDictionaryRefusal, IsRefusal, IsRefusedOr, TellsBad}
 
 pub input_refused : (refuses : List ℕ → Type 0) (input : Input) (refused : Refused) → TellsOf refuses refused → (text : List ℕ) (exit : Exit) → TellsBad input refused text exit
     → IsRefusal refuses input text exit
@@ -40,3 +44,15 @@ pub second_refused : (inputs : Inputs) (a : Dictionary) (r : Refused) → IsDict
     → TellsOf (λ told. (why : List ℕ) × IsNoDictionaryText inputs.second why × (told ≡ dictionary_line 2 why)) r → TellsOf (RefusesSecond inputs) r
 second_refused inputs a (Bad bad) is_a h = (a, is_a, h)
 second_refused inputs a NoMemory is_a h = tt
+
+-- ---- reports
+
+pub with_report : (P : Report → List ℕ → Exit → Type 0) (a : Answered) (report : Report) → a.report ≡ report → IsRefusedOr P report (string_bytes a.text) a.exit → HasReport P a
+with_report P a report is told = subst (λ (r : Report). IsRefusedOr P r (string_bytes a.text) a.exit) (sym is) told
+
+pub refusal_reported : {E : Type 0} (P : Report → List ℕ → Exit → Type 0) (input : Input) (refused : Refused) (r : Result Answered E)
+    → IfOk r (λ a. TellsBad input refused (string_bytes a.text) a.exit)
+    → ((bad : BadInput) → refused ≡ Bad bad → IfOk r (λ a. a.report ≡ reports.Refused bad)) → IfOk r (HasReport P)
+refusal_reported P input (Bad bad) (Ok a) told report = with_report P a (reports.Refused bad) (report bad refl) (input, told.0, told.1)
+refusal_reported P input NoMemory (Ok a) none report = absurd none
+refusal_reported P input refused (Err e) told report = tt

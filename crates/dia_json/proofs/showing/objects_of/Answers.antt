@@ -5,7 +5,7 @@ use Rattle.dia_json.proofs.showing.objects_of.Goals as goal
 pub push_level-requires : goal.push_level-requires
 push_level-requires g c = omega (arith, c.requires)
 
-pub returns : goal.returns
-returns g c =
+pub returns-clause-told : goal.returns-clause-told
+returns-clause-told g c =
     message_told (g.B.Book.meaning c.args.book.now) c.args.body.now _ _ _ c.args.header.now c.args.size _ _ c.new-text.ensures.bytes c.in_ok-push_header.ensures c.in_ok-bad.ensures
     c.listing_exit-exit.ensures

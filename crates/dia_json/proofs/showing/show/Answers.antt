@@ -8,25 +8,26 @@ use Rattle.dia_run.proofs.OutcomeParts.{Ends-unsplit}
 use Rattle.dia_run.proofs.RefusedInputs.{TellsOf-map, Ends-no_dictionary, Ends-no_message}
 use Rattle.dia_refused_json.specs.Telling.{RefusesAs}
 use Rattle.dia_refused_json.proofs.Telling.{dictionary_refused, input_refused}
+use Rattle.dia_json.proofs.Reports.{show_refused}
 use Rattle.dia_json.proofs.showing.show.Goals as goal
 
-pub returns-in-Err : goal.returns-in-Err
-returns-in-Err c =
+pub returns-in-Err-clause-outcome : goal.returns-in-Err-clause-outcome
+returns-in-Err-clause-outcome c =
     let inputs = c.args.inputs.now in
     IfOk-weaker c.refuse.result _ _
     (λ answered is. inr (inl (dictionary_refused (RefusesAs (IsShowOutcome inputs)) inputs.first c.in-Err.refused
     (Ends-no_dictionary IsMessageShown inputs c.in-Err.refused c.in-Err.ensures.told) c.in-Err.ensures.kept (string_bytes answered.text) answered.exit is))) c.refuse.ensures.told
 
-pub returns-in-Err-read_message : goal.returns-in-Err-read_message
-returns-in-Err-read_message c =
+pub returns-in-Err-read_message-clause-outcome : goal.returns-in-Err-read_message-clause-outcome
+returns-in-Err-read_message-clause-outcome c =
     let inputs = c.args.inputs.now in
     IfOk-weaker c.refuse-in-Err-read_message.result _ _
     (λ answered is. inr (inr (input_refused (RefusesAs (IsShowOutcome inputs)) inputs.message c.in-Err-read_message.refused
     (Ends-no_message IsMessageShown inputs _ c.in-Err-read_message.refused c.in-Ok.ensures.book c.in-Err-read_message.ensures.told) (string_bytes answered.text) answered.exit is)))
     c.refuse-in-Err-read_message.ensures.told
 
-pub returns-in-Err-split_message : goal.returns-in-Err-split_message
-returns-in-Err-split_message c =
+pub returns-in-Err-split_message-clause-outcome : goal.returns-in-Err-split_message-clause-outcome
+returns-in-Err-split_message-clause-outcome c =
     let inputs = c.args.inputs.now in
     let bytes = c.as_slice.result.now in
     let message : IsMessageText inputs.message bytes = rw c.as_slice.ensures.value c.in-Ok-read_message.ensures.message in
@@ -38,8 +39,21 @@ returns-in-Err-split_message c =
     (λ answered is. inr (inr (input_refused (RefusesAs (IsShowOutcome inputs)) inputs.message c.from.result tells (string_bytes answered.text) answered.exit is)))
     c.refuse-in-Err-split_message.ensures.told
 
-pub returns : goal.returns
-returns c =
+pub returns-clause-outcome : goal.returns-clause-outcome
+returns-clause-outcome c =
     let bytes = c.as_slice-2.result.now in
     let message : IsMessageText c.args.inputs.now.message bytes = rw c.as_slice-2.ensures.value c.in-Ok-read_message.ensures.message in
-    inl (_, bytes, c.in-Ok.ensures.book, message, rw c.deref.ensures at c.in_ok-text.ensures)
+    inl (_, bytes, c.in-Ok.ensures.book, message, rw c.deref.ensures at c.in_ok-text.ensures.told)
+
+pub returns-in-Err-clause-report : goal.returns-in-Err-clause-report
+returns-in-Err-clause-report c = show_refused _ c.args.inputs.now c.args.inputs.now.first c.in-Err.refused c.refuse.result c.refuse.ensures.told c.refuse.ensures.report
+
+pub returns-in-Err-read_message-clause-report : goal.returns-in-Err-read_message-clause-report
+returns-in-Err-read_message-clause-report c =
+    show_refused _ c.args.inputs.now c.args.inputs.now.message c.in-Err-read_message.refused c.refuse-in-Err-read_message.result c.refuse-in-Err-read_message.ensures.told
+    c.refuse-in-Err-read_message.ensures.report
+
+pub returns-in-Err-split_message-clause-report : goal.returns-in-Err-split_message-clause-report
+returns-in-Err-split_message-clause-report c =
+    show_refused _ c.args.inputs.now c.args.inputs.now.message c.from.result c.refuse-in-Err-split_message.result c.refuse-in-Err-split_message.ensures.told
+    c.refuse-in-Err-split_message.ensures.report
