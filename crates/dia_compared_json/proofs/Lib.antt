@@ -1,4 +1,5 @@
 mod Names
 mod OneText
 mod Pairs
+mod Reports
 mod Texts

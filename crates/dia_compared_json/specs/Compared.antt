@@ -2,6 +2,7 @@
 use Rattle.std.specs.Prelude.{◌≡◌, ◌≢◌, ℕ, ◌⊎◌, List, [], Some, codes, slice_get}
 use Rattle.serde_json.specs.Data.{no_members}
 use Rattle.dia_dict.specs.Dictionary.{Dictionary}
+use Rattle.dia_dict.specs.declared.IndexedBook.{IndexedBook}
 use Rattle.dia_policy.specs.declared.Unknown.{Unknown}
 use Rattle.dia_compat.specs.declared.Answer.{Answer}
 use Rattle.dia_compat.specs.declared.Answer.TheVariants.{Yes as Passed, No as Failed}
@@ -9,14 +10,17 @@ use Rattle.dia_compat.specs.declared.Failing.{Failing}
 use Rattle.dia_compat.specs.declared.PairKind.{PairKind}
 use Rattle.dia_compat.specs.declared.Test.{Test}
 use Rattle.dia_compat.specs.Closed.{IsTableAnswer as IsCompared}
-use Rattle.dia_compat.specs.Failings.{AreFailingsOf}
+use Rattle.dia_compat.specs.Failings.{AreFailingsFor, AreFailingsOf}
 use Rattle.dia_compat.specs.PairTests.{NamePair}
-use Rattle.dia_compat.specs.TableText.{PlainTable}
+use Rattle.dia_compat.specs.TableText.{PlainTable, plain_table}
 use Rattle.dia_io.specs.declared.Inputs.{Inputs}
 use Rattle.dia_io.specs.declared.Exit.{Exit}
 use Rattle.dia_io.specs.declared.Exit.TheVariants.{No, Yes}
+use Rattle.dia_report.specs.declared.reporting.Report.{Report}
+use Rattle.dia_report.specs.declared.reporting.Report.TheVariants.{Compared}
 use Rattle.dia_run.specs.Outcome.{IsCompareOutcome}
 use Rattle.dia_run.specs.Pairs.{IsTableText}
+use Rattle.dia_run.specs.Report.{AreReadFrom}
 use Rattle.dia_run.specs.Texts.{IsDictionaryText}
 use Rattle.dia_refused_json.specs.Telling.{IsRefusal, RefusedDictionaries}
 use Rattle.dia_refused_json.specs.Members.{json_line, verdict_members}
@@ -48,6 +52,15 @@ IsCompareJson u inputs text exit =
     ((a : Dictionary) × (b : Dictionary) × (table : PlainTable) × IsDictionaryText inputs.first a × IsDictionaryText inputs.second b
     × IsTableText inputs.table table × TellsComparison u table a b text exit)
     ⊎ (RefusedDictionaries inputs text exit ⊎ IsRefusal (RefusesAs (IsCompareOutcome u inputs)) inputs.table text exit)
+
+-- what its report has, but for one of an input that is refused: all that was compared, and what was found
+abbrev pub IsCompareReport : (IndexedBook → Dictionary) → Unknown → Inputs → Report → List ℕ → Exit → Type 0
+IsCompareReport meaning u inputs (Compared found) text exit =
+    (found.unknown ≡ u) × AreReadFrom meaning inputs found.books × IsTableText inputs.table (plain_table found.table)
+    × IsCompared (meaning found.books.first.value.book) (meaning found.books.second.value.book) u (plain_table found.table) found.answer
+    × AreFailingsFor (meaning found.books.first.value.book) (meaning found.books.second.value.book) u (plain_table found.table) found.answer found.failings.items
+    × IsAnswerJson (meaning found.books.first.value.book) (meaning found.books.second.value.book) u (plain_table found.table) found.answer text exit
+IsCompareReport meaning u inputs report text exit = ⊥
 
 -- two dictionaries, a policy and a table have one text, and one way to end
 abbrev pub ComparisonHasOneText : Type 0

@@ -4,13 +4,15 @@ ghost use Rattle.std.specs.Prelude.{◌≡◌, ◌≢◌, ◌<◌, ◌↔◌, []
 ghost use Rattle.dia_compat.specs.Closed.{IsTableAnswer};
 ghost use Rattle.dia_compat.specs.Failings.{AreFailingsFor, AreFailingsOf};
 ghost use Rattle.dia_compat.specs.TableText.{plain_table};
-ghost use Rattle.dia_compared_json.specs.Compared.{IsAnswerJson, IsCompareJson, IsFailureJson, TellsComparison};
+ghost use Rattle.dia_compared_json.specs.Compared.{IsAnswerJson, IsCompareJson, IsCompareReport, IsFailureJson};
 ghost use Rattle.dia_compared_json.specs.Failures.{pairs_listed};
+ghost use Rattle.dia_refused_json.specs.Telling.{HasReport};
 
 use crate::failures::{failure_text, pair_at};
 use dia_book::Book;
 use dia_check::Unknown;
 use dia_compat::{Answer, Failing, PairKind, Table, Test, Verdict, judge_table};
+use dia_dict::IndexedBook;
 use dia_io::{Exit, Inputs};
 use dia_refused_json::refuse;
 use dia_report::{Answered, BothBooks, Compared, Report};
@@ -27,8 +29,9 @@ struct Found {
 
 /// Whether the table shows inclusion, or else the first pair that fails a test, and all that fails it.
 pub fn compare(alloc: Global, unknown: Unknown, inputs: &Inputs) -> Result<Answered, AllocError>
-    ensures { IfOk result (λ answered. IsCompareJson unknown inputs.now
+    ensures outcome { IfOk result (λ answered. IsCompareJson unknown inputs.now
         (string_bytes answered.text) answered.exit) }
+    ensures report { IfOk result (HasReport (IsCompareReport ⟦<IndexedBook as Book>⟧.meaning unknown inputs.now)) }
 {
     let first = match read_dictionary(alloc, 1, &inputs.first) {
         Ok(read) => read,
@@ -66,8 +69,12 @@ fn found_of<A: Book, B: Book>(
     unknown: Unknown,
     table: &Table,
 ) -> Result<Found, AllocError>
-    ensures { IfOk result (λ found. TellsComparison unknown (plain_table table.now)
-        (A.meaning a.now) (B.meaning b.now) (string_bytes found.text) found.exit) }
+    ensures answer { IfOk result (λ found. IsTableAnswer (A.meaning a.now) (B.meaning b.now) unknown
+        (plain_table table.now) found.verdict.answer) }
+    ensures failings { IfOk result (λ found. AreFailingsFor (A.meaning a.now) (B.meaning b.now) unknown
+        (plain_table table.now) found.verdict.answer found.verdict.failings.items) }
+    ensures told { IfOk result (λ found. IsAnswerJson (A.meaning a.now) (B.meaning b.now) unknown
+        (plain_table table.now) found.verdict.answer (string_bytes found.text) found.exit) }
 {
     let verdict = judge_table(alloc, a, b, unknown, table)?;
     let Outcome { text, exit } = told_of(alloc, a, b, unknown, table, &verdict)?;

@@ -8,6 +8,3 @@ told_of-requires-clause-failings g c = c.in_ok-verdict.ensures.failings
 
 pub told_of-requires-clause-none : goal.told_of-requires-clause-none
 told_of-requires-clause-none g c = c.in_ok-verdict.ensures.none
-
-pub returns : goal.returns
-returns g c = (_, c.in_ok-verdict.ensures.answer, c.in_ok-text.ensures)
