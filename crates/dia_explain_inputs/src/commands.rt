@@ -2,7 +2,10 @@
 
 use crate::names::{Named, NamedSource, Vocabulary};
 use crate::notes::{Added, push_texts};
+use crate::sides::{first_of, second_of};
 use dia_ccf::Def;
+use dia_explain_places::InputTexts;
+use dia_report::BothBooks;
 use std::alloc::{AllocError, Global};
 
 /// The most commands of a dictionary that are listed.
@@ -15,12 +18,12 @@ const MOST: usize = 50;
 pub fn push_unknown_commands(
     alloc: Global,
     out: &mut String,
+    texts: &InputTexts<'_>,
     names: &[String],
-    first: &NamedSource<'_>,
-    second: &NamedSource<'_>,
+    books: &BothBooks,
 ) -> Added {
-    let known = Vocabulary::of(alloc, first)?;
-    push_unknown(out, names, &known, second)
+    let known = Vocabulary::of(alloc, &first_of(texts, books))?;
+    push_unknown(out, names, &known, &second_of(texts, books))
 }
 
 fn push_unknown(

@@ -12,6 +12,7 @@ mod messages;
 mod names;
 mod notes;
 mod refused;
+mod sides;
 mod strangers;
 mod tables;
 
@@ -19,7 +20,6 @@ pub use commands::push_unknown_commands;
 pub use dictionary::push_empty;
 pub use fronts::push_front;
 pub use messages::push_length;
-pub use names::NamedSource;
 pub use refused::push_refused;
 pub use strangers::push_strangers;
 pub use tables::push_no_pairs;

@@ -2,7 +2,9 @@
 
 use crate::names::{Named, NamedSource, Vocabulary};
 use crate::notes::{Added, push_texts};
-use dia_explain_places::{NamedText, PairWords, push_place, words_of};
+use crate::sides::{first_of, second_of};
+use dia_explain_places::{InputTexts, NamedText, PairWords, push_place, words_of};
+use dia_report::BothBooks;
 use std::alloc::{AllocError, Global};
 
 /// The most names that are told of a side.
@@ -20,12 +22,12 @@ struct Stranger<'a> {
 pub fn push_strangers(
     alloc: Global,
     out: &mut String,
-    table: &NamedText<'_>,
-    first: &NamedSource<'_>,
-    second: &NamedSource<'_>,
+    texts: &InputTexts<'_>,
+    books: &BothBooks,
 ) -> Added {
-    let of_first = push_side_of(alloc, out, table, true, first)?;
-    let of_second = push_side_of(alloc, out, table, false, second)?;
+    let table = &texts.table;
+    let of_first = push_side_of(alloc, out, table, true, &first_of(texts, books))?;
+    let of_second = push_side_of(alloc, out, table, false, &second_of(texts, books))?;
     if of_first || of_second {
         out.push_str(
             "hint: the first name of a pair is one of the first dictionary, the second one of the second; \

@@ -6,7 +6,7 @@ use crate::namesakes::{Side, push_namesakes};
 use crate::tally::{push_meanings, push_tally};
 use crate::unchosen::push_unchosen;
 use crate::without_commands::push_without_commands;
-use dia_explain_inputs::{NamedSource, push_empty, push_refused, push_unknown_commands};
+use dia_explain_inputs::{push_empty, push_refused, push_unknown_commands};
 use dia_explain_places::InputTexts;
 use dia_io::Inputs;
 use dia_report::BothBooks;
@@ -61,7 +61,7 @@ fn push_found(
         }
         Found::NoList(bad) => push_bad_list(alloc, out, &texts.table, bad),
         Found::NoCommands => push_without_commands(out, &texts.first, &books.first.source),
-        Found::NoCommand => push_missing(alloc, out, texts, asked.names, books),
+        Found::NoCommand => push_unknown_commands(alloc, out, texts, asked.names, books),
     }
 }
 
@@ -84,23 +84,4 @@ fn push_causes(
     };
     push_unchosen(alloc, out, first, second, names, causes)?;
     push_namesakes(alloc, out, first, second, causes)
-}
-
-/// Adds the names that no command of the first dictionary has.
-fn push_missing(
-    alloc: Global,
-    out: &mut String,
-    texts: &InputTexts<'_>,
-    names: &[String],
-    books: &BothBooks,
-) -> Result<(), AllocError> {
-    let first = NamedSource {
-        name: texts.first.name,
-        source: &books.first.source,
-    };
-    let second = NamedSource {
-        name: texts.second.name,
-        source: &books.second.source,
-    };
-    push_unknown_commands(alloc, out, names, &first, &second)
 }

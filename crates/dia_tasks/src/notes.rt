@@ -3,11 +3,10 @@
 use dia_compat::Answer;
 use dia_explain_answers::{push_answer, push_unnamed};
 use dia_explain_inputs::{
-    NamedSource, push_empty, push_length, push_no_pairs, push_refused, push_strangers,
-    push_unknown_commands,
+    push_empty, push_length, push_no_pairs, push_refused, push_strangers, push_unknown_commands,
 };
 use dia_explain_places::InputTexts;
-use dia_report::{BothBooks, Compared, Report};
+use dia_report::{Compared, Report};
 use std::alloc::{AllocError, Global};
 
 /// Explains a report on standard error. `names` are those of the commands that were asked for. Where memory or the device fails,
@@ -46,7 +45,7 @@ fn explain(
     push_answer(alloc, &mut out, texts, report)?;
     match report {
         Report::Refused(bad) => push_refused(alloc, &mut out, texts, bad)?,
-        Report::NoCommand(books) => push_missing(alloc, &mut out, texts, names, books)?,
+        Report::NoCommand(books) => push_unknown_commands(alloc, &mut out, texts, names, books)?,
         Report::Invalid(found) => push_length(&mut out, &texts.message, &found.message)?,
         Report::Unrefuting(found) => push_length(&mut out, &texts.message, &found.message)?,
         Report::Compared(found) => push_table(alloc, &mut out, texts, found)?,
@@ -67,19 +66,6 @@ fn unnamed(alloc: Global, report: &Report, sign: &str) -> Result<String, AllocEr
     Ok(out)
 }
 
-/// Adds the names that no command of the first dictionary has.
-fn push_missing(
-    alloc: Global,
-    out: &mut String,
-    texts: &InputTexts<'_>,
-    names: &[String],
-    books: &BothBooks,
-) -> Result<(), AllocError> {
-    let first = first_of(texts, books);
-    let second = second_of(texts, books);
-    push_unknown_commands(alloc, out, names, &first, &second)
-}
-
 /// Adds what a table lacks: pairs of commands where the answer is yes, and else names that the dictionaries have.
 fn push_table(
     alloc: Global,
@@ -89,24 +75,6 @@ fn push_table(
 ) -> Result<(), AllocError> {
     match found.answer {
         Answer::Yes => push_no_pairs(out, texts, &found.table),
-        Answer::No { .. } => {
-            let first = first_of(texts, &found.books);
-            let second = second_of(texts, &found.books);
-            push_strangers(alloc, out, &texts.table, &first, &second)
-        }
-    }
-}
-
-fn first_of<'a>(texts: &InputTexts<'a>, books: &'a BothBooks) -> NamedSource<'a> {
-    NamedSource {
-        name: texts.first.name,
-        source: &books.first.source,
-    }
-}
-
-fn second_of<'a>(texts: &InputTexts<'a>, books: &'a BothBooks) -> NamedSource<'a> {
-    NamedSource {
-        name: texts.second.name,
-        source: &books.second.source,
+        Answer::No { .. } => push_strangers(alloc, out, texts, &found.books),
     }
 }
