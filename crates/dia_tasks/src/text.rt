@@ -71,9 +71,8 @@ fn explained<R: AllocGlobal + Eprint>(
     }
     let report = match report {
         dia_make::Report::Refused(bad) => Report::Refused(bad),
-        dia_make::Report::Done | dia_make::Report::Text(_) | dia_make::Report::Cut { .. } => {
-            Report::Done
-        }
+        dia_make::Report::Text(_told) => Report::Done,
+        dia_make::Report::Done | dia_make::Report::Cut { .. } => Report::Done,
     };
     Reported { exit, report }
 }
