@@ -24,7 +24,7 @@ type Kinds = Vec<(u32, bool, Option<u32>)>;
 struct Applications {
     first: Kinds,
     second: Kinds,
-    /// Those of the second for one application, where the first doesn't have them.
+    /// The commands of the second for one application that the first does not have.
     new: Kinds,
 }
 
