@@ -4,8 +4,9 @@ ghost use Rattle.std.specs.Prelude.{◌<◌, IfSome, length};
 ghost use Rattle.dia_book.specs.Dictionary.{definitions};
 
 use crate::rule_text::{m_word, push_vendor};
-use crate::texts::{Added, Scene, push_number};
+use crate::texts::{Scene, push_number};
 use dia_book::{Book, Class, DRule, DefHead, DefId, Definition, Format, Key, MRule, Slot};
+use dia_explain_places::Note;
 use dia_wire::Header;
 
 /// An AVP that a dictionary has.
@@ -31,12 +32,12 @@ pub fn avp_of<B: Book>(book: &B, key: Key) -> Option<Known<'_>> {
 }
 
 impl Scene for Known<'_> {
-    fn push_word(&self, out: &mut String, word: &str) -> Added {
+    fn push_word(&self, note: &mut Note, word: &str) {
         match word {
-            "name" => out.push_str(self.name),
-            "code" => push_number(out, self.key.code as usize),
-            "vendor" => push_vendor(out, self.key.vendor),
-            _ => out.push_str(self.declared_word(word)),
+            "name" => note.put(self.name),
+            "code" => push_number(note, self.key.code as usize),
+            "vendor" => push_vendor(note, self.key.vendor),
+            _ => note.put(self.declared_word(word)),
         }
     }
 }

@@ -2,9 +2,9 @@
 
 use crate::faults::{Message, push_refusal};
 use crate::sides::Side;
-use crate::texts::Added;
+use crate::texts::push_number;
 use dia_check::{Levels, Unknown};
-use dia_explain_places::InputTexts;
+use dia_explain_places::{InputTexts, Note};
 use dia_report::Invalid;
 
 /// How messages are checked.
@@ -21,11 +21,11 @@ impl Asked {
 }
 
 /// Adds the options that aren't the default.
-pub fn push_options(out: &mut String, asked: &Asked) -> Added {
-    out.push_str(policy_words(asked.unknown))?;
-    match asked.levels {
-        Levels::AtMost(most) => write!(out, " --levels {most}"),
-        Levels::Any => Ok(()),
+pub fn push_options(note: &mut Note, asked: &Asked) {
+    note.put(policy_words(asked.unknown));
+    if let Levels::AtMost(most) = asked.levels {
+        note.put(" --levels ");
+        push_number(note, most as usize);
     }
 }
 
@@ -38,9 +38,9 @@ pub fn policy_words(unknown: Unknown) -> &'static str {
 }
 
 /// Adds the first fault of a message.
-pub fn push_check(out: &mut String, texts: &InputTexts<'_>, found: &Invalid) -> Added {
+pub fn push_check(note: &mut Note, texts: &InputTexts<'_>, found: &Invalid) {
     let side = Side::of(&texts.first, &found.first);
     let message = Message::of(&texts.message, &found.message);
     let asked = Asked::new(found.unknown, found.levels);
-    push_refusal(out, &side, &message, &asked, &found.refusal)
+    push_refusal(note, &side, &message, &asked, &found.refusal)
 }

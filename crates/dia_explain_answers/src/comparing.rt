@@ -6,9 +6,8 @@ mod parts;
 mod reasons;
 
 use crate::sides::Side;
-use crate::texts::Added;
 use dia_compat::{Answer, Failing, PairKind, Test};
-use dia_explain_places::{InputTexts, push_start};
+use dia_explain_places::{InputTexts, Note};
 use dia_report::Compared;
 use pair::Pair;
 use pairing::{Pairing, place_of_pair};
@@ -16,9 +15,9 @@ use parts::push_lines;
 use reasons::{lines_of, more_of};
 
 /// Adds the note of the first pair of a table that fails a test.
-pub fn push_compare(out: &mut String, texts: &InputTexts<'_>, found: &Compared) -> Added {
+pub fn push_compare(note: &mut Note, texts: &InputTexts<'_>, found: &Compared) {
     let Answer::No { kind, pair, reason } = found.answer else {
-        return Ok(());
+        return;
     };
     let pairing = Pairing {
         a: Side::of(&texts.first, &found.books.first),
@@ -28,25 +27,19 @@ pub fn push_compare(out: &mut String, texts: &InputTexts<'_>, found: &Compared) 
         name: texts.table.name,
         text: texts.table.text,
     };
-    push_asked(out, &pairing, kind, pair, reason)?;
+    push_asked(note, &pairing, kind, pair, reason);
     match found.failings.first() {
-        Some(failing) => push_pair(out, &pairing, kind, pair, *failing),
-        None => Ok(()),
+        Some(failing) => push_pair(note, &pairing, kind, pair, *failing),
+        None => {}
     }
 }
 
 /// Adds the place of the pair in the table, and what the test asks.
-fn push_asked(
-    out: &mut String,
-    pairing: &Pairing<'_>,
-    kind: PairKind,
-    pair: usize,
-    test: Test,
-) -> Added {
+fn push_asked(note: &mut Note, pairing: &Pairing<'_>, kind: PairKind, pair: usize, test: Test) {
     let at = place_of_pair(pairing.text, kind, pair);
     let asked = asked_by(test, kind);
-    push_start(out, pairing.name, pairing.text, at)?;
-    write!(out, "this pair fails the test {asked}\n")
+    note.put_start(pairing.name, pairing.text, at);
+    note.put_all(&["this pair fails the test ", asked, "\n"]);
 }
 
 /// What a test is about.
@@ -70,33 +63,33 @@ fn asked_by(test: Test, kind: PairKind) -> &'static str {
 
 /// Adds why a pair fails the test. Of names that a dictionary doesn't have nothing is told here.
 fn push_pair(
-    out: &mut String,
+    note: &mut Note,
     pairing: &Pairing<'_>,
     kind: PairKind,
     number: usize,
     failing: Failing,
-) -> Added {
+) {
     let pairs = match kind {
         PairKind::Command => &pairing.table.commands,
         PairKind::Avp => &pairing.table.avps,
     };
     match (pairs.get(number), failing) {
-        (None, _) | (_, Failing::FirstName | Failing::SecondName) => Ok(()),
+        (None, _) | (_, Failing::FirstName | Failing::SecondName) => {}
         (Some(names), _) => {
             let pair = match kind {
                 PairKind::Command => Pair::of_commands(pairing, failing, names),
                 PairKind::Avp => Pair::of_avps(pairing, failing, names),
             };
-            push_failed(out, &pair, kind)
+            push_failed(note, &pair, kind)
         }
     }
 }
 
 /// Adds what shows that a pair fails the test, and what to do.
-fn push_failed(out: &mut String, pair: &Pair<'_>, kind: PairKind) -> Added {
-    push_lines(out, pair, lines_of(pair.failing))?;
-    push_lines(out, pair, more_of(pair))?;
-    push_lines(out, pair, listed_by(kind))
+fn push_failed(note: &mut Note, pair: &Pair<'_>, kind: PairKind) {
+    push_lines(note, pair, lines_of(pair.failing));
+    push_lines(note, pair, more_of(pair));
+    push_lines(note, pair, listed_by(kind))
 }
 
 /// What lists all that breaks.

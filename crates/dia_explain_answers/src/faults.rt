@@ -15,9 +15,9 @@ mod walk;
 use crate::books::{Level, definition};
 use crate::checking::Asked;
 use crate::sides::Side;
-use crate::texts::Added;
+use crate::texts::push_number;
 use dia_check::{Fault, Refusal};
-use dia_explain_places::{NamedText, place_of_byte, push_start};
+use dia_explain_places::{NamedText, Note, place_of_byte};
 use dia_wire::{Header, read_header};
 use header::push_header_fault;
 use in_body::InBody;
@@ -44,75 +44,77 @@ impl<'a> Message<'a> {
     }
 
     /// Begins a note: the place of a byte in the text, and the byte.
-    fn push_spot(&self, out: &mut String, byte: usize) -> Added {
-        push_start(out, self.name, self.text, place_of_byte(self.text, byte))?;
-        write!(out, "byte {byte}: ")
+    fn push_spot(&self, note: &mut Note, byte: usize) {
+        note.put_start(self.name, self.text, place_of_byte(self.text, byte));
+        note.put("byte ");
+        push_number(note, byte);
+        note.put(": ");
     }
 }
 
 /// Adds the fault of a message that isn't valid. Of bytes that are no message nothing is told here.
 pub fn push_refusal(
-    out: &mut String,
+    note: &mut Note,
     side: &Side<'_>,
     message: &Message<'_>,
     asked: &Asked,
     refusal: &Refusal,
-) -> Added {
+) {
     match (refusal, read_header(message.bytes)) {
         (Refusal::Fault(fault), Ok((header, _))) => {
-            push_fault(out, side, message, asked, &header, fault)
+            push_fault(note, side, message, asked, &header, fault)
         }
-        _ => Ok(()),
+        _ => {}
     }
 }
 
 /// Adds a fault, and that a request looks like an answer, where it may be the cause.
 fn push_fault(
-    out: &mut String,
+    note: &mut Note,
     side: &Side<'_>,
     message: &Message<'_>,
     asked: &Asked,
     header: &Header,
     fault: &Fault,
-) -> Added {
+) {
     match topic_of(fault.reason) {
-        Topic::Bytes => Ok(()),
-        Topic::Flags => push_in_header(out, side, message, header, fault),
+        Topic::Bytes => {}
+        Topic::Flags => push_in_header(note, side, message, header, fault),
         Topic::Command => {
-            push_in_header(out, side, message, header, fault)?;
-            push_result(out, side, header, message.bytes)
+            push_in_header(note, side, message, header, fault);
+            push_result(note, side, header, message.bytes)
         }
         Topic::Lengths | Topic::Rules | Topic::Avp => {
-            push_in_body(out, side, message, asked, header, fault)?;
-            push_result(out, side, header, message.bytes)
+            push_in_body(note, side, message, asked, header, fault);
+            push_result(note, side, header, message.bytes)
         }
     }
 }
 
 /// Adds the note of a fault in the header of a message.
 fn push_in_header(
-    out: &mut String,
+    note: &mut Note,
     side: &Side<'_>,
     message: &Message<'_>,
     header: &Header,
     fault: &Fault,
-) -> Added {
-    message.push_spot(out, fault.place as usize)?;
-    push_header_fault(out, side, header, fault.reason)
+) {
+    message.push_spot(note, fault.place as usize);
+    push_header_fault(note, side, header, fault.reason)
 }
 
 /// Adds the note of a fault in the body of a message.
 fn push_in_body(
-    out: &mut String,
+    note: &mut Note,
     side: &Side<'_>,
     message: &Message<'_>,
     asked: &Asked,
     header: &Header,
     fault: &Fault,
-) -> Added {
+) {
     let body = Level::body(header);
     let Some(command) = definition(side.book, body) else {
-        return Ok(());
+        return;
     };
     let scene = InBody {
         side: *side,
@@ -124,5 +126,5 @@ fn push_in_body(
         groups: &[],
         counting: None,
     };
-    scene.push_in_groups(out)
+    scene.push_in_groups(note)
 }

@@ -1,7 +1,8 @@
 //! What is told of messages that stand a line each, and aren't kept: how one is explained by itself.
 
 use crate::checking::{Asked, push_options};
-use crate::texts::{Added, Scene, push_text};
+use crate::texts::{Scene, push_text};
+use dia_explain_places::Note;
 
 /// The word of standard input.
 const STANDARD_INPUT: &str = "-";
@@ -17,12 +18,7 @@ struct Alone<'a> {
 }
 
 /// Adds the command that explains one line of `check`. `messages` is the word that names the text of all.
-pub fn push_check_alone(
-    out: &mut String,
-    messages: &str,
-    asked: &Asked,
-    dictionary: &str,
-) -> Added {
+pub fn push_check_alone(note: &mut Note, messages: &str, asked: &Asked, dictionary: &str) {
     let scene = Alone {
         messages,
         asked: *asked,
@@ -30,7 +26,7 @@ pub fn push_check_alone(
         second: "",
     };
     push_text(
-        out,
+        note,
         &scene,
         if messages == STANDARD_INPUT {
             "hint: of a line alone, `diacmd check{options} {first} -` explains the fault\n"
@@ -43,12 +39,12 @@ pub fn push_check_alone(
 
 /// Adds the command that explains one line of `refute`. `messages` is the word that names the text of all.
 pub fn push_refute_alone(
-    out: &mut String,
+    note: &mut Note,
     messages: &str,
     asked: &Asked,
     first: &str,
     second: &str,
-) -> Added {
+) {
     let scene = Alone {
         messages,
         asked: *asked,
@@ -56,7 +52,7 @@ pub fn push_refute_alone(
         second,
     };
     push_text(
-        out,
+        note,
         &scene,
         if messages == STANDARD_INPUT {
             "hint: of a line alone, `diacmd refute{options} {first} {second} -` explains the answer\n"
@@ -68,12 +64,12 @@ pub fn push_refute_alone(
 }
 
 impl Scene for Alone<'_> {
-    fn push_word(&self, out: &mut String, word: &str) -> Added {
+    fn push_word(&self, note: &mut Note, word: &str) {
         match word {
-            "messages" => out.push_str(self.messages),
-            "first" => out.push_str(self.first),
-            "second" => out.push_str(self.second),
-            _ => push_options(out, &self.asked),
+            "messages" => note.put(self.messages),
+            "first" => note.put(self.first),
+            "second" => note.put(self.second),
+            _ => push_options(note, &self.asked),
         }
     }
 }

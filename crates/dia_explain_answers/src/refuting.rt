@@ -4,18 +4,18 @@ use crate::books::{Level, definition, name_of};
 use crate::checking::{Asked, policy_words};
 use crate::faults::{Message, push_refusal};
 use crate::sides::Side;
-use crate::texts::{Added, Scene, push_text};
+use crate::texts::{Scene, push_number, push_text};
 use dia_check::{Fault, Refusal};
 use dia_dict::IndexedBook;
-use dia_explain_places::InputTexts;
+use dia_explain_places::{InputTexts, Note};
 use dia_report::Unrefuting;
 use dia_wire::read_header;
 
 /// Adds that a message isn't valid under the first dictionary, or is valid under both.
-pub fn push_refute(out: &mut String, texts: &InputTexts<'_>, found: &Unrefuting) -> Added {
+pub fn push_refute(note: &mut Note, texts: &InputTexts<'_>, found: &Unrefuting) {
     match &found.under_first {
-        Ok(_) => push_both(out, texts, found),
-        Err(refusal) => push_not_first(out, texts, found, refusal),
+        Ok(_) => push_both(note, texts, found),
+        Err(refusal) => push_not_first(note, texts, found, refusal),
     }
 }
 
@@ -27,9 +27,9 @@ struct Both<'a> {
 }
 
 /// Adds that a message is valid under both dictionaries.
-fn push_both(out: &mut String, texts: &InputTexts<'_>, found: &Unrefuting) -> Added {
+fn push_both(note: &mut Note, texts: &InputTexts<'_>, found: &Unrefuting) {
     push_text(
-        out,
+        note,
         &Both { texts, found },
         "{message}: the message is valid under both dictionaries: {left} in {a}, {right} in {b}\n\
          hint: `diacmd breaking --messages{policy} {a} {b} {left}` lists what breaks, each with a message that shows it\n",
@@ -37,9 +37,9 @@ fn push_both(out: &mut String, texts: &InputTexts<'_>, found: &Unrefuting) -> Ad
 }
 
 impl Scene for Both<'_> {
-    fn push_word(&self, out: &mut String, word: &str) -> Added {
+    fn push_word(&self, note: &mut Note, word: &str) {
         let (texts, found) = (self.texts, self.found);
-        out.push_str(match word {
+        note.put(match word {
             "message" => texts.message.name,
             "a" => texts.first.name,
             "b" => texts.second.name,
@@ -59,54 +59,40 @@ fn command_name<'a>(book: &'a IndexedBook, message: &[u8]) -> &'a str {
 }
 
 /// Adds that a message isn't valid under the first dictionary, its fault, and where the second accepts it, that.
-fn push_not_first(
-    out: &mut String,
-    texts: &InputTexts<'_>,
-    found: &Unrefuting,
-    refusal: &Refusal,
-) -> Added {
-    push_verdict(out, texts.message.name, texts.first.name, refusal)?;
-    push_fault(out, texts, found, refusal)?;
+fn push_not_first(note: &mut Note, texts: &InputTexts<'_>, found: &Unrefuting, refusal: &Refusal) {
+    push_verdict(note, texts.message.name, texts.first.name, refusal);
+    push_fault(note, texts, found, refusal);
     match found.under_second {
-        Ok(_) => push_second(out, texts.second.name),
-        Err(_) => Ok(()),
+        Ok(_) => push_second(note, texts.second.name),
+        Err(_) => {}
     }
 }
 
 /// Adds the fault of the message under the first dictionary.
-fn push_fault(
-    out: &mut String,
-    texts: &InputTexts<'_>,
-    found: &Unrefuting,
-    refusal: &Refusal,
-) -> Added {
+fn push_fault(note: &mut Note, texts: &InputTexts<'_>, found: &Unrefuting, refusal: &Refusal) {
     let side = Side::of(&texts.first, &found.books.first);
     let message = Message::of(&texts.message, &found.message);
     let asked = Asked::new(found.unknown, found.levels);
-    push_refusal(out, &side, &message, &asked, refusal)
+    push_refusal(note, &side, &message, &asked, refusal)
 }
 
 /// Adds that the message is valid under the second dictionary.
-fn push_second(out: &mut String, second: &str) -> Added {
-    write!(
-        out,
-        "hint: it is valid under {second}: the dictionary of the side that sends the message stands first\n"
-    )
+fn push_second(note: &mut Note, second: &str) {
+    let stands = ": the dictionary of the side that sends the message stands first\n";
+    note.put_all(&["hint: it is valid under ", second, stands]);
 }
 
-fn push_verdict(out: &mut String, message: &str, first: &str, refusal: &Refusal) -> Added {
-    let what = match refusal {
+fn push_verdict(note: &mut Note, message: &str, first: &str, refusal: &Refusal) {
+    note.put_all(&[message, ": the message isn't valid under ", first, ": "]);
+    match refusal {
         Refusal::Fault(Fault { code, place, .. }) => {
-            return write!(
-                out,
-                "{message}: the message isn't valid under {first}: fault {code} at {place}\n"
-            );
+            note.put("fault ");
+            push_number(note, *code as usize);
+            note.put(" at ");
+            push_number(note, *place as usize);
         }
-        Refusal::Truncated => "truncated",
-        _ => "trailing",
-    };
-    write!(
-        out,
-        "{message}: the message isn't valid under {first}: {what}\n"
-    )
+        Refusal::Truncated => note.put("truncated"),
+        _ => note.put("trailing"),
+    }
+    note.put("\n");
 }

@@ -1,31 +1,34 @@
 //! Rules, counts, keys and M rules as a dictionary's text has them.
 
 use crate::sides::Side;
-use crate::texts::Added;
-use dia_book::{DRule, Key, MRule, RuleKind};
+use crate::texts::push_number;
+use dia_book::{DRule, Format, Key, MRule, RuleKind};
+use dia_data::push_value;
+use dia_explain_places::Note;
+use std::alloc::{AllocError, Global};
 
 /// Adds a rule as a text has it, with a qualifier where its counts aren't those of its brackets.
-pub fn push_rule(out: &mut String, side: &Side<'_>, rule: &DRule) -> Added {
+pub fn push_rule(note: &mut Note, side: &Side<'_>, rule: &DRule) {
     let (open, close, plain, starred) = brackets(rule.kind);
-    push_qualifier(out, rule, plain, starred)?;
-    out.push_str(open)?;
-    push_slot(out, side, rule, "AVP")?;
-    out.push_str(close)
+    push_qualifier(note, rule, plain, starred);
+    note.put(open);
+    push_slot(note, side, rule, "AVP");
+    note.put(close)
 }
 
 /// Adds `{ X } for < X >`: what to write for a fixed rule so that its AVPs may stand anywhere.
-pub fn push_loose(out: &mut String, side: &Side<'_>, rule: &DRule) -> Added {
+pub fn push_loose(note: &mut Note, side: &Side<'_>, rule: &DRule) {
     let kind = RuleKind::Required;
-    push_rule(out, side, &DRule { kind, ..*rule })?;
-    out.push_str(" for ")?;
-    push_rule(out, side, rule)
+    push_rule(note, side, &DRule { kind, ..*rule });
+    note.put(" for ");
+    push_rule(note, side, rule)
 }
 
 /// Adds what a rule is for. `any` is what a rule for AVP is for.
-pub fn push_slot(out: &mut String, side: &Side<'_>, rule: &DRule, any: &str) -> Added {
+pub fn push_slot(note: &mut Note, side: &Side<'_>, rule: &DRule, any: &str) {
     match rule.key {
-        Some(key) => side.push_name(out, key),
-        None => out.push_str(any),
+        Some(key) => side.push_name(note, key),
+        None => note.put(any),
     }
 }
 
@@ -38,28 +41,35 @@ fn brackets(kind: RuleKind) -> (&'static str, &'static str, u32, u32) {
     }
 }
 
-fn push_qualifier(out: &mut String, rule: &DRule, plain: u32, starred: u32) -> Added {
+fn push_qualifier(note: &mut Note, rule: &DRule, plain: u32, starred: u32) {
     let DRule { min, max, .. } = *rule;
     if min == plain && max == Some(1) {
-        return Ok(());
+        return;
     }
     if min != starred {
-        write!(out, "{min}")?;
+        push_number(note, min as usize);
     }
-    match max {
-        Some(max) => write!(out, "*{max} "),
-        None => out.push_str("* "),
+    note.put("*");
+    if let Some(max) = max {
+        push_number(note, max as usize);
     }
+    note.put(" ");
 }
 
 /// Adds the counts of a rule: `3`, `0..1` or `1..*`.
-pub fn push_counts(out: &mut String, rule: &DRule) -> Added {
-    let DRule { min, max, .. } = *rule;
-    write!(out, "{min}")?;
+pub fn push_counts(note: &mut Note, rule: &DRule) {
+    push_number(note, rule.min as usize);
+    if rule.max != Some(rule.min) {
+        note.put("..");
+        push_most(note, rule.max);
+    }
+}
+
+/// Adds a greatest count, or a star where there is none.
+fn push_most(note: &mut Note, max: Option<u32>) {
     match max {
-        Some(max) if max == min => Ok(()),
-        Some(max) => write!(out, "..{max}"),
-        None => out.push_str("..*"),
+        Some(max) => push_number(note, max as usize),
+        None => note.put("*"),
     }
 }
 
@@ -83,22 +93,34 @@ pub fn widened(rule: &DRule, other: &DRule) -> DRule {
 }
 
 /// Adds a code, and behind it the vendor, where there is one. `between` is the word between the two.
-pub fn push_key(out: &mut String, key: Key, between: &str) -> Added {
+pub fn push_key(note: &mut Note, key: Key, between: &str) {
     let Key { code, vendor } = key;
-    write!(out, "{code}")?;
-    match vendor {
-        0 => Ok(()),
-        _ => write!(out, "{between}{vendor}"),
+    push_number(note, code as usize);
+    if vendor > 0 {
+        note.put(between);
+        push_number(note, vendor as usize);
     }
 }
 
 /// Adds `no vendor` or `vendor N`.
-pub fn push_vendor(out: &mut String, vendor: u32) -> Added {
+pub fn push_vendor(note: &mut Note, vendor: u32) {
     if vendor == 0 {
-        out.push_str("no vendor")
+        note.put("no vendor")
     } else {
-        write!(out, "vendor {vendor}")
+        note.put("vendor ");
+        push_number(note, vendor as usize);
     }
+}
+
+/// Adds data of a format as `show` prints it.
+pub fn push_shown_value(note: &mut Note, format: &Format, data: &[u8]) {
+    note.put_made(value_of(note.allocator(), format, data));
+}
+
+fn value_of(alloc: Global, format: &Format, data: &[u8]) -> Result<String, AllocError> {
+    let mut value = String::new(alloc);
+    push_value(&mut value, format, data)?;
+    Ok(value)
 }
 
 /// The word of an M rule.

@@ -1,11 +1,11 @@
 //! Dictionaries with the texts that they were read from, and where the parts of these stand.
 
 use crate::books::avp_of;
-use crate::texts::{Added, Scene, push_text};
+use crate::texts::{Scene, push_text};
 use dia_book::{DefHead, Definition, Key};
 use dia_ccf::{Def, Source};
 use dia_dict::{IndexedBook, Part, PartKind};
-use dia_explain_places::{NamedText, name_from, part_place, push_excerpt, push_start};
+use dia_explain_places::{NamedText, Note, name_from, part_place};
 use dia_report::ReadBook;
 
 /// A dictionary, the word that names its text, the text, and what the text says.
@@ -29,27 +29,24 @@ impl<'a> Side<'a> {
     }
 
     /// Adds a line about a part of the text, or about the dictionary, and shows the text there.
-    pub fn push_part<S: Scene>(
-        &self,
-        out: &mut String,
-        at: Option<usize>,
-        scene: &S,
-        told: &str,
-    ) -> Added {
-        push_start(out, self.name, self.text.as_bytes(), at)?;
-        push_text(out, scene, told)?;
-        out.push('\n')?;
-        match at {
-            Some(at) => push_excerpt(*out.allocator(), out, self.text.as_bytes(), at),
-            None => Ok(()),
+    pub fn push_part<S: Scene>(&self, note: &mut Note, at: Option<usize>, scene: &S, told: &str) {
+        let text = self.text.as_bytes();
+        note.put_start(self.name, text, at);
+        push_text(note, scene, told);
+        note.put("\n");
+        if let Some(at) = at {
+            note.put_excerpt(text, at);
         }
     }
 
     /// Adds the name of an AVP, or its code and vendor where the dictionary doesn't know it.
-    pub fn push_name(&self, out: &mut String, key: Key) -> Added {
+    pub fn push_name(&self, note: &mut Note, key: Key) {
         match avp_of(self.book, key) {
-            Some(known) => out.push_str(known.name),
-            None => write!(out, "{key}"),
+            Some(known) => note.put(known.name),
+            None => {
+                let alloc = note.allocator();
+                note.put_made(format!(in alloc; "{key}"));
+            }
         }
     }
 

@@ -1,32 +1,28 @@
 //! Texts with words in braces, which stand for values of what the text is about.
 
-use std::alloc::AllocError;
-
-/// What adding to a note answers.
-pub type Added = Result<(), AllocError>;
+use dia_explain_places::Note;
 
 /// What a text is about.
 pub trait Scene {
     /// Adds what a word stands for.
-    fn push_word(&self, out: &mut String, word: &str) -> Added;
+    fn push_word(&self, note: &mut Note, word: &str);
 }
 
 /// Adds a text, with the values of its words.
-pub fn push_text<S: Scene>(out: &mut String, scene: &S, text: &str) -> Added {
+pub fn push_text<S: Scene>(note: &mut Note, scene: &S, text: &str) {
     for piece in text.split('{') {
-        push_piece(out, scene, piece)?;
+        push_piece(note, scene, piece);
     }
-    Ok(())
 }
 
 /// Adds the value of a word, and the text behind it, or the text in front of the first word.
-fn push_piece<S: Scene>(out: &mut String, scene: &S, piece: &str) -> Added {
+fn push_piece<S: Scene>(note: &mut Note, scene: &S, piece: &str) {
     match piece.split_once('}') {
         Some((word, rest)) => {
-            scene.push_word(out, word)?;
-            out.push_str(rest)
+            scene.push_word(note, word);
+            note.put(rest)
         }
-        None => out.push_str(piece),
+        None => note.put(piece),
     }
 }
 
@@ -36,12 +32,12 @@ pub fn fault_and_hint(text: &str) -> (&str, &str) {
 }
 
 /// Adds what to do.
-pub fn push_hint<S: Scene>(out: &mut String, scene: &S, text: &str) -> Added {
-    out.push_str("hint: ")?;
-    push_text(out, scene, text)?;
-    out.push('\n')
+pub fn push_hint<S: Scene>(note: &mut Note, scene: &S, text: &str) {
+    note.put("hint: ");
+    push_text(note, scene, text);
+    note.put("\n")
 }
 
-pub fn push_number(out: &mut String, number: usize) -> Added {
-    write!(out, "{number}")
+pub fn push_number(note: &mut Note, number: usize) {
+    note.put_number(number as u64);
 }

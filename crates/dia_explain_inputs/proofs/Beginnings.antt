@@ -1,5 +1,5 @@
 -- The first of what is told of a dictionary, and its line.
-use Rattle.std.proofs.Common.{◌≡◌, ℕ, ◌+◌, ◌<◌, ◌≤◌, List, [], ◌∷◌, ◌++◌, length, map, take, drop, Option, Some, slice_get, sym, ap, subst, ◌∙◌, append_assoc, ⊎_elim, arith}
+use Rattle.std.proofs.Common.{◌≡◌, ℕ, ◌+◌, ◌<◌, ◌≤◌, List, [], ◌∷◌, ◌++◌, length, map, take, drop, Option, Some, None, slice_get, refl, sym, ap, subst, ◌∙◌, append_assoc, ⊎_elim, arith}
 use Rattle.std.proofs.lemmas.Bool.{cases_order}
 use Rattle.std.proofs.lemmas.List.{take-append-drop, take-take}
 use Rattle.dia_ccf.specs.declared.fault.CcfFault.{CcfFault}
@@ -8,16 +8,18 @@ use Rattle.dia_ccf.specs.declared.refused.Misfit.{Misfit}
 use Rattle.dia_ccf.specs.Tokens.{Token, tokens}
 use Rattle.dia_ccf.specs.Grammar.{Derives}
 use Rattle.dia_ccf.specs.Faults.{CanBegin, IsFirstFault, IsFault, line_of}
+use Rattle.dia_ccf.specs.Plain.{plain_source}
 use Rattle.dia_ccf.specs.Refusals.{IsMisfit}
 use Rattle.dia_dict.specs.declared.findings.Finding.{Finding}
-use Rattle.dia_dict.specs.Resolution.{Wrong, PlainFinding}
-use Rattle.dia_dict.specs.SourceChecks.{plain_finding}
-use Rattle.std.specs.Prelude.{codes}
-use Rattle.dia_ccf.specs.declared.source.Source.{Source}
 use Rattle.dia_dict.specs.declared.findings.Part.{Part}
+use Rattle.dia_dict.specs.Resolution.{PlainFinding, wrong, all_findings}
+use Rattle.dia_dict.specs.SourceChecks.{plain_finding}
+use Rattle.dia_report.specs.declared.wrong_source.WrongSource.{WrongSource}
+use Rattle.std.specs.Prelude.{IfSome, codes, string_bytes}
+use Rattle.dia_explain_places.specs.Notes.{Gains}
 use Rattle.dia_explain_places.specs.Parts.{part_place}
 use Rattle.dia_explain_places.specs.Places.{line_at, place_text, start_text, excerpt}
-use Rattle.dia_explain_inputs.specs.Beginnings.{told_line, note_text, BeginsWith, LineBegins, MisfitBegins}
+use Rattle.dia_explain_inputs.specs.Beginnings.{told_line, note_text, BeginsWith, LineBegins, MisfitBegins, TellsFirst}
 
 -- ---- the line of a text that the grammar refuses
 
@@ -47,53 +49,74 @@ line_of_fault text fault.NoMemory n k is told here = absurd cc
 pub misfit_line : (text : List ℕ) (m : Misfit) (n : ℕ) → IsMisfit text m → told_line m.fault ≡ Some n → line_at text m.at ≡ n
 misfit_line text m n is told = ap (line_at text) is.place ∙ line_of_fault text m.fault n is.token is.told told is.first
 
--- ---- the first finding
+-- ---- what a note gains
 
-first_is : (f : Finding) (fs : List PlainFinding) (w : Wrong) → slice_get (map (λ (g : PlainFinding). g.wrong) (plain_finding f ∷ fs)) 0 ≡ Some w → (plain_finding f).wrong ≡ w
-first_is f fs w is = cc
+gains_none : (old new : Option (List ℕ)) (text : List ℕ) → new ≡ None → Gains old new text
+gains_none None new text none = none
+gains_none (Some before) new text none = subst (λ (o : Option (List ℕ)). IfSome o (λ now. now ≡ before ++ text)) (sym none) tt
 
--- what is told of a source is its first finding
-pub first_finding : (all : List PlainFinding) (findings : List Finding) (f : Finding) (w : Wrong) → map plain_finding findings ≡ all
-    → slice_get (map (λ (g : PlainFinding). g.wrong) all) 0 ≡ Some w → slice_get findings 0 ≡ Some f
-    → (slice_get all 0 ≡ Some (plain_finding f)) × ((plain_finding f).wrong ≡ w)
-first_finding all [] f w is told first = absurd cc
-first_finding all (g ∷ gs) f w is told first =
-    let same : g ≡ f = cc in
-    let front : slice_get all 0 ≡ Some (plain_finding f) = ap (λ xs. slice_get xs 0) (sym is) ∙ ap (λ h. Some (plain_finding h)) same in (
-      front,
-      first_is f (map plain_finding gs) w (ap (λ (h : Finding). slice_get (map (λ (x : PlainFinding). x.wrong) (plain_finding h ∷ map plain_finding gs)) 0) (sym same)
-          ∙ ap (λ (xs : List PlainFinding). slice_get (map (λ (x : PlainFinding). x.wrong) xs) 0) is ∙ told),
-    )
+-- a text, and one behind it
+pub gains_more : (old mid new : Option (List ℕ)) (text more : List ℕ) → Gains old mid text → Gains mid new more → Gains old new (text ++ more)
+gains_more None mid new text more first then = subst (λ (o : Option (List ℕ)). Gains o new more) first then
+gains_more (Some before) None new text more first then = gains_none (Some before) new (text ++ more) then
+gains_more (Some before) (Some there) None text more first then = tt
+gains_more (Some before) (Some there) (Some now) text more first then = then ∙ ap (λ xs. xs ++ more) first ∙ append_assoc before text more
 
--- ---- what is added
+-- ---- how a note begins
+
+-- where memory is refused, it begins as any text does
+begins_none : (front : List ℕ) (old new : Option (List ℕ)) → new ≡ None → BeginsWith front old new
+begins_none front old new none = record { rest = []; added = gains_none old new (front ++ []) none }
+
+-- with more behind it, it begins as before
+pub begins_more : (front more : List ℕ) (old mid new : Option (List ℕ)) → BeginsWith front old mid → Gains mid new more → BeginsWith front old new
+begins_more front more old mid new begins then = record {
+  rest = begins.rest ++ more;
+  added = subst (λ (xs : List ℕ). Gains old new xs) (append_assoc front begins.rest more) (gains_more old mid new (front ++ begins.rest) more begins.added then);
+}
 
 -- a note about a place begins with it
-pub begins_note : (name text told old mid : List ℕ) (at : ℕ) → mid ≡ old ++ note_text name text at told → BeginsWith (place_text name text at) old mid
-begins_note name text told old mid at is = record {
+pub begins_note : (name text told : List ℕ) (at : ℕ) (old new : Option (List ℕ)) → Gains old new (note_text name text at told) → BeginsWith (place_text name text at) old new
+begins_note name text told at old new gains = record {
   rest = (told ++ codes "\n") ++ excerpt text at;
-  added = is ∙ ap (λ xs. old ++ xs) (simp append_assoc);
+  added = subst (λ (xs : List ℕ). Gains old new xs) (simp append_assoc) gains;
 }
 
--- and so does one with more behind it
-pub begins_more : (front old mid more new : List ℕ) → BeginsWith front old mid → new ≡ mid ++ more → BeginsWith front old new
-begins_more front old mid more new begins is = record { rest = begins.rest ++ more; added = is ∙ ap (λ xs. xs ++ more) begins.added ∙ simp append_assoc }
-
--- and one about a word of a table's line, on that line
-pub line_begins : (name text old new : List ℕ) (n start at : ℕ) → line_at text at ≡ line_at text start
+-- and one about a word of a table's line on that line
+pub line_begins : (name text : List ℕ) (n start at : ℕ) (old new : Option (List ℕ)) → line_at text at ≡ line_at text start
     → ((k : ℕ) → k ≤ length text → line_at text k ≡ n → line_at text start ≡ n) → BeginsWith (place_text name text at) old new → LineBegins name text n old new
-line_begins name text old new n start at same there begins k within here = record { at = at; on_line = same ∙ there k within here; begins = begins }
+line_begins name text n start at old new same there begins k within here = record { at = at; on_line = same ∙ there k within here; begins = begins }
 
--- and one about a part of a source, whose text and whose source are known by other names
-pub begins_start : (name text bytes : List ℕ) (source other : Source) (part : Option Part) (at : Option ℕ) (old mid new more : List ℕ)
-    → bytes ≡ text → other ≡ source → at ≡ part_place text other part → mid ≡ old ++ start_text name bytes at → new ≡ mid ++ more
-    → BeginsWith (start_text name text (part_place text source part)) old new
-begins_start name text bytes source other part at old mid new more are same is_at is_mid is_new = record {
-  rest = more;
-  added = is_new ∙ ap (λ (xs : List ℕ). xs ++ more) (is_mid ∙ ap (λ (b : List ℕ). old ++ start_text name b at) are
-      ∙ ap (λ (o : Option ℕ). old ++ start_text name text o) (is_at ∙ ap (λ (s : Source). part_place text s part) same))
-      ∙ append_assoc old (start_text name text (part_place text source part)) more;
-}
+-- and one about a text that the grammar refuses on the line that is told
+pub misfit_begins : (name text : List ℕ) (m : Misfit) (old new : Option (List ℕ)) → BeginsWith (place_text name text m.at) old new → MisfitBegins name text m old new
+misfit_begins name text m old new begins n is told = record { at = m.at; on_line = misfit_line text m n is told; begins = begins }
 
--- and one about a text that the grammar refuses, on the line that is told
-pub misfit_begins : (name text old new : List ℕ) (m : Misfit) → BeginsWith (place_text name text m.at) old new → MisfitBegins name text m old new
-misfit_begins name text old new m begins n is told = record { at = m.at; on_line = misfit_line text m n is told; begins = begins }
+-- ---- the first finding
+
+-- where memory is refused, the note of it begins as any text does
+first_none : (all : List PlainFinding) (front : Option Part → List ℕ) (old new : Option (List ℕ)) → new ≡ None → IfSome (slice_get all 0) (λ g. BeginsWith (front g.part) old new)
+first_none [] front old new none = tt
+first_none (g ∷ gs) front old new none = begins_none (front g.part) old new none
+
+first_told : (findings : List Finding) (front : Option Part → List ℕ) (old new : Option (List ℕ)) → IfSome (slice_get findings 0) (λ f. BeginsWith (front f.part) old new)
+    → IfSome (slice_get (map plain_finding findings) 0) (λ g. BeginsWith (front g.part) old new)
+first_told [] front old new begins = tt
+first_told (f ∷ fs) front old new begins = begins
+
+tells_first : (name text : List ℕ) (w : WrongSource) (all : List PlainFinding) (old new : Option (List ℕ)) → all ≡ all_findings (plain_source w.source.value)
+    → slice_get (map (λ (g : PlainFinding). g.wrong) all) 0 ≡ Some (wrong w.kind (string_bytes w.name) (string_bytes w.slot))
+    → IfSome (slice_get all 0) (λ g. BeginsWith (start_text name text (part_place text w.source.value g.part)) old new) → TellsFirst name text w old new
+tells_first name text w [] old new are told begins = absurd cc
+tells_first name text w (g ∷ gs) old new are told begins = record { finding = g; first = ap (λ xs. slice_get xs 0) (sym are); same = cc; begins = begins }
+
+-- the first of a source's findings is told
+pub tells_found : (name text : List ℕ) (w : WrongSource) (findings : List Finding) (old new : Option (List ℕ)) → map plain_finding findings ≡ all_findings (plain_source w.source.value)
+    → IfSome (slice_get findings 0) (λ f. BeginsWith (start_text name text (part_place text w.source.value f.part)) old new) → TellsFirst name text w old new
+tells_found name text w findings old new are begins =
+    tells_first name text w (map plain_finding findings) old new are (ap (λ xs. slice_get (map (λ (g : PlainFinding). g.wrong) xs) 0) are ∙ w.first)
+    (first_told findings (λ part. start_text name text (part_place text w.source.value part)) old new begins)
+
+pub tells_none : (name text : List ℕ) (w : WrongSource) (old new : Option (List ℕ)) → new ≡ None → TellsFirst name text w old new
+tells_none name text w old new none =
+    tells_first name text w (all_findings (plain_source w.source.value)) old new refl w.first
+    (first_none (all_findings (plain_source w.source.value)) (λ part. start_text name text (part_place text w.source.value part)) old new none)

@@ -16,6 +16,7 @@ use Rattle.dia_report.specs.declared.bad_input.BadTable.{BadTable}
 use Rattle.dia_report.specs.declared.bad_input.BadTable.TheVariants as table
 use Rattle.dia_explain_places.specs.declared.input_texts.InputTexts.{InputTexts}
 use Rattle.dia_explain_places.specs.declared.input_texts.NamedText.{NamedText}
+use Rattle.dia_explain_places.specs.Notes.{Gains}
 use Rattle.dia_explain_places.specs.Parts.{part_place}
 use Rattle.dia_explain_places.specs.Places.{line_at, place_text, start_text, excerpt}
 
@@ -23,20 +24,20 @@ use Rattle.dia_explain_places.specs.Places.{line_at, place_text, start_text, exc
 abbrev pub note_text : List ℕ → List ℕ → ℕ → List ℕ → List ℕ
 note_text name text at told = place_text name text at ++ told ++ codes "\n" ++ excerpt text at
 
--- what is added begins with this
-pub record BeginsWith (front old new : List ℕ) : Type 0 where
+-- what a note has gained begins with this
+pub record BeginsWith (front : List ℕ) (old new : Option (List ℕ)) : Type 0 where
   pub rest : List ℕ
-  pub added : new ≡ old ++ (front ++ rest)
+  pub added : Gains old new (front ++ rest)
 
 -- a note begins with the place of a finding: the first of a source, which is what standard output tells
-pub record TellsFirst (name text : List ℕ) (w : WrongSource) (old new : List ℕ) : Type 0 where
+pub record TellsFirst (name text : List ℕ) (w : WrongSource) (old new : Option (List ℕ)) : Type 0 where
   pub finding : PlainFinding
   pub first : slice_get (all_findings (plain_source w.source.value)) 0 ≡ Some finding
   pub same : finding.wrong ≡ wrong w.kind (string_bytes w.name) (string_bytes w.slot)
   pub begins : BeginsWith (start_text name text (part_place text w.source.value finding.part)) old new
 
 -- a note begins with a place on a line of the text
-pub record BeginsOnLine (name text : List ℕ) (n : ℕ) (old new : List ℕ) : Type 0 where
+pub record BeginsOnLine (name text : List ℕ) (n : ℕ) (old new : Option (List ℕ)) : Type 0 where
   pub at : ℕ
   pub on_line : line_at text at ≡ n
   pub begins : BeginsWith (place_text name text at) old new
@@ -49,19 +50,19 @@ told_line (fault.Limit n) = Some n
 told_line fault.NoMemory = None
 
 -- a note begins on that line
-abbrev pub MisfitBegins : List ℕ → List ℕ → Misfit → List ℕ → List ℕ → Type 0
+abbrev pub MisfitBegins : List ℕ → List ℕ → Misfit → Option (List ℕ) → Option (List ℕ) → Type 0
 MisfitBegins name text misfit old new = (n : ℕ) → IsMisfit text misfit → told_line misfit.fault ≡ Some n → BeginsOnLine name text n old new
 
-abbrev pub DictionaryBegins : List ℕ → List ℕ → BadDictionary → List ℕ → List ℕ → Type 0
+abbrev pub DictionaryBegins : List ℕ → List ℕ → BadDictionary → Option (List ℕ) → Option (List ℕ) → Type 0
 DictionaryBegins name text (dictionary.NoSource misfit) old new = MisfitBegins name text misfit old new
 DictionaryBegins name text (dictionary.Wrong found) old new = TellsFirst name text found old new
 DictionaryBegins name text why old new = ⊤
 
 -- the same of line n, where the text has it
-abbrev pub LineBegins : List ℕ → List ℕ → ℕ → List ℕ → List ℕ → Type 0
+abbrev pub LineBegins : List ℕ → List ℕ → ℕ → Option (List ℕ) → Option (List ℕ) → Type 0
 LineBegins name text n old new = (k : ℕ) → k ≤ length text → line_at text k ≡ n → BeginsOnLine name text n old new
 
-abbrev pub TableBegins : List ℕ → List ℕ → BadTable → List ℕ → List ℕ → Type 0
+abbrev pub TableBegins : List ℕ → List ℕ → BadTable → Option (List ℕ) → Option (List ℕ) → Type 0
 TableBegins name text (table.Syntax n) old new = LineBegins name text n old new
 TableBegins name text (table.Limit n) old new = LineBegins name text n old new
 TableBegins name text why old new = ⊤
@@ -71,7 +72,7 @@ abbrev pub dictionary_text : InputTexts → ℕ → NamedText
 dictionary_text texts number = if number == 1 then texts.first else texts.second
 
 -- the note of an input that is refused
-abbrev pub NoteBegins : InputTexts → BadInput → List ℕ → List ℕ → Type 0
+abbrev pub NoteBegins : InputTexts → BadInput → Option (List ℕ) → Option (List ℕ) → Type 0
 NoteBegins texts (Dictionary number why) old new = let input = dictionary_text texts number in
     IsUtf8 input.text.now → DictionaryBegins input.name.now input.text.now why old new
 NoteBegins texts (Table why) old new = TableBegins texts.table.name.now texts.table.text.now why old new

@@ -1,12 +1,10 @@
 //! Names of commands that the first dictionary doesn't have.
 
 use crate::names::{Named, NamedSource, Vocabulary};
-use crate::notes::{Added, push_texts};
 use crate::sides::{first_of, second_of};
 use dia_ccf::Def;
-use dia_explain_places::InputTexts;
+use dia_explain_places::{InputTexts, Note};
 use dia_report::BothBooks;
-use std::alloc::{AllocError, Global};
 
 /// The most commands of a dictionary that are listed.
 const MOST_LISTED: usize = 30;
@@ -16,98 +14,83 @@ const MOST: usize = 50;
 
 /// Adds the names that no command of the first dictionary has, what may be meant, and how to list the commands.
 pub fn push_unknown_commands(
-    alloc: Global,
-    out: &mut String,
+    note: &mut Note,
     texts: &InputTexts<'_>,
     names: &[String],
     books: &BothBooks,
-) -> Added {
-    let known = Vocabulary::of(alloc, &first_of(texts, books))?;
-    push_unknown(out, names, &known, &second_of(texts, books))
+) {
+    match Vocabulary::of(note.allocator(), &first_of(texts, books)) {
+        Ok(known) => push_unknown(note, names, &known, &second_of(texts, books)),
+        Err(error) => note.keep(Err(error)),
+    }
 }
 
 fn push_unknown(
-    out: &mut String,
+    note: &mut Note,
     names: &[String],
     known: &Vocabulary<'_>,
     second: &NamedSource<'_>,
-) -> Added {
-    if push_all_missing(out, known, names)? == 0 {
-        return Ok(());
+) {
+    if push_all_missing(note, known, names) > 0 {
+        let NamedSource { name, source } = known.dictionary;
+        push_list(note, name, &source.commands);
+        push_found(note, names.get(..MOST).unwrap_or(names), known, second);
     }
-    let NamedSource { name, source } = known.dictionary;
-    push_list(out, name, &source.commands)?;
-    push_found(out, names.get(..MOST).unwrap_or(names), known, second)
 }
 
 /// Adds the first names that no command has. Answers how many these are.
-fn push_all_missing(
-    out: &mut String,
-    known: &Vocabulary<'_>,
-    names: &[String],
-) -> Result<usize, AllocError> {
+fn push_all_missing(note: &mut Note, known: &Vocabulary<'_>, names: &[String]) -> usize {
     let mut count = 0usize;
     for name in names {
         if count < MOST && !known.has(Named::Command, name) {
-            push_missing(out, known, name)?;
+            push_missing(note, known, name);
             count = count.saturating_add(1);
         }
     }
-    Ok(count)
+    count
 }
 
-fn push_missing(out: &mut String, known: &Vocabulary<'_>, name: &str) -> Added {
+fn push_missing(note: &mut Note, known: &Vocabulary<'_>, name: &str) {
     let dictionary = known.dictionary.name;
-    push_texts(out, &[dictionary, ": there is no command ", name, "\n"])?;
+    note.put_all(&[dictionary, ": there is no command ", name, "\n"]);
     let instead = "an AVP there, and commands are asked for";
-    known.push_meant(out, Named::Command, name, instead)?;
-    Ok(())
+    known.push_meant(note, Named::Command, name, instead);
 }
 
 /// Adds the first commands, and how to list all.
-fn push_list(out: &mut String, dictionary: &str, commands: &[Def]) -> Added {
+fn push_list(note: &mut Note, dictionary: &str, commands: &[Def]) {
     if commands.is_empty() {
         let what = "a command is <NAME> ::= < Diameter Header: CODE, REQ > and its rules";
-        return write!(out, "hint: {dictionary} has no commands; {what}\n");
+        note.put_all(&["hint: ", dictionary, " has no commands; ", what, "\n"]);
+        return;
     }
-    push_names(out, commands.get(..MOST_LISTED).unwrap_or(commands))?;
-    match commands.len().saturating_sub(MOST_LISTED) {
-        0 => write!(out, "; `diacmd render {dictionary}` prints them\n"),
-        more => write!(
-            out,
-            " and {more} more; `diacmd render {dictionary}` prints them\n"
-        ),
+    push_names(note, commands.get(..MOST_LISTED).unwrap_or(commands));
+    if commands.len() > MOST_LISTED {
+        note.put(" and ");
+        note.put_number(commands.len().saturating_sub(MOST_LISTED) as u64);
+        note.put(" more");
     }
+    note.put_all(&["; `diacmd render ", dictionary, "` prints them\n"]);
 }
 
-fn push_names(out: &mut String, commands: &[Def]) -> Added {
+fn push_names(note: &mut Note, commands: &[Def]) {
     let mut between = "hint: its commands are ";
     for command in commands {
-        let name = command.name.as_str();
-        write!(out, "{between}{name}")?;
+        note.put_all(&[between, command.name.as_str()]);
         between = ", ";
     }
-    Ok(())
 }
 
 /// Adds the first command of the second dictionary that is among the names, and is none of the first.
-fn push_found(
-    out: &mut String,
-    names: &[String],
-    known: &Vocabulary<'_>,
-    second: &NamedSource<'_>,
-) -> Added {
-    let dictionary = second.name;
+fn push_found(note: &mut Note, names: &[String], known: &Vocabulary<'_>, second: &NamedSource<'_>) {
+    let behind = "; the dictionary of the side that sends stands first\n";
     for command in &second.source.commands {
         let name = command.name.as_str();
         if !known.has(Named::Command, name) && has_name(names, name) {
-            return write!(
-                out,
-                "hint: {dictionary} has a command {name}; the dictionary of the side that sends stands first\n"
-            );
+            note.put_all(&["hint: ", second.name, " has a command ", name, behind]);
+            return;
         }
     }
-    Ok(())
 }
 
 fn has_name(names: &[String], name: &str) -> bool {

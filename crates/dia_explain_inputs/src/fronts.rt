@@ -2,63 +2,50 @@
 
 use crate::kinds::{first_bad, first_line, is_capture};
 use crate::messages::{bytes_of, dump_of, push_bad};
-use crate::notes::{Added, push_whole};
-use dia_explain_places::{NamedText, count_digits};
+use crate::notes::push_whole;
+use dia_explain_places::{NamedText, Note, count_digits};
 use std::alloc::{AllocError, Global};
 
 /// How many bytes of a header tell the version and the Message Length.
 const LENGTH_END: usize = 4;
 
 /// Adds what a text is, where its front shows that it has no messages, or none in lines.
-pub fn push_front(
-    alloc: Global,
-    out: &mut String,
-    name: &str,
-    front: &[u8],
-    in_lines: bool,
-) -> Added {
+pub fn push_front(note: &mut Note, name: &str, front: &[u8], in_lines: bool) {
     let input = NamedText { name, text: front };
     if count_digits(front) == 0 && (front.is_empty() || !in_lines) {
-        return push_none(out, &input);
+        let hint = "docs/CAPTURES.md says what to look at where a capture gives none";
+        return push_whole(note, &input, "there is no message", hint);
     }
     let line = first_line(front);
     match bad_in_front(front, line) {
-        Some(at) => push_bad(out, &input, "the hexadecimal text of messages", at),
-        None => push_digits(alloc, out, &input, line, in_lines),
+        Some(at) => push_bad(note, &input, "the hexadecimal text of messages", at),
+        None => push_digits(note, &input, line, in_lines),
     }
-}
-
-fn push_none(out: &mut String, input: &NamedText<'_>) -> Added {
-    let hint = "docs/CAPTURES.md says what to look at where a capture gives none";
-    push_whole(out, input, "there is no message", hint)
 }
 
 /// Adds what a text is whose first line is of digits.
-fn push_digits(
-    alloc: Global,
-    out: &mut String,
-    input: &NamedText<'_>,
-    line: &[u8],
-    in_lines: bool,
-) -> Added {
+fn push_digits(note: &mut Note, input: &NamedText<'_>, line: &[u8], in_lines: bool) {
     let NamedText { name, text } = *input;
     if let Some(hint) = dump_of(text) {
-        return write!(out, "{name}: {hint}\n");
-    }
-    if in_lines && line.len() != text.len() && is_cut(alloc, line)? {
-        push_cut_line(out, input)
-    } else {
-        Ok(())
+        note.put_all(&[name, ": "]);
+        note.put(hint);
+        note.put("\n");
+    } else if in_lines && line.len() != text.len() {
+        match is_cut(note.allocator(), line) {
+            Ok(true) => push_cut_line(note, input),
+            Ok(false) => {}
+            Err(error) => note.keep(Err(error)),
+        }
     }
 }
 
-fn push_cut_line(out: &mut String, input: &NamedText<'_>) -> Added {
+fn push_cut_line(note: &mut Note, input: &NamedText<'_>) {
     push_whole(
-        out,
+        note,
         input,
         "the first line ends in the middle of its message, and with --lines each message stands on one line",
         "without --lines a message may have several lines, as `xxd -p` writes it; --stream takes many such messages",
-    )
+    );
 }
 
 /// The place of the first byte of the first line that no message has. A file of packets has none.

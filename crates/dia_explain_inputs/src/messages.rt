@@ -2,9 +2,9 @@
 
 use crate::hints::{Sight, hint_of};
 use crate::kinds::{first_bad, first_line, hint_of_text, is_capture, kind_of_byte};
-use crate::notes::{Added, SAVE, push_noted, push_texts, push_whole};
+use crate::notes::{SAVE, push_noted, push_too_long, push_whole};
 use dia_explain_places::{
-    NamedText, Unpadded, back, count_digits, find_unpadded, is_white, place_of_byte,
+    NamedText, Note, Unpadded, back, count_digits, find_unpadded, is_white, place_of_byte,
 };
 use dia_policy::MAX_MESSAGE_TEXT;
 use dia_report::BadMessage;
@@ -21,58 +21,49 @@ const DUMPED: &str =
     "this is a dump with offsets: `xxd -p FILE` writes one without, and `xxd -r DUMP | xxd -p` turns this one";
 
 /// Adds the note of a message that is refused for this.
-pub fn push_message(
-    alloc: Global,
-    out: &mut String,
-    message: &NamedText<'_>,
-    why: &BadMessage,
-) -> Added {
-    let name = message.name;
+pub fn push_message(note: &mut Note, message: &NamedText<'_>, why: &BadMessage) {
     match why {
-        BadMessage::TooLong => {
-            write!(
-                out,
-                "{name}: the text has more than {MAX_MESSAGE_TEXT} bytes\n"
-            )
-        }
+        BadMessage::TooLong => push_too_long(note, message.name, MAX_MESSAGE_TEXT),
         BadMessage::NotHexadecimal => match first_bad(message.text) {
-            Some(at) => push_bad(out, message, "the hexadecimal text of a message", at),
-            None => push_odd(out, message),
+            Some(at) => push_bad(note, message, "the hexadecimal text of a message", at),
+            None => push_odd(note, message),
         },
-        BadMessage::NoMessage(_) => {
-            let bytes = bytes_of(alloc, message.text, message.text.len())?;
-            push_length(out, message, &bytes)
-        }
+        BadMessage::NoMessage(_) => push_no_message(note, message),
     }
 }
 
-fn push_odd(out: &mut String, message: &NamedText<'_>) -> Added {
+fn push_odd(note: &mut Note, message: &NamedText<'_>) {
     let NamedText { name, text } = *message;
-    let digits = count_digits(text);
-    let hint = dump_of(text).unwrap_or("each byte has two digits, also one below 16");
-    write!(
-        out,
-        "{name}: the number of hexadecimal digits is odd, {digits}: one is missing or too many\nhint: {hint}\n"
-    )
+    note.put_all(&[name, ": the number of hexadecimal digits is odd, "]);
+    note.put_number(count_digits(text) as u64);
+    note.put(": one is missing or too many\n");
+    note.put_hint(dump_of(text).unwrap_or("each byte has two digits, also one below 16"));
+}
+
+fn push_no_message(note: &mut Note, message: &NamedText<'_>) {
+    match bytes_of(note.allocator(), message.text, message.text.len()) {
+        Ok(bytes) => push_length(note, message, &bytes),
+        Err(error) => note.keep(Err(error)),
+    }
 }
 
 /// Adds what stands at a place for a digit, or what the text is.
-pub fn push_bad(out: &mut String, message: &NamedText<'_>, wanted: &str, at: usize) -> Added {
+pub fn push_bad(note: &mut Note, message: &NamedText<'_>, wanted: &str, at: usize) {
     let text = message.text;
     if is_capture(text) {
-        return push_capture(out, message.name, wanted, CAPTURED);
+        push_capture(note, message.name, wanted, CAPTURED);
+    } else if is_binary(first_line(back(text, at))) {
+        push_binary(note, message);
+    } else {
+        let hint = hint_at(text, at);
+        push_noted(note, message, at, "this is no hexadecimal digit", hint);
     }
-    if is_binary(first_line(back(text, at))) {
-        return push_binary(out, message);
-    }
-    let hint = hint_at(text, at);
-    push_noted(out, message, at, "this is no hexadecimal digit", hint)
 }
 
 /// Adds that an input is a file of packets, and what to do.
-pub fn push_capture(out: &mut String, name: &str, wanted: &str, hint: &str) -> Added {
+pub fn push_capture(note: &mut Note, name: &str, wanted: &str, hint: &str) {
     let told = ": this is a capture file (pcap), and not ";
-    push_texts(out, &[name, told, wanted, "\nhint: ", hint, "\n"])
+    note.put_all(&[name, told, wanted, "\nhint: ", hint, "\n"]);
 }
 
 /// Whether bytes are no text: they have a control character that isn't white space, or aren't UTF-8.
@@ -86,20 +77,22 @@ fn is_binary(text: &[u8]) -> bool {
 }
 
 /// Adds what bytes are that aren't text.
-fn push_binary(out: &mut String, message: &NamedText<'_>) -> Added {
+fn push_binary(note: &mut Note, message: &NamedText<'_>) {
     let NamedText { name, text } = *message;
     if let Some((told, hint)) = packing_of(text) {
-        return push_whole(out, message, told, hint);
+        return push_whole(note, message, told, hint);
     }
     let told = if text.first() == Some(&1) {
-        "these are the bytes of a message, and not hexadecimal text"
+        ": these are the bytes of a message, and not hexadecimal text\nhint: write `xxd -p "
     } else {
-        "these are bytes, and not hexadecimal text"
+        ": these are bytes, and not hexadecimal text\nhint: write `xxd -p "
     };
-    write!(
-        out,
-        "{name}: {told}\nhint: write `xxd -p {name}` into a file: a message is its hexadecimal digits\n"
-    )
+    note.put_all(&[
+        name,
+        told,
+        name,
+        "` into a file: a message is its hexadecimal digits\n",
+    ]);
 }
 
 /// How a text is packed into bytes that aren't UTF-8, and what to do.
@@ -160,75 +153,102 @@ fn front_digits(text: &[u8]) -> usize {
 }
 
 /// Adds the note of a text whose bytes are no message, or are more or fewer than one.
-pub fn push_length(out: &mut String, message: &NamedText<'_>, bytes: &[u8]) -> Added {
+pub fn push_length(note: &mut Note, message: &NamedText<'_>, bytes: &[u8]) {
     let name = message.name;
     if let Some(hint) = dump_of(message.text) {
         let told = "the first bytes are no header of a message";
-        return push_whole(out, message, told, hint);
+        return push_whole(note, message, told, hint);
     }
     let count = bytes.len();
     match read_header(bytes) {
-        Ok((_, length)) if count < length as usize => push_cut(out, name, count, length),
-        Ok((_, length)) => push_more(out, message, count, length as usize),
-        Err(HeadFault::Length) => push_odd_length(out, message, bytes),
-        Err(HeadFault::Version) => push_version(out, name, bytes.first().copied().unwrap_or(0)),
-        Err(HeadFault::Short) => write!(
-            out,
-            "{name}: {count} bytes; a message has at least 20, those of its header\n"
-        ),
+        Ok((_, length)) if count < length as usize => push_cut(note, name, count, length),
+        Ok((_, length)) => push_more(note, message, count, length as usize),
+        Err(HeadFault::Length) => push_odd_length(note, message, bytes),
+        Err(HeadFault::Version) => push_version(note, name, bytes.first().copied().unwrap_or(0)),
+        Err(HeadFault::Short) => push_short(note, name, count),
     }
 }
 
-fn push_version(out: &mut String, name: &str, version: u8) -> Added {
-    write!(
-        out,
-        "{name}: the first byte is {version}, and the version of Diameter is 1\n\
-         hint: a message begins with 01 and its length; the headers of IP, TCP or SCTP before it have to be taken out\n"
-    )
+fn push_short(note: &mut Note, name: &str, count: usize) {
+    push_count(note, name, count);
+    note.put("a message has at least 20, those of its header\n");
+}
+
+/// Begins a note: how many bytes an input has.
+fn push_count(note: &mut Note, name: &str, count: usize) {
+    note.put_all(&[name, ": "]);
+    note.put_number(count as u64);
+    note.put(" bytes; ");
+}
+
+fn push_version(note: &mut Note, name: &str, version: u8) {
+    note.put_all(&[name, ": the first byte is "]);
+    note.put_number(u64::from(version));
+    note.put(", and the version of Diameter is 1\n");
+    note.put_hint(
+        "a message begins with 01 and its length; the headers of IP, TCP or SCTP before it have to be taken out",
+    );
 }
 
 /// Adds that a Message Length is none, and the first AVP that seems to have no padding, if there is one.
-fn push_odd_length(out: &mut String, message: &NamedText<'_>, bytes: &[u8]) -> Added {
+fn push_odd_length(note: &mut Note, message: &NamedText<'_>, bytes: &[u8]) {
     let told = "the Message Length, bytes 1 to 3, is under 20 or no multiple of four";
     let hint = "mend the sender: it counts the header, and the AVPs with their padding";
-    push_whole(out, message, told, hint)?;
-    let Some(Unpadded { at, code, length }) = find_unpadded(back(bytes, HEADER_LENGTH)) else {
-        return Ok(());
-    };
-    let place = at.saturating_add(HEADER_LENGTH);
-    write!(
-        out,
-        "hint: the AVP at {place}, of code {code}, has the AVP Length {length}, and what follows stands right behind it, without \
-         its padding\n"
-    )
+    push_whole(note, message, told, hint);
+    if let Some(unpadded) = find_unpadded(back(bytes, HEADER_LENGTH)) {
+        push_unpadded(note, &unpadded);
+    }
+}
+
+fn push_unpadded(note: &mut Note, avp: &Unpadded) {
+    let Unpadded { at, code, length } = *avp;
+    note.put("hint: the AVP at ");
+    note.put_number(at.saturating_add(HEADER_LENGTH) as u64);
+    note.put(", of code ");
+    note.put_number(u64::from(code));
+    note.put(", has the AVP Length ");
+    note.put_number(length as u64);
+    note.put(", and what follows stands right behind it, without its padding\n");
 }
 
 /// Adds that bytes are missing.
-fn push_cut(out: &mut String, name: &str, count: usize, length: u32) -> Added {
-    write!(
-        out,
-        "{name}: {count} bytes; the Message Length is {length}, so the message is cut off\n\
-         hint: its end may be in the next packet, or the capture has cut the packet: \
-         docs/CAPTURES.md says how to take whole messages out\n"
-    )
+fn push_cut(note: &mut Note, name: &str, count: usize, length: u32) {
+    push_count(note, name, count);
+    note.put("the Message Length is ");
+    note.put_number(u64::from(length));
+    note.put(", so the message is cut off\n");
+    note.put_hint(
+        "its end may be in the next packet, or the capture has cut the packet: \
+         docs/CAPTURES.md says how to take whole messages out",
+    );
 }
 
 /// Adds the place of the bytes that are too many, if there are some.
-fn push_more(out: &mut String, message: &NamedText<'_>, count: usize, length: usize) -> Added {
+fn push_more(note: &mut Note, message: &NamedText<'_>, count: usize, length: usize) {
     let text = message.text;
-    let Some(at) = place_of_byte(text, length) else {
-        return Ok(());
-    };
-    let hint = if back(text, at).starts_with(b"01") {
+    if let Some(at) = place_of_byte(text, length) {
+        note.put_place(message.name, text, at);
+        push_counts(note, count, length);
+        note.put_excerpt(text, at);
+        note.put_hint(hint_behind(back(text, at)));
+    }
+}
+
+fn push_counts(note: &mut Note, count: usize, length: usize) {
+    note.put("the message ends before this place, after the ");
+    note.put_number(length as u64);
+    note.put(" bytes of its Message Length; ");
+    note.put_number(count as u64);
+    note.put(" bytes are here\n");
+}
+
+/// What to do about what stands behind a message.
+fn hint_behind(rest: &[u8]) -> &'static str {
+    if rest.starts_with(b"01") {
         "a second message seems to begin here: give one message at a time"
     } else {
         "take out what stands behind the message, or mend its Message Length, bytes 1 to 3"
-    };
-    let alloc = *out.allocator();
-    let told = format!(in alloc;
-        "the message ends before this place, after the {length} bytes of its Message Length; {count} bytes are here"
-    )?;
-    push_noted(out, message, at, told.as_str(), Some(hint))
+    }
 }
 
 /// The first bytes that the digits of a text spell, at most this many.

@@ -1,8 +1,7 @@
 //! The names that a dictionary has.
 
-use crate::notes::push_texts;
 use dia_ccf::{Decl, Def, Source};
-use dia_explain_places::{nearest_command, nearest_name};
+use dia_explain_places::{Note, nearest_command, nearest_name};
 use std::alloc::{AllocError, Global};
 
 /// What a dictionary's text says, and the word that names the text.
@@ -85,41 +84,39 @@ impl<'a> Vocabulary<'a> {
 
     /// Adds what is meant by a name that isn't there, and tells whether that is known. `instead` says what it is where it is one
     /// of the other names.
-    pub fn push_meant(
-        &self,
-        out: &mut String,
-        named: Named,
-        name: &str,
-        instead: &str,
-    ) -> Result<bool, AllocError> {
+    pub fn push_meant(&self, note: &mut Note, named: Named, name: &str, instead: &str) -> bool {
         let other = match named {
             Named::Command => Named::Avp,
             Named::Avp => Named::Command,
         };
         if self.has(other, name) {
-            push_texts(out, &["hint: ", name, " is ", instead, "\n"])?;
-            return Ok(true);
+            note.put_all(&["hint: ", name, " is ", instead, "\n"]);
+            return true;
         }
-        self.push_near(out, named, name)
+        self.push_near(note, named, name)
     }
 
     /// Adds the name that is nearest, and tells whether there is one.
-    fn push_near(&self, out: &mut String, named: Named, name: &str) -> Result<bool, AllocError> {
-        let names = names_of(*out.allocator(), self.dictionary.source, named)?;
-        match near_of(named, name, &names) {
-            Some(near) => {
-                push_texts(out, &["hint: did you mean ", near, "?\n"])?;
-                Ok(true)
+    fn push_near(&self, note: &mut Note, named: Named, name: &str) -> bool {
+        match self.near(note.allocator(), named, name) {
+            Ok(Some(near)) => {
+                note.put_all(&["hint: did you mean ", near, "?\n"]);
+                true
             }
-            None => Ok(false),
+            Ok(None) => false,
+            Err(error) => {
+                note.keep(Err(error));
+                false
+            }
         }
     }
-}
 
-/// The name that is nearest to another.
-fn near_of<'a>(named: Named, name: &str, names: &[&'a str]) -> Option<&'a str> {
-    match named {
-        Named::Command => nearest_command(name, names),
-        Named::Avp => nearest_name(name, names),
+    /// The name that is nearest to another.
+    fn near(&self, alloc: Global, named: Named, name: &str) -> Result<Option<&'a str>, AllocError> {
+        let names = names_of(alloc, self.dictionary.source, named)?;
+        Ok(match named {
+            Named::Command => nearest_command(name, &names),
+            Named::Avp => nearest_name(name, &names),
+        })
     }
 }

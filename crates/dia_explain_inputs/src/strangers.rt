@@ -1,11 +1,9 @@
 //! The names of a table that its dictionaries don't have.
 
 use crate::names::{Named, NamedSource, Vocabulary};
-use crate::notes::{Added, push_texts};
 use crate::sides::{first_of, second_of};
-use dia_explain_places::{InputTexts, NamedText, PairWords, push_place, words_of};
+use dia_explain_places::{InputTexts, NamedText, Note, PairWords, words_of};
 use dia_report::BothBooks;
-use std::alloc::{AllocError, Global};
 
 /// The most names that are told of a side.
 const MOST: usize = 50;
@@ -18,48 +16,6 @@ struct Stranger<'a> {
     at: usize,
 }
 
-/// Adds the names of a table that its dictionaries don't have, and what to do about those that are like no other.
-pub fn push_strangers(
-    alloc: Global,
-    out: &mut String,
-    texts: &InputTexts<'_>,
-    books: &BothBooks,
-) -> Added {
-    let table = &texts.table;
-    let of_first = push_side_of(alloc, out, table, true, &first_of(texts, books))?;
-    let of_second = push_side_of(alloc, out, table, false, &second_of(texts, books))?;
-    if of_first || of_second {
-        out.push_str(
-            "hint: the first name of a pair is one of the first dictionary, the second one of the second; \
-             `diacmd propose` writes a table\n",
-        )?;
-    }
-    Ok(())
-}
-
-/// Adds the names of one side of a table that its dictionary doesn't have. Answers whether one is like no other.
-fn push_side_of(
-    alloc: Global,
-    out: &mut String,
-    table: &NamedText<'_>,
-    is_first: bool,
-    dictionary: &NamedSource<'_>,
-) -> Result<bool, AllocError> {
-    let known = Vocabulary::of(alloc, dictionary)?;
-    push_all(out, table, is_first, &known)
-}
-
-fn push_all(
-    out: &mut String,
-    table: &NamedText<'_>,
-    is_first: bool,
-    known: &Vocabulary<'_>,
-) -> Result<bool, AllocError> {
-    let Strangers { count, is_odd } = push_side(out, table, is_first, known)?;
-    push_rest(out, known.dictionary.name, count)?;
-    Ok(is_odd)
-}
-
 /// How many names the dictionary doesn't have, and whether one that is told is like no other.
 #[derive(Clone, Copy)]
 struct Strangers {
@@ -67,13 +23,55 @@ struct Strangers {
     is_odd: bool,
 }
 
-/// Adds the first of these names.
-fn push_side(
-    out: &mut String,
+/// Adds the names of a table that its dictionaries don't have, and what to do about those that are like no other.
+pub fn push_strangers(note: &mut Note, texts: &InputTexts<'_>, books: &BothBooks) {
+    let table = &texts.table;
+    let of_first = push_side_of(note, table, true, &first_of(texts, books));
+    let of_second = push_side_of(note, table, false, &second_of(texts, books));
+    if of_first || of_second {
+        note.put_hint(
+            "the first name of a pair is one of the first dictionary, the second one of the second; \
+             `diacmd propose` writes a table",
+        );
+    }
+}
+
+/// Adds the names of one side of a table that its dictionary doesn't have. Answers whether one is like no other.
+fn push_side_of(
+    note: &mut Note,
+    table: &NamedText<'_>,
+    is_first: bool,
+    dictionary: &NamedSource<'_>,
+) -> bool {
+    match Vocabulary::of(note.allocator(), dictionary) {
+        Ok(known) => push_all(note, table, is_first, &known),
+        Err(error) => {
+            note.keep(Err(error));
+            false
+        }
+    }
+}
+
+fn push_all(
+    note: &mut Note,
     table: &NamedText<'_>,
     is_first: bool,
     known: &Vocabulary<'_>,
-) -> Result<Strangers, AllocError> {
+) -> bool {
+    let Strangers { count, is_odd } = push_side(note, table, is_first, known);
+    if count > MOST {
+        push_rest(note, known.dictionary.name, count.saturating_sub(MOST));
+    }
+    is_odd
+}
+
+/// Adds the first of these names.
+fn push_side(
+    note: &mut Note,
+    table: &NamedText<'_>,
+    is_first: bool,
+    known: &Vocabulary<'_>,
+) -> Strangers {
     let mut begins = true;
     let mut strangers = Strangers {
         count: 0,
@@ -83,25 +81,25 @@ fn push_side(
         if begins {
             let words = words_of(table.text, at);
             if let Some(stranger) = stranger_in(&words, is_first, known) {
-                strangers = push_next(out, table, known, &stranger, strangers)?;
+                strangers = push_next(note, table, known, &stranger, strangers);
             }
         }
         begins = *byte == b'\n';
     }
-    Ok(strangers)
+    strangers
 }
 
 /// Adds a name behind others, if there aren't too many. Answers what they are with it.
 fn push_next(
-    out: &mut String,
+    note: &mut Note,
     table: &NamedText<'_>,
     known: &Vocabulary<'_>,
     stranger: &Stranger<'_>,
     before: Strangers,
-) -> Result<Strangers, AllocError> {
+) -> Strangers {
     let count = before.count.saturating_add(1);
-    let is_odd = count <= MOST && push_stranger(out, table, known, stranger)? || before.is_odd;
-    Ok(Strangers { count, is_odd })
+    let is_odd = count <= MOST && push_stranger(note, table, known, stranger) || before.is_odd;
+    Strangers { count, is_odd }
 }
 
 /// The name of a side in the words of a line, if the dictionary doesn't have it.
@@ -130,24 +128,19 @@ fn named_by(kind: &[u8]) -> Named {
 
 /// Adds a name that the dictionary doesn't have. Answers whether it is like no other.
 fn push_stranger(
-    out: &mut String,
+    note: &mut Note,
     table: &NamedText<'_>,
     known: &Vocabulary<'_>,
     stranger: &Stranger<'_>,
-) -> Result<bool, AllocError> {
+) -> bool {
     let Stranger { named, name, at } = *stranger;
-    push_place(out, table.name, table.text, at)?;
-    push_lacking(out, known.dictionary.name, named, name)?;
-    let is_known = known.push_meant(out, named, name, instead_of(named))?;
-    Ok(!is_known)
-}
-
-fn push_lacking(out: &mut String, dictionary: &str, named: Named, name: &str) -> Added {
-    let what = match named {
-        Named::Command => "command",
-        Named::Avp => "AVP",
+    let lacks = match named {
+        Named::Command => " has no command ",
+        Named::Avp => " has no AVP ",
     };
-    push_texts(out, &[dictionary, " has no ", what, " ", name, "\n"])
+    note.put_place(table.name, table.text, at);
+    note.put_all(&[known.dictionary.name, lacks, name, "\n"]);
+    !known.push_meant(note, named, name, instead_of(named))
 }
 
 /// What a name is that is one of the other names.
@@ -159,13 +152,10 @@ fn instead_of(named: Named) -> &'static str {
 }
 
 /// Adds how many names more there are.
-fn push_rest(out: &mut String, dictionary: &str, count: usize) -> Added {
-    let more = count.saturating_sub(MOST);
-    if more == 0 {
-        return Ok(());
-    }
-    write!(
-        out,
-        "{dictionary}: these are the first {MOST} names that it doesn't have, and there are {more} more\n"
-    )
+fn push_rest(note: &mut Note, dictionary: &str, more: usize) {
+    note.put_all(&[dictionary, ": these are the first "]);
+    note.put_number(MOST as u64);
+    note.put(" names that it doesn't have, and there are ");
+    note.put_number(more as u64);
+    note.put(" more\n");
 }

@@ -1,14 +1,13 @@
 //! What is told of a table that is refused.
 
-ghost use Rattle.std.specs.Prelude.{OnOk, string_bytes};
 ghost use Rattle.dia_explain_inputs.specs.Beginnings.{TableBegins, LineBegins};
 
 use crate::hints::{Sight, hint_of};
 use crate::kinds::kind_of;
-use crate::notes::{Added, push_not_text, push_noted};
+use crate::notes::{push_made, push_not_text, push_quoted, push_too_long};
 use dia_compat::{MAX_NAME, MAX_PAIRS, MAX_TABLE, Table};
 use dia_explain_places::{
-    InputTexts, NamedText, PairPart, Word, back, push_shown, start_of_line, words_of,
+    InputTexts, NamedText, Note, PairPart, Word, back, start_of_line, words_of,
 };
 use dia_report::BadTable;
 use std::alloc::{AllocError, Global};
@@ -20,50 +19,54 @@ const SHOWN: usize = 60;
 type Slot = (&'static str, &'static str);
 
 /// Adds the note of a table that is refused for this.
-pub fn push_table(alloc: Global, out: &mut String, table: &NamedText<'_>, why: &BadTable) -> Added
-    ensures { OnOk result (TableBegins table.now.name.now table.now.text.now why.now
-        (string_bytes out.old) (string_bytes out.new)) }
+pub fn push_table(note: &mut Note, table: &NamedText<'_>, why: &BadTable)
+    ensures { TableBegins table.now.name.now table.now.text.now why.now note.old note.new }
 {
-    let name = table.name;
     match why {
-        BadTable::TooLong => write!(out, "{name}: the text has more than {MAX_TABLE} bytes\n"),
-        BadTable::NotText { at } => push_not_text(out, table, *at),
-        BadTable::Syntax { line } => push_syntax(alloc, out, table, *line),
-        BadTable::Limit { line } => push_limit(alloc, out, table, *line),
+        BadTable::TooLong => push_too_long(note, table.name, MAX_TABLE),
+        BadTable::NotText { at } => push_not_text(note, table, *at),
+        BadTable::Syntax { line } => push_syntax(note, table, *line),
+        BadTable::Limit { line } => push_limit(note, table, *line),
     }
 }
 
 /// Adds the first word of a line that can't stand there.
-fn push_syntax(alloc: Global, out: &mut String, table: &NamedText<'_>, line: u32) -> Added
-    ensures { OnOk result (LineBegins table.now.name.now table.now.text.now line
-        (string_bytes out.old) (string_bytes out.new)) }
+fn push_syntax(note: &mut Note, table: &NamedText<'_>, line: u32)
+    ensures { LineBegins table.now.name.now table.now.text.now line note.old note.new }
 {
     let words = words_of(table.text, start_of_line(table.text, line));
     let part = words.wrong_part();
     let word = words.part(part);
-    let (place, wanted) = slot_of(part);
-    let told = found(alloc, &word, wanted)?;
-    let hint = hint_of(&[place], &sight_of(table.text, &word));
-    push_noted(out, table, word.at, told.as_str(), hint)
+    let told = syntax_told(note.allocator(), table.text, &word, part);
+    push_made(note, table, Some(word.at), told);
 }
 
-/// What is told of a word in the place of another.
-fn found(alloc: Global, word: &Word<'_>, wanted: &str) -> Result<String, AllocError> {
-    let mut told = String::new(alloc);
-    push_found(&mut told, word)?;
-    write!(told, "; expected {wanted}")?;
-    Ok(told)
+/// What is told of a word in the place of a part of a line.
+fn syntax_told(
+    alloc: Global,
+    text: &[u8],
+    word: &Word<'_>,
+    part: PairPart,
+) -> Result<String, AllocError> {
+    let (place, wanted) = slot_of(part);
+    let mut told = Note::new(alloc);
+    push_found(&mut told, word);
+    told.put_all(&["; expected ", wanted, "\n"]);
+    told.put_excerpt(text, word.at);
+    if let Some(hint) = hint_of(&[place], &sight_of(text, word)) {
+        told.put_hint(hint);
+    }
+    told.finish()
 }
 
 /// Adds what stands in the place of another word.
-fn push_found(told: &mut String, word: &Word<'_>) -> Added {
+fn push_found(note: &mut Note, word: &Word<'_>) {
     if word.is_empty() {
-        return told.push_str("the line ends here");
+        note.put("the line ends here");
+    } else {
+        note.put("found ");
+        push_quoted(note, word.text.get(..SHOWN).unwrap_or(word.text));
     }
-    let shown = word.text.get(..SHOWN).unwrap_or(word.text);
-    told.push_str("found \"")?;
-    push_shown(*told.allocator(), told, shown)?;
-    told.push('"')
 }
 
 /// The place of a part, and what can stand there.
@@ -106,45 +109,50 @@ fn is_number(word: &[u8]) -> bool {
 }
 
 /// Adds which limit a line passes.
-fn push_limit(alloc: Global, out: &mut String, table: &NamedText<'_>, line: u32) -> Added
-    ensures { OnOk result (LineBegins table.now.name.now table.now.text.now line
-        (string_bytes out.old) (string_bytes out.new)) }
+fn push_limit(note: &mut Note, table: &NamedText<'_>, line: u32)
+    ensures { LineBegins table.now.name.now table.now.text.now line note.old note.new }
 {
     let words = words_of(table.text, start_of_line(table.text, line));
     let part = words.limit_part();
     let word = words.part(part);
-    let told = limit_told(alloc, part)?;
-    push_noted(out, table, word.at, told.as_str(), limit_hint(part))
+    let told = limit_told(note.allocator(), table.text, word.at, part);
+    push_made(note, table, Some(word.at), told);
 }
 
-/// What is told of a line that passes a limit by this part.
-fn limit_told(alloc: Global, part: PairPart) -> Result<String, AllocError> {
+/// What is told of a place of a line that passes a limit by this part.
+fn limit_told(alloc: Global, text: &[u8], at: usize, part: PairPart) -> Result<String, AllocError> {
+    let mut told = Note::new(alloc);
     if part == PairPart::Kind {
-        format!(in alloc; "this pair is one too many: a table has at most {MAX_PAIRS}")
-    } else {
-        format!(in alloc; "the name has more than {MAX_NAME} bytes")
-    }
-}
-
-fn limit_hint(part: PairPart) -> Option<&'static str> {
-    if part == PairPart::Kind {
-        Some(
+        told.put("this pair is one too many: a table has at most ");
+        told.put_number(MAX_PAIRS as u64);
+        told.put("\n");
+        told.put_excerpt(text, at);
+        told.put_hint(
             "leave out the pairs of what the listed commands don't reach; propose writes the least table",
-        )
+        );
     } else {
-        None
+        told.put("the name has more than ");
+        told.put_number(MAX_NAME as u64);
+        told.put(" bytes\n");
+        told.put_excerpt(text, at);
     }
+    told.finish()
 }
 
 /// Adds that a table lists no command, where it lists none.
-pub fn push_no_pairs(out: &mut String, texts: &InputTexts<'_>, table: &Table) -> Added {
+pub fn push_no_pairs(note: &mut Note, texts: &InputTexts<'_>, table: &Table) {
     if !table.commands.is_empty() {
-        return Ok(());
+        return;
     }
     let (name, first, second) = (texts.table.name, texts.first.name, texts.second.name);
-    write!(
-        out,
-        "{name}: the table lists no command, so this yes says nothing\n\
-         hint: `diacmd propose {first} {second} COMMAND..` writes the table for these commands of {first}\n"
-    )
+    note.put_all(&[
+        name,
+        ": the table lists no command, so this yes says nothing\n",
+    ]);
+    note.put_all(&["hint: `diacmd propose ", first, " ", second]);
+    note.put_all(&[
+        " COMMAND..` writes the table for these commands of ",
+        first,
+        "\n",
+    ]);
 }

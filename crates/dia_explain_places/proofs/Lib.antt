@@ -1,2 +1,3 @@
 pub mod SameLine
 pub mod TableWords
+pub mod Notes

@@ -9,6 +9,7 @@ mod expecting;
 mod input_texts;
 mod lines;
 mod nearest;
+mod note;
 mod padding;
 mod place;
 mod runs;
@@ -20,6 +21,7 @@ pub use expecting::expected;
 pub use input_texts::{InputTexts, NamedText};
 pub use lines::{PairWords, Word, start_of_line, words_of};
 pub use nearest::{nearest_command, nearest_name};
+pub use note::Note;
 pub use padding::{Unpadded, find_unpadded};
 pub use place::{
     Place, back, place_of, push_excerpt, push_line_column, push_place, push_shown, push_start,

@@ -1,6 +1,7 @@
 //! How much breaks where the first side sends less.
 
 use crate::tally::push_narrower;
+use dia_explain_places::Note;
 use dia_io::Inputs;
 use dia_policy::Sends;
 use dia_report::BothBooks;
@@ -16,7 +17,7 @@ static SENDERS: [Sends; 2] = [Sends::Listed, Sends::Known];
 /// Adds how much breaks where the first side sends less, if that isn't too long to count.
 pub fn push_less(
     alloc: Global,
-    out: &mut String,
+    note: &mut Note,
     asked: Asked<'_, '_>,
     inputs: &Inputs,
     books: &BothBooks,
@@ -26,7 +27,7 @@ pub fn push_less(
     }
     for sends in SENDERS.as_slice() {
         if sends_less(*sends, asked.sends) {
-            push_left(alloc, out, *sends, asked, inputs, books)?;
+            push_left(alloc, note, *sends, asked, inputs, books)?;
         }
     }
     Ok(())
@@ -35,7 +36,7 @@ pub fn push_less(
 /// Adds how many lines are left where the first side sends this.
 fn push_left(
     alloc: Global,
-    out: &mut String,
+    note: &mut Note,
     sends: Sends,
     asked: Asked<'_, '_>,
     inputs: &Inputs,
@@ -47,10 +48,10 @@ fn push_left(
         messages,
         ..asked
     };
-    match lines_left(alloc, asked, &inputs.table, books)? {
-        Some(lines) => push_narrower(out, sends, lines),
-        None => Ok(()),
+    if let Some(lines) = lines_left(alloc, asked, &inputs.table, books)? {
+        push_narrower(note, sends, lines);
     }
+    Ok(())
 }
 
 fn sends_less(sends: Sends, than: Sends) -> bool {

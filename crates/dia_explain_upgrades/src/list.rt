@@ -1,8 +1,7 @@
 //! The list of accepted lines.
 
-use dia_explain_places::{NamedText, push_excerpt, push_place, start_of_line};
+use dia_explain_places::{NamedText, Note, start_of_line};
 use dia_upgrades::{BadList, MAX_LINES, MAX_LIST};
-use std::alloc::{AllocError, Global};
 
 /// The most lines of a list that are told one by one.
 const MOST: usize = 20;
@@ -13,45 +12,36 @@ const NO_LINE: &str =
     REASON SUBJECT: DETAIL, in N commands, first in PATH\n";
 
 /// Adds why a list is refused.
-pub fn push_bad_list(
-    alloc: Global,
-    out: &mut String,
-    list: &NamedText<'_>,
-    bad: &BadList,
-) -> Result<(), AllocError> {
+pub fn push_bad_list(note: &mut Note, list: &NamedText<'_>, bad: &BadList) {
     let NamedText { name, text } = *list;
     match *bad {
-        BadList::TooLong => write!(out, "{name}: the text has more than {MAX_LIST} bytes\n"),
+        BadList::TooLong => {
+            note.put_all(&[name, ": the text has more than "]);
+            note.put_number(MAX_LIST as u64);
+            note.put(" bytes\n");
+        }
         BadList::NotText { at } => {
-            push_told(alloc, out, list, at, "these bytes aren't UTF-8\n")?;
-            out.push_str("hint: save the file as UTF-8\n")
+            push_told(note, list, at, "these bytes aren't UTF-8\n");
+            note.put("hint: save the file as UTF-8\n")
         }
         BadList::Syntax { line } => {
-            push_told(alloc, out, list, start_of_line(text, line), NO_LINE)?;
-            out.push_str(hint_of(text))
+            push_told(note, list, start_of_line(text, line), NO_LINE);
+            note.put(hint_of(text))
         }
         BadList::Limit { line } => {
-            push_place(out, name, text, start_of_line(text, line))?;
-            write!(
-                out,
-                "this line is one too many: a list has at most {MAX_LINES}\n\
-                 hint: a line with * for its path accepts its cause in every command\n"
-            )
+            note.put_place(name, text, start_of_line(text, line));
+            note.put("this line is one too many: a list has at most ");
+            note.put_number(MAX_LINES as u64);
+            note.put("\nhint: a line with * for its path accepts its cause in every command\n");
         }
     }
 }
 
 /// Adds what is told of a place of a list, and its line.
-fn push_told(
-    alloc: Global,
-    out: &mut String,
-    list: &NamedText<'_>,
-    at: usize,
-    told: &str,
-) -> Result<(), AllocError> {
-    push_place(out, list.name, list.text, at)?;
-    out.push_str(told)?;
-    push_excerpt(alloc, out, list.text, at)
+fn push_told(note: &mut Note, list: &NamedText<'_>, at: usize, told: &str) {
+    note.put_place(list.name, list.text, at);
+    note.put(told);
+    note.put_excerpt(list.text, at);
 }
 
 fn hint_of(text: &[u8]) -> &'static str {
@@ -63,26 +53,22 @@ fn hint_of(text: &[u8]) -> &'static str {
 }
 
 /// Adds the lines of a list that accept nothing.
-pub fn push_stale(
-    alloc: Global,
-    out: &mut String,
-    list: &NamedText<'_>,
-    stale: &[u32],
-) -> Result<(), AllocError> {
+pub fn push_stale(note: &mut Note, list: &NamedText<'_>, stale: &[u32]) {
     for line in stale.iter().take(MOST) {
         let at = start_of_line(list.text, *line);
-        push_told(alloc, out, list, at, "this line accepts nothing\n")?;
+        push_told(note, list, at, "this line accepts nothing\n");
     }
-    push_stale_end(out, list.name, stale.len())
+    push_stale_end(note, list.name, stale.len())
 }
 
 /// Adds how many lines accept nothing, if not each is told, and what to do.
-fn push_stale_end(out: &mut String, name: &str, count: usize) -> Result<(), AllocError> {
+fn push_stale_end(note: &mut Note, name: &str, count: usize) {
     if count > MOST {
-        write!(out, "{name}: {count} lines accept nothing\n")?;
+        note.put_all(&[name, ": "]);
+        note.put_number(count as u64);
+        note.put(" lines accept nothing\n");
     }
     if count > 0 {
-        out.push_str("hint: what such a line tells doesn't break any more, so the line can go\n")?;
+        note.put("hint: what such a line tells doesn't break any more, so the line can go\n");
     }
-    Ok(())
 }

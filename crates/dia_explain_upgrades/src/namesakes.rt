@@ -1,6 +1,7 @@
 //! Names that are one AVP in a dictionary, and another AVP in the other.
 
 use dia_ccf::{Decl, Def, Head, Source};
+use dia_explain_places::Note;
 use dia_upgrades::Told;
 use std::alloc::{AllocError, Global};
 
@@ -80,20 +81,20 @@ fn add_groups<'a>(
 /// Adds the names that these causes are about, and that stand for one AVP in the first dictionary and for another in the second.
 pub fn push_namesakes(
     alloc: Global,
-    out: &mut String,
+    note: &mut Note,
     first: Side<'_>,
     second: Side<'_>,
     causes: &[Told],
 ) -> Result<(), AllocError> {
     let of_first = Numbered::of(alloc, first)?;
     let of_second = Numbered::of(alloc, second)?;
-    push_all(alloc, out, &of_first, &of_second, causes)
+    push_all(alloc, note, &of_first, &of_second, causes)
 }
 
 /// Adds the first of these names, each once.
 fn push_all(
     alloc: Global,
-    out: &mut String,
+    note: &mut Note,
     first: &Numbered<'_>,
     second: &Numbered<'_>,
     causes: &[Told],
@@ -101,7 +102,7 @@ fn push_all(
     let mut told = Vec::new(alloc);
     for cause in causes {
         let name = subject_of(cause.words.as_str());
-        if told.len() < MOST && !told.contains(&name) && push_twins(out, first, second, name)? {
+        if told.len() < MOST && !told.contains(&name) && push_twins(note, first, second, name) {
             told.push(name)?;
         }
     }
@@ -109,37 +110,29 @@ fn push_all(
 }
 
 /// Adds a name, if it stands for two AVPs. Answers whether it does.
-fn push_twins(
-    out: &mut String,
-    first: &Numbered<'_>,
-    second: &Numbered<'_>,
-    name: &str,
-) -> Result<bool, AllocError> {
+fn push_twins(note: &mut Note, first: &Numbered<'_>, second: &Numbered<'_>, name: &str) -> bool {
     match (first.number(name), second.number(name)) {
         (Some(own), Some(other)) if own != other => {
-            out.push_str(name)?;
-            push_number(out, " is ", own, first.dictionary)?;
-            push_number(out, " and ", other, second.dictionary)?;
-            out.push('\n')?;
-            Ok(true)
+            note.put(name);
+            push_number(note, " is ", own, first.dictionary);
+            push_number(note, " and ", other, second.dictionary);
+            note.put("\n");
+            true
         }
-        _ => Ok(false),
+        _ => false,
     }
 }
 
 /// Adds the number of an AVP, and the dictionary that has it.
-fn push_number(
-    out: &mut String,
-    front: &str,
-    number: Number,
-    dictionary: &str,
-) -> Result<(), AllocError> {
+fn push_number(note: &mut Note, front: &str, number: Number, dictionary: &str) {
     let Number { code, vendor } = number;
-    if vendor == 0 {
-        write!(out, "{front}{code} in {dictionary}")
-    } else {
-        write!(out, "{front}{code} vendor {vendor} in {dictionary}")
+    note.put(front);
+    note.put_number(u64::from(code));
+    if vendor > 0 {
+        note.put(" vendor ");
+        note.put_number(u64::from(vendor));
     }
+    note.put_all(&[" in ", dictionary]);
 }
 
 /// The last word in front of the colon.

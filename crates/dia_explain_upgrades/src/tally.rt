@@ -1,37 +1,31 @@
 //! How much breaks.
 
+use dia_explain_places::Note;
 use dia_policy::Sends;
 use dia_upgrades::Told;
-use std::alloc::AllocError;
 
 /// Adds how many lines are left, and how many causes they have, if there are some; with the names of the two dictionaries.
-pub fn push_tally(
-    out: &mut String,
-    first: &str,
-    second: &str,
-    lines: usize,
-    causes: usize,
-) -> Result<(), AllocError> {
+pub fn push_tally(note: &mut Note, first: &str, second: &str, lines: usize, causes: usize) {
     if lines == 0 {
-        return Ok(());
+        return;
     }
-    let line = noun(lines, "line", "lines");
-    let cause = noun(causes, "cause", "causes");
-    write!(
-        out,
-        "{lines} {line}, {causes} {cause}: what {first} sends and {second} accepts\n"
-    )
+    note.put_number(lines as u64);
+    note.put(noun(lines, " line, ", " lines, "));
+    note.put_number(causes as u64);
+    note.put(noun(causes, " cause: what ", " causes: what "));
+    note.put_all(&[first, " sends and ", second, " accepts\n"]);
 }
 
 /// Adds how many lines are left where the first side sends no more than this.
-pub fn push_narrower(out: &mut String, sends: Sends, lines: usize) -> Result<(), AllocError> {
+pub fn push_narrower(note: &mut Note, sends: Sends, lines: usize) {
     let word = match sends {
-        Sends::Any => return Ok(()),
+        Sends::Any => return,
         Sends::Known => "known",
         Sends::Listed => "listed",
     };
-    let line = noun(lines, "line", "lines");
-    write!(out, "with --sends {word}: {lines} {line}\n")
+    note.put_all(&["with --sends ", word, ": "]);
+    note.put_number(lines as u64);
+    note.put(noun(lines, " line\n", " lines\n"));
 }
 
 fn noun(count: usize, one: &'static str, many: &'static str) -> &'static str {
@@ -39,17 +33,16 @@ fn noun(count: usize, one: &'static str, many: &'static str) -> &'static str {
 }
 
 /// Adds how many AVPs are read as another format, with the first, if there are some. `meanings` has a line for each.
-pub fn push_meanings(out: &mut String, meanings: &[Told]) -> Result<(), AllocError> {
+pub fn push_meanings(note: &mut Note, meanings: &[Told]) {
     let Some(first) = meanings.first() else {
-        return Ok(());
+        return;
     };
     let count = meanings.len();
-    let read = noun(count, "AVP is read", "AVPs are read");
+    note.put("with --meaning: ");
+    note.put_number(count as u64);
+    note.put(noun(count, " AVP is read", " AVPs are read"));
     let told = avp_and_formats(first.words.as_str());
-    write!(
-        out,
-        "with --meaning: {count} {read} as another format, first {told}\n"
-    )
+    note.put_all(&[" as another format, first ", told, "\n"]);
 }
 
 /// Of `meaning X: Unsigned32 sent, Float32 read, in 1 command, first in T` what stands between its first word and the count.

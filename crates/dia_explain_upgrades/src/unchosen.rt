@@ -2,6 +2,7 @@
 
 use crate::namesakes::Side;
 use dia_ccf::{Def, Head, Source};
+use dia_explain_places::Note;
 use dia_upgrades::Told;
 use std::alloc::{AllocError, Global};
 
@@ -33,7 +34,7 @@ struct Applications {
 /// takes the place of the other. `names` are those of the commands that were asked for: all where there is none.
 pub fn push_unchosen(
     alloc: Global,
-    out: &mut String,
+    note: &mut Note,
     first: Side<'_>,
     second: Side<'_>,
     names: &[String],
@@ -45,7 +46,7 @@ pub fn push_unchosen(
     }
     let apps = Applications::of(alloc, first.source, second.source)?;
     match first_unchosen(&first.source.commands, names, &refused, &apps) {
-        Some(command) => push_offers(alloc, out, command, first.name, second, &apps),
+        Some(command) => push_offers(alloc, note, command, first.name, second, &apps),
         None => Ok(()),
     }
 }
@@ -200,7 +201,7 @@ fn new_of(
 /// Adds for which applications the second dictionary has a command of the first.
 fn push_offers(
     alloc: Global,
-    out: &mut String,
+    note: &mut Note,
     command: &Def,
     first: &str,
     second: Side<'_>,
@@ -210,21 +211,21 @@ fn push_offers(
         return Ok(());
     };
     let new = new_ones(alloc, second.source, single, apps)?;
-    let name = &command.name;
-    let app = single.app;
-    let other = second.name;
-    write!(out, "{name}: application {app}: {other} has it ")?;
-    push_new(out, &new, first)
+    note.put_all(&[command.name.as_str(), ": application "]);
+    note.put_number(u64::from(single.app));
+    note.put_all(&[": ", second.name, " has it "]);
+    push_new(note, &new, first);
+    Ok(())
 }
 
 /// Adds for which applications the second dictionary has a command, if not only for some that the first has, too.
-fn push_new(out: &mut String, new: &[u32], first: &str) -> Result<(), AllocError> {
+fn push_new(note: &mut Note, new: &[u32], first: &str) {
     if new.is_empty() {
-        write!(out, "only for applications that {first} has, too")?;
+        note.put_all(&["only for applications that ", first, " has, too"]);
     } else {
-        push_numbers(out, new)?;
+        push_numbers(note, new);
     }
-    out.push_str(", so what breaks behind that line isn't told\n")
+    note.put(", so what breaks behind that line isn't told\n")
 }
 
 /// The applications of the second dictionary's commands of this code and class that the first doesn't have.
@@ -247,16 +248,23 @@ fn new_ones(
 }
 
 /// Adds `for applications 6, 7 and 8`, of at least two numbers.
-fn push_numbers(out: &mut String, apps: &[u32]) -> Result<(), AllocError> {
+fn push_numbers(note: &mut Note, apps: &[u32]) {
     let told = apps.len().saturating_sub(1).min(MOST);
-    out.push_str("for applications ")?;
+    note.put("for applications ");
     for (place, app) in apps.iter().take(told).enumerate() {
-        let between = if place == 0 { "" } else { ", " };
-        write!(out, "{between}{app}")?;
+        note.put(if place == 0 { "" } else { ", " });
+        note.put_number(u64::from(*app));
     }
     match apps.get(told..) {
-        Some([last]) => write!(out, " and {last}"),
-        Some(rest) => write!(out, " and {} more", rest.len()),
-        None => Ok(()),
+        Some([last]) => {
+            note.put(" and ");
+            note.put_number(u64::from(*last));
+        }
+        Some(rest) => {
+            note.put(" and ");
+            note.put_number(rest.len() as u64);
+            note.put(" more");
+        }
+        None => {}
     }
 }

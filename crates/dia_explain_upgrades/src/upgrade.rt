@@ -7,7 +7,7 @@ use crate::tally::{push_meanings, push_tally};
 use crate::unchosen::push_unchosen;
 use crate::without_commands::push_without_commands;
 use dia_explain_inputs::{push_empty, push_refused, push_unknown_commands};
-use dia_explain_places::InputTexts;
+use dia_explain_places::{InputTexts, Note};
 use dia_io::Inputs;
 use dia_report::BothBooks;
 use dia_upgrades::{Asked, Found, Report, Told};
@@ -21,21 +21,21 @@ pub fn explain_upgrade(
     inputs: &Inputs,
     report: &Report,
 ) -> Result<String, AllocError> {
-    let mut out = String::new(alloc);
+    let mut note = Note::new(alloc);
     match report {
-        Report::Refused(bad) => push_refused(alloc, &mut out, texts, bad)?,
+        Report::Refused(bad) => push_refused(&mut note, texts, bad),
         Report::Read { books, found } => {
-            push_empty(&mut out, &texts.second)?;
-            push_found(alloc, &mut out, texts, asked, inputs, books, found)?;
+            push_empty(&mut note, &texts.second);
+            push_found(alloc, &mut note, texts, asked, inputs, books, found)?;
         }
     }
-    Ok(out)
+    note.finish()
 }
 
 /// Adds what was found of two dictionaries and a list of accepted lines.
 fn push_found(
     alloc: Global,
-    out: &mut String,
+    note: &mut Note,
     texts: &InputTexts<'_>,
     asked: Asked<'_, '_>,
     inputs: &Inputs,
@@ -51,24 +51,25 @@ fn push_found(
             ..
         } => {
             let (first, second) = (texts.first.name, texts.second.name);
-            push_tally(out, first, second, *lines, causes.len())?;
+            push_tally(note, first, second, *lines, causes.len());
             if *lines > 0 {
-                push_less(alloc, out, asked, inputs, books)?;
+                push_less(alloc, note, asked, inputs, books)?;
             }
-            push_meanings(out, meanings)?;
-            push_causes(alloc, out, texts, asked.names, books, causes)?;
-            push_stale(alloc, out, &texts.table, stale)
+            push_meanings(note, meanings);
+            push_causes(alloc, note, texts, asked.names, books, causes)?;
+            push_stale(note, &texts.table, stale);
         }
-        Found::NoList(bad) => push_bad_list(alloc, out, &texts.table, bad),
-        Found::NoCommands => push_without_commands(out, &texts.first, &books.first.source),
-        Found::NoCommand => push_unknown_commands(alloc, out, texts, asked.names, books),
+        Found::NoList(bad) => push_bad_list(note, &texts.table, bad),
+        Found::NoCommands => push_without_commands(note, &texts.first, &books.first.source),
+        Found::NoCommand => push_unknown_commands(note, texts, asked.names, books),
     }
+    Ok(())
 }
 
 /// Adds the application behind whose line nothing is compared, and the names of AVPs that are others in the second dictionary.
 fn push_causes(
     alloc: Global,
-    out: &mut String,
+    note: &mut Note,
     texts: &InputTexts<'_>,
     names: &[String],
     books: &BothBooks,
@@ -82,6 +83,6 @@ fn push_causes(
         name: texts.second.name,
         source: &books.second.source,
     };
-    push_unchosen(alloc, out, first, second, names, causes)?;
-    push_namesakes(alloc, out, first, second, causes)
+    push_unchosen(alloc, note, first, second, names, causes)?;
+    push_namesakes(alloc, note, first, second, causes)
 }

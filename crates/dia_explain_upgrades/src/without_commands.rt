@@ -1,8 +1,7 @@
 //! What a dictionary has that has no commands.
 
 use dia_ccf::Source;
-use dia_explain_places::NamedText;
-use std::alloc::AllocError;
+use dia_explain_places::{NamedText, Note};
 
 /// What to do about a dictionary without commands.
 const HINT: &str = "hint: a command is <NAME> ::= < Diameter Header: CODE, REQ > and its rules; \
@@ -14,23 +13,22 @@ const RETURNS: &str =
     hint: save the file with line feeds\n";
 
 /// Adds what the text of a dictionary has in place of commands.
-pub fn push_without_commands(
-    out: &mut String,
-    dictionary: &NamedText<'_>,
-    source: &Source,
-) -> Result<(), AllocError> {
+pub fn push_without_commands(note: &mut Note, dictionary: &NamedText<'_>, source: &Source) {
     let NamedText { name, text } = *dictionary;
     let avps = source.avps.len();
     let groups = source.groups.len();
-    write!(out, "{name}: the dictionary has no commands: ")?;
+    note.put_all(&[name, ": the dictionary has no commands: "]);
     if text.contains(&b'\r') && !text.contains(&b'\n') {
-        out.push_str(RETURNS)
+        note.put(RETURNS)
     } else if avps == 0 && groups == 0 {
-        write!(out, "the text declares nothing\n{HINT}")
+        note.put("the text declares nothing\n");
+        note.put(HINT);
     } else {
-        write!(
-            out,
-            "the text has AVPs ({avps}) and groups ({groups}) alone\n{HINT}"
-        )
+        note.put("the text has AVPs (");
+        note.put_number(avps as u64);
+        note.put(") and groups (");
+        note.put_number(groups as u64);
+        note.put(") alone\n");
+        note.put(HINT);
     }
 }

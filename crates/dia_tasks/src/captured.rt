@@ -9,6 +9,7 @@ use dia_captures::{Captured, Lines, check_lines, check_stream, refute_lines};
 use dia_cli::{Ending, Origin, Origins};
 use dia_explain_answers::{Asked, push_check_alone, push_refute_alone};
 use dia_explain_inputs::push_front;
+use dia_explain_places::Note;
 use dia_io::{Exit, Feed, FromReader, Inputs, Sink, ToWriter};
 use dia_lines::LinesFault;
 use dia_policy::{Levels, Unknown};
@@ -190,25 +191,25 @@ fn advise<R: AllocGlobal + Eprint>(rt: &R, capture: Capture, origins: &Origins<'
 }
 
 fn advice(alloc: Global, capture: Capture, origins: &Origins<'_>) -> Result<String, AllocError> {
-    let mut out = String::new(alloc);
+    let mut note = Note::new(alloc);
     let messages = word_of(origins.messages);
     let first = word_of(origins.first);
     let second = word_of(origins.second);
     let asked = Asked::new(capture.unknown, capture.levels);
     match capture.lines {
-        Lines::Checked => push_check_alone(&mut out, messages, &asked, first)?,
-        Lines::Refuted => push_refute_alone(&mut out, messages, &asked, first, second)?,
+        Lines::Checked => push_check_alone(&mut note, messages, &asked, first),
+        Lines::Refuted => push_refute_alone(&mut note, messages, &asked, first, second),
         Lines::Placed => {}
     }
-    Ok(out)
+    note.finish()
 }
 
 /// Tells what a text is whose front shows that it has no messages, or not one a line.
 pub fn tell_front<R: AllocGlobal + Eprint>(rt: &R, name: &str, lines: Lines, front: &[u8]) {
-    let mut out = String::new(rt.alloc());
-    let in_lines = lines != Lines::Placed;
-    if push_front(rt.alloc(), &mut out, name, front, in_lines).is_ok() {
-        let _ = eprint!(rt; "{out}");
+    let mut note = Note::new(rt.alloc());
+    push_front(&mut note, name, front, lines != Lines::Placed);
+    if let Ok(text) = note.finish() {
+        let _ = eprint!(rt; "{text}");
     }
 }
 

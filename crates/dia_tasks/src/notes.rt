@@ -5,7 +5,7 @@ use dia_explain_answers::{push_answer, push_unnamed};
 use dia_explain_inputs::{
     push_empty, push_length, push_no_pairs, push_refused, push_strangers, push_unknown_commands,
 };
-use dia_explain_places::InputTexts;
+use dia_explain_places::{InputTexts, Note};
 use dia_report::{Compared, Report};
 use std::alloc::{AllocError, Global};
 
@@ -37,44 +37,39 @@ fn explain(
     names: &[String],
     report: &Report,
 ) -> Result<String, AllocError> {
-    let mut out = String::new(alloc);
+    let mut note = Note::new(alloc);
     if !matches!(report, Report::Refused(_)) {
-        push_empty(&mut out, &texts.first)?;
-        push_empty(&mut out, &texts.second)?;
+        push_empty(&mut note, &texts.first);
+        push_empty(&mut note, &texts.second);
     }
-    push_answer(alloc, &mut out, texts, report)?;
+    push_answer(&mut note, texts, report);
     match report {
-        Report::Refused(bad) => push_refused(alloc, &mut out, texts, bad)?,
-        Report::NoCommand(books) => push_unknown_commands(alloc, &mut out, texts, names, books)?,
-        Report::Invalid(found) => push_length(&mut out, &texts.message, &found.message)?,
-        Report::Unrefuting(found) => push_length(&mut out, &texts.message, &found.message)?,
-        Report::Compared(found) => push_table(alloc, &mut out, texts, found)?,
+        Report::Refused(bad) => push_refused(&mut note, texts, bad),
+        Report::NoCommand(books) => push_unknown_commands(&mut note, texts, names, books),
+        Report::Invalid(found) => push_length(&mut note, &texts.message, &found.message),
+        Report::Unrefuting(found) => push_length(&mut note, &texts.message, &found.message),
+        Report::Compared(found) => push_table(&mut note, texts, found),
         Report::Done | Report::Shown(_) | Report::Cut(_) => {}
     }
-    Ok(out)
+    note.finish()
 }
 
 /// What is told on standard error of a message that was shown by the base dictionary. `sign` is what stands for a name that it
 /// doesn't have.
 fn unnamed(alloc: Global, report: &Report, sign: &str) -> Result<String, AllocError> {
-    let mut out = String::new(alloc);
+    let mut note = Note::new(alloc);
     match report {
-        Report::Shown(message) => push_unnamed(alloc, &mut out, message, sign)?,
-        Report::Cut(listing) => push_unnamed(alloc, &mut out, &listing.message, sign)?,
+        Report::Shown(message) => push_unnamed(&mut note, message, sign),
+        Report::Cut(listing) => push_unnamed(&mut note, &listing.message, sign),
         _ => {}
     }
-    Ok(out)
+    note.finish()
 }
 
 /// Adds what a table lacks: pairs of commands where the answer is yes, and else names that the dictionaries have.
-fn push_table(
-    alloc: Global,
-    out: &mut String,
-    texts: &InputTexts<'_>,
-    found: &Compared,
-) -> Result<(), AllocError> {
+fn push_table(note: &mut Note, texts: &InputTexts<'_>, found: &Compared) {
     match found.answer {
-        Answer::Yes => push_no_pairs(out, texts, &found.table),
-        Answer::No { .. } => push_strangers(alloc, out, texts, &found.books),
+        Answer::Yes => push_no_pairs(note, texts, &found.table),
+        Answer::No { .. } => push_strangers(note, texts, &found.books),
     }
 }

@@ -6,13 +6,15 @@ use crate::books::{
 };
 use crate::checking::policy_words;
 use crate::comparing::pairing::Pairing;
-use crate::rule_text::{m_word, push_key, push_loose, push_rule, push_slot, widened};
+use crate::rule_text::{
+    m_word, push_key, push_loose, push_rule, push_shown_value, push_slot, widened,
+};
 use crate::sides::Side;
-use crate::texts::{Added, Scene, push_number};
+use crate::texts::{Scene, push_number};
 use dia_book::{DRule, DefHead, Definition, Format, Key};
 use dia_breaking_data::witness;
 use dia_compat::Failing;
-use dia_data::push_value;
+use dia_explain_places::Note;
 
 /// A pair of commands or of AVPs, and what of it fails a test.
 #[derive(Clone, Copy)]
@@ -136,16 +138,16 @@ impl<'a> Pair<'a> {
         }
     }
 
-    fn push_rule_word(&self, out: &mut String, word: &str) -> Added {
+    fn push_rule_word(&self, note: &mut Note, word: &str) {
         let (a, b) = (&self.pairing.a, &self.pairing.b);
         let Some(rule) = self.rule_of(word) else {
-            return Ok(());
+            return;
         };
         match word {
-            "sent" => push_slot(out, a, &rule, "AVP"),
-            "wanted" => push_slot(out, b, &rule, "AVP"),
-            "loose" => push_loose(out, b, &rule),
-            _ => push_rule(out, b, &rule),
+            "sent" => push_slot(note, a, &rule, "AVP"),
+            "wanted" => push_slot(note, b, &rule, "AVP"),
+            "loose" => push_loose(note, b, &rule),
+            _ => push_rule(note, b, &rule),
         }
     }
 
@@ -159,27 +161,27 @@ impl<'a> Pair<'a> {
     }
 
     /// Adds what a word about the AVP of the failing stands for: its code and vendor, or its name in one of the dictionaries.
-    fn push_key_word(&self, out: &mut String, word: &str) -> Added {
+    fn push_key_word(&self, note: &mut Note, word: &str) {
         let Some(key) = self.key() else {
-            return self.push_rule_word(out, word);
+            return self.push_rule_word(note, word);
         };
         match word {
-            "code" => push_key(out, key, " and vendor "),
-            "first" => self.pairing.a.push_name(out, key),
-            "second" => self.pairing.b.push_name(out, key),
-            _ => self.push_rule_word(out, word),
+            "code" => push_key(note, key, " and vendor "),
+            "first" => self.pairing.a.push_name(note, key),
+            "second" => self.pairing.b.push_name(note, key),
+            _ => self.push_rule_word(note, word),
         }
     }
 
     /// Adds what a word about two AVPs stands for: the rule of the second's M flag, or a value that it doesn't accept.
-    fn push_avp_word(&self, out: &mut String, word: &str) -> Added {
+    fn push_avp_word(&self, note: &mut Note, word: &str) {
         let (Some(first), Some(second)) = (self.first_avp, self.second_avp) else {
-            return self.push_key_word(out, word);
+            return self.push_key_word(note, word);
         };
         match word {
-            "m" => out.push_str(m_word(second.rule)),
-            "value" => push_witness(out, first.format, second.format),
-            _ => self.push_key_word(out, word),
+            "m" => note.put(m_word(second.rule)),
+            "value" => push_witness(note, first.format, second.format),
+            _ => self.push_key_word(note, word),
         }
     }
 }
@@ -202,20 +204,20 @@ fn group_of<'a>(side: &Side<'a>, avp: Option<Known<'a>>) -> Option<&'a Definitio
 }
 
 /// Adds a value that the first of two formats accepts, and the second doesn't.
-fn push_witness(out: &mut String, first: &Format, second: &Format) -> Added {
+fn push_witness(note: &mut Note, first: &Format, second: &Format) {
     match witness(first, second) {
-        Some(value) => push_value(out, first, value.as_slice()),
-        None => Ok(()),
+        Some(value) => push_shown_value(note, first, value.as_slice()),
+        None => {}
     }
 }
 
 impl Scene for Pair<'_> {
-    fn push_word(&self, out: &mut String, word: &str) -> Added {
+    fn push_word(&self, note: &mut Note, word: &str) {
         match word {
-            "app" | "own" | "place" => push_number(out, self.number_of(word)),
+            "app" | "own" | "place" => push_number(note, self.number_of(word)),
             _ => match self.text_for(word) {
-                Some(text) => out.push_str(text),
-                None => self.push_avp_word(out, word),
+                Some(text) => note.put(text),
+                None => self.push_avp_word(note, word),
             },
         }
     }

@@ -4,61 +4,59 @@ use crate::books::Known;
 use crate::comparing::pair::{Pair, rule_at, wildcard_of};
 use crate::rule_text::{push_counts, push_rule, push_slot};
 use crate::sides::Side;
-use crate::texts::{Added, Scene, push_hint};
+use crate::texts::{Scene, push_hint, push_number};
 use dia_book::{Class, DRule, DefHead, Definition, Pxy};
+use dia_explain_places::Note;
 
 /// Adds lines `PART: TEXT`, where there is what they are about.
-pub fn push_lines(out: &mut String, pair: &Pair<'_>, lines: &str) -> Added {
+pub fn push_lines(note: &mut Note, pair: &Pair<'_>, lines: &str) {
     for line in lines.lines() {
-        push_line(out, pair, line)?;
+        push_line(note, pair, line);
     }
-    Ok(())
 }
 
-fn push_line(out: &mut String, pair: &Pair<'_>, line: &str) -> Added {
+fn push_line(note: &mut Note, pair: &Pair<'_>, line: &str) {
     let Some((part, told)) = line.split_once(": ") else {
-        return Ok(());
+        return;
     };
     match part {
-        "hint" => push_hint(out, pair, told),
-        "x" | "sent" | "unsent" => push_of_first(out, pair, part, told),
-        "y" | "taken" | "wildcard" => push_of_second(out, pair, part, told),
-        _ => push_of_avps(out, pair, part, told),
+        "hint" => push_hint(note, pair, told),
+        "x" | "sent" | "unsent" => push_of_first(note, pair, part, told),
+        "y" | "taken" | "wildcard" => push_of_second(note, pair, part, told),
+        _ => push_of_avps(note, pair, part, told),
     }
 }
 
 /// Adds a line about the first's definition, or about a rule of it.
-fn push_of_first(out: &mut String, pair: &Pair<'_>, part: &str, told: &str) -> Added {
+fn push_of_first(note: &mut Note, pair: &Pair<'_>, part: &str, told: &str) {
     let sent = pair.places().0;
     let is_of_rule = part == "sent";
     if part == "x" || is_of_rule == sent.is_some() {
         let rule = if is_of_rule { sent } else { None };
-        push_defined(out, &pair.pairing.a, pair.x, rule, told)
-    } else {
-        Ok(())
+        push_defined(note, &pair.pairing.a, pair.x, rule, told)
     }
 }
 
 /// Adds a line about the second's definition, or about a rule of it.
-fn push_of_second(out: &mut String, pair: &Pair<'_>, part: &str, told: &str) -> Added {
+fn push_of_second(note: &mut Note, pair: &Pair<'_>, part: &str, told: &str) {
     let rule = match part {
         "taken" => pair.places().1,
         "wildcard" => wildcard_of(pair.y),
         _ => None,
     };
-    push_defined(out, &pair.pairing.b, pair.y, rule, told)
+    push_defined(note, &pair.pairing.b, pair.y, rule, told)
 }
 
 /// Adds a line about AVPs.
-fn push_of_avps(out: &mut String, pair: &Pair<'_>, part: &str, told: &str) -> Added {
+fn push_of_avps(note: &mut Note, pair: &Pair<'_>, part: &str, told: &str) {
     let (a, b) = (&pair.pairing.a, &pair.pairing.b);
     match part {
-        "own" => push_avp(out, a, pair, pair.known_in(a), told),
-        "other" => push_avp(out, b, pair, pair.known_in(b), told),
-        "a" => push_avp(out, a, pair, pair.first_avp, told),
-        "b" => push_avp(out, b, pair, pair.second_avp, told),
-        "lack" if pair.known_in(b).is_none() => b.push_part(out, None, pair, told),
-        _ => Ok(()),
+        "own" => push_avp(note, a, pair, pair.known_in(a), told),
+        "other" => push_avp(note, b, pair, pair.known_in(b), told),
+        "a" => push_avp(note, a, pair, pair.first_avp, told),
+        "b" => push_avp(note, b, pair, pair.second_avp, told),
+        "lack" if pair.known_in(b).is_none() => b.push_part(note, None, pair, told),
+        _ => {}
     }
 }
 
@@ -72,14 +70,14 @@ struct Defined<'a> {
 
 /// Adds a line about a definition, or about the rule at a place of it.
 fn push_defined<'a>(
-    out: &mut String,
+    note: &mut Note,
     side: &Side<'a>,
     def: Option<&'a Definition>,
     place: Option<usize>,
     told: &str,
-) -> Added {
+) {
     let Some(def) = def else {
-        return Ok(());
+        return;
     };
     let rule = rule_at(Some(def), place);
     let defined = Defined {
@@ -87,29 +85,29 @@ fn push_defined<'a>(
         def,
         rule,
     };
-    side.push_part(out, side.definition_at(def, place), &defined, told)
+    side.push_part(note, side.definition_at(def, place), &defined, told)
 }
 
 impl Scene for Defined<'_> {
-    fn push_word(&self, out: &mut String, word: &str) -> Added {
+    fn push_word(&self, note: &mut Note, word: &str) {
         match word {
-            "name" => out.push_str(self.def.name.as_str()),
-            "flag" => out.push_str(flag_words(self.def.head)),
-            "messages" => push_messages(out, self.def.head),
-            _ => self.push_rule_word(out, word),
+            "name" => note.put(self.def.name.as_str()),
+            "flag" => note.put(flag_words(self.def.head)),
+            "messages" => push_messages(note, self.def.head),
+            _ => self.push_rule_word(note, word),
         }
     }
 }
 
 impl Defined<'_> {
-    fn push_rule_word(&self, out: &mut String, word: &str) -> Added {
+    fn push_rule_word(&self, note: &mut Note, word: &str) {
         let Some(rule) = self.rule else {
-            return Ok(());
+            return;
         };
         match word {
-            "counts" => push_counts(out, &rule),
-            "counted" => push_slot(out, &self.side, &rule, "what no rule names"),
-            _ => push_rule(out, &self.side, &rule),
+            "counts" => push_counts(note, &rule),
+            "counted" => push_slot(note, &self.side, &rule, "what no rule names"),
+            _ => push_rule(note, &self.side, &rule),
         }
     }
 }
@@ -123,30 +121,30 @@ struct Declared<'p, 'a> {
 
 /// Adds a line about an AVP, where a dictionary has it.
 fn push_avp<'a>(
-    out: &mut String,
+    note: &mut Note,
     side: &Side<'a>,
     pair: &Pair<'a>,
     avp: Option<Known<'a>>,
     told: &str,
-) -> Added {
+) {
     match avp {
-        Some(avp) => side.push_part(out, side.avp_at(avp.name), &Declared { pair, avp }, told),
-        None => Ok(()),
+        Some(avp) => side.push_part(note, side.avp_at(avp.name), &Declared { pair, avp }, told),
+        None => {}
     }
 }
 
 impl Scene for Declared<'_, '_> {
-    fn push_word(&self, out: &mut String, word: &str) -> Added {
+    fn push_word(&self, note: &mut Note, word: &str) {
         if word == "a" {
-            self.pair.push_word(out, word)
+            self.pair.push_word(note, word)
         } else {
-            self.avp.push_word(out, word)
+            self.avp.push_word(note, word)
         }
     }
 }
 
 /// Adds the messages that a command is for.
-fn push_messages(out: &mut String, head: DefHead) -> Added {
+fn push_messages(note: &mut Note, head: DefHead) {
     let DefHead::Command {
         code,
         class,
@@ -154,15 +152,17 @@ fn push_messages(out: &mut String, head: DefHead) -> Added {
         ..
     } = head
     else {
-        return out.push_str("answers with the E flag");
+        return note.put("answers with the E flag");
     };
     let what = match class {
         Class::Request => "requests",
         _ => "answers",
     };
-    match app {
-        Some(app) => write!(out, "{what} of code {code} and application {app}"),
-        None => write!(out, "{what} of code {code}"),
+    note.put_all(&[what, " of code "]);
+    push_number(note, code as usize);
+    if let Some(app) = app {
+        note.put(" and application ");
+        push_number(note, app as usize);
     }
 }
 

@@ -6,10 +6,11 @@ use crate::faults::in_body::InBody;
 use crate::faults::lengths::push_length_word;
 use crate::faults::reasons::{Topic, topic_of};
 use crate::faults::rules::push_rule_word;
-use crate::rule_text::{push_key, push_vendor};
-use crate::texts::{Added, push_number};
+use crate::rule_text::{push_key, push_shown_value, push_vendor};
+use crate::texts::push_number;
 use dia_book::Format;
-use dia_data::{FormatKind, Values, push_value};
+use dia_data::{FormatKind, Values};
+use dia_explain_places::Note;
 use dia_terms::{FormatName, format_words};
 use dia_wire::next_avp;
 
@@ -50,39 +51,39 @@ pub fn data_of<'a>(scene: &InBody<'a>) -> &'a [u8] {
 }
 
 /// Adds what a word about the AVP of a fault stands for.
-pub fn push_avp_word(out: &mut String, scene: &InBody<'_>, word: &str) -> Added {
+pub fn push_avp_word(note: &mut Note, scene: &InBody<'_>, word: &str) {
     let Some(key) = scene.key() else {
-        return push_level_word(out, scene, word);
+        return push_level_word(note, scene, word);
     };
     match word {
-        "key" => push_key(out, key, " and vendor "),
-        "declared" => push_key(out, key, " vendor "),
+        "key" => push_key(note, key, " and vendor "),
+        "declared" => push_key(note, key, " vendor "),
         "vendor" => match same_code(scene) {
-            Some(other) => push_vendor(out, other.key.vendor),
-            None => Ok(()),
+            Some(other) => push_vendor(note, other.key.vendor),
+            None => {}
         },
-        _ => push_data_word(out, scene, word),
+        _ => push_data_word(note, scene, word),
     }
 }
 
 /// Adds what a word of a fault that is about no AVP stands for.
-fn push_level_word(out: &mut String, scene: &InBody<'_>, word: &str) -> Added {
+fn push_level_word(note: &mut Note, scene: &InBody<'_>, word: &str) {
     if matches!(topic_of(scene.fault.reason), Topic::Lengths) {
-        push_length_word(out, scene, word)
+        push_length_word(note, scene, word)
     } else {
-        push_rule_word(out, scene, word)
+        push_rule_word(note, scene, word)
     }
 }
 
 /// Adds what a word about the bytes of that AVP stands for.
-fn push_data_word(out: &mut String, scene: &InBody<'_>, word: &str) -> Added {
+fn push_data_word(note: &mut Note, scene: &InBody<'_>, word: &str) {
     let data = data_of(scene);
     match word {
-        "flag" => out.push_str(m_flag(scene.own())),
-        "bytes" => push_number(out, data.len()),
-        "fits" => push_fitting(out, data.len()),
-        "value" => push_value(out, &Format::Integer32, data),
-        _ => push_declared_word(out, scene, data, word),
+        "flag" => note.put(m_flag(scene.own())),
+        "bytes" => push_number(note, data.len()),
+        "fits" => push_fitting(note, data.len()),
+        "value" => push_shown_value(note, &Format::Integer32, data),
+        _ => push_declared_word(note, scene, data, word),
     }
 }
 
@@ -92,24 +93,24 @@ fn m_flag(avp: &[u8]) -> &'static str {
 }
 
 /// Adds what a word about the declaration of that AVP stands for, or about data that isn't as it says.
-fn push_declared_word(out: &mut String, scene: &InBody<'_>, data: &[u8], word: &str) -> Added {
+fn push_declared_word(note: &mut Note, scene: &InBody<'_>, data: &[u8], word: &str) {
     let Some(avp) = scene.avp() else {
-        return push_rule_word(out, scene, word);
+        return push_rule_word(note, scene, word);
     };
     match word {
-        "m" | "format" => out.push_str(avp.declared_word(word)),
-        "lengths" => out.push_str(lengths_of(avp.format)),
-        "bad" | "byte" | "rest" => push_bad_word(out, data, bad_place(avp.format, data), word),
-        _ => push_rule_word(out, scene, word),
+        "m" | "format" => note.put(avp.declared_word(word)),
+        "lengths" => note.put(lengths_of(avp.format)),
+        "bad" | "byte" | "rest" => push_bad_word(note, data, bad_place(avp.format, data), word),
+        _ => push_rule_word(note, scene, word),
     }
 }
 
 /// Adds what a word about a place in some data stands for.
-fn push_bad_word(out: &mut String, data: &[u8], bad: usize, word: &str) -> Added {
+fn push_bad_word(note: &mut Note, data: &[u8], bad: usize, word: &str) {
     match word {
-        "bad" => push_number(out, bad),
-        "byte" => push_hex(out, part(data, bad, bad.saturating_add(1))),
-        _ => push_hex(out, part(data, bad, bad.saturating_add(4))),
+        "bad" => push_number(note, bad),
+        "byte" => push_hex(note, part(data, bad, bad.saturating_add(1))),
+        _ => push_hex(note, part(data, bad, bad.saturating_add(4))),
     }
 }
 
@@ -143,17 +144,17 @@ fn lengths_of(format: &Format) -> &'static str {
 }
 
 /// Adds the formats whose data has this length.
-fn push_fitting(out: &mut String, length: usize) -> Added {
+fn push_fitting(note: &mut Note, length: usize) {
     let mut lead = ": ";
     let mut last = ", such as OctetString";
     for word in format_words() {
         if has_length(word, length) {
-            write!(out, "{lead}{word}")?;
+            note.put_all(&[lead, word]);
             lead = ", ";
             last = " or OctetString";
         }
     }
-    out.push_str(last)
+    note.put(last)
 }
 
 /// Whether the data of the format with this name has this length, and no other.

@@ -1,11 +1,13 @@
 //! The bytes of an AVP and of a header, by their fields (RFC 6733 sections 3 and 4.1).
 
-use crate::texts::{Added, Scene, push_number, push_text};
+use crate::texts::{Scene, push_number, push_text};
 use dia_data::push_hex_byte;
+use dia_explain_places::Note;
 use dia_wire::{
     AVP_HEAD_LENGTH, AVP_MANDATORY, AVP_PROTECTED, AVP_VENDOR, COMMAND_ERROR, COMMAND_PROXIABLE,
     COMMAND_REQUEST, COMMAND_RETRANSMITTED, Header, VENDOR_AVP_HEAD_LENGTH,
 };
+use std::alloc::{AllocError, Global};
 
 /// How many bytes an AVP has up to its flags, and with them.
 const FLAGS_END: usize = 5;
@@ -34,8 +36,8 @@ struct AvpBytes<'a> {
 }
 
 /// Adds a line with the place of an AVP and its fields, as far as they are there: in decimal, and in hexadecimal.
-pub fn push_avp(out: &mut String, at: usize, bytes: &[u8]) -> Added {
-    push_text(out, &AvpBytes { at, bytes }, fields_of(bytes))
+pub fn push_avp(note: &mut Note, at: usize, bytes: &[u8]) {
+    push_text(note, &AvpBytes { at, bytes }, fields_of(bytes))
 }
 
 fn fields_of(bytes: &[u8]) -> &'static str {
@@ -49,59 +51,63 @@ fn fields_of(bytes: &[u8]) -> &'static str {
 }
 
 impl Scene for AvpBytes<'_> {
-    fn push_word(&self, out: &mut String, word: &str) -> Added {
+    fn push_word(&self, note: &mut Note, word: &str) {
         let bytes = self.bytes;
         match word {
-            "at" => push_number(out, self.at),
-            "code" => push_field(out, part(bytes, 0, 4)),
-            "flags" => push_flags(out, flags_of(bytes), &AVP_FLAGS),
-            "length" => push_field(out, part(bytes, 5, 8)),
-            "vendor" => push_field(out, part(bytes, 8, 12)),
-            "data" => push_data(out, part(bytes, head_of(bytes), length_of(bytes))),
-            _ => push_hex(out, bytes),
+            "at" => push_number(note, self.at),
+            "code" => push_field(note, part(bytes, 0, 4)),
+            "flags" => push_flags(note, flags_of(bytes), &AVP_FLAGS),
+            "length" => push_field(note, part(bytes, 5, 8)),
+            "vendor" => push_field(note, part(bytes, 8, 12)),
+            "data" => push_data(note, part(bytes, head_of(bytes), length_of(bytes))),
+            _ => push_hex(note, bytes),
         }
     }
 }
 
-fn push_data(out: &mut String, bytes: &[u8]) -> Added {
+fn push_data(note: &mut Note, bytes: &[u8]) {
     if bytes.is_empty() {
-        return Ok(());
+        return;
     }
-    out.push_str(", data ")?;
-    push_hex(out, part(bytes, 0, SHOWN))?;
-    out.push_str(if bytes.len() > SHOWN { ".." } else { "" })
+    note.put(", data ");
+    push_hex(note, part(bytes, 0, SHOWN));
+    note.put(if bytes.len() > SHOWN { ".." } else { "" })
 }
 
 /// Adds the flags of a header, with the names of those that are set.
-pub fn push_command_flags(out: &mut String, header: &Header) -> Added {
-    push_flags(out, header.flags, &COMMAND_FLAGS)
+pub fn push_command_flags(note: &mut Note, header: &Header) {
+    push_flags(note, header.flags, &COMMAND_FLAGS)
 }
 
 /// Adds flags, with the names of those that are set.
-fn push_flags(out: &mut String, flags: u8, names: &[(u8, &'static str)]) -> Added {
-    push_hex_byte(out, flags)?;
+fn push_flags(note: &mut Note, flags: u8, names: &[(u8, &'static str)]) {
+    push_hex(note, &[flags]);
     for (bit, name) in names {
         if flags & *bit != 0 {
-            out.push_str(name)?;
+            note.put(name);
         }
     }
-    Ok(())
 }
 
 /// Adds a number, and its bytes.
-fn push_field(out: &mut String, bytes: &[u8]) -> Added {
-    let value = value_of(bytes);
-    write!(out, "{value} (")?;
-    push_hex(out, bytes)?;
-    out.push(')')
+fn push_field(note: &mut Note, bytes: &[u8]) {
+    push_number(note, value_of(bytes) as usize);
+    note.put(" (");
+    push_hex(note, bytes);
+    note.put(")")
 }
 
 /// Adds bytes as hexadecimal digits.
-pub fn push_hex(out: &mut String, bytes: &[u8]) -> Added {
+pub fn push_hex(note: &mut Note, bytes: &[u8]) {
+    note.put_made(hex_of(note.allocator(), bytes));
+}
+
+fn hex_of(alloc: Global, bytes: &[u8]) -> Result<String, AllocError> {
+    let mut digits = String::new(alloc);
     for byte in bytes {
-        push_hex_byte(out, *byte)?;
+        push_hex_byte(&mut digits, *byte)?;
     }
-    Ok(())
+    Ok(digits)
 }
 
 /// The number that at most 4 bytes spell in network byte order.

@@ -5,9 +5,10 @@ use crate::books::{Level, Wanted, class_of, command_at, definition, find_command
 use crate::faults::avp_bytes::push_command_flags;
 use crate::faults::reasons::text_of_header;
 use crate::sides::Side;
-use crate::texts::{Added, Scene, fault_and_hint, push_hint, push_number, push_text};
+use crate::texts::{Scene, fault_and_hint, push_hint, push_number, push_text};
 use dia_book::{Book, Class, DefHead, Definition};
 use dia_check::Reason;
+use dia_explain_places::Note;
 use dia_wire::Header;
 
 /// How many applications are told.
@@ -25,12 +26,7 @@ struct InHeader<'a> {
 }
 
 /// Adds what is wrong with a header, its fields, where the dictionary says otherwise, and what to do.
-pub fn push_header_fault(
-    out: &mut String,
-    side: &Side<'_>,
-    header: &Header,
-    reason: Reason,
-) -> Added {
+pub fn push_header_fault(note: &mut Note, side: &Side<'_>, header: &Header, reason: Reason) {
     let command = match reason {
         Reason::Command => find_command(side.book, Wanted::Code(header.code)),
         _ => definition(side.book, Level::body(header)),
@@ -40,23 +36,23 @@ pub fn push_header_fault(
         header: *header,
         command,
     };
-    scene.push(out, reason)
+    scene.push(note, reason)
 }
 
 impl InHeader<'_> {
-    fn push(&self, out: &mut String, reason: Reason) -> Added {
+    fn push(&self, note: &mut Note, reason: Reason) {
         let text = text_of_header(reason, &self.header, self.command);
         let (fault, hint) = fault_and_hint(text);
-        self.push_fault(out, fault)?;
-        self.push_commands(out, reason)?;
-        push_hint(out, self, hint)?;
-        self.push_dictionary(out, reason)
+        self.push_fault(note, fault);
+        self.push_commands(note, reason);
+        push_hint(note, self, hint);
+        self.push_dictionary(note, reason)
     }
 
     /// Adds what is wrong, and the fields of the header.
-    fn push_fault(&self, out: &mut String, fault: &str) -> Added {
-        push_text(out, self, fault)?;
-        push_text(out, self, HEADER)
+    fn push_fault(&self, note: &mut Note, fault: &str) {
+        push_text(note, self, fault);
+        push_text(note, self, HEADER)
     }
 
     fn class(&self) -> Class {
@@ -64,39 +60,38 @@ impl InHeader<'_> {
     }
 
     /// Adds where the dictionary says otherwise.
-    fn push_commands(&self, out: &mut String, reason: Reason) -> Added {
+    fn push_commands(&self, note: &mut Note, reason: Reason) {
         match (reason, self.command) {
             (Reason::Command, Some(command)) if self.class() != Class::Error => {
-                self.push_command(out, command, "{name} has this code")
+                self.push_command(note, command, "{name} has this code")
             }
             (Reason::Proxiable, Some(command)) => {
-                self.push_command(out, command, "{name} is defined here")
+                self.push_command(note, command, "{name} is defined here")
             }
-            (Reason::Application, _) => self.push_applications(out),
-            _ => Ok(()),
+            (Reason::Application, _) => self.push_applications(note),
+            _ => {}
         }
     }
 
-    fn push_command(&self, out: &mut String, command: &Definition, told: &str) -> Added {
+    fn push_command(&self, note: &mut Note, command: &Definition, told: &str) {
         self.side
-            .push_part(out, self.side.definition_at(command, None), self, told)
+            .push_part(note, self.side.definition_at(command, None), self, told)
     }
 
     /// Adds the first commands of the code and the class of the header, with their applications.
-    fn push_applications(&self, out: &mut String) -> Added {
+    fn push_applications(&self, note: &mut Note) {
         let mut told = 0usize;
         for place in 0..self.side.book.commands() {
             let command = command_at(self.side.book, place);
             let scene = InHeader { command, ..*self };
             match command {
                 Some(command) if told < TOLD && scene.application().is_some() => {
-                    scene.push_command(out, command, "{name} is for application {theirs}")?;
+                    scene.push_command(note, command, "{name} is for application {theirs}");
                     told = told.saturating_add(1);
                 }
                 _ => {}
             }
         }
-        Ok(())
     }
 
     /// The application of the command, where it is of the header's code and class.
@@ -113,19 +108,21 @@ impl InHeader<'_> {
     }
 
     /// Adds which dictionary has the commands of an application of which this one has none.
-    fn push_dictionary(&self, out: &mut String, reason: Reason) -> Added {
+    fn push_dictionary(&self, note: &mut Note, reason: Reason) {
         if !self.lacks(reason) {
-            return Ok(());
+            return;
         }
-        match application_of(self.header.app) {
-            Some(Application { id, name, file }) => {
-                write!(
-                    out,
-                    "hint: application {id} is {name}, and this dictionary has no command of it; {file} has them, \
-                     see docs/CAPTURES.md\n"
-                )
-            }
-            None => Ok(()),
+        if let Some(Application { id, name, file }) = application_of(self.header.app) {
+            let has_none = ", and this dictionary has no command of it; ";
+            note.put("hint: application ");
+            push_number(note, id as usize);
+            note.put_all(&[
+                " is ",
+                name,
+                has_none,
+                file,
+                " has them, see docs/CAPTURES.md\n",
+            ]);
         }
     }
 
@@ -161,11 +158,11 @@ impl InHeader<'_> {
 }
 
 impl Scene for InHeader<'_> {
-    fn push_word(&self, out: &mut String, word: &str) -> Added {
+    fn push_word(&self, note: &mut Note, word: &str) {
         match word {
-            "flags" => push_command_flags(out, &self.header),
-            "code" | "app" | "theirs" => push_number(out, self.number_of(word) as usize),
-            _ => out.push_str(self.text_for(word)),
+            "flags" => push_command_flags(note, &self.header),
+            "code" | "app" | "theirs" => push_number(note, self.number_of(word) as usize),
+            _ => note.put(self.text_for(word)),
         }
     }
 }

@@ -9,9 +9,10 @@ use crate::faults::level::Counting;
 use crate::faults::reasons::{Topic, shown_avp, text_in_body, topic_of};
 use crate::faults::walk::{Group, walk_to};
 use crate::sides::Side;
-use crate::texts::{Added, Scene, fault_and_hint, push_hint, push_number, push_text};
+use crate::texts::{Scene, fault_and_hint, push_hint, push_number, push_text};
 use dia_book::{Definition, Key};
 use dia_check::{Fault, Levels, Subject};
+use dia_explain_places::Note;
 
 /// How many groups are told at each end of a long way.
 const TOLD: usize = 4;
@@ -46,34 +47,32 @@ impl<'a> InBody<'a> {
     }
 
     /// Adds the fault in the groups around its place.
-    pub fn push_in_groups(&self, out: &mut String) -> Added {
-        let walk = walk_to(
-            *out.allocator(),
-            self.side.book,
-            self.message.bytes,
-            self.place(),
-        )?;
-        let scene = InBody {
-            groups: &walk.groups,
-            ..*self
-        };
-        scene.in_level().push(out)
+    pub fn push_in_groups(&self, note: &mut Note) {
+        let message = self.message.bytes;
+        match walk_to(note.allocator(), self.side.book, message, self.place()) {
+            Ok(walk) => self.in_groups(&walk.groups).in_level().push(note),
+            Err(error) => note.keep(Err(error)),
+        }
+    }
+
+    fn in_groups<'g>(&'g self, groups: &'g [Group]) -> InBody<'g> {
+        InBody { groups, ..*self }
     }
 
     /// Adds what is wrong, where in the message and in the dictionary, and what to do.
-    pub fn push(&self, out: &mut String) -> Added {
+    pub fn push(&self, note: &mut Note) {
         let (fault, hint) = fault_and_hint(text_in_body(self));
-        self.message.push_spot(out, self.place())?;
-        push_text(out, self, fault)?;
-        self.push_places(out)?;
-        push_hint(out, self, hint)
+        self.message.push_spot(note, self.place());
+        push_text(note, self, fault);
+        self.push_places(note);
+        push_hint(note, self, hint)
     }
 
     /// Adds where in the message and in the dictionary.
-    fn push_places(&self, out: &mut String) -> Added {
-        self.push_groups(out)?;
-        self.push_bytes(out)?;
-        self.push_declared(out)
+    fn push_places(&self, note: &mut Note) {
+        self.push_groups(note);
+        self.push_bytes(note);
+        self.push_declared(note)
     }
 
     /// Whether a rule of the level is broken.
@@ -82,62 +81,61 @@ impl<'a> InBody<'a> {
     }
 
     /// Adds the groups with their places: of many the first and the last.
-    fn push_groups(&self, out: &mut String) -> Added {
-        let outermost = self.outermost;
-        write!(out, "\n  in {outermost}")?;
+    fn push_groups(&self, note: &mut Note) {
+        note.put_all(&["\n  in ", self.outermost]);
         let many = self.groups.len();
         let between = many.saturating_sub(TOLD).saturating_sub(TOLD);
         for (index, group) in self.groups.iter().enumerate() {
             if between < 2 || index < TOLD || index.saturating_add(TOLD) >= many {
-                push_group(out, &self.side, group)?;
+                push_group(note, &self.side, group);
             } else if index == TOLD {
-                write!(out, ", .. {between} groups ..")?;
+                note.put(", .. ");
+                push_number(note, between);
+                note.put(" groups ..");
             }
         }
-        out.push('\n')
+        note.put("\n")
     }
 
     /// Adds the bytes of the AVP at the place, or of the group that ends there.
-    fn push_bytes(&self, out: &mut String) -> Added {
+    fn push_bytes(&self, note: &mut Note) {
         let end = self.end();
         let begin = match self.groups.last() {
             Some(group) if self.place() >= end => group.place,
             _ => self.place(),
         };
         if begin < end {
-            push_avp(out, begin, part(self.message.bytes, begin, end))
-        } else {
-            Ok(())
+            push_avp(note, begin, part(self.message.bytes, begin, end))
         }
     }
 
     /// Adds where the rule, the definition or the AVP is declared that the fault is about.
-    fn push_declared(&self, out: &mut String) -> Added {
+    fn push_declared(&self, note: &mut Note) {
         match self.def() {
-            Some(def) if self.is_of_rule() => self.push_rule_declared(out, def),
-            _ => self.push_avp_declared(out),
+            Some(def) if self.is_of_rule() => self.push_rule_declared(note, def),
+            _ => self.push_avp_declared(note),
         }
     }
 
     /// Adds where the rule is, or else the definition.
-    fn push_rule_declared(&self, out: &mut String, def: &Definition) -> Added {
+    fn push_rule_declared(&self, note: &mut Note, def: &Definition) {
         let (place, told) = match self.counting {
             Some(counting) => (Some(counting.place), "the rule is {rule}"),
             None => (None, "{level} is defined here"),
         };
         let at = self.side.definition_at(def, place);
-        self.side.push_part(out, at, self, told)
+        self.side.push_part(note, at, self, told)
     }
 
     /// Adds where the AVP is declared.
-    fn push_avp_declared(&self, out: &mut String) -> Added {
+    fn push_avp_declared(&self, note: &mut Note) {
         match shown_avp(self) {
             Some(avp) => {
                 let at = self.side.avp_at(avp.name);
                 self.side
-                    .push_part(out, at, &avp, "{name} is declared here")
+                    .push_part(note, at, &avp, "{name} is declared here")
             }
-            None => Ok(()),
+            None => {}
         }
     }
 
@@ -151,27 +149,27 @@ impl<'a> InBody<'a> {
     }
 }
 
-fn push_group(out: &mut String, side: &Side<'_>, group: &Group) -> Added {
-    let place = group.place;
-    out.push_str(", ")?;
-    side.push_name(out, group.key)?;
-    write!(out, " at {place}")
+fn push_group(note: &mut Note, side: &Side<'_>, group: &Group) {
+    note.put(", ");
+    side.push_name(note, group.key);
+    note.put(" at ");
+    push_number(note, group.place);
 }
 
 impl Scene for InBody<'_> {
-    fn push_word(&self, out: &mut String, word: &str) -> Added {
+    fn push_word(&self, note: &mut Note, word: &str) {
         match word {
-            "level" => out.push_str(self.name()),
+            "level" => note.put(self.name()),
             "subject" => match self.key() {
-                Some(key) => self.side.push_name(out, key),
-                None => out.push_str("AVP"),
+                Some(key) => self.side.push_name(note, key),
+                None => note.put("AVP"),
             },
-            "depth" => push_number(out, self.groups.len()),
+            "depth" => push_number(note, self.groups.len()),
             "levels" => match self.asked.levels {
-                Levels::AtMost(most) => push_number(out, most as usize),
-                Levels::Any => Ok(()),
+                Levels::AtMost(most) => push_number(note, most as usize),
+                Levels::Any => {}
             },
-            _ => push_avp_word(out, self, word),
+            _ => push_avp_word(note, self, word),
         }
     }
 }

@@ -2,27 +2,27 @@
 
 use crate::faults::avp_bytes::{head_of, length_of, part, vendor_of};
 use crate::faults::in_body::InBody;
-use crate::texts::{Added, push_number};
+use crate::texts::push_number;
 use dia_book::Key;
-use dia_explain_places::{Unpadded, find_unpadded};
+use dia_explain_places::{Note, Unpadded, find_unpadded};
 
 /// Adds what a word about the lengths of AVPs stands for.
-pub fn push_length_word(out: &mut String, scene: &InBody<'_>, word: &str) -> Added {
+pub fn push_length_word(note: &mut Note, scene: &InBody<'_>, word: &str) {
     let own = scene.own();
     match word {
-        "left" => push_number(out, own.len()),
-        "most" => push_number(out, own.len() / 4 * 4),
-        "length" => push_number(out, length_of(own)),
-        "head" => push_number(out, head_of(own)),
-        _ => push_length_hint(out, scene),
+        "left" => push_number(note, own.len()),
+        "most" => push_number(note, own.len() / 4 * 4),
+        "length" => push_number(note, length_of(own)),
+        "head" => push_number(note, head_of(own)),
+        _ => push_length_hint(note, scene),
     }
 }
 
 /// Adds what to do about a length, by the AVP without padding that may have led here.
-fn push_length_hint(out: &mut String, scene: &InBody<'_>) -> Added {
+fn push_length_hint(note: &mut Note, scene: &InBody<'_>) {
     match find_unpadded(scene.bytes().1) {
-        Some(found) => push_unpadded(out, scene, &found),
-        None => out.push_str(
+        Some(found) => push_unpadded(note, scene, &found),
+        None => note.put(
             "mend the sender; either this AVP's Length is wrong, \
              or the padding or the Length of the AVP in front of it, or that of the group",
         ),
@@ -30,15 +30,15 @@ fn push_length_hint(out: &mut String, scene: &InBody<'_>) -> Added {
 }
 
 /// Adds an AVP without padding, its place, and its length.
-fn push_unpadded(out: &mut String, scene: &InBody<'_>, found: &Unpadded) -> Added {
+fn push_unpadded(note: &mut Note, scene: &InBody<'_>, found: &Unpadded) {
     let Unpadded { at, code, length } = *found;
     let (begin, bytes) = scene.bytes();
     let vendor = vendor_of(part(bytes, at, bytes.len()));
     let place = begin.saturating_add(at);
-    scene.side.push_name(out, Key { code, vendor })?;
-    write!(
-        out,
-        " at {place} has the AVP Length {length}, and what follows stands right behind it, without its padding: \
-         mend the sender"
-    )
+    scene.side.push_name(note, Key { code, vendor });
+    note.put(" at ");
+    push_number(note, place);
+    note.put(" has the AVP Length ");
+    push_number(note, length as usize);
+    note.put(", and what follows stands right behind it, without its padding: mend the sender");
 }

@@ -3,8 +3,9 @@
 use crate::books::{Level, slot};
 use crate::faults::level::find_key;
 use crate::sides::Side;
-use crate::texts::Added;
+use crate::texts::push_number;
 use dia_book::{Key, Slot};
+use dia_explain_places::Note;
 use dia_wire::{HEADER_LENGTH, Header};
 
 /// Result-Code (RFC 6733 section 7.1), which only answers have.
@@ -20,21 +21,19 @@ const EXPERIMENTAL: Key = Key {
 };
 
 /// Adds that a request has an AVP of answers, where it has one that its command doesn't list.
-pub fn push_result(out: &mut String, side: &Side<'_>, header: &Header, message: &[u8]) -> Added {
-    match result_in(side, header, message) {
-        Some((place, key)) => {
-            let name = if key == RESULT {
-                "Result-Code"
-            } else {
-                "Experimental-Result"
-            };
-            write!(
-                out,
-                "hint: {name} at {place} is for answers, and the R flag says that this is a request: \
-                 if it is an answer, the sender has to clear R\n"
-            )
-        }
-        None => Ok(()),
+pub fn push_result(note: &mut Note, side: &Side<'_>, header: &Header, message: &[u8]) {
+    if let Some((place, key)) = result_in(side, header, message) {
+        let name = if key == RESULT {
+            "hint: Result-Code at "
+        } else {
+            "hint: Experimental-Result at "
+        };
+        note.put(name);
+        push_number(note, place);
+        note.put(
+            " is for answers, and the R flag says that this is a request: \
+             if it is an answer, the sender has to clear R\n",
+        );
     }
 }
 

@@ -3,8 +3,9 @@
 use crate::faults::in_body::InBody;
 use crate::faults::level::{Counting, find_key};
 use crate::rule_text::{push_loose, push_rule};
-use crate::texts::{Added, push_number};
+use crate::texts::push_number;
 use dia_book::{DRule, RuleKind};
+use dia_explain_places::Note;
 
 /// Where the AVP that is missing stands.
 pub fn place_behind(scene: &InBody<'_>) -> Option<usize> {
@@ -14,16 +15,16 @@ pub fn place_behind(scene: &InBody<'_>) -> Option<usize> {
 }
 
 /// Adds what a word about the rule that counts the AVP of a fault stands for.
-pub fn push_rule_word(out: &mut String, scene: &InBody<'_>, word: &str) -> Added {
+pub fn push_rule_word(note: &mut Note, scene: &InBody<'_>, word: &str) {
     let Some(Counting { rule, found, .. }) = scene.counting else {
-        return Ok(());
+        return;
     };
     match word {
-        "found" | "count" => push_number(out, number_of(found, word)),
-        "behind" => push_number(out, place_behind(scene).unwrap_or(0)),
-        "wanted" | "most" => push_count_word(out, &rule, word),
-        "loose" => push_loose(out, &scene.side, &rule),
-        _ => push_rule(out, &scene.side, &rule_for(&rule, word)),
+        "found" | "count" => push_number(note, number_of(found, word)),
+        "behind" => push_number(note, place_behind(scene).unwrap_or(0)),
+        "wanted" | "most" => push_count_word(note, &rule, word),
+        "loose" => push_loose(note, &scene.side, &rule),
+        _ => push_rule(note, &scene.side, &rule_for(&rule, word)),
     }
 }
 
@@ -50,13 +51,17 @@ fn rule_for(rule: &DRule, word: &str) -> DRule {
     }
 }
 
-fn push_count_word(out: &mut String, rule: &DRule, word: &str) -> Added {
+fn push_count_word(note: &mut Note, rule: &DRule, word: &str) {
     let is_wanted = word == "wanted";
-    let (front, count) = match rule.max {
-        Some(most) if is_wanted && most == rule.min => ("", most),
-        _ if is_wanted => ("at least ", rule.min),
-        Some(most) if most > 0 => ("at most ", most),
-        _ => return out.push_str("none"),
-    };
-    write!(out, "{front}{count}")
+    match rule.max {
+        Some(most) if is_wanted && most == rule.min => push_count(note, "", most),
+        _ if is_wanted => push_count(note, "at least ", rule.min),
+        Some(most) if most > 0 => push_count(note, "at most ", most),
+        _ => note.put("none"),
+    }
+}
+
+fn push_count(note: &mut Note, front: &str, count: u32) {
+    note.put(front);
+    push_number(note, count as usize);
 }

@@ -5,41 +5,37 @@ use crate::books::Level;
 use crate::checking::Asked;
 use crate::faults::Message;
 use crate::faults::in_body::InBody;
-use crate::faults::walk::walk_to;
+use crate::faults::walk::{Walk, walk_to};
 use crate::sides::Side;
-use crate::texts::Added;
+use crate::texts::push_number;
 use dia_book::Book;
 use dia_check::{Fault, Levels, Reason, Subject, Unknown};
 use dia_dict::base_book;
-use dia_explain_places::InputTexts;
+use dia_explain_places::{InputTexts, Note};
 use dia_report::CutListing;
 use dia_wire::read_header;
 use std::alloc::{AllocError, Global};
 
 /// Adds why the listing of a message ends where it does.
-pub fn push_show(
-    alloc: Global,
-    out: &mut String,
-    texts: &InputTexts<'_>,
-    cut: &CutListing,
-) -> Added {
+pub fn push_show(note: &mut Note, texts: &InputTexts<'_>, cut: &CutListing) {
     let Ok((header, _)) = read_header(&cut.message) else {
-        return Ok(());
+        return;
     };
     let side = Side::of(&texts.first, &cut.first);
     let message = Message::of(&texts.message, &cut.message);
-    push_end(alloc, out, &side, &message, Level::body(&header))
+    match walk_to(
+        note.allocator(),
+        side.book,
+        message.bytes,
+        message.bytes.len(),
+    ) {
+        Ok(walk) => push_end(note, &side, &message, Level::body(&header), &walk),
+        Err(error) => note.keep(Err(error)),
+    }
 }
 
 /// Adds why the AVPs of a message end where they do.
-fn push_end(
-    alloc: Global,
-    out: &mut String,
-    side: &Side<'_>,
-    message: &Message<'_>,
-    body: Level,
-) -> Added {
-    let walk = walk_to(alloc, side.book, message.bytes, message.bytes.len())?;
+fn push_end(note: &mut Note, side: &Side<'_>, message: &Message<'_>, body: Level, walk: &Walk) {
     let scene = InBody {
         side: *side,
         message: *message,
@@ -50,7 +46,7 @@ fn push_end(
         groups: &walk.groups,
         counting: None,
     };
-    scene.push(out)
+    scene.push(note)
 }
 
 /// The fault of a place where no AVP begins.
@@ -65,29 +61,31 @@ fn fault_at(place: usize) -> Fault {
 
 /// Adds how all AVPs of a message are named, where the base dictionary, by which it was shown, doesn't have each of them. `sign`
 /// is what stands for a name.
-pub fn push_unnamed(alloc: Global, out: &mut String, message: &[u8], sign: &str) -> Added {
+pub fn push_unnamed(note: &mut Note, message: &[u8], sign: &str) {
     let Ok((header, _)) = read_header(message) else {
-        return Ok(());
+        return;
     };
-    if has_unnamed(alloc, message)? {
-        push_naming(out, sign, header.app)
-    } else {
-        Ok(())
+    match has_unnamed(note.allocator(), message) {
+        Ok(true) => push_naming(note, sign, header.app),
+        Ok(false) => {}
+        Err(error) => note.keep(Err(error)),
     }
 }
 
 /// Adds which dictionary names the AVPs of messages of an application.
-fn push_naming(out: &mut String, sign: &str, app: u32) -> Added {
-    write!(
-        out,
-        "hint: {sign} is an AVP that the base dictionary doesn't have; --dict "
-    )?;
+fn push_naming(note: &mut Note, sign: &str, app: u32) {
+    note.put_all(&[
+        "hint: ",
+        sign,
+        " is an AVP that the base dictionary doesn't have; --dict ",
+    ]);
     match application_of(app) {
-        Some(Application { id, name, file }) => write!(
-            out,
-            "{file} names those of application {id} ({name}), see docs/CAPTURES.md\n"
-        ),
-        None => out.push_str("D names those of the dictionary D\n"),
+        Some(Application { id, name, file }) => {
+            note.put_all(&[file, " names those of application "]);
+            push_number(note, id as usize);
+            note.put_all(&[" (", name, "), see docs/CAPTURES.md\n"]);
+        }
+        None => note.put("D names those of the dictionary D\n"),
     }
 }
 

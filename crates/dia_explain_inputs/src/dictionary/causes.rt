@@ -4,25 +4,24 @@ use crate::dictionary::formats::format_meant;
 use crate::dictionary::scene::Scene;
 use crate::hints::hint_of;
 use crate::kinds::{RETURNS, first_line, hint_of_text, is_cut_by_comment};
-use crate::notes::{Added, push_hint};
+use crate::notes::push_line_column;
 use dia_ccf::CcfFault;
-use dia_explain_places::place_of;
+use dia_explain_places::{Note, place_of};
 
 const DICTIONARY: &str =
     "a dictionary has lines %avp NAME CODE [vendor N] FORMAT RULE, and definitions <NAME> ::= < .. > \
     with their rules: `diacmd render @base` prints one";
 
 /// Adds what to do about the token, if that is known.
-pub fn push_cause(out: &mut String, scene: &Scene<'_>) -> Added {
+pub fn push_cause(note: &mut Note, scene: &Scene<'_>) {
     if let Some(hint) = hint_of_text("dictionary", scene.text) {
-        return push_hint(out, hint);
-    }
-    if let Some(format) = meant(scene) {
-        return write!(out, "hint: did you mean {format}?\n");
-    }
-    match hint_at(scene) {
-        Some(hint) => push_hint(out, hint),
-        None => push_last(out, scene),
+        note.put_hint(hint);
+    } else if let Some(format) = meant(scene) {
+        note.put_all(&["hint: did you mean ", format, "?\n"]);
+    } else if let Some(hint) = hint_at(scene) {
+        note.put_hint(hint);
+    } else {
+        push_last(note, scene);
     }
 }
 
@@ -83,20 +82,22 @@ fn behind(scene: &Scene<'_>) -> &'static str {
 
 /// Adds where the last word stands that was taken, if it stands on another line: at the end of the text, and where the bracket
 /// behind a name is wanted.
-fn push_last(out: &mut String, scene: &Scene<'_>) -> Added {
+fn push_last(note: &mut Note, scene: &Scene<'_>) {
     let Some(last) = scene.last else {
-        return Ok(());
+        return;
     };
     let place = place_of(scene.text, last.at);
     if place.line == place_of(scene.text, scene.misfit.at).line {
-        return Ok(());
+        return;
     }
-    let what = if scene.token.is_none() {
-        "its last word"
+    let told = if scene.token.is_none() {
+        "hint: its last word stands at "
     } else if scene.place == "Close" {
-        "the name before it"
+        "hint: the name before it stands at "
     } else {
-        return Ok(());
+        return;
     };
-    write!(out, "hint: {what} stands at {place}\n")
+    note.put(told);
+    push_line_column(note, place);
+    note.put("\n");
 }

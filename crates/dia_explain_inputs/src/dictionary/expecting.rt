@@ -1,8 +1,7 @@
 //! What can stand at a place, as it is told, and how hints name the place.
 
-use crate::notes::Added;
 use dia_ccf::{InDeclaration, InDefinition, InHead, InRules, Wanted};
-use dia_explain_places::expected;
+use dia_explain_places::{Note, expected};
 use dia_terms::format_words;
 
 /// Which number can stand at a place where other tokens can, too.
@@ -22,11 +21,11 @@ pub fn number_at(wanted: Wanted) -> Option<&'static str> {
 }
 
 /// Adds what can stand at a place.
-pub fn push_expected(out: &mut String, wanted: Wanted) -> Added {
+pub fn push_expected(note: &mut Note, wanted: Wanted) {
     let sort = sort_of(wanted);
     let last = if sort.is_empty() { ", or " } else { " or " };
-    out.push_str(sort)?;
-    push_items(out, items_at(wanted), last)
+    note.put(sort);
+    push_items(note, items_at(wanted), last);
 }
 
 /// What the words that can stand at a place have in common.
@@ -47,15 +46,15 @@ fn items_at(wanted: Wanted) -> &'static [&'static str] {
 }
 
 /// Adds items, with this in front of the last of several.
-fn push_items(out: &mut String, items: &[&str], last: &str) -> Added {
+fn push_items(note: &mut Note, items: &[&str], last: &str) {
     let mut left = items.len();
     let mut between = "";
     for item in items {
-        write!(out, "{between}{item}")?;
+        note.put(between);
+        note.put(item);
         left = left.saturating_sub(1);
         between = if left == 1 { last } else { ", " };
     }
-    Ok(())
 }
 
 /// A place, as hints name it.

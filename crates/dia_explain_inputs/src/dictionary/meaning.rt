@@ -1,22 +1,24 @@
 //! What is told of a dictionary text that is well formed, and names no dictionary.
 
-ghost use Rattle.std.specs.Prelude.{OnOk, string_bytes};
-ghost use Rattle.dia_explain_inputs.specs.Beginnings.{TellsFirst};
+ghost use Rattle.std.specs.Prelude.{IfSome, slice_get};
+ghost use Rattle.dia_explain_places.specs.Parts.{part_place};
+ghost use Rattle.dia_explain_places.specs.Places.{start_text};
+ghost use Rattle.dia_explain_inputs.specs.Beginnings.{BeginsWith, TellsFirst};
 
-mod notes;
 mod parts;
 mod texts;
+mod told;
 mod values;
 
 use crate::names::{Named, names_of};
-use crate::notes::Added;
+use crate::notes::{push_line_column, push_made};
 use dia_dict::{DictKind, Finding, base_text, faults};
-use dia_explain_places::{nearest_name, push_start};
+use dia_explain_places::{NamedText, Note, nearest_name};
 use dia_report::WrongSource;
-use notes::{Note, notes_of};
 use parts::Parts;
 use std::alloc::{AllocError, Global};
 use texts::{push_filled, text_of};
+use told::{ToldFault, told_faults};
 
 /// The most faults that are told.
 const MOST: usize = 50;
@@ -25,25 +27,31 @@ const MOST: usize = 50;
 const MOST_NAMES: usize = 200;
 
 /// Adds the faults of meaning of a text that spells a source, the one of the report first.
-pub fn push_meaning(
-    alloc: Global,
-    out: &mut String,
-    name: &str,
-    text: &str,
-    wrong: &WrongSource,
-) -> Added
-    ensures { OnOk result (TellsFirst name.now text.now wrong.now (string_bytes out.old) (string_bytes out.new)) }
+pub fn push_meaning(note: &mut Note, name: &str, text: &str, wrong: &WrongSource)
+    ensures { TellsFirst name.now text.now wrong.now note.old note.new }
 {
     let source = &*wrong.source;
     let parts = Parts { source, name, text };
-    let findings = faults(alloc, source)?;
-    let told = told_of(alloc, &parts, &findings)?;
+    match faults(note.allocator(), source) {
+        Ok(findings) => push_findings(note, &parts, &findings),
+        Err(error) => note.keep(Err(error)),
+    }
+}
+
+/// Adds these faults, behind the place of the first.
+fn push_findings(note: &mut Note, parts: &Parts<'_>, findings: &[Finding<'_>])
+    ensures { IfSome (slice_get findings.now 0) (λ first. BeginsWith (start_text parts.now.name.now parts.now.text.now
+        (part_place parts.now.text.now parts.now.source.now first.part)) note.old note.new) }
+{
     let Some(first) = findings.first() else {
-        unreachable!();
+        return;
     };
-    push_start(out, name, text.as_bytes(), parts.at(first.part))?;
-    out.push_str(told.as_str())?;
-    Ok(())
+    let input = NamedText {
+        name: parts.name,
+        text: parts.text.as_bytes(),
+    };
+    let told = told_of(note.allocator(), parts, findings);
+    push_made(note, &input, parts.at(first.part), told);
 }
 
 /// What is told of all faults, behind the place of the first.
@@ -52,63 +60,47 @@ fn told_of<'a>(
     parts: &Parts<'a>,
     findings: &[Finding<'a>],
 ) -> Result<String, AllocError> {
-    let notes = notes_of(alloc, findings)?;
-    told_of_notes(alloc, parts, &notes)
-}
-
-fn told_of_notes(
-    alloc: Global,
-    parts: &Parts<'_>,
-    notes: &[Note<'_>],
-) -> Result<String, AllocError> {
+    let faults = told_faults(alloc, findings)?;
     let names = names_of(alloc, parts.source, Named::Avp)?;
-    let mut told = String::new(alloc);
-    push_notes(&mut told, parts, &names, notes)?;
-    Ok(told)
-}
-
-fn push_notes(out: &mut String, parts: &Parts<'_>, names: &[&str], notes: &[Note<'_>]) -> Added {
-    push_first(out, parts, names, notes)?;
-    push_rest(out, parts.name, notes)
+    let mut told = Note::new(alloc);
+    push_first(&mut told, parts, &names, &faults);
+    push_rest(&mut told, parts.name, &faults);
+    told.finish()
 }
 
 /// Adds the first faults one by one, the place of the very first left out. What helps with each fault of a kind is told once.
-fn push_first(out: &mut String, parts: &Parts<'_>, names: &[&str], notes: &[Note<'_>]) -> Added {
+fn push_first(note: &mut Note, parts: &Parts<'_>, names: &[&str], faults: &[ToldFault<'_>]) {
     let mut advised = None;
     let mut is_first = true;
-    for note in notes.get(..MOST).unwrap_or(notes) {
+    for fault in faults.get(..MOST).unwrap_or(faults) {
         if !is_first {
-            push_start_of(out, parts, note)?;
+            let at = parts.at(fault.finding.part);
+            note.put_start(parts.name, parts.text.as_bytes(), at);
         }
         is_first = false;
-        advised = push_note(out, parts, names, note, advised)?;
+        advised = push_fault(note, parts, names, fault, advised);
     }
-    Ok(())
-}
-
-/// Begins the note of a fault: its place.
-fn push_start_of(out: &mut String, parts: &Parts<'_>, note: &Note<'_>) -> Added {
-    let at = parts.at(note.finding.part);
-    push_start(out, parts.name, parts.text.as_bytes(), at)
 }
 
 /// Adds a fault, and what helps, unless faults of the kind have it already. Answers the kind that has it.
-fn push_note(
-    out: &mut String,
+fn push_fault(
+    note: &mut Note,
     parts: &Parts<'_>,
     names: &[&str],
-    note: &Note<'_>,
+    fault: &ToldFault<'_>,
     advised: Option<DictKind>,
-) -> Result<Option<DictKind>, AllocError> {
-    let text = text_of(parts, note);
-    let (fault, advice) = text.split_once('\n').unwrap_or((text, ""));
-    push_fault(out, parts, note, fault)?;
-    let kind = note.finding.told.kind;
-    if push_meant(out, names, note)? || is_advised(kind, advised) {
-        return Ok(advised);
+) -> Option<DictKind> {
+    let text = text_of(parts, fault);
+    let (told, advice) = text.split_once('\n').unwrap_or((text, ""));
+    push_told(note, parts, fault, told);
+    let kind = fault.finding.told.kind;
+    if push_meant(note, names, fault) || is_advised(kind, advised) {
+        return advised;
     }
-    push_advice(out, parts, note, advice)?;
-    Ok(Some(kind))
+    note.put("hint: ");
+    push_filled(note, parts, fault, advice);
+    note.put("\n");
+    Some(kind)
 }
 
 /// Whether what helps with faults of a kind was told.
@@ -116,33 +108,31 @@ fn is_advised(kind: DictKind, advised: Option<DictKind>) -> bool {
     kind != DictKind::NoGroupFormat && advised == Some(kind)
 }
 
-/// Adds a fault, and the place of what it doesn't go with.
-fn push_fault(out: &mut String, parts: &Parts<'_>, note: &Note<'_>, fault: &str) -> Added {
-    push_filled(out, parts, note, fault)?;
-    match parts.place(note.finding.other) {
-        Some(place) => write!(out, " at {place}\n"),
-        None => out.push('\n'),
+/// Adds what is told of a fault, and the place of what it doesn't go with.
+fn push_told(note: &mut Note, parts: &Parts<'_>, fault: &ToldFault<'_>, told: &str) {
+    push_filled(note, parts, fault, told);
+    if let Some(place) = parts.place(fault.finding.other) {
+        note.put(" at ");
+        push_line_column(note, place);
     }
-}
-
-/// Adds what helps.
-fn push_advice(out: &mut String, parts: &Parts<'_>, note: &Note<'_>, advice: &str) -> Added {
-    out.push_str("hint: ")?;
-    push_filled(out, parts, note, advice)?;
-    out.push('\n')
+    note.put("\n");
 }
 
 /// Adds where an undefined name may come from, the base dictionary or a slip, and tells whether that is known.
-fn push_meant(out: &mut String, names: &[&str], note: &Note<'_>) -> Result<bool, AllocError> {
-    if note.finding.told.kind != DictKind::UndefinedName {
-        return Ok(false);
+fn push_meant(note: &mut Note, names: &[&str], fault: &ToldFault<'_>) -> bool {
+    if fault.finding.told.kind != DictKind::UndefinedName {
+        return false;
     }
-    match origin_of(names, note.finding.told.slot) {
+    match origin_of(names, fault.finding.told.slot) {
         Some((told, name, behind)) => {
-            write!(out, "hint: {told}{name}{behind}\n")?;
-            Ok(true)
+            note.put("hint: ");
+            note.put(told);
+            note.put(name);
+            note.put(behind);
+            note.put("\n");
+            true
         }
-        None => Ok(false),
+        None => false,
     }
 }
 
@@ -179,38 +169,38 @@ fn is_line_of(line: &str, front: &str, name: &str, behind: &str) -> bool {
 }
 
 /// Adds how many faults more there are, and which names are undefined besides.
-fn push_rest(out: &mut String, name: &str, notes: &[Note<'_>]) -> Added {
-    match notes.get(MOST..) {
-        Some(rest) if !rest.is_empty() => push_more(out, name, rest),
-        _ => Ok(()),
+fn push_rest(note: &mut Note, name: &str, faults: &[ToldFault<'_>]) {
+    match faults.get(MOST..) {
+        Some(rest) if !rest.is_empty() => push_more(note, name, rest),
+        _ => {}
     }
 }
 
 /// Adds how many faults these are, and their undefined names.
-fn push_more(out: &mut String, name: &str, notes: &[Note<'_>]) -> Added {
-    let more = notes.len();
-    write!(
-        out,
-        "{name}: these are the first {MOST} faults, and there are {more} more\n"
-    )?;
-    match push_undefined(out, notes)? {
-        0 => Ok(()),
-        MOST_NAMES => out.push_str(", ..\n"),
-        _ => out.push('\n'),
+fn push_more(note: &mut Note, name: &str, faults: &[ToldFault<'_>]) {
+    note.put_all(&[name, ": these are the first "]);
+    note.put_number(MOST as u64);
+    note.put(" faults, and there are ");
+    note.put_number(faults.len() as u64);
+    note.put(" more\n");
+    match push_undefined(note, faults) {
+        0 => {}
+        MOST_NAMES => note.put(", ..\n"),
+        _ => note.put("\n"),
     }
 }
 
 /// Adds the first undefined names of faults. Answers how many these are.
-fn push_undefined(out: &mut String, notes: &[Note<'_>]) -> Result<usize, AllocError> {
-    let mut count: usize = 0;
+fn push_undefined(note: &mut Note, faults: &[ToldFault<'_>]) -> usize {
+    let mut count = 0usize;
     let mut between = "hint: these names aren't defined either: ";
-    for note in notes {
-        if note.finding.told.kind == DictKind::UndefinedName && count < MOST_NAMES {
-            let name = note.finding.told.slot;
-            write!(out, "{between}{name}")?;
+    for fault in faults {
+        if fault.finding.told.kind == DictKind::UndefinedName && count < MOST_NAMES {
+            note.put(between);
+            note.put(fault.finding.told.slot);
             between = ", ";
             count = count.saturating_add(1);
         }
     }
-    Ok(count)
+    count
 }

@@ -3,9 +3,9 @@
 use crate::dictionary::expecting::{number_at, place_of, push_expected};
 use crate::hints::Sight;
 use crate::kinds::kind_of_byte;
-use crate::notes::Added;
+use crate::notes::push_quoted;
 use dia_ccf::{CcfFault, Kind, Lexeme, Misfit, next_lexeme};
-use dia_explain_places::{back, push_shown};
+use dia_explain_places::{Note, back};
 
 /// How many bytes of a token are told.
 const SHOWN: usize = 60;
@@ -71,40 +71,40 @@ impl<'a> Scene<'a> {
     }
 
     /// Adds what is wrong.
-    pub fn push_fault(&self, out: &mut String) -> Added {
+    pub fn push_fault(&self, note: &mut Note) {
         match self.misfit.fault {
-            CcfFault::Limit { .. } => out.push_str("the name has more than 128 bytes"),
-            CcfFault::Number { .. } => self.push_number(out),
-            CcfFault::Syntax { .. } | CcfFault::NoMemory => self.push_syntax(out),
+            CcfFault::Limit { .. } => note.put("the name has more than 128 bytes"),
+            CcfFault::Number { .. } => self.push_number(note),
+            CcfFault::Syntax { .. } | CcfFault::NoMemory => self.push_syntax(note),
         }
     }
 
     /// Adds that a number is out of range, and which can stand there.
-    fn push_number(&self, out: &mut String) -> Added {
-        self.push_token(out)?;
-        out.push_str(" is out of range; expected ")?;
+    fn push_number(&self, note: &mut Note) {
+        self.push_token(note);
+        note.put(" is out of range; expected ");
         match number_at(self.misfit.wanted) {
-            Some(number) => out.push_str(number),
-            None => push_expected(out, self.misfit.wanted),
+            Some(number) => note.put(number),
+            None => push_expected(note, self.misfit.wanted),
         }
     }
 
     /// Adds what stands at the place, and what can stand there.
-    fn push_syntax(&self, out: &mut String) -> Added {
-        out.push_str(match self.token {
+    fn push_syntax(&self, note: &mut Note) {
+        note.put(match self.token {
             None => "the text ends here",
             Some(_) => "found ",
-        })?;
-        self.push_token(out)?;
-        out.push_str("; expected ")?;
-        push_expected(out, self.misfit.wanted)
+        });
+        self.push_token(note);
+        note.put("; expected ");
+        push_expected(note, self.misfit.wanted);
     }
 
     /// Adds the token in quotes, if there is one. Of a character that no text has all bytes are told.
-    fn push_token(&self, out: &mut String) -> Added {
+    fn push_token(&self, note: &mut Note) {
         let Sight { word, rest, .. } = self.sight();
         if word.is_empty() {
-            return Ok(());
+            return;
         }
         let length = match word {
             [0xc0..=0xdf] => 2,
@@ -112,10 +112,7 @@ impl<'a> Scene<'a> {
             [0xf0..=0xff] => 4,
             _ => word.len().min(SHOWN),
         };
-        let alloc = *out.allocator();
-        out.push('"')?;
-        push_shown(alloc, out, rest.get(..length).unwrap_or(word))?;
-        out.push('"')
+        push_quoted(note, rest.get(..length).unwrap_or(word));
     }
 
     /// Whether a data format can stand at the place.

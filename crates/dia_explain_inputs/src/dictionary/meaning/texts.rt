@@ -1,15 +1,15 @@
 //! What is told of each fault of meaning, and on the line behind it what helps. A word between two `$` stands for a value of the
 //! fault.
 
-use super::notes::Note;
 use super::parts::Parts;
+use super::told::ToldFault;
 use super::values::push_value;
-use crate::notes::Added;
 use dia_ccf::{Decl, FormatName, Head, Qual, Rule, RuleKind};
 use dia_dict::{DictKind, Finding, Part, PartKind};
+use dia_explain_places::Note;
 
-pub fn text_of(parts: &Parts<'_>, note: &Note<'_>) -> &'static str {
-    let Finding { told, part, other } = note.finding;
+pub fn text_of(parts: &Parts<'_>, fault: &ToldFault<'_>) -> &'static str {
+    let Finding { told, part, other } = fault.finding;
     let Some(Part { kind, .. }) = part else {
         return "$parts$ declarations, groups and commands; a dictionary has at most $limit$\n\
                 leave out what the comparison doesn't need";
@@ -90,16 +90,14 @@ fn text_of_counts(rule: Option<&Rule>) -> &'static str {
 }
 
 /// Adds a text with the values of a fault.
-pub fn push_filled(out: &mut String, parts: &Parts<'_>, note: &Note<'_>, text: &str) -> Added {
+pub fn push_filled(note: &mut Note, parts: &Parts<'_>, fault: &ToldFault<'_>, text: &str) {
     let mut is_word = false;
     for piece in text.split('$') {
-        let added = if is_word {
-            push_value(out, parts, note, piece)
+        if is_word {
+            push_value(note, parts, fault, piece);
         } else {
-            out.push_str(piece)
-        };
-        added?;
+            note.put(piece);
+        }
         is_word = !is_word;
     }
-    Ok(())
 }

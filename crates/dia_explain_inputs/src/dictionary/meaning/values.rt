@@ -1,38 +1,35 @@
 //! What the words of the texts on faults of meaning stand for.
 
-use super::notes::Note;
 use super::parts::Parts;
-use crate::notes::Added;
+use super::told::ToldFault;
+use crate::notes::push_line_column;
 use dia_ccf::{Head, Rule};
 use dia_dict::{Finding, MAX_PARTS, MAX_RULES, Part, greatest_count, least_count};
+use dia_explain_places::Note;
 use dia_wire::Key;
 
 /// Adds what a word stands for.
-pub fn push_value(out: &mut String, parts: &Parts<'_>, note: &Note<'_>, word: &str) -> Added {
-    let Finding { told, part, other } = note.finding;
+pub fn push_value(note: &mut Note, parts: &Parts<'_>, fault: &ToldFault<'_>, word: &str) {
+    let Finding { told, part, other } = fault.finding;
     match word {
-        "name" => out.push_str(told.name),
-        "slot" => out.push_str(told.slot),
-        "first" => out.push_str(parts.name(other).unwrap_or("")),
-        "declared" => push_coded(out, parts.key(other)),
-        "more" => push_more(out, note.more),
-        _ => push_part_value(out, parts, part, word),
+        "name" => note.put(told.name),
+        "slot" => note.put(told.slot),
+        "first" => note.put(parts.name(other).unwrap_or("")),
+        "declared" => push_coded(note, parts.key(other)),
+        "more" => push_more(note, fault.more),
+        _ => push_part_value(note, parts, part, word),
     }
 }
 
 /// Adds what a word about the part at fault stands for.
-fn push_part_value(out: &mut String, parts: &Parts<'_>, part: Option<Part>, word: &str) -> Added {
+fn push_part_value(note: &mut Note, parts: &Parts<'_>, part: Option<Part>, word: &str) {
     match word {
-        "key" => push_coded(out, parts.key(part)),
-        "header" => push_header(out, parts.key(part)),
-        "messages" => push_messages(out, parts.head(part)),
-        "place" => push_place_of(out, parts, part),
-        _ => push_count(out, count_of(parts, part, word)),
+        "key" => push_coded(note, parts.key(part)),
+        "header" => push_header(note, parts.key(part)),
+        "messages" => push_messages(note, parts.head(part)),
+        "place" => push_place_of(note, parts, part),
+        _ => note.put_number(count_of(parts, part, word) as u64),
     }
-}
-
-fn push_count(out: &mut String, count: usize) -> Added {
-    write!(out, "{count}")
 }
 
 /// The count or the limit that a word stands for.
@@ -52,13 +49,12 @@ fn count_of(parts: &Parts<'_>, part: Option<Part>, word: &str) -> usize {
 }
 
 /// Adds the line and the column of the definition of a rule.
-fn push_place_of(out: &mut String, parts: &Parts<'_>, part: Option<Part>) -> Added {
+fn push_place_of(note: &mut Note, parts: &Parts<'_>, part: Option<Part>) {
     let Some(part) = part else {
-        return Ok(());
+        return;
     };
-    match parts.place(Some(Part { rule: None, ..part })) {
-        Some(place) => write!(out, "{place}"),
-        None => Ok(()),
+    if let Some(place) = parts.place(Some(Part { rule: None, ..part })) {
+        push_line_column(note, place);
     }
 }
 
@@ -71,25 +67,34 @@ fn counts_of(rule: Option<&Rule>) -> (u32, u32) {
     (low, greatest_count(rule.qual).unwrap_or(low))
 }
 
-fn push_coded(out: &mut String, key: Option<Key>) -> Added {
-    match key {
-        Some(Key { code, vendor: 0 }) => write!(out, "the code {code} without a vendor"),
-        Some(Key { code, vendor }) => write!(out, "the code {code} of vendor {vendor}"),
-        None => Ok(()),
+fn push_coded(note: &mut Note, key: Option<Key>) {
+    let Some(Key { code, vendor }) = key else {
+        return;
+    };
+    note.put("the code ");
+    note.put_number(u64::from(code));
+    if vendor == 0 {
+        note.put(" without a vendor");
+    } else {
+        note.put(" of vendor ");
+        note.put_number(u64::from(vendor));
     }
 }
 
 /// Adds a code and a vendor as the header of a group has them.
-fn push_header(out: &mut String, key: Option<Key>) -> Added {
-    match key {
-        Some(Key { code, vendor: 0 }) => write!(out, "{code}"),
-        Some(Key { code, vendor }) => write!(out, "{code} {vendor}"),
-        None => Ok(()),
+fn push_header(note: &mut Note, key: Option<Key>) {
+    let Some(Key { code, vendor }) = key else {
+        return;
+    };
+    note.put_number(u64::from(code));
+    if vendor != 0 {
+        note.put(" ");
+        note.put_number(u64::from(vendor));
     }
 }
 
 /// Adds the messages that a command is for.
-fn push_messages(out: &mut String, head: Option<Head>) -> Added {
+fn push_messages(note: &mut Note, head: Option<Head>) {
     let Some(
         Head::Command {
             code,
@@ -99,26 +104,32 @@ fn push_messages(out: &mut String, head: Option<Head>) -> Added {
         },
     ) = head
     else {
-        return Ok(());
+        return;
     };
-    let what = if request { "requests" } else { "answers" };
+    note.put(if request {
+        "the requests with the code "
+    } else {
+        "the answers with the code "
+    });
+    note.put_number(u64::from(code));
     match app {
-        Some(app) => write!(
-            out,
-            "the {what} with the code {code} and the Application-ID {app}"
-        ),
-        None => write!(
-            out,
-            "the {what} with the code {code}, without an Application-ID"
-        ),
+        Some(app) => {
+            note.put(" and the Application-ID ");
+            note.put_number(u64::from(app));
+        }
+        None => note.put(", without an Application-ID"),
     }
 }
 
 /// Adds how many rules more name the same AVP.
-fn push_more(out: &mut String, more: usize) -> Added {
+fn push_more(note: &mut Note, more: usize) {
     match more {
-        0 => Ok(()),
-        1 => out.push_str("; so has the rule"),
-        _ => write!(out, "; {more} more rules name it, the next"),
+        0 => {}
+        1 => note.put("; so has the rule"),
+        _ => {
+            note.put("; ");
+            note.put_number(more as u64);
+            note.put(" more rules name it, the next");
+        }
     }
 }

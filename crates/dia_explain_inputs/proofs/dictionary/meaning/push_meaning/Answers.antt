@@ -1,24 +1,26 @@
-use Rattle.std.proofs.Common.{sym, ap, ◌∙◌, slice_get}
-use Rattle.std.specs.Prelude.{string_bytes}
+use Rattle.std.proofs.Common.{List, ap, ◌∙◌, subst, slice_get}
+use Rattle.std.specs.Prelude.{IfSome}
 use Rattle.dia_ccf.specs.Plain.{plain_source}
 use Rattle.dia_ccf.specs.declared.source.Source.{Source}
-use Rattle.dia_dict.specs.Resolution.{wrong, all_findings}
-use Rattle.dia_dict.specs.SourceChecks.{plain_finding}
-use Rattle.dia_explain_inputs.proofs.Beginnings.{first_finding, begins_start}
+use Rattle.dia_dict.specs.declared.findings.Finding.{Finding}
+use Rattle.dia_dict.specs.Resolution.{all_findings}
+use Rattle.dia_explain_places.specs.Parts.{part_place}
+use Rattle.dia_explain_places.specs.Places.{start_text}
+use Rattle.dia_explain_inputs.specs.Beginnings.{BeginsWith}
+use Rattle.dia_explain_inputs.proofs.Beginnings.{tells_found, tells_none}
 use Rattle.dia_explain_inputs.proofs.dictionary.meaning.push_meaning.Goals as goal
 
-pub returns : goal.returns
-returns c =
-    let w = c.args.wrong.now in
-    let found = first_finding (all_findings (plain_source w.source.value)) c.in_ok-findings.findings.items c.in-Some.first.now
-    (wrong w.kind (string_bytes w.name) (string_bytes w.slot))
-    (c.in_ok-findings.ensures ∙ ap (λ (s : Source). all_findings (plain_source s)) c.deref-source.ensures) w.first
-    (ap (λ xs. slice_get xs 0) (sym c.deref-2.ensures.value) ∙ sym c.in-Some.ensures.value) in
-    record {
-      finding = plain_finding c.in-Some.first.now;
-      first = found.0;
-      same = found.1;
-      begins = begins_start c.args.name.now c.args.text.now c.as_bytes.result.now w.source.value c.deref-source.result.now c.in-Some.first.now.part c.at.result
-          (string_bytes c.args.out.now) (string_bytes c.push_start.new.out) (string_bytes c.push_str.new.self) c.as_str.result.now
-          c.as_bytes.ensures.value c.deref-source.ensures c.at.ensures c.in_ok-push_start.ensures c.in_ok-push_str.ensures.bytes;
-    }
+pub returns-in-Ok : goal.returns-in-Ok
+returns-in-Ok c =
+    let name = c.args.name.now in
+    let text = c.args.text.now in
+    let old = c.args.note.now in
+    let new = c.push_findings.new.note in
+    tells_found name text c.args.wrong.now c.in-Ok.findings.items old new
+    (c.in-Ok.ensures ∙ ap (λ (s : Source). all_findings (plain_source s)) c.deref-source.ensures)
+    (subst (λ (s : Source). IfSome (slice_get c.in-Ok.findings.items 0) (λ f. BeginsWith (start_text name text (part_place text s f.part)) old new)) c.deref-source.ensures
+    (subst (λ (fs : List Finding). IfSome (slice_get fs 0) (λ f. BeginsWith (start_text name text (part_place text c.deref-source.result.now f.part)) old new))
+    c.deref.ensures.value c.push_findings.ensures))
+
+pub returns-in-Err : goal.returns-in-Err
+returns-in-Err c = tells_none c.args.name.now c.args.text.now c.args.wrong.now c.args.note.now c.keep.new.self c.keep.ensures.refused

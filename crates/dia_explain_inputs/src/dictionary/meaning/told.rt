@@ -6,21 +6,24 @@ use std::alloc::{AllocError, Global};
 /// A fault. Of the rules for an undefined name it is the first, `more` is how many more there are, and the first of those is what
 /// it doesn't go with.
 #[derive(Clone, Copy)]
-pub struct Note<'a> {
+pub struct ToldFault<'a> {
     pub finding: Finding<'a>,
     pub more: usize,
 }
 
 /// The faults, of which those for one undefined name are one.
-pub fn notes_of<'a>(alloc: Global, findings: &[Finding<'a>]) -> Result<Vec<Note<'a>>, AllocError> {
+pub fn told_faults<'a>(
+    alloc: Global,
+    findings: &[Finding<'a>],
+) -> Result<Vec<ToldFault<'a>>, AllocError> {
     let uses = uses_of(alloc, findings)?;
-    let mut notes = Vec::new(alloc);
+    let mut told = Vec::new(alloc);
     for (place, finding) in findings.iter().enumerate() {
-        if let Some(note) = note_of(findings, &uses, place, *finding) {
-            notes.push(note)?;
+        if let Some(fault) = told_at(findings, &uses, place, *finding) {
+            told.push(fault)?;
         }
     }
-    Ok(notes)
+    Ok(told)
 }
 
 /// The undefined names of faults in order, each with the places of its faults.
@@ -38,20 +41,20 @@ fn uses_of<'a>(
     Ok(uses)
 }
 
-/// The note of a fault at a place, unless an earlier one is for the same undefined name.
-fn note_of<'a>(
+/// The fault at a place, unless an earlier one is for the same undefined name.
+fn told_at<'a>(
     findings: &[Finding<'a>],
     uses: &[(&str, usize)],
     place: usize,
     finding: Finding<'a>,
-) -> Option<Note<'a>> {
+) -> Option<ToldFault<'a>> {
     if finding.told.kind != DictKind::UndefinedName {
-        return Some(Note { finding, more: 0 });
+        return Some(ToldFault { finding, more: 0 });
     }
     let name = finding.told.slot;
     let of_name = uses.get(first_from(uses, name, 0)..first_from(uses, name, usize::MAX))?;
     if of_name.first()?.1 == place {
-        Some(note_of_name(findings, finding, of_name))
+        Some(told_of_name(findings, finding, of_name))
     } else {
         None
     }
@@ -64,18 +67,18 @@ fn first_from(uses: &[(&str, usize)], name: &str, place: usize) -> usize {
     }
 }
 
-/// The note of the first fault for a name with these uses.
-fn note_of_name<'a>(
+/// The first fault for a name with these uses.
+fn told_of_name<'a>(
     findings: &[Finding<'a>],
     finding: Finding<'a>,
     uses: &[(&str, usize)],
-) -> Note<'a> {
+) -> ToldFault<'a> {
     let mut finding = finding;
     if let Some((_, second)) = uses.get(1) {
         finding.other = part_at(findings, *second);
     }
     let more = uses.len().saturating_sub(1);
-    Note { finding, more }
+    ToldFault { finding, more }
 }
 
 fn part_at(findings: &[Finding<'_>], place: usize) -> Option<Part> {

@@ -1,0 +1,147 @@
+//! A note as it grows.
+
+ghost use Rattle.std.specs.Prelude.{◌≡◌, ◌++◌, ℕ, List, [], Option, Some, None, IfOk, OnOk, OnErr, codes, flat_map, string_bytes};
+ghost use Rattle.std.specs.Fmt.{decimal};
+ghost use Rattle.dia_explain_places.specs.Notes.{Gains, held};
+ghost use Rattle.dia_explain_places.specs.Places.{excerpt, place_text, start_text};
+
+use crate::place::{push_excerpt, push_place, push_start};
+use std::alloc::{AllocError, Global};
+use std::marker::Model;
+
+/// What is told on standard error. Where memory for it is refused, the note is refused for good, and `finish` says so: what adds
+/// to a note has no error to hand on.
+#[derive(Drop)]
+pub struct Note {
+    text: String,
+    refused: Option<AllocError>,
+}
+
+impl Model for Note {
+    ghost Value = { Option (List ℕ) };
+
+    ghost view = { λ note. held note.refused (string_bytes note.text) };
+}
+
+impl Note {
+    pub fn new(alloc: Global) -> Self
+        ensures { result ≡ Some [] }
+    {
+        Note {
+            text: String::new(alloc),
+            refused: None,
+        }
+    }
+
+    /// Adds a text.
+    pub fn put(&mut self, text: &str)
+        ensures { Gains self.old self.new text.now }
+    {
+        if self.refused.is_none() {
+            if let Err(error) = self.text.push_str(text) {
+                self.refused = Some(error);
+            }
+        }
+    }
+
+    /// Adds texts, one behind the other.
+    pub fn put_all(&mut self, texts: &[&str])
+        ensures { Gains self.old self.new (flat_map (λ text. text.now) texts.now) }
+    {
+        for text in texts {
+            self.put(text);
+        }
+    }
+
+    /// Adds a text that was made for the note, if memory was there for it.
+    pub fn put_made(&mut self, made: Result<String, AllocError>)
+        ensures text { IfOk made (λ text. Gains self.old self.new (string_bytes text)) }
+        ensures refused { OnErr made (self.new ≡ None) }
+    {
+        match made {
+            Ok(text) => self.put(text.as_str()),
+            Err(error) => self.refused = Some(error),
+        }
+    }
+
+    /// Where memory was refused for what the note tells, the note is refused.
+    pub fn keep(&mut self, done: Result<(), AllocError>)
+        ensures kept { OnOk done (self.new ≡ self.old) }
+        ensures refused { OnErr done (self.new ≡ None) }
+    {
+        if let Err(error) = done {
+            self.refused = Some(error);
+        }
+    }
+
+    /// Adds a number in decimal digits.
+    pub fn put_number(&mut self, number: u64)
+        ensures { Gains self.old self.new (decimal number) }
+    {
+        if self.refused.is_none() {
+            if let Err(error) = write!(&mut self.text, "{number}") {
+                self.refused = Some(error);
+            }
+        }
+    }
+
+    /// Adds what to do.
+    pub fn put_hint(&mut self, hint: &str)
+        ensures { Gains self.old self.new (codes "hint: " ++ hint.now ++ codes "\n") }
+    {
+        if self.refused.is_none() {
+            if let Err(error) = write!(&mut self.text, "hint: {hint}\n") {
+                self.refused = Some(error);
+            }
+        }
+    }
+
+    /// Begins a line about a place of a text: `NAME:LINE:COLUMN: `.
+    pub fn put_place(&mut self, name: &str, text: &[u8], at: usize)
+        ensures { Gains self.old self.new (place_text name.now text.now at) }
+    {
+        if self.refused.is_none() {
+            if let Err(error) = push_place(&mut self.text, name, text, at) {
+                self.refused = Some(error);
+            }
+        }
+    }
+
+    /// Begins a line about a place of a text, or about the whole text: `NAME: `.
+    pub fn put_start(&mut self, name: &str, text: &[u8], at: Option<usize>)
+        ensures { Gains self.old self.new (start_text name.now text.now at) }
+    {
+        if self.refused.is_none() {
+            if let Err(error) = push_start(&mut self.text, name, text, at) {
+                self.refused = Some(error);
+            }
+        }
+    }
+
+    /// Adds the line of a place, and below it a caret at the place. Of a long line a part is shown.
+    pub fn put_excerpt(&mut self, text: &[u8], at: usize)
+        ensures { Gains self.old self.new (excerpt text.now at) }
+    {
+        if self.refused.is_none() {
+            let alloc = *self.text.allocator();
+            if let Err(error) = push_excerpt(alloc, &mut self.text, text, at) {
+                self.refused = Some(error);
+            }
+        }
+    }
+
+    /// The memory that the note grows in.
+    pub fn allocator(&self) -> Global {
+        *self.text.allocator()
+    }
+
+    /// The text. The error comes only where memory was refused.
+    pub fn finish(self) -> Result<String, AllocError>
+        ensures { IfOk result (λ text. self ≡ Some (string_bytes text)) }
+    {
+        match self.refused {
+            None => Ok(self.text),
+            Some(error) => Err(error),
+        }
+    }
+}
