@@ -17,6 +17,7 @@ use Rattle.dia_dict.specs.SourceChecks.{plain_finding}
 use Rattle.dia_report.specs.declared.wrong_source.WrongSource.{WrongSource}
 use Rattle.std.specs.Prelude.{IfSome, codes, string_bytes}
 use Rattle.dia_explain_places.specs.Notes.{Gains}
+use Rattle.dia_explain_places.proofs.Notes.{gains_more}
 use Rattle.dia_explain_places.specs.Parts.{part_place}
 use Rattle.dia_explain_places.specs.Places.{line_at, place_text, start_text, excerpt}
 use Rattle.dia_explain_inputs.specs.Beginnings.{told_line, note_text, BeginsWith, LineBegins, MisfitBegins, TellsFirst}
@@ -54,13 +55,6 @@ misfit_line text m n is told = ap (line_at text) is.place ∙ line_of_fault text
 gains_none : (old new : Option (List ℕ)) (text : List ℕ) → new ≡ None → Gains old new text
 gains_none None new text none = none
 gains_none (Some before) new text none = subst (λ (o : Option (List ℕ)). IfSome o (λ now. now ≡ before ++ text)) (sym none) tt
-
--- a text, and one behind it
-pub gains_more : (old mid new : Option (List ℕ)) (text more : List ℕ) → Gains old mid text → Gains mid new more → Gains old new (text ++ more)
-gains_more None mid new text more first then = subst (λ (o : Option (List ℕ)). Gains o new more) first then
-gains_more (Some before) None new text more first then = gains_none (Some before) new (text ++ more) then
-gains_more (Some before) (Some there) None text more first then = tt
-gains_more (Some before) (Some there) (Some now) text more first then = then ∙ ap (λ xs. xs ++ more) first ∙ append_assoc before text more
 
 -- ---- how a note begins
 

@@ -1,6 +1,6 @@
 use Rattle.std.specs.Prelude.{◌++◌, codes}
 use Rattle.dia_explain_places.specs.Places.{place_text, excerpt}
-use Rattle.dia_explain_inputs.proofs.Beginnings.{gains_more}
+use Rattle.dia_explain_places.proofs.Notes.{gains_more}
 use Rattle.dia_explain_inputs.proofs.notes.push_told.Goals as goal
 
 pub returns : goal.returns
