@@ -8,7 +8,7 @@ const VERSION: &str = "1.0.0";
 const COMMIT: &str = "$Format:%H$";
 
 /// The first line of the file KIT: the kit with which the gate last passed.
-const KIT: &str = "rattle-kit-13b logic dac8208d650f15bf";
+const KIT: &str = "rattle-kit-13f logic dac8208d650f15bf";
 
 /// What `--version` tells: the version, the commit, if it is known, and the kit.
 pub(crate) fn version(alloc: Global) -> Result<String, AllocError> {
