@@ -1,12 +1,12 @@
-# bin/diacmd proves and builds the program; this installs it, with its man page, completions and dictionaries.
+# bin/build proves and builds the program; this installs it, with its man page, completions and dictionaries.
 PREFIX = /usr/local
-LAUNCHER = bin/diacmd
-PROGRAM = crates/diacmd/out/diacmd
+BUILD = bin/build --release
+PROGRAM = crates/diacmd/out/diacmd-release
 ROOT = $(DESTDIR)$(PREFIX)
 SHARE = $(ROOT)/share
 .PHONY: all install uninstall
 all:
-	$(LAUNCHER) --version
+	$(BUILD)
 install: all
 	install -D -m 755 "$(PROGRAM)" "$(ROOT)/bin/diacmd"
 	install -D -m 644 docs/diacmd.1 "$(SHARE)/man/man1/diacmd.1"
