@@ -34,6 +34,22 @@ pub struct Captured {
     pub summary: Option<String>,
 }
 
+impl Captured {
+    /// How a command ended whose messages were read: yes or no.
+    pub fn ended(yes: bool, summary: Option<String>) -> Self
+        ensures exit { result.reported.exit ≡ (if yes then Exit.Yes else Exit.No) }
+        ensures summary { result.summary ≡ summary }
+        ensures report { result.reported.report ≡ Report.Done }
+    {
+        let exit = if yes { Exit::Yes } else { Exit::No };
+        let report = Report::Done;
+        Captured {
+            reported: Reported { exit, report },
+            summary,
+        }
+    }
+}
+
 /// `check` of each line of a feed: yes where each is valid.
 pub fn check_lines<F: Feed, S: Sink>(
     alloc: Global,
@@ -56,6 +72,8 @@ pub fn check_lines<F: Feed, S: Sink>(
         (S.written sink.old) (S.written sink.new) (string_bytes text))) }
     ensures no_summary { IfOk result
         (λ captured. captured.reported.exit ≡ Exit.Bad → captured.summary ≡ None) }
+    ensures report { IfOk result
+        (λ captured. captured.reported.exit ≢ Exit.Bad → captured.reported.report ≡ Report.Done) }
     ensures device { (result ≡ Err Device)
         ↔ (IsTrue (F.has_failed feed.new) ⊎ IsTrue (S.has_failed sink.new)) }
     ensures front { IsErr result → IsFrontPut (checks unknown levels) inputs.now
@@ -79,7 +97,7 @@ pub fn check_lines<F: Feed, S: Sink>(
     let mut tally = Tally::new(alloc);
     answer_lines(alloc, &judge, &mut tally, feed, sink)?;
     let each = tally.ended.each;
-    Ok(ended(each, tally.summary(alloc, judge.book, Lines::Checked)))
+    Ok(Captured::ended(each, tally.summary(alloc, judge.book, Lines::Checked)))
 }
 
 /// `refute` of each line of a feed: yes where one refutes.
@@ -104,6 +122,8 @@ pub fn refute_lines<F: Feed, S: Sink>(
         (S.written sink.old) (S.written sink.new) (string_bytes text))) }
     ensures no_summary { IfOk result
         (λ captured. captured.reported.exit ≡ Exit.Bad → captured.summary ≡ None) }
+    ensures report { IfOk result
+        (λ captured. captured.reported.exit ≢ Exit.Bad → captured.reported.report ≡ Report.Done) }
     ensures device { (result ≡ Err Device)
         ↔ (IsTrue (F.has_failed feed.new) ⊎ IsTrue (S.has_failed sink.new)) }
     ensures front { IsErr result → IsFrontPut (refutations unknown levels) inputs.now
@@ -134,7 +154,7 @@ pub fn refute_lines<F: Feed, S: Sink>(
     let mut tally = Tally::new(alloc);
     answer_lines(alloc, &judge, &mut tally, feed, sink)?;
     let some = tally.ended.some;
-    Ok(ended(some, tally.summary(alloc, judge.first, Lines::Refuted)))
+    Ok(Captured::ended(some, tally.summary(alloc, judge.first, Lines::Refuted)))
 }
 
 /// `check` of each message of a stream: yes where each is valid.
@@ -157,6 +177,8 @@ pub fn check_stream<F: Feed, S: Sink>(
         (S.written sink.old) (S.written sink.new) (string_bytes text))) }
     ensures no_summary { IfOk result
         (λ captured. captured.reported.exit ≡ Exit.Bad → captured.summary ≡ None) }
+    ensures report { IfOk result
+        (λ captured. captured.reported.exit ≢ Exit.Bad → captured.reported.report ≡ Report.Done) }
     ensures device { (result ≡ Err Device)
         ↔ (IsTrue (F.has_failed feed.new) ⊎ IsTrue (S.has_failed sink.new)) }
     ensures front { IsErr result → IsStreamFrontPut unknown levels inputs.now
@@ -180,7 +202,7 @@ pub fn check_stream<F: Feed, S: Sink>(
     let mut tally = Tally::new(alloc);
     answer_stream(alloc, &judge, &mut tally, feed, sink)?;
     let all = tally.ended.each;
-    Ok(ended(all, tally.summary(alloc, judge.book, Lines::Placed)))
+    Ok(Captured::ended(all, tally.summary(alloc, judge.book, Lines::Placed)))
 }
 
 /// Puts the line of a dictionary that is refused.
@@ -203,17 +225,4 @@ fn refuse<S: Sink>(alloc: Global, refused: Refused, sink: &mut S) -> Result<Capt
         reported: Reported { exit, report },
         summary: None,
     })
-}
-
-/// How a command ended whose messages were read: yes or no.
-fn ended(yes: bool, summary: Option<String>) -> Captured
-    ensures exit { result.reported.exit ≡ (if yes then Exit.Yes else Exit.No) }
-    ensures summary { result.summary ≡ summary }
-{
-    let exit = if yes { Exit::Yes } else { Exit::No };
-    let report = Report::Done;
-    Captured {
-        reported: Reported { exit, report },
-        summary,
-    }
 }

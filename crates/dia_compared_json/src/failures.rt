@@ -4,7 +4,6 @@ ghost use Rattle.std.specs.Prelude.{◌≡◌, ◌<◌, IfOk, List, Some, length
 ghost use Rattle.serde_json.specs.Data.{Data, array};
 ghost use Rattle.serde_json.specs.Written.{compact_text};
 ghost use Rattle.dia_compat.specs.TableText.{plain_pair, plain_table};
-ghost use Rattle.dia_run.specs.Pairs.{test_word};
 ghost use Rattle.dia_refused_json.specs.Members.{json_line};
 ghost use Rattle.dia_compared_json.specs.Objects.{items_of};
 ghost use Rattle.dia_compared_json.specs.Failures.{failure_json, failure_members, kind_word, pairs_listed};
@@ -14,6 +13,7 @@ use crate::sides::Side;
 use dia_book::Book;
 use dia_compat::{Failing, PairKind, Table, Test};
 use dia_refused_json::quoted;
+use dia_run::test_word;
 use std::alloc::{AllocError, Global};
 
 /// The pair at this place of the table.
@@ -72,22 +72,5 @@ fn kind_word(kind: PairKind) -> &'static str
     match kind {
         PairKind::Command => "command",
         PairKind::Avp => "avp",
-    }
-}
-
-fn test_word(test: Test) -> &'static str
-    ensures { result.now ≡ test_word test }
-{
-    match test {
-        Test::N1 => "N1",
-        Test::N2 => "N2",
-        Test::N3 => "N3",
-        Test::N4 => "N4",
-        Test::N5 => "N5",
-        Test::N6 => "N6",
-        Test::N7 => "N7",
-        Test::N8 => "N8",
-        Test::N9 => "N9",
-        Test::N10 => "N10",
     }
 }

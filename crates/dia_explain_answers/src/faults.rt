@@ -52,6 +52,16 @@ impl<'a> Message<'a> {
     }
 }
 
+/// A message that isn't valid, how it was checked, its header, and its fault.
+#[derive(Clone, Copy)]
+struct Faulty<'a> {
+    side: Side<'a>,
+    message: Message<'a>,
+    asked: Asked,
+    header: Header,
+    fault: Fault,
+}
+
 /// Adds the fault of a message that isn't valid. Of bytes that are no message nothing is told here.
 pub fn push_refusal(
     note: &mut Note,
@@ -62,69 +72,56 @@ pub fn push_refusal(
 ) {
     match (refusal, read_header(message.bytes)) {
         (Refusal::Fault(fault), Ok((header, _))) => {
-            push_fault(note, side, message, asked, &header, fault)
+            let faulty = Faulty {
+                side: *side,
+                message: *message,
+                asked: *asked,
+                header,
+                fault: *fault,
+            };
+            faulty.push(note)
         }
         _ => {}
     }
 }
 
-/// Adds a fault, and that a request looks like an answer, where it may be the cause.
-fn push_fault(
-    note: &mut Note,
-    side: &Side<'_>,
-    message: &Message<'_>,
-    asked: &Asked,
-    header: &Header,
-    fault: &Fault,
-) {
-    match topic_of(fault.reason) {
-        Topic::Bytes => {}
-        Topic::Flags => push_in_header(note, side, message, header, fault),
-        Topic::Command => {
-            push_in_header(note, side, message, header, fault);
-            push_result(note, side, header, message.bytes)
-        }
-        Topic::Lengths | Topic::Rules | Topic::Avp => {
-            push_in_body(note, side, message, asked, header, fault);
-            push_result(note, side, header, message.bytes)
+impl Faulty<'_> {
+    /// Adds the fault, and that a request looks like an answer, where it may be the cause.
+    fn push(&self, note: &mut Note) {
+        match topic_of(self.fault.reason) {
+            Topic::Bytes => {}
+            Topic::Flags => self.push_in_header(note),
+            Topic::Command => {
+                self.push_in_header(note);
+                push_result(note, &self.side, &self.header, self.message.bytes)
+            }
+            Topic::Lengths | Topic::Rules | Topic::Avp => {
+                self.push_in_body(note);
+                push_result(note, &self.side, &self.header, self.message.bytes)
+            }
         }
     }
-}
 
-/// Adds the note of a fault in the header of a message.
-fn push_in_header(
-    note: &mut Note,
-    side: &Side<'_>,
-    message: &Message<'_>,
-    header: &Header,
-    fault: &Fault,
-) {
-    message.push_spot(note, fault.place as usize);
-    push_header_fault(note, side, header, fault.reason)
-}
+    fn push_in_header(&self, note: &mut Note) {
+        self.message.push_spot(note, self.fault.place as usize);
+        push_header_fault(note, &self.side, &self.header, self.fault.reason)
+    }
 
-/// Adds the note of a fault in the body of a message.
-fn push_in_body(
-    note: &mut Note,
-    side: &Side<'_>,
-    message: &Message<'_>,
-    asked: &Asked,
-    header: &Header,
-    fault: &Fault,
-) {
-    let body = Level::body(header);
-    let Some(command) = definition(side.book, body) else {
-        return;
-    };
-    let scene = InBody {
-        side: *side,
-        message: *message,
-        asked: *asked,
-        fault: *fault,
-        body,
-        outermost: command.name.as_str(),
-        groups: &[],
-        counting: None,
-    };
-    scene.push_in_groups(note)
+    fn push_in_body(&self, note: &mut Note) {
+        let body = Level::body(&self.header);
+        let Some(command) = definition(self.side.book, body) else {
+            return;
+        };
+        let scene = InBody {
+            side: self.side,
+            message: self.message,
+            asked: self.asked,
+            fault: self.fault,
+            body,
+            outermost: command.name.as_str(),
+            groups: &[],
+            counting: None,
+        };
+        scene.push_in_groups(note)
+    }
 }

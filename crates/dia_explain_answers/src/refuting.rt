@@ -4,7 +4,7 @@ use crate::books::{Level, definition, name_of};
 use crate::checking::{Asked, policy_words};
 use crate::faults::{Message, push_refusal};
 use crate::sides::Side;
-use crate::texts::{Scene, push_number, push_text};
+use crate::texts::push_number;
 use dia_check::{Fault, Refusal};
 use dia_dict::IndexedBook;
 use dia_explain_places::{InputTexts, Note};
@@ -19,35 +19,28 @@ pub fn push_refute(note: &mut Note, texts: &InputTexts<'_>, found: &Unrefuting) 
     }
 }
 
-/// A message that is valid under both dictionaries.
-#[derive(Clone, Copy)]
-struct Both<'a> {
-    texts: &'a InputTexts<'a>,
-    found: &'a Unrefuting,
-}
-
 /// Adds that a message is valid under both dictionaries.
-fn push_both(note: &mut Note, texts: &InputTexts<'_>, found: &Unrefuting) {
-    push_text(
-        note,
-        &Both { texts, found },
-        "{message}: the message is valid under both dictionaries: {left} in {a}, {right} in {b}\n\
-         hint: `diacmd breaking --messages{policy} {a} {b} {left}` lists what breaks, each with a message that shows it\n",
-    )
-}
-
-impl Scene for Both<'_> {
-    fn push_word(&self, note: &mut Note, word: &str) {
-        let (texts, found) = (self.texts, self.found);
-        note.put(match word {
-            "message" => texts.message.name,
-            "a" => texts.first.name,
-            "b" => texts.second.name,
-            "left" => command_name(&found.books.first.book, &found.message),
-            "right" => command_name(&found.books.second.book, &found.message),
-            _ => policy_words(found.unknown),
-        })
-    }
+fn push_both<'a>(note: &mut Note, texts: &InputTexts<'a>, found: &'a Unrefuting) {
+    let (a, b) = (texts.first.name, texts.second.name);
+    let left = command_name(&found.books.first.book, &found.message);
+    let right = command_name(&found.books.second.book, &found.message);
+    let told = ": the message is valid under both dictionaries: ";
+    note.put_all(&[
+        texts.message.name,
+        told,
+        left,
+        " in ",
+        a,
+        ", ",
+        right,
+        " in ",
+        b,
+        "\n",
+    ]);
+    note.put("hint: `diacmd breaking --messages");
+    note.put(policy_words(found.unknown));
+    note.put_all(&[" ", a, " ", b, " ", left]);
+    note.put("` lists what breaks, each with a message that shows it\n")
 }
 
 /// The name of the command that the header of a message selects.

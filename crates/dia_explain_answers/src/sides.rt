@@ -52,15 +52,13 @@ impl<'a> Side<'a> {
 
     /// The place of the name of a definition, or of the name in this rule of it.
     pub fn definition_at(&self, def: &Definition, rule: Option<usize>) -> Option<usize> {
-        let (kind, defs) = match def.head {
-            DefHead::Group(_) => (PartKind::Group, &self.source.groups),
-            DefHead::Command { .. } | DefHead::Error { .. } => (
-                PartKind::Command,
-                &self.source.commands,
-            ),
-        };
-        let index = index_of(defs, def.name.as_str())?;
-        part_place(self.text, self.source, Some(Part { kind, index, rule }))
+        let name = def.name.as_str();
+        match def.head {
+            DefHead::Group(_) => self.part_at(PartKind::Group, &self.source.groups, name, rule),
+            DefHead::Command { .. } | DefHead::Error { .. } => {
+                self.part_at(PartKind::Command, &self.source.commands, name, rule)
+            }
+        }
     }
 
     /// The place of the name in the declaration of an AVP, or in its definition where it has no declaration.
@@ -70,12 +68,18 @@ impl<'a> Side<'a> {
                 return Some(name_from(self.text, decl.at));
             }
         }
-        let group = Part {
-            kind: PartKind::Group,
-            index: index_of(&self.source.groups, name)?,
-            rule: None,
-        };
-        part_place(self.text, self.source, Some(group))
+        self.part_at(PartKind::Group, &self.source.groups, name, None)
+    }
+
+    fn part_at(
+        &self,
+        kind: PartKind,
+        defs: &[Def],
+        name: &str,
+        rule: Option<usize>,
+    ) -> Option<usize> {
+        let index = index_of(defs, name)?;
+        part_place(self.text, self.source, Some(Part { kind, index, rule }))
     }
 }
 

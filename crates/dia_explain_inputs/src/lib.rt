@@ -20,6 +20,8 @@ pub use commands::push_unknown_commands;
 pub use dictionary::push_empty;
 pub use fronts::push_front;
 pub use messages::push_length;
+pub use names::NamedSource;
 pub use refused::push_refused;
+pub use sides::{first_of, second_of};
 pub use strangers::push_strangers;
 pub use tables::push_no_pairs;

@@ -4,8 +4,8 @@ ghost use Rattle.dia_explain_places.specs.Notes.{Gains};
 ghost use Rattle.dia_explain_places.specs.Places.{place_text, start_text};
 ghost use Rattle.dia_explain_inputs.specs.Beginnings.{BeginsWith, note_text};
 
-use dia_explain_places::{NamedText, Note, Place, push_shown};
-use std::alloc::{AllocError, Global};
+use dia_explain_places::{NamedText, Note, Place};
+use std::alloc::AllocError;
 
 /// What to do about a text that isn't UTF-8.
 pub const SAVE: &str = "save the file as UTF-8";
@@ -73,16 +73,9 @@ pub fn push_not_text(note: &mut Note, input: &NamedText<'_>, at: usize) {
 
 /// Adds bytes as text in quotes.
 pub fn push_quoted(note: &mut Note, bytes: &[u8]) {
-    let shown = shown(note.allocator(), bytes);
     note.put("\"");
-    note.put_made(shown);
+    note.put_shown(bytes);
     note.put("\"");
-}
-
-fn shown(alloc: Global, bytes: &[u8]) -> Result<String, AllocError> {
-    let mut text = String::new(alloc);
-    push_shown(alloc, &mut text, bytes)?;
-    Ok(text)
 }
 
 /// Adds a place as `LINE:COLUMN`.

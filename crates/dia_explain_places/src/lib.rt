@@ -23,9 +23,7 @@ pub use lines::{PairWords, Word, start_of_line, words_of};
 pub use nearest::{nearest_command, nearest_name};
 pub use note::Note;
 pub use padding::{Unpadded, find_unpadded};
-pub use place::{
-    Place, back, place_of, push_excerpt, push_line_column, push_place, push_shown, push_start,
-};
+pub use place::{Place, back, place_of};
 pub use runs::is_white;
 pub use sites::{name_from, part_place};
 pub use tables::{PairPart, limit_place, syntax_place};

@@ -3,9 +3,9 @@
 ghost use Rattle.std.specs.Prelude.{◌≡◌, ◌++◌, ℕ, List, [], Option, Some, None, IfOk, OnOk, OnErr, codes, flat_map, string_bytes};
 ghost use Rattle.std.specs.Fmt.{decimal};
 ghost use Rattle.dia_explain_places.specs.Notes.{Gains, held};
-ghost use Rattle.dia_explain_places.specs.Places.{excerpt, place_text, start_text};
+ghost use Rattle.dia_explain_places.specs.Places.{excerpt, place_text, shown, start_text};
 
-use crate::place::{push_excerpt, push_place, push_start};
+use crate::place::{push_excerpt, push_place, push_shown, push_start};
 use std::alloc::{AllocError, Global};
 use std::marker::Model;
 
@@ -37,11 +37,8 @@ impl Note {
     pub fn put(&mut self, text: &str)
         ensures { Gains self.old self.new text.now }
     {
-        if self.refused.is_none() {
-            if let Err(error) = self.text.push_str(text) {
-                self.refused = Some(error);
-            }
-        }
+        let done = self.text.push_str(text);
+        self.keep(done);
     }
 
     /// Adds texts, one behind the other.
@@ -78,56 +75,48 @@ impl Note {
     pub fn put_number(&mut self, number: u64)
         ensures { Gains self.old self.new (decimal number) }
     {
-        if self.refused.is_none() {
-            if let Err(error) = write!(&mut self.text, "{number}") {
-                self.refused = Some(error);
-            }
-        }
+        let done = write!(&mut self.text, "{number}");
+        self.keep(done);
     }
 
     /// Adds what to do.
     pub fn put_hint(&mut self, hint: &str)
         ensures { Gains self.old self.new (codes "hint: " ++ hint.now ++ codes "\n") }
     {
-        if self.refused.is_none() {
-            if let Err(error) = write!(&mut self.text, "hint: {hint}\n") {
-                self.refused = Some(error);
-            }
-        }
+        let done = write!(&mut self.text, "hint: {hint}\n");
+        self.keep(done);
     }
 
     /// Begins a line about a place of a text: `NAME:LINE:COLUMN: `.
     pub fn put_place(&mut self, name: &str, text: &[u8], at: usize)
         ensures { Gains self.old self.new (place_text name.now text.now at) }
     {
-        if self.refused.is_none() {
-            if let Err(error) = push_place(&mut self.text, name, text, at) {
-                self.refused = Some(error);
-            }
-        }
+        let done = push_place(&mut self.text, name, text, at);
+        self.keep(done);
     }
 
     /// Begins a line about a place of a text, or about the whole text: `NAME: `.
     pub fn put_start(&mut self, name: &str, text: &[u8], at: Option<usize>)
         ensures { Gains self.old self.new (start_text name.now text.now at) }
     {
-        if self.refused.is_none() {
-            if let Err(error) = push_start(&mut self.text, name, text, at) {
-                self.refused = Some(error);
-            }
-        }
+        let done = push_start(&mut self.text, name, text, at);
+        self.keep(done);
     }
 
     /// Adds the line of a place, and below it a caret at the place. Of a long line a part is shown.
     pub fn put_excerpt(&mut self, text: &[u8], at: usize)
         ensures { Gains self.old self.new (excerpt text.now at) }
     {
-        if self.refused.is_none() {
-            let alloc = *self.text.allocator();
-            if let Err(error) = push_excerpt(alloc, &mut self.text, text, at) {
-                self.refused = Some(error);
-            }
-        }
+        let done = push_excerpt(&mut self.text, text, at);
+        self.keep(done);
+    }
+
+    /// Adds bytes as text, with a space for each control character.
+    pub fn put_shown(&mut self, bytes: &[u8])
+        ensures { Gains self.old self.new (shown bytes.now) }
+    {
+        let done = push_shown(&mut self.text, bytes);
+        self.keep(done);
     }
 
     /// The memory that the note grows in.
@@ -137,7 +126,8 @@ impl Note {
 
     /// The text. The error comes only where memory was refused.
     pub fn finish(self) -> Result<String, AllocError>
-        ensures { IfOk result (λ text. self ≡ Some (string_bytes text)) }
+        ensures text { IfOk result (λ text. self ≡ Some (string_bytes text)) }
+        ensures refused { OnErr result (self ≡ None) }
     {
         match self.refused {
             None => Ok(self.text),

@@ -9,8 +9,7 @@ ghost use Rattle.dia_explain_places.specs.Places.{line_at, column_at, line_front
 ghost use Rattle.dia_explain_places.specs.Places.{shown_front};
 
 use crate::runs::{Kind, count_of, run_length};
-use std::alloc::{AllocError, Global};
-use std::fmt;
+use std::alloc::AllocError;
 
 /// How many bytes of a line are shown before the place, and how many from it on.
 const BEFORE: usize = 70;
@@ -22,19 +21,6 @@ const BEHIND: usize = 50;
 pub struct Place {
     pub line: usize,
     pub column: usize,
-}
-
-/// Prints a place as `LINE:COLUMN`.
-impl fmt::Display for Place {
-    ghost use Rattle.std.specs.Prelude.{Some, codes};
-    ghost use Rattle.std.specs.Fmt.{decimal};
-
-    ghost output = { λ place. Some (decimal place.line ++ codes ":" ++ decimal place.column) };
-
-    fn fmt<W: fmt::Write>(&self, f: &mut fmt::Formatter<W>) -> fmt::Result {
-        let Place { line, column } = self;
-        write!(f, "{line}:{column}")
-    }
 }
 
 /// The bytes before a place.
@@ -92,7 +78,12 @@ pub fn place_of(text: &[u8], at: usize) -> Place
 }
 
 /// Begins a note: `NAME:LINE:COLUMN: `.
-pub fn push_place(out: &mut String, name: &str, text: &[u8], at: usize) -> Result<(), AllocError>
+pub(crate) fn push_place(
+    out: &mut String,
+    name: &str,
+    text: &[u8],
+    at: usize,
+) -> Result<(), AllocError>
     ensures { OnOk result (string_bytes out.new ≡ string_bytes out.old ++ place_text name.now text.now at) }
 {
     write!(out, "{name}:")?;
@@ -101,7 +92,7 @@ pub fn push_place(out: &mut String, name: &str, text: &[u8], at: usize) -> Resul
 }
 
 /// Begins a line about a place of a text, or about the whole text: `NAME: `.
-pub fn push_start(
+pub(crate) fn push_start(
     out: &mut String,
     name: &str,
     text: &[u8],
@@ -116,7 +107,7 @@ pub fn push_start(
 }
 
 /// Adds a place as `LINE:COLUMN`.
-pub fn push_line_column(out: &mut String, text: &[u8], at: usize) -> Result<(), AllocError>
+fn push_line_column(out: &mut String, text: &[u8], at: usize) -> Result<(), AllocError>
     ensures { OnOk result (string_bytes out.new ≡ string_bytes out.old ++ line_column text.now at) }
 {
     let Place { line, column } = place_of(text, at);
@@ -124,18 +115,13 @@ pub fn push_line_column(out: &mut String, text: &[u8], at: usize) -> Result<(), 
 }
 
 /// Adds the line of a place, and below it a caret at the place. Of a long line a part is shown.
-pub fn push_excerpt(
-    alloc: Global,
-    out: &mut String,
-    text: &[u8],
-    at: usize,
-) -> Result<(), AllocError>
+pub(crate) fn push_excerpt(out: &mut String, text: &[u8], at: usize) -> Result<(), AllocError>
     ensures { OnOk result (string_bytes out.new ≡ string_bytes out.old ++ excerpt text.now at) }
 {
     let before = shown_before(text, at);
     out.push_str("  ")?;
-    push_shown(alloc, out, before)?;
-    push_shown(alloc, out, shown_behind(text, at))?;
+    push_shown(out, before)?;
+    push_shown(out, shown_behind(text, at))?;
     out.push_str("\n  ")?;
     push_spaces(out, count_of(before, Kind::First))?;
     out.push_str("^\n")
@@ -167,10 +153,10 @@ fn shown_behind(text: &[u8], at: usize) -> &[u8]
 }
 
 /// Adds bytes as text, with a space for each control character.
-pub fn push_shown(alloc: Global, out: &mut String, bytes: &[u8]) -> Result<(), AllocError>
+pub(crate) fn push_shown(out: &mut String, bytes: &[u8]) -> Result<(), AllocError>
     ensures { OnOk result (string_bytes out.new ≡ string_bytes out.old ++ shown bytes.now) }
 {
-    let text = String::from_utf8_lossy(alloc, bytes)?;
+    let text = String::from_utf8_lossy(*out.allocator(), bytes)?;
     push_characters(out, text.as_str())
 }
 

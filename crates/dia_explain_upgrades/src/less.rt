@@ -6,7 +6,6 @@ use dia_io::Inputs;
 use dia_policy::Sends;
 use dia_report::BothBooks;
 use dia_upgrades::{Asked, lines_left};
-use std::alloc::{AllocError, Global};
 
 /// Up to this product of commands and AVPs it is counted what breaks where less is sent, which takes as long as the answer.
 const MOST_COUNTED: usize = 1_000_000;
@@ -15,43 +14,36 @@ const MOST_COUNTED: usize = 1_000_000;
 static SENDERS: [Sends; 2] = [Sends::Listed, Sends::Known];
 
 /// Adds how much breaks where the first side sends less, if that isn't too long to count.
-pub fn push_less(
-    alloc: Global,
-    note: &mut Note,
-    asked: Asked<'_, '_>,
-    inputs: &Inputs,
-    books: &BothBooks,
-) -> Result<(), AllocError> {
+pub fn push_less(note: &mut Note, asked: Asked<'_, '_>, inputs: &Inputs, books: &BothBooks) {
     if is_long(asked, books) {
-        return Ok(());
+        return;
     }
     for sends in SENDERS.as_slice() {
         if sends_less(*sends, asked.sends) {
-            push_left(alloc, note, *sends, asked, inputs, books)?;
+            push_left(note, *sends, asked, inputs, books);
         }
     }
-    Ok(())
 }
 
 /// Adds how many lines are left where the first side sends this.
 fn push_left(
-    alloc: Global,
     note: &mut Note,
     sends: Sends,
     asked: Asked<'_, '_>,
     inputs: &Inputs,
     books: &BothBooks,
-) -> Result<(), AllocError> {
+) {
     let messages = false;
     let asked = Asked {
         sends,
         messages,
         ..asked
     };
-    if let Some(lines) = lines_left(alloc, asked, &inputs.table, books)? {
-        push_narrower(note, sends, lines);
+    match lines_left(note.allocator(), asked, &inputs.table, books) {
+        Ok(Some(lines)) => push_narrower(note, sends, lines),
+        Ok(None) => {}
+        Err(error) => note.keep(Err(error)),
     }
-    Ok(())
 }
 
 fn sends_less(sends: Sends, than: Sends) -> bool {

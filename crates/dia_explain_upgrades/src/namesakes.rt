@@ -1,19 +1,13 @@
 //! Names that are one AVP in a dictionary, and another AVP in the other.
 
-use dia_ccf::{Decl, Def, Head, Source};
+use dia_ccf::{Decl, Def, Head};
+use dia_explain_inputs::NamedSource;
 use dia_explain_places::Note;
 use dia_upgrades::Told;
 use std::alloc::{AllocError, Global};
 
 /// The most names that are told.
 const MOST: usize = 20;
-
-/// What a dictionary's text says, and the word that names the text.
-#[derive(Clone, Copy)]
-pub struct Side<'a> {
-    pub name: &'a str,
-    pub source: &'a Source,
-}
 
 /// The code of an AVP, and its vendor or 0.
 #[derive(Clone, Copy, PartialEq, Eq, PartialOrd, Ord)]
@@ -30,12 +24,12 @@ struct Numbered<'a> {
 }
 
 impl<'a> Numbered<'a> {
-    fn of(alloc: Global, side: Side<'a>) -> Result<Numbered<'a>, AllocError> {
+    fn of(alloc: Global, dictionary: &NamedSource<'a>) -> Result<Numbered<'a>, AllocError> {
         let mut numbers = Vec::new(alloc);
-        add_declared(&mut numbers, &side.source.avps)?;
-        add_groups(&mut numbers, &side.source.groups)?;
+        add_declared(&mut numbers, &dictionary.source.avps)?;
+        add_groups(&mut numbers, &dictionary.source.groups)?;
         numbers.sort_unstable();
-        let dictionary = side.name;
+        let dictionary = dictionary.name;
         Ok(Numbered {
             dictionary,
             numbers,
@@ -80,29 +74,28 @@ fn add_groups<'a>(
 
 /// Adds the names that these causes are about, and that stand for one AVP in the first dictionary and for another in the second.
 pub fn push_namesakes(
-    alloc: Global,
     note: &mut Note,
-    first: Side<'_>,
-    second: Side<'_>,
+    first: &NamedSource<'_>,
+    second: &NamedSource<'_>,
     causes: &[Told],
-) -> Result<(), AllocError> {
-    let of_first = Numbered::of(alloc, first)?;
-    let of_second = Numbered::of(alloc, second)?;
-    push_all(alloc, note, &of_first, &of_second, causes)
+) {
+    let done = push_all(note, first, second, causes);
+    note.keep(done);
 }
 
 /// Adds the first of these names, each once.
 fn push_all(
-    alloc: Global,
     note: &mut Note,
-    first: &Numbered<'_>,
-    second: &Numbered<'_>,
+    first: &NamedSource<'_>,
+    second: &NamedSource<'_>,
     causes: &[Told],
 ) -> Result<(), AllocError> {
+    let alloc = note.allocator();
+    let (first, second) = (Numbered::of(alloc, first)?, Numbered::of(alloc, second)?);
     let mut told = Vec::new(alloc);
     for cause in causes {
         let name = subject_of(cause.words.as_str());
-        if told.len() < MOST && !told.contains(&name) && push_twins(note, first, second, name) {
+        if told.len() < MOST && !told.contains(&name) && push_twins(note, &first, &second, name) {
             told.push(name)?;
         }
     }

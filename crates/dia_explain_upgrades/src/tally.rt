@@ -1,11 +1,11 @@
 //! How much breaks.
 
-use dia_explain_places::Note;
+use dia_explain_places::{InputTexts, Note};
 use dia_policy::Sends;
 use dia_upgrades::Told;
 
 /// Adds how many lines are left, and how many causes they have, if there are some; with the names of the two dictionaries.
-pub fn push_tally(note: &mut Note, first: &str, second: &str, lines: usize, causes: usize) {
+pub fn push_tally(note: &mut Note, texts: &InputTexts<'_>, lines: usize, causes: usize) {
     if lines == 0 {
         return;
     }
@@ -13,6 +13,7 @@ pub fn push_tally(note: &mut Note, first: &str, second: &str, lines: usize, caus
     note.put(noun(lines, " line, ", " lines, "));
     note.put_number(causes as u64);
     note.put(noun(causes, " cause: what ", " causes: what "));
+    let (first, second) = (texts.first.name, texts.second.name);
     note.put_all(&[first, " sends and ", second, " accepts\n"]);
 }
 

@@ -2,15 +2,15 @@
 
 use crate::less::push_less;
 use crate::list::{push_bad_list, push_stale};
-use crate::namesakes::{Side, push_namesakes};
+use crate::namesakes::push_namesakes;
 use crate::tally::{push_meanings, push_tally};
 use crate::unchosen::push_unchosen;
 use crate::without_commands::push_without_commands;
-use dia_explain_inputs::{push_empty, push_refused, push_unknown_commands};
+use dia_explain_inputs::{first_of, push_empty, push_refused, push_unknown_commands, second_of};
 use dia_explain_places::{InputTexts, Note};
 use dia_io::Inputs;
 use dia_report::BothBooks;
-use dia_upgrades::{Asked, Found, Report, Told};
+use dia_upgrades::{Asked, Found, Report};
 use std::alloc::{AllocError, Global};
 
 /// What is told on standard error of an answer of `breaking`.
@@ -26,7 +26,7 @@ pub fn explain_upgrade(
         Report::Refused(bad) => push_refused(&mut note, texts, bad),
         Report::Read { books, found } => {
             push_empty(&mut note, &texts.second);
-            push_found(alloc, &mut note, texts, asked, inputs, books, found)?;
+            push_found(&mut note, texts, asked, inputs, books, found);
         }
     }
     note.finish()
@@ -34,14 +34,13 @@ pub fn explain_upgrade(
 
 /// Adds what was found of two dictionaries and a list of accepted lines.
 fn push_found(
-    alloc: Global,
     note: &mut Note,
     texts: &InputTexts<'_>,
     asked: Asked<'_, '_>,
     inputs: &Inputs,
     books: &BothBooks,
     found: &Found,
-) -> Result<(), AllocError> {
+) {
     match found {
         Found::Listed {
             stale,
@@ -50,39 +49,22 @@ fn push_found(
             meanings,
             ..
         } => {
-            let (first, second) = (texts.first.name, texts.second.name);
-            push_tally(note, first, second, *lines, causes.len());
+            push_tally(note, texts, *lines, causes.len());
             if *lines > 0 {
-                push_less(alloc, note, asked, inputs, books)?;
+                push_less(note, asked, inputs, books);
             }
             push_meanings(note, meanings);
-            push_causes(alloc, note, texts, asked.names, books, causes)?;
+            push_unchosen(note, texts, books, asked.names, causes);
+            push_namesakes(
+                note,
+                &first_of(texts, books),
+                &second_of(texts, books),
+                causes,
+            );
             push_stale(note, &texts.table, stale);
         }
         Found::NoList(bad) => push_bad_list(note, &texts.table, bad),
         Found::NoCommands => push_without_commands(note, &texts.first, &books.first.source),
         Found::NoCommand => push_unknown_commands(note, texts, asked.names, books),
     }
-    Ok(())
-}
-
-/// Adds the application behind whose line nothing is compared, and the names of AVPs that are others in the second dictionary.
-fn push_causes(
-    alloc: Global,
-    note: &mut Note,
-    texts: &InputTexts<'_>,
-    names: &[String],
-    books: &BothBooks,
-    causes: &[Told],
-) -> Result<(), AllocError> {
-    let first = Side {
-        name: texts.first.name,
-        source: &books.first.source,
-    };
-    let second = Side {
-        name: texts.second.name,
-        source: &books.second.source,
-    };
-    push_unchosen(alloc, note, first, second, names, causes)?;
-    push_namesakes(alloc, note, first, second, causes)
 }

@@ -1,6 +1,6 @@
 //! The commands over many messages, which are read a piece at a time.
 
-ghost use Rattle.std.specs.Prelude.{◌≡◌, ◌≢◌, ◌↔◌, ◌≤◌, ◌⊎◌, [], if◌then◌else◌, length, List, ℕ};
+ghost use Rattle.std.specs.Prelude.{◌≡◌, ◌≢◌, ◌↔◌, ◌≤◌, ◌⊎◌, [], length, List, ℕ};
 ghost use Rattle.std.specs.Prelude.{Err, IfOk, IfSome, IsErr, IsTrue, None, string_bytes};
 ghost use Rattle.std.specs.Io.KnownBytes.{Appends};
 ghost use Rattle.dia_io.specs.Writing.{AppendsFront};
@@ -43,6 +43,8 @@ pub fn check_lines<F: Feed, S: Sink>(
         (S.written sink.old) (S.written sink.new) (string_bytes text))) }
     ensures no_summary { IfOk result
         (λ captured. captured.reported.exit ≡ Exit.Bad → captured.summary ≡ None) }
+    ensures report { IfOk result
+        (λ captured. captured.reported.exit ≢ Exit.Bad → captured.reported.report ≡ Report.Done) }
     ensures device { (result ≡ Err Device)
         ↔ (IsTrue (F.has_failed feed.new) ⊎ IsTrue (S.has_failed sink.new)) }
     ensures front { IsErr result → ChecksFront unknown levels inputs.now
@@ -68,7 +70,7 @@ pub fn check_lines<F: Feed, S: Sink>(
     let mut tally = Tally::new(alloc);
     answer_lines(alloc, &judge, &mut tally, feed, sink)?;
     let yes = tally.ended.each;
-    Ok(ended(yes, tally.summary(alloc, judge.check.book, Lines::Checked)))
+    Ok(Captured::ended(yes, tally.summary(alloc, judge.check.book, Lines::Checked)))
 }
 
 /// `refute` of each line of a feed: yes where one refutes.
@@ -91,6 +93,8 @@ pub fn refute_lines<F: Feed, S: Sink>(
         (S.written sink.old) (S.written sink.new) (string_bytes text))) }
     ensures no_summary { IfOk result
         (λ captured. captured.reported.exit ≡ Exit.Bad → captured.summary ≡ None) }
+    ensures report { IfOk result
+        (λ captured. captured.reported.exit ≢ Exit.Bad → captured.reported.report ≡ Report.Done) }
     ensures device { (result ≡ Err Device)
         ↔ (IsTrue (F.has_failed feed.new) ⊎ IsTrue (S.has_failed sink.new)) }
     ensures front { IsErr result → RefutesFront unknown levels inputs.now
@@ -121,7 +125,7 @@ pub fn refute_lines<F: Feed, S: Sink>(
     let mut tally = Tally::new(alloc);
     answer_lines(alloc, &judge, &mut tally, feed, sink)?;
     let yes = tally.ended.some;
-    Ok(ended(
+    Ok(Captured::ended(
         yes,
         tally.summary(alloc, judge.refute.first, Lines::Refuted),
     ))
@@ -147,6 +151,8 @@ pub fn check_stream<F: Feed, S: Sink>(
         (S.written sink.old) (S.written sink.new) (string_bytes text))) }
     ensures no_summary { IfOk result
         (λ captured. captured.reported.exit ≡ Exit.Bad → captured.summary ≡ None) }
+    ensures report { IfOk result
+        (λ captured. captured.reported.exit ≢ Exit.Bad → captured.reported.report ≡ Report.Done) }
     ensures device { (result ≡ Err Device)
         ↔ (IsTrue (F.has_failed feed.new) ⊎ IsTrue (S.has_failed sink.new)) }
     ensures front { IsErr result → StreamFront unknown levels inputs.now
@@ -172,7 +178,7 @@ pub fn check_stream<F: Feed, S: Sink>(
     let mut tally = Tally::new(alloc);
     answer_stream(alloc, &judge, &mut tally, feed, sink)?;
     let yes = tally.ended.each;
-    Ok(ended(yes, tally.summary(alloc, judge.check.book, Lines::Placed)))
+    Ok(Captured::ended(yes, tally.summary(alloc, judge.check.book, Lines::Placed)))
 }
 
 /// Puts the line of a dictionary that is refused.
@@ -199,17 +205,4 @@ fn put_refusal<S: Sink>(
         reported: Reported { exit, report },
         summary: None,
     })
-}
-
-/// How a command ended whose messages were read: yes or no.
-fn ended(yes: bool, summary: Option<String>) -> Captured
-    ensures exit { result.reported.exit ≡ (if yes then Exit.Yes else Exit.No) }
-    ensures summary { result.summary ≡ summary }
-{
-    let exit = if yes { Exit::Yes } else { Exit::No };
-    let report = Report::Done;
-    Captured {
-        reported: Reported { exit, report },
-        summary,
-    }
 }

@@ -3,10 +3,10 @@
 use crate::notes::names::NamesOf;
 use crate::notes::spots::{Meant, Spot, spot_of};
 use crate::notes::tests_of_words::number_of;
-use crate::reporting::{BadText, Report};
+use crate::reporting::{BadText, RefusedText, Report};
 use dia_data::{Format, push_hex_byte, push_value};
-use dia_dict::{IndexedBook, base_text};
-use dia_explain_places::{push_excerpt, push_place, push_shown};
+use dia_dict::base_text;
+use dia_explain_places::Note;
 use dia_io::{Input, Inputs};
 use dia_policy::MAX_MESSAGE_TEXT;
 use dia_text::Fault;
@@ -22,9 +22,6 @@ mod words;
 /// How many bytes of a word are told.
 const SHOWN: usize = 60;
 
-/// What adding to a note answers.
-type Added = Result<(), AllocError>;
-
 /// The note of a report. `name` is that of the input that holds the text or the message. It is empty where there is nothing
 /// to tell, and for a dictionary or hexadecimal text that is refused, which dia_explain_inputs explains.
 pub fn note(
@@ -33,35 +30,43 @@ pub fn note(
     inputs: &Inputs,
     report: &Report,
 ) -> Result<String, AllocError> {
+    let mut note = Note::new(alloc);
     match report {
-        Report::Done | Report::Refused(_) => Ok(String::new(alloc)),
-        Report::Text(refused) => match &refused.why {
-            BadText::TooLong => format!(in alloc;
-                "{name}: the text has more than {MAX_MESSAGE_TEXT} bytes\n"
-            ),
-            BadText::Fault(fault) => fault_note(alloc, name, inputs, &refused.first.book, fault),
-        },
-        Report::Cut { place } => format!(in alloc;
-            "{name}: byte {place}: no AVP begins here, so the message has no text: fewer than 8 bytes are left, or the AVP \
-             Length is under 8 (12 with a Vendor-ID), or leads behind the message's end; `diacmd show` lists the AVPs before it\n"
-        ),
+        Report::Done | Report::Refused(_) => {}
+        Report::Text(refused) => push_refused(&mut note, name, inputs, refused),
+        Report::Cut { place } => push_cut(&mut note, name, *place),
+    }
+    note.finish()
+}
+
+/// Adds that a message has no text.
+fn push_cut(note: &mut Note, name: &str, place: usize) {
+    note.put_all(&[name, ": byte "]);
+    note.put_number(place as u64);
+    note.put(
+        ": no AVP begins here, so the message has no text: fewer than 8 bytes are left, or the AVP Length is under 8 \
+         (12 with a Vendor-ID), or leads behind the message's end; `diacmd show` lists the AVPs before it\n",
+    );
+}
+
+/// Adds why a text is refused.
+fn push_refused(note: &mut Note, name: &str, inputs: &Inputs, refused: &RefusedText) {
+    match (&refused.why, inputs.message.within(MAX_MESSAGE_TEXT)) {
+        (BadText::Fault(fault), Some(text)) => {
+            let names = NamesOf {
+                book: &refused.first.book,
+                is_base: is_base(&inputs.first),
+            };
+            push_fault(note, name, &names, text, fault)
+        }
+        _ => push_long(note, name),
     }
 }
 
-/// The note of a text that is refused for a fault. `book` is the dictionary by which it was read.
-fn fault_note(
-    alloc: Global,
-    name: &str,
-    inputs: &Inputs,
-    book: &IndexedBook,
-    fault: &Fault,
-) -> Result<String, AllocError> {
-    let mut out = String::new(alloc);
-    if let Some(text) = inputs.message.within(MAX_MESSAGE_TEXT) {
-        let is_base = is_base(&inputs.first);
-        push_fault(&mut out, name, &NamesOf { book, is_base }, text, fault)?;
-    }
-    Ok(out)
+fn push_long(note: &mut Note, name: &str) {
+    note.put_all(&[name, ": the text has more than "]);
+    note.put_number(MAX_MESSAGE_TEXT as u64);
+    note.put(" bytes\n");
 }
 
 fn is_base(dictionary: &Input) -> bool {
@@ -71,85 +76,85 @@ fn is_base(dictionary: &Input) -> bool {
     }
 }
 
-fn push_fault(
-    out: &mut String,
-    name: &str,
-    names: &NamesOf<'_>,
-    text: &[u8],
-    fault: &Fault,
-) -> Added {
+/// Adds the place of a fault, what stands there, and what is wanted and meant. `names` are those of the dictionary by which the
+/// text was read.
+fn push_fault(note: &mut Note, name: &str, names: &NamesOf<'_>, text: &[u8], fault: &Fault) {
     let spot = spot_of(names.book, text, fault);
-    push_place(out, name, text, spot.word.at)?;
-    push_found(*out.allocator(), out, &spot)?;
-    push_excerpt(*out.allocator(), out, text, spot.word.at)?;
-    push_meant(out, names, &spot)
+    note.put_place(name, text, spot.word.at);
+    push_found(note, &spot);
+    note.put_excerpt(text, spot.word.at);
+    push_meant(note, names, &spot)
 }
 
 /// Adds what stands at the place, and what could.
-fn push_found(alloc: Global, out: &mut String, spot: &Spot<'_>) -> Added {
-    if spot.word.text.is_empty() {
-        out.push_str("no word is left here")?;
+fn push_found(note: &mut Note, spot: &Spot<'_>) {
+    let word = spot.word.text;
+    if word.is_empty() {
+        note.put("no word is left here");
     } else {
-        out.push_str("found \"")?;
-        push_shown(alloc, out, front(spot.word.text))?;
-        out.push('"')?;
+        note.put("found \"");
+        note.put_shown(word.get(..SHOWN).unwrap_or(word));
+        note.put("\"");
     }
-    let wanted = spot.wanted;
-    write!(out, "; expected {wanted}\n")
-}
-
-/// The bytes of a word that are told.
-fn front(word: &[u8]) -> &[u8] {
-    word.get(..SHOWN).unwrap_or(word)
+    note.put_all(&["; expected ", spot.wanted, "\n"]);
 }
 
 /// Adds what may be meant.
-fn push_meant(out: &mut String, names: &NamesOf<'_>, spot: &Spot<'_>) -> Added {
+fn push_meant(note: &mut Note, names: &NamesOf<'_>, spot: &Spot<'_>) {
+    let word = spot.word.text;
     match spot.meant {
-        Meant::Command => names.push_command(out, &name_of(out, spot)?),
-        Meant::Avp => names.push_avp(out, &name_of(out, spot)?),
-        Meant::Text => push_quoted(out, spot.word.text, false),
-        Meant::Address => push_quoted(out, spot.word.text, true),
-        Meant::Returns => out.push_str(
+        Meant::Command => names.push_command(note, spelt(word)),
+        Meant::Avp => names.push_avp(note, spelt(word)),
+        Meant::Text => push_quoted(note, word, false),
+        Meant::Address => push_quoted(note, word, true),
+        _ => note.put(hint_of(spot.meant)),
+    }
+}
+
+/// What to do about a word of which nothing else is told.
+fn hint_of(meant: Meant) -> &'static str {
+    match meant {
+        Meant::Returns =>
             "hint: an empty line ends a message, and the line before this one has a carriage return: \
              `tr -d '\\r'` takes it out\n",
-        ),
-        Meant::Pairs => out.push_str(
-            "hint: a byte is two hexadecimal digits: behind x their number is even\n",
-        ),
-        Meant::Closed => out.push_str("hint: the closing quote is missing on this line\n"),
-        Meant::Escaped => out.push_str(
+        Meant::Pairs => "hint: a byte is two hexadecimal digits: behind x their number is even\n",
+        Meant::Closed => "hint: the closing quote is missing on this line\n",
+        Meant::Escaped =>
             "hint: behind a backslash stand x and two hexadecimal digits: \\x5c is the backslash itself, \\x22 the quote\n",
-        ),
-        Meant::Nothing => Ok(()),
+        _ => "",
     }
 }
 
 /// Adds how a word is written as a text. Of an address its bytes are told, too.
-fn push_quoted(out: &mut String, word: &[u8], is_address: bool) -> Added {
-    out.push_str("hint: a text stands in double quotes")?;
+fn push_quoted(note: &mut Note, word: &[u8], is_address: bool) {
+    note.put("hint: a text stands in double quotes");
     if word.len() <= SHOWN {
-        out.push_str(", as ")?;
-        push_value(out, &Format::Utf8String, word)?;
+        note.put(", as ");
+        note.put_made(quoted(note.allocator(), word));
     }
     if is_address {
-        push_address(out, word)?;
+        note.put("; the bytes of this address are x");
+        note.put_made(address(note.allocator(), word));
     }
-    out.push('\n')
+    note.put("\n");
 }
 
-/// Adds the bytes of an address of four numbers.
-fn push_address(out: &mut String, address: &[u8]) -> Added {
-    out.push_str("; the bytes of this address are x")?;
-    for part in address.split(|byte| *byte == b'.') {
-        push_hex_byte(out, (number_of(part).unwrap_or(0) & 0xff) as u8)?;
-    }
-    Ok(())
+fn quoted(alloc: Global, word: &[u8]) -> Result<String, AllocError> {
+    let mut text = String::new(alloc);
+    push_value(&mut text, &Format::Utf8String, word)?;
+    Ok(text)
 }
 
-fn name_of(out: &String, spot: &Spot<'_>) -> Result<String, AllocError> {
-    let alloc = *out.allocator();
-    let mut name = String::new(alloc);
-    push_shown(alloc, &mut name, spot.word.text)?;
-    Ok(name)
+/// The bytes of an address of four numbers, in hexadecimal digits.
+fn address(alloc: Global, word: &[u8]) -> Result<String, AllocError> {
+    let mut digits = String::new(alloc);
+    for part in word.split(|byte| *byte == b'.') {
+        push_hex_byte(&mut digits, (number_of(part).unwrap_or(0) & 0xff) as u8)?;
+    }
+    Ok(digits)
+}
+
+/// A word of a text that is UTF-8, or nothing.
+fn spelt(word: &[u8]) -> &str {
+    str::from_utf8(word).unwrap_or("")
 }

@@ -6,5 +6,5 @@ mod refusals;
 mod strings;
 
 pub use answer::refuse;
-pub use refusals::bad_input_line;
+pub use refusals::{bad_input_line, text_of};
 pub use strings::quoted;

@@ -3,7 +3,6 @@
 ghost use Rattle.std.specs.Prelude.{◌≡◌, IfOk, codes, string_bytes};
 ghost use Rattle.serde_json.specs.Data.{no_members};
 ghost use Rattle.serde_json.specs.Written.{compact_text};
-ghost use Rattle.dia_report.specs.Refusals.{message_fault_word};
 ghost use Rattle.dia_refused_json.specs.Members.{json_line, refused_members};
 ghost use Rattle.dia_refused_json.specs.Refusals.{at_place, bad_input_json, dictionary_members, expecting, message_members};
 ghost use Rattle.dia_refused_json.specs.Refusals.{misfit_members, name_value, on_line, stranger_at, table_members, text_of};
@@ -13,9 +12,8 @@ use crate::strings::{quoted, quoted_array};
 use dia_ccf::{CcfFault, Misfit, Wanted};
 use dia_explain_places::{expected, limit_place, place_of, syntax_place};
 use dia_io::Input;
-use dia_report::{BadDictionary, BadInput, BadMessage, BadTable, WrongSource};
+use dia_report::{BadDictionary, BadInput, BadMessage, BadTable, WrongSource, fault_word};
 use dia_run::is_white;
-use dia_wire::MessageFault;
 use std::alloc::{AllocError, Global};
 
 /// The line of an input that is refused for this.
@@ -34,7 +32,7 @@ pub fn bad_input_line(alloc: Global, input: &Input, bad: &BadInput) -> Result<St
 }
 
 /// The text of an input. One that is too long has none.
-fn text_of(input: &Input) -> &[u8]
+pub fn text_of(input: &Input) -> &[u8]
     ensures { result.now ≡ text_of input.entry.now }
 {
     match input {
@@ -137,18 +135,6 @@ fn stranger_at(spelt: &[u8]) -> Option<usize>
     spelt
         .iter()
         .position(|byte| !byte.is_ascii_hexdigit() && !is_white(*byte))
-}
-
-fn fault_word(fault: MessageFault) -> &'static str
-    ensures { result.now ≡ message_fault_word fault }
-{
-    match fault {
-        MessageFault::Short => "short",
-        MessageFault::Version => "version",
-        MessageFault::Length => "length",
-        MessageFault::Truncated => "truncated",
-        MessageFault::Trailing => "trailing",
-    }
 }
 
 /// The line of a source that names no dictionary: the kind of its first fault, and where it is.

@@ -129,7 +129,8 @@ fn or_dash(name: &str) -> &str
     if name.is_empty() { "-" } else { name }
 }
 
-fn fault_word(fault: MessageFault) -> &'static str
+/// The word of a fault of bytes that are no message.
+pub fn fault_word(fault: MessageFault) -> &'static str
     ensures { result.now ≡ message_fault_word fault }
 {
     match fault {

@@ -8,7 +8,7 @@ mod refusing;
 mod reporting;
 mod wrong_source;
 
-pub use bad_input::{BadDictionary, BadInput, BadMessage, BadTable};
+pub use bad_input::{BadDictionary, BadInput, BadMessage, BadTable, fault_word};
 pub use refusing::Refused;
 pub use reporting::{
     Answered, BothBooks, Compared, CutListing, Invalid, ReadBook, Report, Reported, Unrefuting,

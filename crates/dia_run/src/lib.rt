@@ -22,7 +22,8 @@ mod inputs;
 mod running;
 
 pub use commands::check::{push_subject, verdict};
-pub use commands::show::show_message;
+pub use commands::compare::{test_word, told_answer};
+pub use commands::show::{push_vendor, show_message};
 pub use commands::{Outcome, answer_of, outcome_of, told};
 pub use dia_io::{
     Command, Exit, Failed, Feed, FromReader, Input, InputFault, Inputs, RunFault, Sink, ToWriter,

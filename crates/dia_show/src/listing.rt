@@ -5,7 +5,7 @@ ghost use Rattle.std.specs.Prelude.{IfOk, OnOk, codes, string_bytes};
 ghost use Rattle.std.specs.Fmt.{decimal};
 ghost use Rattle.dia_wire.specs.Wire.{plain_avp};
 ghost use Rattle.dia_data.specs.Plain.{plain_format};
-ghost use Rattle.dia_run.specs.Listing.{bad_length_line, vendor_text};
+ghost use Rattle.dia_run.specs.Listing.{bad_length_line};
 ghost use Rattle.dia_show.specs.Listing.{AddsAvp, AddsLevel, AddsNameAndTold, columns, indent, margin, numbers};
 ghost use Rattle.dia_show.specs.Manners.{plain_manner_of};
 
@@ -14,6 +14,7 @@ use crate::manner::Manner;
 use crate::values::push_told;
 use dia_data::push_decimal;
 use dia_dict::{Book, Format};
+use dia_run::push_vendor;
 use dia_wire::{Avp, AvpFault, key, next_avp};
 use std::alloc::{AllocError, Global};
 
@@ -169,16 +170,6 @@ fn push_number(text: &mut String, number: u64) -> Result<(), AllocError>
 {
     push_decimal(text, number)?;
     text.push(' ')
-}
-
-/// Adds the Vendor-ID, or a dash.
-fn push_vendor(text: &mut String, vendor: Option<u32>) -> Result<(), AllocError>
-    ensures { OnOk result (string_bytes text.new ≡ string_bytes text.old ++ vendor_text vendor) }
-{
-    match vendor {
-        Some(vendor) => push_decimal(text, u64::from(vendor)),
-        None => text.push('-'),
-    }
 }
 
 /// Adds the name and the data, which end the line of an AVP.

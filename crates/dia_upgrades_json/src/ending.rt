@@ -3,7 +3,6 @@
 ghost use Rattle.std.specs.Prelude.{◌≡◌, IfOk, List, OnOk, map, string_bytes, ℕ};
 ghost use Rattle.dia_breaking_json.specs.Fields.{Adds, Field, fields_text};
 ghost use Rattle.dia_compat.specs.Proposed.{IsFirstUnknown};
-ghost use Rattle.dia_refused_json.specs.Refusals.{text_of};
 ghost use Rattle.dia_upgrades.specs.Asking.{AreCommands};
 ghost use Rattle.dia_upgrades_json.specs.Objects.{IsEnding, counts_fields, list_fields, list_kind, no_command_fields};
 ghost use Rattle.dia_upgrades_json.specs.Objects.{no_commands_fields, object_line, place_fields, refused_fields, where_fields};
@@ -12,6 +11,7 @@ use dia_breaking_json::{object_text, push_text, push_unsigned};
 use dia_dict::Book;
 use dia_explain_places::place_of;
 use dia_io::Input;
+use dia_refused_json::text_of;
 use dia_upgrades::{BadList, Found, named};
 use std::alloc::{AllocError, Global};
 
@@ -63,16 +63,6 @@ fn bad_list_line(alloc: Global, list: &[u8], bad: BadList) -> Result<String, All
     push_refused(alloc, &mut fields, "accepted", list_kind(bad))?;
     push_where(alloc, &mut fields, list, bad)?;
     object_line(alloc, fields.as_str())
-}
-
-/// The text of an input. One that is too long has none.
-fn text_of(input: &Input) -> &[u8]
-    ensures { result.now ≡ text_of input.entry.now }
-{
-    match input {
-        Input::Bytes(bytes) => bytes.as_slice(),
-        Input::TooLong => b"".as_slice(),
-    }
 }
 
 fn list_kind(bad: BadList) -> &'static str

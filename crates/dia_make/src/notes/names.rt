@@ -1,9 +1,8 @@
 //! The names of a dictionary, of which one may be meant by a word.
 
-use crate::notes::Added;
 use dia_dict::{Book, IndexedBook};
-use dia_explain_places::{nearest_command, nearest_name};
-use std::alloc::AllocError;
+use dia_explain_places::{Note, nearest_command, nearest_name};
+use std::alloc::{AllocError, Global};
 
 /// What to do about a name that the base dictionary doesn't have.
 const OTHER: &str =
@@ -17,51 +16,72 @@ pub struct NamesOf<'a> {
     pub is_base: bool,
 }
 
+/// The names of a dictionary's commands and AVPs.
+#[derive(Drop)]
+struct Names<'a> {
+    commands: Vec<&'a str>,
+    avps: Vec<&'a str>,
+}
+
 impl<'a> NamesOf<'a> {
     /// Adds what is meant by a word in place of a command's name.
-    pub fn push_command(&self, out: &mut String, name: &str) -> Added {
-        if self.avps(out)?.contains(&name) {
-            return write!(
-                out,
-                "hint: {name} is an AVP, and a message begins with the line of its header\n"
-            );
+    pub fn push_command(&self, note: &mut Note, name: &str) {
+        match self.names(note.allocator()) {
+            Ok(names) if names.avps.contains(&name) => note.put_all(&[
+                "hint: ",
+                name,
+                " is an AVP, and a message begins with the line of its header\n",
+            ]),
+            Ok(names) => self.push_near(note, nearest_command(name, &names.commands)),
+            Err(error) => note.keep(Err(error)),
         }
-        let commands = self.commands(out)?;
-        self.push_near(out, nearest_command(name, &commands))
     }
 
     /// Adds what is meant by a word in place of an AVP's name.
-    pub fn push_avp(&self, out: &mut String, name: &str) -> Added {
-        let avps = self.avps(out)?;
-        let commands = self.commands(out)?;
-        let near = nearest_name(name, &avps);
-        match nearest_name(name, &commands) {
-            Some(command) if near.is_none() => write!(
-                out,
-                "hint: {command} is a command, and an empty line stands between two messages\n"
-            ),
-            _ => self.push_near(out, near),
+    pub fn push_avp(&self, note: &mut Note, name: &str) {
+        match self.names(note.allocator()) {
+            Ok(names) => self.push_near_avp(note, &names, name),
+            Err(error) => note.keep(Err(error)),
+        }
+    }
+
+    fn push_near_avp(&self, note: &mut Note, names: &Names<'_>, name: &str) {
+        let near = nearest_name(name, &names.avps);
+        match nearest_name(name, &names.commands) {
+            Some(command) if near.is_none() => note.put_all(&[
+                "hint: ",
+                command,
+                " is a command, and an empty line stands between two messages\n",
+            ]),
+            _ => self.push_near(note, near),
         }
     }
 
     /// Adds the nearest name, if there is one.
-    fn push_near(&self, out: &mut String, near: Option<&str>) -> Added {
+    fn push_near(&self, note: &mut Note, near: Option<&str>) {
         match near {
-            Some(near) => write!(out, "hint: did you mean {near}?\n"),
-            None => out.push_str(if self.is_base { OTHER } else { "" }),
+            Some(near) => note.put_all(&["hint: did you mean ", near, "?\n"]),
+            None => note.put(if self.is_base { OTHER } else { "" }),
         }
     }
 
-    fn avps(&self, out: &String) -> Result<Vec<&'a str>, AllocError> {
-        let mut names = Vec::new(*out.allocator());
+    fn names(&self, alloc: Global) -> Result<Names<'a>, AllocError> {
+        Ok(Names {
+            commands: self.commands(alloc)?,
+            avps: self.avps(alloc)?,
+        })
+    }
+
+    fn avps(&self, alloc: Global) -> Result<Vec<&'a str>, AllocError> {
+        let mut names = Vec::new(alloc);
         for index in 0..self.book.entries() {
             names.push(self.book.entry_name(self.book.entry_at(index)))?;
         }
         Ok(names)
     }
 
-    fn commands(&self, out: &String) -> Result<Vec<&'a str>, AllocError> {
-        let mut names = Vec::new(*out.allocator());
+    fn commands(&self, alloc: Global) -> Result<Vec<&'a str>, AllocError> {
+        let mut names = Vec::new(alloc);
         for index in 0..self.book.commands() {
             names.push(self.book.def(self.book.command_at(index)).name.as_str())?;
         }

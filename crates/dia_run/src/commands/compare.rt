@@ -27,7 +27,7 @@ pub fn compare(alloc: Global, unknown: Unknown, inputs: &Inputs) -> Result<Answe
     let second = read_dictionary(alloc, 2, &inputs.second)?;
     let table = read_table(alloc, &inputs.table)?;
     let verdict = judge_table(alloc, &first.book, &second.book, unknown, &table)?;
-    let Outcome { text, exit } = told_of(alloc, &table, verdict.answer)?;
+    let Outcome { text, exit } = told_answer(alloc, &table, verdict.answer)?;
     let Verdict { answer, failings } = verdict;
     let report = Report::Compared(Compared {
         books: BothBooks { first, second },
@@ -39,8 +39,8 @@ pub fn compare(alloc: Global, unknown: Unknown, inputs: &Inputs) -> Result<Answe
     Ok(Answered { text, exit, report })
 }
 
-/// The line of an answer, and how the program ends.
-fn told_of(alloc: Global, table: &Table, answer: Answer) -> Result<Outcome, AllocError>
+/// The line of an answer about this table, and how the program ends.
+pub fn told_answer(alloc: Global, table: &Table, answer: Answer) -> Result<Outcome, AllocError>
     requires { NamesPair (plain_table table.now) answer }
     ensures { IfOk result (λ outcome. IsAnswerText
         (plain_table table.now) answer (string_bytes outcome.text) outcome.exit) }
@@ -73,7 +73,8 @@ fn failed(
     Ok(Outcome { text, exit })
 }
 
-fn test_word(test: Test) -> &'static str
+/// The word of a test.
+pub fn test_word(test: Test) -> &'static str
     ensures { result.now ≡ test_word test }
 {
     match test {

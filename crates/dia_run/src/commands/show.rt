@@ -19,6 +19,8 @@ use std::alloc::{AllocError, Global};
 
 mod listing;
 
+pub use listing::push_vendor;
+
 /// The lines of the message, with the names of the first dictionary.
 pub fn show(alloc: Global, inputs: &Inputs) -> Result<Answered, Refused>
     ensures outcome { Answers (IsShowOutcome inputs.now) result }

@@ -127,7 +127,7 @@ fn push_number(text: &mut String, number: u64) -> Result<(), AllocError>
 }
 
 /// Adds the Vendor-ID, or a dash.
-fn push_vendor(text: &mut String, vendor: Option<u32>) -> Result<(), AllocError>
+pub fn push_vendor(text: &mut String, vendor: Option<u32>) -> Result<(), AllocError>
     ensures { OnOk result (string_bytes text.new ≡ string_bytes text.old ++ vendor_text vendor) }
 {
     match vendor {

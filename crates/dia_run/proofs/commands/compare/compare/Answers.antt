@@ -19,8 +19,8 @@ returns-in_err-table-clause-outcome c =
     let p = err_from_is_err_and c.from_residual-in_err-table.result c.from_residual-in_err-table.ensures.1 in
     rw (p.1, p.2) (Ends-no_table c.args.unknown c.args.inputs.now _ _ _ c.in_ok-first.ensures.book c.in_ok-second.ensures.book c.in_err-table.ensures.told)
 
-pub told_of-requires : goal.told_of-requires
-told_of-requires c = names_pair _ _ c.args.unknown _ _ c.in_ok-verdict.ensures.answer
+pub told_answer-requires : goal.told_answer-requires
+told_answer-requires c = names_pair _ _ c.args.unknown _ _ c.in_ok-verdict.ensures.answer
 
 pub returns-in_err-verdict-clause-outcome : goal.returns-in_err-verdict-clause-outcome
 returns-in_err-verdict-clause-outcome c = let p = err_from_is_err_and c.from_residual-in_err-verdict.result c.from_residual-in_err-verdict.ensures.1 in rw (p.1, p.2) tt

@@ -1,5 +1,5 @@
 use Rattle.dia_run.proofs.LinesOfPairs.{command_fails, avp_fails}
-use Rattle.dia_run.proofs.commands.compare.told_of.Goals as goal
+use Rattle.dia_run.proofs.commands.compare.told_answer.Goals as goal
 
 pub returns-in-Command : goal.returns-in-Command
 returns-in-Command c = command_fails c.args.table.now c.args.answer _ _ _ _ _ c.in-No.is c.in-Command.is c.requires c.index.ensures c.failed.ensures.text c.failed.ensures.exit
