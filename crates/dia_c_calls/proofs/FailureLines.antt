@@ -1,6 +1,6 @@
 -- The line of a pair that fails a test.
 use Rattle.std.proofs.Common.{◌≡◌, ◌∙◌, ℕ, List, ◌++◌, append_assoc, ap, ap₂, codes}
-use Rattle.dia_compat.specs.declared.Test.{Test}
+use Rattle.dia_inclusion.specs.declared.Test.{Test}
 use Rattle.dia_run.specs.Pairs.{failure_line, test_word}
 
 abbrev written : (word left right test : List ℕ) → List ℕ

@@ -6,7 +6,7 @@ use Rattle.dia_policy.specs.declared.Sends.{Sends}
 use Rattle.dia_policy.specs.declared.Sends.TheVariants as sends
 use Rattle.dia_book.specs.Dictionary.{Dictionary}
 use Rattle.dia_accepted.specs.Accepted.{PlainEntry, max_list}
-use Rattle.dia_compat.specs.Proposed.{IsFirstUnknown}
+use Rattle.dia_inclusion.specs.Proposed.{IsFirstUnknown}
 use Rattle.dia_io.specs.declared.Input.{Input}
 use Rattle.dia_io.specs.declared.Exit.{Exit}
 use Rattle.dia_io.specs.declared.Exit.TheVariants.{Bad}

@@ -10,7 +10,7 @@ use crate::handle::{DictHandle, TextHandle, owner_in};
 use crate::opening::{Problem, Refused};
 use crate::status::{BAD_ARGUMENT, DONE, IS_CLOSED, IS_OPEN, NO_MEMORY, REFUSED};
 use crate::verdict::policy_of;
-use dia_explain_places::{limit_place, syntax_place};
+use dia_explain_places::{limit_word, syntax_word};
 use std::alloc::Global;
 
 /// What `diacmd compare` says of two dictionaries and the text of a table.
@@ -88,8 +88,8 @@ pub fn table_place(table: &[u8], kind: u32, line: u32) -> usize
     ensures place { result ≡ table_place table.now kind line }
 {
     match kind {
-        1 => syntax_place(table, line),
-        3 => limit_place(table, line),
+        1 => syntax_word(table, line).at,
+        3 => limit_word(table, line).at,
         _ => 0,
     }
 }

@@ -5,11 +5,10 @@ use Rattle.std.specs.List.{filter_map, AllByRecursion}
 use Rattle.std.specs.Char.{to_ascii_lowercase}
 use Rattle.dia_terms.specs.declared.FormatName.{FormatName}
 use Rattle.dia_terms.specs.declared.FormatName.TheVariants as format
-use Rattle.dia_terms.specs.declared.MRule.{MRule}
-use Rattle.dia_terms.specs.declared.MRule.TheVariants.{Must, MustNot, Any}
 use Rattle.dia_terms.specs.declared.Pxy.{Pxy}
 use Rattle.dia_terms.specs.declared.Pxy.TheVariants.{Clear, Set, Either}
 use Rattle.dia_terms.specs.Formats.{format_word}
+pub use Rattle.dia_terms.specs.MRules.{rule_word}
 use Rattle.dia_ccf.specs.declared.source.Head.{Head}
 use Rattle.dia_ccf.specs.declared.source.Head.TheVariants.{Group, Command, Error}
 use Rattle.dia_terms.specs.declared.RuleKind.{RuleKind}
@@ -61,11 +60,6 @@ each class [] ts = nothing ts
 each class (x ∷ xs) ts = (class x then each class xs) ts
 
 -- ---- declarations
-
-abbrev pub rule_word : MRule → List ℕ
-rule_word Must = codes "must"
-rule_word MustNot = codes "mustnot"
-rule_word Any = codes "any"
 
 -- a vendor of 0 and no vendor are one
 abbrev pub vendor : ℕ → Tokens

@@ -24,7 +24,6 @@ mod parsing;
 mod reading;
 mod refused;
 mod rendering;
-mod rule_words;
 mod source;
 mod wanted;
 

@@ -14,7 +14,6 @@ ghost use Rattle.dia_ccf.specs.CanonicalText.{head_text, flag_text, application_
 ghost use Rattle.dia_ccf.specs.CanonicalText.{error_proxy_text, rule_line, qualifier_text};
 ghost use Rattle.dia_ccf.specs.CanonicalText.{count_text, bracketed_text};
 
-use crate::rule_words::rule_name;
 use crate::source::{Decl, Def, Head, Qual, Rule, Source};
 use dia_terms::{Pxy, RuleKind};
 use std::alloc::{AllocError, Global};
@@ -69,7 +68,7 @@ fn put_type(text: &mut String, decl: &Decl) -> Result<(), AllocError>
         ++ (codes " " ++ format_word decl.now.format
         ++ codes " " ++ rule_word decl.now.rule ++ values_text (plain_decl decl.now).values)) }
 {
-    write!(text, " {} {}", decl.format.word(), rule_name(decl.rule))?;
+    write!(text, " {} {}", decl.format.word(), decl.rule.word())?;
     put_values(text, decl)
 }
 

@@ -79,7 +79,7 @@ fn has_good_bits(header: &Header) -> bool
 }
 
 /// The class of a message by its flags.
-fn class_of(header: &Header) -> Class
+pub fn class_of(header: &Header) -> Class
     ensures { result ≡ class_of header.now.flags }
 {
     if header.is_request() {

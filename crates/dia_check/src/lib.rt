@@ -16,5 +16,6 @@ mod telling;
 pub use checking::{check, check_in, one_answer, validity};
 pub use dia_policy::{Levels, Unknown};
 pub use fault::{Fault, Reason, Refusal, Selected, Subject};
+pub use header::class_of;
 pub use room::Room;
 pub use stream::{Paused, Progress, Stream, StreamFault};

@@ -7,6 +7,7 @@ use Rattle.json.specs.Print.{quoted}
 use Rattle.serde_json.specs.Data.{Data, Members, array, boolean, member, no_members, object, string}
 use Rattle.serde_json.specs.Written.{compact_text, items_text, members_text}
 use Rattle.serde_json.proofs.OnLiterals.{serde_json_on_literals}
+use Rattle.dia_terms.specs.MRules.{rule_word}
 use Rattle.dia_wire.specs.declared.Key.{Key}
 use Rattle.dia_terms.specs.declared.FormatName.{FormatName}
 use Rattle.dia_terms.specs.declared.FormatName.TheVariants as name
@@ -17,19 +18,19 @@ use Rattle.dia_book.specs.declared.MRule.TheVariants.{Must}
 use Rattle.dia_book.specs.declared.DefHead.{DefHead}
 use Rattle.dia_book.specs.declared.DRule.{DRule}
 use Rattle.dia_book.specs.Dictionary.{Dictionary, DictEntry, PlainDefinition, is_fixed}
-use Rattle.dia_compat.specs.declared.Failing.{Failing}
-use Rattle.dia_compat.specs.declared.Failing.TheVariants as failing
-use Rattle.dia_compat.specs.declared.PairKind.{PairKind}
-use Rattle.dia_compat.specs.declared.PairKind.TheVariants as kind
-use Rattle.dia_compat.specs.declared.Test.{Test}
-use Rattle.dia_compat.specs.declared.Test.TheVariants as tests
-use Rattle.dia_compat.specs.PairTests.{NamePair}
-use Rattle.dia_compat.specs.PairTests.{p_of}
+use Rattle.dia_inclusion.specs.declared.Failing.{Failing}
+use Rattle.dia_inclusion.specs.declared.Failing.TheVariants as failing
+use Rattle.dia_inclusion.specs.declared.PairKind.{PairKind}
+use Rattle.dia_inclusion.specs.declared.PairKind.TheVariants as kind
+use Rattle.dia_inclusion.specs.declared.Test.{Test}
+use Rattle.dia_inclusion.specs.declared.Test.TheVariants as tests
+use Rattle.dia_inclusion.specs.PairTests.{NamePair}
+use Rattle.dia_inclusion.specs.PairTests.{p_of}
 use Rattle.dia_run.specs.Pairs.{test_word}
 use Rattle.dia_refused_json.specs.Members.{json_line, named_members}
 use Rattle.dia_compared_json.specs.Failures.{failure_members, kind_word}
 use Rattle.dia_compared_json.specs.Parts.{why_word}
-use Rattle.dia_compared_json.specs.Objects.{app_of, code_of, command_members, declared_members, element, head_members, is_of_requests, items_of, m_word}
+use Rattle.dia_compared_json.specs.Objects.{app_of, code_of, command_members, declared_members, element, head_members, is_of_requests, items_of}
 use Rattle.dia_compared_json.specs.Objects.{number_or_null, p_value, rule_members, slot_name, taken_members, values_members, values_value}
 
 abbrev Text : Type 0
@@ -115,7 +116,7 @@ abbrev taken_text : (word m values : Text) → Text
 taken_text word m values = codes ",\"format\":" ++ (word ++ (codes ",\"m\":" ++ (m ++ values)))
 
 taken_is : (format : PlainFormat) (m : MRule)
-    → members_text true (taken_members format m) ≡ taken_text (quoted (word_of format)) (quoted (m_word m)) (members_text true (values_members format))
+    → members_text true (taken_members format m) ≡ taken_text (quoted (word_of format)) (quoted (rule_word m)) (members_text true (values_members format))
 unfolding serde_json_on_literals
 taken_is format m = refl
 
@@ -125,7 +126,7 @@ unfolding serde_json_on_literals
 format_is_plain name.OctetString = refl
 format_is_plain f = refl
 
-m_is_plain : (m : MRule) → plain (m_word m) ≡ quoted (m_word m)
+m_is_plain : (m : MRule) → plain (rule_word m) ≡ quoted (rule_word m)
 unfolding serde_json_on_literals
 m_is_plain Must = refl
 m_is_plain m = refl
@@ -136,12 +137,12 @@ written_taken word m values = codes ",\"format\":\"" ++ (word ++ (codes "\",\"m\
 taken_joined : (word m values : Text) → written_taken word m values ≡ taken_text (plain word) (plain m) values
 taken_joined word m values = simp append_assoc
 
-pub taken_told : (format : PlainFormat) (rule : MRule) (word m values text : Text) → word ≡ word_of format → m ≡ m_word rule
+pub taken_told : (format : PlainFormat) (rule : MRule) (word m values text : Text) → word ≡ word_of format → m ≡ rule_word rule
     → values ≡ members_text true (values_members format) → text ≡ written_taken word m values → text ≡ members_text true (taken_members format rule)
 taken_told format rule word m values text is_word is_m is_values is =
     is ∙ taken_joined word m values ∙ ap₂ (λ (x y : Text). taken_text (plain x) (plain y) values) is_word is_m
     ∙ ap₂ (λ (x y : Text). taken_text x y values) (format_is_plain (name_of format)) (m_is_plain rule)
-    ∙ ap (λ (x : Text). taken_text (quoted (word_of format)) (quoted (m_word rule)) x) is_values ∙ sym (taken_is format rule)
+    ∙ ap (λ (x : Text). taken_text (quoted (word_of format)) (quoted (rule_word rule)) x) is_values ∙ sym (taken_is format rule)
 
 -- ---- commands
 

@@ -4,10 +4,10 @@ use Rattle.std.specs.Borrow.{Bor}
 use Rattle.std.specs.Option.{option_map, option_map_or}
 use Rattle.serde_json.specs.Data.{Data, Items, Members, array, boolean, item, member, no_items, no_members, null, number, object, string, unsigned}
 use Rattle.serde_json.specs.Written.{compact_text}
+use Rattle.dia_terms.specs.MRules.{rule_word}
 use Rattle.dia_wire.specs.declared.Key.{Key}
 use Rattle.dia_data.specs.Plain.{PlainFormat, Enumerated, word_of}
 use Rattle.dia_book.specs.declared.MRule.{MRule}
-use Rattle.dia_book.specs.declared.MRule.TheVariants.{Must, MustNot, Any}
 use Rattle.dia_book.specs.declared.Pxy.{Pxy}
 use Rattle.dia_book.specs.declared.Pxy.TheVariants.{Clear, Set, Either}
 use Rattle.dia_book.specs.declared.Class.TheVariants.{Request}
@@ -17,7 +17,7 @@ use Rattle.dia_book.specs.declared.DRule.{DRule}
 use Rattle.dia_book.specs.declared.Definition.{Definition}
 use Rattle.dia_book.specs.Dictionary.{Dictionary, DictEntry, PlainDefinition, is_fixed, plain_definition, same_class}
 use Rattle.dia_valid.specs.Valid.{known}
-use Rattle.dia_compat.specs.PairTests.{p_of}
+use Rattle.dia_inclusion.specs.PairTests.{p_of}
 use Rattle.dia_refused_json.specs.Members.{named_members}
 
 -- ---- numbers and arrays
@@ -48,11 +48,6 @@ rule_members d n r = member (codes "number") (number (unsigned n)) (member (code
 
 -- ---- a declaration of an AVP (RFC 6733 section 4.5)
 
-abbrev pub m_word : MRule → List ℕ
-m_word Must = codes "must"
-m_word MustNot = codes "mustnot"
-m_word Any = codes "any"
-
 -- the least and the greatest number of a range
 abbrev pub range_value : ℕ × ℕ → Data
 range_value r = array (item (number (unsigned r.0)) (item (number (unsigned r.1)) no_items))
@@ -68,7 +63,7 @@ values_members (Enumerated ranges) = member (codes "values") (values_value range
 values_members format = no_members
 
 abbrev pub taken_members : PlainFormat → MRule → Members
-taken_members format m = member (codes "format") (string (word_of format)) (member (codes "m") (string (m_word m)) (values_members format))
+taken_members format m = member (codes "format") (string (word_of format)) (member (codes "m") (string (rule_word m)) (values_members format))
 
 -- in the order of the line of a dictionary's text: name, code, vendor (0 for none), format, M rule and values
 abbrev pub declared_members : DictEntry → Members

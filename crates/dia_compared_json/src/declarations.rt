@@ -10,7 +10,6 @@ ghost use Rattle.dia_compared_json.specs.Objects.{avp_value, declared_members, d
 ghost use Rattle.dia_compared_json.specs.Objects.{taken_members, values_members, values_value};
 
 use crate::arrays::{array_text, null_text};
-use crate::words::m_word;
 use dia_book::{Book, Entry, Format, Key, MRule};
 use dia_data::Values;
 use dia_refused_json::quoted;
@@ -71,7 +70,7 @@ fn taken_text(alloc: Global, format: &Format, rule: MRule) -> Result<String, All
     ensures { IfOk result (λ text. string_bytes text ≡ members_text true (taken_members (plain_format format.now) rule)) }
 {
     let word = format.word();
-    let m = m_word(rule);
+    let m = rule.word();
     let values = values_text(alloc, format)?;
     format!(in alloc; ",\"format\":\"{word}\",\"m\":\"{m}\"{values}")
 }

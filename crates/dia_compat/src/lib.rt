@@ -1,18 +1,16 @@
-//! Whether each message that is valid under one dictionary, of the commands that a table lists, is valid under another.
+//! Two dictionaries compared: by a table of pairs, whether each message that is valid under the first is valid under the second;
+//! and whether one message is valid under the first alone.
 #![tactic(auto)]
 
-mod checking;
-mod comparing;
-mod laws;
-mod proposing;
-mod reasons;
-mod table;
+mod refuting;
 
-pub use checking::{Answer, PairKind, Test, Verdict, check_table, judge_table, refutes};
-pub use laws::{
-    closed_is_included, level_is_included, level_is_placed, no_table_passes, one_comparison,
-    one_proposal, one_table, one_table_fault, read_tables_are_writable,
+pub use dia_inclusion::{
+    Answer, Failing, PairKind, ProposeFault, Test, Verdict, check_table, closed_is_included,
+    judge_table, level_is_included, level_is_placed, no_table_passes, one_comparison, one_proposal,
+    propose,
 };
-pub use proposing::{ProposeFault, propose};
-pub use reasons::Failing;
-pub use table::{MAX_NAME, MAX_PAIRS, MAX_TABLE, Table, TableFault, parse_table, render_table};
+pub use dia_tables::{
+    MAX_NAME, MAX_PAIRS, MAX_TABLE, Table, TableFault, one_table, one_table_fault, parse_table,
+    read_tables_are_writable, render_table,
+};
+pub use refuting::refutes;

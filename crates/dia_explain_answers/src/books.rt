@@ -3,9 +3,10 @@
 ghost use Rattle.std.specs.Prelude.{◌<◌, IfSome, length};
 ghost use Rattle.dia_book.specs.Dictionary.{definitions};
 
-use crate::rule_text::{m_word, push_vendor};
+use crate::rule_text::push_vendor;
 use crate::texts::{Scene, push_number};
 use dia_book::{Book, Class, DRule, DefHead, DefId, Definition, Format, Key, MRule, Slot};
+use dia_check::class_of;
 use dia_explain_places::Note;
 use dia_wire::Header;
 
@@ -47,7 +48,7 @@ impl Known<'_> {
     pub fn declared_word(&self, word: &str) -> &'static str {
         match word {
             "format" => self.format.word(),
-            "m" => m_word(self.rule),
+            "m" => self.rule.word(),
             "sends" => sent_flag(self.rule),
             "takes" => taken_flag(self.rule),
             _ => values_of(self.format),
@@ -98,17 +99,6 @@ impl Level {
             class: class_of(header),
             app: header.app,
         }
-    }
-}
-
-/// The class of a message by its header.
-pub fn class_of(header: &Header) -> Class {
-    if header.is_request() {
-        Class::Request
-    } else if header.is_error() {
-        Class::Error
-    } else {
-        Class::Answer
     }
 }
 

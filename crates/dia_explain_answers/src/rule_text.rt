@@ -2,7 +2,7 @@
 
 use crate::sides::Side;
 use crate::texts::push_number;
-use dia_book::{DRule, Format, Key, MRule, RuleKind};
+use dia_book::{DRule, Format, Key, RuleKind};
 use dia_data::push_value;
 use dia_explain_places::Note;
 use std::alloc::{AllocError, Global};
@@ -121,13 +121,4 @@ fn value_of(alloc: Global, format: &Format, data: &[u8]) -> Result<String, Alloc
     let mut value = String::new(alloc);
     push_value(&mut value, format, data)?;
     Ok(value)
-}
-
-/// The word of an M rule.
-pub fn m_word(rule: MRule) -> &'static str {
-    match rule {
-        MRule::Must => "must",
-        MRule::MustNot => "mustnot",
-        MRule::Any => "any",
-    }
 }

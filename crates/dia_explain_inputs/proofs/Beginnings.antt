@@ -77,9 +77,9 @@ begins_note name text told at old new gains = record {
 }
 
 -- and one about a word of a table's line on that line
-pub line_begins : (name text : List ℕ) (n start at : ℕ) (old new : Option (List ℕ)) → line_at text at ≡ line_at text start
-    → ((k : ℕ) → k ≤ length text → line_at text k ≡ n → line_at text start ≡ n) → BeginsWith (place_text name text at) old new → LineBegins name text n old new
-line_begins name text n start at old new same there begins k within here = record { at = at; on_line = same ∙ there k within here; begins = begins }
+pub line_begins : (name text : List ℕ) (n at : ℕ) (old new : Option (List ℕ)) → ((k : ℕ) → k ≤ length text → line_at text k ≡ n → line_at text at ≡ n)
+    → BeginsWith (place_text name text at) old new → LineBegins name text n old new
+line_begins name text n at old new there begins k within here = record { at = at; on_line = there k within here; begins = begins }
 
 -- and one about a text that the grammar refuses on the line that is told
 pub misfit_begins : (name text : List ℕ) (m : Misfit) (old new : Option (List ℕ)) → BeginsWith (place_text name text m.at) old new → MisfitBegins name text m old new

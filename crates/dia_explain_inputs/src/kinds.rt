@@ -1,7 +1,8 @@
 //! What a text is, by what stands in it.
 
 use crate::hints::{Sight, hint_of};
-use dia_explain_places::{back, is_white};
+use dia_explain_places::back;
+use dia_terms::is_white;
 
 /// What to do about lines that end in CR alone.
 pub const RETURNS: &str = "the lines end in CR alone, and a comment ends at a line feed: \

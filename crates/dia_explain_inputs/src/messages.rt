@@ -4,10 +4,11 @@ use crate::hints::{Sight, hint_of};
 use crate::kinds::{first_bad, first_line, hint_of_text, is_capture, kind_of_byte};
 use crate::notes::{SAVE, push_noted, push_too_long, push_whole};
 use dia_explain_places::{
-    NamedText, Note, Unpadded, back, count_digits, find_unpadded, is_white, place_of_byte,
+    NamedText, Note, Unpadded, back, count_digits, find_unpadded, place_of_byte,
 };
 use dia_policy::MAX_MESSAGE_TEXT;
 use dia_report::BadMessage;
+use dia_terms::is_white;
 use dia_wire::{HEADER_LENGTH, HeadFault, read_header};
 use std::alloc::{AllocError, Global};
 

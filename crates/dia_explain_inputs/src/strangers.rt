@@ -2,8 +2,9 @@
 
 use crate::names::{Named, NamedSource, Vocabulary};
 use crate::sides::{first_of, second_of};
-use dia_explain_places::{InputTexts, NamedText, Note, PairWords, words_of};
+use dia_explain_places::{InputTexts, NamedText, Note, line_from};
 use dia_report::BothBooks;
+use dia_tables::words_of;
 
 /// The most names that are told of a side.
 const MOST: usize = 50;
@@ -79,8 +80,7 @@ fn push_side(
     };
     for (at, byte) in table.text.iter().enumerate() {
         if begins {
-            let words = words_of(table.text, at);
-            if let Some(stranger) = stranger_in(&words, is_first, known) {
+            if let Some(stranger) = stranger_on_line(table.text, at, is_first, known) {
                 strangers = push_next(note, table, known, &stranger, strangers);
             }
         }
@@ -102,19 +102,21 @@ fn push_next(
     Strangers { count, is_odd }
 }
 
-/// The name of a side in the words of a line, if the dictionary doesn't have it.
-fn stranger_in<'a>(
-    words: &PairWords<'a>,
+/// The name of a side on the line that begins at a place, if the dictionary doesn't have it.
+fn stranger_on_line<'a>(
+    text: &'a [u8],
+    start: usize,
     is_first: bool,
     known: &Vocabulary<'_>,
 ) -> Option<Stranger<'a>> {
+    let words = words_of(line_from(text, start));
     let word = if is_first { words.first } else { words.second };
     let name = str::from_utf8(word.text).ok()?;
     let named = named_by(words.kind.text);
     if words.kind.is_empty() || known.has(named, name) {
         return None;
     }
-    let at = word.at;
+    let at = start.saturating_add(word.at);
     Some(Stranger { named, name, at })
 }
 

@@ -5,11 +5,9 @@ ghost use Rattle.dia_explain_inputs.specs.Beginnings.{TableBegins, LineBegins};
 use crate::hints::{Sight, hint_of};
 use crate::kinds::kind_of;
 use crate::notes::{push_made, push_not_text, push_quoted, push_too_long};
-use dia_compat::{MAX_NAME, MAX_PAIRS, MAX_TABLE, Table};
-use dia_explain_places::{
-    InputTexts, NamedText, Note, PairPart, Word, back, start_of_line, words_of,
-};
+use dia_explain_places::{InputTexts, NamedText, Note, RefusedWord, back, limit_word, syntax_word};
 use dia_report::BadTable;
+use dia_tables::{MAX_NAME, MAX_PAIRS, MAX_TABLE, PairPart, Table};
 use std::alloc::{AllocError, Global};
 
 /// How many bytes of a word are told.
@@ -34,23 +32,16 @@ pub fn push_table(note: &mut Note, table: &NamedText<'_>, why: &BadTable)
 fn push_syntax(note: &mut Note, table: &NamedText<'_>, line: u32)
     ensures { LineBegins table.now.name.now table.now.text.now line note.old note.new }
 {
-    let words = words_of(table.text, start_of_line(table.text, line));
-    let part = words.wrong_part();
-    let word = words.part(part);
-    let told = syntax_told(note.allocator(), table.text, &word, part);
+    let word = syntax_word(table.text, line);
+    let told = syntax_told(note.allocator(), table.text, &word);
     push_made(note, table, Some(word.at), told);
 }
 
-/// What is told of a word in the place of a part of a line.
-fn syntax_told(
-    alloc: Global,
-    text: &[u8],
-    word: &Word<'_>,
-    part: PairPart,
-) -> Result<String, AllocError> {
-    let (place, wanted) = slot_of(part);
+/// What is told of a word that can't stand where it stands.
+fn syntax_told(alloc: Global, text: &[u8], word: &RefusedWord<'_>) -> Result<String, AllocError> {
+    let (place, wanted) = slot_of(word.part);
     let mut told = Note::new(alloc);
-    push_found(&mut told, word);
+    push_found(&mut told, word.text);
     told.put_all(&["; expected ", wanted, "\n"]);
     told.put_excerpt(text, word.at);
     if let Some(hint) = hint_of(&[place], &sight_of(text, word)) {
@@ -60,12 +51,12 @@ fn syntax_told(
 }
 
 /// Adds what stands in the place of another word.
-fn push_found(note: &mut Note, word: &Word<'_>) {
+fn push_found(note: &mut Note, word: &[u8]) {
     if word.is_empty() {
         note.put("the line ends here");
     } else {
         note.put("found ");
-        push_quoted(note, word.text.get(..SHOWN).unwrap_or(word.text));
+        push_quoted(note, word.get(..SHOWN).unwrap_or(word));
     }
 }
 
@@ -83,8 +74,8 @@ fn slot_of(part: PairPart) -> Slot {
     }
 }
 
-fn sight_of<'a>(text: &'a [u8], word: &Word<'a>) -> Sight<'a> {
-    let kind = if word.is_empty() {
+fn sight_of<'a>(text: &'a [u8], word: &RefusedWord<'a>) -> Sight<'a> {
+    let kind = if word.text.is_empty() {
         "the end"
     } else if is_number(word.text) {
         "a number"
@@ -112,21 +103,19 @@ fn is_number(word: &[u8]) -> bool {
 fn push_limit(note: &mut Note, table: &NamedText<'_>, line: u32)
     ensures { LineBegins table.now.name.now table.now.text.now line note.old note.new }
 {
-    let words = words_of(table.text, start_of_line(table.text, line));
-    let part = words.limit_part();
-    let word = words.part(part);
-    let told = limit_told(note.allocator(), table.text, word.at, part);
+    let word = limit_word(table.text, line);
+    let told = limit_told(note.allocator(), table.text, &word);
     push_made(note, table, Some(word.at), told);
 }
 
-/// What is told of a place of a line that passes a limit by this part.
-fn limit_told(alloc: Global, text: &[u8], at: usize, part: PairPart) -> Result<String, AllocError> {
+/// What is told of a word by which a line passes a limit.
+fn limit_told(alloc: Global, text: &[u8], word: &RefusedWord<'_>) -> Result<String, AllocError> {
     let mut told = Note::new(alloc);
-    if part == PairPart::Kind {
+    if word.part == PairPart::Kind {
         told.put("this pair is one too many: a table has at most ");
         told.put_number(MAX_PAIRS as u64);
         told.put("\n");
-        told.put_excerpt(text, at);
+        told.put_excerpt(text, word.at);
         told.put_hint(
             "leave out the pairs of what the listed commands don't reach; propose writes the least table",
         );
@@ -134,7 +123,7 @@ fn limit_told(alloc: Global, text: &[u8], at: usize, part: PairPart) -> Result<S
         told.put("the name has more than ");
         told.put_number(MAX_NAME as u64);
         told.put(" bytes\n");
-        told.put_excerpt(text, at);
+        told.put_excerpt(text, word.at);
     }
     told.finish()
 }

@@ -1,38 +1,15 @@
--- The words of a table's line, and where it begins.
-use Rattle.std.proofs.Common.{◌≡◌, ◌∙◌, ℕ, ◌+◌, ◌<◌, ◌≤◌, List, length, drop, get_or, refl, sym, ap, ap₂, arith}
+-- Where a line of a table begins, and where its words stand.
+use Rattle.std.proofs.Common.{◌≡◌, ◌∙◌, ℕ, ◌+◌, ◌<◌, ◌≤◌, ◌^◌, List, length, get_or, refl, sym, ap, ap₂, subst, arith}
 use Rattle.std.specs.Prelude.{◌==◌, Bool, not, true, false}
-use Rattle.std.specs.List.{prefix_len, take_while, range_with_len}
+use Rattle.std.specs.List.{prefix_len, range_with_len}
 use Rattle.std.proofs.lemmas.Bool.{eq-eqb, eqb-true}
 use Rattle.std.proofs.lemmas.List.FromFn.{get_or-range_with_len, length-range_with_len}
 use Rattle.std.proofs.lemmas.List.Sums.{prefix_len_is}
-use Rattle.dia_explain_places.specs.declared.lines.Word.{Word}
+use Rattle.dia_tables.specs.Words.{PlainWords, word_of, words_in}
+use Rattle.dia_tables.specs.declared.PairPart.{PairPart}
+use Rattle.dia_tables.specs.declared.PairPart.TheVariants.{Kind, First, Sign, Second, Behind}
 use Rattle.dia_explain_places.specs.Places.{line_at}
-use Rattle.dia_explain_places.specs.declared.tables.PairPart.{PairPart}
-use Rattle.dia_explain_places.specs.Tables.{PlainWord, PlainWords, is_blank, is_word_byte, line_from, part_of, plain_word, start_of_line, word_at, word_behind, word_from, words_from, words_of_line}
-
-pub word_is : (text line rest word : List ℕ) (from blanks at : ℕ) → line ≡ line_from text from → blanks ≡ prefix_len is_blank line → at ≡ from + blanks
-    → rest ≡ drop blanks line → word ≡ take_while is_word_byte rest → word_at at word ≡ word_from text from
-word_is text line rest word from blanks at is_line is_blanks is_at is_rest is_word =
-    let count : blanks ≡ prefix_len is_blank (line_from text from) = is_blanks ∙ ap (prefix_len is_blank) is_line in
-    ap₂ word_at (is_at ∙ ap (λ (n : ℕ). from + n) count) (is_word ∙ ap (take_while is_word_byte) (is_rest ∙ ap₂ (λ (n : ℕ) (xs : List ℕ). drop n xs) count is_line))
-
--- the word that is read behind another
-pub next_is : (text : List ℕ) (known : PlainWord) (word next : Word) (end : ℕ) → plain_word word ≡ known → end ≡ word.at + length word.text.now
-    → plain_word next ≡ word_from text end → plain_word next ≡ word_behind text known
-next_is text known word next end is_word is_end is_next = is_next ∙ ap (word_from text) is_end ∙ ap (word_behind text) is_word
-
-abbrev five : (kind first sign second more : PlainWord) → PlainWords
-five kind first sign second more = record { kind = kind; first = first; sign = sign; second = second; more = more }
-
-pub words_are : (text : List ℕ) (start : ℕ) (kind first sign second more : PlainWord) → kind ≡ word_from text start → first ≡ word_behind text kind
-    → sign ≡ word_behind text first → second ≡ word_behind text sign → more ≡ word_behind text second
-    → five kind first sign second more ≡ words_from text start
-words_are text start kind first sign second more is_kind is_first is_sign is_second is_more =
-    let one = is_first ∙ ap (word_behind text) is_kind in
-    let two = is_sign ∙ ap (word_behind text) one in
-    let three = is_second ∙ ap (word_behind text) two in
-    let four = is_more ∙ ap (word_behind text) three in
-    (λ i. five (is_kind i) (one i) (two i) (three i) (four i))
+use Rattle.dia_explain_places.specs.Tables.{line_from, place_on_line, start_of_line, words_of_line}
 
 -- ---- the beginning of a line
 
@@ -55,10 +32,40 @@ start_is text n start within before here =
     (λ k below. ap (λ at. not (line_at text at == n)) (entry k (omega arith)) ∙ differs (line_at text k) n (before k below))
     (λ below. let inside : start < length text = omega arith in ap (λ at. not (line_at text at == n)) (entry start inside) ∙ alike (line_at text start) n (here inside)))
 
--- ---- the word that is refused
+-- ---- the words of a line
 
-pub place_is : (text : List ℕ) (n start : ℕ) (words : PlainWords) (which : PlainWords → PairPart) (part : PairPart) (word : PlainWord) → start ≡ start_of_line text n
-    → words ≡ words_from text start → part ≡ which words → word ≡ part_of words part → word.at ≡ (part_of (words_of_line text n) (which (words_of_line text n))).at
-place_is text n start words which part word is_start is_words is_part is_word =
-    let all : words ≡ words_of_line text n = is_words ∙ ap (words_from text) is_start in
-    ap (λ (x : PlainWord). x.at) (is_word ∙ ap (part_of words) is_part ∙ ap (λ (w : PlainWords). part_of w (which w)) all)
+word_within : (line : List ℕ) (part : PairPart) → (word_of (words_in line) part).at ≤ length line
+word_within line Kind = omega arith
+word_within line First = omega arith
+word_within line Sign = omega arith
+word_within line Second = omega arith
+word_within line Behind = omega arith
+
+-- a word of a line of a text, from where the line begins, and its place in the text
+pub record IsWordAt (text line : List ℕ) (start : ℕ) (words : PlainWords) (part : PairPart) (at : ℕ) : Type 0 where
+  pub is_line : line ≡ line_from text start
+  pub are_words : words ≡ words_in line
+  pub within : start + length line < 2 ^ 64
+  pub is_at : start + (word_of words part).at < 2 ^ 64 → at ≡ start + (word_of words part).at
+
+at_within : (text line : List ℕ) (start : ℕ) (words : PlainWords) (part : PairPart) (at : ℕ) → IsWordAt text line start words part at → (word_of words part).at ≤ length line
+at_within text line start words part at is = subst (λ (w : PlainWords). (word_of w part).at ≤ length line) (sym is.are_words) (word_within line part)
+
+at_is : (text line : List ℕ) (start : ℕ) (words : PlainWords) (part : PairPart) (at : ℕ) → IsWordAt text line start words part at → at ≡ start + (word_of words part).at
+at_is text line start words part at is = let within = at_within text line start words part at is in let most = is.within in is.is_at (omega arith)
+
+pub words_are : (text line : List ℕ) (n start : ℕ) (words : PlainWords) → line ≡ line_from text start → words ≡ words_in line → start ≡ start_of_line text n → words ≡ words_of_line text n
+words_are text line n start words is_line are_words is_start = are_words ∙ ap words_in (is_line ∙ ap (line_from text) is_start)
+
+pub place_is : (text line : List ℕ) (n start : ℕ) (words : PlainWords) (which : PlainWords → PairPart) (part : PairPart) (at : ℕ) → IsWordAt text line start words part at
+    → start ≡ start_of_line text n → part ≡ which words → at ≡ place_on_line text n (which (words_of_line text n))
+place_is text line n start words which part at is is_start is_part =
+    let all = words_are text line n start words is.is_line is.are_words is_start in
+    at_is text line start words part at is
+    ∙ ap₂ (λ (s k : ℕ). s + k) is_start (ap (λ (p : PairPart). (word_of words p).at) is_part ∙ ap (λ (w : PlainWords). (word_of w (which w)).at) all)
+
+-- it stands on that line
+pub on_line : (text line : List ℕ) (start : ℕ) (words : PlainWords) (part : PairPart) (at : ℕ) → IsWordAt text line start words part at
+    → ((k : ℕ) → k ≤ length line → line_at text (start + k) ≡ line_at text start) → line_at text at ≡ line_at text start
+on_line text line start words part at is same =
+    ap (line_at text) (at_is text line start words part at is) ∙ same (word_of words part).at (at_within text line start words part at is)

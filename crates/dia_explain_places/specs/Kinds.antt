@@ -3,11 +3,8 @@ use Rattle.std.specs.Prelude.{ℕ, ◌==◌, ◌&&◌, not, Bool}
 use Rattle.dia_explain_places.specs.declared.runs.Kind.{Kind}
 use Rattle.dia_explain_places.specs.declared.runs.Kind.TheVariants as kind
 use Rattle.dia_explain_places.specs.Places.{is_inner, is_white}
-use Rattle.dia_explain_places.specs.Tables.{is_blank, is_word_byte}
 
 abbrev pub is_of : Kind → ℕ → Bool
-is_of kind.Blank = is_blank
-is_of kind.Word = is_word_byte
 is_of kind.Feed = λ c. c == 10
 is_of kind.Line = λ c. not (c == 10)
 is_of kind.Shown = λ c. not (c == 10) && not (c == 13)

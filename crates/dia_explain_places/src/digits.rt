@@ -3,7 +3,8 @@
 ghost use Rattle.std.specs.Prelude.{◌≡◌, ◌*◌, ◌≤◌, None, IfSome, length};
 ghost use Rattle.dia_explain_places.specs.Places.{IsAtByte, digits_before};
 
-use crate::runs::{Kind, count_of, is_white};
+use crate::runs::{Kind, count_of};
+use dia_terms::is_white;
 
 /// How many bytes of a text aren't white space.
 pub fn count_digits(text: &[u8]) -> usize

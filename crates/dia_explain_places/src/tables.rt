@@ -1,86 +1,61 @@
-//! Where a line of a table is refused.
+//! The word for which a line of a table is refused.
 
-ghost use Rattle.std.specs.Prelude.{◌≡◌, ℕ, List};
+ghost use Rattle.std.specs.Prelude.{◌≡◌, ◌<◌, ◌≤◌, ◌+◌, ◌^◌, ℕ, length};
+ghost use Rattle.dia_tables.specs.Words.{limit_part, plain_words, word_of};
 ghost use Rattle.dia_explain_places.specs.Places.{line_at};
-ghost use Rattle.dia_explain_places.specs.Tables.{limit_place, syntax_place};
+ghost use Rattle.dia_explain_places.specs.Tables.{limit_place, syntax_part, syntax_place, words_of_line};
 
-use crate::lines::{PairWords, Word, start_of_line, words_of};
-use dia_terms::MAX_NAME;
+use crate::lines::{line_from, start_of_line};
+use dia_tables::{PairPart, PairWords, words_of};
 
-/// A part of a line `command A = B`, or what stands behind it.
-#[derive(Clone, Copy, PartialEq, Eq)]
-pub enum PairPart {
-    /// `command` or `avp`.
-    Kind,
-    First,
-    Sign,
-    Second,
-    Behind,
+/// A word of a table's line, which is empty where the line has no more words.
+#[derive(Clone, Copy)]
+pub struct RefusedWord<'a> {
+    /// The part of `command A = B` in whose place it stands.
+    pub part: PairPart,
+    pub text: &'a [u8],
+    /// How many bytes of the table's text stand before it.
+    pub at: usize,
 }
 
-impl<'a> PairWords<'a> {
-    ghost use Rattle.dia_explain_places.specs.Tables.{limit_part, part_of, plain_word, plain_words, wrong_part};
-    ghost use Rattle.dia_explain_places.specs.Words.{AreOnLine};
-
-    /// The word in the place of a part.
-    pub fn part(&self, part: PairPart) -> Word<'a>
-        ensures word { plain_word result ≡ part_of (plain_words self.now) part }
-        ensures on_line { (text : List ℕ) (n : ℕ) → AreOnLine text n self.now → line_at text result.at ≡ n }
-    {
-        match part {
-            PairPart::Kind => self.kind,
-            PairPart::First => self.first,
-            PairPart::Sign => self.sign,
-            PairPart::Second => self.second,
-            PairPart::Behind => self.more,
-        }
-    }
-
-    /// The first part whose word can't stand there, of a line that is no pair.
-    pub fn wrong_part(&self) -> PairPart
-        ensures { result ≡ wrong_part (plain_words self.now) }
-    {
-        let kind = self.kind.text;
-        if kind != b"command".as_slice() && kind != b"avp".as_slice() {
-            PairPart::Kind
-        } else if !self.first.is_name() {
-            PairPart::First
-        } else if self.sign.text != b"=".as_slice() {
-            PairPart::Sign
-        } else if !self.second.is_name() {
-            PairPart::Second
-        } else {
-            PairPart::Behind
-        }
-    }
-
-    /// The first name that is too long, of a line that passes a limit. Where none is, the pair is one too many.
-    pub fn limit_part(&self) -> PairPart
-        ensures { result ≡ limit_part (plain_words self.now) }
-    {
-        if self.first.text.len() > MAX_NAME {
-            PairPart::First
-        } else if self.second.text.len() > MAX_NAME {
-            PairPart::Second
-        } else {
-            PairPart::Kind
-        }
-    }
-}
-
-/// The place in a table's text of the line of this number, which is no pair: that of the first word that can't stand there.
-pub fn syntax_place(text: &[u8], line: u32) -> usize
-    ensures { result ≡ syntax_place text.now line }
+/// Of the line of this number, which is no pair, the first word that can't stand where it stands.
+pub fn syntax_word(text: &[u8], line: u32) -> RefusedWord<'_>
+    ensures part { result.part ≡ syntax_part text.entry.now line }
+    ensures text { result.text.now ≡ (word_of (words_of_line text.entry.now line) result.part).text }
+    ensures place { result.at ≡ syntax_place text.entry.now line }
+    ensures on_line { (k : ℕ) → k ≤ length text.entry.now → line_at text.entry.now k ≡ line
+        → line_at text.entry.now result.at ≡ line }
 {
-    let words = words_of(text, start_of_line(text, line));
-    words.part(words.wrong_part()).at
+    let start = start_of_line(text, line);
+    let words = words_of(line_from(text, start));
+    let part = words.wrong_part().unwrap_or(PairPart::Behind);
+    refused_word(start, &words, part)
 }
 
-/// The place in a table's text of the line of this number, which passes a limit: that of the first name that is too long or,
-/// where none is, that of the pair's first word.
-pub fn limit_place(text: &[u8], line: u32) -> usize
-    ensures { result ≡ limit_place text.now line }
+/// Of the line of this number, which passes a limit, the first name that is too long or, where none is, the first word.
+pub fn limit_word(text: &[u8], line: u32) -> RefusedWord<'_>
+    ensures part { result.part ≡ limit_part (words_of_line text.entry.now line) }
+    ensures text { result.text.now ≡ (word_of (words_of_line text.entry.now line) result.part).text }
+    ensures place { result.at ≡ limit_place text.entry.now line }
+    ensures on_line { (k : ℕ) → k ≤ length text.entry.now → line_at text.entry.now k ≡ line
+        → line_at text.entry.now result.at ≡ line }
 {
-    let words = words_of(text, start_of_line(text, line));
-    words.part(words.limit_part()).at
+    let start = start_of_line(text, line);
+    let words = words_of(line_from(text, start));
+    refused_word(start, &words, words.limit_part())
+}
+
+/// The word in the place of a part of the line that begins at a place.
+fn refused_word<'a>(start: usize, words: &PairWords<'a>, part: PairPart) -> RefusedWord<'a>
+    ensures part { result.part ≡ part }
+    ensures text { result.text.now ≡ (word_of (plain_words words.now) part).text }
+    ensures place { start + (word_of (plain_words words.now) part).at < 2 ^ 64
+        → result.at ≡ start + (word_of (plain_words words.now) part).at }
+{
+    let word = words.word(part);
+    RefusedWord {
+        part,
+        text: word.text,
+        at: start.saturating_add(word.at),
+    }
 }

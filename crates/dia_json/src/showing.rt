@@ -14,7 +14,7 @@ ghost use Rattle.dia_json.specs.Reports.{IsShowReport};
 ghost use Rattle.dia_json.specs.Whole.{IsShowJson};
 
 use crate::listing::push_level;
-use dia_book::Class;
+use dia_check::class_of;
 use dia_dict::{Book, IndexedBook};
 use dia_io::{Exit, Inputs};
 use dia_refused_json::{quoted, refuse};
@@ -145,18 +145,5 @@ fn named_command<B: Book>(alloc: Global, book: &B, header: &Header) -> Result<St
             format!(in alloc; ",\"command\":{name}}}")
         }
         None => String::from_str(alloc, "}"),
-    }
-}
-
-/// The class of a message by its flags.
-fn class_of(header: &Header) -> Class
-    ensures { result ≡ class_of header.now.flags }
-{
-    if header.is_request() {
-        Class::Request
-    } else if header.is_error() {
-        Class::Error
-    } else {
-        Class::Answer
     }
 }

@@ -10,10 +10,10 @@ ghost use Rattle.dia_refused_json.specs.Refusals.{wrong_members};
 
 use crate::strings::{quoted, quoted_array};
 use dia_ccf::{CcfFault, Misfit, Wanted};
-use dia_explain_places::{expected, limit_place, place_of, syntax_place};
+use dia_explain_places::{expected, limit_word, place_of, syntax_word};
 use dia_io::Input;
 use dia_report::{BadDictionary, BadInput, BadMessage, BadTable, WrongSource, fault_word};
-use dia_run::is_white;
+use dia_terms::is_white;
 use std::alloc::{AllocError, Global};
 
 /// The line of an input that is refused for this.
@@ -105,11 +105,11 @@ fn table_line(alloc: Global, spelt: &[u8], why: &BadTable) -> Result<String, All
         BadTable::TooLong => refused_line(alloc, "table", "too long"),
         BadTable::NotText { at } => refused_at(alloc, "table", "not text", spelt, *at),
         BadTable::Syntax { line } => {
-            let at = syntax_place(spelt, *line);
+            let at = syntax_word(spelt, *line).at;
             refused_on(alloc, "table", "syntax", *line as usize, spelt, at)
         }
         BadTable::Limit { line } => {
-            let at = limit_place(spelt, *line);
+            let at = limit_word(spelt, *line).at;
             refused_on(alloc, "table", "limit", *line as usize, spelt, at)
         }
     }

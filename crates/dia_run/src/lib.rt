@@ -31,6 +31,6 @@ pub use dia_io::{
 };
 pub use dia_policy::MAX_MESSAGE_TEXT;
 pub use inputs::dictionary::read_dictionary;
-pub use inputs::message::{is_white, read_message};
+pub use inputs::message::read_message;
 pub use inputs::table::read_table;
 pub use running::{answer, run, run_reporting};

@@ -1,13 +1,13 @@
 //! The line of a header.
 
 ghost use Rattle.std.specs.Prelude.{◌≡◌, ◌++◌, OnOk, string_bytes};
-ghost use Rattle.dia_valid.specs.Valid.{class_of};
 ghost use Rattle.dia_run.specs.Texts.{line};
 ghost use Rattle.dia_show.specs.Listing.{code_text, command_of, header_of, header_rest, name_or_mark};
 
 use crate::flags::push_header_flags;
+use dia_check::class_of;
 use dia_data::push_decimal;
-use dia_dict::{Book, Class};
+use dia_dict::Book;
 use dia_wire::Header;
 use std::alloc::AllocError;
 
@@ -65,18 +65,5 @@ fn name_of<'a, B: Book>(book: &'a B, header: &Header) -> &'a str
     match book.select(header.code, class_of(header), header.app) {
         Some(command) => book.def(command).name.as_str(),
         None => "?",
-    }
-}
-
-/// The class of a message by its flags.
-fn class_of(header: &Header) -> Class
-    ensures { result ≡ class_of header.now.flags }
-{
-    if header.is_request() {
-        Class::Request
-    } else if header.is_error() {
-        Class::Error
-    } else {
-        Class::Answer
     }
 }

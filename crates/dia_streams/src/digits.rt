@@ -2,9 +2,9 @@
 
 ghost use Rattle.std.specs.Prelude.{◌≡◌, [], ℕ, None, Some};
 ghost use Rattle.hex.specs.Hex.{hex_digit_value};
-ghost use Rattle.dia_streams.specs.Streams.{is_white};
 
 use crate::pairs::decode_digits;
+use dia_terms::is_white;
 use memchr::memchr;
 use std::alloc::{AllocError, Global};
 
@@ -151,10 +151,4 @@ fn digit_value(byte: u8) -> Option<u8>
         b'A'..=b'F' => Some(byte - b'A' + 10),
         _ => None,
     }
-}
-
-fn is_white(byte: u8) -> bool
-    ensures { result ≡ is_white byte }
-{
-    byte == b' ' || byte == b'\t' || byte == b'\r' || byte == b'\n'
 }

@@ -2,8 +2,8 @@
 
 ghost use Rattle.std.specs.Prelude.{◌≡◌};
 
-use dia_explain_places::is_white;
 use dia_io::{Failed, Feed};
+use dia_terms::is_white;
 use std::alloc::Global;
 
 /// How many bytes are kept.

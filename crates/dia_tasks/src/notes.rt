@@ -1,11 +1,11 @@
 //! The note of a report: what is told on standard error of an input that is refused, and of an answer that isn't yes.
 
-use dia_compat::Answer;
 use dia_explain_answers::{push_answer, push_unnamed};
 use dia_explain_inputs::{
     push_empty, push_length, push_no_pairs, push_refused, push_strangers, push_unknown_commands,
 };
 use dia_explain_places::{InputTexts, Note};
+use dia_inclusion::Answer;
 use dia_report::{Compared, Report};
 use std::alloc::{AllocError, Global};
 

@@ -3,3 +3,4 @@ pub mod Names
 pub mod Number
 pub mod Texts
 pub mod Formats
+pub mod MRules

@@ -1,21 +1,17 @@
-//! What dictionary texts and dictionaries have in common: names, M rules, P rules, the brackets of rules, and the names of the
-//! data formats.
+//! What texts and dictionaries have in common: names, M rules, P rules, the brackets of rules, the names of the data formats, and
+//! white space.
 #![tactic(auto)]
 
 mod formats;
+mod m_rules;
+mod texts;
 
 pub use formats::{FormatName, format_words, vendor_or_format_words};
+pub use m_rules::MRule;
+pub use texts::is_white;
 
 /// The most bytes of a name (our profile).
 pub const MAX_NAME: usize = 128;
-
-/// Whether the M flag is to be set.
-#[derive(Clone, Copy, PartialEq, Eq)]
-pub enum MRule {
-    Must,
-    MustNot,
-    Any,
-}
 
 /// Which P flag a message of a class may have.
 #[derive(Clone, Copy, PartialEq, Eq)]

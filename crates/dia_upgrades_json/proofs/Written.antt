@@ -8,7 +8,7 @@ use Rattle.std.proofs.lemmas.List.Elements.{All-contains}
 use Rattle.dia_book.specs.Dictionary.{Dictionary, PlainDefinition}
 use Rattle.dia_breaking_json.specs.declared.Names.{Names}
 use Rattle.dia_breaking_sites.proofs.Members.{contains_in, in_at}
-use Rattle.dia_compat.specs.Closed.{NamesCommand}
+use Rattle.dia_inclusion.specs.Closed.{NamesCommand}
 use Rattle.dia_io.specs.declared.Exit.{Exit}
 use Rattle.dia_io.specs.declared.Input.{Input}
 use Rattle.dia_io.specs.declared.RunFault.{RunFault}

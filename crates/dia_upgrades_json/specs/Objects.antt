@@ -9,7 +9,7 @@ use Rattle.dia_breaking_json.specs.declared.Names.{Names}
 use Rattle.dia_breaking_json.specs.Fields.{Field, object_of, text_field}
 use Rattle.dia_breaking_json.specs.Keys.{key_in, key_named}
 use Rattle.dia_breaking_json.specs.Lines.{line_json, unsigned_field}
-use Rattle.dia_compat.specs.Proposed.{IsFirstUnknown}
+use Rattle.dia_inclusion.specs.Proposed.{IsFirstUnknown}
 use Rattle.dia_explain_places.specs.Places.{column_at, line_at}
 use Rattle.dia_io.specs.declared.Input.{Input}
 use Rattle.dia_refused_json.specs.Refusals.{text_of}

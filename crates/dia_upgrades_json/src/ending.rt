@@ -2,7 +2,7 @@
 
 ghost use Rattle.std.specs.Prelude.{◌≡◌, IfOk, List, OnOk, map, string_bytes, ℕ};
 ghost use Rattle.dia_breaking_json.specs.Fields.{Adds, Field, fields_text};
-ghost use Rattle.dia_compat.specs.Proposed.{IsFirstUnknown};
+ghost use Rattle.dia_inclusion.specs.Proposed.{IsFirstUnknown};
 ghost use Rattle.dia_upgrades.specs.Asking.{AreCommands};
 ghost use Rattle.dia_upgrades_json.specs.Objects.{IsEnding, counts_fields, list_fields, list_kind, no_command_fields};
 ghost use Rattle.dia_upgrades_json.specs.Objects.{no_commands_fields, object_line, place_fields, refused_fields, where_fields};

@@ -6,15 +6,13 @@ use crate::books::{
 };
 use crate::checking::policy_words;
 use crate::comparing::pairing::Pairing;
-use crate::rule_text::{
-    m_word, push_key, push_loose, push_rule, push_shown_value, push_slot, widened,
-};
+use crate::rule_text::{push_key, push_loose, push_rule, push_shown_value, push_slot, widened};
 use crate::sides::Side;
 use crate::texts::{Scene, push_number};
 use dia_book::{DRule, DefHead, Definition, Format, Key};
 use dia_breaking_data::witness;
-use dia_compat::Failing;
 use dia_explain_places::Note;
+use dia_inclusion::Failing;
 
 /// A pair of commands or of AVPs, and what of it fails a test.
 #[derive(Clone, Copy)]
@@ -179,7 +177,7 @@ impl<'a> Pair<'a> {
             return self.push_key_word(note, word);
         };
         match word {
-            "m" => note.put(m_word(second.rule)),
+            "m" => note.put(second.rule.word()),
             "value" => push_witness(note, first.format, second.format),
             _ => self.push_key_word(note, word),
         }

@@ -2,8 +2,9 @@
 
 use crate::sides::Side;
 use dia_check::Unknown;
-use dia_compat::{PairKind, Table};
-use dia_explain_places::back;
+use dia_explain_places::line_from;
+use dia_inclusion::PairKind;
+use dia_tables::{Table, words_of};
 
 /// Two dictionaries, compared by a table.
 #[derive(Clone, Copy)]
@@ -25,18 +26,15 @@ pub fn place_of_pair(text: &[u8], kind: PairKind, number: usize) -> Option<usize
     };
     let mut seen = 0usize;
     let mut begins = true;
-    for (at, byte) in text.iter().enumerate() {
-        if *byte == b'\n' {
-            begins = true;
-        } else if begins && *byte != b' ' && *byte != b'\t' {
-            begins = false;
-            if back(text, at).starts_with(word) {
-                if seen == number {
-                    return Some(at);
-                }
-                seen = seen.saturating_add(1);
+    for (start, byte) in text.iter().enumerate() {
+        if begins {
+            let kind = words_of(line_from(text, start)).kind;
+            if kind.text == word && seen == number {
+                return Some(start.saturating_add(kind.at));
             }
+            seen = seen.saturating_add(usize::from(kind.text == word));
         }
+        begins = *byte == b'\n';
     }
     None
 }

@@ -1,13 +1,13 @@
 //! What is told of a message whose header has a fault.
 
 use crate::applications::{Application, application_of};
-use crate::books::{Level, Wanted, class_of, command_at, definition, find_command, name_of};
+use crate::books::{Level, Wanted, command_at, definition, find_command, name_of};
 use crate::faults::avp_bytes::push_command_flags;
 use crate::faults::reasons::text_of_header;
 use crate::sides::Side;
 use crate::texts::{Scene, fault_and_hint, push_hint, push_number, push_text};
 use dia_book::{Book, Class, DefHead, Definition};
-use dia_check::Reason;
+use dia_check::{Reason, class_of};
 use dia_explain_places::Note;
 use dia_wire::Header;
 

@@ -1,14 +1,14 @@
 //! What is told of each reason: what its texts are about, and the texts. A text has what is wrong, and on the line behind it
 //! what to do. What the words in braces stand for, the other files here say.
 
-use crate::books::{Known, class_of};
+use crate::books::Known;
 use crate::faults::avp::{data_of, same_code, text_of_value};
 use crate::faults::avp_bytes::{head_of, length_of};
 use crate::faults::in_body::InBody;
 use crate::faults::level::Counting;
 use crate::faults::rules::place_behind;
 use dia_book::{Class, Definition};
-use dia_check::{Reason, Unknown};
+use dia_check::{Reason, Unknown, class_of};
 use dia_wire::{AVP_HEAD_LENGTH, Header};
 
 /// What the texts of a reason are about.

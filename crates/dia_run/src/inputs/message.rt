@@ -2,7 +2,6 @@
 
 ghost use Rattle.std.specs.Prelude.{◌≡◌, ◌≢◌, Ok, IfOk, IfErr, IsOk};
 ghost use Rattle.hex.specs.Hex.{decode_of};
-ghost use Rattle.dia_ccf.specs.Tokens.{is_white};
 ghost use Rattle.dia_io.specs.Inputs.{Holds};
 ghost use Rattle.dia_policy.specs.Limits.{max_message_text};
 ghost use Rattle.dia_run.specs.Texts.{IsMessageText, IsNoMessageText, digits_of};
@@ -11,6 +10,7 @@ ghost use Rattle.dia_report.specs.Refusals.{TellsOf};
 use dia_io::Input;
 use dia_policy::MAX_MESSAGE_TEXT;
 use dia_report::{BadMessage, Refused};
+use dia_terms::is_white;
 use hex::FromHexError;
 use std::alloc::{AllocError, Global};
 
@@ -72,10 +72,4 @@ fn without_white(alloc: Global, text: &[u8]) -> Result<Vec<u8>, AllocError>
         .copied()
         .filter(|byte| !is_white(*byte))
         .collect(alloc)
-}
-
-pub fn is_white(byte: u8) -> bool
-    ensures { result ≡ is_white byte }
-{
-    byte == b' ' || byte == b'\t' || byte == b'\r' || byte == b'\n'
 }

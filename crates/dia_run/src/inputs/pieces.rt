@@ -3,8 +3,8 @@
 ghost use Rattle.std.specs.Prelude.{◌≡◌, ◌<◌, ◌≤◌, ◌⊎◌, length, take, IfOk, IfErr};
 ghost use Rattle.dia_run.specs.Texts.{SpellsFirst, SpellsNone, digits_of};
 
-use crate::inputs::message::is_white;
 use dia_report::BadMessage;
+use dia_terms::is_white;
 use hex::decode_to_slice;
 
 /// The most bytes of a piece.

@@ -1,13 +1,13 @@
 //! A table of pairs as text.
 
 ghost use Rattle.std.specs.Prelude.{◌≡◌, ◌≢◌, IfOk, IfErr};
-ghost use Rattle.dia_compat.specs.TableText.{plain_table};
+ghost use Rattle.dia_tables.specs.TableText.{plain_table};
 ghost use Rattle.dia_report.specs.Refusals.{table_line, TellsOf, bad_table_text};
 ghost use Rattle.dia_run.specs.Pairs.{IsTableText, IsNoTableText, table_fault_text};
 
-use dia_compat::{MAX_TABLE, Table, TableFault, parse_table};
 use dia_io::Input;
 use dia_report::{BadInput, BadTable, Refused};
+use dia_tables::{MAX_TABLE, Table, TableFault, parse_table};
 use std::alloc::Global;
 
 /// The table that an input's text spells. A text that spells none is refused as standard output tells it: too long, no UTF-8,

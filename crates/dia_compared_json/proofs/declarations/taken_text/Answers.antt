@@ -6,5 +6,5 @@ use Rattle.dia_compared_json.proofs.declarations.taken_text.Goals as goal
 pub returns : goal.returns
 returns c =
     IfOk-weaker c.format.result _ _
-    (λ text is. taken_told (plain_format c.args.format.now) c.args.rule _ _ _ _ c.word-word.ensures c.m_word-m.ensures c.in_ok-values.ensures is)
+    (λ text is. taken_told (plain_format c.args.format.now) c.args.rule _ _ _ _ c.word-word.ensures c.word-m.ensures c.in_ok-values.ensures is)
     c.format.ensures.ok

@@ -1,7 +1,7 @@
 use Rattle.std.proofs.Common.{Some, ℕ, List, map, ap, sym, ◌∙◌}
 use Rattle.dia_book.specs.Dictionary.{PlainDefinition, plain_definition}
 use Rattle.dia_book.proofs.Members.{into_map}
-use Rattle.dia_compat.proofs.SetsOfNames.{one_more, distinct_names}
+use Rattle.dia_inclusion.proofs.SetsOfNames.{one_more, distinct_names}
 use Rattle.dia_valid.proofs.SelectedCommands.{command_at}
 use Rattle.dia_upgrades.proofs.naming.names_of_commands.Goals as goal
 

@@ -1,0 +1,43 @@
+use Rattle.std.proofs.Common.{◌≡◌, ◌+◌, List, Some, length, ap, subst, ◌∙◌}
+use Rattle.std.specs.Prelude.{slice_get}
+use Rattle.dia_book.specs.declared.DRule.{DRule}
+use Rattle.dia_book.specs.Dictionary.{Dictionary, plain_definition, definitions, groups}
+use Rattle.dia_inclusion.specs.Sides.{Sides}
+use Rattle.dia_valid.specs.Rules.{rules_in}
+use Rattle.dia_inclusion.specs.PairTests.{failed_rules}
+use Rattle.dia_inclusion.proofs.CommandsByCode.{pair_fails, pair_fails_tenth}
+use Rattle.dia_inclusion.proofs.comparing.pair_tests.failed_commands.Goals as goal
+
+pub returns-then-selected : goal.returns-then-selected
+returns-then-selected g c =
+    let all = c.args.cover.now in
+    let ea : g.A.Book.meaning c.first-a.result.now ≡ all.sides.first = c.first-a.ensures.meaning ∙ ap (λ (s : Sides). s.first) c.sides-sides.ensures in
+    let eb : g.B.Book.meaning c.second-b.result.now ≡ all.sides.second = c.second-b.ensures.meaning ∙ ap (λ (s : Sides). s.second) c.sides-sides.ensures in
+    let k = c.command_at-first.result in
+    let l = c.command_at-second.result in
+    let at_k = subst (λ (d : Dictionary). k ≡ length (groups d) + c.args.first) ea c.command_at-first.ensures in
+    let at_l = subst (λ (d : Dictionary). l ≡ length (groups d) + c.args.second) eb c.command_at-second.ensures in
+    let x = plain_definition c.def.result.now in
+    let y = plain_definition c.def-2.result.now in
+    let at_x = subst (λ (d : Dictionary). slice_get (definitions d) k ≡ Some x) ea c.def.ensures in
+    let at_y = subst (λ (d : Dictionary). slice_get (definitions d) l ≡ Some y) eb c.def-2.ensures in
+    c.failed_rules.ensures
+    ∙ ap (λ (rules : List DRule). failed_rules all rules c.second_rules.result) (c.first_rules.ensures ∙ ap (λ (s : Sides). rules_in s.first k) c.sides-sides.ensures)
+    ∙ ap (failed_rules all (rules_in all.sides.first k)) (c.second_rules.ensures ∙ ap (λ (s : Sides). rules_in s.second l) c.sides-sides.ensures)
+    ∙ pair_fails all c.args.first c.args.second k l x y c.args.selected c.may_stand_for.result c.requires.selected at_k at_l at_x at_y c.may_stand_for.ensures
+    c.if-may_stand_for.true c.if-selected.true
+
+pub returns-else-may_stand_for : goal.returns-else-may_stand_for
+returns-else-may_stand_for g c =
+    let all = c.args.cover.now in
+    let ea : g.A.Book.meaning c.first-a.result.now ≡ all.sides.first = c.first-a.ensures.meaning ∙ ap (λ (s : Sides). s.first) c.sides-sides.ensures in
+    let eb : g.B.Book.meaning c.second-b.result.now ≡ all.sides.second = c.second-b.ensures.meaning ∙ ap (λ (s : Sides). s.second) c.sides-sides.ensures in
+    let k = c.command_at-first.result in
+    let l = c.command_at-second.result in
+    let at_k = subst (λ (d : Dictionary). k ≡ length (groups d) + c.args.first) ea c.command_at-first.ensures in
+    let at_l = subst (λ (d : Dictionary). l ≡ length (groups d) + c.args.second) eb c.command_at-second.ensures in
+    let x = plain_definition c.def.result.now in
+    let y = plain_definition c.def-2.result.now in
+    let at_x = subst (λ (d : Dictionary). slice_get (definitions d) k ≡ Some x) ea c.def.ensures in
+    let at_y = subst (λ (d : Dictionary). slice_get (definitions d) l ≡ Some y) eb c.def-2.ensures in
+    pair_fails_tenth all c.args.first c.args.second k l x y c.args.selected c.may_stand_for.result c.requires.selected at_k at_l at_x at_y c.may_stand_for.ensures c.else-may_stand_for.either

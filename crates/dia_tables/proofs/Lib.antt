@@ -1,0 +1,3 @@
+pub mod WordsOfLines
+pub mod TableLines
+pub mod TableReadBack

@@ -1,0 +1,4 @@
+pub mod TableText
+pub mod WrittenTable
+pub mod Words
+pub mod Lines
