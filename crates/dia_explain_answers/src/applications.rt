@@ -10,13 +10,8 @@ pub struct Application {
 
 /// The application with this Application-ID, if there is a dictionary for it.
 pub fn application_of(id: u32) -> Option<Application> {
-    let (name, file) = name_and_file(id).split_once('\n')?;
-    Some(Application { id, name, file })
-}
-
-/// The name of an application and, behind a line feed, the dictionary.
-fn name_and_file(id: u32) -> &'static str {
-    match id {
+    // its name and, behind a line feed, the dictionary
+    let named = match id {
         0 => "the base\nrfc6733.txt",
         1 => "NASREQ\nnas.txt",
         3 => "Rf\nro.txt",
@@ -27,6 +22,8 @@ fn name_and_file(id: u32) -> &'static str {
         16_777_238 => "Gx\ngx.txt",
         16_777_251 => "S6a\ns6a.txt",
         16_777_252 => "S13\ns6a.txt",
-        _ => "",
-    }
+        _ => return None,
+    };
+    let (name, file) = named.split_once('\n')?;
+    Some(Application { id, name, file })
 }

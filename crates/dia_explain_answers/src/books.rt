@@ -4,7 +4,7 @@ ghost use Rattle.std.specs.Prelude.{◌<◌, IfSome, length};
 ghost use Rattle.dia_book.specs.Dictionary.{definitions};
 
 use crate::rule_text::push_vendor;
-use crate::texts::{Scene, push_number};
+use crate::texts::Scene;
 use dia_book::{Book, Class, DRule, DefHead, DefId, Definition, Format, Key, MRule, Slot};
 use dia_check::class_of;
 use dia_explain_places::Note;
@@ -36,7 +36,7 @@ impl Scene for Known<'_> {
     fn push_word(&self, note: &mut Note, word: &str) {
         match word {
             "name" => note.put(self.name),
-            "code" => push_number(note, self.key.code as usize),
+            "code" => note.put_number(self.key.code as u64),
             "vendor" => push_vendor(note, self.key.vendor),
             _ => note.put(self.declared_word(word)),
         }
@@ -49,36 +49,24 @@ impl Known<'_> {
         match word {
             "format" => self.format.word(),
             "m" => self.rule.word(),
-            "sends" => sent_flag(self.rule),
-            "takes" => taken_flag(self.rule),
-            _ => values_of(self.format),
+            // the M flag of AVPs that are sent
+            "sends" => match self.rule {
+                MRule::Must => ": it is sent with the M flag",
+                MRule::MustNot => ": it is sent without the M flag",
+                MRule::Any => ": it may be sent with the M flag, and without",
+            },
+            // the M flag of AVPs that are taken
+            "takes" => match self.rule {
+                MRule::Must => ": without the M flag it is refused",
+                MRule::MustNot => ": with the M flag it is refused",
+                MRule::Any => "",
+            },
+            // the values of an Enumerated AVP
+            _ => match self.format {
+                Format::Enumerated(values) if values.list().is_some() => "has these values here",
+                _ => "may have any value here",
+            },
         }
-    }
-}
-
-/// What a rule of the M flag says of the AVPs that are sent.
-fn sent_flag(rule: MRule) -> &'static str {
-    match rule {
-        MRule::Must => ": it is sent with the M flag",
-        MRule::MustNot => ": it is sent without the M flag",
-        MRule::Any => ": it may be sent with the M flag, and without",
-    }
-}
-
-/// What it says of the AVPs that are taken.
-fn taken_flag(rule: MRule) -> &'static str {
-    match rule {
-        MRule::Must => ": without the M flag it is refused",
-        MRule::MustNot => ": with the M flag it is refused",
-        MRule::Any => "",
-    }
-}
-
-/// Which values an Enumerated AVP may have.
-fn values_of(format: &Format) -> &'static str {
-    match format {
-        Format::Enumerated(values) if values.list().is_some() => "has these values here",
-        _ => "may have any value here",
     }
 }
 

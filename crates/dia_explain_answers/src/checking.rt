@@ -2,7 +2,6 @@
 
 use crate::faults::{Message, push_refusal};
 use crate::sides::Side;
-use crate::texts::push_number;
 use dia_check::{Levels, Unknown};
 use dia_explain_places::{InputTexts, Note};
 use dia_report::Invalid;
@@ -25,7 +24,7 @@ pub fn push_options(note: &mut Note, asked: &Asked) {
     note.put(policy_words(asked.unknown));
     if let Levels::AtMost(most) = asked.levels {
         note.put(" --levels ");
-        push_number(note, most as usize);
+        note.put_number(most as u64);
     }
 }
 

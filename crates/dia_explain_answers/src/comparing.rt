@@ -14,7 +14,7 @@ use pairing::{Pairing, place_of_pair};
 use parts::push_lines;
 use reasons::{lines_of, more_of};
 
-/// Adds the note of the first pair of a table that fails a test.
+/// Adds the note of the first pair of a table that fails a test: its place, what the test asks, and why it fails.
 pub fn push_compare(note: &mut Note, texts: &InputTexts<'_>, found: &Compared) {
     let Answer::No { kind, pair, reason } = found.answer else {
         return;
@@ -27,19 +27,14 @@ pub fn push_compare(note: &mut Note, texts: &InputTexts<'_>, found: &Compared) {
         name: texts.table.name,
         text: texts.table.text,
     };
-    push_asked(note, &pairing, kind, pair, reason);
+    let at = place_of_pair(pairing.text, kind, pair);
+    let asked = asked_by(reason, kind);
+    note.put_start(pairing.name, pairing.text, at);
+    note.put_all(&["this pair fails the test ", asked, "\n"]);
     match found.failings.first() {
         Some(failing) => push_pair(note, &pairing, kind, pair, *failing),
         None => {}
     }
-}
-
-/// Adds the place of the pair in the table, and what the test asks.
-fn push_asked(note: &mut Note, pairing: &Pairing<'_>, kind: PairKind, pair: usize, test: Test) {
-    let at = place_of_pair(pairing.text, kind, pair);
-    let asked = asked_by(test, kind);
-    note.put_start(pairing.name, pairing.text, at);
-    note.put_all(&["this pair fails the test ", asked, "\n"]);
 }
 
 /// What a test is about.
@@ -61,7 +56,7 @@ fn asked_by(test: Test, kind: PairKind) -> &'static str {
     }
 }
 
-/// Adds why a pair fails the test. Of names that a dictionary doesn't have nothing is told here.
+/// Adds what shows that a pair fails the test, and what to do. Of names that a dictionary doesn't have nothing is told here.
 fn push_pair(
     note: &mut Note,
     pairing: &Pairing<'_>,
@@ -76,28 +71,19 @@ fn push_pair(
     match (pairs.get(number), failing) {
         (None, _) | (_, Failing::FirstName | Failing::SecondName) => {}
         (Some(names), _) => {
-            let pair = match kind {
-                PairKind::Command => Pair::of_commands(pairing, failing, names),
-                PairKind::Avp => Pair::of_avps(pairing, failing, names),
+            let (pair, all) = match kind {
+                PairKind::Command => (
+                    Pair::of_commands(pairing, failing, names),
+                    "hint: `diacmd breaking{policy} {a} {b} {x}` lists all that breaks, if anything does",
+                ),
+                PairKind::Avp => (
+                    Pair::of_avps(pairing, failing, names),
+                    "hint: `diacmd breaking{policy} {a} {b}` lists all that breaks, if anything does",
+                ),
             };
-            push_failed(note, &pair, kind)
+            push_lines(note, &pair, lines_of(failing));
+            push_lines(note, &pair, more_of(&pair));
+            push_lines(note, &pair, all)
         }
-    }
-}
-
-/// Adds what shows that a pair fails the test, and what to do.
-fn push_failed(note: &mut Note, pair: &Pair<'_>, kind: PairKind) {
-    push_lines(note, pair, lines_of(pair.failing));
-    push_lines(note, pair, more_of(pair));
-    push_lines(note, pair, listed_by(kind))
-}
-
-/// What lists all that breaks.
-fn listed_by(kind: PairKind) -> &'static str {
-    match kind {
-        PairKind::Command =>
-            "hint: `diacmd breaking{policy} {a} {b} {x}` lists all that breaks, if anything does",
-        PairKind::Avp =>
-            "hint: `diacmd breaking{policy} {a} {b}` lists all that breaks, if anything does",
     }
 }

@@ -8,9 +8,8 @@ const STANDARD_INPUT: &str = "-";
 
 /// Adds the command that explains one line of `check`. `messages` is the word that names the text of all.
 pub fn push_check_alone(note: &mut Note, messages: &str, asked: &Asked, dictionary: &str) {
-    push_command(note, messages, "check", asked);
-    note.put_all(&[" ", dictionary, " -` explains the fault"]);
-    push_end(note, messages)
+    let words = [" ", dictionary, " -` explains the fault"];
+    push_alone(note, messages, "check", asked, &words)
 }
 
 /// Adds the command that explains one line of `refute`. `messages` is the word that names the text of all.
@@ -21,24 +20,22 @@ pub fn push_refute_alone(
     first: &str,
     second: &str,
 ) {
-    push_command(note, messages, "refute", asked);
-    note.put_all(&[" ", first, " ", second, " -` explains the answer"]);
-    push_end(note, messages)
+    let words = [" ", first, " ", second, " -` explains the answer"];
+    push_alone(note, messages, "refute", asked, &words)
 }
 
-/// Adds the command up to its options.
-fn push_command(note: &mut Note, messages: &str, command: &str, asked: &Asked) {
-    if messages == STANDARD_INPUT {
+/// Adds a command that explains one line: its name, its options, and the words behind them.
+fn push_alone(note: &mut Note, messages: &str, command: &str, asked: &Asked, words: &[&str]) {
+    let is_input = messages == STANDARD_INPUT;
+    if is_input {
         note.put("hint: of a line alone, `diacmd ");
     } else {
         note.put_all(&["hint: `sed -n NUMBERp ", messages, " | diacmd "]);
     }
     note.put(command);
-    push_options(note, asked)
-}
-
-fn push_end(note: &mut Note, messages: &str) {
-    note.put(if messages == STANDARD_INPUT {
+    push_options(note, asked);
+    note.put_all(words);
+    note.put(if is_input {
         "\n"
     } else {
         " of the line with that number\n"

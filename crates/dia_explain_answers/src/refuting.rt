@@ -4,18 +4,28 @@ use crate::books::{Level, definition, name_of};
 use crate::checking::{Asked, policy_words};
 use crate::faults::{Message, push_refusal};
 use crate::sides::Side;
-use crate::texts::push_number;
 use dia_check::{Fault, Refusal};
 use dia_dict::IndexedBook;
 use dia_explain_places::{InputTexts, Note};
 use dia_report::Unrefuting;
 use dia_wire::read_header;
 
-/// Adds that a message isn't valid under the first dictionary, or is valid under both.
+/// Adds that a message isn't valid under the first dictionary, its fault, and where the second accepts it, that; or that it is
+/// valid under both.
 pub fn push_refute(note: &mut Note, texts: &InputTexts<'_>, found: &Unrefuting) {
     match &found.under_first {
         Ok(_) => push_both(note, texts, found),
-        Err(refusal) => push_not_first(note, texts, found, refusal),
+        Err(refusal) => {
+            let side = Side::of(&texts.first, &found.books.first);
+            let message = Message::of(&texts.message, &found.message);
+            let asked = Asked::new(found.unknown, found.levels);
+            push_verdict(note, message.name, side.name, refusal);
+            push_refusal(note, &side, &message, &asked, refusal);
+            if found.under_second.is_ok() {
+                let stands = ": the dictionary of the side that sends the message stands first\n";
+                note.put_all(&["hint: it is valid under ", texts.second.name, stands]);
+            }
+        }
     }
 }
 
@@ -51,38 +61,15 @@ fn command_name<'a>(book: &'a IndexedBook, message: &[u8]) -> &'a str {
     }
 }
 
-/// Adds that a message isn't valid under the first dictionary, its fault, and where the second accepts it, that.
-fn push_not_first(note: &mut Note, texts: &InputTexts<'_>, found: &Unrefuting, refusal: &Refusal) {
-    push_verdict(note, texts.message.name, texts.first.name, refusal);
-    push_fault(note, texts, found, refusal);
-    match found.under_second {
-        Ok(_) => push_second(note, texts.second.name),
-        Err(_) => {}
-    }
-}
-
-/// Adds the fault of the message under the first dictionary.
-fn push_fault(note: &mut Note, texts: &InputTexts<'_>, found: &Unrefuting, refusal: &Refusal) {
-    let side = Side::of(&texts.first, &found.books.first);
-    let message = Message::of(&texts.message, &found.message);
-    let asked = Asked::new(found.unknown, found.levels);
-    push_refusal(note, &side, &message, &asked, refusal)
-}
-
-/// Adds that the message is valid under the second dictionary.
-fn push_second(note: &mut Note, second: &str) {
-    let stands = ": the dictionary of the side that sends the message stands first\n";
-    note.put_all(&["hint: it is valid under ", second, stands]);
-}
-
+/// Adds that a message isn't valid under the first dictionary.
 fn push_verdict(note: &mut Note, message: &str, first: &str, refusal: &Refusal) {
     note.put_all(&[message, ": the message isn't valid under ", first, ": "]);
     match refusal {
         Refusal::Fault(Fault { code, place, .. }) => {
             note.put("fault ");
-            push_number(note, *code as usize);
+            note.put_number(*code as u64);
             note.put(" at ");
-            push_number(note, *place as usize);
+            note.put_number(*place as u64);
         }
         Refusal::Truncated => note.put("truncated"),
         _ => note.put("trailing"),

@@ -78,16 +78,12 @@ impl<'a> Side<'a> {
         name: &str,
         rule: Option<usize>,
     ) -> Option<usize> {
-        let index = index_of(defs, name)?;
-        part_place(self.text, self.source, Some(Part { kind, index, rule }))
-    }
-}
-
-fn index_of(defs: &[Def], name: &str) -> Option<usize> {
-    for (index, def) in defs.iter().enumerate() {
-        if def.name.as_str() == name {
-            return Some(index);
+        for (index, def) in defs.iter().enumerate() {
+            if def.name.as_str() == name {
+                let part = Part { kind, index, rule };
+                return part_place(self.text, self.source, Some(part));
+            }
         }
+        None
     }
-    None
 }

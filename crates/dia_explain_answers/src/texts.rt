@@ -26,18 +26,9 @@ fn push_piece<S: Scene>(note: &mut Note, scene: &S, piece: &str) {
     }
 }
 
-/// What is wrong, and what to do: the two lines of a text.
-pub fn fault_and_hint(text: &str) -> (&str, &str) {
-    text.split_once('\n').unwrap_or((text, ""))
-}
-
 /// Adds what to do.
 pub fn push_hint<S: Scene>(note: &mut Note, scene: &S, text: &str) {
     note.put("hint: ");
     push_text(note, scene, text);
     note.put("\n")
-}
-
-pub fn push_number(note: &mut Note, number: usize) {
-    note.put_number(number as u64);
 }

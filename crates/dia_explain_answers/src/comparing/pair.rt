@@ -8,8 +8,8 @@ use crate::checking::policy_words;
 use crate::comparing::pairing::Pairing;
 use crate::rule_text::{push_key, push_loose, push_rule, push_shown_value, push_slot, widened};
 use crate::sides::Side;
-use crate::texts::{Scene, push_number};
-use dia_book::{DRule, DefHead, Definition, Format, Key};
+use crate::texts::Scene;
+use dia_book::{DRule, DefHead, Definition, Key};
 use dia_breaking_data::witness;
 use dia_explain_places::Note;
 use dia_inclusion::Failing;
@@ -35,11 +35,15 @@ impl<'a> Pair<'a> {
         failing: Failing,
         names: &(String, String),
     ) -> Self {
+        let y = match failing {
+            Failing::NotBeside { second } => command_at(pairing.b.book, second),
+            _ => find_command(pairing.b.book, Wanted::Name(&names.1)),
+        };
         Pair {
             pairing,
             failing,
             x: find_command(pairing.a.book, Wanted::Name(&names.0)),
-            y: second_command(pairing, failing, &names.1),
+            y,
             first_avp: None,
             second_avp: None,
         }
@@ -113,15 +117,6 @@ impl<'a> Pair<'a> {
         }
     }
 
-    /// The number that a word stands for.
-    fn number_of(&self, word: &str) -> usize {
-        match word {
-            "app" => self.app().unwrap_or(0) as usize,
-            "own" => from_one(self.places().0),
-            _ => from_one(self.places().1),
-        }
-    }
-
     /// The name or the option that a word stands for.
     fn text_for(&self, word: &str) -> Option<&str> {
         let pairing = self.pairing;
@@ -178,21 +173,12 @@ impl<'a> Pair<'a> {
         };
         match word {
             "m" => note.put(second.rule.word()),
-            "value" => push_witness(note, first.format, second.format),
+            "value" => match witness(first.format, second.format) {
+                Some(value) => push_shown_value(note, first.format, value.as_slice()),
+                None => {}
+            },
             _ => self.push_key_word(note, word),
         }
-    }
-}
-
-/// The command of the second dictionary with this name, or the one that isn't beside that of the first.
-fn second_command<'a>(
-    pairing: &Pairing<'a>,
-    failing: Failing,
-    name: &str,
-) -> Option<&'a Definition> {
-    match failing {
-        Failing::NotBeside { second } => command_at(pairing.b.book, second),
-        _ => find_command(pairing.b.book, Wanted::Name(name)),
     }
 }
 
@@ -201,18 +187,12 @@ fn group_of<'a>(side: &Side<'a>, avp: Option<Known<'a>>) -> Option<&'a Definitio
     definition(side.book, Level::Group(avp?.key))
 }
 
-/// Adds a value that the first of two formats accepts, and the second doesn't.
-fn push_witness(note: &mut Note, first: &Format, second: &Format) {
-    match witness(first, second) {
-        Some(value) => push_shown_value(note, first, value.as_slice()),
-        None => {}
-    }
-}
-
 impl Scene for Pair<'_> {
     fn push_word(&self, note: &mut Note, word: &str) {
         match word {
-            "app" | "own" | "place" => push_number(note, self.number_of(word)),
+            "app" => note.put_number(self.app().unwrap_or(0) as u64),
+            "own" => push_rule_number(note, self.places().0),
+            "place" => push_rule_number(note, self.places().1),
             _ => match self.text_for(word) {
                 Some(text) => note.put(text),
                 None => self.push_avp_word(note, word),
@@ -231,6 +211,7 @@ pub fn wildcard_of(def: Option<&Definition>) -> Option<usize> {
     wildcard_among(&def?.rules)
 }
 
-fn from_one(place: Option<usize>) -> usize {
-    place.unwrap_or(0).saturating_add(1)
+/// Adds the number of the rule at a place, from one on.
+fn push_rule_number(note: &mut Note, place: Option<usize>) {
+    note.put_number(place.unwrap_or(0).saturating_add(1) as u64)
 }

@@ -4,7 +4,7 @@ use crate::books::Known;
 use crate::comparing::pair::{Pair, rule_at, wildcard_of};
 use crate::rule_text::{push_counts, push_rule, push_slot};
 use crate::sides::Side;
-use crate::texts::{Scene, push_hint, push_number};
+use crate::texts::{Scene, push_hint};
 use dia_book::{Class, DRule, DefHead, Definition, Pxy};
 use dia_explain_places::Note;
 
@@ -21,30 +21,24 @@ fn push_line(note: &mut Note, pair: &Pair<'_>, line: &str) {
     };
     match part {
         "hint" => push_hint(note, pair, told),
-        "x" | "sent" | "unsent" => push_of_first(note, pair, part, told),
-        "y" | "taken" | "wildcard" => push_of_second(note, pair, part, told),
+        "x" | "sent" | "unsent" => {
+            let sent = pair.places().0;
+            let is_of_rule = part == "sent";
+            if part == "x" || is_of_rule == sent.is_some() {
+                let rule = if is_of_rule { sent } else { None };
+                push_defined(note, &pair.pairing.a, pair.x, rule, told)
+            }
+        }
+        "y" | "taken" | "wildcard" => {
+            let rule = match part {
+                "taken" => pair.places().1,
+                "wildcard" => wildcard_of(pair.y),
+                _ => None,
+            };
+            push_defined(note, &pair.pairing.b, pair.y, rule, told)
+        }
         _ => push_of_avps(note, pair, part, told),
     }
-}
-
-/// Adds a line about the first's definition, or about a rule of it.
-fn push_of_first(note: &mut Note, pair: &Pair<'_>, part: &str, told: &str) {
-    let sent = pair.places().0;
-    let is_of_rule = part == "sent";
-    if part == "x" || is_of_rule == sent.is_some() {
-        let rule = if is_of_rule { sent } else { None };
-        push_defined(note, &pair.pairing.a, pair.x, rule, told)
-    }
-}
-
-/// Adds a line about the second's definition, or about a rule of it.
-fn push_of_second(note: &mut Note, pair: &Pair<'_>, part: &str, told: &str) {
-    let rule = match part {
-        "taken" => pair.places().1,
-        "wildcard" => wildcard_of(pair.y),
-        _ => None,
-    };
-    push_defined(note, &pair.pairing.b, pair.y, rule, told)
 }
 
 /// Adds a line about AVPs.
@@ -159,10 +153,10 @@ fn push_messages(note: &mut Note, head: DefHead) {
         _ => "answers",
     };
     note.put_all(&[what, " of code "]);
-    push_number(note, code as usize);
+    note.put_number(code as u64);
     if let Some(app) = app {
         note.put(" and application ");
-        push_number(note, app as usize);
+        note.put_number(app as u64);
     }
 }
 

@@ -109,7 +109,12 @@ pub fn more_of(pair: &Pair<'_>) -> &'static str {
     match pair.failing {
         Failing::Fixed { first, second } => hint_of_fixed(pair, first, second),
         Failing::Uncovered { .. } | Failing::LetIn { .. } => hint_of_uncovered(pair),
-        Failing::Unserved => hint_of_unserved(pair),
+        Failing::Unserved => match pair.app() {
+            Some(_) =>
+                "hint: {b} has no such definition for application {app}, nor one without an application: add one there",
+            None => "hint: {b} has no such definition without an application: add one there, \
+                 or give the one in the first dictionary its application",
+        },
         Failing::Formats => lines_of_formats(pair),
         _ => "",
     }
@@ -138,15 +143,6 @@ fn hint_of_uncovered(pair: &Pair<'_>) -> &'static str {
         (None, Unknown::Kept) =>
             "hint: declare it in {b}, and add its pair to {table}; or, where it is always sent without the M flag, \
              declare it mustnot in {a}",
-    }
-}
-
-fn hint_of_unserved(pair: &Pair<'_>) -> &'static str {
-    match pair.app() {
-        Some(_) =>
-            "hint: {b} has no such definition for application {app}, nor one without an application: add one there",
-        None => "hint: {b} has no such definition without an application: add one there, \
-             or give the one in the first dictionary its application",
     }
 }
 

@@ -1,18 +1,17 @@
 //! What is told of an AVP by itself: its length, its flags, and its data.
 
 use crate::books::{Known, Wanted, find_avp};
-use crate::faults::avp_bytes::{is_mandatory, part, push_hex};
+use crate::faults::avp_bytes::{flags_of, part, push_hex};
 use crate::faults::in_body::InBody;
 use crate::faults::lengths::push_length_word;
 use crate::faults::reasons::{Topic, topic_of};
 use crate::faults::rules::push_rule_word;
 use crate::rule_text::{push_key, push_shown_value, push_vendor};
-use crate::texts::push_number;
 use dia_book::Format;
 use dia_data::{FormatKind, Values};
 use dia_explain_places::Note;
 use dia_terms::{FormatName, format_words};
-use dia_wire::next_avp;
+use dia_wire::{AVP_MANDATORY, next_avp};
 
 /// What is wrong with data that its format doesn't accept, and on the line behind it what to do.
 pub fn text_of_value(format: &Format, data: &[u8]) -> &'static str {
@@ -50,11 +49,15 @@ pub fn data_of<'a>(scene: &InBody<'a>) -> &'a [u8] {
     }
 }
 
-/// Adds what a word about the AVP of a fault stands for.
+/// Adds what a word about a fault stands for: about its AVP and the bytes of it, or where it is about no AVP, about the level.
 pub fn push_avp_word(note: &mut Note, scene: &InBody<'_>, word: &str) {
     let Some(key) = scene.key() else {
-        return push_level_word(note, scene, word);
+        return match topic_of(scene.fault.reason) {
+            Topic::Lengths => push_length_word(note, scene, word),
+            _ => push_rule_word(note, scene, word),
+        };
     };
+    let data = data_of(scene);
     match word {
         "key" => push_key(note, key, " and vendor "),
         "declared" => push_key(note, key, " vendor "),
@@ -62,34 +65,16 @@ pub fn push_avp_word(note: &mut Note, scene: &InBody<'_>, word: &str) {
             Some(other) => push_vendor(note, other.key.vendor),
             None => {}
         },
-        _ => push_data_word(note, scene, word),
-    }
-}
-
-/// Adds what a word of a fault that is about no AVP stands for.
-fn push_level_word(note: &mut Note, scene: &InBody<'_>, word: &str) {
-    if matches!(topic_of(scene.fault.reason), Topic::Lengths) {
-        push_length_word(note, scene, word)
-    } else {
-        push_rule_word(note, scene, word)
-    }
-}
-
-/// Adds what a word about the bytes of that AVP stands for.
-fn push_data_word(note: &mut Note, scene: &InBody<'_>, word: &str) {
-    let data = data_of(scene);
-    match word {
-        "flag" => note.put(m_flag(scene.own())),
-        "bytes" => push_number(note, data.len()),
+        "flag" => note.put(if flags_of(scene.own()) & AVP_MANDATORY != 0 {
+            "set"
+        } else {
+            "clear"
+        }),
+        "bytes" => note.put_number(data.len() as u64),
         "fits" => push_fitting(note, data.len()),
         "value" => push_shown_value(note, &Format::Integer32, data),
         _ => push_declared_word(note, scene, data, word),
     }
-}
-
-/// What the M flag of an AVP is.
-fn m_flag(avp: &[u8]) -> &'static str {
-    if is_mandatory(avp) { "set" } else { "clear" }
 }
 
 /// Adds what a word about the declaration of that AVP stands for, or about data that isn't as it says.
@@ -99,26 +84,29 @@ fn push_declared_word(note: &mut Note, scene: &InBody<'_>, data: &[u8], word: &s
     };
     match word {
         "m" | "format" => note.put(avp.declared_word(word)),
-        "lengths" => note.put(lengths_of(avp.format)),
-        "bad" | "byte" | "rest" => push_bad_word(note, data, bad_place(avp.format, data), word),
+        // those that data of the format may have
+        "lengths" => note.put(match avp.format.kind() {
+            FormatKind::EightBytes(_) => "8",
+            FormatKind::Address => {
+                "2 of family, and then 4 in family 1 (IPv4) or 16 in family 2 (IPv6)"
+            }
+            _ => "4",
+        }),
+        "bad" | "byte" | "rest" => push_bad_word(note, avp.format, data, word),
         _ => push_rule_word(note, scene, word),
     }
 }
 
-/// Adds what a word about a place in some data stands for.
-fn push_bad_word(note: &mut Note, data: &[u8], bad: usize, word: &str) {
-    match word {
-        "bad" => push_number(note, bad),
-        "byte" => push_hex(note, part(data, bad, bad.saturating_add(1))),
-        _ => push_hex(note, part(data, bad, bad.saturating_add(4))),
-    }
-}
-
-/// The place in some data of the first byte that its format doesn't accept.
-fn bad_place(format: &Format, data: &[u8]) -> usize {
-    match (format, str::from_utf8(data)) {
+/// Adds what a word about the first byte in some data that its format doesn't accept stands for.
+fn push_bad_word(note: &mut Note, format: &Format, data: &[u8], word: &str) {
+    let bad = match (format, str::from_utf8(data)) {
         (Format::Utf8String, Err(error)) => error.valid_up_to(),
         _ => graphic_front(data),
+    };
+    match word {
+        "bad" => note.put_number(bad as u64),
+        "byte" => push_hex(note, part(data, bad, bad.saturating_add(1))),
+        _ => push_hex(note, part(data, bad, bad.saturating_add(4))),
     }
 }
 
@@ -130,17 +118,6 @@ fn graphic_front(data: &[u8]) -> usize {
         }
     }
     data.len()
-}
-
-/// The lengths that data of a format may have.
-fn lengths_of(format: &Format) -> &'static str {
-    match format.kind() {
-        FormatKind::EightBytes(_) => "8",
-        FormatKind::Address => {
-            "2 of family, and then 4 in family 1 (IPv4) or 16 in family 2 (IPv6)"
-        }
-        _ => "4",
-    }
 }
 
 /// Adds the formats whose data has this length.

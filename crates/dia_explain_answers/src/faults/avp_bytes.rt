@@ -1,13 +1,9 @@
-//! The bytes of an AVP and of a header, by their fields (RFC 6733 sections 3 and 4.1).
+//! The bytes of an AVP, by its fields (RFC 6733 section 4.1), and flags.
 
-use crate::texts::{Scene, push_number, push_text};
+use crate::texts::{Scene, push_text};
 use dia_data::push_hex_byte;
 use dia_explain_places::Note;
-use dia_wire::{
-    AVP_HEAD_LENGTH, AVP_MANDATORY, AVP_PROTECTED, AVP_VENDOR, COMMAND_ERROR, COMMAND_PROXIABLE,
-    COMMAND_REQUEST, COMMAND_RETRANSMITTED, Header, VENDOR_AVP_HEAD_LENGTH,
-};
-use std::alloc::{AllocError, Global};
+use dia_wire::{AVP_HEAD_LENGTH, AVP_MANDATORY, AVP_PROTECTED, AVP_VENDOR, VENDOR_AVP_HEAD_LENGTH};
 
 /// How many bytes an AVP has up to its flags, and with them.
 const FLAGS_END: usize = 5;
@@ -15,17 +11,10 @@ const FLAGS_END: usize = 5;
 /// How many bytes of data are shown.
 const SHOWN: usize = 16;
 
-static AVP_FLAGS: [(u8, &str); 3] = [
+static FLAGS: [(u8, &str); 3] = [
     (AVP_VENDOR, " V"),
     (AVP_MANDATORY, " M"),
     (AVP_PROTECTED, " P"),
-];
-
-static COMMAND_FLAGS: [(u8, &str); 4] = [
-    (COMMAND_REQUEST, " R"),
-    (COMMAND_PROXIABLE, " P"),
-    (COMMAND_ERROR, " E"),
-    (COMMAND_RETRANSMITTED, " T"),
 ];
 
 /// The place of an AVP in a message, its bytes, and what may stand behind it.
@@ -37,50 +26,40 @@ struct AvpBytes<'a> {
 
 /// Adds a line with the place of an AVP and its fields, as far as they are there: in decimal, and in hexadecimal.
 pub fn push_avp(note: &mut Note, at: usize, bytes: &[u8]) {
-    push_text(note, &AvpBytes { at, bytes }, fields_of(bytes))
-}
-
-fn fields_of(bytes: &[u8]) -> &'static str {
-    if bytes.len() < FLAGS_END {
+    let fields = if bytes.len() < FLAGS_END {
         "  at {at}: bytes {bytes}\n"
     } else if head_of(bytes) == VENDOR_AVP_HEAD_LENGTH {
         "  at {at}: code {code}, flags {flags}, length {length}, vendor {vendor}{data}\n"
     } else {
         "  at {at}: code {code}, flags {flags}, length {length}{data}\n"
-    }
+    };
+    push_text(note, &AvpBytes { at, bytes }, fields)
 }
 
 impl Scene for AvpBytes<'_> {
     fn push_word(&self, note: &mut Note, word: &str) {
         let bytes = self.bytes;
         match word {
-            "at" => push_number(note, self.at),
+            "at" => note.put_number(self.at as u64),
             "code" => push_field(note, part(bytes, 0, 4)),
-            "flags" => push_flags(note, flags_of(bytes), &AVP_FLAGS),
+            "flags" => push_flags(note, flags_of(bytes), &FLAGS),
             "length" => push_field(note, part(bytes, 5, 8)),
             "vendor" => push_field(note, part(bytes, 8, 12)),
-            "data" => push_data(note, part(bytes, head_of(bytes), length_of(bytes))),
+            "data" => {
+                let data = part(bytes, head_of(bytes), length_of(bytes));
+                if !data.is_empty() {
+                    note.put(", data ");
+                    push_hex(note, part(data, 0, SHOWN));
+                    note.put(if data.len() > SHOWN { ".." } else { "" })
+                }
+            }
             _ => push_hex(note, bytes),
         }
     }
 }
 
-fn push_data(note: &mut Note, bytes: &[u8]) {
-    if bytes.is_empty() {
-        return;
-    }
-    note.put(", data ");
-    push_hex(note, part(bytes, 0, SHOWN));
-    note.put(if bytes.len() > SHOWN { ".." } else { "" })
-}
-
-/// Adds the flags of a header, with the names of those that are set.
-pub fn push_command_flags(note: &mut Note, header: &Header) {
-    push_flags(note, header.flags, &COMMAND_FLAGS)
-}
-
 /// Adds flags, with the names of those that are set.
-fn push_flags(note: &mut Note, flags: u8, names: &[(u8, &'static str)]) {
+pub fn push_flags(note: &mut Note, flags: u8, names: &[(u8, &'static str)]) {
     push_hex(note, &[flags]);
     for (bit, name) in names {
         if flags & *bit != 0 {
@@ -91,7 +70,7 @@ fn push_flags(note: &mut Note, flags: u8, names: &[(u8, &'static str)]) {
 
 /// Adds a number, and its bytes.
 fn push_field(note: &mut Note, bytes: &[u8]) {
-    push_number(note, value_of(bytes) as usize);
+    note.put_number(value_of(bytes) as u64);
     note.put(" (");
     push_hex(note, bytes);
     note.put(")")
@@ -99,15 +78,11 @@ fn push_field(note: &mut Note, bytes: &[u8]) {
 
 /// Adds bytes as hexadecimal digits.
 pub fn push_hex(note: &mut Note, bytes: &[u8]) {
-    note.put_made(hex_of(note.allocator(), bytes));
-}
-
-fn hex_of(alloc: Global, bytes: &[u8]) -> Result<String, AllocError> {
-    let mut digits = String::new(alloc);
+    let mut digits = String::new(note.allocator());
     for byte in bytes {
-        push_hex_byte(&mut digits, *byte)?;
+        note.keep(push_hex_byte(&mut digits, *byte));
     }
-    Ok(digits)
+    note.put(digits.as_str());
 }
 
 /// The number that at most 4 bytes spell in network byte order.
@@ -142,13 +117,8 @@ pub fn head_of(own: &[u8]) -> usize {
     }
 }
 
-/// Whether the M flag of the AVP at the front of some bytes is set.
-pub fn is_mandatory(own: &[u8]) -> bool {
-    flags_of(own) & AVP_MANDATORY != 0
-}
-
 /// The flags of the AVP at the front of some bytes, or 0.
-fn flags_of(own: &[u8]) -> u8 {
+pub fn flags_of(own: &[u8]) -> u8 {
     match own.get(4) {
         Some(flags) => *flags,
         None => 0,

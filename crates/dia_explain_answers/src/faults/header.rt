@@ -2,20 +2,28 @@
 
 use crate::applications::{Application, application_of};
 use crate::books::{Level, Wanted, command_at, definition, find_command, name_of};
-use crate::faults::avp_bytes::push_command_flags;
+use crate::faults::avp_bytes::push_flags;
 use crate::faults::reasons::text_of_header;
 use crate::sides::Side;
-use crate::texts::{Scene, fault_and_hint, push_hint, push_number, push_text};
+use crate::texts::{Scene, push_hint, push_text};
 use dia_book::{Book, Class, DefHead, Definition};
 use dia_check::{Reason, class_of};
 use dia_explain_places::Note;
-use dia_wire::Header;
+use dia_wire::{COMMAND_ERROR, COMMAND_PROXIABLE, COMMAND_REQUEST, COMMAND_RETRANSMITTED, Header};
 
 /// How many applications are told.
 const TOLD: usize = 5;
 
 /// The fields by which a command is found.
 const HEADER: &str = "\n  header: flags {flags}, code {code}, application {app}\n";
+
+/// The flags of a header (RFC 6733 section 3).
+static FLAGS: [(u8, &str); 4] = [
+    (COMMAND_REQUEST, " R"),
+    (COMMAND_PROXIABLE, " P"),
+    (COMMAND_ERROR, " E"),
+    (COMMAND_RETRANSMITTED, " T"),
+];
 
 /// A header, and a command that its texts speak of.
 #[derive(Clone, Copy)]
@@ -36,33 +44,20 @@ pub fn push_header_fault(note: &mut Note, side: &Side<'_>, header: &Header, reas
         header: *header,
         command,
     };
-    scene.push(note, reason)
+    let text = text_of_header(reason, header, command);
+    let (fault, hint) = text.split_once('\n').unwrap_or((text, ""));
+    push_text(note, &scene, fault);
+    push_text(note, &scene, HEADER);
+    scene.push_commands(note, reason);
+    push_hint(note, &scene, hint);
+    scene.push_dictionary(note, reason)
 }
 
 impl InHeader<'_> {
-    fn push(&self, note: &mut Note, reason: Reason) {
-        let text = text_of_header(reason, &self.header, self.command);
-        let (fault, hint) = fault_and_hint(text);
-        self.push_fault(note, fault);
-        self.push_commands(note, reason);
-        push_hint(note, self, hint);
-        self.push_dictionary(note, reason)
-    }
-
-    /// Adds what is wrong, and the fields of the header.
-    fn push_fault(&self, note: &mut Note, fault: &str) {
-        push_text(note, self, fault);
-        push_text(note, self, HEADER)
-    }
-
-    fn class(&self) -> Class {
-        class_of(&self.header)
-    }
-
     /// Adds where the dictionary says otherwise.
     fn push_commands(&self, note: &mut Note, reason: Reason) {
         match (reason, self.command) {
-            (Reason::Command, Some(command)) if self.class() != Class::Error => {
+            (Reason::Command, Some(command)) if class_of(&self.header) != Class::Error => {
                 self.push_command(note, command, "{name} has this code")
             }
             (Reason::Proxiable, Some(command)) => {
@@ -102,20 +97,25 @@ impl InHeader<'_> {
                 class,
                 app,
                 ..
-            } if code == self.header.code && class == self.class() => { app }
+            } if code == self.header.code && class == class_of(&self.header) => { app }
             _ => None,
         }
     }
 
-    /// Adds which dictionary has the commands of an application of which this one has none.
+    /// Adds which dictionary has the commands of an application, where this one has none of it and none for the header.
     fn push_dictionary(&self, note: &mut Note, reason: Reason) {
-        if !self.lacks(reason) {
+        let is_missing = match reason {
+            Reason::Command => self.command.is_none() && class_of(&self.header) != Class::Error,
+            _ => reason == Reason::Application,
+        };
+        let own = find_command(self.side.book, Wanted::Application(self.header.app));
+        if !is_missing || own.is_some() {
             return;
         }
         if let Some(Application { id, name, file }) = application_of(self.header.app) {
             let has_none = ", and this dictionary has no command of it; ";
             note.put("hint: application ");
-            push_number(note, id as usize);
+            note.put_number(id as u64);
             note.put_all(&[
                 " is ",
                 name,
@@ -126,29 +126,14 @@ impl InHeader<'_> {
         }
     }
 
-    /// Whether the dictionary has no command for the header, and none of its application.
-    fn lacks(&self, reason: Reason) -> bool {
-        let is_missing = match reason {
-            Reason::Command => self.command.is_none() && self.class() != Class::Error,
-            _ => reason == Reason::Application,
-        };
-        let own = find_command(self.side.book, Wanted::Application(self.header.app));
-        is_missing && own.is_none()
-    }
-
-    /// The number that a word stands for.
-    fn number_of(&self, word: &str) -> u32 {
-        match word {
-            "code" => self.header.code,
-            "app" => self.header.app,
-            _ => self.application().unwrap_or(0),
-        }
-    }
-
     /// The text that a word stands for.
     fn text_for(&self, word: &str) -> &str {
         match word {
-            "class" => class_word(self.class()),
+            "class" => match class_of(&self.header) {
+                Class::Request => "request",
+                Class::Answer => "answer",
+                Class::Error => "answer with the E flag",
+            },
             "req" if self.header.is_request() => ", REQ",
             "pxy" if self.header.is_proxiable() => ", PXY",
             "req" | "pxy" => "",
@@ -160,17 +145,11 @@ impl InHeader<'_> {
 impl Scene for InHeader<'_> {
     fn push_word(&self, note: &mut Note, word: &str) {
         match word {
-            "flags" => push_command_flags(note, &self.header),
-            "code" | "app" | "theirs" => push_number(note, self.number_of(word) as usize),
+            "flags" => push_flags(note, self.header.flags, &FLAGS),
+            "code" => note.put_number(self.header.code as u64),
+            "app" => note.put_number(self.header.app as u64),
+            "theirs" => note.put_number(self.application().unwrap_or(0) as u64),
             _ => note.put(self.text_for(word)),
         }
-    }
-}
-
-fn class_word(class: Class) -> &'static str {
-    match class {
-        Class::Request => "request",
-        Class::Answer => "answer",
-        Class::Error => "answer with the E flag",
     }
 }

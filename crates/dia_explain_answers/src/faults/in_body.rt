@@ -3,15 +3,15 @@
 use crate::books::{Known, Level, avp_of, name_of};
 use crate::checking::Asked;
 use crate::faults::Message;
-use crate::faults::avp::push_avp_word;
+use crate::faults::avp::{push_avp_word, same_code};
 use crate::faults::avp_bytes::{part, push_avp};
 use crate::faults::level::Counting;
-use crate::faults::reasons::{Topic, shown_avp, text_in_body, topic_of};
+use crate::faults::reasons::{Topic, text_in_body, topic_of};
 use crate::faults::walk::{Group, walk_to};
 use crate::sides::Side;
-use crate::texts::{Scene, fault_and_hint, push_hint, push_number, push_text};
-use dia_book::{Definition, Key};
-use dia_check::{Fault, Levels, Subject};
+use crate::texts::{Scene, push_hint, push_text};
+use dia_book::Key;
+use dia_check::{Fault, Levels, Reason, Subject};
 use dia_explain_places::Note;
 
 /// How many groups are told at each end of a long way.
@@ -49,35 +49,29 @@ impl<'a> InBody<'a> {
     /// Adds the fault in the groups around its place.
     pub fn push_in_groups(&self, note: &mut Note) {
         let message = self.message.bytes;
-        match walk_to(note.allocator(), self.side.book, message, self.place()) {
-            Ok(walk) => self.in_groups(&walk.groups).in_level().push(note),
+        let place = self.fault.place as usize;
+        match walk_to(note.allocator(), self.side.book, message, place) {
+            Ok(walk) => {
+                let scene = InBody {
+                    groups: &walk.groups,
+                    ..*self
+                };
+                scene.in_level().push(note)
+            }
             Err(error) => note.keep(Err(error)),
         }
     }
 
-    fn in_groups<'g>(&'g self, groups: &'g [Group]) -> InBody<'g> {
-        InBody { groups, ..*self }
-    }
-
     /// Adds what is wrong, where in the message and in the dictionary, and what to do.
     pub fn push(&self, note: &mut Note) {
-        let (fault, hint) = fault_and_hint(text_in_body(self));
-        self.message.push_spot(note, self.place());
+        let text = text_in_body(self);
+        let (fault, hint) = text.split_once('\n').unwrap_or((text, ""));
+        self.message.push_spot(note, self.fault.place as usize);
         push_text(note, self, fault);
-        self.push_places(note);
-        push_hint(note, self, hint)
-    }
-
-    /// Adds where in the message and in the dictionary.
-    fn push_places(&self, note: &mut Note) {
         self.push_groups(note);
         self.push_bytes(note);
-        self.push_declared(note)
-    }
-
-    /// Whether a rule of the level is broken.
-    fn is_of_rule(&self) -> bool {
-        matches!(topic_of(self.fault.reason), Topic::Rules)
+        self.push_declared(note);
+        push_hint(note, self, hint)
     }
 
     /// Adds the groups with their places: of many the first and the last.
@@ -90,7 +84,7 @@ impl<'a> InBody<'a> {
                 push_group(note, &self.side, group);
             } else if index == TOLD {
                 note.put(", .. ");
-                push_number(note, between);
+                note.put_number(between as u64);
                 note.put(" groups ..");
             }
         }
@@ -99,10 +93,11 @@ impl<'a> InBody<'a> {
 
     /// Adds the bytes of the AVP at the place, or of the group that ends there.
     fn push_bytes(&self, note: &mut Note) {
-        let end = self.end();
+        let place = self.fault.place as usize;
+        let (_, _, end) = self.level();
         let begin = match self.groups.last() {
-            Some(group) if self.place() >= end => group.place,
-            _ => self.place(),
+            Some(group) if place >= end => group.place,
+            _ => place,
         };
         if begin < end {
             push_avp(note, begin, part(self.message.bytes, begin, end))
@@ -111,40 +106,28 @@ impl<'a> InBody<'a> {
 
     /// Adds where the rule, the definition or the AVP is declared that the fault is about.
     fn push_declared(&self, note: &mut Note) {
-        match self.def() {
-            Some(def) if self.is_of_rule() => self.push_rule_declared(note, def),
-            _ => self.push_avp_declared(note),
-        }
-    }
-
-    /// Adds where the rule is, or else the definition.
-    fn push_rule_declared(&self, note: &mut Note, def: &Definition) {
-        let (place, told) = match self.counting {
-            Some(counting) => (Some(counting.place), "the rule is {rule}"),
-            None => (None, "{level} is defined here"),
-        };
-        let at = self.side.definition_at(def, place);
-        self.side.push_part(note, at, self, told)
-    }
-
-    /// Adds where the AVP is declared.
-    fn push_avp_declared(&self, note: &mut Note) {
-        match shown_avp(self) {
-            Some(avp) => {
-                let at = self.side.avp_at(avp.name);
-                self.side
-                    .push_part(note, at, &avp, "{name} is declared here")
+        match (topic_of(self.fault.reason), self.def()) {
+            (Topic::Rules, Some(def)) => {
+                let (place, told) = match self.counting {
+                    Some(counting) => (Some(counting.place), "the rule is {rule}"),
+                    None => (None, "{level} is defined here"),
+                };
+                let at = self.side.definition_at(def, place);
+                self.side.push_part(note, at, self, told)
             }
-            None => {}
-        }
-    }
-
-    /// The name of the level.
-    fn name(&self) -> &'a str {
-        if self.groups.is_empty() {
-            self.outermost
-        } else {
-            name_of(self.def())
+            _ => {
+                // the AVP of the fault, or of an unknown one an AVP with its code
+                let shown = match self.fault.reason {
+                    Reason::Unknown => same_code(self),
+                    Reason::Depth => None,
+                    _ => self.avp(),
+                };
+                if let Some(avp) = shown {
+                    let at = self.side.avp_at(avp.name);
+                    self.side
+                        .push_part(note, at, &avp, "{name} is declared here")
+                }
+            }
         }
     }
 }
@@ -153,20 +136,24 @@ fn push_group(note: &mut Note, side: &Side<'_>, group: &Group) {
     note.put(", ");
     side.push_name(note, group.key);
     note.put(" at ");
-    push_number(note, group.place);
+    note.put_number(group.place as u64);
 }
 
 impl Scene for InBody<'_> {
     fn push_word(&self, note: &mut Note, word: &str) {
         match word {
-            "level" => note.put(self.name()),
+            "level" => note.put(if self.groups.is_empty() {
+                self.outermost
+            } else {
+                name_of(self.def())
+            }),
             "subject" => match self.key() {
                 Some(key) => self.side.push_name(note, key),
                 None => note.put("AVP"),
             },
-            "depth" => push_number(note, self.groups.len()),
+            "depth" => note.put_number(self.groups.len() as u64),
             "levels" => match self.asked.levels {
-                Levels::AtMost(most) => push_number(note, most as usize),
+                Levels::AtMost(most) => note.put_number(most as u64),
                 Levels::Any => {}
             },
             _ => push_avp_word(note, self, word),

@@ -2,7 +2,6 @@
 
 use crate::faults::avp_bytes::{head_of, length_of, part, vendor_of};
 use crate::faults::in_body::InBody;
-use crate::texts::push_number;
 use dia_book::Key;
 use dia_explain_places::{Note, Unpadded, find_unpadded};
 
@@ -10,22 +9,18 @@ use dia_explain_places::{Note, Unpadded, find_unpadded};
 pub fn push_length_word(note: &mut Note, scene: &InBody<'_>, word: &str) {
     let own = scene.own();
     match word {
-        "left" => push_number(note, own.len()),
-        "most" => push_number(note, own.len() / 4 * 4),
-        "length" => push_number(note, length_of(own)),
-        "head" => push_number(note, head_of(own)),
-        _ => push_length_hint(note, scene),
-    }
-}
-
-/// Adds what to do about a length, by the AVP without padding that may have led here.
-fn push_length_hint(note: &mut Note, scene: &InBody<'_>) {
-    match find_unpadded(scene.bytes().1) {
-        Some(found) => push_unpadded(note, scene, &found),
-        None => note.put(
-            "mend the sender; either this AVP's Length is wrong, \
-             or the padding or the Length of the AVP in front of it, or that of the group",
-        ),
+        "left" => note.put_number(own.len() as u64),
+        "most" => note.put_number((own.len() / 4 * 4) as u64),
+        "length" => note.put_number(length_of(own) as u64),
+        "head" => note.put_number(head_of(own) as u64),
+        // what to do about a length, by the AVP without padding that may have led here
+        _ => match find_unpadded(scene.bytes().1) {
+            Some(found) => push_unpadded(note, scene, &found),
+            None => note.put(
+                "mend the sender; either this AVP's Length is wrong, \
+                 or the padding or the Length of the AVP in front of it, or that of the group",
+            ),
+        },
     }
 }
 
@@ -37,8 +32,8 @@ fn push_unpadded(note: &mut Note, scene: &InBody<'_>, found: &Unpadded) {
     let place = begin.saturating_add(at);
     scene.side.push_name(note, Key { code, vendor });
     note.put(" at ");
-    push_number(note, place);
+    note.put_number(place as u64);
     note.put(" has the AVP Length ");
-    push_number(note, length as usize);
+    note.put_number(length as u64);
     note.put(", and what follows stands right behind it, without its padding: mend the sender");
 }

@@ -18,12 +18,8 @@ pub struct Counting {
 }
 
 impl<'a> InBody<'a> {
-    pub fn place(&self) -> usize {
-        self.fault.place as usize
-    }
-
     /// The level, and where it begins and ends in the message.
-    fn level(&self) -> (Level, usize, usize) {
+    pub fn level(&self) -> (Level, usize, usize) {
         match self.groups.last() {
             Some(group) => {
                 let head = head_of(part(self.message.bytes, group.place, group.end));
@@ -34,10 +30,6 @@ impl<'a> InBody<'a> {
         }
     }
 
-    pub fn end(&self) -> usize {
-        self.level().2
-    }
-
     /// Where the level begins in the message, and its bytes.
     pub fn bytes(&self) -> (usize, &'a [u8]) {
         let (_, begin, end) = self.level();
@@ -46,7 +38,8 @@ impl<'a> InBody<'a> {
 
     /// The bytes of the level from the fault on.
     pub fn own(&self) -> &'a [u8] {
-        part(self.message.bytes, self.place(), self.end())
+        let (_, _, end) = self.level();
+        part(self.message.bytes, self.fault.place as usize, end)
     }
 
     /// What the level is made of.
@@ -57,10 +50,12 @@ impl<'a> InBody<'a> {
     /// This fault, inside those of the open groups that are around its level: that goes on behind the place, or it ends there and
     /// lacks the AVP of the fault.
     pub fn in_level(&self) -> Self {
+        let place = self.fault.place as usize;
         let mut fault = *self;
         for _ in self.groups {
             fault.counting = fault.rule();
-            if fault.place() < fault.end() || fault.lacks() {
+            let (_, _, end) = fault.level();
+            if place < end || fault.lacks() {
                 return fault;
             }
             let outer = fault.groups.len().saturating_sub(1);
@@ -78,8 +73,11 @@ impl<'a> InBody<'a> {
             None => Slot::Unlisted,
         };
         let rules = self.def()?.rules.as_slice();
-        let place = place_of(rules, own)?;
-        let before = part(self.message.bytes, begin, self.place());
+        let place = match own {
+            Slot::Fixed(place) | Slot::Loose(place) => place,
+            Slot::Unlisted => wildcard_among(rules)?,
+        };
+        let before = part(self.message.bytes, begin, self.fault.place as usize);
         Some(Counting {
             place,
             rule: *rules.get(place)?,
@@ -95,13 +93,6 @@ impl<'a> InBody<'a> {
             }
             _ => false,
         }
-    }
-}
-
-fn place_of(rules: &[DRule], slot: Slot) -> Option<usize> {
-    match slot {
-        Slot::Fixed(place) | Slot::Loose(place) => Some(place),
-        Slot::Unlisted => wildcard_among(rules),
     }
 }
 

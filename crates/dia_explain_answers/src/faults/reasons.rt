@@ -1,7 +1,6 @@
 //! What is told of each reason: what its texts are about, and the texts. A text has what is wrong, and on the line behind it
 //! what to do. What the words in braces stand for, the other files here say.
 
-use crate::books::Known;
 use crate::faults::avp::{data_of, same_code, text_of_value};
 use crate::faults::avp_bytes::{head_of, length_of};
 use crate::faults::in_body::InBody;
@@ -99,7 +98,14 @@ fn text_of_length(scene: &InBody<'_>) -> &'static str {
 /// Of AVPs that don't stand as the rules of their level say.
 fn text_of_rule(scene: &InBody<'_>) -> &'static str {
     let Some(Counting { rule, .. }) = scene.counting else {
-        return text_of_unlisted(scene);
+        return match scene.avp() {
+            Some(_) =>
+                "{subject} may not stand in {level}: no rule names it, and there is no rule for AVP\n\
+                 add [ {subject} ] or * [ AVP ] to the rules of {level}, or mend the sender",
+            None =>
+                "{subject} may not stand in {level}: no rule names it, and there is no rule for AVP\n\
+                 add * [ AVP ] to the rules of {level}, or mend the sender",
+        };
     };
     match scene.fault.reason {
         Reason::Missing if rule.key.is_none() =>
@@ -108,7 +114,13 @@ fn text_of_rule(scene: &InBody<'_>) -> &'static str {
         Reason::Missing if scene.own().is_empty() =>
             "{subject} is missing at the end of {level}: {wanted} wanted, {found} found\n\
              have the sender add {subject}, or, where it may be missing, write {optional}",
-        Reason::Missing => text_of_front(scene),
+        Reason::Missing => match place_behind(scene) {
+            Some(_) => "{subject} is missing in front of this AVP: {wanted} wanted, {found} found\n\
+                 it stands at {behind}, and a fixed rule wants it at the front: mend the sender, or write {loose}",
+            None => "{subject} is missing in front of this AVP: {wanted} wanted, {found} found\n\
+                 a fixed rule wants its AVP at the front: have the sender put it here; \
+                 or, where it may stand elsewhere, write {loose}",
+        },
         Reason::TooMany if rule.key.is_none() =>
             "{subject} is AVP number {count} in {level} that no rule names, and {most} may stand\n\
              have the sender send fewer, or write {unbounded} for any number",
@@ -116,29 +128,6 @@ fn text_of_rule(scene: &InBody<'_>) -> &'static str {
              have the sender send fewer, or write {unbounded} for any number",
         _ => "{subject} may stand only at the front of {level}, in the order of the fixed rules\n\
              have the sender put it at the front, or write {loose}",
-    }
-}
-
-/// Of an AVP that no rule counts.
-fn text_of_unlisted(scene: &InBody<'_>) -> &'static str {
-    match scene.avp() {
-        Some(_) =>
-            "{subject} may not stand in {level}: no rule names it, and there is no rule for AVP\n\
-             add [ {subject} ] or * [ AVP ] to the rules of {level}, or mend the sender",
-        None =>
-            "{subject} may not stand in {level}: no rule names it, and there is no rule for AVP\n\
-             add * [ AVP ] to the rules of {level}, or mend the sender",
-    }
-}
-
-/// Of an AVP that should stand in front of the place.
-fn text_of_front(scene: &InBody<'_>) -> &'static str {
-    match place_behind(scene) {
-        Some(_) => "{subject} is missing in front of this AVP: {wanted} wanted, {found} found\n\
-             it stands at {behind}, and a fixed rule wants it at the front: mend the sender, or write {loose}",
-        None => "{subject} is missing in front of this AVP: {wanted} wanted, {found} found\n\
-             a fixed rule wants its AVP at the front: have the sender put it here; \
-             or, where it may stand elsewhere, write {loose}",
     }
 }
 
@@ -173,14 +162,5 @@ fn text_of_unknown(scene: &InBody<'_>) -> &'static str {
         (Unknown::Kept, None) =>
             "the dictionary has no AVP of code {key}, and the M flag says that the receiver has to know it\n\
              declare it, as %avp NAME {declared} OctetString any; or have the sender clear the M flag",
-    }
-}
-
-/// The AVP whose declaration is shown: that of the fault, or of an unknown one an AVP with its code.
-pub fn shown_avp<'a>(scene: &InBody<'a>) -> Option<Known<'a>> {
-    match scene.fault.reason {
-        Reason::Unknown => same_code(scene),
-        Reason::Depth => None,
-        _ => scene.avp(),
     }
 }

@@ -3,7 +3,6 @@
 use crate::books::{Level, slot};
 use crate::faults::level::find_key;
 use crate::sides::Side;
-use crate::texts::push_number;
 use dia_book::{Key, Slot};
 use dia_explain_places::Note;
 use dia_wire::{HEADER_LENGTH, Header};
@@ -29,7 +28,7 @@ pub fn push_result(note: &mut Note, side: &Side<'_>, header: &Header, message: &
             "hint: Experimental-Result at "
         };
         note.put(name);
-        push_number(note, place);
+        note.put_number(place as u64);
         note.put(
             " is for answers, and the R flag says that this is a request: \
              if it is an answer, the sender has to clear R\n",

@@ -3,7 +3,6 @@
 use crate::faults::in_body::InBody;
 use crate::faults::level::{Counting, find_key};
 use crate::rule_text::{push_loose, push_rule};
-use crate::texts::push_number;
 use dia_book::{DRule, RuleKind};
 use dia_explain_places::Note;
 
@@ -11,7 +10,7 @@ use dia_explain_places::Note;
 pub fn place_behind(scene: &InBody<'_>) -> Option<usize> {
     let key = scene.key()?;
     let (behind, _) = find_key(scene.own(), &[key])?;
-    Some(scene.place().saturating_add(behind))
+    Some((scene.fault.place as usize).saturating_add(behind))
 }
 
 /// Adds what a word about the rule that counts the AVP of a fault stands for.
@@ -20,48 +19,32 @@ pub fn push_rule_word(note: &mut Note, scene: &InBody<'_>, word: &str) {
         return;
     };
     match word {
-        "found" | "count" => push_number(note, number_of(found, word)),
-        "behind" => push_number(note, place_behind(scene).unwrap_or(0)),
-        "wanted" | "most" => push_count_word(note, &rule, word),
-        "loose" => push_loose(note, &scene.side, &rule),
-        _ => push_rule(note, &scene.side, &rule_for(&rule, word)),
-    }
-}
-
-/// How many AVPs stand in front of the place, or with the one at it.
-fn number_of(found: u32, word: &str) -> usize {
-    let count = if word == "count" {
-        found.saturating_add(1)
-    } else {
-        found
-    };
-    count as usize
-}
-
-/// The rule as it is, or as it would have to be.
-fn rule_for(rule: &DRule, word: &str) -> DRule {
-    match word {
-        "unbounded" => DRule { max: None, ..*rule },
-        "optional" => DRule {
-            kind: RuleKind::Optional,
-            min: 0,
-            ..*rule
+        "found" => note.put_number(found as u64),
+        // with the AVP at the place
+        "count" => note.put_number(found.saturating_add(1) as u64),
+        "behind" => note.put_number(place_behind(scene).unwrap_or(0) as u64),
+        "wanted" => {
+            note.put(if rule.max == Some(rule.min) {
+                ""
+            } else {
+                "at least "
+            });
+            note.put_number(rule.min as u64)
+        }
+        "most" => match rule.max {
+            Some(most) if most > 0 => {
+                note.put("at most ");
+                note.put_number(most as u64)
+            }
+            _ => note.put("none"),
         },
-        _ => *rule,
+        "loose" => push_loose(note, &scene.side, &rule),
+        "unbounded" => push_rule(note, &scene.side, &DRule { max: None, ..rule }),
+        "optional" => {
+            let kind = RuleKind::Optional;
+            let min = 0;
+            push_rule(note, &scene.side, &DRule { kind, min, ..rule })
+        }
+        _ => push_rule(note, &scene.side, &rule),
     }
-}
-
-fn push_count_word(note: &mut Note, rule: &DRule, word: &str) {
-    let is_wanted = word == "wanted";
-    match rule.max {
-        Some(most) if is_wanted && most == rule.min => push_count(note, "", most),
-        _ if is_wanted => push_count(note, "at least ", rule.min),
-        Some(most) if most > 0 => push_count(note, "at most ", most),
-        _ => note.put("none"),
-    }
-}
-
-fn push_count(note: &mut Note, front: &str, count: u32) {
-    note.put(front);
-    push_number(note, count as usize);
 }

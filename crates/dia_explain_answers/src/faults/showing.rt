@@ -5,10 +5,8 @@ use crate::books::Level;
 use crate::checking::Asked;
 use crate::faults::Message;
 use crate::faults::in_body::InBody;
-use crate::faults::walk::{Walk, walk_to};
+use crate::faults::walk::walk_to;
 use crate::sides::Side;
-use crate::texts::push_number;
-use dia_book::Book;
 use dia_check::{Fault, Levels, Reason, Subject, Unknown};
 use dia_dict::base_book;
 use dia_explain_places::{InputTexts, Note};
@@ -29,33 +27,25 @@ pub fn push_show(note: &mut Note, texts: &InputTexts<'_>, cut: &CutListing) {
         message.bytes,
         message.bytes.len(),
     ) {
-        Ok(walk) => push_end(note, &side, &message, Level::body(&header), &walk),
+        Ok(walk) => {
+            let scene = InBody {
+                side,
+                message,
+                asked: Asked::new(Unknown::Kept, Levels::Any),
+                fault: Fault {
+                    place: u32::try_from(walk.at).unwrap_or(u32::MAX),
+                    code: 5014,
+                    reason: Reason::AvpLength,
+                    subject: Subject::Nothing,
+                },
+                body: Level::body(&header),
+                outermost: "the message",
+                groups: &walk.groups,
+                counting: None,
+            };
+            scene.push(note)
+        }
         Err(error) => note.keep(Err(error)),
-    }
-}
-
-/// Adds why the AVPs of a message end where they do.
-fn push_end(note: &mut Note, side: &Side<'_>, message: &Message<'_>, body: Level, walk: &Walk) {
-    let scene = InBody {
-        side: *side,
-        message: *message,
-        asked: Asked::new(Unknown::Kept, Levels::Any),
-        fault: fault_at(walk.at),
-        body,
-        outermost: "the message",
-        groups: &walk.groups,
-        counting: None,
-    };
-    scene.push(note)
-}
-
-/// The fault of a place where no AVP begins.
-fn fault_at(place: usize) -> Fault {
-    Fault {
-        place: u32::try_from(place).unwrap_or(u32::MAX),
-        code: 5014,
-        reason: Reason::AvpLength,
-        subject: Subject::Nothing,
     }
 }
 
@@ -82,7 +72,7 @@ fn push_naming(note: &mut Note, sign: &str, app: u32) {
     match application_of(app) {
         Some(Application { id, name, file }) => {
             note.put_all(&[file, " names those of application "]);
-            push_number(note, id as usize);
+            note.put_number(id as u64);
             note.put_all(&[" (", name, "), see docs/CAPTURES.md\n"]);
         }
         None => note.put("D names those of the dictionary D\n"),
@@ -92,11 +82,6 @@ fn push_naming(note: &mut Note, sign: &str, app: u32) {
 /// Whether the base dictionary lacks an AVP of a message.
 fn has_unnamed(alloc: Global, message: &[u8]) -> Result<bool, AllocError> {
     let base = base_book(alloc)?;
-    lacks(alloc, &base, message)
-}
-
-/// Whether a dictionary lacks an AVP of a message.
-fn lacks<B: Book>(alloc: Global, book: &B, message: &[u8]) -> Result<bool, AllocError> {
-    let walk = walk_to(alloc, book, message, message.len())?;
+    let walk = walk_to(alloc, &base, message, message.len())?;
     Ok(walk.has_unnamed)
 }
