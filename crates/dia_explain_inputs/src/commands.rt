@@ -19,42 +19,32 @@ pub fn push_unknown_commands(
     names: &[String],
     books: &BothBooks,
 ) {
-    match Vocabulary::of(note.allocator(), &first_of(texts, books)) {
-        Ok(known) => push_unknown(note, names, &known, &second_of(texts, books)),
+    let first = first_of(texts, books);
+    match Vocabulary::of(note.allocator(), &first) {
+        Ok(known) => {
+            if push_all_missing(note, &known, names) > 0 {
+                push_list(note, first.name, &first.source.commands);
+                let looked_for = names.get(..MOST).unwrap_or(names);
+                push_found(note, looked_for, &known, &second_of(texts, books));
+            }
+        }
         Err(error) => note.keep(Err(error)),
-    }
-}
-
-fn push_unknown(
-    note: &mut Note,
-    names: &[String],
-    known: &Vocabulary<'_>,
-    second: &NamedSource<'_>,
-) {
-    if push_all_missing(note, known, names) > 0 {
-        let NamedSource { name, source } = known.dictionary;
-        push_list(note, name, &source.commands);
-        push_found(note, names.get(..MOST).unwrap_or(names), known, second);
     }
 }
 
 /// Adds the first names that no command has. Answers how many these are.
 fn push_all_missing(note: &mut Note, known: &Vocabulary<'_>, names: &[String]) -> usize {
+    let dictionary = known.dictionary.name;
+    let instead = "an AVP there, and commands are asked for";
     let mut count = 0usize;
     for name in names {
         if count < MOST && !known.has(Named::Command, name) {
-            push_missing(note, known, name);
+            note.put_all(&[dictionary, ": there is no command ", name.as_str(), "\n"]);
+            known.push_meant(note, Named::Command, name, instead);
             count = count.saturating_add(1);
         }
     }
     count
-}
-
-fn push_missing(note: &mut Note, known: &Vocabulary<'_>, name: &str) {
-    let dictionary = known.dictionary.name;
-    note.put_all(&[dictionary, ": there is no command ", name, "\n"]);
-    let instead = "an AVP there, and commands are asked for";
-    known.push_meant(note, Named::Command, name, instead);
 }
 
 /// Adds the first commands, and how to list all.
@@ -64,21 +54,17 @@ fn push_list(note: &mut Note, dictionary: &str, commands: &[Def]) {
         note.put_all(&["hint: ", dictionary, " has no commands; ", what, "\n"]);
         return;
     }
-    push_names(note, commands.get(..MOST_LISTED).unwrap_or(commands));
+    let mut between = "hint: its commands are ";
+    for command in commands.get(..MOST_LISTED).unwrap_or(commands) {
+        note.put_all(&[between, command.name.as_str()]);
+        between = ", ";
+    }
     if commands.len() > MOST_LISTED {
         note.put(" and ");
         note.put_number(commands.len().saturating_sub(MOST_LISTED) as u64);
         note.put(" more");
     }
     note.put_all(&["; `diacmd render ", dictionary, "` prints them\n"]);
-}
-
-fn push_names(note: &mut Note, commands: &[Def]) {
-    let mut between = "hint: its commands are ";
-    for command in commands {
-        note.put_all(&[between, command.name.as_str()]);
-        between = ", ";
-    }
 }
 
 /// Adds the first command of the second dictionary that is among the names, and is none of the first.

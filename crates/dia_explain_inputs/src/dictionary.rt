@@ -6,7 +6,6 @@ ghost use Rattle.dia_explain_inputs.specs.Beginnings.{DictionaryBegins, MisfitBe
 
 mod causes;
 mod expecting;
-mod formats;
 mod meaning;
 mod scene;
 
@@ -90,7 +89,11 @@ pub fn push_empty(note: &mut Note, dictionary: &NamedText<'_>) {
         return;
     }
     let is_cut = is_cut_by_comment(text);
-    let told = if is_empty(text) {
+    let is_empty = match str::from_utf8(text) {
+        Ok(text) => next_lexeme(text, 0).is_none(),
+        Err(_) => false,
+    };
+    let told = if is_empty {
         ": the dictionary is empty: it has no declaration and no definition\n"
     } else if is_cut {
         ": what stands behind the first ; of the dictionary is a comment\n"
@@ -100,13 +103,5 @@ pub fn push_empty(note: &mut Note, dictionary: &NamedText<'_>) {
     note.put_all(&[name, told]);
     if is_cut {
         note.put_hint(RETURNS);
-    }
-}
-
-/// Whether a text has no token.
-fn is_empty(text: &[u8]) -> bool {
-    match str::from_utf8(text) {
-        Ok(text) => next_lexeme(text, 0).is_none(),
-        Err(_) => false,
     }
 }

@@ -17,7 +17,13 @@ pub fn push_front(note: &mut Note, name: &str, front: &[u8], in_lines: bool) {
         return push_whole(note, &input, "there is no message", hint);
     }
     let line = first_line(front);
-    match bad_in_front(front, line) {
+    // A file of packets is no text of messages from its first byte on.
+    let bad = if is_capture(front) {
+        Some(0)
+    } else {
+        first_bad(line)
+    };
+    match bad {
         Some(at) => push_bad(note, &input, "the hexadecimal text of messages", at),
         None => push_digits(note, &input, line, in_lines),
     }
@@ -32,28 +38,15 @@ fn push_digits(note: &mut Note, input: &NamedText<'_>, line: &[u8], in_lines: bo
         note.put("\n");
     } else if in_lines && line.len() != text.len() {
         match is_cut(note.allocator(), line) {
-            Ok(true) => push_cut_line(note, input),
+            Ok(true) => push_whole(
+                note,
+                input,
+                "the first line ends in the middle of its message, and with --lines each message stands on one line",
+                "without --lines a message may have several lines, as `xxd -p` writes it; --stream takes many such messages",
+            ),
             Ok(false) => {}
             Err(error) => note.keep(Err(error)),
         }
-    }
-}
-
-fn push_cut_line(note: &mut Note, input: &NamedText<'_>) {
-    push_whole(
-        note,
-        input,
-        "the first line ends in the middle of its message, and with --lines each message stands on one line",
-        "without --lines a message may have several lines, as `xxd -p` writes it; --stream takes many such messages",
-    );
-}
-
-/// The place of the first byte of the first line that no message has. A file of packets has none.
-fn bad_in_front(front: &[u8], line: &[u8]) -> Option<usize> {
-    if is_capture(front) {
-        Some(0)
-    } else {
-        first_bad(line)
     }
 }
 

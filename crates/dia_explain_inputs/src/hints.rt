@@ -224,24 +224,15 @@ fn is_any_seen(signs: &str, sight: &Sight<'_>) -> bool {
 
 fn is_seen(sign: &str, sight: &Sight<'_>) -> bool {
     if let Some(word) = sign.strip_prefix("after ") {
-        return sight.before.eq_ignore_ascii_case(word.as_bytes());
+        sight.before.eq_ignore_ascii_case(word.as_bytes())
+    } else if let Some(front) = sign.strip_suffix("..") {
+        match front.strip_prefix("..") {
+            Some(part) => has_part(sight.word, part.as_bytes()),
+            None => sight.rest.starts_with(front.as_bytes()),
+        }
+    } else if sign == "anything" {
+        !sight.word.is_empty()
+    } else {
+        sign == sight.kind || sight.word.eq_ignore_ascii_case(sign.as_bytes())
     }
-    match sign.strip_suffix("..") {
-        Some(front) => is_front(front, sight),
-        None => is_word(sign, sight),
-    }
-}
-
-fn is_front(front: &str, sight: &Sight<'_>) -> bool {
-    match front.strip_prefix("..") {
-        Some(part) => has_part(sight.word, part.as_bytes()),
-        None => sight.rest.starts_with(front.as_bytes()),
-    }
-}
-
-fn is_word(sign: &str, sight: &Sight<'_>) -> bool {
-    if sign == "anything" {
-        return !sight.word.is_empty();
-    }
-    sign == sight.kind || sight.word.eq_ignore_ascii_case(sign.as_bytes())
 }

@@ -23,28 +23,23 @@ const DUMPED: &str =
 
 /// Adds the note of a message that is refused for this.
 pub fn push_message(note: &mut Note, message: &NamedText<'_>, why: &BadMessage) {
-    match why {
-        BadMessage::TooLong => push_too_long(note, message.name, MAX_MESSAGE_TEXT),
-        BadMessage::NotHexadecimal => match first_bad(message.text) {
-            Some(at) => push_bad(note, message, "the hexadecimal text of a message", at),
-            None => push_odd(note, message),
-        },
-        BadMessage::NoMessage(_) => push_no_message(note, message),
-    }
-}
-
-fn push_odd(note: &mut Note, message: &NamedText<'_>) {
     let NamedText { name, text } = *message;
-    note.put_all(&[name, ": the number of hexadecimal digits is odd, "]);
-    note.put_number(count_digits(text) as u64);
-    note.put(": one is missing or too many\n");
-    note.put_hint(dump_of(text).unwrap_or("each byte has two digits, also one below 16"));
-}
-
-fn push_no_message(note: &mut Note, message: &NamedText<'_>) {
-    match bytes_of(note.allocator(), message.text, message.text.len()) {
-        Ok(bytes) => push_length(note, message, &bytes),
-        Err(error) => note.keep(Err(error)),
+    match why {
+        BadMessage::TooLong => push_too_long(note, name, MAX_MESSAGE_TEXT),
+        BadMessage::NotHexadecimal => match first_bad(text) {
+            Some(at) => push_bad(note, message, "the hexadecimal text of a message", at),
+            None => {
+                note.put_all(&[name, ": the number of hexadecimal digits is odd, "]);
+                note.put_number(count_digits(text) as u64);
+                note.put(": one is missing or too many\n");
+                let hint = "each byte has two digits, also one below 16";
+                note.put_hint(dump_of(text).unwrap_or(hint));
+            }
+        },
+        BadMessage::NoMessage(_) => match bytes_of(note.allocator(), text, text.len()) {
+            Ok(bytes) => push_length(note, message, &bytes),
+            Err(error) => note.keep(Err(error)),
+        },
     }
 }
 
@@ -80,8 +75,16 @@ fn is_binary(text: &[u8]) -> bool {
 /// Adds what bytes are that aren't text.
 fn push_binary(note: &mut Note, message: &NamedText<'_>) {
     let NamedText { name, text } = *message;
-    if let Some((told, hint)) = packing_of(text) {
-        return push_whole(note, message, told, hint);
+    if text.starts_with(b"\xff\xfe") || text.starts_with(b"\xfe\xff") {
+        return push_whole(note, message, "the text is UTF-16", SAVE);
+    }
+    if text.starts_with(b"\x1f\x8b") {
+        return push_whole(
+            note,
+            message,
+            "the file is packed by gzip",
+            "`gunzip` unpacks it",
+        );
     }
     let told = if text.first() == Some(&1) {
         ": these are the bytes of a message, and not hexadecimal text\nhint: write `xxd -p "
@@ -94,17 +97,6 @@ fn push_binary(note: &mut Note, message: &NamedText<'_>) {
         name,
         "` into a file: a message is its hexadecimal digits\n",
     ]);
-}
-
-/// How a text is packed into bytes that aren't UTF-8, and what to do.
-fn packing_of(text: &[u8]) -> Option<(&'static str, &'static str)> {
-    if text.starts_with(b"\xff\xfe") || text.starts_with(b"\xfe\xff") {
-        Some(("the text is UTF-16", SAVE))
-    } else if text.starts_with(b"\x1f\x8b") {
-        Some(("the file is packed by gzip", "`gunzip` unpacks it"))
-    } else {
-        None
-    }
 }
 
 /// What to do about a character that is no digit.
@@ -165,14 +157,19 @@ pub fn push_length(note: &mut Note, message: &NamedText<'_>, bytes: &[u8]) {
         Ok((_, length)) if count < length as usize => push_cut(note, name, count, length),
         Ok((_, length)) => push_more(note, message, count, length as usize),
         Err(HeadFault::Length) => push_odd_length(note, message, bytes),
-        Err(HeadFault::Version) => push_version(note, name, bytes.first().copied().unwrap_or(0)),
-        Err(HeadFault::Short) => push_short(note, name, count),
+        Err(HeadFault::Version) => {
+            note.put_all(&[name, ": the first byte is "]);
+            note.put_number(u64::from(bytes.first().copied().unwrap_or(0)));
+            note.put(", and the version of Diameter is 1\n");
+            note.put_hint(
+                "a message begins with 01 and its length; the headers of IP, TCP or SCTP before it have to be taken out",
+            );
+        }
+        Err(HeadFault::Short) => {
+            push_count(note, name, count);
+            note.put("a message has at least 20, those of its header\n");
+        }
     }
-}
-
-fn push_short(note: &mut Note, name: &str, count: usize) {
-    push_count(note, name, count);
-    note.put("a message has at least 20, those of its header\n");
 }
 
 /// Begins a note: how many bytes an input has.
@@ -182,34 +179,20 @@ fn push_count(note: &mut Note, name: &str, count: usize) {
     note.put(" bytes; ");
 }
 
-fn push_version(note: &mut Note, name: &str, version: u8) {
-    note.put_all(&[name, ": the first byte is "]);
-    note.put_number(u64::from(version));
-    note.put(", and the version of Diameter is 1\n");
-    note.put_hint(
-        "a message begins with 01 and its length; the headers of IP, TCP or SCTP before it have to be taken out",
-    );
-}
-
 /// Adds that a Message Length is none, and the first AVP that seems to have no padding, if there is one.
 fn push_odd_length(note: &mut Note, message: &NamedText<'_>, bytes: &[u8]) {
     let told = "the Message Length, bytes 1 to 3, is under 20 or no multiple of four";
     let hint = "mend the sender: it counts the header, and the AVPs with their padding";
     push_whole(note, message, told, hint);
-    if let Some(unpadded) = find_unpadded(back(bytes, HEADER_LENGTH)) {
-        push_unpadded(note, &unpadded);
+    if let Some(Unpadded { at, code, length }) = find_unpadded(back(bytes, HEADER_LENGTH)) {
+        note.put("hint: the AVP at ");
+        note.put_number(at.saturating_add(HEADER_LENGTH) as u64);
+        note.put(", of code ");
+        note.put_number(u64::from(code));
+        note.put(", has the AVP Length ");
+        note.put_number(length as u64);
+        note.put(", and what follows stands right behind it, without its padding\n");
     }
-}
-
-fn push_unpadded(note: &mut Note, avp: &Unpadded) {
-    let Unpadded { at, code, length } = *avp;
-    note.put("hint: the AVP at ");
-    note.put_number(at.saturating_add(HEADER_LENGTH) as u64);
-    note.put(", of code ");
-    note.put_number(u64::from(code));
-    note.put(", has the AVP Length ");
-    note.put_number(length as u64);
-    note.put(", and what follows stands right behind it, without its padding\n");
 }
 
 /// Adds that bytes are missing.
@@ -229,26 +212,17 @@ fn push_more(note: &mut Note, message: &NamedText<'_>, count: usize, length: usi
     let text = message.text;
     if let Some(at) = place_of_byte(text, length) {
         note.put_place(message.name, text, at);
-        push_counts(note, count, length);
+        note.put("the message ends before this place, after the ");
+        note.put_number(length as u64);
+        note.put(" bytes of its Message Length; ");
+        note.put_number(count as u64);
+        note.put(" bytes are here\n");
         note.put_excerpt(text, at);
-        note.put_hint(hint_behind(back(text, at)));
-    }
-}
-
-fn push_counts(note: &mut Note, count: usize, length: usize) {
-    note.put("the message ends before this place, after the ");
-    note.put_number(length as u64);
-    note.put(" bytes of its Message Length; ");
-    note.put_number(count as u64);
-    note.put(" bytes are here\n");
-}
-
-/// What to do about what stands behind a message.
-fn hint_behind(rest: &[u8]) -> &'static str {
-    if rest.starts_with(b"01") {
-        "a second message seems to begin here: give one message at a time"
-    } else {
-        "take out what stands behind the message, or mend its Message Length, bytes 1 to 3"
+        note.put_hint(if back(text, at).starts_with(b"01") {
+            "a second message seems to begin here: give one message at a time"
+        } else {
+            "take out what stands behind the message, or mend its Message Length, bytes 1 to 3"
+        });
     }
 }
 

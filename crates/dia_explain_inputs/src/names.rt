@@ -1,6 +1,6 @@
 //! The names that a dictionary has.
 
-use dia_ccf::{Decl, Def, Source};
+use dia_ccf::{Def, Source};
 use dia_explain_places::{Note, nearest_command, nearest_name};
 use std::alloc::{AllocError, Global};
 
@@ -34,7 +34,13 @@ pub fn names_of<'a>(
 ) -> Result<Vec<&'a str>, AllocError> {
     match named {
         Named::Command => defined(Vec::new(alloc), &source.commands),
-        Named::Avp => defined(declared(alloc, &source.avps)?, &source.groups),
+        Named::Avp => {
+            let mut names = Vec::new(alloc);
+            for decl in &source.avps {
+                names.push(decl.name.as_str())?;
+            }
+            defined(names, &source.groups)
+        }
     }
 }
 
@@ -47,30 +53,16 @@ fn defined<'a>(names: Vec<&'a str>, defs: &'a [Def]) -> Result<Vec<&'a str>, All
     Ok(names)
 }
 
-fn declared(alloc: Global, decls: &[Decl]) -> Result<Vec<&str>, AllocError> {
-    let mut names = Vec::new(alloc);
-    for decl in decls {
-        names.push(decl.name.as_str())?;
-    }
-    Ok(names)
-}
-
-fn sorted_names<'a>(
-    alloc: Global,
-    source: &'a Source,
-    named: Named,
-) -> Result<Vec<&'a str>, AllocError> {
-    let mut names = names_of(alloc, source, named)?;
-    names.sort_unstable();
-    Ok(names)
-}
-
 impl<'a> Vocabulary<'a> {
     pub fn of(alloc: Global, dictionary: &NamedSource<'a>) -> Result<Self, AllocError> {
+        let mut commands = names_of(alloc, dictionary.source, Named::Command)?;
+        commands.sort_unstable();
+        let mut avps = names_of(alloc, dictionary.source, Named::Avp)?;
+        avps.sort_unstable();
         Ok(Vocabulary {
             dictionary: *dictionary,
-            commands: sorted_names(alloc, dictionary.source, Named::Command)?,
-            avps: sorted_names(alloc, dictionary.source, Named::Avp)?,
+            commands,
+            avps,
         })
     }
 
@@ -93,11 +85,6 @@ impl<'a> Vocabulary<'a> {
             note.put_all(&["hint: ", name, " is ", instead, "\n"]);
             return true;
         }
-        self.push_near(note, named, name)
-    }
-
-    /// Adds the name that is nearest, and tells whether there is one.
-    fn push_near(&self, note: &mut Note, named: Named, name: &str) -> bool {
         match self.near(note.allocator(), named, name) {
             Ok(Some(near)) => {
                 note.put_all(&["hint: did you mean ", near, "?\n"]);

@@ -45,25 +45,22 @@ fn push_side_of(
     dictionary: &NamedSource<'_>,
 ) -> bool {
     match Vocabulary::of(note.allocator(), dictionary) {
-        Ok(known) => push_all(note, table, is_first, &known),
+        Ok(known) => {
+            let Strangers { count, is_odd } = push_side(note, table, is_first, &known);
+            if count > MOST {
+                note.put_all(&[dictionary.name, ": these are the first "]);
+                note.put_number(MOST as u64);
+                note.put(" names that it doesn't have, and there are ");
+                note.put_number(count.saturating_sub(MOST) as u64);
+                note.put(" more\n");
+            }
+            is_odd
+        }
         Err(error) => {
             note.keep(Err(error));
             false
         }
     }
-}
-
-fn push_all(
-    note: &mut Note,
-    table: &NamedText<'_>,
-    is_first: bool,
-    known: &Vocabulary<'_>,
-) -> bool {
-    let Strangers { count, is_odd } = push_side(note, table, is_first, known);
-    if count > MOST {
-        push_rest(note, known.dictionary.name, count.saturating_sub(MOST));
-    }
-    is_odd
 }
 
 /// Adds the first of these names.
@@ -98,7 +95,21 @@ fn push_next(
     before: Strangers,
 ) -> Strangers {
     let count = before.count.saturating_add(1);
-    let is_odd = count <= MOST && push_stranger(note, table, known, stranger) || before.is_odd;
+    if count > MOST {
+        return Strangers { count, ..before };
+    }
+    let Stranger { named, name, at } = *stranger;
+    let lacks = match named {
+        Named::Command => " has no command ",
+        Named::Avp => " has no AVP ",
+    };
+    let instead = match named {
+        Named::Command => "an AVP there: write avp for command",
+        Named::Avp => "a command there: write command for avp",
+    };
+    note.put_place(table.name, table.text, at);
+    note.put_all(&[known.dictionary.name, lacks, name, "\n"]);
+    let is_odd = !known.push_meant(note, named, name, instead) || before.is_odd;
     Strangers { count, is_odd }
 }
 
@@ -112,52 +123,14 @@ fn stranger_on_line<'a>(
     let words = words_of(line_from(text, start));
     let word = if is_first { words.first } else { words.second };
     let name = str::from_utf8(word.text).ok()?;
-    let named = named_by(words.kind.text);
+    let named = if words.kind.text == b"command".as_slice() {
+        Named::Command
+    } else {
+        Named::Avp
+    };
     if words.kind.is_empty() || known.has(named, name) {
         return None;
     }
     let at = start.saturating_add(word.at);
     Some(Stranger { named, name, at })
-}
-
-fn named_by(kind: &[u8]) -> Named {
-    if kind == b"command".as_slice() {
-        Named::Command
-    } else {
-        Named::Avp
-    }
-}
-
-/// Adds a name that the dictionary doesn't have. Answers whether it is like no other.
-fn push_stranger(
-    note: &mut Note,
-    table: &NamedText<'_>,
-    known: &Vocabulary<'_>,
-    stranger: &Stranger<'_>,
-) -> bool {
-    let Stranger { named, name, at } = *stranger;
-    let lacks = match named {
-        Named::Command => " has no command ",
-        Named::Avp => " has no AVP ",
-    };
-    note.put_place(table.name, table.text, at);
-    note.put_all(&[known.dictionary.name, lacks, name, "\n"]);
-    !known.push_meant(note, named, name, instead_of(named))
-}
-
-/// What a name is that is one of the other names.
-fn instead_of(named: Named) -> &'static str {
-    match named {
-        Named::Command => "an AVP there: write avp for command",
-        Named::Avp => "a command there: write command for avp",
-    }
-}
-
-/// Adds how many names more there are.
-fn push_rest(note: &mut Note, dictionary: &str, more: usize) {
-    note.put_all(&[dictionary, ": these are the first "]);
-    note.put_number(MOST as u64);
-    note.put(" names that it doesn't have, and there are ");
-    note.put_number(more as u64);
-    note.put(" more\n");
 }

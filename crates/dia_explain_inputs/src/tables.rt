@@ -41,23 +41,18 @@ fn push_syntax(note: &mut Note, table: &NamedText<'_>, line: u32)
 fn syntax_told(alloc: Global, text: &[u8], word: &RefusedWord<'_>) -> Result<String, AllocError> {
     let (place, wanted) = slot_of(word.part);
     let mut told = Note::new(alloc);
-    push_found(&mut told, word.text);
+    if word.text.is_empty() {
+        told.put("the line ends here");
+    } else {
+        told.put("found ");
+        push_quoted(&mut told, word.text.get(..SHOWN).unwrap_or(word.text));
+    }
     told.put_all(&["; expected ", wanted, "\n"]);
     told.put_excerpt(text, word.at);
     if let Some(hint) = hint_of(&[place], &sight_of(text, word)) {
         told.put_hint(hint);
     }
     told.finish()
-}
-
-/// Adds what stands in the place of another word.
-fn push_found(note: &mut Note, word: &[u8]) {
-    if word.is_empty() {
-        note.put("the line ends here");
-    } else {
-        note.put("found ");
-        push_quoted(note, word.get(..SHOWN).unwrap_or(word));
-    }
 }
 
 /// The place of a part, and what can stand there.

@@ -1,12 +1,12 @@
 //! What to do about a token that is refused, where the cause is a common one.
 
-use crate::dictionary::formats::format_meant;
 use crate::dictionary::scene::Scene;
 use crate::hints::hint_of;
 use crate::kinds::{RETURNS, first_line, hint_of_text, is_cut_by_comment};
 use crate::notes::push_line_column;
 use dia_ccf::CcfFault;
-use dia_explain_places::{Note, place_of};
+use dia_explain_places::{Note, nearest_name, place_of};
+use dia_terms::format_words;
 
 const DICTIONARY: &str =
     "a dictionary has lines %avp NAME CODE [vendor N] FORMAT RULE, and definitions <NAME> ::= < .. > \
@@ -16,7 +16,7 @@ const DICTIONARY: &str =
 pub fn push_cause(note: &mut Note, scene: &Scene<'_>) {
     if let Some(hint) = hint_of_text("dictionary", scene.text) {
         note.put_hint(hint);
-    } else if let Some(format) = meant(scene) {
+    } else if let Some(format) = format_meant(scene) {
         note.put_all(&["hint: did you mean ", format, "?\n"]);
     } else if let Some(hint) = hint_at(scene) {
         note.put_hint(hint);
@@ -26,12 +26,12 @@ pub fn push_cause(note: &mut Note, scene: &Scene<'_>) {
 }
 
 /// The format that is meant, where one is wanted and another word stands.
-fn meant(scene: &Scene<'_>) -> Option<&'static str> {
-    if scene.wants_format() {
-        format_meant(scene.word(scene.token))
-    } else {
-        None
+fn format_meant(scene: &Scene<'_>) -> Option<&'static str> {
+    if scene.place != "Format" && scene.place != "VendorOrFormat" {
+        return None;
     }
+    let word = str::from_utf8(scene.word(scene.token)).ok()?;
+    nearest_name(word, format_words())
 }
 
 fn hint_at(scene: &Scene<'_>) -> Option<&'static str> {

@@ -22,27 +22,20 @@ pub fn number_at(wanted: Wanted) -> Option<&'static str> {
 
 /// Adds what can stand at a place.
 pub fn push_expected(note: &mut Note, wanted: Wanted) {
-    let sort = sort_of(wanted);
+    // The items, and what they have in common, if they are words of a sort.
+    let (sort, items) = match wanted {
+        Wanted::Declaration(InDeclaration::VendorOrFormat) => {
+            ("vendor, or a data format: ", format_words())
+        }
+        Wanted::Declaration(InDeclaration::Format) => ("a data format: ", expected(wanted)),
+        Wanted::Declaration(InDeclaration::MRule { .. }) => {
+            ("the rule of the M flag: ", expected(wanted))
+        }
+        _ => ("", expected(wanted)),
+    };
     let last = if sort.is_empty() { ", or " } else { " or " };
     note.put(sort);
-    push_items(note, items_at(wanted), last);
-}
-
-/// What the words that can stand at a place have in common.
-fn sort_of(wanted: Wanted) -> &'static str {
-    match wanted {
-        Wanted::Declaration(InDeclaration::VendorOrFormat) => "vendor, or a data format: ",
-        Wanted::Declaration(InDeclaration::Format) => "a data format: ",
-        Wanted::Declaration(InDeclaration::MRule { .. }) => "the rule of the M flag: ",
-        _ => "",
-    }
-}
-
-fn items_at(wanted: Wanted) -> &'static [&'static str] {
-    match wanted {
-        Wanted::Declaration(InDeclaration::VendorOrFormat) => format_words(),
-        _ => expected(wanted),
-    }
+    push_items(note, items, last);
 }
 
 /// Adds items, with this in front of the last of several.
@@ -62,7 +55,10 @@ pub fn place_of(wanted: Wanted) -> &'static str {
     match wanted {
         Wanted::Item => "Item",
         Wanted::Declaration(place) => place_of_declaration(place),
-        Wanted::Definition(place) => place_of_definition(place),
+        Wanted::Definition(InDefinition::Name) => "",
+        Wanted::Definition(InDefinition::Close) => "Close",
+        Wanted::Definition(InDefinition::Assign) => "Assign",
+        Wanted::Definition(InDefinition::Head) => "Beginning",
         Wanted::Head(place) => place_of_head(place),
         Wanted::Rules(place) => place_of_rules(place),
     }
@@ -80,15 +76,6 @@ fn place_of_declaration(place: InDeclaration) -> &'static str {
         InDeclaration::FirstValue | InDeclaration::DotsOrValue { .. } | InDeclaration::NextValue =>
             "Value",
         InDeclaration::High { .. } => "High",
-    }
-}
-
-fn place_of_definition(place: InDefinition) -> &'static str {
-    match place {
-        InDefinition::Name => "",
-        InDefinition::Close => "Close",
-        InDefinition::Assign => "Assign",
-        InDefinition::Head => "Beginning",
     }
 }
 

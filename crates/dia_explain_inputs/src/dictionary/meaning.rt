@@ -82,7 +82,8 @@ fn push_first(note: &mut Note, parts: &Parts<'_>, names: &[&str], faults: &[Told
     }
 }
 
-/// Adds a fault, and what helps, unless faults of the kind have it already. Answers the kind that has it.
+/// Adds a fault with the place of what it doesn't go with, and what helps, unless faults of the kind have it already. Answers the
+/// kind that has it.
 fn push_fault(
     note: &mut Note,
     parts: &Parts<'_>,
@@ -92,9 +93,15 @@ fn push_fault(
 ) -> Option<DictKind> {
     let text = text_of(parts, fault);
     let (told, advice) = text.split_once('\n').unwrap_or((text, ""));
-    push_told(note, parts, fault, told);
+    push_filled(note, parts, fault, told);
+    if let Some(place) = parts.place(fault.finding.other) {
+        note.put(" at ");
+        push_line_column(note, place);
+    }
+    note.put("\n");
     let kind = fault.finding.told.kind;
-    if push_meant(note, names, fault) || is_advised(kind, advised) {
+    let is_advised = kind != DictKind::NoGroupFormat && advised == Some(kind);
+    if push_meant(note, names, fault) || is_advised {
         return advised;
     }
     note.put("hint: ");
@@ -103,49 +110,24 @@ fn push_fault(
     Some(kind)
 }
 
-/// Whether what helps with faults of a kind was told.
-fn is_advised(kind: DictKind, advised: Option<DictKind>) -> bool {
-    kind != DictKind::NoGroupFormat && advised == Some(kind)
-}
-
-/// Adds what is told of a fault, and the place of what it doesn't go with.
-fn push_told(note: &mut Note, parts: &Parts<'_>, fault: &ToldFault<'_>, told: &str) {
-    push_filled(note, parts, fault, told);
-    if let Some(place) = parts.place(fault.finding.other) {
-        note.put(" at ");
-        push_line_column(note, place);
-    }
-    note.put("\n");
-}
-
 /// Adds where an undefined name may come from, the base dictionary or a slip, and tells whether that is known.
 fn push_meant(note: &mut Note, names: &[&str], fault: &ToldFault<'_>) -> bool {
     if fault.finding.told.kind != DictKind::UndefinedName {
         return false;
     }
-    match origin_of(names, fault.finding.told.slot) {
-        Some((told, name, behind)) => {
-            note.put("hint: ");
-            note.put(told);
-            note.put(name);
-            note.put(behind);
-            note.put("\n");
-            true
-        }
-        None => false,
-    }
-}
-
-/// Where an undefined name may come from: what is told in front of a line or a name, this, and what stands behind it.
-fn origin_of<'a>(names: &[&'a str], name: &str) -> Option<(&'static str, &'a str, &'static str)> {
+    let name = fault.finding.told.slot;
     if let Some(line) = line_of_base("%avp ", name, " ") {
-        return Some(("the base dictionary declares it: ", line, ""));
+        note.put_all(&["hint: the base dictionary declares it: ", line, "\n"]);
+        true
+    } else if line_of_base("<", name, "> ::= < AVP ").is_some() {
+        note.put_hint("the base dictionary has this group: `diacmd render @base` prints it");
+        true
+    } else if let Some(near) = nearest_name(name, names) {
+        note.put_all(&["hint: did you mean ", near, "?\n"]);
+        true
+    } else {
+        false
     }
-    if line_of_base("<", name, "> ::= < AVP ").is_some() {
-        let told = "the base dictionary has this group: `diacmd render @base` prints it";
-        return Some((told, "", ""));
-    }
-    Some(("did you mean ", nearest_name(name, names)?, "?"))
 }
 
 /// The line of the base dictionary that has this in front of a name, and this behind it.
@@ -170,20 +152,18 @@ fn is_line_of(line: &str, front: &str, name: &str, behind: &str) -> bool {
 
 /// Adds how many faults more there are, and which names are undefined besides.
 fn push_rest(note: &mut Note, name: &str, faults: &[ToldFault<'_>]) {
-    match faults.get(MOST..) {
-        Some(rest) if !rest.is_empty() => push_more(note, name, rest),
-        _ => {}
+    let Some(rest) = faults.get(MOST..) else {
+        return;
+    };
+    if rest.is_empty() {
+        return;
     }
-}
-
-/// Adds how many faults these are, and their undefined names.
-fn push_more(note: &mut Note, name: &str, faults: &[ToldFault<'_>]) {
     note.put_all(&[name, ": these are the first "]);
     note.put_number(MOST as u64);
     note.put(" faults, and there are ");
-    note.put_number(faults.len() as u64);
+    note.put_number(rest.len() as u64);
     note.put(" more\n");
-    match push_undefined(note, faults) {
+    match push_undefined(note, rest) {
         0 => {}
         MOST_NAMES => note.put(", ..\n"),
         _ => note.put("\n"),

@@ -72,32 +72,27 @@ impl<'a> Scene<'a> {
 
     /// Adds what is wrong.
     pub fn push_fault(&self, note: &mut Note) {
+        let wanted = self.misfit.wanted;
         match self.misfit.fault {
             CcfFault::Limit { .. } => note.put("the name has more than 128 bytes"),
-            CcfFault::Number { .. } => self.push_number(note),
-            CcfFault::Syntax { .. } | CcfFault::NoMemory => self.push_syntax(note),
+            CcfFault::Number { .. } => {
+                self.push_token(note);
+                note.put(" is out of range; expected ");
+                match number_at(wanted) {
+                    Some(number) => note.put(number),
+                    None => push_expected(note, wanted),
+                }
+            }
+            CcfFault::Syntax { .. } | CcfFault::NoMemory => {
+                note.put(match self.token {
+                    None => "the text ends here",
+                    Some(_) => "found ",
+                });
+                self.push_token(note);
+                note.put("; expected ");
+                push_expected(note, wanted);
+            }
         }
-    }
-
-    /// Adds that a number is out of range, and which can stand there.
-    fn push_number(&self, note: &mut Note) {
-        self.push_token(note);
-        note.put(" is out of range; expected ");
-        match number_at(self.misfit.wanted) {
-            Some(number) => note.put(number),
-            None => push_expected(note, self.misfit.wanted),
-        }
-    }
-
-    /// Adds what stands at the place, and what can stand there.
-    fn push_syntax(&self, note: &mut Note) {
-        note.put(match self.token {
-            None => "the text ends here",
-            Some(_) => "found ",
-        });
-        self.push_token(note);
-        note.put("; expected ");
-        push_expected(note, self.misfit.wanted);
     }
 
     /// Adds the token in quotes, if there is one. Of a character that no text has all bytes are told.
@@ -113,10 +108,5 @@ impl<'a> Scene<'a> {
             _ => word.len().min(SHOWN),
         };
         push_quoted(note, rest.get(..length).unwrap_or(word));
-    }
-
-    /// Whether a data format can stand at the place.
-    pub fn wants_format(&self) -> bool {
-        self.place == "Format" || self.place == "VendorOrFormat"
     }
 }

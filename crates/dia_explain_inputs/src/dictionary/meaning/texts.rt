@@ -17,7 +17,12 @@ pub fn text_of(parts: &Parts<'_>, fault: &ToldFault<'_>) -> &'static str {
     match told.kind {
         DictKind::Limit => "$name$ has $rules$ rules; a definition has at most $limit$\n\
              leave out what the comparison doesn't need",
-        DictKind::DuplicateName => text_of_name(kind),
+        DictKind::DuplicateName => match kind {
+            PartKind::Declaration => "$name$ is declared twice, first\ndrop one, or rename it",
+            PartKind::Group => "the group $name$ is defined twice, first\ndrop one, or rename it",
+            PartKind::Command => "the command $name$ is defined twice, first\n\
+                 drop one, or rename it: a request and its answer have a name each, as CCR and CCA",
+        },
         DictKind::NoGroupFormat => "$name$ is declared as Grouped, and there is no group <$name$>\n\
              define it: <$name$> ::= < AVP Header: $header$ > and its rules, or * [ AVP ] where any AVP may stand in it",
         DictKind::HeaderMismatch => text_of_group(parts.decl(other)),
@@ -37,16 +42,6 @@ pub fn text_of(parts: &Parts<'_>, fault: &ToldFault<'_>) -> &'static str {
         DictKind::OptionalMin =>
             "$name$ ($place$) has [ $slot$ ], which is optional, with a least count of $low$\n\
              write { $slot$ }, or leave out the least count",
-    }
-}
-
-/// Of a part with the name of another.
-fn text_of_name(kind: PartKind) -> &'static str {
-    match kind {
-        PartKind::Declaration => "$name$ is declared twice, first\ndrop one, or rename it",
-        PartKind::Group => "the group $name$ is defined twice, first\ndrop one, or rename it",
-        PartKind::Command => "the command $name$ is defined twice, first\n\
-             drop one, or rename it: a request and its answer have a name each, as CCR and CCA",
     }
 }
 

@@ -1,6 +1,6 @@
 //! The faults as they are told: each undefined name once.
 
-use dia_dict::{DictKind, Finding, Part};
+use dia_dict::{DictKind, Finding};
 use std::alloc::{AllocError, Global};
 
 /// A fault. Of the rules for an undefined name it is the first, `more` is how many more there are, and the first of those is what
@@ -53,11 +53,18 @@ fn told_at<'a>(
     }
     let name = finding.told.slot;
     let of_name = uses.get(first_from(uses, name, 0)..first_from(uses, name, usize::MAX))?;
-    if of_name.first()?.1 == place {
-        Some(told_of_name(findings, finding, of_name))
-    } else {
-        None
+    if of_name.first()?.1 != place {
+        return None;
     }
+    let mut finding = finding;
+    if let Some((_, second)) = of_name.get(1) {
+        finding.other = match findings.get(*second) {
+            Some(second) => second.part,
+            None => None,
+        };
+    }
+    let more = of_name.len().saturating_sub(1);
+    Some(ToldFault { finding, more })
 }
 
 /// The place of the first use that isn't before this place of a name.
@@ -65,22 +72,4 @@ fn first_from(uses: &[(&str, usize)], name: &str, place: usize) -> usize {
     match uses.binary_search(&(name, place)) {
         Ok(at) | Err(at) => at,
     }
-}
-
-/// The first fault for a name with these uses.
-fn told_of_name<'a>(
-    findings: &[Finding<'a>],
-    finding: Finding<'a>,
-    uses: &[(&str, usize)],
-) -> ToldFault<'a> {
-    let mut finding = finding;
-    if let Some((_, second)) = uses.get(1) {
-        finding.other = part_at(findings, *second);
-    }
-    let more = uses.len().saturating_sub(1);
-    ToldFault { finding, more }
-}
-
-fn part_at(findings: &[Finding<'_>], place: usize) -> Option<Part> {
-    findings.get(place)?.part
 }
