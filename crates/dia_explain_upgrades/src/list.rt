@@ -11,6 +11,14 @@ const NO_LINE: &str =
     "this is no line of an answer of breaking: PATH: REASON SUBJECT: DETAIL, or with --once \
     REASON SUBJECT: DETAIL, in N commands, first in PATH\n";
 
+/// What to do about such a line of a dictionary.
+const DICTIONARY_HINT: &str =
+    "hint: this is a dictionary; a list is written by diacmd breaking A B > FILE\n";
+
+/// What to do about such a line of another text.
+const LIST_HINT: &str = "hint: write the list by diacmd breaking A B > FILE, without --messages; \
+    a comment is a line that begins with #\n";
+
 /// Adds why a list is refused.
 pub fn push_bad_list(note: &mut Note, list: &NamedText<'_>, bad: &BadList) {
     let NamedText { name, text } = *list;
@@ -26,7 +34,11 @@ pub fn push_bad_list(note: &mut Note, list: &NamedText<'_>, bad: &BadList) {
         }
         BadList::Syntax { line } => {
             push_told(note, list, start_of_line(text, line), NO_LINE);
-            note.put(hint_of(text))
+            if text.starts_with(b"%avp") || text.starts_with(b"<") {
+                note.put(DICTIONARY_HINT)
+            } else {
+                note.put(LIST_HINT)
+            }
         }
         BadList::Limit { line } => {
             note.put_place(name, text, start_of_line(text, line));
@@ -44,27 +56,15 @@ fn push_told(note: &mut Note, list: &NamedText<'_>, at: usize, told: &str) {
     note.put_excerpt(list.text, at);
 }
 
-fn hint_of(text: &[u8]) -> &'static str {
-    if text.starts_with(b"%avp") || text.starts_with(b"<") {
-        "hint: this is a dictionary; a list is written by diacmd breaking A B > FILE\n"
-    } else {
-        "hint: write the list by diacmd breaking A B > FILE, without --messages; a comment is a line that begins with #\n"
-    }
-}
-
-/// Adds the lines of a list that accept nothing.
+/// Adds the lines of a list that accept nothing, how many they are, if not each is told, and what to do.
 pub fn push_stale(note: &mut Note, list: &NamedText<'_>, stale: &[u32]) {
     for line in stale.iter().take(MOST) {
         let at = start_of_line(list.text, *line);
         push_told(note, list, at, "this line accepts nothing\n");
     }
-    push_stale_end(note, list.name, stale.len())
-}
-
-/// Adds how many lines accept nothing, if not each is told, and what to do.
-fn push_stale_end(note: &mut Note, name: &str, count: usize) {
+    let count = stale.len();
     if count > MOST {
-        note.put_all(&[name, ": "]);
+        note.put_all(&[list.name, ": "]);
         note.put_number(count as u64);
         note.put(" lines accept nothing\n");
     }

@@ -72,19 +72,9 @@ fn add_groups<'a>(
     Ok(())
 }
 
-/// Adds the names that these causes are about, and that stand for one AVP in the first dictionary and for another in the second.
+/// Adds the names that these causes are about, and that stand for one AVP in the first dictionary and for another in the second:
+/// the first of them, each once.
 pub fn push_namesakes(
-    note: &mut Note,
-    first: &NamedSource<'_>,
-    second: &NamedSource<'_>,
-    causes: &[Told],
-) {
-    let done = push_all(note, first, second, causes);
-    note.keep(done);
-}
-
-/// Adds the first of these names, each once.
-fn push_all(
     note: &mut Note,
     first: &NamedSource<'_>,
     second: &NamedSource<'_>,

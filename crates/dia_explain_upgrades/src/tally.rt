@@ -1,7 +1,6 @@
 //! How much breaks.
 
 use dia_explain_places::{InputTexts, Note};
-use dia_policy::Sends;
 use dia_upgrades::Told;
 
 /// Adds how many lines are left, and how many causes they have, if there are some; with the names of the two dictionaries.
@@ -10,27 +9,11 @@ pub fn push_tally(note: &mut Note, texts: &InputTexts<'_>, lines: usize, causes:
         return;
     }
     note.put_number(lines as u64);
-    note.put(noun(lines, " line, ", " lines, "));
+    note.put(if lines == 1 { " line, " } else { " lines, " });
     note.put_number(causes as u64);
-    note.put(noun(causes, " cause: what ", " causes: what "));
+    note.put(if causes == 1 { " cause" } else { " causes" });
     let (first, second) = (texts.first.name, texts.second.name);
-    note.put_all(&[first, " sends and ", second, " accepts\n"]);
-}
-
-/// Adds how many lines are left where the first side sends no more than this.
-pub fn push_narrower(note: &mut Note, sends: Sends, lines: usize) {
-    let word = match sends {
-        Sends::Any => return,
-        Sends::Known => "known",
-        Sends::Listed => "listed",
-    };
-    note.put_all(&["with --sends ", word, ": "]);
-    note.put_number(lines as u64);
-    note.put(noun(lines, " line\n", " lines\n"));
-}
-
-fn noun(count: usize, one: &'static str, many: &'static str) -> &'static str {
-    if count == 1 { one } else { many }
+    note.put_all(&[": what ", first, " sends and ", second, " accepts\n"]);
 }
 
 /// Adds how many AVPs are read as another format, with the first, if there are some. `meanings` has a line for each.
@@ -41,16 +24,13 @@ pub fn push_meanings(note: &mut Note, meanings: &[Told]) {
     let count = meanings.len();
     note.put("with --meaning: ");
     note.put_number(count as u64);
-    note.put(noun(count, " AVP is read", " AVPs are read"));
-    let told = avp_and_formats(first.words.as_str());
-    note.put_all(&[" as another format, first ", told, "\n"]);
-}
-
-/// Of `meaning X: Unsigned32 sent, Float32 read, in 1 command, first in T` what stands between its first word and the count.
-fn avp_and_formats(words: &str) -> &str {
+    note.put(if count == 1 { " AVP is" } else { " AVPs are" });
+    // Of `meaning X: Unsigned32 sent, Float32 read, in 1 command, first in T` what stands between its first word and the count.
+    let words = first.words.as_str();
     let front = match words.rsplit_once(", in ") {
         Some((front, _)) => front,
         None => words,
     };
-    front.strip_prefix("meaning ").unwrap_or(front)
+    let told = front.strip_prefix("meaning ").unwrap_or(front);
+    note.put_all(&[" read as another format, first ", told, "\n"]);
 }

@@ -28,17 +28,6 @@ pub fn push_unchosen(
     books: &BothBooks,
     names: &[String],
     causes: &[Told],
-) {
-    let done = push_first(note, texts, books, names, causes);
-    note.keep(done);
-}
-
-fn push_first(
-    note: &mut Note,
-    texts: &InputTexts<'_>,
-    books: &BothBooks,
-    names: &[String],
-    causes: &[Told],
 ) -> Result<(), AllocError> {
     let refused = refusals_of(note.allocator(), causes)?;
     if refused.is_empty() {

@@ -26,7 +26,7 @@ pub fn explain_upgrade(
         Report::Refused(bad) => push_refused(&mut note, texts, bad),
         Report::Read { books, found } => {
             push_empty(&mut note, &texts.second);
-            push_found(&mut note, texts, asked, inputs, books, found);
+            push_found(&mut note, texts, asked, inputs, books, found)?;
         }
     }
     note.finish()
@@ -40,7 +40,7 @@ fn push_found(
     inputs: &Inputs,
     books: &BothBooks,
     found: &Found,
-) {
+) -> Result<(), AllocError> {
     match found {
         Found::Listed {
             stale,
@@ -54,17 +54,18 @@ fn push_found(
                 push_less(note, asked, inputs, books);
             }
             push_meanings(note, meanings);
-            push_unchosen(note, texts, books, asked.names, causes);
+            push_unchosen(note, texts, books, asked.names, causes)?;
             push_namesakes(
                 note,
                 &first_of(texts, books),
                 &second_of(texts, books),
                 causes,
-            );
+            )?;
             push_stale(note, &texts.table, stale);
         }
         Found::NoList(bad) => push_bad_list(note, &texts.table, bad),
         Found::NoCommands => push_without_commands(note, &texts.first, &books.first.source),
         Found::NoCommand => push_unknown_commands(note, texts, asked.names, books),
     }
+    Ok(())
 }

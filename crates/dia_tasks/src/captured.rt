@@ -14,7 +14,7 @@ use dia_io::{Exit, Feed, FromReader, Inputs, Sink, ToWriter};
 use dia_lines::LinesFault;
 use dia_policy::{Levels, Unknown};
 use dia_report::Reported;
-use std::alloc::{AllocError, Global};
+use std::alloc::Global;
 use std::io::Read;
 use std::rt::Files;
 use std::{fs, io};
@@ -98,37 +98,26 @@ pub fn captured<'a, R>(
 where
     R: AllocGlobal + Files + Input + Print + Eprint,
 {
-    let reported = opened(rt, capture, inputs, origins.messages, manner)?;
+    let reported = match origins.messages {
+        Origin::File { path, .. } => match fs::open(rt, path) {
+            Ok(file) => answer(rt, capture, inputs, file, path, manner)?,
+            Err(error) => {
+                return Err(Ending::Device {
+                    name: path,
+                    error: Some(error),
+                });
+            }
+        },
+        _ => answer(rt, capture, inputs, rt.reader(), "-", manner)?,
+    };
     if !manner.quiet && reported.exit == Exit::No {
         advise(rt, capture, origins);
     }
     Ok(reported)
 }
 
-/// Opens the messages, and runs the command over them.
-fn opened<'a, R>(
-    rt: &R,
-    capture: Capture,
-    inputs: &Inputs,
-    messages: Origin<'a>,
-    manner: Manner,
-) -> Result<Reported, Ending<'a>>
-where
-    R: AllocGlobal + Files + Input + Print + Eprint,
-{
-    match messages {
-        Origin::File { path, .. } => match fs::open(rt, path) {
-            Ok(file) => answer(rt, capture, inputs, file, path, manner),
-            Err(error) => Err(Ending::Device {
-                name: path,
-                error: Some(error),
-            }),
-        },
-        _ => answer(rt, capture, inputs, rt.reader(), "-", manner),
-    }
-}
-
-/// Writes what a command says of the messages that a reader gives. `name` is the word that names the reader.
+/// Writes what a command says of the messages that a reader gives, and tells how many lines are as they should be, and what the
+/// others say, unless it is to be quiet or the device fails. `name` is the word that names the reader.
 fn answer<'a, R, D>(
     rt: &R,
     capture: Capture,
@@ -152,7 +141,9 @@ where
     match ended {
         Ok(Captured { reported, summary }) => {
             if !manner.quiet && reported.exit != Exit::Bad {
-                summarize(rt, summary);
+                if let Some(text) = summary {
+                    let _ = eprint!(rt; "{text}");
+                }
                 if feed.is_telling() {
                     tell_front(rt, name, capture.lines, &feed.kept);
                 }
@@ -185,13 +176,7 @@ pub fn ending_of(
 
 /// Tells how one message is explained by itself. Where memory or the device fails, nothing is told.
 fn advise<R: AllocGlobal + Eprint>(rt: &R, capture: Capture, origins: &Origins<'_>) {
-    if let Ok(text) = advice(rt.alloc(), capture, origins) {
-        let _ = eprint!(rt; "{text}");
-    }
-}
-
-fn advice(alloc: Global, capture: Capture, origins: &Origins<'_>) -> Result<String, AllocError> {
-    let mut note = Note::new(alloc);
+    let mut note = Note::new(rt.alloc());
     let messages = word_of(origins.messages);
     let first = word_of(origins.first);
     let second = word_of(origins.second);
@@ -201,7 +186,9 @@ fn advice(alloc: Global, capture: Capture, origins: &Origins<'_>) -> Result<Stri
         Lines::Refuted => push_refute_alone(&mut note, messages, &asked, first, second),
         Lines::Placed => {}
     }
-    note.finish()
+    if let Ok(text) = note.finish() {
+        let _ = eprint!(rt; "{text}");
+    }
 }
 
 /// Tells what a text is whose front shows that it has no messages, or not one a line.
@@ -209,13 +196,6 @@ pub fn tell_front<R: AllocGlobal + Eprint>(rt: &R, name: &str, lines: Lines, fro
     let mut note = Note::new(rt.alloc());
     push_front(&mut note, name, front, lines != Lines::Placed);
     if let Ok(text) = note.finish() {
-        let _ = eprint!(rt; "{text}");
-    }
-}
-
-/// Tells how many lines are as they should be, and what the others say. Where the device fails, nothing is told.
-fn summarize<R: Eprint>(rt: &R, summary: Option<String>) {
-    if let Some(text) = summary {
         let _ = eprint!(rt; "{text}");
     }
 }

@@ -6,8 +6,7 @@ use dia_explain_inputs::{
 };
 use dia_explain_places::{InputTexts, Note};
 use dia_inclusion::Answer;
-use dia_report::{Compared, Report};
-use std::alloc::{AllocError, Global};
+use dia_report::Report;
 
 /// Explains a report on standard error. `names` are those of the commands that were asked for. Where memory or the device fails,
 /// there is no note.
@@ -17,27 +16,7 @@ pub fn note<R: AllocGlobal + Eprint>(
     names: &[String],
     report: &Report,
 ) {
-    if let Ok(text) = explain(rt.alloc(), texts, names, report) {
-        let _ = eprint!(rt; "{text}");
-    }
-}
-
-/// Tells how AVPs are named that the base dictionary doesn't have. `sign` is what stands for a name in what was shown. Where
-/// memory or the device fails, nothing is told.
-pub fn note_unnamed<R: AllocGlobal + Eprint>(rt: &R, report: &Report, sign: &str) {
-    if let Ok(text) = unnamed(rt.alloc(), report, sign) {
-        let _ = eprint!(rt; "{text}");
-    }
-}
-
-/// What is told on standard error of a report. It is empty where there is nothing to tell.
-fn explain(
-    alloc: Global,
-    texts: &InputTexts<'_>,
-    names: &[String],
-    report: &Report,
-) -> Result<String, AllocError> {
-    let mut note = Note::new(alloc);
+    let mut note = Note::new(rt.alloc());
     if !matches!(report, Report::Refused(_)) {
         push_empty(&mut note, &texts.first);
         push_empty(&mut note, &texts.second);
@@ -48,28 +27,28 @@ fn explain(
         Report::NoCommand(books) => push_unknown_commands(&mut note, texts, names, books),
         Report::Invalid(found) => push_length(&mut note, &texts.message, &found.message),
         Report::Unrefuting(found) => push_length(&mut note, &texts.message, &found.message),
-        Report::Compared(found) => push_table(&mut note, texts, found),
+        // What the table lacks: pairs of commands where the answer is yes, and else names that the dictionaries have.
+        Report::Compared(found) => match found.answer {
+            Answer::Yes => push_no_pairs(&mut note, texts, &found.table),
+            Answer::No { .. } => push_strangers(&mut note, texts, &found.books),
+        },
         Report::Done | Report::Shown(_) | Report::Cut(_) => {}
     }
-    note.finish()
+    if let Ok(text) = note.finish() {
+        let _ = eprint!(rt; "{text}");
+    }
 }
 
-/// What is told on standard error of a message that was shown by the base dictionary. `sign` is what stands for a name that it
-/// doesn't have.
-fn unnamed(alloc: Global, report: &Report, sign: &str) -> Result<String, AllocError> {
-    let mut note = Note::new(alloc);
+/// Tells how AVPs are named that the base dictionary doesn't have. `sign` is what stands for a name in what was shown. Where
+/// memory or the device fails, nothing is told.
+pub fn note_unnamed<R: AllocGlobal + Eprint>(rt: &R, report: &Report, sign: &str) {
+    let mut note = Note::new(rt.alloc());
     match report {
         Report::Shown(message) => push_unnamed(&mut note, message, sign),
         Report::Cut(listing) => push_unnamed(&mut note, &listing.message, sign),
         _ => {}
     }
-    note.finish()
-}
-
-/// Adds what a table lacks: pairs of commands where the answer is yes, and else names that the dictionaries have.
-fn push_table(note: &mut Note, texts: &InputTexts<'_>, found: &Compared) {
-    match found.answer {
-        Answer::Yes => push_no_pairs(note, texts, &found.table),
-        Answer::No { .. } => push_strangers(note, texts, &found.books),
+    if let Ok(text) = note.finish() {
+        let _ = eprint!(rt; "{text}");
     }
 }

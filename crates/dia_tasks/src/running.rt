@@ -35,9 +35,14 @@ where
     R: AllocGlobal + Files + Input + Print + Eprint,
 {
     let quiet = manner.quiet;
+    let has_values = !matches!(origins.table, Origin::Nowhere);
     let ended = match task {
         Task::Breaking(asked) => return Ok(Outcome::Breaking(asked)),
-        Task::Whole(command) => run_whole(rt, command, inputs, origins, manner),
+        Task::Whole(command) if manner.json => answer_as_json(rt, command, inputs),
+        Task::Whole(Command::Show) if has_values => {
+            show_named(rt, false, inputs, origins, quiet)
+        }
+        Task::Whole(command) => answer(rt, command, inputs),
         Task::ShowNamed => show_named(rt, true, inputs, origins, quiet),
         Task::ShowLines { names } => list_lines(rt, *names, inputs, origins, quiet),
         Task::Make => made(rt, inputs, origins.message, quiet),
@@ -62,31 +67,6 @@ where
     Ok(Outcome::Done(exit))
 }
 
-/// Runs a command whose inputs were read whole.
-fn run_whole<'a, R>(
-    rt: &R,
-    command: &Command,
-    inputs: &Inputs,
-    origins: &Origins<'a>,
-    manner: Manner,
-) -> Result<Reported, Ending<'a>>
-where
-    R: AllocGlobal + Print + Eprint,
-{
-    match command {
-        command if manner.json => answer_as_json(rt, command, inputs),
-        Command::Show if has_values(origins) => {
-            show_named(rt, false, inputs, origins, manner.quiet)
-        }
-        command => answer(rt, command, inputs),
-    }
-}
-
-/// Whether words of values are given.
-fn has_values(origins: &Origins<'_>) -> bool {
-    !matches!(origins.table, Origin::Nowhere)
-}
-
 /// Explains what a task reports on standard error.
 fn tell<R: AllocGlobal + Eprint>(
     rt: &R,
@@ -95,25 +75,17 @@ fn tell<R: AllocGlobal + Eprint>(
     origins: &Origins<'_>,
     report: &Report,
 ) {
-    note(rt, &texts_of(origins, inputs), names_of(task), report);
-    if let (Some(sign), Origin::Base) = (sign_of(task), origins.first) {
-        note_unnamed(rt, report, sign);
-    }
-}
-
-/// The names of the commands that are proposed for.
-fn names_of(task: &Task) -> &[String] {
-    match task {
+    // The names of the commands that are proposed for.
+    let names: &[String] = match task {
         Task::Whole(Command::Propose { names, .. }) => names.as_slice(),
         _ => &[],
-    }
-}
-
-/// How an AVP without a name stands in what is shown of a message.
-fn sign_of(task: &Task) -> Option<&'static str> {
-    match task {
-        Task::Whole(Command::Show) | Task::ShowNamed => Some("?"),
-        Task::ShowText => Some("a number in place of a name"),
-        _ => None,
+    };
+    note(rt, &texts_of(origins, inputs), names, report);
+    if matches!(origins.first, Origin::Base) {
+        match task {
+            Task::Whole(Command::Show) | Task::ShowNamed => note_unnamed(rt, report, "?"),
+            Task::ShowText => note_unnamed(rt, report, "a number in place of a name"),
+            _ => {}
+        }
     }
 }

@@ -2,7 +2,7 @@
 
 use crate::inputs::word_of;
 use dia_cli::{Ending, Origin};
-use dia_io::{Inputs, RunFault, ToWriter};
+use dia_io::{Inputs, ToWriter};
 use dia_make::{make, note, show_text};
 use dia_report::{Report, Reported};
 use std::io;
@@ -18,8 +18,10 @@ where
     R: AllocGlobal + Print + Eprint,
 {
     let mut sink = ToWriter::new(io::writer(rt));
-    let ended = make(rt.alloc(), inputs, &mut sink);
-    let made = answered(ended, sink.failure())?;
+    let made = match make(rt.alloc(), inputs, &mut sink) {
+        Ok(reported) => reported,
+        Err(fault) => return Err(Ending::of_run(fault, "standard output", sink.failure())),
+    };
     Ok(explained(rt, made, inputs, text, quiet))
 }
 
@@ -35,8 +37,10 @@ where
 {
     let mut sink = ToWriter::new(io::writer(rt));
     let mut bytes = Vec::new(rt.alloc());
-    let ended = show_text(rt.alloc(), inputs, &mut bytes, &mut sink);
-    let shown = answered(ended, sink.failure())?;
+    let shown = match show_text(rt.alloc(), inputs, &mut bytes, &mut sink) {
+        Ok(reported) => reported,
+        Err(fault) => return Err(Ending::of_run(fault, "standard output", sink.failure())),
+    };
     let Reported { exit, report } = explained(rt, shown, inputs, message, quiet);
     let report = match report {
         Report::Done => Report::Shown(bytes),
@@ -45,19 +49,8 @@ where
     Ok(Reported { exit, report })
 }
 
-/// How a command ended that wrote to standard output. `error` is what the system said of that.
-fn answered<'a>(
-    ended: Result<dia_make::Reported, RunFault>,
-    error: Option<io::Error>,
-) -> Result<dia_make::Reported, Ending<'a>> {
-    match ended {
-        Ok(reported) => Ok(reported),
-        Err(fault) => Err(Ending::of_run(fault, "standard output", error)),
-    }
-}
-
-/// How a command ended, whose text or message is explained here. What it says of a dictionary, or of hexadecimal digits, is
-/// left to be explained with that of other commands.
+/// How a command ended, whose text or message is explained here, unless memory or the device fails. What it says of a
+/// dictionary, or of hexadecimal digits, is left to be explained with that of other commands.
 fn explained<R: AllocGlobal + Eprint>(
     rt: &R,
     made: dia_make::Reported,
@@ -67,7 +60,9 @@ fn explained<R: AllocGlobal + Eprint>(
 ) -> Reported {
     let dia_make::Reported { exit, report } = made;
     if !quiet {
-        tell(rt, word_of(message), inputs, &report);
+        if let Ok(text) = note(rt.alloc(), word_of(message), inputs, &report) {
+            let _ = eprint!(rt; "{text}");
+        }
     }
     let report = match report {
         dia_make::Report::Refused(bad) => Report::Refused(bad),
@@ -75,12 +70,4 @@ fn explained<R: AllocGlobal + Eprint>(
         dia_make::Report::Done | dia_make::Report::Cut { .. } => Report::Done,
     };
     Reported { exit, report }
-}
-
-/// Tells on standard error why a text makes no message, or a message has no text. Where memory or the device fails, nothing is
-/// told.
-fn tell<R: AllocGlobal + Eprint>(rt: &R, name: &str, inputs: &Inputs, report: &dia_make::Report) {
-    if let Ok(text) = note(rt.alloc(), name, inputs, report) {
-        let _ = eprint!(rt; "{text}");
-    }
 }

@@ -35,7 +35,11 @@ pub fn avp_spot<'a, B: Book>(book: &B, words: Words<'a>) -> Option<Spot<'a>> {
     if rest.take(b"{") {
         return last_spot(rest);
     }
-    match value_spot(format_of(book, key), &mut rest) {
+    let format = match book.avp(key) {
+        Some(entry) => Some(book.format(entry)),
+        None => None,
+    };
+    match value_spot(format, &mut rest) {
         Some(spot) => Some(spot),
         None => end_spot(rest),
     }
@@ -65,9 +69,8 @@ fn head_spot<'a>(words: &mut Words<'a>) -> Option<Spot<'a>> {
 fn end_spot(words: Words<'_>) -> Option<Spot<'_>> {
     let mut rest = words;
     if rest.take(b"pad") {
-        let bytes = rest.next();
-        if !is_bytes(bytes.text) {
-            return Some(bytes_spot(bytes, BYTES));
+        if let Some(spot) = bytes_spot(&mut rest) {
+            return Some(spot);
         }
     }
     last_spot(rest)
@@ -82,20 +85,25 @@ fn last_spot(words: Words<'_>) -> Option<Spot<'_>> {
     }
 }
 
-/// A word in place of bytes.
-fn bytes_spot<'a>(word: Word<'a>, wanted: &'static str) -> Spot<'a> {
-    let spot = Spot::new(word, wanted);
-    if is_uneven(word.text) {
-        spot.meaning(Meant::Pairs)
-    } else {
-        spot
+/// The word of bytes, if it is at fault.
+fn bytes_spot<'a>(words: &mut Words<'a>) -> Option<Spot<'a>> {
+    let word = words.next();
+    let spot = Spot::new(word, BYTES);
+    match word.text {
+        bytes if is_bytes(bytes) => None,
+        bytes if is_uneven(bytes) => Some(spot.meaning(Meant::Pairs)),
+        _ => Some(spot),
     }
 }
 
 /// A value that its format can't have.
 fn value_spot<'a>(format: Option<&Format>, words: &mut Words<'a>) -> Option<Spot<'a>> {
     if matches!(format, Some(Format::Address)) && words.take(b"family") {
-        return family_spot(words);
+        let family = words.next();
+        if !is_number(family.text, 1 << 16) {
+            return Some(Spot::new(family, "the number of an address family, at most 65535"));
+        }
+        return bytes_spot(words);
     }
     let word = words.next();
     if word.text.is_empty() {
@@ -117,20 +125,6 @@ fn meant_of(format: Option<&Format>, word: &[u8]) -> Meant {
         [b'"', ..] => Meant::Escaped,
         _ if matches!(format, Some(Format::OctetString)) && is_dotted(word) => Meant::Address,
         _ => Meant::Text,
-    }
-}
-
-/// The words of an address behind `family`, if one is at fault.
-fn family_spot<'a>(words: &mut Words<'a>) -> Option<Spot<'a>> {
-    let family = words.next();
-    if !is_number(family.text, 1 << 16) {
-        return Some(Spot::new(family, "the number of an address family, at most 65535"));
-    }
-    let bytes = words.next();
-    if is_bytes(bytes.text) {
-        None
-    } else {
-        Some(bytes_spot(bytes, BYTES))
     }
 }
 
@@ -195,10 +189,16 @@ fn kind_of(format: Option<&Format>) -> Option<FormatKind> {
 
 /// The key of an AVP's word, if it is a number or a name of the dictionary.
 fn key_of<B: Book>(book: &B, word: &[u8]) -> Option<Key> {
-    match numbered(word) {
-        Some(key) => Some(key),
-        None => named(book, word),
+    if let Some(key) = numbered(word) {
+        return Some(key);
     }
+    for index in 0..book.entries() {
+        let entry = book.entry_at(index);
+        if book.entry_name(entry).as_bytes() == word {
+            return Some(book.entry_key(entry));
+        }
+    }
+    None
 }
 
 /// `CODE`, or `CODE/VENDOR`.
@@ -216,43 +216,23 @@ fn number32(word: &[u8]) -> Option<u32> {
     u32::try_from(number_of(word)?).ok()
 }
 
-fn named<B: Book>(book: &B, word: &[u8]) -> Option<Key> {
-    for index in 0..book.entries() {
-        let entry = book.entry_at(index);
-        if book.entry_name(entry).as_bytes() == word {
-            return Some(book.entry_key(entry));
-        }
-    }
-    None
-}
-
-fn format_of<B: Book>(book: &B, key: Key) -> Option<&Format> {
-    match book.avp(key) {
-        Some(entry) => Some(book.format(entry)),
-        None => None,
-    }
-}
-
 /// The value of a line that writes more data than an AVP can have.
 pub fn is_too_long(words: Words<'_>) -> Option<Word<'_>> {
     let mut rest = words;
     let _ = rest.next();
     let _ = head_spot(&mut rest);
     let value = rest.next();
-    if data_length(value.text) >= TOO_LONG - 12 {
+    // How many bytes it writes, if it is bytes or a text.
+    let length = match value.text {
+        [b'"', ..] => {
+            let escaped = value.text.iter().filter(|byte| **byte == b'\\').count();
+            value.text.len().saturating_sub(escaped.saturating_mul(3))
+        }
+        digits => digits.len() / 2,
+    };
+    if length >= TOO_LONG - 12 {
         Some(value)
     } else {
         None
-    }
-}
-
-/// How many bytes a value writes, if it is bytes or a text.
-fn data_length(value: &[u8]) -> usize {
-    match value {
-        [b'"', ..] => {
-            let escaped = value.iter().filter(|byte| **byte == b'\\').count();
-            value.len().saturating_sub(escaped.saturating_mul(3))
-        }
-        _ => value.len() / 2,
     }
 }

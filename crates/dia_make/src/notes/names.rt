@@ -40,20 +40,18 @@ impl<'a> NamesOf<'a> {
     /// Adds what is meant by a word in place of an AVP's name.
     pub fn push_avp(&self, note: &mut Note, name: &str) {
         match self.names(note.allocator()) {
-            Ok(names) => self.push_near_avp(note, &names, name),
+            Ok(names) => {
+                let near = nearest_name(name, &names.avps);
+                match nearest_name(name, &names.commands) {
+                    Some(command) if near.is_none() => note.put_all(&[
+                        "hint: ",
+                        command,
+                        " is a command, and an empty line stands between two messages\n",
+                    ]),
+                    _ => self.push_near(note, near),
+                }
+            }
             Err(error) => note.keep(Err(error)),
-        }
-    }
-
-    fn push_near_avp(&self, note: &mut Note, names: &Names<'_>, name: &str) {
-        let near = nearest_name(name, &names.avps);
-        match nearest_name(name, &names.commands) {
-            Some(command) if near.is_none() => note.put_all(&[
-                "hint: ",
-                command,
-                " is a command, and an empty line stands between two messages\n",
-            ]),
-            _ => self.push_near(note, near),
         }
     }
 

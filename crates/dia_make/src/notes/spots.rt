@@ -71,24 +71,20 @@ pub fn spot_of<'a, B: Book>(book: &B, text: &'a [u8], fault: &Fault) -> Spot<'a>
     let start = start_of_line(text, u32::try_from(fault.line).unwrap_or(u32::MAX));
     let words = Words::of(text, start);
     let before = before_line(text, start);
+    let front = text.get(..start).unwrap_or(text);
     let found = if before.has_header {
         avp_spot(book, words)
     } else {
         header_spot(book, words)
     };
     match found {
-        Some(spot) if matches!(spot.meant, Meant::Avp) && is_behind_return(text, start) => {
+        // The line before has nothing but a carriage return.
+        Some(spot) if matches!(spot.meant, Meant::Avp) && front.ends_with(b"\n\r\n") => {
             spot.meaning(Meant::Returns)
         }
         Some(spot) => spot,
         None => end_spot(words, fault.kind, before),
     }
-}
-
-/// Whether the line before a place has nothing but a carriage return.
-fn is_behind_return(text: &[u8], start: usize) -> bool {
-    let front = text.get(..start).unwrap_or(text);
-    front.ends_with(b"\n\r\n")
 }
 
 /// The word of a line that could stand by itself.
@@ -104,21 +100,16 @@ fn end_spot(words: Words<'_>, kind: Kind, before: Before) -> Spot<'_> {
             first,
             "a shorter group: an AVP has at most 16777215 bytes",
         ),
-        Kind::Limit => limit_spot(words),
+        Kind::Limit => match is_too_long(words) {
+            Some(value) => Spot::new(value, "less data: an AVP has at most 16777215 bytes"),
+            None => Spot::new(
+                last_of(words),
+                "a shorter message: it has at most 16777215 bytes",
+            ),
+        },
         Kind::Syntax | Kind::Name | Kind::Value => Spot::new(
             last_of(words),
             "the line of a header",
-        ),
-    }
-}
-
-/// The value that is too long; or the end of a message that is.
-fn limit_spot(words: Words<'_>) -> Spot<'_> {
-    match is_too_long(words) {
-        Some(value) => Spot::new(value, "less data: an AVP has at most 16777215 bytes"),
-        None => Spot::new(
-            last_of(words),
-            "a shorter message: it has at most 16777215 bytes",
         ),
     }
 }
@@ -127,7 +118,7 @@ fn limit_spot(words: Words<'_>) -> Spot<'_> {
 fn last_of(words: Words<'_>) -> Word<'_> {
     let mut rest = words;
     let mut word = rest.next();
-    for _ in words.bytes() {
+    for _ in words.rest {
         if !word.text.is_empty() {
             word = rest.next();
         }
@@ -177,7 +168,7 @@ impl Before {
 /// Whether the line of an AVP opens a group.
 fn opens(words: Words<'_>) -> bool {
     let mut rest = words;
-    for _ in words.bytes() {
+    for _ in words.rest {
         let word = rest.next();
         if word.text == b"{".as_slice() {
             return true;

@@ -11,7 +11,7 @@ pub struct Word<'a> {
 /// What is left of a line, and its place in the text.
 #[derive(Clone, Copy)]
 pub struct Words<'a> {
-    rest: &'a [u8],
+    pub rest: &'a [u8],
     at: usize,
 }
 
@@ -26,18 +26,21 @@ impl<'a> Words<'a> {
         }
     }
 
-    /// What is left of the line.
-    pub fn bytes(&self) -> &'a [u8] {
-        self.rest
-    }
-
     /// The next word, past which it goes. A text in quotes is one word, also where its closing quote is missing.
     pub fn next(&mut self) -> Word<'a> {
         let blanks = self.rest.iter().take_while(|byte| is_blank(**byte)).count();
         self.pass(blanks);
         let length = match self.rest {
-            [b'"', behind @ ..] => quoted_length(behind),
-            _ => self.rest.iter().take_while(|byte| is_inner(**byte)).count(),
+            [b'"', behind @ ..] => {
+                let inside = behind.iter().take_while(|byte| **byte != b'"').count();
+                let quotes = if inside < behind.len() { 2 } else { 1 };
+                inside.saturating_add(quotes)
+            }
+            _ => self
+                .rest
+                .iter()
+                .take_while(|byte| !is_blank(**byte) && **byte != b'#')
+                .count(),
         };
         let text = self.rest.get(..length).unwrap_or(self.rest);
         let at = self.at;
@@ -66,17 +69,6 @@ impl<'a> Words<'a> {
     }
 }
 
-/// How long a text in quotes is, of which this is behind its opening quote.
-fn quoted_length(behind: &[u8]) -> usize {
-    let inside = behind.iter().take_while(|byte| **byte != b'"').count();
-    let quotes = if inside < behind.len() { 2 } else { 1 };
-    inside.saturating_add(quotes)
-}
-
 fn is_blank(byte: u8) -> bool {
     byte == b' ' || byte == b'\t' || byte == b'\r'
-}
-
-fn is_inner(byte: u8) -> bool {
-    !is_blank(byte) && byte != b'#'
 }
