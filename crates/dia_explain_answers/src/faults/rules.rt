@@ -29,12 +29,12 @@ pub fn push_rule_word(note: &mut Note, scene: &InBody<'_>, word: &str) {
             } else {
                 "at least "
             });
-            note.put_number(rule.min as u64)
+            note.put_number(u64::from(rule.min))
         }
         "most" => match rule.max {
             Some(most) if most > 0 => {
                 note.put("at most ");
-                note.put_number(most as u64)
+                note.put_number(u64::from(most))
             }
             _ => note.put("none"),
         },
