@@ -10,4 +10,3 @@ pub mod Told
 pub mod Unread
 pub mod WhatBreaks
 pub mod YesLines
-pub mod FailureLines

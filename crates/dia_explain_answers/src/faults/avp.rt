@@ -84,7 +84,7 @@ fn push_declared_word(note: &mut Note, scene: &InBody<'_>, data: &[u8], word: &s
     };
     match word {
         "m" | "format" => note.put(avp.declared_word(word)),
-        // those that data of the format may have
+        // the lengths that data of the format may have
         "lengths" => note.put(match avp.format.kind() {
             FormatKind::EightBytes(_) => "8",
             FormatKind::Address => {
