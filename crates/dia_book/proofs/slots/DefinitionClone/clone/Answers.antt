@@ -9,6 +9,6 @@ copied name rules old same alike = λ i. record { name = same i; head = old.head
 
 pub returns : goal.returns
 returns c = record {
-    cases = copied _ _ (plain_definition c.args.self.now) c.in_ok-name.ensures.cases
-        (same_from_all_zip _ _ _ c.in_ok-rules.ensures.cases.0 (λ x y same. same));
+  cases = copied _ _ (plain_definition c.args.self.now) c.in_ok-name.ensures.cases
+      (same_from_all_zip _ _ _ c.in_ok-rules.ensures.cases.0 (λ x y same. same));
 }
