@@ -61,21 +61,26 @@ fn perform<'a, R>(rt: &R, version: &'a str, words: &'a [String]) -> Result<Exit,
 where
     R: AllocGlobal + Files + Input + Print + Eprint,
 {
-    let request = match parse_words(rt.alloc(), version, words) {
-        Ok(request) => request,
-        Err(ending) => return Err(advised(rt.alloc(), words, ending)),
+    match parse_words(rt.alloc(), version, words) {
+        Ok(request) => answer(rt, &request),
+        Err(ending) => Err(advised(rt.alloc(), words, ending)),
+    }
+}
+
+/// Opens the inputs of a request, and does what it asks for.
+fn answer<'a, R>(rt: &R, request: &Request<'a>) -> Result<Exit, Ending<'a>>
+where
+    R: AllocGlobal + Files + Input + Print + Eprint,
+{
+    let origins = &request.origins;
+    let inputs = open_inputs(rt.alloc(), &OfProcess::new(rt), origins)?;
+    let manner = Manner {
+        quiet: request.quiet,
+        json: request.json,
     };
-    let Request {
-        task,
-        origins,
-        quiet,
-        json,
-    } = request;
-    let inputs = open_inputs(rt.alloc(), &OfProcess::new(rt), &origins)?;
-    let manner = Manner { quiet, json };
-    match run_task(rt, &task, &inputs, &origins, manner)? {
+    match run_task(rt, &request.task, &inputs, origins, manner)? {
         Outcome::Done(exit) => Ok(exit),
-        Outcome::Breaking(asked) => list(rt, asked_of(asked), &inputs, &origins, manner),
+        Outcome::Breaking(asked) => list(rt, asked_of(asked), &inputs, origins, manner),
     }
 }
 
