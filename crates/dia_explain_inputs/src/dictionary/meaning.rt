@@ -94,7 +94,7 @@ fn push_fault(
     let text = text_of(parts, fault);
     let (told, advice) = text.split_once('\n').unwrap_or((text, ""));
     push_filled(note, parts, fault, told);
-    if let Some(place) = parts.place(fault.finding.other) {
+    if let Some(place) = parts.place(fault.other) {
         note.put(" at ");
         push_line_column(note, place);
     }
@@ -112,10 +112,11 @@ fn push_fault(
 
 /// Adds where an undefined name may come from, the base dictionary or a slip, and tells whether that is known.
 fn push_meant(note: &mut Note, names: &[&str], fault: &ToldFault<'_>) -> bool {
-    if fault.finding.told.kind != DictKind::UndefinedName {
+    let finding = fault.finding;
+    if finding.told.kind != DictKind::UndefinedName {
         return false;
     }
-    let name = fault.finding.told.slot;
+    let name = finding.told.slot;
     if let Some(line) = line_of_base("%avp ", name, " ") {
         note.put_all(&["hint: the base dictionary declares it: ", line, "\n"]);
         true
@@ -175,9 +176,10 @@ fn push_undefined(note: &mut Note, faults: &[ToldFault<'_>]) -> usize {
     let mut count = 0usize;
     let mut between = "hint: these names aren't defined either: ";
     for fault in faults {
-        if fault.finding.told.kind == DictKind::UndefinedName && count < MOST_NAMES {
+        let finding = fault.finding;
+        if finding.told.kind == DictKind::UndefinedName && count < MOST_NAMES {
             note.put(between);
-            note.put(fault.finding.told.slot);
+            note.put(finding.told.slot);
             between = ", ";
             count = count.saturating_add(1);
         }

@@ -5,16 +5,16 @@ use super::parts::Parts;
 use super::told::ToldFault;
 use super::values::push_value;
 use dia_ccf::{Decl, FormatName, Head, Qual, Rule, RuleKind};
-use dia_dict::{DictKind, Finding, Part, PartKind};
+use dia_dict::{DictKind, Part, PartKind};
 use dia_explain_places::Note;
 
 pub fn text_of(parts: &Parts<'_>, fault: &ToldFault<'_>) -> &'static str {
-    let Finding { told, part, other } = fault.finding;
+    let part = fault.finding.part;
     let Some(Part { kind, .. }) = part else {
         return "$parts$ declarations, groups and commands; a dictionary has at most $limit$\n\
                 leave out what the comparison doesn't need";
     };
-    match told.kind {
+    match fault.finding.told.kind {
         DictKind::Limit => "$name$ has $rules$ rules; a definition has at most $limit$\n\
              leave out what the comparison doesn't need",
         DictKind::DuplicateName => match kind {
@@ -25,7 +25,7 @@ pub fn text_of(parts: &Parts<'_>, fault: &ToldFault<'_>) -> &'static str {
         },
         DictKind::NoGroupFormat => "$name$ is declared as Grouped, and there is no group <$name$>\n\
              define it: <$name$> ::= < AVP Header: $header$ > and its rules, or * [ AVP ] where any AVP may stand in it",
-        DictKind::HeaderMismatch => text_of_group(parts.decl(other)),
+        DictKind::HeaderMismatch => text_of_group(parts.decl(fault.other)),
         DictKind::DuplicateKey => "$name$ has $key$, as $first$ has\n\
              correct the code or the vendor of one: an AVP of a vendor is declared with vendor N behind its code",
         DictKind::DuplicateCommand => text_of_head(parts.head(part)),

@@ -1,25 +1,27 @@
 //! The faults as they are told: each undefined name once.
 
-use dia_dict::{DictKind, Finding};
+use dia_dict::{DictKind, Finding, Part};
 use std::alloc::{AllocError, Global};
 
 /// A fault. Of the rules for an undefined name it is the first, `more` is how many more there are, and the first of those is what
 /// it doesn't go with.
 #[derive(Clone, Copy)]
 pub struct ToldFault<'a> {
-    pub finding: Finding<'a>,
+    pub finding: &'a Finding<'a>,
+    /// What the fault doesn't go with, which for an undefined name the finding doesn't say.
+    pub other: Option<Part>,
     pub more: usize,
 }
 
 /// The faults, of which those for one undefined name are one.
 pub fn told_faults<'a>(
     alloc: Global,
-    findings: &[Finding<'a>],
+    findings: &'a [Finding<'a>],
 ) -> Result<Vec<ToldFault<'a>>, AllocError> {
     let uses = uses_of(alloc, findings)?;
     let mut told = Vec::new(alloc);
     for (place, finding) in findings.iter().enumerate() {
-        if let Some(fault) = told_at(findings, &uses, place, *finding) {
+        if let Some(fault) = told_at(findings, &uses, place, finding) {
             told.push(fault)?;
         }
     }
@@ -46,25 +48,30 @@ fn told_at<'a>(
     findings: &[Finding<'a>],
     uses: &[(&str, usize)],
     place: usize,
-    finding: Finding<'a>,
+    finding: &'a Finding<'a>,
 ) -> Option<ToldFault<'a>> {
-    if finding.told.kind != DictKind::UndefinedName {
-        return Some(ToldFault { finding, more: 0 });
+    let mut other = finding.other;
+    let mut more = 0;
+    if finding.told.kind == DictKind::UndefinedName {
+        let name = finding.told.slot;
+        let of_name = uses.get(first_from(uses, name, 0)..first_from(uses, name, usize::MAX))?;
+        if of_name.first()?.1 != place {
+            return None;
+        }
+        if let Some((_, second)) = of_name.get(1) {
+            other = part_at(findings, *second);
+        }
+        more = of_name.len().saturating_sub(1);
     }
-    let name = finding.told.slot;
-    let of_name = uses.get(first_from(uses, name, 0)..first_from(uses, name, usize::MAX))?;
-    if of_name.first()?.1 != place {
-        return None;
-    }
-    let mut finding = finding;
-    if let Some((_, second)) = of_name.get(1) {
-        finding.other = match findings.get(*second) {
-            Some(second) => second.part,
-            None => None,
-        };
-    }
-    let more = of_name.len().saturating_sub(1);
-    Some(ToldFault { finding, more })
+    Some(ToldFault {
+        finding,
+        other,
+        more,
+    })
+}
+
+fn part_at(findings: &[Finding<'_>], place: usize) -> Option<Part> {
+    findings.get(place)?.part
 }
 
 /// The place of the first use that isn't before this place of a name.

@@ -4,20 +4,20 @@ use super::parts::Parts;
 use super::told::ToldFault;
 use crate::notes::push_line_column;
 use dia_ccf::{Head, Rule};
-use dia_dict::{Finding, MAX_PARTS, MAX_RULES, Part, greatest_count, least_count};
+use dia_dict::{MAX_PARTS, MAX_RULES, Part, greatest_count, least_count};
 use dia_explain_places::Note;
 use dia_wire::Key;
 
 /// Adds what a word stands for.
 pub fn push_value(note: &mut Note, parts: &Parts<'_>, fault: &ToldFault<'_>, word: &str) {
-    let Finding { told, part, other } = fault.finding;
+    let finding = fault.finding;
     match word {
-        "name" => note.put(told.name),
-        "slot" => note.put(told.slot),
-        "first" => note.put(parts.name(other).unwrap_or("")),
-        "declared" => push_coded(note, parts.key(other)),
+        "name" => note.put(finding.told.name),
+        "slot" => note.put(finding.told.slot),
+        "first" => note.put(parts.name(fault.other).unwrap_or("")),
+        "declared" => push_coded(note, parts.key(fault.other)),
         "more" => push_more(note, fault.more),
-        _ => push_part_value(note, parts, part, word),
+        _ => push_part_value(note, parts, finding.part, word),
     }
 }
 
