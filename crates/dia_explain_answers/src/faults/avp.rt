@@ -61,19 +61,28 @@ pub fn push_avp_word(note: &mut Note, scene: &InBody<'_>, word: &str) {
     match word {
         "key" => push_key(note, key, " and vendor "),
         "declared" => push_key(note, key, " vendor "),
-        "vendor" => match same_code(scene) {
-            Some(other) => push_vendor(note, other.key.vendor),
-            None => {}
-        },
-        "flag" => note.put(if flags_of(scene.own()) & AVP_MANDATORY != 0 {
-            "set"
-        } else {
-            "clear"
-        }),
+        "vendor" => push_other_vendor(note, scene),
+        "flag" => note.put(flag_word(scene.own())),
         "bytes" => note.put_number(data.len() as u64),
         "fits" => push_fitting(note, data.len()),
         "value" => push_shown_value(note, &Format::Integer32, data),
         _ => push_declared_word(note, scene, data, word),
+    }
+}
+
+/// Adds the vendor of an AVP with the same code.
+fn push_other_vendor(note: &mut Note, scene: &InBody<'_>) {
+    if let Some(other) = same_code(scene) {
+        push_vendor(note, other.key.vendor)
+    }
+}
+
+/// What the M flag of the AVP at the front of some bytes is.
+fn flag_word(own: &[u8]) -> &'static str {
+    if flags_of(own) & AVP_MANDATORY != 0 {
+        "set"
+    } else {
+        "clear"
     }
 }
 
@@ -84,29 +93,36 @@ fn push_declared_word(note: &mut Note, scene: &InBody<'_>, data: &[u8], word: &s
     };
     match word {
         "m" | "format" => note.put(avp.declared_word(word)),
-        // the lengths that data of the format may have
-        "lengths" => note.put(match avp.format.kind() {
-            FormatKind::EightBytes(_) => "8",
-            FormatKind::Address => {
-                "2 of family, and then 4 in family 1 (IPv4) or 16 in family 2 (IPv6)"
-            }
-            _ => "4",
-        }),
-        "bad" | "byte" | "rest" => push_bad_word(note, avp.format, data, word),
+        "lengths" => note.put(lengths_of(avp.format)),
+        "bad" => note.put_number(accepted_front(avp.format, data) as u64),
+        "byte" => push_bad_bytes(note, avp.format, data, 1),
+        "rest" => push_bad_bytes(note, avp.format, data, 4),
         _ => push_rule_word(note, scene, word),
     }
 }
 
-/// Adds what a word about the first byte in some data that its format doesn't accept stands for.
-fn push_bad_word(note: &mut Note, format: &Format, data: &[u8], word: &str) {
-    let bad = match (format, str::from_utf8(data)) {
+/// The lengths that data of a format may have.
+fn lengths_of(format: &Format) -> &'static str {
+    match format.kind() {
+        FormatKind::EightBytes(_) => "8",
+        FormatKind::Address => {
+            "2 of family, and then 4 in family 1 (IPv4) or 16 in family 2 (IPv6)"
+        }
+        _ => "4",
+    }
+}
+
+/// Adds this many bytes from the first one on that the format doesn't accept.
+fn push_bad_bytes(note: &mut Note, format: &Format, data: &[u8], count: usize) {
+    let bad = accepted_front(format, data);
+    push_hex(note, part(data, bad, bad.saturating_add(count)))
+}
+
+/// How many bytes at the front of some data a format of characters accepts.
+fn accepted_front(format: &Format, data: &[u8]) -> usize {
+    match (format, str::from_utf8(data)) {
         (Format::Utf8String, Err(error)) => error.valid_up_to(),
         _ => graphic_front(data),
-    };
-    match word {
-        "bad" => note.put_number(bad as u64),
-        "byte" => push_hex(note, part(data, bad, bad.saturating_add(1))),
-        _ => push_hex(note, part(data, bad, bad.saturating_add(4))),
     }
 }
 

@@ -45,16 +45,18 @@ impl Scene for AvpBytes<'_> {
             "flags" => push_flags(note, flags_of(bytes), &FLAGS),
             "length" => push_field(note, part(bytes, 5, 8)),
             "vendor" => push_field(note, part(bytes, 8, 12)),
-            "data" => {
-                let data = part(bytes, head_of(bytes), length_of(bytes));
-                if !data.is_empty() {
-                    note.put(", data ");
-                    push_hex(note, part(data, 0, SHOWN));
-                    note.put(if data.len() > SHOWN { ".." } else { "" })
-                }
-            }
+            "data" => push_data(note, part(bytes, head_of(bytes), length_of(bytes))),
             _ => push_hex(note, bytes),
         }
+    }
+}
+
+/// Adds the first bytes of data, if there is some.
+fn push_data(note: &mut Note, data: &[u8]) {
+    if !data.is_empty() {
+        note.put(", data ");
+        push_hex(note, part(data, 0, SHOWN));
+        note.put(if data.len() > SHOWN { ".." } else { "" })
     }
 }
 

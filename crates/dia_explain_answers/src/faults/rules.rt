@@ -15,36 +15,52 @@ pub fn place_behind(scene: &InBody<'_>) -> Option<usize> {
 
 /// Adds what a word about the rule that counts the AVP of a fault stands for.
 pub fn push_rule_word(note: &mut Note, scene: &InBody<'_>, word: &str) {
-    let Some(Counting { rule, found, .. }) = scene.counting else {
+    let Some(Counting { rule, found, .. }) = &scene.counting else {
         return;
     };
     match word {
-        "found" => note.put_number(found as u64),
+        "found" => note.put_number(*found as u64),
         // with the AVP at the place
         "count" => note.put_number(found.saturating_add(1) as u64),
         "behind" => note.put_number(place_behind(scene).unwrap_or(0) as u64),
-        "wanted" => {
-            note.put(if rule.max == Some(rule.min) {
-                ""
-            } else {
-                "at least "
-            });
-            note.put_number(u64::from(rule.min))
+        "wanted" => push_wanted(note, rule),
+        "most" => push_most(note, rule.max),
+        "loose" => push_loose(note, &scene.side, rule),
+        "unbounded" => push_rule(note, &scene.side, &unbounded(rule)),
+        "optional" => push_rule(note, &scene.side, &optional(rule)),
+        _ => push_rule(note, &scene.side, rule),
+    }
+}
+
+/// Adds how many AVPs a rule wants.
+fn push_wanted(note: &mut Note, rule: &DRule) {
+    if rule.max != Some(rule.min) {
+        note.put("at least ");
+    }
+    note.put_number(u64::from(rule.min))
+}
+
+/// Adds how many AVPs may stand.
+fn push_most(note: &mut Note, max: Option<u32>) {
+    match max {
+        Some(most) if most > 0 => {
+            note.put("at most ");
+            note.put_number(u64::from(most))
         }
-        "most" => match rule.max {
-            Some(most) if most > 0 => {
-                note.put("at most ");
-                note.put_number(u64::from(most))
-            }
-            _ => note.put("none"),
-        },
-        "loose" => push_loose(note, &scene.side, &rule),
-        "unbounded" => push_rule(note, &scene.side, &DRule { max: None, ..rule }),
-        "optional" => {
-            let kind = RuleKind::Optional;
-            let min = 0;
-            push_rule(note, &scene.side, &DRule { kind, min, ..rule })
-        }
-        _ => push_rule(note, &scene.side, &rule),
+        _ => note.put("none"),
+    }
+}
+
+/// The rule for any number of its AVPs.
+fn unbounded(rule: &DRule) -> DRule {
+    DRule { max: None, ..*rule }
+}
+
+/// The rule as one whose AVPs may be missing.
+fn optional(rule: &DRule) -> DRule {
+    DRule {
+        kind: RuleKind::Optional,
+        min: 0,
+        ..*rule
     }
 }
