@@ -79,8 +79,11 @@ fn parsed<'a, S: AsStr>(
         policies: POLICIES.as_slice(),
         senders: SENDERS.as_slice(),
     };
-    let mut line = command_line(alloc, values, command_rows())?;
-    asked_by(alloc, &mut line, words)
+    let rows = command_rows();
+    let mut line = command_line(alloc, values, rows.as_slice())?;
+    let asked = asked_by(alloc, &mut line, words);
+    drop(line);
+    asked
 }
 
 /// What the words ask for, by what clap makes of them with this line.

@@ -1,7 +1,7 @@
 //! The command line, made of the rows of the commands.
 
 ghost use Rattle.std.specs.Prelude.{◌≡◌, IfOk, false, map};
-ghost use Rattle.clap.specs.Words.{app_of, rule_of};
+ghost use Rattle.clap.specs.Words.{app_of, rule_of, with_subcommand};
 ghost use Rattle.dia_cli.specs.Lines.{IsLine, command_of, input_of, option_of, program_app};
 ghost use Rattle.dia_cli.specs.Lines.{has_globals};
 ghost use Rattle.dia_cli.specs.Rows.{input_rule, option_rule, row_shape, with_commands, with_inputs, with_options};
@@ -25,16 +25,35 @@ pub(crate) struct Words<'a> {
 pub(crate) fn command_line<'a>(
     alloc: Global,
     words: Words<'a>,
-    rows: &'a [CommandRow<'a>],
+    rows: &[CommandRow<'a>],
 ) -> Result<clap::Command<'a>, AllocError>
     ensures { IfOk result (λ line. app_of line
         ≡ with_commands words.entry.policies words.entry.senders program_app (map command_of rows.now)) }
 {
     let mut line = program(alloc, words.version);
     for row in rows {
-        line = line.subcommand(row.line(alloc, words)?)?;
+        line = with_command(alloc, words, line, row)?;
     }
     Ok(line)
+}
+
+/// A line with this command too.
+fn with_command<'a>(
+    alloc: Global,
+    words: Words<'a>,
+    line: clap::Command<'a>,
+    row: &CommandRow<'a>,
+) -> Result<clap::Command<'a>, AllocError>
+    ensures { IfOk result (λ all. app_of all ≡ with_subcommand (app_of line.entry)
+        (row_shape words.entry.policies words.entry.senders (command_of row.now))) }
+{
+    match row.line(alloc, words) {
+        Ok(command) => line.subcommand(command),
+        Err(error) => {
+            drop(line);
+            Err(error)
+        }
+    }
 }
 
 /// The command line without its commands.

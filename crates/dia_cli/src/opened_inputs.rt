@@ -1,6 +1,6 @@
 //! The inputs, read from where they come from.
 
-ghost use Rattle.std.specs.Prelude.{◌≡◌, IfOk, IfErr, IfSome};
+ghost use Rattle.std.specs.Prelude.{◌≡◌, ◌⊎◌, IfOk, IfErr, IfSome};
 ghost use Rattle.dia_io.specs.Inputs.{IsWhole};
 ghost use Rattle.dia_cli.specs.OpenedInputs.{IsAnyUnread, IsFaultOf, IsInputOf};
 ghost use Rattle.dia_cli.specs.OpenedInputs.{IsReadOf, IsUnread, IsWithin, input_of};
@@ -23,16 +23,30 @@ pub fn open_inputs<'a, O: Opener>(
     ensures ok { IfOk result (IsReadOf (O.content opener.now) (O.input opener.now) origins.now) }
     ensures err { IfErr result (IsAnyUnread origins.now) }
 {
-    let first = open_input(alloc, opener, origins.first)?;
-    let second = open_input(alloc, opener, origins.second)?;
-    let table = open_input(alloc, opener, origins.table)?;
-    let message = open_input(alloc, opener, origins.message)?;
+    let (first, second) = open_two(alloc, opener, origins.first, origins.second)?;
+    let (table, message) = open_two(alloc, opener, origins.table, origins.message)?;
     Ok(Inputs {
         first,
         second,
         table,
         message,
     })
+}
+
+/// Reads two inputs whole, one after the other.
+fn open_two<'a, O: Opener>(
+    alloc: Global,
+    opener: &O,
+    first: Origin<'a>,
+    second: Origin<'a>,
+) -> Result<(Text, Text), Ending<'a>>
+    ensures first { IfOk result (λ two. IsInputOf (O.content opener.now) (O.input opener.now) first.entry two.0) }
+    ensures second { IfOk result (λ two. IsInputOf (O.content opener.now) (O.input opener.now) second.entry two.1) }
+    ensures err { IfErr result (λ made. IsUnread first.entry made ⊎ IsUnread second.entry made) }
+{
+    let first = open_input(alloc, opener, first)?;
+    let second = open_input(alloc, opener, second)?;
+    Ok((first, second))
 }
 
 fn open_input<'a, O: Opener>(

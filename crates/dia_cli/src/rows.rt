@@ -3,6 +3,8 @@
 ghost use Rattle.std.specs.Prelude.{◌≡◌, map};
 ghost use Rattle.dia_cli.specs.Lines.{command_of};
 ghost use Rattle.dia_cli.specs.Rows.{command_rows};
+ghost use Rattle.dia_cli.specs.Rows.{breaking_row, check_row, compare_row, make_row};
+ghost use Rattle.dia_cli.specs.Rows.{propose_row, refute_row, render_row, show_row};
 
 use crate::origin::{BASE_DICTIONARY, NO_TABLE};
 
@@ -108,187 +110,192 @@ const B: InputRow<'static> = InputRow {
     help: "The second dictionary text: a file, @base, or - for standard input",
 };
 
-static ROWS: [CommandRow<'static>; 8] = [
-    CommandRow {
-        name: "show",
-        about: "Prints a message: its header, and a line for each AVP",
-        options: &[
-            QUIET,
-            DICT,
-            OptionRow {
-                id: "as-text",
-                value: Value::Nothing,
-                help: "Prints the message as a text that make reads",
+const SHOW: CommandRow<'static> = CommandRow {
+    name: "show",
+    about: "Prints a message: its header, and a line for each AVP",
+    options: &[
+        QUIET,
+        DICT,
+        OptionRow {
+            id: "as-text",
+            value: Value::Nothing,
+            help: "Prints the message as a text that make reads",
+        },
+        OptionRow {
+            id: "names",
+            value: Value::Nothing,
+            help: "Prints flags as letters, the name of the command, dates, and texts as texts, with levels indented",
+        },
+        OptionRow {
+            id: "values",
+            value: Value::Word {
+                name: "FILE",
+                default: NO_TABLE,
             },
-            OptionRow {
-                id: "names",
-                value: Value::Nothing,
-                help: "Prints flags as letters, the name of the command, dates, and texts as texts, with levels indented",
-            },
-            OptionRow {
-                id: "values",
-                value: Value::Word {
-                    name: "FILE",
-                    default: NO_TABLE,
-                },
-                help: "The words of numbers, as lines AVP-NAME NUMBER WORD: a file, @none, or - for standard input",
-            },
-            OptionRow {
-                id: "lines",
-                value: Value::Nothing,
-                help: "Prints the message of each line, behind the number of the line",
-            },
-            JSON,
-        ],
-        inputs: &[InputRow {
+            help: "The words of numbers, as lines AVP-NAME NUMBER WORD: a file, @none, or - for standard input",
+        },
+        OptionRow {
+            id: "lines",
+            value: Value::Nothing,
+            help: "Prints the message of each line, behind the number of the line",
+        },
+        JSON,
+    ],
+    inputs: &[InputRow {
+        id: "MESSAGE",
+        count: Count::One,
+        help: "A file of hexadecimal text, white space ignored; with --lines, of a message a line; - for standard input",
+    }],
+};
+
+const MAKE: CommandRow<'static> = CommandRow {
+    name: "make",
+    about: "Prints the messages that a text writes, a line of hexadecimal text each",
+    options: &[QUIET, DICT],
+    inputs: &[InputRow {
+        id: "TEXT",
+        count: Count::One,
+        help: "A file of messages as show --as-text prints them; - for standard input",
+    }],
+};
+
+const CHECK: CommandRow<'static> = CommandRow {
+    name: "check",
+    about: "Tells whether a message is valid for a dictionary, or its first fault",
+    options: &[
+        QUIET,
+        UNKNOWN,
+        LEVELS,
+        OptionRow {
+            id: "lines",
+            value: Value::Nothing,
+            help: "Tells of each line, a message, whether it is valid",
+        },
+        OptionRow {
+            id: "stream",
+            value: Value::Nothing,
+            help: "Tells of each message of a stream, with its place, whether it is valid",
+        },
+        JSON,
+    ],
+    inputs: &[
+        D,
+        InputRow {
+            id: "MESSAGE",
+            count: Count::One,
+            help: "A file of hexadecimal text, white space ignored; with --lines, of a message a line; with --stream, of messages back to back; - for standard input",
+        },
+    ],
+};
+
+const RENDER: CommandRow<'static> = CommandRow {
+    name: "render",
+    about: "Prints the canonical text of a dictionary",
+    options: &[QUIET],
+    inputs: &[D],
+};
+
+const COMPARE: CommandRow<'static> = CommandRow {
+    name: "compare",
+    about: "Tells whether a table of pairs shows that what is valid for A is valid for B",
+    options: &[QUIET, UNKNOWN, JSON],
+    inputs: &[
+        A,
+        B,
+        InputRow {
+            id: "TABLE",
+            count: Count::One,
+            help: "A table of pairs of names: a file, @none, or - for standard input",
+        },
+    ],
+};
+
+const REFUTE: CommandRow<'static> = CommandRow {
+    name: "refute",
+    about: "Tells whether a message is valid for A and not for B",
+    options: &[
+        QUIET,
+        UNKNOWN,
+        LEVELS,
+        OptionRow {
+            id: "lines",
+            value: Value::Nothing,
+            help: "Tells of each line, a message, whether it is valid for A and not for B",
+        },
+        JSON,
+    ],
+    inputs: &[
+        A,
+        B,
+        InputRow {
             id: "MESSAGE",
             count: Count::One,
             help: "A file of hexadecimal text, white space ignored; with --lines, of a message a line; - for standard input",
-        }],
-    },
-    CommandRow {
-        name: "make",
-        about: "Prints the messages that a text writes, a line of hexadecimal text each",
-        options: &[QUIET, DICT],
-        inputs: &[InputRow {
-            id: "TEXT",
-            count: Count::One,
-            help: "A file of messages as show --as-text prints them; - for standard input",
-        }],
-    },
-    CommandRow {
-        name: "check",
-        about: "Tells whether a message is valid for a dictionary, or its first fault",
-        options: &[
-            QUIET,
-            UNKNOWN,
-            LEVELS,
-            OptionRow {
-                id: "lines",
-                value: Value::Nothing,
-                help: "Tells of each line, a message, whether it is valid",
+        },
+    ],
+};
+
+const PROPOSE: CommandRow<'static> = CommandRow {
+    name: "propose",
+    about: "Prints the least table of pairs for commands of A",
+    options: &[QUIET, UNKNOWN, JSON],
+    inputs: &[
+        A,
+        B,
+        InputRow {
+            id: "COMMAND",
+            count: Count::Some,
+            help: "The name of a command of A",
+        },
+    ],
+};
+
+const BREAKING: CommandRow<'static> = CommandRow {
+    name: "breaking",
+    about: "Prints each way in which messages that are valid for A aren't valid for B",
+    options: &[
+        QUIET,
+        UNKNOWN,
+        OptionRow {
+            id: "sends",
+            value: Value::Sender,
+            help: "Which AVPs the side of A sends: any that A allows, those that A knows, or those that a rule names",
+        },
+        OptionRow {
+            id: "messages",
+            value: Value::Nothing,
+            help: "Prints behind each line a message that shows it, as hexadecimal text",
+        },
+        OptionRow {
+            id: "once",
+            value: Value::Nothing,
+            help: "Prints one line a cause, with the number of commands that have it, and the first place",
+        },
+        OptionRow {
+            id: "meaning",
+            value: Value::Nothing,
+            help: "Prints too which AVPs are read as another format",
+        },
+        OptionRow {
+            id: "accepted",
+            value: Value::Word {
+                name: "FILE",
+                default: NO_TABLE,
             },
-            OptionRow {
-                id: "stream",
-                value: Value::Nothing,
-                help: "Tells of each message of a stream, with its place, whether it is valid",
-            },
-            JSON,
-        ],
-        inputs: &[
-            D,
-            InputRow {
-                id: "MESSAGE",
-                count: Count::One,
-                help: "A file of hexadecimal text, white space ignored; with --lines, of a message a line; with --stream, of messages back to back; - for standard input",
-            },
-        ],
-    },
-    CommandRow {
-        name: "render",
-        about: "Prints the canonical text of a dictionary",
-        options: &[QUIET],
-        inputs: &[D],
-    },
-    CommandRow {
-        name: "compare",
-        about: "Tells whether a table of pairs shows that what is valid for A is valid for B",
-        options: &[QUIET, UNKNOWN, JSON],
-        inputs: &[
-            A,
-            B,
-            InputRow {
-                id: "TABLE",
-                count: Count::One,
-                help: "A table of pairs of names: a file, @none, or - for standard input",
-            },
-        ],
-    },
-    CommandRow {
-        name: "refute",
-        about: "Tells whether a message is valid for A and not for B",
-        options: &[
-            QUIET,
-            UNKNOWN,
-            LEVELS,
-            OptionRow {
-                id: "lines",
-                value: Value::Nothing,
-                help: "Tells of each line, a message, whether it is valid for A and not for B",
-            },
-            JSON,
-        ],
-        inputs: &[
-            A,
-            B,
-            InputRow {
-                id: "MESSAGE",
-                count: Count::One,
-                help: "A file of hexadecimal text, white space ignored; with --lines, of a message a line; - for standard input",
-            },
-        ],
-    },
-    CommandRow {
-        name: "propose",
-        about: "Prints the least table of pairs for commands of A",
-        options: &[QUIET, UNKNOWN, JSON],
-        inputs: &[
-            A,
-            B,
-            InputRow {
-                id: "COMMAND",
-                count: Count::Some,
-                help: "The name of a command of A",
-            },
-        ],
-    },
-    CommandRow {
-        name: "breaking",
-        about: "Prints each way in which messages that are valid for A aren't valid for B",
-        options: &[
-            QUIET,
-            UNKNOWN,
-            OptionRow {
-                id: "sends",
-                value: Value::Sender,
-                help: "Which AVPs the side of A sends: any that A allows, those that A knows, or those that a rule names",
-            },
-            OptionRow {
-                id: "messages",
-                value: Value::Nothing,
-                help: "Prints behind each line a message that shows it, as hexadecimal text",
-            },
-            OptionRow {
-                id: "once",
-                value: Value::Nothing,
-                help: "Prints one line a cause, with the number of commands that have it, and the first place",
-            },
-            OptionRow {
-                id: "meaning",
-                value: Value::Nothing,
-                help: "Prints too which AVPs are read as another format",
-            },
-            OptionRow {
-                id: "accepted",
-                value: Value::Word {
-                    name: "FILE",
-                    default: NO_TABLE,
-                },
-                help: "Lines that are known, as this command prints them, which aren't printed: a file, @none, or - for standard input",
-            },
-            JSON,
-        ],
-        inputs: &[
-            A,
-            B,
-            InputRow {
-                id: "COMMAND",
-                count: Count::Any,
-                help: "The name of a command of A; without any, all of A",
-            },
-        ],
-    },
-];
+            help: "Lines that are known, as this command prints them, which aren't printed: a file, @none, or - for standard input",
+        },
+        JSON,
+    ],
+    inputs: &[
+        A,
+        B,
+        InputRow {
+            id: "COMMAND",
+            count: Count::Any,
+            help: "The name of a command of A; without any, all of A",
+        },
+    ],
+};
 
 /// What the statuses of the process mean, of each command in the order of the rows.
 pub(crate) const STATUSES: &str = "Status:
@@ -297,9 +304,66 @@ pub(crate) const STATUSES: &str = "Status:
   2  bad input, or a bad command line
   3  a file or a device failed, or memory was refused";
 
-/// The commands of the program. It stands alone, since each function that reads the rows is proved with all of them.
-pub(crate) fn command_rows<'a>() -> &'a [CommandRow<'a>]
-    ensures { map command_of result.now ≡ command_rows }
+/// The commands of the program. Each row has a function of its own, since a proof of all of them together takes longer.
+pub(crate) fn command_rows<'a>() -> [CommandRow<'a>; 8]
+    ensures { map command_of result ≡ command_rows }
 {
-    ROWS.as_slice()
+    [
+        show_row(),
+        make_row(),
+        check_row(),
+        render_row(),
+        compare_row(),
+        refute_row(),
+        propose_row(),
+        breaking_row(),
+    ]
+}
+
+fn show_row<'a>() -> CommandRow<'a>
+    ensures { command_of result ≡ show_row }
+{
+    SHOW
+}
+
+fn make_row<'a>() -> CommandRow<'a>
+    ensures { command_of result ≡ make_row }
+{
+    MAKE
+}
+
+fn check_row<'a>() -> CommandRow<'a>
+    ensures { command_of result ≡ check_row }
+{
+    CHECK
+}
+
+fn render_row<'a>() -> CommandRow<'a>
+    ensures { command_of result ≡ render_row }
+{
+    RENDER
+}
+
+fn compare_row<'a>() -> CommandRow<'a>
+    ensures { command_of result ≡ compare_row }
+{
+    COMPARE
+}
+
+fn refute_row<'a>() -> CommandRow<'a>
+    ensures { command_of result ≡ refute_row }
+{
+    REFUTE
+}
+
+fn propose_row<'a>() -> CommandRow<'a>
+    ensures { command_of result ≡ propose_row }
+{
+    PROPOSE
+}
+
+fn breaking_row<'a>() -> CommandRow<'a>
+    ensures { command_of result ≡ breaking_row }
+{
+    BREAKING
 }

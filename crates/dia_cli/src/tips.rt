@@ -31,21 +31,21 @@ fn better_fault(alloc: Global, words: &[String], fault: &clap::Error) -> Option<
     ensures kind { IfSome result (λ better. kind_of better ≡ UnknownArgument) }
 {
     match fault.kind() {
-        ErrorKind::UnknownArgument => unexpected(alloc, words),
+        ErrorKind::UnknownArgument => unexpected(alloc, command_rows().as_slice(), words),
         _ => None,
     }
 }
 
 /// What is told of an argument that isn't expected.
-fn unexpected(alloc: Global, words: &[String]) -> Option<clap::Error>
+fn unexpected(alloc: Global, rows: &[CommandRow<'_>], words: &[String]) -> Option<clap::Error>
     ensures { IfSome result (λ fault. kind_of fault ≡ UnknownArgument) }
 {
-    let row = row_of(command_rows(), words.get(1)?.as_str())?;
+    let row = row_of(rows, words.get(1)?.as_str())?;
     let rest = words.get(2..)?;
     if has_dict(row) {
         given(alloc, row, rest)
     } else if is_given_dict(rest) {
-        worded(alloc, row)
+        worded(alloc, rows, row)
     } else {
         None
     }
@@ -149,15 +149,19 @@ fn given(alloc: Global, row: &CommandRow<'_>, rest: &[String]) -> Option<clap::E
 }
 
 /// What is told of `--dict` for a command whose dictionaries are words.
-fn worded(alloc: Global, row: &CommandRow<'_>) -> Option<clap::Error>
+fn worded(alloc: Global, rows: &[CommandRow<'_>], row: &CommandRow<'_>) -> Option<clap::Error>
     ensures { IfSome result (λ fault. kind_of fault ≡ UnknownArgument) }
 {
-    fault(alloc, row, only_with_dict(alloc, row.name))
+    fault(alloc, row, only_with_dict(alloc, rows, row.name))
 }
 
 /// That only some commands have `--dict`, and not this one.
-fn only_with_dict(alloc: Global, command: &str) -> Result<String, AllocError> {
-    let names = with_dict(alloc, command_rows())?;
+fn only_with_dict(
+    alloc: Global,
+    rows: &[CommandRow<'_>],
+    command: &str,
+) -> Result<String, AllocError> {
+    let names = with_dict(alloc, rows)?;
     format!(in alloc;
         "unexpected argument '--dict' found\n\n  tip: only {names} have --dict, and \
          {command} takes each dictionary as a word"
@@ -185,5 +189,7 @@ fn fault_of(alloc: Global, told: &str, usage: &str) -> Option<clap::Error>
     ensures { IfSome result (λ fault. kind_of fault ≡ UnknownArgument) }
 {
     let mut line = clap::Command::new(alloc, "diacmd").override_usage(usage);
-    line.error(ErrorKind::UnknownArgument, told).ok()
+    let fault = line.error(ErrorKind::UnknownArgument, told);
+    drop(line);
+    fault.ok()
 }

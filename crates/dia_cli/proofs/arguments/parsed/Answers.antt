@@ -1,6 +1,6 @@
 use Rattle.std.proofs.Common.{◌≡◌, ◌∙◌, ap, map, refl, rules, subst, sym}
 use Rattle.clap.specs.Words.{app_of}
-use Rattle.dia_cli.specs.Lines.{program_app}
+use Rattle.dia_cli.specs.Lines.{command_of, program_app}
 use Rattle.dia_cli.specs.Rows.{with_commands}
 use Rattle.dia_cli.specs.Asking.{IsProgram, line_shape}
 use Rattle.dia_cli.proofs.Words.{none_is_refused}
@@ -11,16 +11,16 @@ returns-clause-words g c =
     let program : IsProgram (line_shape c.as_slice.result c.as_slice-2.result) =
     record { policies = c.as_slice.result; senders = c.as_slice-2.result; two = search rules; three = search rules; shape = refl } in
     let line : app_of c.in_ok-line.line ≡ line_shape c.as_slice.result c.as_slice-2.result =
-    c.in_ok-line.ensures ∙ ap (with_commands c.as_slice.result c.as_slice-2.result program_app) c.command_rows.ensures in
-    c.asked_by.ensures.words (subst IsProgram (sym line) program)
+    c.in_ok-line.ensures ∙ ap (with_commands c.as_slice.result c.as_slice-2.result program_app) (ap (map command_of) c.as_slice-3.ensures ∙ c.command_rows-rows.ensures) in
+    c.asked_by-asked.ensures.words (subst IsProgram (sym line) program)
 
 pub returns-clause-refused : goal.returns-clause-refused
 returns-clause-refused g c =
     let program : IsProgram (line_shape c.as_slice.result c.as_slice-2.result) =
     record { policies = c.as_slice.result; senders = c.as_slice-2.result; two = search rules; three = search rules; shape = refl } in
     let line : app_of c.in_ok-line.line ≡ line_shape c.as_slice.result c.as_slice-2.result =
-    c.in_ok-line.ensures ∙ ap (with_commands c.as_slice.result c.as_slice-2.result program_app) c.command_rows.ensures in
-    c.asked_by.ensures.refused (subst IsProgram (sym line) program)
+    c.in_ok-line.ensures ∙ ap (with_commands c.as_slice.result c.as_slice-2.result program_app) (ap (map command_of) c.as_slice-3.ensures ∙ c.command_rows-rows.ensures) in
+    c.asked_by-asked.ensures.refused (subst IsProgram (sym line) program)
 
 pub returns-in_err-line-clause-refused : goal.returns-in_err-line-clause-refused
 returns-in_err-line-clause-refused g c =
