@@ -2,11 +2,12 @@
 
 ghost use Rattle.std.specs.Prelude.{IsTrue};
 
-use crate::front::Front;
+use crate::front::{Front, is_telling};
 use crate::inputs::word_of;
 use crate::manner::Manner;
+use crate::telling::tell_made;
 use dia_captures::{Captured, Lines, check_lines, check_stream, refute_lines};
-use dia_cli::{Ending, Origin, Origins};
+use dia_cli::{Ending, Origin, Origins, STANDARD_INPUT};
 use dia_explain_answers::{Asked, push_check_alone, push_refute_alone};
 use dia_explain_inputs::push_front;
 use dia_explain_places::Note;
@@ -98,26 +99,38 @@ pub fn captured<'a, R>(
 where
     R: AllocGlobal + Files + Input + Print + Eprint,
 {
-    let reported = match origins.messages {
-        Origin::File { path, .. } => match fs::open(rt, path) {
-            Ok(file) => answer(rt, capture, inputs, file, path, manner)?,
-            Err(error) => {
-                return Err(Ending::Device {
-                    name: path,
-                    error: Some(error),
-                });
-            }
-        },
-        _ => answer(rt, capture, inputs, rt.reader(), "-", manner)?,
-    };
-    if !manner.quiet && reported.exit == Exit::No {
+    let answered = answer_messages(rt, capture, inputs, origins.messages, manner);
+    if !manner.quiet && matches!(&answered, Ok(Reported { exit: Exit::No, .. })) {
         advise(rt, capture, origins);
     }
-    Ok(reported)
+    answered
 }
 
-/// Writes what a command says of the messages that a reader gives, and tells how many lines are as they should be, and what the
-/// others say, unless it is to be quiet or the device fails. `name` is the word that names the reader.
+/// Writes what a command says of the messages that a file or standard input has.
+fn answer_messages<'a, R>(
+    rt: &R,
+    capture: Capture,
+    inputs: &Inputs,
+    messages: Origin<'a>,
+    manner: Manner,
+) -> Result<Reported, Ending<'a>>
+where
+    R: AllocGlobal + Files + Input + Print + Eprint,
+{
+    match messages {
+        Origin::File { path, .. } => match fs::open(rt, path) {
+            Ok(file) => answer(rt, capture, inputs, file, path, manner),
+            Err(error) => Err(Ending::Device {
+                name: path,
+                error: Some(error),
+            }),
+        },
+        _ => answer(rt, capture, inputs, rt.reader(), STANDARD_INPUT, manner),
+    }
+}
+
+/// Writes what a command says of the messages that a reader gives, and tells what came of them, unless it is to be quiet. `name`
+/// is the word that names the reader.
 fn answer<'a, R, D>(
     rt: &R,
     capture: Capture,
@@ -139,19 +152,31 @@ where
         capture.run(alloc, inputs, &mut feed, &mut sink)
     };
     match ended {
-        Ok(Captured { reported, summary }) => {
-            if !manner.quiet && reported.exit != Exit::Bad {
-                if let Some(text) = summary {
-                    let _ = eprint!(rt; "{text}");
-                }
-                if feed.is_telling() {
-                    tell_front(rt, name, capture.lines, &feed.kept);
-                }
+        Ok(captured) => {
+            if !manner.quiet {
+                tell(rt, capture.lines, &captured, name, &feed.kept);
             }
-            Ok(reported)
+            Ok(captured.reported)
         }
         Err(fault) => Err(ending_of(fault, name, sink.failure(), feed.feed.failure())),
     }
+}
+
+/// Tells how many lines are as they should be, and what the others say, unless an input is refused or the device fails.
+fn tell<R: AllocGlobal + Eprint>(
+    rt: &R,
+    lines: Lines,
+    captured: &Captured,
+    name: &str,
+    front: &[u8],
+) {
+    if matches!(captured.reported.exit, Exit::Bad) {
+        return;
+    }
+    if let Some(text) = &captured.summary {
+        let _ = rt.eprint(text);
+    }
+    tell_front(rt, name, lines, front);
 }
 
 /// How the program ends where lines weren't answered to their end. `name` is the word that names their text; `output` and `input`
@@ -186,16 +211,15 @@ fn advise<R: AllocGlobal + Eprint>(rt: &R, capture: Capture, origins: &Origins<'
         Lines::Refuted => push_refute_alone(&mut note, messages, &asked, first, second),
         Lines::Placed => {}
     }
-    if let Ok(text) = note.finish() {
-        let _ = eprint!(rt; "{text}");
-    }
+    tell_made(rt, note.finish());
 }
 
 /// Tells what a text is whose front shows that it has no messages, or not one a line.
 pub fn tell_front<R: AllocGlobal + Eprint>(rt: &R, name: &str, lines: Lines, front: &[u8]) {
+    if !is_telling(front) {
+        return;
+    }
     let mut note = Note::new(rt.alloc());
     push_front(&mut note, name, front, lines != Lines::Placed);
-    if let Ok(text) = note.finish() {
-        let _ = eprint!(rt; "{text}");
-    }
+    tell_made(rt, note.finish());
 }

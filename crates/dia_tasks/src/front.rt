@@ -26,11 +26,11 @@ impl<F: Feed> Front<F> {
             kept: Vec::new(alloc),
         }
     }
+}
 
-    /// Whether what is kept shows how the text begins: it is all of the text, or more than blanks.
-    pub fn is_telling(&self) -> bool {
-        self.kept.len() < MOST || self.kept.iter().any(|byte| !is_white(*byte))
-    }
+/// Whether what is kept shows how the text begins: it is all of the text, or more than blanks.
+pub fn is_telling(kept: &[u8]) -> bool {
+    kept.len() < MOST || kept.iter().any(|byte| !is_white(*byte))
 }
 
 /// Keeps bytes up to the limit. Where memory is refused, none of them.

@@ -11,6 +11,7 @@ mod manner;
 mod notes;
 mod running;
 mod showing;
+mod telling;
 mod text;
 
 pub use inputs::texts_of;

@@ -25,22 +25,34 @@ pub fn list_lines<'a, R>(
 where
     R: AllocGlobal + Files + Input + Print + Eprint,
 {
-    let reported = match origins.messages {
-        Origin::File { path, .. } => match fs::open(rt, path) {
-            Ok(file) => list(rt, names, inputs, origins, quiet, file)?,
-            Err(error) => {
-                return Err(Ending::Device {
-                    name: path,
-                    error: Some(error),
-                });
-            }
-        },
-        _ => list(rt, names, inputs, origins, quiet, rt.reader())?,
-    };
-    if !quiet && reported.exit == Exit::No {
-        advise(rt, origins);
+    let listed = list_messages(rt, names, inputs, origins, quiet);
+    if !quiet && matches!(&listed, Ok(Reported { exit: Exit::No, .. })) {
+        advise(rt, word_of(origins.messages), word_of(origins.first));
     }
-    Ok(reported)
+    listed
+}
+
+/// Shows the lines that a file or standard input has.
+fn list_messages<'a, R>(
+    rt: &R,
+    names: bool,
+    inputs: &Inputs,
+    origins: &Origins<'a>,
+    quiet: bool,
+) -> Result<Reported, Ending<'a>>
+where
+    R: AllocGlobal + Files + Input + Print + Eprint,
+{
+    match origins.messages {
+        Origin::File { path, .. } => match fs::open(rt, path) {
+            Ok(file) => list(rt, names, inputs, origins, quiet, file),
+            Err(error) => Err(Ending::Device {
+                name: path,
+                error: Some(error),
+            }),
+        },
+        _ => list(rt, names, inputs, origins, quiet, rt.reader()),
+    }
 }
 
 /// Shows the lines that a reader gives.
@@ -61,36 +73,30 @@ where
     let mut feed = Front::new(alloc, FromReader::new(reader));
     let mut sink = ToWriter::new(io::writer(rt));
     match show_lines(alloc, names, inputs, &mut feed, &mut sink) {
-        Ok(dia_show::Reported { exit, report }) => {
-            if !quiet && exit != Exit::Bad && feed.is_telling() {
+        Ok(reported) => {
+            if !quiet && !matches!(reported.exit, Exit::Bad) {
                 tell_front(rt, name, Lines::Checked, &feed.kept);
             }
-            let report = told_of(rt, report, origins, quiet);
-            Ok(Reported { exit, report })
+            Ok(told_of(rt, reported, origins, quiet))
         }
         Err(fault) => Err(ending_of(fault, name, sink.failure(), feed.feed.failure())),
     }
 }
 
 /// Tells how one line is explained by itself. Where the device fails, nothing is told.
-fn advise<R: Eprint>(rt: &R, origins: &Origins<'_>) {
-    let messages = word_of(origins.messages);
-    let dictionary = word_of(origins.first);
-    let dict = if dictionary == BASE_DICTIONARY {
-        ""
+fn advise<R: Eprint>(rt: &R, messages: &str, dictionary: &str) {
+    let (dict, dictionary) = if dictionary == BASE_DICTIONARY {
+        ("", "")
     } else {
-        " --dict "
+        (" --dict ", dictionary)
     };
-    let dictionary = if dictionary == BASE_DICTIONARY {
-        ""
+    if messages == STANDARD_INPUT {
+        let _ = eprint!(rt;
+            "hint: of a line alone, `diacmd show{dict}{dictionary} -` explains the fault\n"
+        );
     } else {
-        dictionary
-    };
-    let _ = if messages == STANDARD_INPUT {
-        eprint!(rt; "hint: of a line alone, `diacmd show{dict}{dictionary} -` explains the fault\n")
-    } else {
-        eprint!(rt;
+        let _ = eprint!(rt;
             "hint: `sed -n NUMBERp {messages} | diacmd show{dict}{dictionary} -` explains the fault of the line with that number\n"
-        )
-    };
+        );
+    }
 }

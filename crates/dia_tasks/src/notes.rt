@@ -1,5 +1,6 @@
 //! The note of a report: what is told on standard error of an input that is refused, and of an answer that isn't yes.
 
+use crate::telling::tell_made;
 use dia_explain_answers::{push_answer, push_unnamed};
 use dia_explain_inputs::{
     push_empty, push_length, push_no_pairs, push_refused, push_strangers, push_unknown_commands,
@@ -34,9 +35,7 @@ pub fn note<R: AllocGlobal + Eprint>(
         },
         Report::Done | Report::Shown(_) | Report::Cut(_) => {}
     }
-    if let Ok(text) = note.finish() {
-        let _ = eprint!(rt; "{text}");
-    }
+    tell_made(rt, note.finish());
 }
 
 /// Tells how AVPs are named that the base dictionary doesn't have. `sign` is what stands for a name in what was shown. Where
@@ -48,7 +47,5 @@ pub fn note_unnamed<R: AllocGlobal + Eprint>(rt: &R, report: &Report, sign: &str
         Report::Cut(listing) => push_unnamed(&mut note, &listing.message, sign),
         _ => {}
     }
-    if let Ok(text) = note.finish() {
-        let _ = eprint!(rt; "{text}");
-    }
+    tell_made(rt, note.finish());
 }

@@ -35,14 +35,9 @@ where
     R: AllocGlobal + Files + Input + Print + Eprint,
 {
     let quiet = manner.quiet;
-    let has_values = !matches!(origins.table, Origin::Nowhere);
     let ended = match task {
         Task::Breaking(asked) => return Ok(Outcome::Breaking(asked)),
-        Task::Whole(command) if manner.json => answer_as_json(rt, command, inputs),
-        Task::Whole(Command::Show) if has_values => {
-            show_named(rt, false, inputs, origins, quiet)
-        }
-        Task::Whole(command) => answer(rt, command, inputs),
+        Task::Whole(command) => run_whole(rt, command, inputs, origins, manner),
         Task::ShowNamed => show_named(rt, true, inputs, origins, quiet),
         Task::ShowLines { names } => list_lines(rt, *names, inputs, origins, quiet),
         Task::Make => made(rt, inputs, origins.message, quiet),
@@ -60,32 +55,66 @@ where
             captured(rt, capture, inputs, origins, manner)
         }
     };
-    let Reported { exit, report } = ended?;
-    if !quiet {
-        tell(rt, task, inputs, origins, &report);
+    match ended {
+        Ok(Reported { exit, report }) => {
+            tell(rt, task, inputs, origins, quiet, report);
+            Ok(Outcome::Done(exit))
+        }
+        Err(ending) => Err(ending),
     }
-    Ok(Outcome::Done(exit))
 }
 
-/// Explains what a task reports on standard error.
+/// Runs a command whose inputs were read whole.
+fn run_whole<'a, R>(
+    rt: &R,
+    command: &Command,
+    inputs: &Inputs,
+    origins: &Origins<'a>,
+    manner: Manner,
+) -> Result<Reported, Ending<'a>>
+where
+    R: AllocGlobal + Print + Eprint,
+{
+    if manner.json {
+        return answer_as_json(rt, command, inputs);
+    }
+    match (command, origins.table) {
+        (Command::Show, Origin::Nowhere) => answer(rt, command, inputs),
+        (Command::Show, _) => show_named(rt, false, inputs, origins, manner.quiet),
+        _ => answer(rt, command, inputs),
+    }
+}
+
+/// Explains what a task reports on standard error, unless it is to be quiet.
 fn tell<R: AllocGlobal + Eprint>(
     rt: &R,
     task: &Task,
     inputs: &Inputs,
     origins: &Origins<'_>,
-    report: &Report,
+    quiet: bool,
+    report: Report,
 ) {
-    // The names of the commands that are proposed for.
-    let names: &[String] = match task {
+    if !quiet {
+        note(rt, &texts_of(origins, inputs), names_of(task), &report);
+        if matches!(origins.first, Origin::Base) {
+            tell_unnamed(rt, task, &report);
+        }
+    }
+}
+
+/// The names of the commands that are proposed for.
+fn names_of(task: &Task) -> &[String] {
+    match task {
         Task::Whole(Command::Propose { names, .. }) => names.as_slice(),
         _ => &[],
-    };
-    note(rt, &texts_of(origins, inputs), names, report);
-    if matches!(origins.first, Origin::Base) {
-        match task {
-            Task::Whole(Command::Show) | Task::ShowNamed => note_unnamed(rt, report, "?"),
-            Task::ShowText => note_unnamed(rt, report, "a number in place of a name"),
-            _ => {}
-        }
+    }
+}
+
+/// Tells how AVPs are named that the base dictionary doesn't have, where a message was shown.
+fn tell_unnamed<R: AllocGlobal + Eprint>(rt: &R, task: &Task, report: &Report) {
+    match task {
+        Task::Whole(Command::Show) | Task::ShowNamed => note_unnamed(rt, report, "?"),
+        Task::ShowText => note_unnamed(rt, report, "a number in place of a name"),
+        _ => {}
     }
 }

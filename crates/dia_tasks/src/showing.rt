@@ -12,6 +12,9 @@ const FORM: &str =
     "a line is AVP-NAME NUMBER WORD, with one blank between two of them, as Result-Code 2001 DIAMETER_SUCCESS; \
                     `#` begins a comment";
 
+/// What is wrong with a line that says again what a line before it says.
+const DUPLICATE: &str = "a line before has the same AVP and number";
+
 /// Writes the lines of a message with words of values, with names or without, and explains why the words are refused, unless
 /// it is to be quiet. What else is reported is explained with the reports of other commands.
 pub fn show_named<'a, R>(
@@ -25,22 +28,21 @@ where
     R: AllocGlobal + Print + Eprint,
 {
     let mut sink = ToWriter::new(io::writer(rt));
-    let dia_show::Reported { exit, report } = match show(rt.alloc(), names, inputs, &mut sink) {
-        Ok(reported) => reported,
-        Err(fault) => return Err(Ending::of_run(fault, "standard output", sink.failure())),
-    };
-    let report = told_of(rt, report, origins, quiet);
-    Ok(Reported { exit, report })
+    match show(rt.alloc(), names, inputs, &mut sink) {
+        Ok(reported) => Ok(told_of(rt, reported, origins, quiet)),
+        Err(fault) => Err(Ending::of_run(fault, "standard output", sink.failure())),
+    }
 }
 
 /// Explains why words of values are refused, unless it is to be quiet, and answers what else is reported.
-pub fn told_of<R: AllocGlobal + Eprint>(
+pub fn told_of<R: Eprint>(
     rt: &R,
-    report: Report,
+    reported: dia_show::Reported,
     origins: &Origins<'_>,
     quiet: bool,
-) -> dia_report::Report {
-    match report {
+) -> Reported {
+    let dia_show::Reported { exit, report } = reported;
+    let report = match report {
         Report::OfShow(report) => report,
         Report::NoValues(bad) => {
             if !quiet {
@@ -48,22 +50,28 @@ pub fn told_of<R: AllocGlobal + Eprint>(
             }
             dia_report::Report::Done
         }
-    }
+    };
+    Reported { exit, report }
 }
 
 /// Tells on standard error why words of values are refused. Where the device fails, nothing is told.
-fn tell<R: AllocGlobal + Eprint>(rt: &R, name: &str, bad: BadValues) {
-    let _ = match bad {
-        BadValues::TooLong => eprint!(rt; "{name}: the text has more than {MAX_VALUES} bytes\n"),
-        BadValues::NotText { at } => eprint!(rt;
-            "{name}: byte {at} and those behind it are no UTF-8\n"
-        ),
-        BadValues::Syntax { line } => eprint!(rt; "{name}:{line}: {FORM}\n"),
-        BadValues::Duplicate { line } => {
-            eprint!(rt; "{name}:{line}: a line before has the same AVP and number\n")
+fn tell<R: Eprint>(rt: &R, name: &str, bad: BadValues) {
+    match bad {
+        BadValues::TooLong => {
+            let _ = eprint!(rt; "{name}: the text has more than {MAX_VALUES} bytes\n");
         }
+        BadValues::NotText { at } => {
+            let _ = eprint!(rt; "{name}: byte {at} and those behind it are no UTF-8\n");
+        }
+        BadValues::Syntax { line } => tell_line(rt, name, line, FORM),
+        BadValues::Duplicate { line } => tell_line(rt, name, line, DUPLICATE),
         BadValues::Limit { line } => {
-            eprint!(rt; "{name}:{line}: the text has more than {MAX_LINES} lines\n")
+            let _ = eprint!(rt; "{name}:{line}: the text has more than {MAX_LINES} lines\n");
         }
-    };
+    }
+}
+
+/// Tells on standard error what is wrong with a line.
+fn tell_line<R: Eprint>(rt: &R, name: &str, line: u32, wrong: &str) {
+    let _ = eprint!(rt; "{name}:{line}: {wrong}\n");
 }

@@ -1,6 +1,7 @@
 //! Commands on messages as text: `make`, and `show --as-text`.
 
 use crate::inputs::word_of;
+use crate::telling::tell_made;
 use dia_cli::{Ending, Origin};
 use dia_io::{Inputs, ToWriter};
 use dia_make::{make, note, show_text};
@@ -18,11 +19,10 @@ where
     R: AllocGlobal + Print + Eprint,
 {
     let mut sink = ToWriter::new(io::writer(rt));
-    let made = match make(rt.alloc(), inputs, &mut sink) {
-        Ok(reported) => reported,
-        Err(fault) => return Err(Ending::of_run(fault, "standard output", sink.failure())),
-    };
-    Ok(explained(rt, made, inputs, text, quiet))
+    match make(rt.alloc(), inputs, &mut sink) {
+        Ok(made) => Ok(explained(rt, made, inputs, text, quiet)),
+        Err(fault) => Err(Ending::of_run(fault, "standard output", sink.failure())),
+    }
 }
 
 /// Writes the text of a message, and explains why it has none, unless it is to be quiet.
@@ -35,18 +35,40 @@ pub fn shown<'a, R>(
 where
     R: AllocGlobal + Print + Eprint,
 {
-    let mut sink = ToWriter::new(io::writer(rt));
     let mut bytes = Vec::new(rt.alloc());
-    let shown = match show_text(rt.alloc(), inputs, &mut bytes, &mut sink) {
-        Ok(reported) => reported,
-        Err(fault) => return Err(Ending::of_run(fault, "standard output", sink.failure())),
-    };
-    let Reported { exit, report } = explained(rt, shown, inputs, message, quiet);
+    match put_shown(rt, inputs, &mut bytes) {
+        Ok(shown) => {
+            let reported = explained(rt, shown, inputs, message, quiet);
+            Ok(with_message(reported, bytes))
+        }
+        Err(ending) => Err(ending),
+    }
+}
+
+/// Writes the text of a message, whose bytes are added to `bytes`.
+fn put_shown<'a, R>(
+    rt: &R,
+    inputs: &Inputs,
+    bytes: &mut Vec<u8>,
+) -> Result<dia_make::Reported, Ending<'a>>
+where
+    R: AllocGlobal + Print,
+{
+    let mut sink = ToWriter::new(io::writer(rt));
+    match show_text(rt.alloc(), inputs, bytes, &mut sink) {
+        Ok(shown) => Ok(shown),
+        Err(fault) => Err(Ending::of_run(fault, "standard output", sink.failure())),
+    }
+}
+
+/// How a command ended, with the message that was shown.
+fn with_message(reported: Reported, message: Vec<u8>) -> Reported {
+    let Reported { exit, report } = reported;
     let report = match report {
-        Report::Done => Report::Shown(bytes),
+        Report::Done => Report::Shown(message),
         refused => refused,
     };
-    Ok(Reported { exit, report })
+    Reported { exit, report }
 }
 
 /// How a command ended, whose text or message is explained here, unless memory or the device fails. What it says of a
@@ -60,9 +82,7 @@ fn explained<R: AllocGlobal + Eprint>(
 ) -> Reported {
     let dia_make::Reported { exit, report } = made;
     if !quiet {
-        if let Ok(text) = note(rt.alloc(), word_of(message), inputs, &report) {
-            let _ = eprint!(rt; "{text}");
-        }
+        tell_made(rt, note(rt.alloc(), word_of(message), inputs, &report));
     }
     let report = match report {
         dia_make::Report::Refused(bad) => Report::Refused(bad),
