@@ -1,6 +1,6 @@
 //! A task, and what comes of it.
 
-use crate::answering::{answer, answer_as_json};
+use crate::answering::{answer, answer_as_json, drop_report};
 use crate::captured::{Capture, captured};
 use crate::inputs::texts_of;
 use crate::listing::list_lines;
@@ -57,7 +57,10 @@ where
     };
     match ended {
         Ok(Reported { exit, report }) => {
-            tell(rt, task, inputs, origins, quiet, report);
+            if !quiet {
+                tell(rt, task, inputs, origins, &report);
+            }
+            drop_report(report);
             Ok(Outcome::Done(exit))
         }
         Err(ending) => Err(ending),
@@ -85,20 +88,17 @@ where
     }
 }
 
-/// Explains what a task reports on standard error, unless it is to be quiet.
+/// Explains what a task reports on standard error.
 fn tell<R: AllocGlobal + Eprint>(
     rt: &R,
     task: &Task,
     inputs: &Inputs,
     origins: &Origins<'_>,
-    quiet: bool,
-    report: Report,
+    report: &Report,
 ) {
-    if !quiet {
-        note(rt, &texts_of(origins, inputs), names_of(task), &report);
-        if matches!(origins.first, Origin::Base) {
-            tell_unnamed(rt, task, &report);
-        }
+    note(rt, &texts_of(origins, inputs), names_of(task), report);
+    if matches!(origins.first, Origin::Base) {
+        tell_unnamed(rt, task, report);
     }
 }
 
