@@ -80,10 +80,14 @@ fn parsed<'a, S: AsStr>(
         senders: SENDERS.as_slice(),
     };
     let rows = command_rows();
-    let mut line = command_line(alloc, values, rows.as_slice())?;
-    let asked = asked_by(alloc, &mut line, words);
-    drop(line);
-    asked
+    match command_line(alloc, values, rows.as_slice()) {
+        Ok(mut line) => {
+            let asked = asked_by(alloc, &mut line, words);
+            drop(line);
+            asked
+        }
+        Err(error) => Err(Ending::from(error)),
+    }
 }
 
 /// What the words ask for, by what clap makes of them with this line.

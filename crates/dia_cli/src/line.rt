@@ -73,8 +73,10 @@ impl<'a> CommandRow<'a> {
         ensures { IfOk result (IsLine (row_shape words.entry.policies words.entry.senders (command_of self.now))) }
     {
         let line = clap::Command::new(alloc, self.name).about(self.about);
-        let line = with_options(alloc, words, line, self.options)?;
-        with_inputs(alloc, line, self.inputs)
+        match with_options(alloc, words, line, self.options) {
+            Ok(line) => with_inputs(alloc, line, self.inputs),
+            Err(error) => Err(error),
+        }
     }
 }
 

@@ -40,8 +40,10 @@ fn better_fault(alloc: Global, words: &[String], fault: &clap::Error) -> Option<
 fn unexpected(alloc: Global, rows: &[CommandRow<'_>], words: &[String]) -> Option<clap::Error>
     ensures { IfSome result (λ fault. kind_of fault ≡ UnknownArgument) }
 {
-    let row = row_of(rows, words.get(1)?.as_str())?;
-    let rest = words.get(2..)?;
+    let [_, name, rest @ ..] = words else {
+        return None;
+    };
+    let row = row_of(rows, name.as_str())?;
     if has_dict(row) {
         given(alloc, row, rest)
     } else if is_given_dict(rest) {
@@ -138,8 +140,9 @@ fn given(alloc: Global, row: &CommandRow<'_>, rest: &[String]) -> Option<clap::E
     if is_given_option(rest) {
         return None;
     }
-    let first = rest.first()?.as_str();
-    let second = rest.get(1)?.as_str();
+    let [first, second, ..] = rest else {
+        return None;
+    };
     let command = row.name;
     let told = format!(in alloc;
         "unexpected argument '{second}' found\n\n  tip: the dictionary of {command} is given by --dict, as in \
