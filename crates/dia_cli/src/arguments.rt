@@ -83,6 +83,7 @@ fn parsed<'a, S: AsStr>(
     match command_line(alloc, values, rows.as_slice()) {
         Ok(mut line) => {
             let asked = asked_by(alloc, &mut line, words);
+            // By a call, as in `with_command`.
             drop(line);
             asked
         }

@@ -50,6 +50,7 @@ fn with_command<'a>(
     match row.line(alloc, words) {
         Ok(command) => line.subcommand(command),
         Err(error) => {
+            // By a call: where a line goes out of scope by itself, its parts are dropped one by one, each with a proof.
             drop(line);
             Err(error)
         }

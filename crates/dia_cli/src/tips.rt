@@ -193,6 +193,7 @@ fn fault_of(alloc: Global, told: &str, usage: &str) -> Option<clap::Error>
 {
     let mut line = clap::Command::new(alloc, "diacmd").override_usage(usage);
     let fault = line.error(ErrorKind::UnknownArgument, told);
+    // By a call, as in `with_command` of the command line.
     drop(line);
     fault.ok()
 }
