@@ -39,10 +39,10 @@ name_and_key d = (d.name, key_of_decl d)
 abbrev name_and_group_key : PlainDef → List ℕ × Key
 name_and_group_key g = (g.name, group_key g.head)
 
-abbrev placed_name : Part × PlainDecl → Part × (List ℕ × Key)
+abbrev pub placed_name : Part × PlainDecl → Part × (List ℕ × Key)
 placed_name d = (d.0, (d.1.name, key_of_decl d.1))
 
-abbrev placed_group_name : Part × PlainDef → Part × (List ℕ × Key)
+abbrev pub placed_group_name : Part × PlainDef → Part × (List ℕ × Key)
 placed_group_name g = (g.0, (g.1.name, group_key g.1.head))
 
 -- the names of AVPs with their keys, in the order of the entries

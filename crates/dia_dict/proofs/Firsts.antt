@@ -90,6 +90,3 @@ module _ {X T : Type 0} (key : X → T) (eq : T → T → Bool) (laws : IsEquiva
 
   pub find-firsts : (xs : List X) → find (λ x. eq k (key x)) (firsts (λ a b. eq (key a) (key b)) [] xs) ≡ find (λ x. eq k (key x)) xs
   find-firsts xs = find-from [] xs refl
-
-  pub any-firsts : (xs : List X) → list_any (λ x. eq k (key x)) (firsts (λ a b. eq (key a) (key b)) [] xs) ≡ list_any (λ x. eq k (key x)) xs
-  any-firsts xs = sym (find-is_some bears (firsts alike [] xs)) ∙ ap (λ (o : Option X). is_some o) (find-firsts xs) ∙ find-is_some bears xs

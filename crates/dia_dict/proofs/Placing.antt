@@ -5,7 +5,7 @@ use Rattle.std.specs.List.{enumerate_from, list_any, flat_map}
 use Rattle.std.specs.Option.{option_map}
 use Rattle.std.proofs.lemmas.Grind.{flat_map-append}
 use Rattle.std.proofs.lemmas.Simd.{map-map}
-use Rattle.std.proofs.lemmas.List.{append_assoc, length-map, map-append, map_more, flat_map_more, take_more, length-take-le}
+use Rattle.std.proofs.lemmas.List.{append_assoc, map-append, flat_map_more, take_more, length-take-le}
 use Rattle.std.proofs.lemmas.List.Elements.{filter-append}
 use Rattle.dia_book.proofs.Lists.{list_any-map}
 use Rattle.dia_book.proofs.LookUpsByName.{find-map}
@@ -23,7 +23,17 @@ numbers-members : {X : Type 0} (n : ℕ) (xs : List X) → map (λ (p : ℕ × X
 numbers-members n [] = refl
 numbers-members n (x ∷ xs) = ap (λ ys. x ∷ ys) (numbers-members (n + 1) xs)
 
+numbers-map : {X Y : Type 0} (f : X → Y) (n : ℕ) (xs : List X) → enumerate_from n (map f xs) ≡ map (λ (p : ℕ × X). (p.0, f p.1)) (enumerate_from n xs)
+numbers-map f n [] = refl
+numbers-map {X} {Y} f n (x ∷ xs) = ap {B = List (ℕ × Y)} (λ ys. (n, f x) ∷ ys) (numbers-map f (n + 1) xs)
+
 module _ (at : ℕ → Part) where
+  -- members of another form have the same places
+  pub placed-map : {X Y : Type 0} (f : X → Y) (xs : List X) → placed at (map f xs) ≡ map (λ (p : Part × X). (p.0, f p.1)) (placed at xs)
+  placed-map {X} {Y} f xs =
+      ap (map (λ (n : ℕ × Y). (at n.0, n.1))) (numbers-map f 0 xs) ∙ map-map (λ (n : ℕ × Y). (at n.0, n.1)) (λ (n : ℕ × X). (n.0, f n.1)) (enumerate_from 0 xs)
+      ∙ sym (map-map (λ (p : Part × X). (p.0, f p.1)) (λ (n : ℕ × X). (at n.0, n.1)) (enumerate_from 0 xs))
+
   placed-push : {X : Type 0} (xs : List X) (x : X) → placed at (xs ++ x ∷ []) ≡ placed at xs ++ (at (length xs), x) ∷ []
   placed-push {X} xs x =
       let e : 0 + length xs ≡ length xs = omega arith in
@@ -31,20 +41,20 @@ module _ (at : ℕ → Part) where
       ∙ map-append (λ (n : ℕ × X). (at n.0, n.1)) (enumerate_from 0 xs) ((length xs, x) ∷ [])
 
   -- one part more in memory
+  pub placed-next : {X : Type 0} (xs : List X) (i : ℕ) (x : X) → i < length xs → x ≡ get_or xs i x → placed at (take (i + 1) xs) ≡ placed at (take i xs) ++ (at i, x) ∷ []
+  placed-next {X} xs i x within read =
+      ap (placed at) (take_more xs i x within ∙ ap (λ y. take i xs ++ y ∷ []) (sym read)) ∙ placed-push (take i xs) x
+      ∙ ap {B = List (Part × X)} (λ n. placed at (take i xs) ++ (at n, x) ∷ []) (length-take-le i xs (omega arith))
+
+  -- the same for members of another form
   pub placed-more : {X Y : Type 0} (f : X → Y) (xs : List X) (i : ℕ) (x : X) → i < length xs → x ≡ get_or xs i x
       → placed at (map f (take (i + 1) xs)) ≡ placed at (map f (take i xs)) ++ (at i, f x) ∷ []
   placed-more {X} {Y} f xs i x within read =
-      let long : length (map f (take i xs)) ≡ i = length-map (take i xs) f ∙ length-take-le i xs (omega arith) in
-      ap (λ (ys : List X). placed at (map f ys)) (take_more xs i x within ∙ ap (λ y. take i xs ++ y ∷ []) (sym read)) ∙ ap (placed at) (map-append f (take i xs) (x ∷ []))
-      ∙ placed-push (map f (take i xs)) (f x) ∙ ap {B = List (Part × Y)} (λ n. placed at (map f (take i xs)) ++ (at n, f x) ∷ []) long
+      let move : Part × X → Part × Y = λ p. (p.0, f p.1) in
+      placed-map f (take (i + 1) xs) ∙ ap (map move) (placed-next xs i x within read) ∙ map-append move (placed at (take i xs)) ((at i, x) ∷ [])
+      ∙ ap (λ (ps : List (Part × Y)). ps ++ (at i, f x) ∷ []) (sym (placed-map f (take i xs)))
 
   -- a list that is made of them in a loop
-  pub placed-made : {X Y Z : Type 0} (view : Z → Part × Y) (f : X → Y) (xs : List X) (i : ℕ) (x : X) (made next : List Z) (z : Z) → i < length xs → x ≡ get_or xs i x
-      → map view made ≡ placed at (map f (take i xs)) → view z ≡ (at i, f x) → next ≡ made ++ z ∷ [] → map view next ≡ placed at (map f (take (i + 1) xs))
-  placed-made {X} {Y} {Z} view f xs i x made next z within read so one more =
-      ap (map view) more ∙ map-append view made (z ∷ []) ∙ ap (λ (ys : List (Part × Y)). ys ++ view z ∷ []) so
-      ∙ ap (λ (y : Part × Y). placed at (map f (take i xs)) ++ y ∷ []) one ∙ sym (placed-more f xs i x within read)
-
   pub placed-made-by : {X Y Z K : Type 0} (view : Z → K) (g : Part × Y → K) (f : X → Y) (xs : List X) (i : ℕ) (x : X) (made next : List Z) (z : Z) → i < length xs → x ≡ get_or xs i x
       → map view made ≡ map g (placed at (map f (take i xs))) → view z ≡ g (at i, f x) → next ≡ made ++ z ∷ [] → map view next ≡ map g (placed at (map f (take (i + 1) xs)))
   placed-made-by {X} {Y} {Z} {K} view g f xs i x made next z within read so one more =
@@ -108,18 +118,18 @@ chosen-more {X} {Y} test tell view xs i x before told next within read so more =
     by true = refl
     by false = refl
 
--- what is told of each part, in a loop over the parts
-pub told-more : {X Y : Type 0} (f : Y → List PlainFinding) (view : X → Y) (xs : List X) (i : ℕ) (x : X) (before told next : List PlainFinding) → i < length xs → x ≡ get_or xs i x
-    → told ≡ before ++ flat_map f (map view (take i xs)) → next ≡ told ++ f (view x) → next ≡ before ++ flat_map f (map view (take (i + 1) xs))
-told-more f view xs i x before told next within read so more =
-    let seen = map view (take i xs) in
-    let longer = map_more view xs i x within ∙ ap (λ y. seen ++ view y ∷ []) (sym read) in
-    more ∙ ap (λ (fs : List PlainFinding). fs ++ f (view x)) so ∙ flat_map_more f before seen (view x) ∙ ap (λ ys. before ++ flat_map f ys) (sym longer)
+-- what is told of each part, in a loop over a list in memory
+pub told-more : {X Y : Type 0} (f : Part × Y → List PlainFinding) (at : ℕ → Part) (view : X → Y) (xs : List X) (i : ℕ) (x : X) (before told next : List PlainFinding)
+    → i < length xs → x ≡ get_or xs i x → told ≡ before ++ flat_map f (placed at (map view (take i xs))) → next ≡ told ++ f (at i, view x)
+    → next ≡ before ++ flat_map f (placed at (map view (take (i + 1) xs)))
+told-more f at view xs i x before told next within read so more =
+    more ∙ ap (λ (fs : List PlainFinding). fs ++ f (at i, view x)) so ∙ flat_map_more f before (placed at (map view (take i xs))) (at i, view x)
+    ∙ ap (λ ys. before ++ flat_map f ys) (sym (placed-more at view xs i x within read))
 
 -- ---- groups and then commands
 
-pub told-of-defs : (f : Part × PlainDef → List PlainFinding) (s : PlainSource) (groups commands : List (Part × PlainDef)) (before told : List PlainFinding)
-    → groups ≡ placed_groups s → commands ≡ placed_commands s → told ≡ before ++ flat_map f groups → told ++ flat_map f commands ≡ before ++ flat_map f (placed_defs s)
-told-of-defs f s groups commands before told here there so =
-    ap (λ (fs : List PlainFinding). fs ++ flat_map f commands) so ∙ append_assoc before (flat_map f groups) (flat_map f commands)
-    ∙ ap (λ (fs : List PlainFinding). before ++ fs) ((λ i. flat_map f (here i) ++ flat_map f (there i)) ∙ sym (flat_map-append f (placed_groups s) (placed_commands s)))
+pub told-of-defs : (f : Part × PlainDef → List PlainFinding) (s : PlainSource) (before told : List PlainFinding)
+    → told ≡ before ++ flat_map f (placed_groups s) → told ++ flat_map f (placed_commands s) ≡ before ++ flat_map f (placed_defs s)
+told-of-defs f s before told so =
+    ap (λ (fs : List PlainFinding). fs ++ flat_map f (placed_commands s)) so ∙ append_assoc before (flat_map f (placed_groups s)) (flat_map f (placed_commands s))
+    ∙ ap (λ (fs : List PlainFinding). before ++ fs) (sym (flat_map-append f (placed_groups s) (placed_commands s)))

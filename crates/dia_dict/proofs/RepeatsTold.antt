@@ -10,9 +10,10 @@ use Rattle.std.proofs.lemmas.Option.{none-some}
 use Rattle.indexmap.specs.IndexMap.{insert_entry}
 use Rattle.dia_book.proofs.Members.{find-is_some}
 use Rattle.dia_dict.specs.declared.findings.Part.{Part}
-use Rattle.dia_dict.specs.Resolution.{Wrong, PlainFinding, finding, repeats, firsts, again}
+use Rattle.dia_dict.specs.Resolution.{Wrong, PlainFinding, finding, repeats, firsts, again, placed}
 use Rattle.dia_dict.proofs.Repeats.{both, repeats-append, repeats-map}
 use Rattle.dia_dict.proofs.Firsts.{firsts-append, find-firsts}
+use Rattle.dia_dict.proofs.Placing.{placed-map}
 
 module _ {X T : Type 0} (key : X → T) (part : X → Part) (fault : X → Part → PlainFinding) (eq : T → T → Bool) where
   abbrev alike : X → X → Bool
@@ -112,3 +113,14 @@ repeats-told {X} {T} {P} {K} key part told eq name same agree label bad items pa
     ∙ sym (map-map tell (both of) (repeats (λ a b. same (name (key a)) (name (key b))) [] items))
     ∙ ap (map tell) (sym (repeats-map of like [] items) ∙ ap (repeats like []) made ∙ repeats-map at like [] parts)
     ∙ map-map tell (both at) (repeats (λ a b. same (label a.1) (label b.1)) [] parts)
+
+-- what is told of the labels of parts is what is told of the parts
+pub again-labels : {X Y K : Type 0} (f : X → Y) (label : Y → K) (same : K → K → Bool) (bad : K → Wrong) (at : ℕ → Part) (xs : List X)
+    → again same bad (placed at (map (λ x. label (f x)) xs)) ≡ again (λ a b. same (label a) (label b)) (λ y. bad (label y)) (placed at (map f xs))
+again-labels {X} {Y} {K} f label same bad at xs =
+    let tell : (Part × K) × (Part × K) → PlainFinding = λ p. finding (bad p.0.1) p.0.0 (Some p.1.0) in
+    let labelled : Part × Y → Part × K = λ p. (p.0, label p.1) in
+    let parts = placed at (map f xs) in
+    ap (again same bad) (ap (placed at) (sym (map-map label f xs)) ∙ placed-map at label (map f xs))
+    ∙ ap (map tell) (repeats-map labelled (λ (a b : Part × K). same a.1 b.1) [] parts)
+    ∙ map-map tell (both labelled) (repeats (λ (a b : Part × Y). same (label a.1) (label b.1)) [] parts)

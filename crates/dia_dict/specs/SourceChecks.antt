@@ -2,10 +2,11 @@
 use Rattle.std.specs.Prelude.{◌≡◌, ℕ, List, [], Option, Some, None, slice_get, string_bytes, ⊤}
 use Rattle.std.specs.Borrow.{Bor}
 use Rattle.dia_wire.specs.declared.Key.{Key}
+use Rattle.dia_ccf.specs.declared.source.Decl.{Decl}
+use Rattle.dia_ccf.specs.declared.source.Def.{Def}
 use Rattle.dia_ccf.specs.Plain.{PlainDecl, PlainDef, plain_decl, plain_def}
 use Rattle.dia_dict.specs.declared.resolving.finding.repeats.Keyed.{Keyed}
-use Rattle.dia_dict.specs.declared.resolving.parts.PlacedDecl.{PlacedDecl}
-use Rattle.dia_dict.specs.declared.resolving.parts.PlacedDef.{PlacedDef}
+use Rattle.dia_dict.specs.declared.resolving.parts.Placed.{Placed}
 use Rattle.dia_dict.specs.declared.fault.DictFault.{DictFault}
 use Rattle.dia_dict.specs.declared.fault.DictFault.TheVariants as fault
 use Rattle.dia_dict.specs.declared.findings.Part.{Part}
@@ -26,11 +27,27 @@ plain_finding f = record { wrong = told f.told; part = f.part; other = f.other }
 
 -- ---- parts as they lie in memory
 
+abbrev pub PlacedDecl : Type 0
+PlacedDecl = Placed (Bor Decl)
+
+abbrev pub PlacedDef : Type 0
+PlacedDef = Placed (Bor Def)
+
 abbrev pub placed_decl : PlacedDecl → Part × PlainDecl
-placed_decl d = (d.part, plain_decl d.decl.now)
+placed_decl d = (d.part, plain_decl d.item.now)
 
 abbrev pub placed_def : PlacedDef → Part × PlainDef
-placed_def d = (d.part, plain_def d.def.now)
+placed_def d = (d.part, plain_def d.item.now)
+
+-- parts with their names
+abbrev pub named_part : {X : Type 0} → Bor (List ℕ) × Placed (Bor X) → List ℕ × (Part × X)
+named_part e = (e.0.now, (e.1.part, e.1.item.now))
+
+abbrev pub named_decl : Bor (List ℕ) × PlacedDecl → List ℕ × (Part × PlainDecl)
+named_decl e = (e.0.now, placed_decl e.1)
+
+abbrev pub named_def : Bor (List ℕ) × PlacedDef → List ℕ × (Part × PlainDef)
+named_def e = (e.0.now, placed_def e.1)
 
 -- ---- what is compared, and what is told where it repeats
 

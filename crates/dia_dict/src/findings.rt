@@ -96,6 +96,18 @@ impl<'a> Told<'a> {
         }
     }
 
+    /// The finding that the source as a whole has the fault.
+    pub(crate) fn of_source(self) -> Finding<'a>
+        ensures { plain_finding result
+            ≡ record { wrong = told self.entry; part = None; other = None } }
+    {
+        Finding {
+            told: self,
+            part: None,
+            other: None,
+        }
+    }
+
     /// The finding that this part has the fault, and does not go with the other.
     pub(crate) fn at_both(self, part: Part, other: Option<Part>) -> Finding<'a>
         ensures { plain_finding result ≡ finding (told self.entry) part other }

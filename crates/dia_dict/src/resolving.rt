@@ -1,5 +1,5 @@
 //! A dictionary out of a source.
-ghost use Rattle.std.specs.Prelude.{◌≡◌, None, IfOk, IfErr, map};
+ghost use Rattle.std.specs.Prelude.{◌≡◌, None, IfOk, IfErr, map, slice_get};
 ghost use Rattle.dia_ccf.specs.Plain.{plain_source};
 ghost use Rattle.dia_dict.specs.Resolution.{resolved, all_findings, all_wrong, first_wrong};
 ghost use Rattle.dia_dict.specs.Resolution.{IsToldOf};
@@ -10,6 +10,7 @@ mod building;
 mod checks;
 mod finding;
 mod names;
+mod noting;
 mod parts;
 mod refusal;
 mod rules;
@@ -93,8 +94,14 @@ fn first_found<'a>(alloc: Global, names: &Names<'a>) -> Result<Option<Told<'a>>,
     ensures { IfOk result (λ first. option_map told first ≡ first_wrong (plain_source names.now.source.now)) }
 {
     let findings = finding::found(alloc, names)?;
+    Ok(first_told(&findings))
+}
+
+fn first_told<'a>(findings: &[Finding<'a>]) -> Option<Told<'a>>
+    ensures { option_map told result ≡ slice_get (map (λ f. f.wrong) (map plain_finding findings.now)) 0 }
+{
     match findings.first() {
-        Some(first) => Ok(Some(first.told)),
-        None => Ok(None),
+        Some(first) => Some(first.told),
+        None => None,
     }
 }

@@ -140,10 +140,11 @@ fn rule_list(alloc: Global, names: &Names<'_>, rules: &[Rule]) -> Result<Vec<DRu
     ensures { IfOk result (λ rs. rs.items
         ≡ map (rule_of (plain_source names.now.source.now)) (map plain_rule rules.now)) }
 {
-    rules
-        .iter()
-        .map(|rule| rules::rule(names, rule))
-        .collect(alloc)
+    let mut list = Vec::new(alloc);
+    for rule in rules {
+        list.push(rules::rule(names, rule))?;
+    }
+    Ok(list)
 }
 
 pub(super) fn head(head: Head) -> DefHead

@@ -6,36 +6,27 @@ ghost use Rattle.dia_ccf.specs.Plain.{plain_source, plain_decl, plain_def};
 ghost use Rattle.dia_dict.specs.Resolution.{placed_avps, placed_groups, placed_commands};
 ghost use Rattle.dia_dict.specs.Resolution.{first_decls, first_defs, names_decl, names_def};
 ghost use Rattle.dia_dict.specs.Resolution.{key_of_name, key_of_decl, group_key};
-ghost use Rattle.dia_dict.specs.SourceChecks.{placed_decl, placed_def};
+ghost use Rattle.dia_dict.specs.SourceChecks.{placed_decl, placed_def, named_decl, named_def};
 
-use super::parts::{
-    FirstDecls, FirstDefs, PlacedDecl, PlacedDef, first_decls, first_defs, placed_decls,
-    placed_defs,
-};
+use super::parts::{Firsts, PlacedDecl, PlacedDef, first_parts};
 use crate::findings::PartKind;
 use dia_ccf::{Decl, Def, Head, Source};
 use dia_wire::Key;
 use std::alloc::{AllocError, Global};
 
-/// A source, with its parts and the first part of each name.
+/// A source, with the first part of each name.
 #[derive(Drop)]
 pub(super) struct Names<'a> {
     pub source: &'a Source,
-    pub avps: Vec<PlacedDecl<'a>>,
-    pub groups: Vec<PlacedDef<'a>>,
-    pub commands: Vec<PlacedDef<'a>>,
-    pub first_avps: FirstDecls<'a>,
-    pub first_groups: FirstDefs<'a>,
-    pub first_commands: FirstDefs<'a>,
-    ghost all_avps: { map placed_decl avps.items ≡ placed_avps (plain_source source.now) } by { Prim.hlevel props },
-    ghost all_groups: { map placed_def groups.items ≡ placed_groups (plain_source source.now) } by { Prim.hlevel props },
-    ghost all_commands: { map placed_def commands.items ≡ placed_commands (plain_source source.now) } by { Prim.hlevel props },
-    ghost kept_avps: { map placed_decl first_avps.decls.items
-        ≡ first_decls (placed_avps (plain_source source.now)) } by { Prim.hlevel props },
-    ghost kept_groups: { map placed_def first_groups.defs.items
-        ≡ first_defs (placed_groups (plain_source source.now)) } by { Prim.hlevel props },
-    ghost kept_commands: { map placed_def first_commands.defs.items
-        ≡ first_defs (placed_commands (plain_source source.now)) } by { Prim.hlevel props },
+    avps: Box<Firsts<'a, Decl>>,
+    groups: Box<Firsts<'a, Def>>,
+    commands: Box<Firsts<'a, Def>>,
+    ghost kept_avps: { map named_decl avps.value.entries
+        ≡ map (λ d. (d.1.name, d)) (first_decls (placed_avps (plain_source source.now))) } by { Prim.hlevel props },
+    ghost kept_groups: { map named_def groups.value.entries
+        ≡ map (λ d. (d.1.name, d)) (first_defs (placed_groups (plain_source source.now))) } by { Prim.hlevel props },
+    ghost kept_commands: { map named_def commands.value.entries
+        ≡ map (λ d. (d.1.name, d)) (first_defs (placed_commands (plain_source source.now))) } by { Prim.hlevel props },
 }
 
 impl<'a> Names<'a> {
@@ -43,21 +34,36 @@ impl<'a> Names<'a> {
     pub(super) fn new(alloc: Global, source: &'a Source) -> Result<Self, AllocError>
         ensures { IfOk result (λ names. names.source.now ≡ source.now) }
     {
-        let avps = placed_decls(alloc, &source.avps)?;
-        let groups = placed_defs(alloc, PartKind::Group, &source.groups)?;
-        let commands = placed_defs(alloc, PartKind::Command, &source.commands)?;
-        let first_avps = first_decls(alloc, &avps)?;
-        let first_groups = first_defs(alloc, &groups)?;
-        let first_commands = first_defs(alloc, &commands)?;
+        let avps = first_parts(alloc, PartKind::Declaration, &source.avps)?;
+        let groups = first_parts(alloc, PartKind::Group, &source.groups)?;
+        let commands = first_parts(alloc, PartKind::Command, &source.commands)?;
         Ok(Names {
             source,
             avps,
             groups,
             commands,
-            first_avps,
-            first_groups,
-            first_commands,
         })
+    }
+
+    /// The first declaration of each name.
+    pub(super) fn first_avps(&self) -> &[PlacedDecl<'a>]
+        ensures { map placed_decl result.now ≡ first_decls (placed_avps (plain_source self.now.source.now)) }
+    {
+        self.avps.values().as_slice()
+    }
+
+    /// The first group of each name.
+    pub(super) fn first_groups(&self) -> &[PlacedDef<'a>]
+        ensures { map placed_def result.now ≡ first_defs (placed_groups (plain_source self.now.source.now)) }
+    {
+        self.groups.values().as_slice()
+    }
+
+    /// The first command of each name.
+    pub(super) fn first_commands(&self) -> &[PlacedDef<'a>]
+        ensures { map placed_def result.now ≡ first_defs (placed_commands (plain_source self.now.source.now)) }
+    {
+        self.commands.values().as_slice()
     }
 
     /// The declaration of a name.
@@ -65,8 +71,7 @@ impl<'a> Names<'a> {
         ensures { option_map placed_decl result
             ≡ find (λ d. names_decl name.now d.1) (placed_avps (plain_source self.now.source.now)) }
     {
-        let place = self.first_avps.names.get_index_of(&name)?;
-        Some(self.first_avps.decls[place])
+        self.avps.get(&name).copied()
     }
 
     /// The declaration of a name, without its place.
@@ -74,8 +79,10 @@ impl<'a> Names<'a> {
         ensures { option_map (λ d. plain_decl d.now) result
             ≡ find (names_decl name.now) (plain_source self.now.source.now).avps }
     {
-        let placed = self.placed_declaration(name)?;
-        Some(placed.decl)
+        match self.placed_declaration(name) {
+            Some(placed) => Some(placed.item),
+            None => None,
+        }
     }
 
     /// The group of a name.
@@ -83,22 +90,24 @@ impl<'a> Names<'a> {
         ensures { option_map (λ d. plain_def d.now) result
             ≡ find (names_def name.now) (plain_source self.now.source.now).groups }
     {
-        let place = self.first_groups.names.get_index_of(&name)?;
-        Some(self.first_groups.defs[place].def)
+        match self.groups.get(&name) {
+            Some(placed) => Some(placed.item),
+            None => None,
+        }
     }
 
     /// Whether a declaration has the name.
     pub(super) fn is_declared(&self, name: &str) -> bool
         ensures { result ≡ list_any (names_decl name.now) (plain_source self.now.source.now).avps }
     {
-        self.first_avps.names.contains(&name)
+        self.avps.contains_key(&name)
     }
 
     /// Whether a group has the name.
     pub(super) fn is_group(&self, name: &str) -> bool
         ensures { result ≡ list_any (names_def name.now) (plain_source self.now.source.now).groups }
     {
-        self.first_groups.names.contains(&name)
+        self.groups.contains_key(&name)
     }
 
     /// The key that a name stands for: that of its declaration, else that of its group.

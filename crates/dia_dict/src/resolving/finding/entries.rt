@@ -12,6 +12,7 @@ ghost use Rattle.dia_dict.specs.SourceChecks.{plain_finding, placed_decl, placed
 ghost use Rattle.dia_dict.specs.SourceChecks.{keyed_key, told_key, keyed_selector, told_selector};
 
 use super::repeats::{Keyed, push_repeats};
+use super::{push_finding, push_if};
 use crate::fault::DictKind;
 use crate::findings::{Finding, Part, Told};
 use crate::resolving::building::head;
@@ -43,10 +44,10 @@ fn push_lacking<'a>(findings: &mut Vec<Finding<'a>>, names: &Names<'a>) -> Resul
     ensures { OnOk result (map plain_finding findings.new.items ≡ map plain_finding findings.old.items
         ++ no_groups (plain_source names.now.source.now)) }
 {
-    for decl in &names.first_avps.decls {
-        if lacks_group(names, decl.decl) {
-            findings.push(Told::of(DictKind::NoGroupFormat, &decl.decl.name).at(decl.part))?;
-        }
+    let decls = names.first_avps();
+    for decl in decls {
+        let finding = Told::of(DictKind::NoGroupFormat, &decl.item.name).at(decl.part);
+        push_if(findings, lacks_group(names, decl.item), finding)?;
     }
     Ok(())
 }
@@ -62,7 +63,8 @@ fn push_mismatches<'a>(findings: &mut Vec<Finding<'a>>, names: &Names<'a>) -> Re
     ensures { OnOk result (map plain_finding findings.new.items ≡ map plain_finding findings.old.items
         ++ header_mismatches (plain_source names.now.source.now)) }
 {
-    for group in &names.first_groups.defs {
+    let groups = names.first_groups();
+    for group in groups {
         push_mismatch(findings, names, *group)?;
     }
     Ok(())
@@ -78,10 +80,11 @@ fn push_mismatch<'a>(
         ++ (if is_mismatched (plain_source names.now.source.now) (placed_def group.entry).1
         then mismatch_of (plain_source names.now.source.now) (placed_def group.entry) ∷ [] else [])) }
 {
-    if is_mismatch(names, group.def) {
-        findings.push(mismatch(names, group))?;
+    if is_mismatch(names, group.item) {
+        push_finding(findings, mismatch(names, group))
+    } else {
+        Ok(())
     }
-    Ok(())
 }
 
 /// The finding that a group and its declaration do not go together.
@@ -89,7 +92,7 @@ fn mismatch<'a>(names: &Names<'_>, group: PlacedDef<'a>) -> Finding<'a>
     ensures { plain_finding result
         ≡ mismatch_of (plain_source names.now.source.now) (placed_def group.entry) }
 {
-    let name = &group.def.name;
+    let name = &group.item.name;
     let declaration = match names.placed_declaration(name) {
         Some(declaration) => Some(declaration.part),
         None => None,
@@ -116,8 +119,8 @@ fn keyed_avps<'a>(alloc: Global, names: &Names<'a>) -> Result<Vec<Keyed<'a, Key>
         ≡ map told_key (placed_names (plain_source names.now.source.now))) }
 {
     let mut avps = Vec::new(alloc);
-    push_declared(&mut avps, &names.first_avps.decls)?;
-    push_bare(&mut avps, names, &names.first_groups.defs)?;
+    push_declared(&mut avps, names.first_avps())?;
+    push_bare(&mut avps, names, names.first_groups())?;
     Ok(avps)
 }
 
@@ -129,7 +132,7 @@ fn push_declared<'a>(
         ++ map told_key (map (λ d. (d.0, (d.1.name, key_of_decl d.1))) (map placed_decl decls.now))) }
 {
     for decl in decls {
-        avps.push(told_avp(decl.part, key_of_declaration(decl.decl), &decl.decl.name))?;
+        avps.push(told_avp(decl.part, key_of_declaration(decl.item), &decl.item.name))?;
     }
     Ok(())
 }
@@ -144,8 +147,8 @@ fn push_bare<'a>(
         (filter (λ g. is_bare (plain_source names.now.source.now) g.1) (map placed_def groups.now)))) }
 {
     for group in groups {
-        if !names.is_declared(&group.def.name) {
-            avps.push(told_avp(group.part, key_of_group(group.def), &group.def.name))?;
+        if !names.is_declared(&group.item.name) {
+            avps.push(told_avp(group.part, key_of_group(group.item), &group.item.name))?;
         }
     }
     Ok(())
@@ -170,7 +173,7 @@ fn push_commands<'a>(
     ensures { OnOk result (map plain_finding findings.new.items ≡ map plain_finding findings.old.items
         ++ duplicate_commands (plain_source names.now.source.now)) }
 {
-    let commands = selecting(alloc, &names.first_commands.defs)?;
+    let commands = selecting(alloc, names.first_commands())?;
     push_repeats(alloc, findings, &commands)
 }
 
@@ -178,14 +181,14 @@ fn selecting<'a>(
     alloc: Global,
     commands: &[PlacedDef<'a>],
 ) -> Result<Vec<Keyed<'a, Selector>>, AllocError>
-    requires { IsTrue (list_all (λ d. not (is_group d.def.now.head)) commands.now) }
+    requires { IsTrue (list_all (λ d. not (is_group d.item.now.head)) commands.now) }
     ensures { IfOk result (λ selecting. map keyed_selector selecting.items
         ≡ map told_selector (map placed_def commands.now)) }
 {
     let mut selecting = Vec::new(alloc);
     for command in commands {
-        let selector = Selector::of(head(command.def.head));
-        selecting.push(told_command(command.part, selector, &command.def.name))?;
+        let selector = Selector::of(head(command.item.head));
+        selecting.push(told_command(command.part, selector, &command.item.name))?;
     }
     Ok(selecting)
 }

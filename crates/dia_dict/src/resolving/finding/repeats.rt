@@ -6,7 +6,9 @@ ghost use Rattle.indexmap.specs.IndexMap.{get};
 ghost use Rattle.dia_dict.specs.Resolution.{finding, repeats};
 ghost use Rattle.dia_dict.specs.SourceChecks.{told, plain_finding};
 
+use super::push_finding;
 use crate::findings::{Finding, Part, Told};
+use crate::resolving::noting::note;
 use indexmap::IndexMap;
 use std::alloc::{AllocError, Global};
 use std::hash::Hash;
@@ -49,14 +51,8 @@ fn push_repeat<'a, T: Eq + Hash + Copy>(
     ensures parts { OnOk result (parts.new.entries ≡ (if is_some (get T.eq parts.old key)
         then parts.old.entries else parts.old.entries ++ (key, part) ∷ [])) }
 {
-    match parts.get(&key) {
-        Some(first) => {
-            findings.push(fault.at_both(part, Some(*first)))?;
-            Ok(())
-        }
-        None => {
-            parts.insert(key, part)?;
-            Ok(())
-        }
+    match note(parts, key, part)? {
+        Some(first) => push_finding(findings, fault.at_both(part, Some(first))),
+        None => Ok(()),
     }
 }

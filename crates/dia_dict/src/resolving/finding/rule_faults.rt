@@ -1,20 +1,21 @@
 //! What is wrong with rules.
 ghost use Rattle.std.specs.Prelude.{◌≡◌, ◌++◌, ◌∷◌, [], None, OnOk, IfOk, map};
 ghost use Rattle.std.specs.Prelude.{if◌then◌else◌};
-ghost use Rattle.dia_ccf.specs.Plain.{plain_source, plain_rule};
+ghost use Rattle.dia_ccf.specs.Plain.{plain_source, plain_def, plain_rule};
 ghost use Rattle.dia_dict.specs.declared.fault.DictKind.TheVariants.{RepeatedSlot};
 ghost use Rattle.dia_dict.specs.Resolution.{wrong, finding, wrong_rules, bad_rules, bad_in, is_bad};
 ghost use Rattle.dia_dict.specs.Resolution.{repeated_slots, repeated_in, placed_defs};
-ghost use Rattle.dia_dict.specs.Resolution.{placed_rules, rule_at, slot_name};
+ghost use Rattle.dia_dict.specs.Resolution.{part_at, placed, placed_rules, rule_at, slot_name};
 ghost use Rattle.dia_dict.specs.SourceChecks.{plain_finding, placed_def, keyed_text};
 
+use super::push_if;
 use super::repeats::{Keyed, push_repeats};
 use crate::fault::DictKind;
-use crate::findings::{Finding, Told};
+use crate::findings::{Finding, PartKind, Told};
 use crate::resolving::names::Names;
-use crate::resolving::parts::PlacedDef;
+use crate::resolving::parts::{Placed, PlacedDef};
 use crate::resolving::rules::is_bad;
-use dia_ccf::Rule;
+use dia_ccf::{Def, Rule, Source};
 use std::alloc::{AllocError, Global};
 
 /// Adds what is wrong with rules.
@@ -27,7 +28,7 @@ pub(super) fn push_all_rules<'a>(
         ++ wrong_rules (plain_source names.now.source.now)) }
 {
     push_rules(findings, names, DictKind::UndefinedName)?;
-    push_slots(alloc, findings, names)?;
+    push_slots(alloc, findings, names.source)?;
     push_rules(findings, names, DictKind::MinOverMax)?;
     push_rules(findings, names, DictKind::RequiredMin)?;
     push_rules(findings, names, DictKind::OptionalMin)
@@ -43,21 +44,29 @@ fn push_rules<'a>(
         ++ bad_rules kind (plain_source names.now.source.now)
         (placed_defs (plain_source names.now.source.now))) }
 {
-    push_rules_of(findings, names, kind, &names.groups)?;
-    push_rules_of(findings, names, kind, &names.commands)
+    push_rules_of(findings, names, kind, PartKind::Group, &names.source.groups)?;
+    push_rules_of(
+        findings,
+        names,
+        kind,
+        PartKind::Command,
+        &names.source.commands,
+    )
 }
 
 fn push_rules_of<'a>(
     findings: &mut Vec<Finding<'a>>,
     names: &Names<'_>,
     kind: DictKind,
-    defs: &[PlacedDef<'a>],
+    of: PartKind,
+    defs: &'a [Def],
 ) -> Result<(), AllocError>
     ensures { OnOk result (map plain_finding findings.new.items ≡ map plain_finding findings.old.items
-        ++ bad_rules kind (plain_source names.now.source.now) (map placed_def defs.now)) }
+        ++ bad_rules kind (plain_source names.now.source.now) (placed (part_at of) (map plain_def defs.now))) }
 {
-    for def in defs {
-        push_rules_in(findings, names, kind, *def)?;
+    for (index, def) in defs.iter().enumerate() {
+        let part = of.at(index);
+        push_rules_in(findings, names, kind, Placed { part, item: def })?;
     }
     Ok(())
 }
@@ -71,7 +80,7 @@ fn push_rules_in<'a>(
     ensures { OnOk result (map plain_finding findings.new.items ≡ map plain_finding findings.old.items
         ++ bad_in kind (plain_source names.now.source.now) (placed_def def.entry)) }
 {
-    for (index, rule) in def.def.rules.iter().enumerate() {
+    for (index, rule) in def.item.rules.iter().enumerate() {
         push_rule(findings, names, kind, def, index, rule)?;
     }
     Ok(())
@@ -91,36 +100,39 @@ fn push_rule<'a>(
         then finding (wrong kind (placed_def def.entry).1.name (slot_name (plain_rule rule.now)))
         (rule_at def.entry.part index) None ∷ [] else [])) }
 {
-    if is_bad(names, kind, rule) {
-        let told = Told::of_rule(kind, &def.def.name, rule.slot_name());
-        findings.push(told.at(def.part.rule_at(index)))?;
-    }
-    Ok(())
+    let told = Told::of_rule(kind, &def.item.name, rule.slot_name());
+    push_if(
+        findings,
+        is_bad(names, kind, rule),
+        told.at(def.part.rule_at(index)),
+    )
 }
 
 /// Adds the rules of the source for an AVP that has a rule before in its definition.
 fn push_slots<'a>(
     alloc: Global,
     findings: &mut Vec<Finding<'a>>,
-    names: &Names<'a>,
+    source: &'a Source,
 ) -> Result<(), AllocError>
     ensures { OnOk result (map plain_finding findings.new.items ≡ map plain_finding findings.old.items
-        ++ repeated_slots (placed_defs (plain_source names.now.source.now))) }
+        ++ repeated_slots (placed_defs (plain_source source.now))) }
 {
-    push_slots_of(alloc, findings, &names.groups)?;
-    push_slots_of(alloc, findings, &names.commands)
+    push_slots_of(alloc, findings, PartKind::Group, &source.groups)?;
+    push_slots_of(alloc, findings, PartKind::Command, &source.commands)
 }
 
 fn push_slots_of<'a>(
     alloc: Global,
     findings: &mut Vec<Finding<'a>>,
-    defs: &[PlacedDef<'a>],
+    of: PartKind,
+    defs: &'a [Def],
 ) -> Result<(), AllocError>
     ensures { OnOk result (map plain_finding findings.new.items ≡ map plain_finding findings.old.items
-        ++ repeated_slots (map placed_def defs.now)) }
+        ++ repeated_slots (placed (part_at of) (map plain_def defs.now))) }
 {
-    for def in defs {
-        push_slots_in(alloc, findings, *def)?;
+    for (index, def) in defs.iter().enumerate() {
+        let part = of.at(index);
+        push_slots_in(alloc, findings, Placed { part, item: def })?;
     }
     Ok(())
 }
@@ -143,7 +155,7 @@ fn slots_in<'a>(alloc: Global, def: PlacedDef<'a>) -> Result<Vec<Keyed<'a, &'a s
         (placed_rules (placed_def def.entry))) }
 {
     let mut slots = Vec::new(alloc);
-    for (index, rule) in def.def.rules.iter().enumerate() {
+    for (index, rule) in def.item.rules.iter().enumerate() {
         slots.push(slot_in(def, index, rule))?;
     }
     Ok(slots)
@@ -162,6 +174,6 @@ fn slot_in<'a>(def: PlacedDef<'a>, index: usize, rule: &'a Rule) -> Keyed<'a, &'
     Keyed {
         part: def.part.rule_at(index),
         key: slot,
-        told: Told::of_rule(DictKind::RepeatedSlot, &def.def.name, slot),
+        told: Told::of_rule(DictKind::RepeatedSlot, &def.item.name, slot),
     }
 }

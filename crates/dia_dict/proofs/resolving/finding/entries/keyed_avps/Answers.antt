@@ -18,10 +18,8 @@ pub returns : goal.returns
 returns c =
     let names = c.args.names.now in
     let s = plain_source names.source.now in
-    let avps = declared (map placed_decl c.deref.result.now) in
-    let bare = grouped (filter (λ (g : Part × PlainDef). is_bare s g.1) (map placed_def c.deref-2.result.now)) in
-    let first_avps = ap (map placed_decl) c.deref.ensures.value ∙ names.kept_avps in
-    let first_groups = ap (map placed_def) c.deref-2.ensures.value ∙ names.kept_groups in
+    let avps = declared (map placed_decl c.first_avps.result.now) in
+    let bare = grouped (filter (λ (g : Part × PlainDef). is_bare s g.1) (map placed_def c.first_groups.result.now)) in
     c.in_ok-push_bare.ensures ∙ ap (λ (ks : List (Part × (Key × Wrong))). ks ++ map told_key bare) c.in_ok-push_declared.ensures
     ∙ ap (λ (is : List (Keyed Key)). map keyed_key is ++ map told_key avps ++ map told_key bare) c.new-avps.ensures.items
-    ∙ sym (map-append told_key avps bare) ∙ ap (map told_key) (λ i. declared (first_avps i) ++ grouped (filter (λ (g : Part × PlainDef). is_bare s g.1) (first_groups i)))
+    ∙ sym (map-append told_key avps bare) ∙ ap (map told_key) (λ i. declared (c.first_avps.ensures i) ++ grouped (filter (λ (g : Part × PlainDef). is_bare s g.1) (c.first_groups.ensures i)))

@@ -11,7 +11,6 @@ use Rattle.dia_ccf.specs.Plain.{PlainDef, plain_source}
 use Rattle.dia_dict.specs.declared.selectors.Selector.{Selector}
 use Rattle.dia_dict.specs.declared.fault.DictKind.TheVariants.{DuplicateCommand}
 use Rattle.dia_dict.specs.declared.resolving.finding.repeats.Keyed.{Keyed}
-use Rattle.dia_dict.specs.declared.resolving.parts.PlacedDef.{PlacedDef}
 use Rattle.dia_dict.specs.Resolution.{wrong, PlainFinding, first_defs, placed_commands, same_selector, head_of}
 use Rattle.dia_dict.specs.Selectors.{selector_of}
 use Rattle.dia_dict.specs.contracts.selectors.SelectorPartialEq.TheImpl as selectors
@@ -39,17 +38,15 @@ same_answers a (Group c v) f g = absurd (let e : not true ≡ true = g in cc)
 pub selecting-requires : goal.selecting-requires
 selecting-requires c =
     let names = c.args.names.now in
-    let kept = names.first_commands.defs.items in
-    ap (list_all (λ (d : PlacedDef). not (is_group d.def.now.head))) c.deref.ensures.value ∙ sym (list_all-map is_command placed_def kept) ∙ ap (list_all is_command) names.kept_commands
-    ∙ first_commands-are names.source.now
+    sym (list_all-map is_command placed_def c.first_commands.result.now) ∙ ap (list_all is_command) c.first_commands.ensures ∙ first_commands-are names.source.now
 
 pub returns : goal.returns
 returns c =
     let names = c.args.names.now in
     let commands = first_defs (placed_commands (plain_source names.source.now)) in
-    let made = ap (map keyed_selector) c.deref-2.ensures.value ∙ c.in_ok-commands.ensures ∙ ap (map told_selector) (ap (map placed_def) c.deref.ensures.value ∙ names.kept_commands) in
+    let made = ap (map keyed_selector) c.deref.ensures.value ∙ c.in_ok-commands.ensures ∙ ap (map told_selector) c.first_commands.ensures in
     let bad = λ (d : PlainDef). wrong DuplicateCommand d.name [] in
     let same = repeats-told (λ (i : Keyed Selector). i.key) (λ (i : Keyed Selector). i.part) (λ (i : Keyed Selector). told i.told) eq (λ (s : Selector). s) eq (λ a b. refl)
-    (λ (d : PlainDef). selector_of (head_of d.head)) bad c.deref-2.result.now commands made in
+    (λ (d : PlainDef). selector_of (head_of d.head)) bad c.deref.result.now commands made in
     subst (λ (fs : List PlainFinding). OnOk c.push_repeats.result (map plain_finding c.push_repeats.new.findings.items ≡ map plain_finding c.args.findings.now.items ++ fs))
     (same ∙ again-selectors eq same_answers bad commands (first_commands-are names.source.now)) c.push_repeats.ensures

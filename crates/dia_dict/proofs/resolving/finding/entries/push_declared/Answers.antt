@@ -2,9 +2,8 @@ use Rattle.std.proofs.Common.{◌++◌, List, map, ap, ◌∙◌}
 use Rattle.std.proofs.lemmas.List.{take_all}
 use Rattle.dia_ccf.specs.Plain.{PlainDecl}
 use Rattle.dia_dict.specs.declared.findings.Part.{Part}
-use Rattle.dia_dict.specs.declared.resolving.parts.PlacedDecl.{PlacedDecl}
 use Rattle.dia_dict.specs.Resolution.{key_of_decl}
-use Rattle.dia_dict.specs.SourceChecks.{placed_decl, keyed_key, told_key}
+use Rattle.dia_dict.specs.SourceChecks.{PlacedDecl, placed_decl, keyed_key, told_key}
 use Rattle.dia_dict.proofs.resolving.finding.entries.push_declared.Goals as goal
 
 pub returns : goal.returns

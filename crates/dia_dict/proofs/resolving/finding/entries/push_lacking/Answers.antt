@@ -12,4 +12,4 @@ returns c =
     let names = c.args.names.now in
     let lacking : List (Part × PlainDecl) → List PlainFinding = alone (lacks_group (plain_source names.source.now)) (λ (d : PlainDecl). wrong NoGroupFormat d.name []) in
     c.loop-decl.invariant ∙ ap (λ (ds : List (Part × PlainDecl)). map plain_finding c.args.findings.now.items ++ lacking ds)
-    (ap (map placed_decl) (take_all c.loop-decl.decl-index names.first_avps.decls.items (rw c.deref-decl-items.ensures.value at c.loop-decl-test.false)) ∙ names.kept_avps)
+    (ap (map placed_decl) (take_all c.loop-decl.decl-index c.first_avps-decls.result.now c.loop-decl-test.false) ∙ c.first_avps-decls.ensures)

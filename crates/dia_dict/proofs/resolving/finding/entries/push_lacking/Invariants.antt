@@ -7,4 +7,4 @@ use Rattle.dia_dict.proofs.resolving.finding.entries.push_lacking.Given as goal
 
 abbrev pub invariant-loop-decl : goal.invariant-loop-decl
 invariant-loop-decl l = map plain_finding l.findings.items ≡ map plain_finding l.initial.findings.items
-    ++ alone (lacks_group (plain_source l.names.source.now)) (λ d. wrong NoGroupFormat d.name []) (map placed_decl (take l.decl-index l.names.first_avps.decls.items))
+    ++ alone (lacks_group (plain_source l.names.source.now)) (λ d. wrong NoGroupFormat d.name []) (map placed_decl (take l.decl-index l.decls))

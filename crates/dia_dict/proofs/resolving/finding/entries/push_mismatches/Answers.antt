@@ -10,8 +10,8 @@ use Rattle.dia_dict.proofs.resolving.finding.entries.push_mismatches.Goals as go
 pub loop-group-preserved : goal.loop-group-preserved
 loop-group-preserved c =
     let s = plain_source c.args.names.now.source.now in
-    chosen-more (λ (g : Part × PlainDef). is_mismatched s g.1) (mismatch_of s) placed_def c.args.names.now.first_groups.defs.items c.loop-group.group-index c.group-item.result _ _ _
-    (rw c.deref-group-items.ensures.value at c.loop-group-test.true) (rw c.deref-group-items.ensures.value at c.group-item.is) c.loop-group.invariant c.in_ok-push_mismatch.ensures
+    chosen-more (λ (g : Part × PlainDef). is_mismatched s g.1) (mismatch_of s) placed_def c.first_groups-groups.result.now c.loop-group.group-index c.group-item.result _ _ _
+    c.loop-group-test.true c.group-item.is c.loop-group.invariant c.in_ok-push_mismatch.ensures
 
 pub returns : goal.returns
 returns c =
@@ -19,4 +19,4 @@ returns c =
     let s = plain_source names.source.now in
     c.loop-group.invariant
     ∙ ap (λ (gs : List (Part × PlainDef)). map plain_finding c.args.findings.now.items ++ map (mismatch_of s) (filter (λ (g : Part × PlainDef). is_mismatched s g.1) gs))
-    (ap (map placed_def) (take_all c.loop-group.group-index names.first_groups.defs.items (rw c.deref-group-items.ensures.value at c.loop-group-test.false)) ∙ names.kept_groups)
+    (ap (map placed_def) (take_all c.loop-group.group-index c.first_groups-groups.result.now c.loop-group-test.false) ∙ c.first_groups-groups.ensures)

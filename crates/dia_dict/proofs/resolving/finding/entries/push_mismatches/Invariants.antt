@@ -6,4 +6,4 @@ use Rattle.dia_dict.proofs.resolving.finding.entries.push_mismatches.Given as go
 
 abbrev pub invariant-loop-group : goal.invariant-loop-group
 invariant-loop-group l = map plain_finding l.findings.items ≡ map plain_finding l.initial.findings.items
-    ++ map (mismatch_of (plain_source l.names.source.now)) (filter (λ g. is_mismatched (plain_source l.names.source.now) g.1) (map placed_def (take l.group-index l.names.first_groups.defs.items)))
+    ++ map (mismatch_of (plain_source l.names.source.now)) (filter (λ g. is_mismatched (plain_source l.names.source.now) g.1) (map placed_def (take l.group-index l.groups)))

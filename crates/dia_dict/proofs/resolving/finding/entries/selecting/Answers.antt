@@ -4,8 +4,7 @@ use Rattle.std.specs.Prelude.{not}
 use Rattle.dia_ccf.specs.Names.{is_group}
 use Rattle.dia_book.specs.declared.DefHead.{DefHead}
 use Rattle.dia_book.specs.Dictionary.{IsCommandHead}
-use Rattle.dia_dict.specs.declared.resolving.parts.PlacedDef.{PlacedDef}
-use Rattle.dia_dict.specs.SourceChecks.{placed_def, told_selector}
+use Rattle.dia_dict.specs.SourceChecks.{PlacedDef, placed_def, told_selector}
 use Rattle.dia_dict.proofs.BaseRows.{row_passes}
 use Rattle.dia_dict.proofs.SoundSources.{head_of-command}
 use Rattle.dia_dict.proofs.resolving.finding.entries.selecting.Goals as goal
@@ -13,9 +12,9 @@ use Rattle.dia_dict.proofs.resolving.finding.entries.selecting.Goals as goal
 pub of-selector-requires : goal.of-selector-requires
 of-selector-requires c =
     let command = c.command-item.result in
-    let is_command = row_passes (λ (d : PlacedDef). not (is_group d.def.now.head)) c.args.commands.now c.loop-command.command-index command c.requires c.loop-command-test.true in
+    let is_command = row_passes (λ (d : PlacedDef). not (is_group d.item.now.head)) c.args.commands.now c.loop-command.command-index command c.requires c.loop-command-test.true in
     subst (λ (h : DefHead). IsCommandHead h) (sym c.head.ensures)
-    (head_of-command command.def.now.head (ap (λ (d : PlacedDef). not (is_group d.def.now.head)) c.command-item.is ∙ is_command))
+    (head_of-command command.item.now.head (ap (λ (d : PlacedDef). not (is_group d.item.now.head)) c.command-item.is ∙ is_command))
 
 pub returns : goal.returns
 returns c =

@@ -10,13 +10,13 @@ use Rattle.dia_dict.proofs.resolving.finding.rule_faults.push_rules_in.Goals as 
 
 pub loop-index-preserved : goal.loop-index-preserved
 loop-index-preserved c =
-    alone-more (is_bad c.args.kind (plain_source c.args.names.now.source.now)) (λ (r : PlainRule). wrong c.args.kind (string_bytes c.args.def.def.now.name) (slot_name r))
-    (rule_at c.args.def.part) plain_rule c.args.def.def.now.rules.items c.loop-index.index c.rule-item.result _ _ _
+    alone-more (is_bad c.args.kind (plain_source c.args.names.now.source.now)) (λ (r : PlainRule). wrong c.args.kind (string_bytes c.args.def.item.now.name) (slot_name r))
+    (rule_at c.args.def.part) plain_rule c.args.def.item.now.rules.items c.loop-index.index c.rule-item.result _ _ _
     (rw c.deref-rule-items.ensures.value at c.loop-index-test.true) (rw c.deref-rule-items.ensures.value at c.rule-item.is) c.loop-index.invariant c.in_ok-push_rule.ensures
 
 pub returns : goal.returns
 returns c =
-    let def = c.args.def.def.now in
+    let def = c.args.def.item.now in
     let bad = alone (is_bad c.args.kind (plain_source c.args.names.now.source.now)) (λ (r : PlainRule). wrong c.args.kind (string_bytes def.name) (slot_name r)) in
     c.loop-index.invariant ∙ ap (λ (rs : List Rule). map plain_finding c.args.findings.now.items ++ bad (placed (rule_at c.args.def.part) (map plain_rule rs)))
     (take_all c.loop-index.index def.rules.items (rw c.deref-rule-items.ensures.value at c.loop-index-test.false))

@@ -7,5 +7,5 @@ use Rattle.dia_dict.proofs.resolving.finding.rule_faults.push_rules_in.Given as 
 
 abbrev pub invariant-loop-index : goal.invariant-loop-index
 invariant-loop-index l = map plain_finding l.findings.items ≡ map plain_finding l.initial.findings.items
-    ++ alone (is_bad l.kind (plain_source l.names.source.now)) (λ r. wrong l.kind (string_bytes l.def.def.now.name) (slot_name r))
-    (placed (rule_at l.def.part) (map plain_rule (take l.index l.def.def.now.rules.items)))
+    ++ alone (is_bad l.kind (plain_source l.names.source.now)) (λ r. wrong l.kind (string_bytes l.def.item.now.name) (slot_name r))
+    (placed (rule_at l.def.part) (map plain_rule (take l.index l.def.item.now.rules.items)))

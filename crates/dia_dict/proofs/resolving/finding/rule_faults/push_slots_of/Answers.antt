@@ -1,17 +1,18 @@
 use Rattle.std.proofs.Common.{◌++◌, List, map, ap, ◌∙◌}
 use Rattle.std.proofs.lemmas.List.{take_all}
-use Rattle.dia_dict.specs.declared.resolving.parts.PlacedDef.{PlacedDef}
-use Rattle.dia_dict.specs.Resolution.{repeated_in, repeated_slots}
-use Rattle.dia_dict.specs.SourceChecks.{plain_finding, placed_def}
+use Rattle.dia_ccf.specs.declared.source.Def.{Def}
+use Rattle.dia_ccf.specs.Plain.{plain_def}
+use Rattle.dia_dict.specs.Resolution.{part_at, placed, repeated_in, repeated_slots}
+use Rattle.dia_dict.specs.SourceChecks.{plain_finding}
 use Rattle.dia_dict.proofs.Placing.{told-more}
 use Rattle.dia_dict.proofs.resolving.finding.rule_faults.push_slots_of.Goals as goal
 
-pub loop-def-preserved : goal.loop-def-preserved
-loop-def-preserved c =
-    told-more repeated_in placed_def c.args.defs.now c.loop-def.def-index c.def-item.result _ _ _
-    c.loop-def-test.true c.def-item.is c.loop-def.invariant c.in_ok-push_slots_in.ensures
+pub loop-index-preserved : goal.loop-index-preserved
+loop-index-preserved c =
+    told-more repeated_in (part_at c.args.of) plain_def c.args.defs.now c.loop-index.index c.index-defs-index.result _ _ _
+    c.loop-index-test.true c.index-defs-index.is c.loop-index.invariant (rw c.at-part.ensures at c.in_ok-push_slots_in.ensures)
 
 pub returns : goal.returns
 returns c =
-    c.loop-def.invariant ∙ ap (λ (ds : List PlacedDef). map plain_finding c.args.findings.now.items ++ repeated_slots (map placed_def ds))
-    (take_all c.loop-def.def-index c.args.defs.now c.loop-def-test.false)
+    c.loop-index.invariant ∙ ap (λ (ds : List Def). map plain_finding c.args.findings.now.items ++ repeated_slots (placed (part_at c.args.of) (map plain_def ds)))
+    (take_all c.loop-index.index c.args.defs.now c.loop-index-test.false)

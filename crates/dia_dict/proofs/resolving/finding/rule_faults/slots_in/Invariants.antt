@@ -8,4 +8,4 @@ use Rattle.dia_dict.proofs.resolving.finding.rule_faults.slots_in.Given as goal
 
 abbrev pub invariant-loop-index : goal.invariant-loop-index
 invariant-loop-index l = map keyed_text l.slots.items
-    ≡ map (λ r. (r.0, (slot_name r.1, wrong RepeatedSlot (string_bytes l.def.def.now.name) (slot_name r.1)))) (placed (rule_at l.def.part) (map plain_rule (take l.index l.def.def.now.rules.items)))
+    ≡ map (λ r. (r.0, (slot_name r.1, wrong RepeatedSlot (string_bytes l.def.item.now.name) (slot_name r.1)))) (placed (rule_at l.def.part) (map plain_rule (take l.index l.def.item.now.rules.items)))

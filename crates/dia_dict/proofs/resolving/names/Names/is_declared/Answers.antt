@@ -12,6 +12,6 @@ pub returns : goal.returns
 returns c =
     let names = c.args.self.now in
     let s = plain_source names.source.now in
-    (rw c.deref.ensures at c.contains.ensures)
-    ∙ any_first placed_decl (λ (d : Part × PlainDecl). d.1.name) names.first_avps.decls.items (placed_avps s) names.first_avps.names.value.keys names.first_avps.named names.kept_avps c.args.name.now
+    (rw c.deref.ensures at c.contains_key.ensures)
+    ∙ any_first placed_decl (λ (d : Part × PlainDecl). d.1.name) (placed_avps s) names.avps.value.entries names.kept_avps c.args.name.now
     ∙ any-placed (part_at Declaration) (names_decl c.args.name.now) s.avps

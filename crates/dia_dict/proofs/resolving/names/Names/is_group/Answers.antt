@@ -12,7 +12,6 @@ pub returns : goal.returns
 returns c =
     let names = c.args.self.now in
     let s = plain_source names.source.now in
-    (rw c.deref.ensures at c.contains.ensures)
-    ∙ any_first placed_def (λ (d : Part × PlainDef). d.1.name) names.first_groups.defs.items (placed_groups s) names.first_groups.names.value.keys names.first_groups.named
-    names.kept_groups c.args.name.now
+    (rw c.deref.ensures at c.contains_key.ensures)
+    ∙ any_first placed_def (λ (d : Part × PlainDef). d.1.name) (placed_groups s) names.groups.value.entries names.kept_groups c.args.name.now
     ∙ any-placed (part_at Group) (names_def c.args.name.now) s.groups

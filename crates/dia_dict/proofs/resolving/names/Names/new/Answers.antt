@@ -1,24 +1,16 @@
-use Rattle.std.proofs.Common.{List, map, ap, ◌∙◌}
-use Rattle.dia_ccf.specs.declared.source.Decl.{Decl}
-use Rattle.dia_ccf.specs.declared.source.Def.{Def}
-use Rattle.dia_ccf.specs.Plain.{plain_decl, plain_def}
+use Rattle.dia_ccf.specs.Plain.{PlainDecl, PlainDef, plain_decl, plain_def}
 use Rattle.dia_dict.specs.declared.findings.PartKind.TheVariants.{Declaration, Group, Command}
-use Rattle.dia_dict.specs.declared.resolving.parts.PlacedDecl.{PlacedDecl}
-use Rattle.dia_dict.specs.declared.resolving.parts.PlacedDef.{PlacedDef}
-use Rattle.dia_dict.specs.Resolution.{placed, part_at, first_decls, first_defs}
-use Rattle.dia_dict.specs.SourceChecks.{placed_decl, placed_def}
+use Rattle.dia_dict.specs.Resolution.{part_at}
+use Rattle.dia_dict.specs.SourceChecks.{named_part}
+use Rattle.dia_dict.proofs.FirstNamed.{firsts-moved}
 use Rattle.dia_dict.proofs.resolving.names.Names.new.Goals as goal
 
 pub invariant_of-result : goal.invariant_of-result
-invariant_of-result c =
-    let avps = c.in_ok-avps.ensures ∙ ap (λ (ds : List Decl). placed (part_at Declaration) (map plain_decl ds)) c.deref.ensures.value in
-    let groups = c.in_ok-groups.ensures ∙ ap (λ (ds : List Def). placed (part_at Group) (map plain_def ds)) c.deref-2.ensures.value in
-    let commands = c.in_ok-commands.ensures ∙ ap (λ (ds : List Def). placed (part_at Command) (map plain_def ds)) c.deref-3.ensures.value in
-    record {
-      all_avps = avps;
-      all_groups = groups;
-      all_commands = commands;
-      kept_avps = c.in_ok-first_avps.ensures ∙ ap (λ (ps : List PlacedDecl). first_decls (map placed_decl ps)) c.deref-4.ensures.value ∙ ap first_decls avps;
-      kept_groups = c.in_ok-first_groups.ensures ∙ ap (λ (ps : List PlacedDef). first_defs (map placed_def ps)) c.deref-5.ensures.value ∙ ap first_defs groups;
-      kept_commands = c.in_ok-first_commands.ensures ∙ ap (λ (ps : List PlacedDef). first_defs (map placed_def ps)) c.deref-6.ensures.value ∙ ap first_defs commands;
-    }
+invariant_of-result c = record {
+  kept_avps = firsts-moved plain_decl (λ (d : PlainDecl). d.name) (part_at Declaration) c.args.source.now.avps.items named_part c.in_ok-avps.avps.value.entries
+      (rw c.deref.ensures.value at c.in_ok-avps.ensures);
+  kept_groups = firsts-moved plain_def (λ (d : PlainDef). d.name) (part_at Group) c.args.source.now.groups.items named_part c.in_ok-groups.groups.value.entries
+      (rw c.deref-2.ensures.value at c.in_ok-groups.ensures);
+  kept_commands = firsts-moved plain_def (λ (d : PlainDef). d.name) (part_at Command) c.args.source.now.commands.items named_part c.in_ok-commands.commands.value.entries
+      (rw c.deref-3.ensures.value at c.in_ok-commands.ensures);
+}
