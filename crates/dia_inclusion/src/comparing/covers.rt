@@ -63,7 +63,7 @@ impl<'a, A: Book, B: Book> Cover<'a, A, B> {
         requires second { b.now ≡ sides.now.second }
         ensures { IfOk result (λ cover. cover ≡ compared sides.now (plain_table table.now)) }
     {
-        let paired = Box::new(alloc, paired_keys(alloc, a, b, &table.avps)?)?;
+        let paired = paired_keys(alloc, a, b, &table.avps)?;
         let uncovered = uncovered_keys(alloc, sides, &paired)?;
         Ok(Cover {
             sides: sides.again(),
@@ -142,12 +142,12 @@ fn paired_keys<A: Book, B: Book>(
     a: &NamedBook<'_, A>,
     b: &NamedBook<'_, B>,
     pairs: &[(String, String)],
-) -> Result<IndexSet<Key>, AllocError>
+) -> Result<Box<IndexSet<Key>>, AllocError>
     ensures { IfOk result
-        (λ set. (key : AnyKey) → holds_key set.keys key
+        (λ set. (key : AnyKey) → holds_key set.value.keys key
         ≡ list_any (pairs_key a.now b.now key) (map plain_pair pairs.now)) }
 {
-    let mut keys = IndexSet::new(alloc);
+    let mut keys = Box::new(alloc, IndexSet::new(alloc))?;
     for pair in pairs {
         add_key(&mut keys, a, b, pair)?;
     }

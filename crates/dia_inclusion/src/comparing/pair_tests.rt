@@ -4,7 +4,8 @@ ghost use Rattle.std.specs.Prelude.{IfSome, IsTrue, Some, length, slice_get};
 ghost use Rattle.dia_data.specs.Plain.{Grouped, plain_format};
 ghost use Rattle.dia_data.specs.Below.{FormatBelow};
 ghost use Rattle.dia_book.specs.Dictionary.{DictEntry, definitions, groups};
-ghost use Rattle.dia_inclusion.specs.PairTests.{all_selected, failed_commands, failed_groups};
+ghost use Rattle.dia_inclusion.specs.PairTests.{all_selected, failed_commands, failed_groups, failed_rules};
+ghost use Rattle.dia_valid.specs.Rules.{rules_in};
 ghost use Rattle.dia_inclusion.specs.Closed.{AvpPair};
 ghost use Rattle.dia_inclusion.specs.FirstFailures.{FailsEntries};
 
@@ -35,11 +36,7 @@ pub(super) fn failed_commands<A: Book, B: Book>(
     let first = a.command_at(first);
     let second = b.command_at(second);
     if may_stand_for(a.def(first), b.def(second)) && selected {
-        failed_rules(
-            &sides.first_rules(first),
-            &sides.second_rules(second),
-            cover,
-        )
+        failed_definitions(cover, first, second)
     } else {
         Some(Test::N10)
     }
@@ -63,6 +60,25 @@ pub(super) fn failed_avps<A: Book, B: Book>(
     failed_groups(cover, a.group(first), b.group(second))
 }
 
+/// The first test that two definitions fail.
+fn failed_definitions<A: Book, B: Book>(
+    cover: &Cover<'_, A, B>,
+    first: DefId,
+    second: DefId,
+) -> Option<Test>
+    requires first { first < length (definitions cover.now.sides.first) }
+    requires second { second < length (definitions cover.now.sides.second) }
+    ensures { result ≡ failed_rules cover.now (rules_in cover.now.sides.first first)
+        (rules_in cover.now.sides.second second) }
+{
+    let sides = cover.sides();
+    failed_rules(
+        &sides.first_rules(first),
+        &sides.second_rules(second),
+        cover,
+    )
+}
+
 /// The first test that the definitions of two Grouped AVPs fail.
 fn failed_groups<A: Book, B: Book>(
     cover: &Cover<'_, A, B>,
@@ -73,14 +89,9 @@ fn failed_groups<A: Book, B: Book>(
     requires second { IfSome second (λ y. y < length (definitions cover.now.sides.second)) }
     ensures { result ≡ failed_groups cover.now first second }
 {
-    let sides = cover.sides();
     match first {
         Some(first) => match second {
-            Some(second) => failed_rules(
-                &sides.first_rules(first),
-                &sides.second_rules(second),
-                cover,
-            ),
+            Some(second) => failed_definitions(cover, first, second),
             None => None,
         },
         None => None,

@@ -11,5 +11,5 @@ loop-pair-preserved g c key =
     let i = c.loop-pair.pair-index in
     let p = c.pair-item.result in
     let has = pairs_key c.args.a.now c.args.b.now key in
-    c.in_ok-add_key.ensures key ∙ ap (λ (b : Bool). b || has (plain_pair p)) (c.loop-pair.invariant key)
+    (rw c.deref_mut.ensures.value at c.in_ok-add_key.ensures) key ∙ ap (λ (b : Bool). b || has (plain_pair p)) (c.loop-pair.invariant key)
     ∙ sym (any_more has pairs i p c.loop-pair-test.true c.pair-item.is)

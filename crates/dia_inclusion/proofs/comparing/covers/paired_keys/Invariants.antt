@@ -7,5 +7,5 @@ use Rattle.dia_inclusion.specs.PairTests.{pairs_key}
 use Rattle.dia_inclusion.proofs.comparing.covers.paired_keys.Given as goal
 
 abbrev pub invariant-loop-pair : goal.invariant-loop-pair
-invariant-loop-pair g l = (key : Key) → holds_key l.keys.keys key ≡ list_any (pairs_key l.a l.b key)
+invariant-loop-pair g l = (key : Key) → holds_key l.keys.value.keys key ≡ list_any (pairs_key l.a l.b key)
     (map plain_pair (take l.pair-index l.pairs))

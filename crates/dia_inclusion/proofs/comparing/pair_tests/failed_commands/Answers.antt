@@ -1,12 +1,24 @@
-use Rattle.std.proofs.Common.{◌≡◌, ◌+◌, List, Some, length, ap, subst, ◌∙◌}
+use Rattle.std.proofs.Common.{◌≡◌, ◌<◌, ◌+◌, ℕ, Some, length, ap, subst, ◌∙◌, arith}
+use Rattle.std.proofs.lemmas.List.{length-append}
 use Rattle.std.specs.Prelude.{slice_get}
-use Rattle.dia_book.specs.declared.DRule.{DRule}
 use Rattle.dia_book.specs.Dictionary.{Dictionary, plain_definition, definitions, groups}
 use Rattle.dia_inclusion.specs.Sides.{Sides}
-use Rattle.dia_valid.specs.Rules.{rules_in}
-use Rattle.dia_inclusion.specs.PairTests.{failed_rules}
 use Rattle.dia_inclusion.proofs.CommandsByCode.{pair_fails, pair_fails_tenth}
 use Rattle.dia_inclusion.proofs.comparing.pair_tests.failed_commands.Goals as goal
+
+-- a command's number is one of a definition
+within : (d e : Dictionary) (k i : ℕ) → d ≡ e → k ≡ length (groups d) + i → i < length e.commands → k < length (definitions e)
+within d e k i same at below = omega (arith, ap (λ (x : Dictionary). length (groups x)) same, at, below, length-append (groups e) e.commands)
+
+pub failed_definitions-requires-clause-first : goal.failed_definitions-requires-clause-first
+failed_definitions-requires-clause-first g c =
+    within (g.A.Book.meaning c.first-a.result.now) c.args.cover.now.sides.first c.command_at-first.result c.args.first
+    (c.first-a.ensures.meaning ∙ ap (λ (s : Sides). s.first) c.sides-sides.ensures) c.command_at-first.ensures c.requires.first
+
+pub failed_definitions-requires-clause-second : goal.failed_definitions-requires-clause-second
+failed_definitions-requires-clause-second g c =
+    within (g.B.Book.meaning c.second-b.result.now) c.args.cover.now.sides.second c.command_at-second.result c.args.second
+    (c.second-b.ensures.meaning ∙ ap (λ (s : Sides). s.second) c.sides-sides.ensures) c.command_at-second.ensures c.requires.second
 
 pub returns-then-selected : goal.returns-then-selected
 returns-then-selected g c =
@@ -21,9 +33,7 @@ returns-then-selected g c =
     let y = plain_definition c.def-2.result.now in
     let at_x = subst (λ (d : Dictionary). slice_get (definitions d) k ≡ Some x) ea c.def.ensures in
     let at_y = subst (λ (d : Dictionary). slice_get (definitions d) l ≡ Some y) eb c.def-2.ensures in
-    c.failed_rules.ensures
-    ∙ ap (λ (rules : List DRule). failed_rules all rules c.second_rules.result) (c.first_rules.ensures ∙ ap (λ (s : Sides). rules_in s.first k) c.sides-sides.ensures)
-    ∙ ap (failed_rules all (rules_in all.sides.first k)) (c.second_rules.ensures ∙ ap (λ (s : Sides). rules_in s.second l) c.sides-sides.ensures)
+    c.failed_definitions.ensures
     ∙ pair_fails all c.args.first c.args.second k l x y c.args.selected c.may_stand_for.result c.requires.selected at_k at_l at_x at_y c.may_stand_for.ensures
     c.if-may_stand_for.true c.if-selected.true
 

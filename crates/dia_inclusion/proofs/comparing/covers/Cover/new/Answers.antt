@@ -19,7 +19,7 @@ invariant_of-result g c =
     let first = c.requires.first ∙ ap (λ (s : Sides). s.first) (sym c.again.ensures) in
     let second = c.requires.second ∙ ap (λ (s : Sides). s.second) (sym c.again.ensures) in
     let paired : ArePaired all keys = λ key.
-    ap (λ s. holds_key s.keys key) c.in_ok-paired.ensures.ok ∙ c.in_ok-paired_keys.ensures key
+    c.in_ok-paired.ensures key
     ∙ ap (λ (d : Dictionary). list_any (pairs_key d c.args.b.now key) pairs) first
     ∙ ap (λ (d : Dictionary). list_any (pairs_key sides.first d key) pairs) second
     ∙ ap (λ ps. list_any (pairs_key sides.first sides.second key) (map plain_pair ps)) c.deref.ensures.value in
