@@ -14,5 +14,6 @@ loop-index-preserved c =
 
 pub returns : goal.returns
 returns c =
-    c.loop-index.invariant ∙ ap (λ (ds : List Def). map plain_finding c.args.findings.now.items ++ bad_rules c.args.kind (plain_source c.args.names.now.source.now) (placed (part_at c.args.of) (map plain_def ds)))
+    c.loop-index.invariant
+    ∙ ap (λ (ds : List Def). map plain_finding c.args.findings.now.items ++ bad_rules c.args.kind (plain_source c.args.names.now.source.now) (placed (part_at c.args.of) (map plain_def ds)))
     (take_all c.loop-index.index c.args.defs.now c.loop-index-test.false)
