@@ -1,6 +1,7 @@
 -- What is told where lines are added, part by part.
 use Rattle.std.proofs.Common.{◌≡◌, ℕ, zero, suc, ◌+◌, ◌≤◌, ◌<◌, List, [], ◌∷◌, ◌++◌, length, map, take, Option, Some, None, sym, refl, ap, subst, ◌∙◌, arith, inl, inr, append_assoc, append-nil, add-one}
-use Rattle.std.specs.Prelude.{◌⊎◌, slice_get}
+use Rattle.std.specs.Prelude.{◌⊎◌, OnOk, slice_get}
+use Rattle.std.specs.declared.result.Result.{Result}
 use Rattle.std.specs.Option.{option_map, option_map_or}
 use Rattle.std.proofs.lemmas.Bool.{cases_order}
 use Rattle.std.proofs.lemmas.Option.{slice_get_past, slice_get-map}
@@ -49,6 +50,14 @@ adds_each f xs i a b le adds = adds ∙ ap (λ ys. map tells a ++ ys) (joined_pa
 pub adds_past : {X : Type 0} (f : X → List Told) (xs : List X) (i : ℕ) (lines : List Line) → length xs ≤ i → AddsTold lines lines (option_map_or f (slice_get xs i) [])
 adds_past {X} f xs i lines le = adds_none lines ∙ ap (λ (o : Option X). map tells lines ++ option_map_or f o []) (sym (slice_get_past xs i le))
 
+-- where there is one, there is its part
+pub adds_at : {X : Type 0} (f : X → List Told) (xs : List X) (i : ℕ) (x : X) (a b : List Line) → slice_get xs i ≡ Some x → AddsTold a b (f x) → AddsTold a b (option_map_or f (slice_get xs i) [])
+adds_at {X} f xs i x a b at adds = subst (λ (o : Option X). AddsTold a b (option_map_or f o [])) (sym at) adds
+
+pub adds_at_on_ok : {X Y E : Type 0} (f : X → List Told) (xs : List X) (i : ℕ) (x : X) (r : Result Y E) (a b : List Line) → slice_get xs i ≡ Some x → OnOk r (AddsTold a b (f x))
+    → OnOk r (AddsTold a b (option_map_or f (slice_get xs i) []))
+adds_at_on_ok {X} f xs i x r a b at adds = subst (λ (o : Option X). OnOk r (AddsTold a b (option_map_or f o []))) (sym at) adds
+
 -- what is known of lines is no part of what they tell
 told_images : (xs : List Line) → map told_of (map unchecked xs) ≡ map told_of xs
 told_images [] = refl
@@ -70,6 +79,16 @@ pub adds_no_level : (site way : ℕ) (outlooks : List Outlook) (place : ℕ) (ou
 adds_no_level site way outlooks place outlook lines at none =
     adds_none lines ∙ ap (λ (o : Option (List LevelLine)). map tells lines ++ option_map_or (level_lines site way) o [])
     (sym (slice_get-map lines_in outlooks place ∙ ap (option_map lines_in) at ∙ ap (λ (inner : Option Inner). Some (option_map_or (λ (i : Inner). i.lines.items) inner [])) none))
+
+-- one that is has those of its level
+pub adds_level : {Y E : Type 0} (site way : ℕ) (outlooks : List Outlook) (place : ℕ) (outlook : Outlook) (inner : Inner) (lines : List LevelLine) (r : Result Y E) (a b : List Line)
+    → slice_get outlooks place ≡ Some outlook → outlook.inner ≡ Some inner → lines ≡ inner.lines.items → OnOk r (AddsTold a b (level_lines site way lines))
+    → OnOk r (AddsTold a b (option_map_or (level_lines site way) (slice_get (map lines_in outlooks) place) []))
+adds_level site way outlooks place outlook inner lines r a b at some is adds =
+    subst (λ (o : Option (List LevelLine)). OnOk r (AddsTold a b (option_map_or (level_lines site way) o [])))
+    (ap (λ (ls : List LevelLine). Some ls) is
+    ∙ sym (slice_get-map lines_in outlooks place ∙ ap (option_map lines_in) at ∙ ap (λ (inner : Option Inner). Some (option_map_or (λ (i : Inner). i.lines.items) inner [])) some))
+    adds
 
 -- what is added behind others for one member more
 pub added_behind : {X Y : Type 0} (f : X → Option Y) (xs : List X) (i : ℕ) (x : X) (start old new : List Y) → new ≡ old ++ filter_map f (x ∷ []) → old ≡ start ++ filter_map f (take i xs)

@@ -3,8 +3,8 @@ ghost use Rattle.std.specs.Prelude.{◌≡◌, ◌++◌, IfOk, OnOk, codes};
 ghost use Rattle.std.specs.Option.{option_map, option_map_or};
 ghost use Rattle.dia_data.specs.Plain.{plain_format};
 ghost use Rattle.dia_breaking.specs.Runs.{lacking_of};
-ghost use Rattle.dia_breaking.specs.Words.{format_detail, formats_text, plain_of};
-ghost use Rattle.dia_breaking.specs.Words.{range_text, ranges_at, ranges_text, readings_text};
+ghost use Rattle.dia_breaking.specs.Words.{format_detail, plain_of};
+ghost use Rattle.dia_breaking.specs.Words.{range_text, ranges_at, ranges_text};
 ghost use Rattle.dia_breaking.specs.Words.{whole_format, Writes};
 
 use crate::number_lists::{lacking, numbers_of};
@@ -22,7 +22,7 @@ pub(crate) fn push_format_detail(
 {
     match lacking_of(alloc, sent, accepted)? {
         Some(numbers) => push_lacking(out, &numbers),
-        None => push_formats(out, sent, accepted),
+        None => push_formats(out, sent, accepted, " accepted"),
     }
 }
 
@@ -68,32 +68,20 @@ fn push_range(out: &mut String, low: u32, high: u32) -> Result<(), AllocError>
     }
 }
 
-/// Adds both formats.
+/// Adds both formats: what is sent, and what B's side does (`end`) with the other.
 pub(crate) fn push_formats(
     out: &mut String,
     sent: Option<&Format>,
-    accepted: Option<&Format>,
+    other: Option<&Format>,
+    end: &str,
 ) -> Result<(), AllocError>
-    ensures { OnOk result (Writes out.old out.new (formats_text (plain_of sent.entry) (plain_of accepted.entry))) }
+    ensures { OnOk result (Writes out.old out.new (option_map_or whole_format (plain_of sent.entry) (codes "any data") ++ codes " sent, "
+        ++ option_map_or whole_format (plain_of other.entry) (codes "nothing") ++ end.now)) }
 {
     push_format_or(out, sent, "any data")?;
     out.push_str(" sent, ")?;
-    push_format_or(out, accepted, "nothing")?;
-    out.push_str(" accepted")
-}
-
-/// Adds what is sent, and as what it is read.
-pub(crate) fn push_readings(
-    out: &mut String,
-    sent: Option<&Format>,
-    read: Option<&Format>,
-) -> Result<(), AllocError>
-    ensures { OnOk result (Writes out.old out.new (readings_text (plain_of sent.entry) (plain_of read.entry))) }
-{
-    push_format_or(out, sent, "any data")?;
-    out.push_str(" sent, ")?;
-    push_format_or(out, read, "nothing")?;
-    out.push_str(" read")
+    push_format_or(out, other, "nothing")?;
+    out.push_str(end)
 }
 
 /// Adds a format, or this word where there is none.

@@ -34,9 +34,8 @@ impl<'a, A: Book, B: Book> Upgrade<'a, A, B> {
             (level_text (sides_of self.now) (other_length_of self.now) command site line.now)) }
     {
         let reason = line.reason;
-        write!(out, "{reason} ")?;
-        self.push_subject(out, line.key)?;
-        out.push_str(": ")?;
+        let name = self.subject_name(line.key);
+        write!(out, "{reason} {name}: ")?;
         match site {
             Some(site) => self.push_level_detail(out, command, line, site.place),
             None => Ok(()),
@@ -68,9 +67,8 @@ impl<'a, A: Book, B: Book> Upgrade<'a, A, B> {
         ensures { OnOk result (Writes out.old out.new
             (codes "behind " ++ subject_name (sides_of self.now) behind ++ codes " sent")) }
     {
-        out.push_str("behind ")?;
-        self.push_subject(out, behind)?;
-        out.push_str(" sent")
+        let name = self.subject_name(behind);
+        write!(out, "behind {name} sent")
     }
 
     /// How often A's definition lets the AVP stand in the level. Without a key, how often it lets the AVPs stand there that it

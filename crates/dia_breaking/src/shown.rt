@@ -1,5 +1,5 @@
 //! The AVP that a line tells of.
-ghost use Rattle.std.specs.Prelude.{◌≡◌, IfOk};
+ghost use Rattle.std.specs.Prelude.{◌≡◌, IfOk, Some};
 ghost use Rattle.std.specs.Option.{option_map};
 ghost use Rattle.dia_breaking_data.specs.Shortest.{witness_bytes};
 ghost use Rattle.dia_breaking_shortest.specs.Bytes.{avp_bytes};
@@ -38,47 +38,52 @@ impl<'a, A: Book, B: Book> Upgrade<'a, A, B> {
             Cause::Application => Ok(None),
             Cause::Proxiable { .. } => Ok(None),
             Cause::Level(_) => Ok(None),
-            Cause::Unknown { key, m } => Ok(Some(self.with_m(alloc, key, m)?)),
-            Cause::MBit { key, m } => Ok(Some(self.with_m(alloc, key, m)?)),
-            Cause::Format { key, data: None } => Ok(Some(self.shortest(alloc, key)?)),
+            Cause::Unknown { key, m } => self.with_m(alloc, key, m),
+            Cause::MBit { key, m } => self.with_m(alloc, key, m),
+            Cause::Format { key, data: None } => self.shortest(alloc, key),
             Cause::Format {
                 key,
                 data: Some(found),
-            } => Ok(Some(self.with_data(alloc, key, &found)?)),
-            Cause::LevelAsLeaf { key } => Ok(Some(self.shortest(alloc, key)?)),
-            Cause::Meaning { key } => Ok(Some(self.with_m(alloc, key, self.wants_m(key))?)),
+            } => self.with_data(alloc, key, &found),
+            Cause::LevelAsLeaf { key } => self.shortest(alloc, key),
+            Cause::Meaning { key } => self.with_m(alloc, key, self.wants_m(key)),
         }
     }
 
     /// A least one.
-    fn shortest(&self, alloc: Global, key: Key) -> Result<ShownAvp, AllocError>
-        ensures { IfOk result (λ found. plain_shown found
-            ≡ shown key (shortest_avp (sides_of self.now) (stock_of self.now) key)) }
+    fn shortest(&self, alloc: Global, key: Key) -> Result<Option<ShownAvp>, AllocError>
+        ensures { IfOk result (λ found. option_map plain_shown found
+            ≡ Some (shown key (shortest_avp (sides_of self.now) (stock_of self.now) key))) }
     {
         let mut bytes = Vec::new(alloc);
         push_least(&mut bytes, self.lengths.book, &self.lengths.least, key)?;
-        Ok(ShownAvp { key, bytes })
+        Ok(Some(ShownAvp { key, bytes }))
     }
 
     /// A least one with this M flag.
-    fn with_m(&self, alloc: Global, key: Key, m: bool) -> Result<ShownAvp, AllocError>
-        ensures { IfOk result (λ found. plain_shown found
-            ≡ shown key (with_m m (shortest_avp (sides_of self.now) (stock_of self.now) key))) }
+    fn with_m(&self, alloc: Global, key: Key, m: bool) -> Result<Option<ShownAvp>, AllocError>
+        ensures { IfOk result (λ found. option_map plain_shown found
+            ≡ Some (shown key (with_m m (shortest_avp (sides_of self.now) (stock_of self.now) key)))) }
     {
         let mut bytes = Vec::new(alloc);
         push_least(&mut bytes, self.lengths.book, &self.lengths.least, key)?;
         set_m(&mut bytes, m);
-        Ok(ShownAvp { key, bytes })
+        Ok(Some(ShownAvp { key, bytes }))
     }
 
     /// One with these data.
-    fn with_data(&self, alloc: Global, key: Key, found: &Witness) -> Result<ShownAvp, AllocError>
-        ensures { IfOk result (λ avp. plain_shown avp
-            ≡ shown key (avp_bytes key (wants_m (sides_of self.now) key) (witness_bytes found.now))) }
+    fn with_data(
+        &self,
+        alloc: Global,
+        key: Key,
+        data: &Witness,
+    ) -> Result<Option<ShownAvp>, AllocError>
+        ensures { IfOk result (λ found. option_map plain_shown found
+            ≡ Some (shown key (avp_bytes key (wants_m (sides_of self.now) key) (witness_bytes data.now)))) }
     {
         let mut bytes = Vec::new(alloc);
-        push_avp(&mut bytes, key, self.wants_m(key), found.as_slice())?;
-        Ok(ShownAvp { key, bytes })
+        push_avp(&mut bytes, key, self.wants_m(key), data.as_slice())?;
+        Ok(Some(ShownAvp { key, bytes }))
     }
 
     /// The M flag that both rules want, where they can be met together.

@@ -10,7 +10,7 @@ ghost use Rattle.dia_breaking.specs.Words.{refused_application, standing_text, s
 ghost use Rattle.dia_breaking.specs.Words.{Writes, unknown_detail, words_of};
 
 use crate::books::{format_of, name_of};
-use crate::format_words::{push_format_detail, push_formats, push_readings};
+use crate::format_words::{push_format_detail, push_formats};
 use crate::line::{Breaks, Cause, Line, Place, Site, Standing};
 use crate::upgrade::Upgrade;
 use dia_book::{Book, DefId, Key};
@@ -74,18 +74,12 @@ impl<'a, A: Book, B: Book> Upgrade<'a, A, B> {
             }
             Place::Group { key, .. } => {
                 out.push_str("/")?;
-                self.push_name(out, key)
+                out.push_str(self.avp_name(key))
             }
         }
     }
 
-    /// Adds the name in A, else in B, else `AVP`.
-    fn push_name(&self, out: &mut String, key: Key) -> Result<(), AllocError>
-        ensures { OnOk result (Writes out.old out.new (avp_name (sides_of self.now) key)) }
-    {
-        out.push_str(self.avp_name(key))
-    }
-
+    /// The name in A, else in B, else `AVP`.
     fn avp_name(&self, key: Key) -> &str
         ensures { result.now ≡ avp_name (sides_of self.now) key }
     {
@@ -98,13 +92,13 @@ impl<'a, A: Book, B: Book> Upgrade<'a, A, B> {
         }
     }
 
-    /// Adds the name of an AVP, or `AVP` where the wildcard counts.
-    pub(crate) fn push_subject(&self, out: &mut String, key: Option<Key>) -> Result<(), AllocError>
-        ensures { OnOk result (Writes out.old out.new (subject_name (sides_of self.now) key)) }
+    /// The name of an AVP, or `AVP` where the wildcard counts.
+    pub(crate) fn subject_name(&self, key: Option<Key>) -> &str
+        ensures { result.now ≡ subject_name (sides_of self.now) key }
     {
         match key {
-            Some(key) => self.push_name(out, key),
-            None => out.push_str("AVP"),
+            Some(key) => self.avp_name(key),
+            None => "AVP",
         }
     }
 
@@ -141,10 +135,9 @@ impl<'a, A: Book, B: Book> Upgrade<'a, A, B> {
         ensures { OnOk result (Writes out.old out.new
             (codes "unknown " ++ avp_name (sides_of self.now) key ++ codes ": " ++ unknown_detail self.now.unknown m)) }
     {
-        out.push_str("unknown ")?;
-        self.push_name(out, key)?;
-        out.push_str(": ")?;
-        out.push_str(unknown_detail(self.unknown, m))
+        let name = self.avp_name(key);
+        let detail = unknown_detail(self.unknown, m);
+        write!(out, "unknown {name}: {detail}")
     }
 
     fn push_m_bit(&self, out: &mut String, key: Key, m: bool) -> Result<(), AllocError>
@@ -159,9 +152,8 @@ impl<'a, A: Book, B: Book> Upgrade<'a, A, B> {
     fn push_format(&self, alloc: Global, out: &mut String, key: Key) -> Result<(), AllocError>
         ensures { OnOk result (Writes out.old out.new (format_text (sides_of self.now) key)) }
     {
-        out.push_str("format ")?;
-        self.push_name(out, key)?;
-        out.push_str(": ")?;
+        let name = self.avp_name(key);
+        write!(out, "format {name}: ")?;
         push_format_detail(
             alloc,
             out,
@@ -173,13 +165,13 @@ impl<'a, A: Book, B: Book> Upgrade<'a, A, B> {
     fn push_meaning(&self, out: &mut String, key: Key) -> Result<(), AllocError>
         ensures { OnOk result (Writes out.old out.new (meaning_text (sides_of self.now) key)) }
     {
-        out.push_str("meaning ")?;
-        self.push_name(out, key)?;
-        out.push_str(": ")?;
-        push_readings(
+        let name = self.avp_name(key);
+        write!(out, "meaning {name}: ")?;
+        push_formats(
             out,
             format_of(self.lengths.book, key),
             format_of(self.b, key),
+            " read",
         )
     }
 
@@ -187,12 +179,13 @@ impl<'a, A: Book, B: Book> Upgrade<'a, A, B> {
         ensures { OnOk result (Writes out.old out.new (avp_name (sides_of self.now) key ++ codes ": "
             ++ formats_text (format_in (sides_of self.now).sender key) (format_in (sides_of self.now).receiver key))) }
     {
-        self.push_name(out, key)?;
-        out.push_str(": ")?;
+        let name = self.avp_name(key);
+        write!(out, "{name}: ")?;
         push_formats(
             out,
             format_of(self.lengths.book, key),
             format_of(self.b, key),
+            " accepted",
         )
     }
 }
