@@ -1,5 +1,5 @@
 -- Data of a level that B reads as a leaf, where it isn't known whether B accepts all levels.
-use Rattle.std.proofs.Common.{◌≡◌, ℕ, List, Option, sym, subst, inl, inr}
+use Rattle.std.proofs.Common.{◌≡◌, ℕ, List, Option, Some, drop, sym, ap, subst, ◌∙◌, inl, inr}
 use Rattle.std.specs.Prelude.{IfSome, MatchOption, ⊤}
 use Rattle.std.specs.Option.{option_map}
 use Rattle.dia_wire.specs.declared.Key.{Key}
@@ -16,7 +16,9 @@ use Rattle.dia_breaking_avps.specs.Breaks.{IsDataBreak}
 use Rattle.dia_breaking_avps.specs.Levels.{IsUndecided}
 use Rattle.dia_breaking_avps.specs.Sent.{IsAcceptedData, group_rules}
 use Rattle.dia_breaking_avps.specs.declared.breaking.DataBreak.TheVariants.{Undecided}
+use Rattle.dia_breaking_shortest.specs.Floors.{shortest_head}
 use Rattle.dia_breaking.specs.Tried.{IsLeftOpenBy, TakesAsLeaf, data_of}
+use Rattle.dia_breaking.specs.Words.{format_in}
 
 -- ---- what a format says
 
@@ -64,3 +66,19 @@ module _ (da db : Dictionary) (who : Sends) (u : Unknown) (key : Key) where
       → IsLeftOpenBy (IsAcceptedData db u key) key bytes n
   left_open content bytes n (inl long) = inl long
   left_open content bytes n (inr takes) = inr (taken_accepted content (data_of key bytes) takes)
+
+-- ---- what a try shows
+
+-- where the dictionary has this format for AVPs of the key, and one has the bytes `least`
+module _ (d : Dictionary) (key : Key) (format : PlainFormat) (has : format_in d key ≡ Some format) (head : ℕ) (bytes least : List ℕ) (head_is : head ≡ shortest_head key) (bytes_are : bytes ≡ least) where
+  behind : drop head bytes ≡ data_of key least
+  behind = ap (λ (n : ℕ). drop n bytes) head_is ∙ ap (drop (shortest_head key)) bytes_are
+
+  abbrev FineBy : Option PlainFormat → Type 0
+  FineBy o = IfSome o (λ f. IsLeafAnswer Fine f (data_of key least))
+
+  pub takes_fine : IsLeafAnswer Fine format (drop head bytes) → TakesAsLeaf d key (data_of key least)
+  takes_fine fine = subst FineBy (sym has) (subst (IsLeafAnswer Fine format) behind fine)
+
+  pub takes_none : ¬ IsLeafAnswer Fine format (drop head bytes) → ¬ TakesAsLeaf d key (data_of key least)
+  takes_none bad takes = bad (subst (IsLeafAnswer Fine format) (sym behind) (subst FineBy has takes))

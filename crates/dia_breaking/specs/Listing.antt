@@ -179,12 +179,9 @@ sites_of db basis first count steps = command_sites db basis.head basis.readings
 abbrev pub numbers : ℕ → ℕ → Numbers
 numbers first count = record { first = first; count = count }
 
-abbrev pub levels_of : Dictionary → Basis → Numbers → List Step → List Told
-levels_of db basis n steps = of_each (header_lines db basis.head basis.base) basis.readings ++ of_each command_levels basis.levels ++ of_each (group_levels n.count basis.groups) steps
-
 abbrev pub lines_of : Dictionary → Basis → Numbers → List Step → List (Option Reach) → List Told
 lines_of db basis n steps reached =
-    levels_of db basis n steps
+    of_each (header_lines db basis.head basis.base) basis.readings ++ of_each command_levels basis.levels ++ of_each (group_levels n.count basis.groups) steps
     ++ own_lines kinds.Unknown n.first n.count basis.own reached ++ own_lines kinds.MBit n.first n.count basis.own reached ++ own_lines kinds.Data n.first n.count basis.own reached
 
 -- what is read as another format. That breaks nothing

@@ -1,5 +1,5 @@
 -- What an upgrade knows.
-use Rattle.std.specs.Prelude.{ℕ, List, ◌++◌}
+use Rattle.std.specs.Prelude.{ℕ, List}
 use Rattle.dia_wire.specs.declared.Key.{Key}
 use Rattle.dia_book.specs.declared.book.Book.{Ghosts as Reads}
 use Rattle.dia_breaking.specs.declared.upgrade.Upgrade.{Upgrade}
@@ -7,8 +7,7 @@ use Rattle.dia_breaking.specs.declared.start.Start.{Start}
 use Rattle.dia_breaking.specs.declared.line.Line.{Line}
 use Rattle.dia_breaking.specs.declared.sites.Numbers.{Numbers}
 use Rattle.dia_breaking_ways.specs.declared.graph.Walk.{Walk}
-use Rattle.dia_breaking.specs.declared.own_lines.Kind.TheVariants as kinds
-use Rattle.dia_breaking.specs.Listing.{Basis, Told, basis_of, levels_of, lines_of, own_lines}
+use Rattle.dia_breaking.specs.Listing.{Basis, Told, basis_of, lines_of}
 use Rattle.dia_breaking.specs.Messages.{Stock, stock}
 use Rattle.dia_breaking.specs.OwnBreaks.{HaveDataBreaks, KeepsData}
 use Rattle.dia_breaking.specs.Sender.{costs_of, sender_in}
@@ -48,12 +47,3 @@ module _ {A B : Type 0} {a : Reads A} {b : Reads B} where
   -- the lines that a walk finds from this start
   abbrev pub lines_for : Upgrade A B a b → Start → Numbers → Walk → List Told
   lines_for up start numbers walk = lines_of (b.meaning up.b.now) (basis_for up start) numbers walk.steps.items walk.reached.items
-
-  -- those of headers and levels, and those of AVPs by themselves
-  abbrev pub levels_for : Upgrade A B a b → Start → Numbers → Walk → List Told
-  levels_for up start numbers walk = levels_of (b.meaning up.b.now) (basis_for up start) numbers walk.steps.items
-
-  abbrev pub own_for : Upgrade A B a b → Numbers → Walk → List Told
-  own_for up numbers walk =
-      own_lines kinds.Unknown numbers.first numbers.count up.own.items walk.reached.items ++ own_lines kinds.MBit numbers.first numbers.count up.own.items walk.reached.items
-      ++ own_lines kinds.Data numbers.first numbers.count up.own.items walk.reached.items

@@ -1,6 +1,5 @@
 //! The lines of a command's header.
-ghost use Rattle.std.specs.Prelude.{◌≡◌, [], OnOk, map, slice_get};
-ghost use Rattle.std.specs.Option.{option_map_or};
+ghost use Rattle.std.specs.Prelude.{◌≡◌, OnOk, map};
 ghost use Rattle.dia_breaking.specs.Listing.{AddsTold, flag_causes, header_line, header_lines};
 ghost use Rattle.dia_breaking.specs.Listing.{refusal};
 ghost use Rattle.dia_breaking.specs.Orders.{of_each};
@@ -23,25 +22,10 @@ pub(crate) fn push_header_lines<B: Book>(
     ensures { OnOk result (AddsTold lines.old.items lines.new.items
         (of_each (header_lines (B.meaning b.now) start.now.head start.now.base) start.now.readings.items)) }
 {
-    for site in 0..start.readings.len() {
-        push_header_at(b, start, site, lines)?;
+    for (site, reading) in start.readings.iter().enumerate() {
+        push_header(b, &start.head, start.base, site, reading, lines)?;
     }
     Ok(())
-}
-
-fn push_header_at<B: Book>(
-    b: &B,
-    start: &Start,
-    site: usize,
-    lines: &mut Vec<Line>,
-) -> Result<(), AllocError>
-    ensures { OnOk result (AddsTold lines.old.items lines.new.items (option_map_or
-        (header_lines (B.meaning b.now) start.now.head start.now.base site) (slice_get start.now.readings.items site) [])) }
-{
-    match start.readings.get(site) {
-        Some(reading) => push_header(b, &start.head, start.base, site, reading, lines),
-        None => Ok(()),
-    }
 }
 
 /// Adds what breaks in the header of messages, for a reading.

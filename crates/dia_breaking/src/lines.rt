@@ -19,7 +19,7 @@ ghost use Rattle.dia_breaking.specs.TheLines.{HasTheLines, IsOfHead, IsStartOf};
 ghost use Rattle.dia_breaking.specs.Sender.{costs_of};
 ghost use Rattle.dia_breaking.specs.TheMeanings.{AreMeaningsOf, AreMeant, HoldsOfLevels};
 ghost use Rattle.dia_breaking.specs.ToldMessages.{AreConfirmedWhere};
-ghost use Rattle.dia_breaking.specs.Upgrades.{KeepsIfKnown, basis_for, levels_for, lines_for, own_for, sides_of, stock_of};
+ghost use Rattle.dia_breaking.specs.Upgrades.{basis_for, lines_for, sides_of, stock_of};
 ghost use Rattle.dia_breaking.specs.declared.line.Line.{Line as AnyLine};
 
 use crate::header_lines::push_header_lines;
@@ -185,42 +185,14 @@ impl<'a, A: Book, B: Book> Upgrade<'a, A, B> {
         ensures formats { IfOk result (λ lines. ∥ TellData (sides_of self.now) lines.items ∥₁) }
     {
         let mut lines = Vec::new(alloc);
-        self.push_levels_by(start, numbers, walk, &mut lines)?;
-        self.push_own_by(alloc, numbers, walk, &mut lines)?;
+        push_header_lines(self.b, start, &mut lines)?;
+        push_command_levels(start, &mut lines)?;
+        self.push_group_levels(numbers.count, &walk.steps, &mut lines)?;
+        self.push_own_lines(alloc, Kind::Unknown, numbers, &walk.reached, &mut lines)?;
+        self.push_own_lines(alloc, Kind::MBit, numbers, &walk.reached, &mut lines)?;
+        self.push_own_lines(alloc, Kind::Data, numbers, &walk.reached, &mut lines)?;
         sort_by_site(&mut lines)?;
         Ok(lines)
-    }
-
-    /// Adds the lines of headers and levels.
-    fn push_levels_by(
-        &self,
-        start: &Start,
-        numbers: Numbers,
-        walk: &Walk,
-        lines: &mut Vec<Line>,
-    ) -> Result<(), AllocError>
-        ensures { OnOk result (AddsTold lines.old.items lines.new.items
-            (levels_for self.now start.now numbers walk.now)) }
-    {
-        push_header_lines(self.b, start, lines)?;
-        push_command_levels(start, lines)?;
-        self.push_group_levels(numbers.count, &walk.steps, lines)
-    }
-
-    /// Adds the lines of AVPs by themselves.
-    fn push_own_by(
-        &self,
-        alloc: Global,
-        numbers: Numbers,
-        walk: &Walk,
-        lines: &mut Vec<Line>,
-    ) -> Result<(), AllocError>
-        ensures told { OnOk result (AddsTold lines.old.items lines.new.items (own_for self.now numbers walk.now)) }
-        ensures formats { OnOk result (KeepsIfKnown self.now lines.old.items lines.new.items) }
-    {
-        self.push_own_lines(alloc, Kind::Unknown, numbers, &walk.reached, lines)?;
-        self.push_own_lines(alloc, Kind::MBit, numbers, &walk.reached, lines)?;
-        self.push_own_lines(alloc, Kind::Data, numbers, &walk.reached, lines)
     }
 
     /// The AVPs that a walk reaches and that are read as another format, in the order of their sites.
@@ -251,26 +223,10 @@ impl<'a, A: Book, B: Book> Upgrade<'a, A, B> {
         ensures { OnOk result (AddsTold lines.old.items lines.new.items
             (of_each (group_levels count (map lines_in self.now.outlooks.items)) steps.now)) }
     {
-        for index in 0..steps.len() {
-            self.push_group_level_at(count, steps, index, lines)?;
+        for (index, step) in steps.iter().enumerate() {
+            self.push_group_level(count.saturating_add(index), step, lines)?;
         }
         Ok(())
-    }
-
-    fn push_group_level_at(
-        &self,
-        count: usize,
-        steps: &[Step],
-        index: usize,
-        lines: &mut Vec<Line>,
-    ) -> Result<(), AllocError>
-        ensures { OnOk result (AddsTold lines.old.items lines.new.items (option_map_or
-            (group_levels count (map lines_in self.now.outlooks.items) index) (slice_get steps.now index) [])) }
-    {
-        match steps.get(index) {
-            Some(step) => self.push_group_level(count.saturating_add(index), step, lines),
-            None => Ok(()),
-        }
     }
 
     fn push_group_level(
@@ -384,18 +340,8 @@ fn push_command_levels(start: &Start, lines: &mut Vec<Line>) -> Result<(), Alloc
     ensures { OnOk result (AddsTold lines.old.items lines.new.items
         (of_each command_levels (map (λ found. found.items) start.now.levels.items))) }
 {
-    for site in 0..start.levels.len() {
-        push_command_level(start, site, lines)?;
+    for (site, found) in start.levels.iter().enumerate() {
+        push_level_lines(lines, site, 0, found)?;
     }
     Ok(())
-}
-
-fn push_command_level(start: &Start, site: usize, lines: &mut Vec<Line>) -> Result<(), AllocError>
-    ensures { OnOk result (AddsTold lines.old.items lines.new.items
-        (option_map_or (command_levels site) (slice_get (map (λ found. found.items) start.now.levels.items) site) [])) }
-{
-    match start.levels.get(site) {
-        Some(found) => push_level_lines(lines, site, 0, found),
-        None => Ok(()),
-    }
 }

@@ -2,9 +2,7 @@
 ghost use Rattle.std.specs.Prelude.{◌≡◌, ◌<◌, ◌++◌, IfOk, IfSome, None, OnOk, length, reverse, slice_get};
 ghost use Rattle.dia_book.specs.Dictionary.{definitions};
 ghost use Rattle.dia_breaking.specs.Messages.{AreParts, IsAlone, IsInnermost, IsLineMessage, IsMessageFor, IsShowingLevel};
-ghost use Rattle.dia_breaking.specs.Messages.{command_head, front_parts, group_head, level_round, levels_on, parts_round};
-ghost use Rattle.dia_breaking.specs.Messages.{rest_parts, shortest_avp};
-ghost use Rattle.dia_breaking_shortest.specs.Bytes.{parts_bytes};
+ghost use Rattle.dia_breaking.specs.Messages.{command_head, group_head, level_round, levels_on, parts_round};
 ghost use Rattle.dia_breaking.specs.Nested.{fronts, group_front, group_rest, rests, site_front, site_rest};
 ghost use Rattle.dia_breaking.specs.Upgrades.{sides_of, stock_of};
 
@@ -155,7 +153,10 @@ impl<'a, A: Book, B: Book> Upgrade<'a, A, B> {
         let parts = self.parts_round(alloc, command, outer, key)?;
         self.push_parts(out, front_parts(&parts, key))?;
         self.push_group_head(out, size, site, key)?;
-        push_rest(alloc, behind, &parts, key)
+        let mut rest = rest_parts(alloc, &parts, key)?;
+        rest.reverse();
+        behind.extend_from_slice(rest.as_slice())?;
+        Ok(())
     }
 
     /// Adds the head of the group whose data the level at a site is. M is as both rules want it, where they can be met together.
@@ -237,27 +238,11 @@ impl<'a, A: Book, B: Book> Upgrade<'a, A, B> {
     {
         let parts = self.parts_round(alloc, command, place, shown.key)?;
         let mut out = Vec::new(alloc);
-        self.push_round(alloc, &mut out, &parts, shown)?;
-        Ok(out)
-    }
-
-    /// Adds a level of these parts, with this AVP in the place of the first of its key.
-    fn push_round(
-        &self,
-        alloc: Global,
-        out: &mut Vec<u8>,
-        parts: &[Part],
-        shown: &ShownAvp,
-    ) -> Result<(), AllocError>
-        ensures { OnOk result (out.new.items ≡ out.old.items
-            ++ parts_bytes (shortest_avp (sides_of self.now) (stock_of self.now)) (front_parts shown.now.key parts.now)
-            ++ shown.now.bytes.items
-            ++ parts_bytes (shortest_avp (sides_of self.now) (stock_of self.now)) (rest_parts shown.now.key parts.now)) }
-    {
-        self.push_parts(out, front_parts(parts, shown.key))?;
+        self.push_parts(&mut out, front_parts(&parts, shown.key))?;
         out.extend_from_slice(&shown.bytes)?;
-        let rest = rest_parts(alloc, parts, shown.key)?;
-        self.push_parts(out, &rest)
+        let rest = rest_parts(alloc, &parts, shown.key)?;
+        self.push_parts(&mut out, &rest)?;
+        Ok(out)
     }
 
     /// A level at a place that shows a line by itself.
@@ -311,21 +296,6 @@ impl<'a, A: Book, B: Book> Upgrade<'a, A, B> {
             None => level_least(alloc, self.lengths.book, def, &self.lengths),
         }
     }
-}
-
-/// Adds the parts behind an AVP of the key, the last part first.
-fn push_rest(
-    alloc: Global,
-    behind: &mut Vec<Part>,
-    parts: &[Part],
-    key: Key,
-) -> Result<(), AllocError>
-    ensures { OnOk result (reverse behind.new.items ≡ rest_parts key parts.now ++ reverse behind.old.items) }
-{
-    let mut rest = rest_parts(alloc, parts, key)?;
-    rest.reverse();
-    behind.extend_from_slice(rest.as_slice())?;
-    Ok(())
 }
 
 /// The head of a command of the dictionary, if the number is that of one.

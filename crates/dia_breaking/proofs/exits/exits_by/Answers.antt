@@ -1,9 +1,11 @@
-use Rattle.std.proofs.Common.{None, arith}
+use Rattle.std.proofs.Common.{None, ap, ◌∙◌, arith}
 use Rattle.std.proofs.lemmas.Option.{slice_get-get_or}
 use Rattle.dia_book.specs.declared.RuleKind.TheVariants.{Fixed}
 use Rattle.dia_breaking.specs.Exits.{exit_by}
 use Rattle.dia_breaking.specs.Sender.{costs_of}
 use Rattle.dia_breaking.proofs.FoundExits.{one_exit_more}
+use Rattle.std.proofs.lemmas.List.{take_all}
+use Rattle.std.specs.List.{filter_map}
 use Rattle.dia_breaking.proofs.exits.exits_by.Goals as goal
 
 pub loop-rule-preserved : goal.loop-rule-preserved
@@ -13,3 +15,8 @@ loop-rule-preserved g c =
     one_exit_more
     (exit_by c.args.telling.now (costs_of c.args.lengths.now).listed c.args.cost.now) rules i _ c.exit_by.result c.loop-rule.listed.items
     c.push_exit.new.listed.items c.in_ok-push_exit.ensures c.exit_by.ensures c.loop-rule.invariant (slice_get-get_or rules i (record { kind = Fixed; key = None; min = 0; max = None }) (omega arith))
+
+pub returns : goal.returns
+returns g c =
+    c.loop-rule.invariant
+    ∙ ap (filter_map (exit_by c.args.telling.now (costs_of c.args.lengths.now).listed c.args.cost.now)) (take_all c.loop-rule.rule-index c.args.rules.now c.loop-rule-test.false)

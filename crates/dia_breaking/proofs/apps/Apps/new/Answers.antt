@@ -1,10 +1,11 @@
-use Rattle.std.proofs.Common.{ℕ, List, [], ◌∷◌, ◌++◌, ap, sym, ◌∙◌}
+use Rattle.std.proofs.Common.{ℕ, List, [], ◌∷◌, ◌++◌, ap, sym, ◌∙◌, arith}
 use Rattle.std.specs.List.{filter_map}
 use Rattle.dia_book.specs.declared.Class.{Class}
 use Rattle.dia_book.specs.Dictionary.{PlainDefinition, plain_definition}
 use Rattle.dia_breaking.specs.Headers.{app_row}
 use Rattle.dia_breaking.proofs.Lists.{filter_map_more}
 use Rattle.dia_valid.proofs.SelectedCommands.{command_at}
+use Rattle.std.proofs.lemmas.List.{take_all}
 use Rattle.dia_breaking.proofs.apps.Apps.new.Goals as goal
 
 pub loop-index-preserved : goal.loop-index-preserved
@@ -14,3 +15,8 @@ loop-index-preserved g c = λ code.
     let f = λ (y : PlainDefinition). app_row code y.head in
     c.in_ok-push_app.ensures code ∙ ap (λ (ys : List (Class × ℕ)). ys ++ filter_map f (x ∷ [])) (c.loop-index.invariant code)
     ∙ sym (filter_map_more f d.commands c.loop-index.index x (command_at d c.loop-index.index c.command_at.result x c.command_at.ensures c.def.ensures))
+
+pub returns : goal.returns
+returns g c = λ code.
+    let d = g.B.Book.meaning c.args.book.now in
+    c.loop-index.invariant code ∙ ap (filter_map (λ (y : PlainDefinition). app_row code y.head)) (take_all c.loop-index.index d.commands (omega (arith, c.loop-index-test.false, c.commands-index-end.ensures)))
