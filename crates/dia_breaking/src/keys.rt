@@ -182,10 +182,10 @@ impl Telling {
         ensures { IfOk result (λ telling.
             IsExactTelling (sides (A.meaning a.now) (B.meaning b.now) sends unknown) telling.value) }
     {
+        let mut telling = Box::new(alloc, Telling::empty(alloc))?;
         let keys = sent_keys(alloc, a, b, sends)?;
-        let mut telling = Telling::empty(alloc);
         telling.add_all(a, b, sends, unknown, &keys)?;
-        Ok(Box::new(alloc, telling)?)
+        Ok(telling)
     }
 
     fn empty(alloc: Global) -> Self

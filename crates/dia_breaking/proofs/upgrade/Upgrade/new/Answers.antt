@@ -1,4 +1,4 @@
-use Rattle.std.proofs.Common.{List, map, ap, subst, ◌∙◌}
+use Rattle.std.proofs.Common.{List, map, refl, ap, subst, ◌∙◌}
 use Rattle.dia_breaking.specs.declared.exits.Outlook.{Outlook}
 use Rattle.dia_breaking.specs.declared.keys.Own.{Own}
 use Rattle.dia_breaking.specs.declared.keys.Telling.{Telling}
@@ -39,3 +39,6 @@ outlooks-requires g c =
     let lengths = c.in_ok-lengths.lengths in
     first_is_shortest (sender_in lengths) (g.B.Book.meaning c.args.b.now) lengths.sends lengths.entries.items lengths.others.items
     (g.met.A.Book.sound lengths.book.now) (g.met.B.Book.sound c.args.b.now) c.in_ok-lengths.ensures.others
+
+pub returns : goal.returns
+returns g c = record { sender = c.in_ok-lengths.ensures.book; receiver = refl; sends = c.in_ok-lengths.ensures.sends; unknown = refl }
