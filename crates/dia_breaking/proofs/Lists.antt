@@ -1,6 +1,6 @@
 -- What is kept of the members of a list.
-use Rattle.std.proofs.Common.{◌≡◌, ℕ, ◌+◌, ◌<◌, get_or, List, [], ◌∷◌, ◌++◌, length, map, take, Option, Some, Result, Ok, Err, sym, ap, subst, ◌∙◌, append_assoc}
-use Rattle.std.specs.Prelude.{All, Contains, IfOk, slice_get}
+use Rattle.std.proofs.Common.{◌≡◌, false, ℕ, ◌+◌, ◌<◌, get_or, List, [], ◌∷◌, ◌++◌, length, map, take, Option, Some, None, Result, Ok, Err, sym, ap, subst, ◌∙◌, append_assoc}
+use Rattle.std.specs.Prelude.{◌↔◌, All, Contains, IfOk, IsSome, IsTrue, slice_get}
 use Rattle.std.specs.List.{filter_map, flat_map}
 use Rattle.std.specs.Option.{option_map}
 use Rattle.std.proofs.lemmas.Grind.{flat_map-append}
@@ -77,3 +77,11 @@ image_more {X} {Y} f old new ys i x d is within same before =
 pub when_ok : {X E : Type 0} (P Q : X → Type 0) (r : Result X E) → ((x : X) → P x → Q x) → IfOk r P → IfOk r Q
 when_ok P Q (Ok x) f h = f x h
 when_ok P Q (Err e) f h = tt
+
+-- a test that fails says that it isn't so
+pub not_so : (X : Type 0) → ¬ X → IsTrue false ↔ X
+not_so X never = (λ e. absurd cc, λ x. absurd (never x))
+
+pub not_none : {X : Type 0} (o : Option X) → IsSome o → ¬ (o ≡ None)
+not_none (Some x) some is = cc
+not_none None some is = cc
