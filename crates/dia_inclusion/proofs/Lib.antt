@@ -1,5 +1,6 @@
 pub mod RunsOfFixedRules
 pub mod PlacedInSecond
+pub mod PlacesOfCommands
 pub mod FitInSecond
 pub mod IncludedMessages
 pub mod DecidedTests

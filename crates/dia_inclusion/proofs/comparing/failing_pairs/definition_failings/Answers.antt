@@ -1,4 +1,4 @@
-use Rattle.std.proofs.Common.{◌≡◌, ◌+◌, Bool, List, length, Some, sym, ap, subst, ◌∙◌}
+use Rattle.std.proofs.Common.{◌≡◌, ◌<◌, ◌+◌, Bool, List, length, Some, refl, sym, ap, subst, ◌∙◌}
 use Rattle.std.specs.Prelude.{IfOk, slice_get, if◌then◌else◌}
 use Rattle.dia_book.specs.declared.DRule.{DRule}
 use Rattle.dia_book.specs.Dictionary.{Dictionary, plain_definition, definitions, groups}
@@ -8,6 +8,7 @@ use Rattle.dia_valid.proofs.Members.{there_is}
 use Rattle.dia_valid.proofs.SelectedCommands.{command_at}
 use Rattle.dia_inclusion.specs.Sides.{Sides}
 use Rattle.dia_inclusion.specs.Failings.{head_failings, rule_failings}
+use Rattle.dia_inclusion.proofs.PlacesOfCommands.{within}
 use Rattle.dia_inclusion.proofs.FailingPairs.{at_places, rules_at}
 use Rattle.dia_inclusion.proofs.comparing.failing_pairs.definition_failings.Goals as goal
 
@@ -48,3 +49,35 @@ returns-else-is_tenth g c =
     (subst (λ (b : Bool). IfOk c.rule_failings.result (λ v. v.items ≡ (if b then head_failings all x y else rule_failings all t x.rules y.rules))) (sym other)
     (subst (λ (rs : List DRule). IfOk c.rule_failings.result (λ v. v.items ≡ rule_failings all t x.rules rs)) rules_y
     (subst (λ (rs : List DRule). IfOk c.rule_failings.result (λ v. v.items ≡ rule_failings all t rs c.second_rules-b.result)) rules_x c.rule_failings.ensures)))
+
+pub command_at-first-requires : goal.command_at-first-requires
+command_at-first-requires g c =
+    let same = sym (c.first-a.ensures.meaning ∙ ap (λ (s : Sides). s.first) c.sides-sides.ensures) in
+    subst (λ (d : Dictionary). c.args.first < length d.commands) same c.requires.first
+
+pub def-requires : goal.def-requires
+def-requires g c =
+    let d = g.A.Book.meaning c.first-a.result.now in
+    let same = sym (c.first-a.ensures.meaning ∙ ap (λ (s : Sides). s.first) c.sides-sides.ensures) in
+    within d d c.command_at-first.result c.args.first refl c.command_at-first.ensures (subst (λ (e : Dictionary). c.args.first < length e.commands) same c.requires.first)
+
+pub first_rules-a-requires : goal.first_rules-a-requires
+first_rules-a-requires g c =
+    let below = subst (λ (s : Sides). c.args.first < length s.first.commands) (sym c.sides-sides.ensures) c.requires.first in
+    within (g.A.Book.meaning c.first-a.result.now) c.sides-sides.result.now.first c.command_at-first.result c.args.first c.first-a.ensures.meaning c.command_at-first.ensures below
+
+pub command_at-second-requires : goal.command_at-second-requires
+command_at-second-requires g c =
+    let same = sym (c.second-b.ensures.meaning ∙ ap (λ (s : Sides). s.second) c.sides-sides.ensures) in
+    subst (λ (d : Dictionary). c.args.second < length d.commands) same c.requires.second
+
+pub def-requires-then-is_tenth : goal.def-requires-then-is_tenth
+def-requires-then-is_tenth g c =
+    let d = g.B.Book.meaning c.second-b.result.now in
+    let same = sym (c.second-b.ensures.meaning ∙ ap (λ (s : Sides). s.second) c.sides-sides.ensures) in
+    within d d c.command_at-second.result c.args.second refl c.command_at-second.ensures (subst (λ (e : Dictionary). c.args.second < length e.commands) same c.requires.second)
+
+pub second_rules-b-requires : goal.second_rules-b-requires
+second_rules-b-requires g c =
+    let below = subst (λ (s : Sides). c.args.second < length s.second.commands) (sym c.sides-sides.ensures) c.requires.second in
+    within (g.B.Book.meaning c.second-b.result.now) c.sides-sides.result.now.second c.command_at-second.result c.args.second c.second-b.ensures.meaning c.command_at-second.ensures below

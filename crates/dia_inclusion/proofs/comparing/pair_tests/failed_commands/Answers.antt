@@ -1,14 +1,10 @@
-use Rattle.std.proofs.Common.{◌≡◌, ◌<◌, ◌+◌, ℕ, Some, length, ap, subst, ◌∙◌, arith}
-use Rattle.std.proofs.lemmas.List.{length-append}
+use Rattle.std.proofs.Common.{◌≡◌, ◌+◌, Some, length, ap, subst, ◌∙◌}
 use Rattle.std.specs.Prelude.{slice_get}
 use Rattle.dia_book.specs.Dictionary.{Dictionary, plain_definition, definitions, groups}
 use Rattle.dia_inclusion.specs.Sides.{Sides}
+use Rattle.dia_inclusion.proofs.PlacesOfCommands.{within}
 use Rattle.dia_inclusion.proofs.CommandsByCode.{pair_fails, pair_fails_tenth}
 use Rattle.dia_inclusion.proofs.comparing.pair_tests.failed_commands.Goals as goal
-
--- a command's number is one of a definition
-within : (d e : Dictionary) (k i : ℕ) → d ≡ e → k ≡ length (groups d) + i → i < length e.commands → k < length (definitions e)
-within d e k i same at below = omega (arith, ap (λ (x : Dictionary). length (groups x)) same, at, below, length-append (groups e) e.commands)
 
 pub failed_definitions-requires-clause-first : goal.failed_definitions-requires-clause-first
 failed_definitions-requires-clause-first g c =

@@ -1,14 +1,15 @@
-use Rattle.std.proofs.Common.{◌≡◌, ◌+◌, List, length, Some, refl, sym, ap, subst, ◌∙◌, inl, inr}
+use Rattle.std.proofs.Common.{◌≡◌, ◌<◌, ◌+◌, List, length, Some, refl, sym, ap, subst, ◌∙◌, inl, inr}
 use Rattle.std.specs.Prelude.{slice_get}
 use Rattle.std.proofs.lemmas.Option.{same_Some}
 use Rattle.dia_book.specs.declared.DRule.{DRule}
-use Rattle.dia_book.specs.Dictionary.{Dictionary, PlainDefinition, plain_definition, definitions, groups}
+use Rattle.dia_book.specs.Dictionary.{Dictionary, IsDictionary, PlainDefinition, plain_definition, definitions, groups}
 use Rattle.dia_book.proofs.Members.{into_right}
 use Rattle.dia_inclusion.specs.Sides.{Sides}
 use Rattle.dia_valid.specs.Rules.{rules_in}
-use Rattle.dia_inclusion.specs.ReachedKeys.{Admits, ComesToAll}
+use Rattle.dia_inclusion.specs.ReachedKeys.{Admits, AreRest, ComesToAll}
 use Rattle.dia_inclusion.specs.WantedNames.{names_beside, AddsPairs}
 use Rattle.dia_inclusion.proofs.ReachedKeys.{rules_at}
+use Rattle.dia_inclusion.proofs.PlacesOfCommands.{within, command_head}
 use Rattle.dia_inclusion.proofs.NamedCommands.{not_among, among, one_place_more}
 use Rattle.dia_inclusion.proofs.proposing.naming.NamedCommands.add.Goals as goal
 
@@ -36,3 +37,27 @@ returns g c = λ d at.
 
 pub returns-then-contains : goal.returns-then-contains
 returns-then-contains g c = λ d at. inl (among c.args.self.now.places.keys c.args.place (sym c.if-contains.true ∙ c.contains.ensures), record { places = refl; pairs = refl; reached = refl })
+
+pub command_at-def-requires : goal.command_at-def-requires
+command_at-def-requires g c =
+    subst (λ (d : Dictionary). c.args.place < length d.commands) (sym (c.first-a.ensures.meaning ∙ ap (λ (s : Sides). s.first) c.sides-sides.ensures.same)) c.requires.within
+
+pub def-requires : goal.def-requires
+def-requires g c =
+    let da = g.A.Book.meaning c.first-a.result.now in
+    let same = sym (c.first-a.ensures.meaning ∙ ap (λ (s : Sides). s.first) c.sides-sides.ensures.same) in
+    within da da c.command_at-def.result c.args.place refl c.command_at-def.ensures (subst (λ (d : Dictionary). c.args.place < length d.commands) same c.requires.within)
+
+pub push_pairs-requires : goal.push_pairs-requires
+push_pairs-requires g c =
+    let da = g.A.Book.meaning c.first-a.result.now in
+    let sound = subst IsDictionary (sym c.first-a.ensures.meaning) c.first-a.ensures.sound in
+    command_head da c.command_at-def.result c.args.place (plain_definition c.def.result.now) sound c.command_at-def.ensures c.def.ensures
+
+pub first_rules-requires : goal.first_rules-requires
+first_rules-requires g c =
+    within (g.A.Book.meaning c.first-a.result.now) c.sides-sides.result.now.first c.command_at-def.result c.args.place c.first-a.ensures.meaning c.command_at-def.ensures
+    (subst (λ (s : Sides). c.args.place < length s.first.commands) (sym c.sides-sides.ensures.same) c.requires.within)
+
+pub come_to_admitted-requires : goal.come_to_admitted-requires
+come_to_admitted-requires g c = subst (λ (s : Sides). AreRest s c.args.self.now.reached) (sym c.sides-sides.ensures.same) c.requires.rest
