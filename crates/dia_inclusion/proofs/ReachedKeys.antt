@@ -248,6 +248,16 @@ admitted sides rules x y z w one two = all_then sides (IsAllowed rules) (λ key.
     either key (inl p) = inl p
     either key (inr q) = inr q.1
 
+-- without an open wildcard, the definition lets in what its rules list
+pub only_listed : (sides : Sides) (rules : List DRule) (x y : Reached) → (¬ ((w : DRule) × HasWildcard rules w × IsAboveZero w.max)) → ComesToAll sides (IsAllowed rules) x y
+    → ComesToAll sides (Admits rules) x y
+only_listed sides rules x y none one =
+    all_then sides (IsAllowed rules) (λ key. ⊥) (Admits rules) x y y one (all_none sides (λ key. ⊥) y (λ key h. h)) (λ key p. inl p) (λ key h. absurd h) (λ key p. inl (listed key p))
+  where
+    listed : (key : Key) → Admits rules key → IsAllowed rules key
+    listed key (inl p) = p
+    listed key (inr q) = absurd (none q.0)
+
 -- what the test of a key says
 pub listed_by_test : (rules : List DRule) (key : Key) → is_listed rules key ≡ true → IsListed rules key
 listed_by_test rules key h = let r = listed rules key h in (r.0, (contains_in rules r.0 r.1, r.2))

@@ -1,4 +1,4 @@
-use Rattle.std.proofs.Common.{◌≡◌, ◌+◌, Some, length, ap, subst, ◌∙◌}
+use Rattle.std.proofs.Common.{◌≡◌, ◌<◌, ◌+◌, Some, length, refl, sym, ap, subst, ◌∙◌}
 use Rattle.std.specs.Prelude.{slice_get}
 use Rattle.dia_book.specs.Dictionary.{Dictionary, plain_definition, definitions, groups}
 use Rattle.dia_inclusion.specs.Sides.{Sides}
@@ -47,3 +47,25 @@ returns-else-may_stand_for g c =
     let at_x = subst (λ (d : Dictionary). slice_get (definitions d) k ≡ Some x) ea c.def.ensures in
     let at_y = subst (λ (d : Dictionary). slice_get (definitions d) l ≡ Some y) eb c.def-2.ensures in
     pair_fails_tenth all c.args.first c.args.second k l x y c.args.selected c.may_stand_for.result c.requires.selected at_k at_l at_x at_y c.may_stand_for.ensures c.else-may_stand_for.either
+
+pub command_at-first-requires : goal.command_at-first-requires
+command_at-first-requires g c =
+    let same = sym (c.first-a.ensures.meaning ∙ ap (λ (s : Sides). s.first) c.sides-sides.ensures) in
+    subst (λ (d : Dictionary). c.args.first < length d.commands) same c.requires.first
+
+pub def-requires : goal.def-requires
+def-requires g c =
+    let d = g.A.Book.meaning c.first-a.result.now in
+    let same = sym (c.first-a.ensures.meaning ∙ ap (λ (s : Sides). s.first) c.sides-sides.ensures) in
+    within d d c.command_at-first.result c.args.first refl c.command_at-first.ensures (subst (λ (e : Dictionary). c.args.first < length e.commands) same c.requires.first)
+
+pub command_at-second-requires : goal.command_at-second-requires
+command_at-second-requires g c =
+    let same = sym (c.second-b.ensures.meaning ∙ ap (λ (s : Sides). s.second) c.sides-sides.ensures) in
+    subst (λ (d : Dictionary). c.args.second < length d.commands) same c.requires.second
+
+pub def-requires-2 : goal.def-requires-2
+def-requires-2 g c =
+    let d = g.B.Book.meaning c.second-b.result.now in
+    let same = sym (c.second-b.ensures.meaning ∙ ap (λ (s : Sides). s.second) c.sides-sides.ensures) in
+    within d d c.command_at-second.result c.args.second refl c.command_at-second.ensures (subst (λ (e : Dictionary). c.args.second < length e.commands) same c.requires.second)

@@ -1,14 +1,25 @@
-use Rattle.std.proofs.Common.{◌≡◌, ◌<◌, ℕ, length, Some, sym, subst, ◌∙◌}
-use Rattle.std.specs.Prelude.{slice_get}
-use Rattle.std.proofs.lemmas.Option.{slice_get_within}
+use Rattle.std.proofs.Common.{◌≡◌, ◌<◌, ℕ, length, take, Some, None, sym, ap, subst, ◌∙◌}
+use Rattle.std.specs.Prelude.{filter_map, option_and_then, slice_get}
+use Rattle.std.specs.Option.{option_map}
+use Rattle.std.proofs.lemmas.Option.{none-some, slice_get_within}
+use Rattle.dia_wire.specs.declared.Key.{Key}
 use Rattle.dia_data.specs.Plain.{plain_format}
-use Rattle.dia_book.specs.Dictionary.{Dictionary, DictEntry, PlainDefinition, definitions}
+use Rattle.dia_book.specs.Dictionary.{Dictionary, DictEntry, PlainDefinition, definitions, entry_of, group_place}
 use Rattle.dia_valid.specs.Valid.{known}
 use Rattle.dia_inclusion.specs.ReachedKeys.{IsSharedGroup}
 use Rattle.dia_valid.proofs.KnownKeys.{known_by_entry}
 use Rattle.dia_valid.proofs.GroupNumbers.{group_number}
 use Rattle.dia_valid.proofs.Members.{when_some, at_some}
 use Rattle.dia_inclusion.proofs.proposing.reaching.shared_group.Goals as goal
+
+-- the entry of a group has a place for it
+no_group : (d : Dictionary) (key : Key) (i : ℕ) (e : DictEntry) (group : PlainDefinition) → entry_of d key ≡ Some i → group_place d i ≡ None → known d key ≡ Some e → e.group ≡ Some group → ⊥
+no_group d key i e group at none here is =
+    let there : slice_get d.entries i ≡ Some e = sym (ap (option_and_then (λ (k : ℕ). slice_get d.entries k)) at) ∙ here in
+    let n = length (filter_map (λ (x : DictEntry). x.group) (take i d.entries)) in
+    let place : group_place d i ≡ Some n =
+    ap (option_and_then (λ (x : DictEntry). option_map (λ (_ : PlainDefinition). n) x.group)) there ∙ ap (option_map (λ (_ : PlainDefinition). n)) is in
+    none-some n (sym none ∙ place)
 
 pub returns-then-is_grouped-2-clause-within : goal.returns-then-is_grouped-2-clause-within
 returns-then-is_grouped-2-clause-within g c =
@@ -40,3 +51,9 @@ returns-then-is_grouped-2-clause-some g c =
         is_group = r.1;
       },
     ))
+
+pub returns-then-is_grouped-2-clause-none : goal.returns-then-is_grouped-2-clause-none
+returns-then-is_grouped-2-clause-none g c = λ none d shared.
+    let da = g.A.Book.meaning c.first-a.result.now in
+    let here = subst (λ (x : Dictionary). known x c.args.key ≡ Some shared.e) (sym c.first-a.ensures.meaning) shared.at_a in
+    no_group da c.args.key c.in_ok-entry.entry shared.e d (sym c.avp.ensures ∙ c.in_ok-entry.was) (sym c.group.ensures ∙ none) here shared.is_group

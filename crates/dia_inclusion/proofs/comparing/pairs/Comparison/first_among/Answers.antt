@@ -1,3 +1,10 @@
+use Rattle.std.proofs.Common.{List, ℕ, arith, map, ap}
+use Rattle.std.specs.Borrow.{Bor}
+use Rattle.std.specs.List.{list_any}
+use Rattle.std.proofs.lemmas.List.{length-map}
+use Rattle.std.proofs.lemmas.Option.{slice_get_within}
+use Rattle.dia_tables.specs.TableText.{plain_pair}
+use Rattle.dia_inclusion.specs.PairTests.{is_pair, plain_names}
 use Rattle.dia_inclusion.specs.FirstFailures.{PairTest}
 use Rattle.dia_inclusion.proofs.SetsOfPairs.{one_pair_more, this_fails, this_passes, stood_before, is_old}
 use Rattle.dia_inclusion.proofs.comparing.pairs.Comparison.first_among.Goals as goal
@@ -28,3 +35,14 @@ loop-place-preserved g c =
                 pairs i c.loop-place.invariant.seen c.in_ok-insert.field-0 c.in_ok-insert.ensures.added w.if-branch.false)
           ];
     }
+
+pub loop-place-init : goal.loop-place-init
+loop-place-init g c = record {
+  seen = λ x y. ap (λ (keys : List (Bor (List ℕ) × Bor (List ℕ))). list_any (is_pair x y) (map plain_names keys)) c.requires;
+  passed = λ k p t less at. absurd (omega (arith, less));
+}
+
+pub returns : goal.returns
+returns g c = λ k p t at.
+    let within = slice_get_within (map plain_pair c.args.pairs.now) k p at in
+    c.loop-place.invariant.passed k p t (omega (arith, within, length-map c.args.pairs.now plain_pair, c.loop-place-test.false)) at

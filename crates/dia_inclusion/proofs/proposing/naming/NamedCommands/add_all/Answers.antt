@@ -2,6 +2,7 @@ use Rattle.std.proofs.Common.{◌≡◌, ℕ, List, [], ◌∷◌, ◌++◌, map
 use Rattle.std.specs.Prelude.{Contains}
 use Rattle.std.specs.Global.{Global}
 use Rattle.std.proofs.lemmas.List.{take-map}
+use Rattle.std.proofs.lemmas.Option.{slice_get_within}
 use Rattle.dia_inclusion.specs.Closed.{NamesCommand}
 use Rattle.dia_inclusion.specs.NamedCommands.{NamedSoFar}
 use Rattle.dia_book.specs.Dictionary.{PlainDefinition}
@@ -42,3 +43,13 @@ returns-in_default-clause-refusal g c =
           (subst (λ (name : List ℕ). NamesCommand da name d) c.in_ok-name.ensures.ok n);
       before = λ other h. c.loop-name.invariant.known other (subst (λ (ns : List (List ℕ)). Contains ns other) (take-map bytes i names) h);
     }
+
+pub loop-name-init : goal.loop-name-init
+loop-name-init g c = c.requires.new
+
+pub add-requires : goal.add-requires
+add-requires g c =
+    let da = c.args.commands.now.first in
+    let place = place_by_name (λ (x : PlainDefinition). x.name) da.commands c.args.places.now.keys c.as_str-text.result.now c.requires.places in
+    let d = command_found da c.as_str-text.result.now c.in-Some.place (sym place ∙ sym c.in-Some.ensures) in
+    record { within = slice_get_within da.commands c.in-Some.place d.0 d.1; rest = c.loop-name.invariant.roots.rest }
