@@ -1,9 +1,10 @@
-use Rattle.std.proofs.Common.{arith, Bool, List, [], ◌∷◌, ◌++◌, map, take, sym, ap, ◌∙◌}
+use Rattle.std.proofs.Common.{arith, refl, subst, Bool, List, [], ◌∷◌, ◌++◌, map, take, sym, ap, ◌∙◌}
 use Rattle.std.proofs.lemmas.List.{take_all}
-use Rattle.dia_book.specs.Dictionary.{Dictionary, PlainDefinition, plain_definition}
+use Rattle.dia_book.specs.Dictionary.{Dictionary, IsDictionary, PlainDefinition, plain_definition}
 use Rattle.dia_inclusion.specs.Sides.{Sides}
 use Rattle.dia_inclusion.specs.PairTests.{plain_names, is_selected}
 use Rattle.dia_valid.proofs.SelectedCommands.{command_at}
+use Rattle.dia_inclusion.proofs.PlacesOfCommands.{command_head, within}
 use Rattle.dia_inclusion.proofs.CommandsByCode.{map_more}
 use Rattle.dia_inclusion.proofs.comparing.commands.selected_among.Goals as goal
 
@@ -24,3 +25,16 @@ returns g c =
     c.loop-index.invariant ∙ ap (λ (cs : List PlainDefinition). map test cs)
     (take_all c.loop-index.index da.commands (omega (arith, c.loop-index-test.false, c.commands-index-end.ensures))
     ∙ ap (λ (x : Dictionary). x.commands) (c.first-a.ensures.meaning ∙ ap (λ (s : Sides). s.first) c.sides.ensures.same))
+
+pub command_at-requires : goal.command_at-requires
+command_at-requires g c = omega (arith, c.loop-index-test.true, c.commands-index-end.ensures)
+
+pub def-requires : goal.def-requires
+def-requires g c =
+    let d = g.A.Book.meaning c.first-a.result.now in
+    within d d c.command_at.result c.loop-index.index refl c.command_at.ensures (omega (arith, c.loop-index-test.true, c.commands-index-end.ensures))
+
+pub is_selected-requires : goal.is_selected-requires
+is_selected-requires g c =
+    let sound = subst IsDictionary (sym c.first-a.ensures.meaning) c.first-a.ensures.sound in
+    command_head (g.A.Book.meaning c.first-a.result.now) c.command_at.result c.loop-index.index (plain_definition c.def.result.now) sound c.command_at.ensures c.def.ensures

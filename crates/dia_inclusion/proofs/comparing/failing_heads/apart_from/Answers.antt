@@ -1,4 +1,4 @@
-use Rattle.std.proofs.Common.{List, arith, ◌∙◌, ℕ, Bool, map, ap}
+use Rattle.std.proofs.Common.{List, arith, refl, ◌∙◌, ℕ, Bool, map, ap}
 use Rattle.std.specs.List.{filter_map, enumerate_from}
 use Rattle.std.proofs.lemmas.List.{take_all}
 use Rattle.dia_book.specs.Dictionary.{Dictionary, PlainDefinition, plain_definition}
@@ -6,6 +6,7 @@ use Rattle.dia_inclusion.specs.declared.reasons.Failing.TheVariants.{NotBeside}
 use Rattle.dia_inclusion.specs.PairTests.{plain_names, is_ready}
 use Rattle.dia_inclusion.specs.Failings.{unless}
 use Rattle.dia_valid.proofs.SelectedCommands.{command_at}
+use Rattle.dia_inclusion.proofs.PlacesOfCommands.{within}
 use Rattle.dia_inclusion.proofs.ListsOfFailings.{numbered_more}
 use Rattle.dia_inclusion.proofs.comparing.failing_heads.apart_from.Goals as goal
 
@@ -25,3 +26,11 @@ returns g c =
     let fails = λ (p : ℕ × PlainDefinition). unless (is_ready c.args.sides.now (map plain_names c.args.beside.now.keys) (plain_definition c.args.command.now) p.1) (NotBeside p.0) in
     c.loop-index.invariant ∙ ap (λ (cs : List PlainDefinition). filter_map fails (enumerate_from 0 cs))
     (take_all c.loop-index.index d.commands (omega (arith, c.loop-index-test.false, c.commands-index-end.ensures)) ∙ ap (λ (x : Dictionary). x.commands) c.second-b.ensures.meaning)
+
+pub command_at-requires : goal.command_at-requires
+command_at-requires g c = omega (arith, c.loop-index-test.true, c.commands-index-end.ensures)
+
+pub def-other-requires : goal.def-other-requires
+def-other-requires g c =
+    let d = g.B.Book.meaning c.second-b.result.now in
+    within d d c.command_at.result c.loop-index.index refl c.command_at.ensures (omega (arith, c.loop-index-test.true, c.commands-index-end.ensures))

@@ -1,6 +1,8 @@
+use Rattle.std.proofs.Common.{arith, refl}
 use Rattle.dia_book.specs.Dictionary.{PlainDefinition, plain_definition}
 use Rattle.dia_inclusion.specs.PairTests.{serves}
 use Rattle.dia_valid.proofs.SelectedCommands.{command_at}
+use Rattle.dia_inclusion.proofs.PlacesOfCommands.{within}
 use Rattle.dia_inclusion.proofs.FilteredMembers.{none_more_at, found_at}
 use Rattle.dia_inclusion.proofs.comparing.failing_heads.is_served.Goals as goal
 
@@ -17,3 +19,11 @@ loop-index-preserved g c =
     let x = plain_definition c.def.result.now in
     none_more_at (λ (y : PlainDefinition). serves c.args.head.now y.head) d.commands c.loop-index.index x c.serves.result
     (command_at d c.loop-index.index c.command_at.result x c.command_at.ensures c.def.ensures) c.serves.ensures c.if-serves.false c.loop-index.invariant
+
+pub command_at-requires : goal.command_at-requires
+command_at-requires g c = omega (arith, c.loop-index-test.true, c.commands-index-end.ensures)
+
+pub def-requires : goal.def-requires
+def-requires g c =
+    let d = g.B.Book.meaning c.args.book.now in
+    within d d c.command_at.result c.loop-index.index refl c.command_at.ensures (omega (arith, c.loop-index-test.true, c.commands-index-end.ensures))
