@@ -4,7 +4,7 @@ ghost use Rattle.std.specs.Prelude.{◌<◌, IfSome, length};
 ghost use Rattle.dia_book.specs.Dictionary.{definitions};
 
 use crate::rule_text::push_vendor;
-use crate::texts::Scene;
+use crate::texts::{Scene, Word};
 use dia_book::{Book, Class, DRule, DefHead, DefId, Definition, Format, Key, MRule, Slot};
 use dia_check::class_of;
 use dia_explain_places::Note;
@@ -33,11 +33,11 @@ pub fn avp_of<B: Book>(book: &B, key: Key) -> Option<Known<'_>> {
 }
 
 impl Scene for Known<'_> {
-    fn push_word(&self, note: &mut Note, word: &str) {
+    fn push_word(&self, note: &mut Note, word: Word) {
         match word {
-            "name" => note.put(self.name),
-            "code" => note.put_number(self.key.code as u64),
-            "vendor" => push_vendor(note, self.key.vendor),
+            Word::Name => note.put(self.name),
+            Word::Code => note.put_number(self.key.code as u64),
+            Word::Vendor => push_vendor(note, self.key.vendor),
             _ => note.put(self.declared_word(word)),
         }
     }
@@ -45,18 +45,18 @@ impl Scene for Known<'_> {
 
 impl Known<'_> {
     /// What a word about the format or the rule stands for.
-    pub fn declared_word(&self, word: &str) -> &'static str {
+    pub fn declared_word(&self, word: Word) -> &'static str {
         match word {
-            "format" => self.format.word(),
-            "m" => self.rule.word(),
+            Word::Format => self.format.word(),
+            Word::M => self.rule.word(),
             // the M flag of AVPs that are sent
-            "sends" => match self.rule {
+            Word::Sends => match self.rule {
                 MRule::Must => ": it is sent with the M flag",
                 MRule::MustNot => ": it is sent without the M flag",
                 MRule::Any => ": it may be sent with the M flag, and without",
             },
             // the M flag of AVPs that are taken
-            "takes" => match self.rule {
+            Word::Takes => match self.rule {
                 MRule::Must => ": without the M flag it is refused",
                 MRule::MustNot => ": with the M flag it is refused",
                 MRule::Any => "",

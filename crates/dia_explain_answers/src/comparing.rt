@@ -64,26 +64,23 @@ fn push_pair(
     number: usize,
     failing: Failing,
 ) {
-    let pairs = match kind {
-        PairKind::Command => &pairing.table.commands,
-        PairKind::Avp => &pairing.table.avps,
+    if let Failing::FirstName | Failing::SecondName = failing {
+        return;
+    }
+    let (pairs, all) = match kind {
+        PairKind::Command => (
+            &pairing.table.commands,
+            "hint: `diacmd breaking{policy} {a} {b} {x}` lists all that breaks, if anything does",
+        ),
+        PairKind::Avp => (
+            &pairing.table.avps,
+            "hint: `diacmd breaking{policy} {a} {b}` lists all that breaks, if anything does",
+        ),
     };
-    match (pairs.get(number), failing) {
-        (None, _) | (_, Failing::FirstName | Failing::SecondName) => {}
-        (Some(names), _) => {
-            let (pair, all) = match kind {
-                PairKind::Command => (
-                    Pair::of_commands(pairing, failing, names),
-                    "hint: `diacmd breaking{policy} {a} {b} {x}` lists all that breaks, if anything does",
-                ),
-                PairKind::Avp => (
-                    Pair::of_avps(pairing, failing, names),
-                    "hint: `diacmd breaking{policy} {a} {b}` lists all that breaks, if anything does",
-                ),
-            };
-            push_lines(note, &pair, lines_of(failing));
-            push_lines(note, &pair, more_of(&pair));
-            push_lines(note, &pair, all)
-        }
+    if let Some(names) = pairs.get(number) {
+        let pair = Pair::of(pairing, kind, failing, names);
+        push_lines(note, &pair, lines_of(failing));
+        push_lines(note, &pair, more_of(&pair));
+        push_lines(note, &pair, all)
     }
 }

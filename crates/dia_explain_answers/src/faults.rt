@@ -74,10 +74,10 @@ pub fn push_refusal(
             let body = Level::body(&header);
             if let Some(command) = definition(side.book, body) {
                 let scene = InBody {
-                    side: *side,
-                    message: *message,
-                    asked: *asked,
-                    fault: *fault,
+                    side,
+                    message,
+                    asked,
+                    fault,
                     body,
                     outermost: command.name.as_str(),
                     groups: &[],

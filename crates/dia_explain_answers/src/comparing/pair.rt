@@ -8,11 +8,11 @@ use crate::checking::policy_words;
 use crate::comparing::pairing::Pairing;
 use crate::rule_text::{push_key, push_loose, push_rule, push_shown_value, push_slot, widened};
 use crate::sides::Side;
-use crate::texts::Scene;
+use crate::texts::{Scene, Word};
 use dia_book::{DRule, DefHead, Definition, Key};
 use dia_breaking_data::witness;
 use dia_explain_places::Note;
-use dia_inclusion::Failing;
+use dia_inclusion::{Failing, PairKind};
 
 /// A pair of commands or of AVPs, and what of it fails a test.
 #[derive(Clone, Copy)]
@@ -29,12 +29,20 @@ pub struct Pair<'a> {
 }
 
 impl<'a> Pair<'a> {
-    /// A pair of commands of these names.
-    pub fn of_commands(
+    /// A pair of commands or of AVPs, of these names.
+    pub fn of(
         pairing: &'a Pairing<'a>,
+        kind: PairKind,
         failing: Failing,
         names: &(String, String),
     ) -> Self {
+        match kind {
+            PairKind::Command => Pair::of_commands(pairing, failing, names),
+            PairKind::Avp => Pair::of_avps(pairing, failing, names),
+        }
+    }
+
+    fn of_commands(pairing: &'a Pairing<'a>, failing: Failing, names: &(String, String)) -> Self {
         let y = match failing {
             Failing::NotBeside { second } => command_at(pairing.b.book, second),
             _ => find_command(pairing.b.book, Wanted::Name(&names.1)),
@@ -49,8 +57,7 @@ impl<'a> Pair<'a> {
         }
     }
 
-    /// A pair of AVPs of these names.
-    pub fn of_avps(pairing: &'a Pairing<'a>, failing: Failing, names: &(String, String)) -> Self {
+    fn of_avps(pairing: &'a Pairing<'a>, failing: Failing, names: &(String, String)) -> Self {
         let first_avp = find_avp(pairing.a.book, Wanted::Name(&names.0));
         let second_avp = find_avp(pairing.b.book, Wanted::Name(&names.1));
         Pair {
@@ -118,66 +125,63 @@ impl<'a> Pair<'a> {
     }
 
     /// The name or the option that a word stands for.
-    fn text_for(&self, word: &str) -> Option<&str> {
+    fn text_for(&self, word: Word) -> &str {
         let pairing = self.pairing;
         match word {
-            "a" => Some(pairing.a.name),
-            "b" => Some(pairing.b.name),
-            "table" => Some(pairing.name),
-            "policy" => Some(policy_words(pairing.unknown)),
-            "x" => Some(name_of(self.x)),
-            "y" => Some(name_of(self.y)),
-            _ => None,
+            Word::A => pairing.a.name,
+            Word::B => pairing.b.name,
+            Word::Table => pairing.name,
+            Word::Policy => policy_words(pairing.unknown),
+            Word::X => name_of(self.x),
+            _ => name_of(self.y),
         }
     }
 
-    fn push_rule_word(&self, note: &mut Note, word: &str) {
+    fn push_rule_word(&self, note: &mut Note, word: Word) {
         let (a, b) = (&self.pairing.a, &self.pairing.b);
         let Some(rule) = self.rule_of(word) else {
             return;
         };
         match word {
-            "sent" => push_slot(note, a, &rule, "AVP"),
-            "wanted" => push_slot(note, b, &rule, "AVP"),
-            "loose" => push_loose(note, b, &rule),
+            Word::Sent => push_slot(note, a, &rule, "AVP"),
+            Word::Wanted => push_slot(note, b, &rule, "AVP"),
+            Word::Loose => push_loose(note, b, &rule),
             _ => push_rule(note, b, &rule),
         }
     }
 
     /// The rule that a word is about: the first's or the second's, or one with the counts of both.
-    fn rule_of(&self, word: &str) -> Option<DRule> {
+    fn rule_of(&self, word: Word) -> Option<DRule> {
         match word {
-            "sent" => self.first_rule(),
-            "wide" => Some(widened(&self.first_rule()?, &self.second_rule()?)),
+            Word::Sent => self.first_rule(),
+            Word::Wide => Some(widened(&self.first_rule()?, &self.second_rule()?)),
             _ => self.second_rule(),
         }
     }
 
     /// Adds what a word about the AVP of the failing stands for: its code and vendor, or its name in one of the dictionaries.
-    fn push_key_word(&self, note: &mut Note, word: &str) {
+    fn push_key_word(&self, note: &mut Note, word: Word) {
         let Some(key) = self.key() else {
-            return self.push_rule_word(note, word);
+            return;
         };
         match word {
-            "code" => push_key(note, key, " and vendor "),
-            "first" => self.pairing.a.push_name(note, key),
-            "second" => self.pairing.b.push_name(note, key),
-            _ => self.push_rule_word(note, word),
+            Word::Code => push_key(note, key, " and vendor "),
+            Word::First => self.pairing.a.push_name(note, key),
+            _ => self.pairing.b.push_name(note, key),
         }
     }
 
     /// Adds what a word about two AVPs stands for: the rule of the second's M flag, or a value that it doesn't accept.
-    fn push_avp_word(&self, note: &mut Note, word: &str) {
+    fn push_avp_word(&self, note: &mut Note, word: Word) {
         let (Some(first), Some(second)) = (self.first_avp, self.second_avp) else {
-            return self.push_key_word(note, word);
+            return;
         };
         match word {
-            "m" => note.put(second.rule.word()),
-            "value" => match witness(first.format, second.format) {
+            Word::M => note.put(second.rule.word()),
+            _ => match witness(first.format, second.format) {
                 Some(value) => push_shown_value(note, first.format, value.as_slice()),
                 None => {}
             },
-            _ => self.push_key_word(note, word),
         }
     }
 }
@@ -188,15 +192,16 @@ fn group_of<'a>(side: &Side<'a>, avp: Option<Known<'a>>) -> Option<&'a Definitio
 }
 
 impl Scene for Pair<'_> {
-    fn push_word(&self, note: &mut Note, word: &str) {
+    fn push_word(&self, note: &mut Note, word: Word) {
         match word {
-            "app" => note.put_number(self.app().unwrap_or(0) as u64),
-            "own" => push_rule_number(note, self.places().0),
-            "place" => push_rule_number(note, self.places().1),
-            _ => match self.text_for(word) {
-                Some(text) => note.put(text),
-                None => self.push_avp_word(note, word),
-            },
+            Word::App => note.put_number(self.app().unwrap_or(0) as u64),
+            Word::Own => push_rule_number(note, self.places().0),
+            Word::Place => push_rule_number(note, self.places().1),
+            Word::Code | Word::First | Word::Second => self.push_key_word(note, word),
+            Word::M | Word::Value => self.push_avp_word(note, word),
+            Word::Sent | Word::Wanted | Word::Loose | Word::Wide | Word::Rule =>
+                self.push_rule_word(note, word),
+            _ => note.put(self.text_for(word)),
         }
     }
 }

@@ -4,7 +4,7 @@ use crate::books::Known;
 use crate::comparing::pair::{Pair, rule_at, wildcard_of};
 use crate::rule_text::{push_counts, push_rule, push_slot};
 use crate::sides::Side;
-use crate::texts::{Scene, push_hint};
+use crate::texts::{Scene, Word, push_hint, word_named};
 use dia_book::{Class, DRule, DefHead, Definition, Pxy};
 use dia_explain_places::Note;
 
@@ -19,45 +19,60 @@ fn push_line(note: &mut Note, pair: &Pair<'_>, line: &str) {
     let Some((part, told)) = line.split_once(": ") else {
         return;
     };
-    match part {
-        "hint" => push_hint(note, pair, told),
-        "x" | "sent" | "unsent" => {
-            let sent = pair.places().0;
-            let is_of_rule = part == "sent";
-            if part == "x" || is_of_rule == sent.is_some() {
-                let rule = if is_of_rule { sent } else { None };
-                push_defined(note, &pair.pairing.a, pair.x, rule, told)
-            }
+    match word_named(part) {
+        Some(Word::Hint) => push_hint(note, pair, told),
+        Some(part @ (Word::Own | Word::Other | Word::A | Word::B | Word::Lack)) => {
+            push_of_avp(note, pair, part, told)
         }
-        "y" | "taken" | "wildcard" => {
-            let rule = match part {
-                "taken" => pair.places().1,
-                "wildcard" => wildcard_of(pair.y),
-                _ => None,
-            };
-            push_defined(note, &pair.pairing.b, pair.y, rule, told)
-        }
-        _ => push_of_avps(note, pair, part, told),
+        Some(part) => push_of_definition(note, pair, part, told),
+        None => {}
     }
 }
 
-/// Adds a line about AVPs.
-fn push_of_avps(note: &mut Note, pair: &Pair<'_>, part: &str, told: &str) {
-    let (a, b) = (&pair.pairing.a, &pair.pairing.b);
-    match part {
-        "own" => push_avp(note, a, pair, pair.known_in(a), told),
-        "other" => push_avp(note, b, pair, pair.known_in(b), told),
-        "a" => push_avp(note, a, pair, pair.first_avp, told),
-        "b" => push_avp(note, b, pair, pair.second_avp, told),
-        "lack" if pair.known_in(b).is_none() => b.push_part(note, None, pair, told),
-        _ => {}
+/// Adds a line about a definition, or about a rule of it.
+fn push_of_definition(note: &mut Note, pair: &Pair<'_>, part: Word, told: &str) {
+    let place = match part {
+        Word::Sent | Word::Unsent => pair.places().0,
+        Word::Taken => pair.places().1,
+        Word::Wildcard => wildcard_of(pair.y),
+        _ => None,
+    };
+    match (part, place) {
+        (Word::Sent, None) | (Word::Unsent, Some(_)) => {}
+        (Word::X | Word::Sent | Word::Unsent, _) => {
+            push_defined(note, &pair.pairing.a, pair.x, place, told)
+        }
+        _ => push_defined(note, &pair.pairing.b, pair.y, place, told),
+    }
+}
+
+/// Adds a line about an AVP, or about a dictionary that doesn't have it.
+fn push_of_avp(note: &mut Note, pair: &Pair<'_>, part: Word, told: &str) {
+    let side = match part {
+        Word::Own | Word::A => &pair.pairing.a,
+        _ => &pair.pairing.b,
+    };
+    let avp = match part {
+        Word::A => pair.first_avp,
+        Word::B => pair.second_avp,
+        _ => pair.known_in(side),
+    };
+    match (part, avp) {
+        (Word::Lack, None) => side.push_part(note, None, pair, told),
+        (Word::Lack, Some(_)) | (_, None) => {}
+        (_, Some(avp)) => side.push_part(
+            note,
+            side.avp_at(avp.name),
+            &Declared { pair, avp },
+            told,
+        ),
     }
 }
 
 /// A definition, or a rule of it.
 #[derive(Clone, Copy)]
 struct Defined<'a> {
-    side: Side<'a>,
+    side: &'a Side<'a>,
     def: &'a Definition,
     rule: Option<DRule>,
 }
@@ -65,7 +80,7 @@ struct Defined<'a> {
 /// Adds a line about a definition, or about the rule at a place of it.
 fn push_defined<'a>(
     note: &mut Note,
-    side: &Side<'a>,
+    side: &'a Side<'a>,
     def: Option<&'a Definition>,
     place: Option<usize>,
     told: &str,
@@ -74,34 +89,30 @@ fn push_defined<'a>(
         return;
     };
     let rule = rule_at(Some(def), place);
-    let defined = Defined {
-        side: *side,
-        def,
-        rule,
-    };
+    let defined = Defined { side, def, rule };
     side.push_part(note, side.definition_at(def, place), &defined, told)
 }
 
 impl Scene for Defined<'_> {
-    fn push_word(&self, note: &mut Note, word: &str) {
+    fn push_word(&self, note: &mut Note, word: Word) {
         match word {
-            "name" => note.put(self.def.name.as_str()),
-            "flag" => note.put(flag_words(self.def.head)),
-            "messages" => push_messages(note, self.def.head),
+            Word::Name => note.put(self.def.name.as_str()),
+            Word::Flag => note.put(flag_words(self.def.head)),
+            Word::Messages => push_messages(note, self.def.head),
             _ => self.push_rule_word(note, word),
         }
     }
 }
 
 impl Defined<'_> {
-    fn push_rule_word(&self, note: &mut Note, word: &str) {
+    fn push_rule_word(&self, note: &mut Note, word: Word) {
         let Some(rule) = self.rule else {
             return;
         };
         match word {
-            "counts" => push_counts(note, &rule),
-            "counted" => push_slot(note, &self.side, &rule, "what no rule names"),
-            _ => push_rule(note, &self.side, &rule),
+            Word::Counts => push_counts(note, &rule),
+            Word::Counted => push_slot(note, self.side, &rule, "what no rule names"),
+            _ => push_rule(note, self.side, &rule),
         }
     }
 }
@@ -113,26 +124,11 @@ struct Declared<'p, 'a> {
     avp: Known<'a>,
 }
 
-/// Adds a line about an AVP, where a dictionary has it.
-fn push_avp<'a>(
-    note: &mut Note,
-    side: &Side<'a>,
-    pair: &Pair<'a>,
-    avp: Option<Known<'a>>,
-    told: &str,
-) {
-    match avp {
-        Some(avp) => side.push_part(note, side.avp_at(avp.name), &Declared { pair, avp }, told),
-        None => {}
-    }
-}
-
 impl Scene for Declared<'_, '_> {
-    fn push_word(&self, note: &mut Note, word: &str) {
-        if word == "a" {
-            self.pair.push_word(note, word)
-        } else {
-            self.avp.push_word(note, word)
+    fn push_word(&self, note: &mut Note, word: Word) {
+        match word {
+            Word::A => self.pair.push_word(note, word),
+            _ => self.avp.push_word(note, word),
         }
     }
 }

@@ -3,10 +3,8 @@
 use crate::books::{Known, Wanted, find_avp};
 use crate::faults::avp_bytes::{flags_of, part, push_hex};
 use crate::faults::in_body::InBody;
-use crate::faults::lengths::push_length_word;
-use crate::faults::reasons::{Topic, topic_of};
-use crate::faults::rules::push_rule_word;
 use crate::rule_text::{push_key, push_shown_value, push_vendor};
+use crate::texts::Word;
 use dia_book::Format;
 use dia_data::{FormatKind, Values};
 use dia_explain_places::Note;
@@ -49,24 +47,20 @@ pub fn data_of<'a>(scene: &InBody<'a>) -> &'a [u8] {
     }
 }
 
-/// Adds what a word about a fault stands for: about its AVP and the bytes of it, or where it is about no AVP, about the level.
-pub fn push_avp_word(note: &mut Note, scene: &InBody<'_>, word: &str) {
+/// Adds what a word about the AVP of a fault stands for, or about the bytes of it.
+pub fn push_avp_word(note: &mut Note, scene: &InBody<'_>, word: Word) {
     let Some(key) = scene.key() else {
-        return match topic_of(scene.fault.reason) {
-            Topic::Lengths => push_length_word(note, scene, word),
-            _ => push_rule_word(note, scene, word),
-        };
+        return;
     };
     let data = data_of(scene);
     match word {
-        "key" => push_key(note, key, " and vendor "),
-        "declared" => push_key(note, key, " vendor "),
-        "vendor" => push_other_vendor(note, scene),
-        "flag" => note.put(flag_word(scene.own())),
-        "bytes" => note.put_number(data.len() as u64),
-        "fits" => push_fitting(note, data.len()),
-        "value" => push_shown_value(note, &Format::Integer32, data),
-        _ => push_declared_word(note, scene, data, word),
+        Word::Key => push_key(note, key, " and vendor "),
+        Word::Declared => push_key(note, key, " vendor "),
+        Word::Vendor => push_other_vendor(note, scene),
+        Word::Flag => note.put(flag_word(scene.own())),
+        Word::Bytes => note.put_number(data.len() as u64),
+        Word::Fits => push_fitting(note, data.len()),
+        _ => push_shown_value(note, &Format::Integer32, data),
     }
 }
 
@@ -87,17 +81,17 @@ fn flag_word(own: &[u8]) -> &'static str {
 }
 
 /// Adds what a word about the declaration of that AVP stands for, or about data that isn't as it says.
-fn push_declared_word(note: &mut Note, scene: &InBody<'_>, data: &[u8], word: &str) {
+pub fn push_declared_word(note: &mut Note, scene: &InBody<'_>, word: Word) {
     let Some(avp) = scene.avp() else {
-        return push_rule_word(note, scene, word);
+        return;
     };
+    let data = data_of(scene);
     match word {
-        "m" | "format" => note.put(avp.declared_word(word)),
-        "lengths" => note.put(lengths_of(avp.format)),
-        "bad" => note.put_number(accepted_front(avp.format, data) as u64),
-        "byte" => push_bad_bytes(note, avp.format, data, 1),
-        "rest" => push_bad_bytes(note, avp.format, data, 4),
-        _ => push_rule_word(note, scene, word),
+        Word::Lengths => note.put(lengths_of(avp.format)),
+        Word::Bad => note.put_number(accepted_front(avp.format, data) as u64),
+        Word::Byte => push_bad_bytes(note, avp.format, data, 1),
+        Word::Rest => push_bad_bytes(note, avp.format, data, 4),
+        _ => note.put(avp.declared_word(word)),
     }
 }
 

@@ -1,6 +1,6 @@
 //! The bytes of an AVP, by its fields (RFC 6733 section 4.1), and flags.
 
-use crate::texts::{Scene, push_text};
+use crate::texts::{Scene, Word, push_text};
 use dia_data::push_hex_byte;
 use dia_explain_places::Note;
 use dia_wire::{AVP_HEAD_LENGTH, AVP_MANDATORY, AVP_PROTECTED, AVP_VENDOR, VENDOR_AVP_HEAD_LENGTH};
@@ -37,15 +37,15 @@ pub fn push_avp(note: &mut Note, at: usize, bytes: &[u8]) {
 }
 
 impl Scene for AvpBytes<'_> {
-    fn push_word(&self, note: &mut Note, word: &str) {
+    fn push_word(&self, note: &mut Note, word: Word) {
         let bytes = self.bytes;
         match word {
-            "at" => note.put_number(self.at as u64),
-            "code" => push_field(note, part(bytes, 0, 4)),
-            "flags" => push_flags(note, flags_of(bytes), &FLAGS),
-            "length" => push_field(note, part(bytes, 5, 8)),
-            "vendor" => push_field(note, part(bytes, 8, 12)),
-            "data" => push_data(note, part(bytes, head_of(bytes), length_of(bytes))),
+            Word::At => note.put_number(self.at as u64),
+            Word::Code => push_field(note, part(bytes, 0, 4)),
+            Word::Flags => push_flags(note, flags_of(bytes), &FLAGS),
+            Word::Length => push_field(note, part(bytes, 5, 8)),
+            Word::Vendor => push_field(note, part(bytes, 8, 12)),
+            Word::Data => push_data(note, part(bytes, head_of(bytes), length_of(bytes))),
             _ => push_hex(note, bytes),
         }
     }

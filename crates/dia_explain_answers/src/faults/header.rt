@@ -5,7 +5,7 @@ use crate::books::{Level, Wanted, command_at, definition, find_command, name_of}
 use crate::faults::avp_bytes::push_flags;
 use crate::faults::reasons::text_of_header;
 use crate::sides::Side;
-use crate::texts::{Scene, push_hint, push_text};
+use crate::texts::{Scene, Word, push_hint, push_text};
 use dia_book::{Book, Class, DefHead, Definition};
 use dia_check::{Reason, class_of};
 use dia_explain_places::Note;
@@ -28,8 +28,8 @@ static FLAGS: [(u8, &str); 4] = [
 /// A header, and a command that its texts speak of.
 #[derive(Clone, Copy)]
 struct InHeader<'a> {
-    side: Side<'a>,
-    header: Header,
+    side: &'a Side<'a>,
+    header: &'a Header,
     command: Option<&'a Definition>,
 }
 
@@ -40,8 +40,8 @@ pub fn push_header_fault(note: &mut Note, side: &Side<'_>, header: &Header, reas
         _ => definition(side.book, Level::body(header)),
     };
     let scene = InHeader {
-        side: *side,
-        header: *header,
+        side,
+        header,
         command,
     };
     let text = text_of_header(reason, header, command);
@@ -57,7 +57,7 @@ impl InHeader<'_> {
     /// Adds where the dictionary says otherwise.
     fn push_commands(&self, note: &mut Note, reason: Reason) {
         match (reason, self.command) {
-            (Reason::Command, Some(command)) if class_of(&self.header) != Class::Error => {
+            (Reason::Command, Some(command)) if class_of(self.header) != Class::Error => {
                 self.push_command(note, command, "{name} has this code")
             }
             (Reason::Proxiable, Some(command)) => {
@@ -97,7 +97,7 @@ impl InHeader<'_> {
                 class,
                 app,
                 ..
-            } if code == self.header.code && class == class_of(&self.header) => { app }
+            } if code == self.header.code && class == class_of(self.header) => { app }
             _ => None,
         }
     }
@@ -105,7 +105,7 @@ impl InHeader<'_> {
     /// Adds which dictionary has the commands of an application, where this one has none of it and none for the header.
     fn push_dictionary(&self, note: &mut Note, reason: Reason) {
         let is_missing = match reason {
-            Reason::Command => self.command.is_none() && class_of(&self.header) != Class::Error,
+            Reason::Command => self.command.is_none() && class_of(self.header) != Class::Error,
             _ => reason == Reason::Application,
         };
         let own = find_command(self.side.book, Wanted::Application(self.header.app));
@@ -127,28 +127,28 @@ impl InHeader<'_> {
     }
 
     /// The text that a word stands for.
-    fn text_for(&self, word: &str) -> &str {
+    fn text_for(&self, word: Word) -> &str {
         match word {
-            "class" => match class_of(&self.header) {
+            Word::Class => match class_of(self.header) {
                 Class::Request => "request",
                 Class::Answer => "answer",
                 Class::Error => "answer with the E flag",
             },
-            "req" if self.header.is_request() => ", REQ",
-            "pxy" if self.header.is_proxiable() => ", PXY",
-            "req" | "pxy" => "",
+            Word::Req if self.header.is_request() => ", REQ",
+            Word::Pxy if self.header.is_proxiable() => ", PXY",
+            Word::Req | Word::Pxy => "",
             _ => name_of(self.command),
         }
     }
 }
 
 impl Scene for InHeader<'_> {
-    fn push_word(&self, note: &mut Note, word: &str) {
+    fn push_word(&self, note: &mut Note, word: Word) {
         match word {
-            "flags" => push_flags(note, self.header.flags, &FLAGS),
-            "code" => note.put_number(self.header.code as u64),
-            "app" => note.put_number(self.header.app as u64),
-            "theirs" => note.put_number(self.application().unwrap_or(0) as u64),
+            Word::Flags => push_flags(note, self.header.flags, &FLAGS),
+            Word::Code => note.put_number(self.header.code as u64),
+            Word::App => note.put_number(self.header.app as u64),
+            Word::Theirs => note.put_number(self.application().unwrap_or(0) as u64),
             _ => note.put(self.text_for(word)),
         }
     }

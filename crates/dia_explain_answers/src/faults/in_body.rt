@@ -3,13 +3,15 @@
 use crate::books::{Known, Level, avp_of, name_of};
 use crate::checking::Asked;
 use crate::faults::Message;
-use crate::faults::avp::{push_avp_word, same_code};
+use crate::faults::avp::{push_avp_word, push_declared_word, same_code};
 use crate::faults::avp_bytes::{part, push_avp};
+use crate::faults::lengths::push_length_word;
 use crate::faults::level::Counting;
 use crate::faults::reasons::{Topic, text_in_body, topic_of};
+use crate::faults::rules::push_rule_word;
 use crate::faults::walk::{Group, walk_to};
 use crate::sides::Side;
-use crate::texts::{Scene, push_hint, push_text};
+use crate::texts::{Scene, Word, push_hint, push_text};
 use dia_book::Key;
 use dia_check::{Fault, Levels, Reason, Subject};
 use dia_explain_places::Note;
@@ -20,10 +22,10 @@ const TOLD: usize = 4;
 /// A fault in the body of a message.
 #[derive(Clone, Copy)]
 pub struct InBody<'a> {
-    pub side: Side<'a>,
-    pub message: Message<'a>,
-    pub asked: Asked,
-    pub fault: Fault,
+    pub side: &'a Side<'a>,
+    pub message: &'a Message<'a>,
+    pub asked: &'a Asked,
+    pub fault: &'a Fault,
     pub body: Level,
     /// The name of what the outermost group stands in.
     pub outermost: &'a str,
@@ -81,7 +83,7 @@ impl<'a> InBody<'a> {
         let between = many.saturating_sub(TOLD).saturating_sub(TOLD);
         for (index, group) in self.groups.iter().enumerate() {
             if between < 2 || index < TOLD || index.saturating_add(TOLD) >= many {
-                push_group(note, &self.side, group);
+                push_group(note, self.side, group);
             } else if index == TOLD {
                 note.put(", .. ");
                 note.put_number(between as u64);
@@ -140,23 +142,36 @@ fn push_group(note: &mut Note, side: &Side<'_>, group: &Group) {
 }
 
 impl Scene for InBody<'_> {
-    fn push_word(&self, note: &mut Note, word: &str) {
+    fn push_word(&self, note: &mut Note, word: Word) {
         match word {
-            "level" => note.put(if self.groups.is_empty() {
+            Word::Level => note.put(if self.groups.is_empty() {
                 self.outermost
             } else {
                 name_of(self.def())
             }),
-            "subject" => match self.key() {
+            Word::Subject => match self.key() {
                 Some(key) => self.side.push_name(note, key),
                 None => note.put("AVP"),
             },
-            "depth" => note.put_number(self.groups.len() as u64),
-            "levels" => match self.asked.levels {
+            Word::Depth => note.put_number(self.groups.len() as u64),
+            Word::Levels => match self.asked.levels {
                 Levels::AtMost(most) => note.put_number(most as u64),
                 Levels::Any => {}
             },
-            _ => push_avp_word(note, self, word),
+            Word::Left | Word::Longest | Word::Length | Word::Head | Word::LengthHint => {
+                push_length_word(note, self, word)
+            }
+            Word::M | Word::Format | Word::Lengths | Word::Bad | Word::Byte | Word::Rest => {
+                push_declared_word(note, self, word)
+            }
+            Word::Key
+            | Word::Declared
+            | Word::Vendor
+            | Word::Flag
+            | Word::Bytes
+            | Word::Fits
+            | Word::Value => { push_avp_word(note, self, word) }
+            _ => push_rule_word(note, self, word),
         }
     }
 }

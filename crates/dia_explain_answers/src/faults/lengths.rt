@@ -2,17 +2,18 @@
 
 use crate::faults::avp_bytes::{head_of, length_of, part, vendor_of};
 use crate::faults::in_body::InBody;
+use crate::texts::Word;
 use dia_book::Key;
 use dia_explain_places::{Note, Unpadded, find_unpadded};
 
 /// Adds what a word about the lengths of AVPs stands for.
-pub fn push_length_word(note: &mut Note, scene: &InBody<'_>, word: &str) {
+pub fn push_length_word(note: &mut Note, scene: &InBody<'_>, word: Word) {
     let own = scene.own();
     match word {
-        "left" => note.put_number(own.len() as u64),
-        "most" => note.put_number((own.len() / 4 * 4) as u64),
-        "length" => note.put_number(length_of(own) as u64),
-        "head" => note.put_number(head_of(own) as u64),
+        Word::Left => note.put_number(own.len() as u64),
+        Word::Longest => note.put_number((own.len() / 4 * 4) as u64),
+        Word::Length => note.put_number(length_of(own) as u64),
+        Word::Head => note.put_number(head_of(own) as u64),
         // what to do about a length, by the AVP without padding that may have led here
         _ => match find_unpadded(scene.bytes().1) {
             Some(found) => push_unpadded(note, scene, &found),

@@ -86,10 +86,10 @@ fn text_of_length(scene: &InBody<'_>) -> &'static str {
     } else if length < head_of(own) {
         "no AVP begins here: the AVP Length is {length}, and the head alone has {head} bytes\n{length-hint}"
     } else if length > own.len() {
-        "no AVP begins here: the AVP Length is {length}, and with {left} bytes left of {level} it may be at most {most}\n\
+        "no AVP begins here: the AVP Length is {length}, and with {left} bytes left of {level} it may be at most {longest}\n\
          {length-hint}"
     } else {
-        "no AVP begins here: the AVP Length is {length}, and with {left} bytes left of {level} it may be at most {most}, \
+        "no AVP begins here: the AVP Length is {length}, and with {left} bytes left of {level} it may be at most {longest}, \
          since the padding to a multiple of four has to be there\n\
          the last AVP of a group is padded as well, and the group's AVP Length counts that padding: mend the sender"
     }

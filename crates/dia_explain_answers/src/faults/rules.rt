@@ -3,6 +3,7 @@
 use crate::faults::in_body::InBody;
 use crate::faults::level::{Counting, find_key};
 use crate::rule_text::{push_loose, push_rule};
+use crate::texts::Word;
 use dia_book::{DRule, RuleKind};
 use dia_explain_places::Note;
 
@@ -14,21 +15,21 @@ pub fn place_behind(scene: &InBody<'_>) -> Option<usize> {
 }
 
 /// Adds what a word about the rule that counts the AVP of a fault stands for.
-pub fn push_rule_word(note: &mut Note, scene: &InBody<'_>, word: &str) {
+pub fn push_rule_word(note: &mut Note, scene: &InBody<'_>, word: Word) {
     let Some(Counting { rule, found, .. }) = &scene.counting else {
         return;
     };
     match word {
-        "found" => note.put_number(*found as u64),
+        Word::Found => note.put_number(*found as u64),
         // with the AVP at the place
-        "count" => note.put_number(found.saturating_add(1) as u64),
-        "behind" => note.put_number(place_behind(scene).unwrap_or(0) as u64),
-        "wanted" => push_wanted(note, rule),
-        "most" => push_most(note, rule.max),
-        "loose" => push_loose(note, &scene.side, rule),
-        "unbounded" => push_rule(note, &scene.side, &unbounded(rule)),
-        "optional" => push_rule(note, &scene.side, &optional(rule)),
-        _ => push_rule(note, &scene.side, rule),
+        Word::Count => note.put_number(found.saturating_add(1) as u64),
+        Word::Behind => note.put_number(place_behind(scene).unwrap_or(0) as u64),
+        Word::Wanted => push_wanted(note, rule),
+        Word::Most => push_most(note, rule.max),
+        Word::Loose => push_loose(note, scene.side, rule),
+        Word::Unbounded => push_rule(note, scene.side, &unbounded(rule)),
+        Word::Optional => push_rule(note, scene.side, &optional(rule)),
+        _ => push_rule(note, scene.side, rule),
     }
 }
 

@@ -28,16 +28,17 @@ pub fn push_show(note: &mut Note, texts: &InputTexts<'_>, cut: &CutListing) {
         message.bytes.len(),
     ) {
         Ok(walk) => {
+            let fault = Fault {
+                place: u32::try_from(walk.at).unwrap_or(u32::MAX),
+                code: 5014,
+                reason: Reason::AvpLength,
+                subject: Subject::Nothing,
+            };
             let scene = InBody {
-                side,
-                message,
-                asked: Asked::new(Unknown::Kept, Levels::Any),
-                fault: Fault {
-                    place: u32::try_from(walk.at).unwrap_or(u32::MAX),
-                    code: 5014,
-                    reason: Reason::AvpLength,
-                    subject: Subject::Nothing,
-                },
+                side: &side,
+                message: &message,
+                asked: &Asked::new(Unknown::Kept, Levels::Any),
+                fault: &fault,
                 body: Level::body(&header),
                 outermost: "the message",
                 groups: &walk.groups,
