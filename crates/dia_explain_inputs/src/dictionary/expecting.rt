@@ -6,18 +6,15 @@ use dia_terms::format_words;
 
 /// Which number can stand at a place where other tokens can, too.
 pub fn number_at(wanted: Wanted) -> Option<&'static str> {
-    match wanted {
-        Wanted::Rules(InRules::Rule { .. } | InRules::Angled { .. }) => {
-            Some("a least count below 2^32")
-        }
-        Wanted::Rules(InRules::Greatest { .. }) => Some("a greatest count below 2^32"),
-        Wanted::Head(InHead::Flags { pxy, comma, .. }) if !(pxy && comma) => {
-            Some("an Application-ID below 2^32")
-        }
-        Wanted::Head(InHead::Vendor { comma: false }) => Some("a vendor's number below 2^32"),
-        Wanted::Declaration(InDeclaration::DotsOrValue { .. }) => Some("a value below 2^31"),
-        _ => None,
-    }
+    Some(match wanted {
+        Wanted::Rules(InRules::Rule { .. } | InRules::Angled { .. }) => "a least count below 2^32",
+        Wanted::Rules(InRules::Greatest { .. }) => "a greatest count below 2^32",
+        Wanted::Head(InHead::Flags { pxy, comma, .. }) if !(pxy && comma) =>
+            "an Application-ID below 2^32",
+        Wanted::Head(InHead::Vendor { comma: false }) => "a vendor's number below 2^32",
+        Wanted::Declaration(InDeclaration::DotsOrValue { .. }) => "a value below 2^31",
+        _ => return None,
+    })
 }
 
 /// Adds what can stand at a place.

@@ -13,7 +13,7 @@ mod values;
 use crate::names::{Named, names_of};
 use crate::notes::{push_line_column, push_made};
 use dia_dict::{DictKind, Finding, base_text, faults};
-use dia_explain_places::{NamedText, Note, nearest_name};
+use dia_explain_places::{NamedText, Note, Place, nearest_name};
 use dia_report::WrongSource;
 use parts::Parts;
 use std::alloc::{AllocError, Global};
@@ -62,9 +62,18 @@ fn told_of<'a>(
 ) -> Result<String, AllocError> {
     let faults = told_faults(alloc, findings)?;
     let names = names_of(alloc, parts.source, Named::Avp)?;
+    tell(alloc, parts, &names, &faults)
+}
+
+fn tell(
+    alloc: Global,
+    parts: &Parts<'_>,
+    names: &[&str],
+    faults: &[ToldFault<'_>],
+) -> Result<String, AllocError> {
     let mut told = Note::new(alloc);
-    push_first(&mut told, parts, &names, &faults);
-    push_rest(&mut told, parts.name, &faults);
+    push_first(&mut told, parts, names, faults);
+    push_rest(&mut told, parts.name, faults);
     told.finish()
 }
 
@@ -94,14 +103,9 @@ fn push_fault(
     let text = text_of(parts, fault);
     let (told, advice) = text.split_once('\n').unwrap_or((text, ""));
     push_filled(note, parts, fault, told);
-    if let Some(place) = parts.place(fault.other) {
-        note.put(" at ");
-        push_line_column(note, place);
-    }
-    note.put("\n");
+    push_place(note, parts.place(fault.other));
     let kind = fault.finding.told.kind;
-    let is_advised = kind != DictKind::NoGroupFormat && advised == Some(kind);
-    if push_meant(note, names, fault) || is_advised {
+    if push_meant(note, names, fault) || is_advised(kind, advised) {
         return advised;
     }
     note.put("hint: ");
@@ -110,25 +114,49 @@ fn push_fault(
     Some(kind)
 }
 
+/// Ends a line with a place, if there is one.
+fn push_place(note: &mut Note, place: Option<Place>) {
+    if let Some(place) = place {
+        note.put(" at ");
+        push_line_column(note, place);
+    }
+    note.put("\n");
+}
+
+/// Whether what helps with faults of a kind is told, where it is the same for all of them.
+fn is_advised(kind: DictKind, advised: Option<DictKind>) -> bool {
+    kind != DictKind::NoGroupFormat && advised == Some(kind)
+}
+
 /// Adds where an undefined name may come from, the base dictionary or a slip, and tells whether that is known.
 fn push_meant(note: &mut Note, names: &[&str], fault: &ToldFault<'_>) -> bool {
-    let finding = fault.finding;
-    if finding.told.kind != DictKind::UndefinedName {
+    let told = &fault.finding.told;
+    if !matches!(told.kind, DictKind::UndefinedName) {
         return false;
     }
-    let name = finding.told.slot;
+    if push_of_base(note, told.slot) {
+        return true;
+    }
+    match nearest_name(told.slot, names) {
+        Some(near) => {
+            note.put_all(&["hint: did you mean ", near, "?\n"]);
+            true
+        }
+        None => false,
+    }
+}
+
+/// Adds that the base dictionary has an AVP of this name, and tells whether it has.
+fn push_of_base(note: &mut Note, name: &str) -> bool {
     if let Some(line) = line_of_base("%avp ", name, " ") {
         note.put_all(&["hint: the base dictionary declares it: ", line, "\n"]);
-        true
-    } else if line_of_base("<", name, "> ::= < AVP ").is_some() {
-        note.put_hint("the base dictionary has this group: `diacmd render @base` prints it");
-        true
-    } else if let Some(near) = nearest_name(name, names) {
-        note.put_all(&["hint: did you mean ", near, "?\n"]);
-        true
-    } else {
-        false
+        return true;
     }
+    let is_group = line_of_base("<", name, "> ::= < AVP ").is_some();
+    if is_group {
+        note.put_hint("the base dictionary has this group: `diacmd render @base` prints it");
+    }
+    is_group
 }
 
 /// The line of the base dictionary that has this in front of a name, and this behind it.
@@ -176,10 +204,9 @@ fn push_undefined(note: &mut Note, faults: &[ToldFault<'_>]) -> usize {
     let mut count = 0usize;
     let mut between = "hint: these names aren't defined either: ";
     for fault in faults {
-        let finding = fault.finding;
-        if finding.told.kind == DictKind::UndefinedName && count < MOST_NAMES {
-            note.put(between);
-            note.put(finding.told.slot);
+        let told = &fault.finding.told;
+        if count < MOST_NAMES && matches!(told.kind, DictKind::UndefinedName) {
+            note.put_all(&[between, told.slot]);
             between = ", ";
             count = count.saturating_add(1);
         }

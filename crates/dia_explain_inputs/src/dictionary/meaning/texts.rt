@@ -3,7 +3,7 @@
 
 use super::parts::Parts;
 use super::told::ToldFault;
-use super::values::push_value;
+use super::values::{push_value, word_named};
 use dia_ccf::{Decl, FormatName, Head, Qual, Rule, RuleKind};
 use dia_dict::{DictKind, Part, PartKind};
 use dia_explain_places::Note;
@@ -88,10 +88,9 @@ fn text_of_counts(rule: Option<&Rule>) -> &'static str {
 pub fn push_filled(note: &mut Note, parts: &Parts<'_>, fault: &ToldFault<'_>, text: &str) {
     let mut is_word = false;
     for piece in text.split('$') {
-        if is_word {
-            push_value(note, parts, fault, piece);
-        } else {
-            note.put(piece);
+        match word_named(piece) {
+            Some(word) if is_word => push_value(note, parts, fault, word),
+            _ => note.put(piece),
         }
         is_word = !is_word;
     }

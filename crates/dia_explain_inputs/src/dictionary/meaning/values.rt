@@ -8,42 +8,89 @@ use dia_dict::{MAX_PARTS, MAX_RULES, Part, greatest_count, least_count};
 use dia_explain_places::Note;
 use dia_wire::Key;
 
+/// A word of a text.
+#[derive(Clone, Copy)]
+pub enum Word {
+    Name,
+    Slot,
+    First,
+    Declared,
+    More,
+    Key,
+    Header,
+    Messages,
+    Place,
+    Parts,
+    Rules,
+    Limit,
+    Low,
+    High,
+}
+
+/// The words, as texts have them.
+static WORDS: [(&str, Word); 14] = [
+    ("name", Word::Name),
+    ("slot", Word::Slot),
+    ("first", Word::First),
+    ("declared", Word::Declared),
+    ("more", Word::More),
+    ("key", Word::Key),
+    ("header", Word::Header),
+    ("messages", Word::Messages),
+    ("place", Word::Place),
+    ("parts", Word::Parts),
+    ("rules", Word::Rules),
+    ("limit", Word::Limit),
+    ("low", Word::Low),
+    ("high", Word::High),
+];
+
+/// The word with this name.
+pub fn word_named(name: &str) -> Option<Word> {
+    for (own, word) in &WORDS {
+        if *own == name {
+            return Some(*word);
+        }
+    }
+    None
+}
+
 /// Adds what a word stands for.
-pub fn push_value(note: &mut Note, parts: &Parts<'_>, fault: &ToldFault<'_>, word: &str) {
+pub fn push_value(note: &mut Note, parts: &Parts<'_>, fault: &ToldFault<'_>, word: Word) {
     let finding = fault.finding;
     match word {
-        "name" => note.put(finding.told.name),
-        "slot" => note.put(finding.told.slot),
-        "first" => note.put(parts.name(fault.other).unwrap_or("")),
-        "declared" => push_coded(note, parts.key(fault.other)),
-        "more" => push_more(note, fault.more),
+        Word::Name => note.put(finding.told.name),
+        Word::Slot => note.put(finding.told.slot),
+        Word::First => note.put(parts.name(fault.other).unwrap_or("")),
+        Word::Declared => push_coded(note, parts.key(fault.other)),
+        Word::More => push_more(note, fault.more),
         _ => push_part_value(note, parts, finding.part, word),
     }
 }
 
 /// Adds what a word about the part at fault stands for.
-fn push_part_value(note: &mut Note, parts: &Parts<'_>, part: Option<Part>, word: &str) {
+fn push_part_value(note: &mut Note, parts: &Parts<'_>, part: Option<Part>, word: Word) {
     match word {
-        "key" => push_coded(note, parts.key(part)),
-        "header" => push_header(note, parts.key(part)),
-        "messages" => push_messages(note, parts.head(part)),
-        "place" => push_place_of(note, parts, part),
+        Word::Key => push_coded(note, parts.key(part)),
+        Word::Header => push_header(note, parts.key(part)),
+        Word::Messages => push_messages(note, parts.head(part)),
+        Word::Place => push_place_of(note, parts, part),
         _ => note.put_number(count_of(parts, part, word) as u64),
     }
 }
 
 /// The count or the limit that a word stands for.
-fn count_of(parts: &Parts<'_>, part: Option<Part>, word: &str) -> usize {
+fn count_of(parts: &Parts<'_>, part: Option<Part>, word: Word) -> usize {
     let (low, high) = counts_of(parts.rule(part));
     let (rules, limit) = match parts.def(part) {
         Some(def) => (def.rules.len(), MAX_RULES),
         None => (0, MAX_PARTS),
     };
     match word {
-        "parts" => parts.count(),
-        "rules" => rules,
-        "limit" => limit,
-        "low" => low as usize,
+        Word::Parts => parts.count(),
+        Word::Rules => rules,
+        Word::Limit => limit,
+        Word::Low => low as usize,
         _ => high as usize,
     }
 }
