@@ -1,5 +1,8 @@
 //! The applications for which there are dictionaries (`docs/CAPTURES.md`).
 
+use crate::texts::{Scene, Word};
+use dia_explain_places::Note;
+
 /// An application: its Application-ID, its name, and the dictionary that has its commands.
 #[derive(Clone, Copy)]
 pub struct Application {
@@ -26,4 +29,14 @@ pub fn application_of(id: u32) -> Option<Application> {
     };
     let (name, file) = named.split_once('\n')?;
     Some(Application { id, name, file })
+}
+
+impl Scene for Application {
+    fn push_word(&self, note: &mut Note, word: Word) {
+        match word {
+            Word::Id => note.put_number(self.id as u64),
+            Word::Name => note.put(self.name),
+            _ => note.put(self.file),
+        }
+    }
 }

@@ -121,9 +121,14 @@ fn def_of<B: Book>(book: &B, level: Level) -> Option<DefId>
     }
 }
 
-/// The place of the rule for AVP.
-pub fn wildcard_among(rules: &[DRule]) -> Option<usize> {
-    for (place, rule) in rules.iter().enumerate() {
+/// The rule at a place of a definition.
+pub fn rule_at(def: Option<&Definition>, place: Option<usize>) -> Option<DRule> {
+    def?.rules.get(place?).copied()
+}
+
+/// The place of a definition's rule for AVP.
+pub fn wildcard_of(def: Option<&Definition>) -> Option<usize> {
+    for (place, rule) in def?.rules.iter().enumerate() {
         if rule.key.is_none() {
             return Some(place);
         }

@@ -4,6 +4,7 @@ use crate::books::{Level, definition, name_of};
 use crate::checking::{Asked, policy_words};
 use crate::faults::{Message, push_refusal};
 use crate::sides::Side;
+use crate::texts::{Scene, Word, push_text};
 use dia_check::{Fault, Refusal};
 use dia_dict::IndexedBook;
 use dia_explain_places::{InputTexts, Note};
@@ -14,7 +15,7 @@ use dia_wire::read_header;
 /// valid under both.
 pub fn push_refute(note: &mut Note, texts: &InputTexts<'_>, found: &Unrefuting) {
     match &found.under_first {
-        Ok(_) => push_both(note, texts, found),
+        Ok(_) => push_text(note, &ValidInBoth { texts, found }, BOTH),
         Err(refusal) => {
             let side = Side::of(&texts.first, &found.books.first);
             let message = Message::of(&texts.message, &found.message);
@@ -29,28 +30,30 @@ pub fn push_refute(note: &mut Note, texts: &InputTexts<'_>, found: &Unrefuting) 
     }
 }
 
-/// Adds that a message is valid under both dictionaries.
-fn push_both<'a>(note: &mut Note, texts: &InputTexts<'a>, found: &'a Unrefuting) {
-    let (a, b) = (texts.first.name, texts.second.name);
-    let left = command_name(&found.books.first.book, &found.message);
-    let right = command_name(&found.books.second.book, &found.message);
-    let told = ": the message is valid under both dictionaries: ";
-    note.put_all(&[
-        texts.message.name,
-        told,
-        left,
-        " in ",
-        a,
-        ", ",
-        right,
-        " in ",
-        b,
-        "\n",
-    ]);
-    note.put("hint: `diacmd breaking --messages");
-    note.put(policy_words(found.unknown));
-    note.put_all(&[" ", a, " ", b, " ", left]);
-    note.put("` lists what breaks, each with a message that shows it\n")
+/// What is told of a message that is valid under both dictionaries.
+const BOTH: &str =
+    "{message}: the message is valid under both dictionaries: {left} in {a}, {right} in {b}\n\
+    hint: `diacmd breaking --messages{policy} {a} {b} {left}` lists what breaks, each with a message that shows it\n";
+
+/// A message that is valid under both dictionaries.
+#[derive(Clone, Copy)]
+struct ValidInBoth<'a> {
+    texts: &'a InputTexts<'a>,
+    found: &'a Unrefuting,
+}
+
+impl Scene for ValidInBoth<'_> {
+    fn push_word(&self, note: &mut Note, word: Word) {
+        let (texts, found) = (self.texts, self.found);
+        note.put(match word {
+            Word::Message => texts.message.name,
+            Word::A => texts.first.name,
+            Word::B => texts.second.name,
+            Word::Policy => policy_words(found.unknown),
+            Word::Left => command_name(&found.books.first.book, &found.message),
+            _ => command_name(&found.books.second.book, &found.message),
+        })
+    }
 }
 
 /// The name of the command that the header of a message selects.

@@ -21,6 +21,7 @@ pub enum Word {
     Data,
     Declared,
     Depth,
+    File,
     First,
     Fits,
     Flag,
@@ -29,6 +30,7 @@ pub enum Word {
     Found,
     Head,
     Hint,
+    Id,
     Key,
     Lack,
     Left,
@@ -40,6 +42,7 @@ pub enum Word {
     Longest,
     Loose,
     M,
+    Message,
     Messages,
     Most,
     Name,
@@ -51,6 +54,7 @@ pub enum Word {
     Pxy,
     Req,
     Rest,
+    Right,
     Rule,
     Second,
     Sends,
@@ -73,7 +77,7 @@ pub enum Word {
 }
 
 /// The words, as texts have them.
-static WORDS: [(&str, Word); 65] = [
+static WORDS: [(&str, Word); 69] = [
     ("a", Word::A),
     ("app", Word::App),
     ("at", Word::At),
@@ -90,6 +94,7 @@ static WORDS: [(&str, Word); 65] = [
     ("data", Word::Data),
     ("declared", Word::Declared),
     ("depth", Word::Depth),
+    ("file", Word::File),
     ("first", Word::First),
     ("fits", Word::Fits),
     ("flag", Word::Flag),
@@ -98,6 +103,7 @@ static WORDS: [(&str, Word); 65] = [
     ("found", Word::Found),
     ("head", Word::Head),
     ("hint", Word::Hint),
+    ("id", Word::Id),
     ("key", Word::Key),
     ("lack", Word::Lack),
     ("left", Word::Left),
@@ -109,6 +115,7 @@ static WORDS: [(&str, Word); 65] = [
     ("longest", Word::Longest),
     ("loose", Word::Loose),
     ("m", Word::M),
+    ("message", Word::Message),
     ("messages", Word::Messages),
     ("most", Word::Most),
     ("name", Word::Name),
@@ -120,6 +127,7 @@ static WORDS: [(&str, Word); 65] = [
     ("pxy", Word::Pxy),
     ("req", Word::Req),
     ("rest", Word::Rest),
+    ("right", Word::Right),
     ("rule", Word::Rule),
     ("second", Word::Second),
     ("sends", Word::Sends),

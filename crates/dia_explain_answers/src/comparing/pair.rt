@@ -1,8 +1,8 @@
 //! A pair that fails a test, and what the words of its hints stand for.
 
 use crate::books::{
-    Known, Level, Wanted, avp_of, command_at, definition, find_avp, find_command, name_of,
-    wildcard_among,
+    Known, Level, Wanted, avp_of, command_at, definition, find_avp, find_command, name_of, rule_at,
+    wildcard_of,
 };
 use crate::checking::policy_words;
 use crate::comparing::pairing::Pairing;
@@ -204,16 +204,6 @@ impl Scene for Pair<'_> {
             _ => note.put(self.text_for(word)),
         }
     }
-}
-
-/// The rule at a place of a definition.
-pub fn rule_at(def: Option<&Definition>, place: Option<usize>) -> Option<DRule> {
-    def?.rules.get(place?).copied()
-}
-
-/// The place of a definition's rule for AVP.
-pub fn wildcard_of(def: Option<&Definition>) -> Option<usize> {
-    wildcard_among(&def?.rules)
 }
 
 /// Adds the number of the rule at a place, from one on.

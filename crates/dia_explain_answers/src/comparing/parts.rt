@@ -1,7 +1,7 @@
 //! Lines about parts of the two dictionaries.
 
-use crate::books::Known;
-use crate::comparing::pair::{Pair, rule_at, wildcard_of};
+use crate::books::{Known, rule_at, wildcard_of};
+use crate::comparing::pair::Pair;
 use crate::rule_text::{push_counts, push_rule, push_slot};
 use crate::sides::Side;
 use crate::texts::{Scene, Word, push_hint, word_named};

@@ -1,6 +1,6 @@
 //! What is told of a message whose header has a fault.
 
-use crate::applications::{Application, application_of};
+use crate::applications::application_of;
 use crate::books::{Level, Wanted, command_at, definition, find_command, name_of};
 use crate::faults::avp_bytes::push_flags;
 use crate::faults::reasons::text_of_header;
@@ -16,6 +16,10 @@ const TOLD: usize = 5;
 
 /// The fields by which a command is found.
 const HEADER: &str = "\n  header: flags {flags}, code {code}, application {app}\n";
+
+/// Which dictionary has the commands of an application.
+const DICTIONARY: &str = "application {id} is {name}, and this dictionary has no command of it; \
+    {file} has them, see docs/CAPTURES.md";
 
 /// The flags of a header (RFC 6733 section 3).
 static FLAGS: [(u8, &str); 4] = [
@@ -112,17 +116,8 @@ impl InHeader<'_> {
         if !is_missing || own.is_some() {
             return;
         }
-        if let Some(Application { id, name, file }) = application_of(self.header.app) {
-            let has_none = ", and this dictionary has no command of it; ";
-            note.put("hint: application ");
-            note.put_number(id as u64);
-            note.put_all(&[
-                " is ",
-                name,
-                has_none,
-                file,
-                " has them, see docs/CAPTURES.md\n",
-            ]);
+        if let Some(application) = application_of(self.header.app) {
+            push_hint(note, &application, DICTIONARY)
         }
     }
 

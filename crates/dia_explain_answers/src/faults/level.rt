@@ -1,6 +1,6 @@
 //! The level of a fault, and the rule that counts its AVP there.
 
-use crate::books::{Level, definition, slot, wildcard_among};
+use crate::books::{Level, definition, rule_at, slot, wildcard_of};
 use crate::faults::avp_bytes::{head_of, part};
 use crate::faults::in_body::InBody;
 use dia_book::{DRule, Definition, Key, Slot};
@@ -72,15 +72,15 @@ impl<'a> InBody<'a> {
             Some(key) => slot(self.side.book, level, key),
             None => Slot::Unlisted,
         };
-        let rules = self.def()?.rules.as_slice();
+        let def = definition(self.side.book, level);
         let place = match own {
-            Slot::Fixed(place) | Slot::Loose(place) => place,
-            Slot::Unlisted => wildcard_among(rules)?,
+            Slot::Fixed(place) | Slot::Loose(place) => Some(place),
+            Slot::Unlisted => wildcard_of(def),
         };
         let before = part(self.message.bytes, begin, self.fault.place as usize);
         Some(Counting {
-            place,
-            rule: *rules.get(place)?,
+            place: place?,
+            rule: rule_at(def, place)?,
             found: count(self.side.book, level, own, before),
         })
     }

@@ -1,12 +1,13 @@
 //! What is told of a message whose listing ends at a place where no AVP begins.
 
-use crate::applications::{Application, application_of};
+use crate::applications::application_of;
 use crate::books::Level;
 use crate::checking::Asked;
 use crate::faults::Message;
 use crate::faults::in_body::InBody;
 use crate::faults::walk::walk_to;
 use crate::sides::Side;
+use crate::texts::push_text;
 use dia_check::{Fault, Levels, Reason, Subject, Unknown};
 use dia_dict::base_book;
 use dia_explain_places::{InputTexts, Note};
@@ -71,11 +72,11 @@ fn push_naming(note: &mut Note, sign: &str, app: u32) {
         " is an AVP that the base dictionary doesn't have; --dict ",
     ]);
     match application_of(app) {
-        Some(Application { id, name, file }) => {
-            note.put_all(&[file, " names those of application "]);
-            note.put_number(id as u64);
-            note.put_all(&[" (", name, "), see docs/CAPTURES.md\n"]);
-        }
+        Some(application) => push_text(
+            note,
+            &application,
+            "{file} names those of application {id} ({name}), see docs/CAPTURES.md\n",
+        ),
         None => note.put("D names those of the dictionary D\n"),
     }
 }
