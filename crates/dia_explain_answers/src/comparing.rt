@@ -78,9 +78,12 @@ fn push_pair(
         ),
     };
     if let Some(names) = pairs.get(number) {
-        let pair = Pair::of(pairing, kind, failing, names);
-        push_lines(note, &pair, lines_of(failing));
-        push_lines(note, &pair, more_of(&pair));
-        push_lines(note, &pair, all)
+        push_failing(note, &Pair::of(pairing, kind, failing, names), all)
     }
+}
+
+fn push_failing(note: &mut Note, pair: &Pair<'_>, all: &str) {
+    push_lines(note, pair, lines_of(pair.failing));
+    push_lines(note, pair, more_of(pair));
+    push_lines(note, pair, all)
 }
