@@ -54,12 +54,6 @@ fn push_list(note: &mut Note, dictionary: &str, commands: &[Def]) {
         note.put_all(&["hint: ", dictionary, " has no commands; ", what, "\n"]);
         return;
     }
-    push_first(note, commands);
-    note.put_all(&["; `diacmd render ", dictionary, "` prints them\n"]);
-}
-
-/// Adds the names of the first commands, and how many more there are.
-fn push_first(note: &mut Note, commands: &[Def]) {
     let mut between = "hint: its commands are ";
     for command in commands.get(..MOST_LISTED).unwrap_or(commands) {
         note.put_all(&[between, command.name.as_str()]);
@@ -70,6 +64,7 @@ fn push_first(note: &mut Note, commands: &[Def]) {
         note.put_number(commands.len().saturating_sub(MOST_LISTED) as u64);
         note.put(" more");
     }
+    note.put_all(&["; `diacmd render ", dictionary, "` prints them\n"]);
 }
 
 /// Adds the first command of the second dictionary that is among the names, and is none of the first.

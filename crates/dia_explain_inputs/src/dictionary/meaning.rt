@@ -62,18 +62,9 @@ fn told_of<'a>(
 ) -> Result<String, AllocError> {
     let faults = told_faults(alloc, findings)?;
     let names = names_of(alloc, parts.source, Named::Avp)?;
-    tell(alloc, parts, &names, &faults)
-}
-
-fn tell(
-    alloc: Global,
-    parts: &Parts<'_>,
-    names: &[&str],
-    faults: &[ToldFault<'_>],
-) -> Result<String, AllocError> {
     let mut told = Note::new(alloc);
-    push_first(&mut told, parts, names, faults);
-    push_rest(&mut told, parts.name, faults);
+    push_first(&mut told, parts, &names, &faults);
+    push_rest(&mut told, parts.name, &faults);
     told.finish()
 }
 

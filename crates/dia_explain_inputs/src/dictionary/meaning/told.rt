@@ -19,18 +19,9 @@ pub fn told_faults<'a>(
     findings: &'a [Finding<'a>],
 ) -> Result<Vec<ToldFault<'a>>, AllocError> {
     let uses = uses_of(alloc, findings)?;
-    told_by(alloc, findings, &uses)
-}
-
-/// The same, by the uses of undefined names.
-fn told_by<'a>(
-    alloc: Global,
-    findings: &'a [Finding<'a>],
-    uses: &[(&str, usize)],
-) -> Result<Vec<ToldFault<'a>>, AllocError> {
     let mut told = Vec::new(alloc);
     for (place, finding) in findings.iter().enumerate() {
-        if let Some(fault) = told_at(findings, uses, place, finding) {
+        if let Some(fault) = told_at(findings, &uses, place, finding) {
             told.push(fault)?;
         }
     }
@@ -59,33 +50,28 @@ fn told_at<'a>(
     place: usize,
     finding: &'a Finding<'a>,
 ) -> Option<ToldFault<'a>> {
-    if !matches!(finding.told.kind, DictKind::UndefinedName) {
-        return Some(ToldFault {
-            finding,
-            other: finding.other,
-            more: 0,
-        });
-    }
-    let of_name = uses_of_name(uses, finding.told.slot)?;
-    if of_name.first()?.1 != place {
-        return None;
+    let mut other = finding.other;
+    let mut more = 0;
+    if matches!(finding.told.kind, DictKind::UndefinedName) {
+        let name = finding.told.slot;
+        let of_name = uses.get(first_from(uses, name, 0)..first_from(uses, name, usize::MAX))?;
+        if of_name.first()?.1 != place {
+            return None;
+        }
+        if let Some((_, second)) = of_name.get(1) {
+            other = part_at(findings, *second);
+        }
+        more = of_name.len().saturating_sub(1);
     }
     Some(ToldFault {
         finding,
-        other: second_part(findings, of_name),
-        more: of_name.len().saturating_sub(1),
+        other,
+        more,
     })
 }
 
-/// The uses of one name.
-fn uses_of_name<'u>(uses: &'u [(&'u str, usize)], name: &str) -> Option<&'u [(&'u str, usize)]> {
-    uses.get(first_from(uses, name, 0)..first_from(uses, name, usize::MAX))
-}
-
-/// The part that has the second of the uses of a name.
-fn second_part(findings: &[Finding<'_>], of_name: &[(&str, usize)]) -> Option<Part> {
-    let (_, second) = of_name.get(1)?;
-    findings.get(*second)?.part
+fn part_at(findings: &[Finding<'_>], place: usize) -> Option<Part> {
+    findings.get(place)?.part
 }
 
 /// The place of the first use that isn't before this place of a name.
