@@ -126,6 +126,13 @@ both_parts (suc n) (x ∷ xs) = ap (λ (t : List ℕ). x ∷ t) (both_parts n xs
 
 -- ---- one message
 
+-- no AVP begins in so much room with these first bytes
+abbrev pub IsRefusedHead : ℕ → List ℕ → Type 0
+IsRefusedHead room front = (room < 8) ⊎ ((8 ≤ length front) × IsBadLength (slice_index front 4) (number (take 3 (drop 5 front))) room)
+
+pub not_refused : (front : List ℕ) (end place at : ℕ) → end ≡ place → ¬ IsRefusedHead (end - at) front → ¬ IsRefusedHead (place - at) front
+not_refused front end place at same fits = subst (λ (n : ℕ). ¬ IsRefusedHead (n - at) front) same fits
+
 module _ (d : Dictionary) (sound : IsDictionary d) (u : Unknown) (most : Levels) (bytes : List ℕ) (good : HasGoodHeader d bytes) (o : OpenLevels) (part : HeadPart) (from : ℕ)
     (h : IsInHead d u most bytes good o part from) (piece : List ℕ) (lies : LiesAt bytes from piece)
     (front : List ℕ) (limit : ℕ) (is_front : front ≡ take limit (front_bytes part.front ++ piece)) where

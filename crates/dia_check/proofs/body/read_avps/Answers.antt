@@ -270,3 +270,24 @@ returns-in-Err-Length-clause-next g c bytes good old lies =
     let here = avps.all_here d (g.met.B.Book.sound c.args.basis.now.book.now) u m bytes good o at w kept same from piece lies until is le reached (omega (arith, c.if-stop-end-2.false)) in
     rw c.broken.ensures (found_broken d (g.met.B.Book.sound c.args.basis.now.book.now) u m bytes good o at w (subst (λ (t : List ℕ). 0 < length t) here c.in-Err-Length.ensures.fault.0)
     (subst BeginsWithNone here c.in-Err-Length.ensures.fault.1))
+
+pub loop-avp-init : goal.loop-avp-init
+loop-avp-init g c = (omega arith, omega arith, c.requires, λ bytes good w lies. w)
+
+pub returns-then-stop-end-clause-within : goal.returns-then-stop-end-clause-within
+returns-then-stop-end-clause-within g c = let (le, reached, some, on) = c.loop-avp.invariant in (le, reached)
+
+pub returns-then-stop-end-clause-goes_on : goal.returns-then-stop-end-clause-goes_on
+returns-then-stop-end-clause-goes_on g c = let end = ap (λ (k : OpenLevel). k.end) c.innermost-end.ensures in omega (arith, c.if-stop-end.true, end)
+
+pub returns-then-stop-end-clause-next : goal.returns-then-stop-end-clause-next
+returns-then-stop-end-clause-next g c bytes good old lies = let (le, reached, some, on) = c.loop-avp.invariant in on bytes good old lies
+
+pub returns-then-stop-end-2-clause-within : goal.returns-then-stop-end-2-clause-within
+returns-then-stop-end-2-clause-within g c = let (le, reached, some, on) = c.loop-avp.invariant in (le, reached)
+
+pub returns-then-stop-end-2-clause-goes_on : goal.returns-then-stop-end-2-clause-goes_on
+returns-then-stop-end-2-clause-goes_on g c = let end = ap (λ (k : OpenLevel). k.end) c.innermost-end.ensures in omega (arith, c.if-stop-end-2.true, end)
+
+pub returns-then-stop-end-2-clause-next : goal.returns-then-stop-end-2-clause-next
+returns-then-stop-end-2-clause-next g c bytes good old lies = let (le, reached, some, on) = c.loop-avp.invariant in on bytes good old lies

@@ -1,4 +1,4 @@
-use Rattle.std.proofs.Common.{◌≡◌, ℕ, ◌≤◌, List, ◌++◌, length, take, subst, sym, arith}
+use Rattle.std.proofs.Common.{◌≡◌, ℕ, ◌≤◌, List, ◌++◌, length, take, Err, refl, ap, subst, sym, arith, inl, inr}
 use Rattle.std.proofs.lemmas.List.{length-take}
 use Rattle.dia_wire.specs.declared.Header.{Header}
 use Rattle.dia_wire.specs.Wire.{IsHead, IsMessageLength}
@@ -6,7 +6,7 @@ use Rattle.dia_check.specs.declared.stream.front.Front.{Front}
 use Rattle.dia_check.specs.Front.{front_bytes}
 use Rattle.dia_check.specs.Faults.{HasLength}
 use Rattle.dia_check.proofs.HeaderAnswers.{has_length}
-use Rattle.dia_check.proofs.StreamMessages.{begun_reads, ends_with_zeros, header_on, length_on, length_sound, zeros_to_end}
+use Rattle.dia_check.proofs.StreamMessages.{begun_reads, ends_with_zeros, header_on, length_on, length_sound, short_wants, unsound, unsound_wants, zeros_to_end}
 use Rattle.dia_check.proofs.stream.stages.read_front.Goals as goal
 
 -- the front is the whole header of a message of this length
@@ -45,3 +45,21 @@ returns-in-Ok-clause-read g c u most =
     begun_reads (g.B.Book.meaning c.args.book.now) (g.met.B.Book.sound c.args.book.now) u most bytes size c.in-Ok.length sized c.begin.result (λ more end. c.begin.ensures u most (bytes ++ more)
     (subst (HasLength (bytes ++ more)) (sym end) (length_on bytes more c.in-Ok.length sized))
     (header_on bytes more c.in-Ok.header c.in-Ok.length (omega (arith, size)) head end) (sym end))
+
+pub returns-in-Err-Short-clause-wants : goal.returns-in-Err-Short-clause-wants
+returns-in-Err-Short-clause-wants g c =
+    let short = rw c.as_slice.ensures at (c.in-Err-Short.ensures.short.0 (ap Err c.in-Err-Short.field-0-is)) in
+    (sym (short_wants (front_bytes c.args.front) short), omega arith)
+
+pub returns-in-Err-Short-clause-read : goal.returns-in-Err-Short-clause-read
+returns-in-Err-Short-clause-read g c u most = (rw c.as_slice.ensures at (c.in-Err-Short.ensures.short.0 (ap Err c.in-Err-Short.field-0-is)), refl)
+
+pub returns-in-Err-Version-clause-wants : goal.returns-in-Err-Version-clause-wants
+returns-in-Err-Version-clause-wants g c =
+    let (long, bad) = rw c.as_slice.ensures at (c.in-Err-Version.ensures.version.0 (ap Err c.in-Err-Version.field-0-is)) in
+    (sym (unsound_wants (front_bytes c.args.front) long (unsound (front_bytes c.args.front) (inl bad))), omega arith)
+
+pub returns-in-Err-Length-clause-wants : goal.returns-in-Err-Length-clause-wants
+returns-in-Err-Length-clause-wants g c =
+    let (long, version, bad) = rw c.as_slice.ensures at (c.in-Err-Length.ensures.length_fault.0 (ap Err c.in-Err-Length.field-0-is)) in
+    (sym (unsound_wants (front_bytes c.args.front) long (unsound (front_bytes c.args.front) (inr bad))), omega arith)

@@ -11,3 +11,7 @@ read_body-requires g c = ∥∥₁_map c.requires (λ x. let (bytes, may) = x in
 pub returns-in_default-read_body : goal.returns-in_default-read_body
 returns-in_default-read_body g c bytes may = c.in_default-read_body.ensures bytes
     (subst (λ (s : Stage). MayRead (g.B.Book.meaning c.args.basis.now.book.now) c.args.basis.now.unknown c.args.basis.now.levels bytes s c.args.from c.args.piece.now) c.in-InBody.is may)
+
+pub returns-in-Some : goal.returns-in-Some
+returns-in-Some g c bytes may = c.in-Some.ensures bytes
+    (subst (λ (s : Stage). MayRead (g.B.Book.meaning c.args.basis.now.book.now) c.args.basis.now.unknown c.args.basis.now.levels bytes s c.args.from c.args.piece.now) c.in-InBody.is may)
