@@ -1,13 +1,14 @@
 -- Texts that are cut at a byte, and the bytes of parts one behind the other.
-use Rattle.std.proofs.Common.{◌≡◌, ℕ, ◌+◌, ◌≤◌, ◌^◌, ◌==◌, if◌then◌else◌, false, true, List, [], ◌∷◌, ◌++◌, length, map, take, drop}
+use Rattle.std.proofs.Common.{◌≡◌, ℕ, ◌+◌, ◌-◌, ◌<◌, ◌≤◌, ◌^◌, ◌==◌, if◌then◌else◌, false, true, List, [], ◌∷◌, ◌++◌, length, map, take, drop}
 use Rattle.std.proofs.Common.{not, append_assoc, append-nil, All, Bor, Option, Some, None, option_and_then, Result, Ok, Err, refl, sym, ap, ◌∙◌, arith}
-use Rattle.std.specs.Prelude.{◌≢◌}
+use Rattle.std.specs.Prelude.{◌≢◌, slice_index}
 use Rattle.std.specs.Option.{option_map}
 use Rattle.std.specs.List.{AllByRecursion, prefix_len, slice_split}
-use Rattle.std.proofs.lemmas.List.{map-append, drop_all, length-append, length-map, take_at, drop_at}
+use Rattle.std.proofs.lemmas.List.{map-append, drop_all, drop_more, length-append, length-map, take_at, take_rest, drop_at, take-append-drop}
 use Rattle.std.proofs.lemmas.List.Elements.{recursion_from_All}
-use Rattle.std.proofs.lemmas.Bool.{ne_eqb, eq-eqb}
+use Rattle.std.proofs.lemmas.Bool.{ne_eqb, eq-eqb, eqb-true}
 use Rattle.std.proofs.lemmas.List.Splits.{slice_split_at, slice_split_none}
+use Rattle.memchr.specs.Find.{Passes, is_byte}
 use Rattle.dia_text.specs.declared.fault.Kind.{Kind}
 use Rattle.dia_text.specs.declared.fault.Kind.TheVariants.{Value}
 use Rattle.dia_text.specs.declared.fault.Misread.{Misread}
@@ -39,6 +40,15 @@ pub last_part : (byte : ℕ) (found : List (Bor (List ℕ))) (rest : Bor (List �
 last_part byte found rest all =
     map-append (λ (x : Bor (List ℕ)). x.now) found (rest ∷ [])
     ∙ ap (λ (t : List (List ℕ)). map (λ (x : Bor (List ℕ)). x.now) found ++ t) (sym (slice_split_none (λ b. b == byte) rest.now (λ k d lt. other_byte _ byte (all k d lt))))
+
+-- a text around the first such byte
+pub around_byte : (byte : ℕ) (text : List ℕ) (at : ℕ) → at < length text → Passes (is_byte byte) text at
+    → text ≡ take at text ++ byte ∷ take (length text - (at + 1)) (drop (at + 1) text)
+around_byte byte text at within passes =
+    sym (take-append-drop at text)
+    ∙ ap (λ (t : List ℕ). take at text ++ t) (drop_more text at 0 within
+    ∙ ap (λ (c : ℕ). c ∷ drop (at + 1) text) (eqb-true (slice_index text at) byte passes)
+    ∙ ap (λ (t : List ℕ). byte ∷ t) (sym (take_rest text (at + 1))))
 
 -- ---- the first such byte
 

@@ -103,6 +103,15 @@ header_at d text = do
   end ← no_more e2e.1
   Ok (record { flags = flags.0; code = start.0.code; app = app.0; hop = hop.0; e2e = e2e.0 })
 
+-- what `header_at` reads behind the flags
+abbrev pub header_behind : Start → ℕ → List ℕ → Result Header Kind
+header_behind start flags text = do
+  app ← number_field (codes "app") start.app text
+  hop ← number_field (codes "hop") None app.1
+  e2e ← number_field (codes "end") None hop.1
+  end ← no_more e2e.1
+  Ok (record { flags = flags; code = start.code; app = app.0; hop = hop.0; e2e = e2e.0 })
+
 -- a line in front of the header, or the header
 unfoldable pub header_of : Dictionary → List ℕ → Result (Option Header) Kind
 header_of d text =

@@ -1,10 +1,10 @@
 //! Lines, read.
-ghost use Rattle.std.specs.Prelude.{◌<◌, ◌^◌, IfOk, IfSome};
+ghost use Rattle.std.specs.Prelude.{◌≡◌, ◌<◌, ◌^◌, IfOk, IfSome};
 ghost use Rattle.dia_text.specs.Numbers.{number_below};
 ghost use Rattle.dia_text.specs.Reading.{Gives, some_or};
 ghost use Rattle.dia_text.specs.Lines.{plain_line, no_more, head_at, leaf_at};
 ghost use Rattle.dia_text.specs.Lines.{open_at, close_at, avp_at, line_of};
-ghost use Rattle.dia_text.specs.Lines.{start_at, header_at, header_of};
+ghost use Rattle.dia_text.specs.Lines.{start_at, header_behind, header_at, header_of};
 
 use crate::commands::{Start, start_named};
 use crate::fault::{Kind, Misread};
@@ -144,7 +144,15 @@ fn header_at<B: Book>(named: &NamedBook<'_, B>, text: &[u8]) -> Result<Header, M
 {
     let (start, rest) = start_at(named, text)?;
     let (flags, rest) = flags_field(&HEADER_LETTERS, start.flags, rest)?;
-    let (app, rest) = number_field(b"app", start.app, rest)?;
+    header_behind(&start, flags, rest)
+}
+
+/// The header of this start and these flags, with the numbers behind them.
+fn header_behind(start: &Start, flags: u8, text: &[u8]) -> Result<Header, Misread>
+    ensures value { Gives (λ header. header) result (header_behind start.now flags text.now) }
+    ensures code { IfOk result (λ header. header.code ≡ start.now.code) }
+{
+    let (app, rest) = number_field(b"app", start.app, text)?;
     let (hop, rest) = number_field(b"hop", None, rest)?;
     let (e2e, rest) = number_field(b"end", None, rest)?;
     no_more(rest)?;

@@ -1,10 +1,16 @@
-use Rattle.std.proofs.Common.{Some, ℕ, List, map, ap, sym, ◌∙◌}
+use Rattle.std.proofs.Common.{Some, ℕ, List, map, ap, sym, ◌∙◌, arith}
+use Rattle.std.proofs.lemmas.List.{length-append}
 use Rattle.std.specs.Prelude.{slice_get}
 use Rattle.dia_book.specs.Dictionary.{PlainDefinition, plain_definition, groups, definitions}
 use Rattle.dia_book.proofs.Members.{into_map}
 use Rattle.dia_book.proofs.NumberedGroups.{slice_get-append_right}
 use Rattle.dia_text.proofs.SetsOfNames.{one_more, distinct_names}
 use Rattle.dia_text.proofs.names.insert_commands.Goals as goal
+
+pub def-requires : goal.def-requires
+def-requires g c =
+    let d = g.B.Book.meaning c.args.book.now in
+    omega (arith, c.loop-index-test.true, c.commands-index-end.ensures, c.command_at.ensures, length-append (groups d) d.commands)
 
 pub loop-index-preserved : goal.loop-index-preserved
 loop-index-preserved g c =

@@ -6,6 +6,18 @@ use Rattle.dia_text.specs.Keys.{entry_named}
 use Rattle.dia_text.proofs.SetsOfNames.{found_at, read_of}
 use Rattle.dia_text.proofs.names.NamedBook.key.Goals as goal
 
+pub entry_at-requires : goal.entry_at-requires
+entry_at-requires g c =
+    let named = c.self.inside in
+    let long = length_by_name (λ (e : DictEntry). e.name) (g.B.Book.meaning named.book.now).entries named.names.value.avps.keys c.self.invariant.0 in
+    omega (arith, (rw c.deref.ensures at c.in_ok-place.ensures.within), long)
+
+pub entry_key-requires : goal.entry_key-requires
+entry_key-requires g c =
+    let named = c.self.inside in
+    let long = length_by_name (λ (e : DictEntry). e.name) (g.B.Book.meaning named.book.now).entries named.names.value.avps.keys c.self.invariant.0 in
+    omega (arith, (rw c.deref.ensures at c.in_ok-place.ensures.within), long, c.entry_at.ensures)
+
 pub returns-in_err-place : goal.returns-in_err-place
 returns-in_err-place g c =
     let named = c.self.inside in
