@@ -1,4 +1,4 @@
-use Rattle.std.proofs.Common.{ℕ, ap, List, Err, inr, arith}
+use Rattle.std.proofs.Common.{ℕ, ap, List, Err, refl, inl, inr, arith}
 use Rattle.std.specs.Prelude.{length}
 use Rattle.dia_wire.specs.Wire.{BeginsMessage}
 use Rattle.dia_check.specs.Faults.{HasLength}
@@ -21,3 +21,16 @@ pub returns-in-Err-Trailing-clause-answer : goal.returns-in-Err-Trailing-clause-
 returns-in-Err-Trailing-clause-answer c d u most =
     let (n, begun, less) = c.in-Err-Trailing.ensures.trailing.0 (ap Err c.in-Err-Trailing.field-0-is) in
     (n, begins c.args.bytes.now n begun, less)
+
+pub returns-in-Err-Short-clause-answer : goal.returns-in-Err-Short-clause-answer
+returns-in-Err-Short-clause-answer c d u most = inl (c.in-Err-Short.ensures.short.0 (ap Err c.in-Err-Short.field-0-is))
+
+pub returns-in-Err-Version-clause-answer : goal.returns-in-Err-Version-clause-answer
+returns-in-Err-Version-clause-answer c d u most =
+    let (long, bad) = c.in-Err-Version.ensures.version.0 (ap Err c.in-Err-Version.field-0-is) in
+    rw c.simple_fault.ensures (inl (long, bad, refl))
+
+pub returns-in-Err-Length-clause-answer : goal.returns-in-Err-Length-clause-answer
+returns-in-Err-Length-clause-answer c d u most =
+    let (long, version, bad) = c.in-Err-Length.ensures.length_fault.0 (ap Err c.in-Err-Length.field-0-is) in
+    rw c.simple_fault-in-Err-Length.ensures (inr (inl (long, version, bad, refl)))
