@@ -1,5 +1,5 @@
 //! The parts of a line behind its first word: a keyword and what it says, which may be left out.
-ghost use Rattle.std.specs.Prelude.{◌≡◌, ◌≤◌, ◌^◌, length, option_copied};
+ghost use Rattle.std.specs.Prelude.{◌≡◌, ◌<◌, ◌≤◌, ◌^◌, IfOk, length, option_copied};
 ghost use Rattle.std.specs.Prelude.{option_and_then};
 ghost use Rattle.std.specs.Option.{option_map};
 ghost use Rattle.dia_text.specs.Fields.{number_field, flags_field, flags_of};
@@ -53,7 +53,7 @@ pub(crate) fn flags_field<'a>(
         let flags = wanted_flags(letters, word)?;
         Ok((flags, rest))
     } else {
-        let flags = wanted_default(default)?;
+        let flags = wanted(default)?;
         Ok((flags, text))
     }
 }
@@ -67,20 +67,11 @@ fn wanted_number(word: &[u8]) -> Result<u32, Misread>
     }
 }
 
-fn wanted(default: Option<u32>) -> Result<u32, Misread>
-    ensures { Gives (λ n. n) result (some_or default Kind.Syntax) }
+fn wanted<T: Copy>(default: Option<T>) -> Result<T, Misread>
+    ensures { Gives (λ x. x) result (some_or default Kind.Syntax) }
 {
     match default {
-        Some(number) => Ok(number),
-        None => Err(Misread::Fault(Kind::Syntax)),
-    }
-}
-
-fn wanted_default(default: Option<u8>) -> Result<u8, Misread>
-    ensures { Gives (λ n. n) result (some_or default Kind.Syntax) }
-{
-    match default {
-        Some(flags) => Ok(flags),
+        Some(value) => Ok(value),
         None => Err(Misread::Fault(Kind::Syntax)),
     }
 }
@@ -128,18 +119,20 @@ pub(crate) fn length_field(text: &[u8]) -> Result<(Option<u32>, &[u8]), Misread>
     let (word, rest) = next_word(text);
     if word == b"length".as_slice() {
         let (word, rest) = next_word(rest);
-        let length = wanted_length(word)?;
+        let length = three_byte_number(word)?;
         Ok((Some(length), rest))
     } else {
         Ok((None, text))
     }
 }
 
-fn wanted_length(word: &[u8]) -> Result<u32, Misread>
-    ensures { Gives (λ n. n) result (some_or (number_below (2 ^ 24) word.now) Kind.Value) }
+/// A number that three bytes hold.
+pub(crate) fn three_byte_number(word: &[u8]) -> Result<u32, Misread>
+    ensures value { Gives (λ n. n) result (some_or (number_below (2 ^ 24) word.now) Kind.Value) }
+    ensures small { IfOk result (λ n. n < 2 ^ 24) }
 {
     match number_below(1 << 24, word) {
-        Some(length) => Ok(length as u32),
+        Some(number) => Ok(number as u32),
         None => Err(Misread::Fault(Kind::Value)),
     }
 }

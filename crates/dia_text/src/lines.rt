@@ -1,18 +1,16 @@
 //! Lines, read.
 ghost use Rattle.std.specs.Prelude.{◌≡◌, ◌<◌, ◌^◌, IfOk, IfSome};
-ghost use Rattle.dia_text.specs.Numbers.{number_below};
-ghost use Rattle.dia_text.specs.Reading.{Gives, some_or};
+ghost use Rattle.dia_text.specs.Reading.{Gives};
 ghost use Rattle.dia_text.specs.Lines.{plain_line, no_more, head_at, leaf_at};
 ghost use Rattle.dia_text.specs.Lines.{open_at, close_at, avp_at, line_of};
 ghost use Rattle.dia_text.specs.Lines.{start_at, header_behind, header_at, header_of};
 
 use crate::commands::{Start, start_named};
 use crate::fault::{Kind, Misread};
-use crate::fields::{flags_field, length_field, number_field, padding_field};
+use crate::fields::{flags_field, length_field, number_field, padding_field, three_byte_number};
 use crate::keys::{code_of, default_flags, format_at};
 use crate::line::{Head, Line};
 use crate::names::NamedBook;
-use crate::numbers::number_below;
 use crate::values::value_at;
 use crate::words::next_word;
 use dia_book::Book;
@@ -177,7 +175,7 @@ fn start_at<'a, B: Book>(
     let (word, rest) = next_word(text);
     if word == b"code".as_slice() {
         let (word, rest) = next_word(rest);
-        let code = wanted_code(word)?;
+        let code = three_byte_number(word)?;
         let start = Start {
             code,
             flags: None,
@@ -187,15 +185,5 @@ fn start_at<'a, B: Book>(
     } else {
         let start = start_named(named, word)?;
         Ok((start, rest))
-    }
-}
-
-fn wanted_code(word: &[u8]) -> Result<u32, Misread>
-    ensures value { Gives (λ n. n) result (some_or (number_below (2 ^ 24) word.now) Kind.Value) }
-    ensures small { IfOk result (λ n. n < 2 ^ 24) }
-{
-    match number_below(1 << 24, word) {
-        Some(code) => Ok(code as u32),
-        None => Err(Misread::Fault(Kind::Value)),
     }
 }
