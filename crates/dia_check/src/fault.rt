@@ -1,7 +1,8 @@
 use dia_book::DefId;
 use dia_wire::Key;
 use std::alloc::AllocError;
-use thiserror::Error;
+use std::error::Error;
+use std::fmt;
 
 /// The command of a valid message.
 #[derive(Clone, Copy, PartialEq, Eq)]
@@ -115,22 +116,31 @@ pub struct Fault {
 }
 
 /// Why a message is not valid, or why that is not known.
-#[derive(Clone, Copy, Debug, PartialEq, Eq, Error)]
+#[derive(Clone, Copy, Debug, PartialEq, Eq)]
 pub enum Refusal {
-    #[error("the message has a fault")]
     Fault(Fault),
     /// Fewer bytes than the header or than Message Length.
-    #[error("the message is truncated")]
     Truncated,
     /// More bytes than Message Length.
-    #[error("bytes follow the message")]
     Trailing,
-    #[error("out of memory")]
     NoMemory,
     /// The stream was refused memory before.
-    #[error("the stream is spent")]
     Spent,
 }
+
+impl fmt::Display for Refusal {
+    fn fmt<W: fmt::Write>(&self, f: &mut fmt::Formatter<W>) -> fmt::Result {
+        f.write_str(match self {
+            Refusal::Fault(_) => "the message has a fault",
+            Refusal::Truncated => "the message is truncated",
+            Refusal::Trailing => "bytes follow the message",
+            Refusal::NoMemory => "out of memory",
+            Refusal::Spent => "the stream is spent",
+        })
+    }
+}
+
+impl Error for Refusal {}
 
 impl From<AllocError> for Refusal {
     ghost use Rattle.std.specs.Prelude.{◌≡◌};
