@@ -48,7 +48,7 @@ pub enum Reason {
 
 impl Reason {
     ghost use Rattle.std.specs.Prelude.{◌≡◌};
-    ghost use Rattle.dia_check.specs.Reasons.{code_of, reason_word, row_of};
+    ghost use Rattle.dia_check.specs.Reasons.{code_of, reason_row, reason_word, row_of};
 
     /// Its place in the order, from 0.
     pub fn rank(self) -> u32
@@ -72,9 +72,7 @@ impl Reason {
     }
 
     fn row(self) -> (u32, u32, &'static str)
-        ensures rank { result.0 ≡ row_of self }
-        ensures code { result.1 ≡ code_of self }
-        ensures word { result.2.now ≡ reason_word self }
+        ensures { (result.0, result.1, result.2.now) ≡ reason_row self }
     {
         match self {
             Reason::Version => (0, 5011, "version"),
