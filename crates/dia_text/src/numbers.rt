@@ -32,7 +32,12 @@ fn parsed(digits: &str) -> Option<u64>
 fn is_digits(word: &[u8]) -> bool
     ensures { result ≡ list_all is_ascii_digit word.now }
 {
-    word.iter().all(|b| b.is_ascii_digit())
+    for index in 0..word.len() {
+        if !word[index].is_ascii_digit() {
+            return false;
+        }
+    }
+    true
 }
 
 /// The number that a word writes, if it is below the limit.

@@ -28,7 +28,12 @@ fn blanks_len(bytes: &[u8]) -> usize
     ensures len { result ≡ prefix_len is_blank bytes.now }
     ensures within { result ≤ length bytes.now }
 {
-    bytes.iter().take_while(|b| is_blank(**b)).count()
+    for index in 0..bytes.len() {
+        if !is_blank(bytes[index]) {
+            return index;
+        }
+    }
+    bytes.len()
 }
 
 /// How many bytes of a word stand at the front.
@@ -36,7 +41,12 @@ fn word_len(bytes: &[u8]) -> usize
     ensures len { result ≡ prefix_len is_word_byte bytes.now }
     ensures within { result ≤ length bytes.now }
 {
-    bytes.iter().take_while(|b| is_word_byte(**b)).count()
+    for index in 0..bytes.len() {
+        if !is_word_byte(bytes[index]) {
+            return index;
+        }
+    }
+    bytes.len()
 }
 
 fn is_blank(b: u8) -> bool
