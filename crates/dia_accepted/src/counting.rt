@@ -14,7 +14,6 @@ use indexmap::{IndexMap, IndexSet};
 use std::alloc::{AllocError, Global};
 
 /// The causes of the lines that have come: of each the first line, and how many commands have it.
-#[derive(Drop)]
 pub struct Causes {
     /// The first line of each cause, in their order.
     pub(crate) firsts: Vec<Told>,
@@ -22,6 +21,13 @@ pub struct Causes {
     pub(crate) counts: IndexMap<Vec<u8>, usize>,
     /// The causes of the commands that aren't forgotten.
     pub(crate) own: IndexSet<(usize, Vec<u8>)>,
+}
+
+// Written out: for a derived `Drop`, each crate that drops this type proves the drops of all its parts again.
+impl Drop for Causes {
+    fn drop(self) {
+        let Causes { firsts: _, counts: _, own: _ } = self;
+    }
 }
 
 impl Causes {

@@ -101,11 +101,17 @@ pub struct Def {
 }
 
 /// What a text says, each list in the order of the text.
-#[derive(Drop)]
 pub struct Source {
     pub avps: Vec<Decl>,
     pub groups: Vec<Def>,
     pub commands: Vec<Def>,
     pub ghost grouped: { IsTrue (list_all (λ d. is_group d.head) groups.items) },
     pub ghost commanded: { IsTrue (list_all (λ d. not (is_group d.head)) commands.items) },
+}
+
+// Written out: for a derived `Drop`, each crate that drops this type proves the drops of all its parts again.
+impl Drop for Source {
+    fn drop(self) {
+        let Source { avps: _, groups: _, commands: _ } = self;
+    }
 }

@@ -21,7 +21,6 @@ use dia_wire::Key;
 use std::alloc::{AllocError, Global};
 
 /// A dictionary with tables for its look-ups. A look-up of a key takes log n steps at most among n keys, whichever they are.
-#[derive(Drop)]
 pub struct IndexedBook {
     book: PlainBook,
     avps: KeyTable,
@@ -36,6 +35,13 @@ pub struct IndexedBook {
     ghost sorted: { IsNonDecreasing services.items },
     ghost served: { (n : ℕ) → list_any (λ m. n == m) services.items
         ≡ list_any (λ m. n == m) (map (λ d. service_of d.head) book.commands.items) },
+}
+
+// Written out: for a derived `Drop`, each crate that drops this type proves the drops of all its parts again.
+impl Drop for IndexedBook {
+    fn drop(self) {
+        let IndexedBook { book: _, avps: _, slots: _, commands: _, services: _ } = self;
+    }
 }
 
 impl IndexedBook {

@@ -24,10 +24,16 @@ pub struct Reported {
 }
 
 /// A dictionary that was read: what its text says, and the dictionary that this names.
-#[derive(Drop)]
 pub struct ReadBook {
     pub source: Source,
     pub book: IndexedBook,
+}
+
+// Written out: for a derived `Drop`, each crate that drops this type proves the drops of all its parts again.
+impl Drop for ReadBook {
+    fn drop(self) {
+        let ReadBook { source: _, book: _ } = self;
+    }
 }
 
 /// Both dictionaries of a command.
@@ -77,7 +83,6 @@ pub struct Compared {
 }
 
 /// What a command read of its inputs, and what it found: all by which its answer is explained.
-#[derive(Drop)]
 pub enum Report {
     /// There is nothing to explain.
     Done,
@@ -91,4 +96,20 @@ pub enum Report {
     Invalid(Invalid),
     Unrefuting(Unrefuting),
     Compared(Compared),
+}
+
+// Written out: for a derived `Drop`, each crate that drops this type proves the drops of all its parts again.
+impl Drop for Report {
+    fn drop(self) {
+        match self {
+            Report::Done => {}
+            Report::Refused(_) => {}
+            Report::NoCommand(_) => {}
+            Report::Shown(_) => {}
+            Report::Cut(_) => {}
+            Report::Invalid(_) => {}
+            Report::Unrefuting(_) => {}
+            Report::Compared(_) => {}
+        }
+    }
 }

@@ -2,7 +2,7 @@
 
 use dia_cli::Ending;
 use dia_io::{Command, Inputs, RunFault, ToWriter, put_all};
-use dia_report::{Answered, Report, Reported};
+use dia_report::{Answered, Reported};
 use dia_run::run_reporting;
 use std::alloc::AllocError;
 use std::io;
@@ -51,12 +51,10 @@ where
     let mut sink = ToWriter::new(io::writer(rt));
     match put_all(&mut sink, text.as_bytes()) {
         Ok(()) => Ok(Reported { exit, report }),
-        Err(failed) => {
-            drop_report(report);
-            Err(Ending::of_run(RunFault::from(failed), "standard output", sink.failure()))
-        }
+        Err(failed) => Err(Ending::of_run(
+            RunFault::from(failed),
+            "standard output",
+            sink.failure(),
+        )),
     }
 }
-
-/// Drops a report. It stands alone, since a function that drops one is proved with each of its parts.
-pub fn drop_report(_report: Report) {}

@@ -1,6 +1,6 @@
 //! A task, and what comes of it.
 
-use crate::answering::{answer, answer_as_json, drop_report};
+use crate::answering::{answer, answer_as_json};
 use crate::captured::{Capture, captured};
 use crate::inputs::texts_of;
 use crate::listing::list_lines;
@@ -60,7 +60,6 @@ where
             if !quiet {
                 tell(rt, task, inputs, origins, &report);
             }
-            drop_report(report);
             Ok(Outcome::Done(exit))
         }
         Err(ending) => Err(ending),

@@ -64,9 +64,10 @@ where
 /// How a command ended, with the message that was shown.
 fn with_message(reported: Reported, message: Vec<u8>) -> Reported {
     let Reported { exit, report } = reported;
-    let report = match report {
-        Report::Done => Report::Shown(message),
-        refused => refused,
+    let report = if matches!(&report, Report::Done) {
+        Report::Shown(message)
+    } else {
+        report
     };
     Reported { exit, report }
 }
