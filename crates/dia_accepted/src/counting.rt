@@ -26,7 +26,11 @@ pub struct Causes {
 // Written out: for a derived `Drop`, each crate that drops this type proves the drops of all its parts again.
 impl Drop for Causes {
     fn drop(self) {
-        let Causes { firsts: _, counts: _, own: _ } = self;
+        let Causes {
+            firsts: _,
+            counts: _,
+            own: _,
+        } = self;
     }
 }
 

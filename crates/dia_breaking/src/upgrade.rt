@@ -35,7 +35,6 @@ use dia_policy::{Sends, Unknown};
 use std::alloc::{AllocError, Global};
 
 /// Messages of A's side that B's side reads.
-#[derive(Drop)]
 pub struct Upgrade<'a, A: Book, B: Book> {
     /// A's dictionary, what its side sends, and what its AVPs take.
     pub(crate) lengths: Lengths<'a, A>,
@@ -57,6 +56,23 @@ pub struct Upgrade<'a, A: Book, B: Book> {
     ghost first_apps: { AreApps (sender_in lengths) apps.value.first } by { Prim.hlevel props },
     ghost second_apps: { AreApps (B.meaning b.now) apps.value.second } by { Prim.hlevel props },
     ghost others: { AreOtherApps (sender_in lengths) (B.meaning b.now) new_apps.value } by { Prim.hlevel props },
+}
+
+// Written out: for a derived `Drop`, each crate that drops this type proves the drops of all its parts again.
+impl<A: Book, B: Book> Drop for Upgrade<'_, A, B> {
+    fn drop(self) {
+        let Upgrade {
+            lengths: _,
+            b: _,
+            unknown: _,
+            telling: _,
+            apps: _,
+            new_apps: _,
+            outlooks: _,
+            nodes: _,
+            own: _,
+        } = self;
+    }
 }
 
 impl<'a, A: Book, B: Book> Upgrade<'a, A, B> {

@@ -1,7 +1,7 @@
 -- AVPs by their names.
-use Rattle.std.specs.Prelude.{ℕ, List, Option, option_and_then, position, slice_get}
+use Rattle.std.specs.Prelude.{ℕ, List, Option}
+use Rattle.std.specs.BTreeMap.{get_by_text}
 use Rattle.std.specs.Option.{option_map}
-use Rattle.std.specs.Str.{bytes_eq}
 use Rattle.dia_wire.specs.declared.Key.{Key}
 use Rattle.dia_book.specs.Dictionary.{Dictionary}
 use Rattle.dia_text.specs.Keys.{entry_named}
@@ -13,4 +13,4 @@ key_named d name = option_map (λ e. e.key) (entry_named d name)
 
 -- the key that is kept for this name
 abbrev pub key_in : Keys → List ℕ → Option Key
-key_in keys name = option_and_then (slice_get keys.keys.items) (position (λ n. bytes_eq name n.now) keys.names.value.keys)
+key_in keys name = get_by_text keys.keys name

@@ -20,7 +20,7 @@ use std::alloc::{AllocError, Global};
 /// hexadecimal digits and a line feed.
 pub fn line_json(
     alloc: Global,
-    names: &Names<'_>,
+    names: &Names,
     once: bool,
     words: &str,
     message: &str,
@@ -36,7 +36,7 @@ pub fn line_json(
 fn push_fields(
     alloc: Global,
     out: &mut String,
-    names: &Names<'_>,
+    names: &Names,
     once: bool,
     words: &str,
     message: &str,
@@ -59,7 +59,7 @@ fn push_fields(
 fn push_parts(
     alloc: Global,
     out: &mut String,
-    names: &Names<'_>,
+    names: &Names,
     once: bool,
     words: &str,
     parts: Parts<'_>,
@@ -91,7 +91,7 @@ fn push_undecided(alloc: Global, out: &mut String, is_undecided: bool) -> Result
 fn push_matter(
     alloc: Global,
     out: &mut String,
-    names: &Names<'_>,
+    names: &Names,
     reason: &str,
     subject: &str,
     detail: &str,
@@ -107,7 +107,7 @@ fn push_matter(
 fn push_about(
     alloc: Global,
     out: &mut String,
-    names: &Names<'_>,
+    names: &Names,
     reason: &str,
     subject: &str,
 ) -> Result<(), AllocError>

@@ -94,7 +94,7 @@ fn input_of(alloc: Global, bytes: &[u8]) -> Result<Input, AllocError>
 /// The answer for what is asked, and for the list of accepted lines in this input.
 fn listed_for<A: Book, B: Book>(
     alloc: Global,
-    asked: Asked<'_, '_>,
+    asked: Asked<'_>,
     list: &Input,
     a: &A,
     b: &B,
@@ -128,7 +128,7 @@ struct ToldText {
 
 fn told_of<A: Book, B: Book>(
     alloc: Global,
-    asked: Asked<'_, '_>,
+    asked: Asked<'_>,
     list: &Input,
     a: &A,
     b: &B,

@@ -112,6 +112,10 @@ pub struct Source {
 // Written out: for a derived `Drop`, each crate that drops this type proves the drops of all its parts again.
 impl Drop for Source {
     fn drop(self) {
-        let Source { avps: _, groups: _, commands: _ } = self;
+        let Source {
+            avps: _,
+            groups: _,
+            commands: _,
+        } = self;
     }
 }

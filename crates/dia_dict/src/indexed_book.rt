@@ -40,7 +40,13 @@ pub struct IndexedBook {
 // Written out: for a derived `Drop`, each crate that drops this type proves the drops of all its parts again.
 impl Drop for IndexedBook {
     fn drop(self) {
-        let IndexedBook { book: _, avps: _, slots: _, commands: _, services: _ } = self;
+        let IndexedBook {
+            book: _,
+            avps: _,
+            slots: _,
+            commands: _,
+            services: _,
+        } = self;
     }
 }
 

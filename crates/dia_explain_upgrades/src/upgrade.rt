@@ -17,7 +17,7 @@ use std::alloc::{AllocError, Global};
 pub fn explain_upgrade(
     alloc: Global,
     texts: &InputTexts<'_>,
-    asked: Asked<'_, '_>,
+    asked: Asked<'_>,
     inputs: &Inputs,
     report: &Report,
 ) -> Result<String, AllocError> {
@@ -36,7 +36,7 @@ pub fn explain_upgrade(
 fn push_found(
     note: &mut Note,
     texts: &InputTexts<'_>,
-    asked: Asked<'_, '_>,
+    asked: Asked<'_>,
     inputs: &Inputs,
     books: &BothBooks,
     found: &Found,

@@ -5,16 +5,16 @@ use dia_policy::{Sends, Unknown};
 
 /// The form in which lines are written.
 #[derive(Clone, Copy)]
-pub enum Form<'a, 'n> {
+pub enum Form<'a> {
     /// In words, with a message behind a line on a line of its own.
     Text,
     /// As JSON: an object for each line, with the AVPs of the two dictionaries. What is said of the whole answer isn't written.
-    Json(&'a Names<'n>),
+    Json(&'a Names),
 }
 
 /// What `breaking` is to list.
 #[derive(Clone, Copy)]
-pub struct Asked<'a, 'n> {
+pub struct Asked<'a> {
     /// What the side of the first dictionary sends.
     pub sends: Sends,
     /// What the side of the second does with AVPs that its dictionary doesn't know.
@@ -25,7 +25,7 @@ pub struct Asked<'a, 'n> {
     pub once: bool,
     /// Whether AVPs that are read as another format are lines, too.
     pub meaning: bool,
-    pub form: Form<'a, 'n>,
+    pub form: Form<'a>,
     /// The commands of the first dictionary that are listed: all where none is named.
     pub names: &'a [String],
 }

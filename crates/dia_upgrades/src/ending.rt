@@ -24,7 +24,7 @@ use std::alloc::{AllocError, Global};
 /// Writes what stands behind all lines, and answers what was found.
 pub(crate) fn ended<S: Sink>(
     alloc: Global,
-    asked: Asked<'_, '_>,
+    asked: Asked<'_>,
     seen: &Seen<'_>,
     sink: &mut S,
 ) -> Result<Listed, RunFault>
@@ -58,7 +58,7 @@ fn exit_of(lines: usize) -> Exit
 /// Writes that no line is left, or the causes where each is told once. Where memory is refused, nothing is written.
 fn put_end<S: Sink>(
     alloc: Global,
-    asked: Asked<'_, '_>,
+    asked: Asked<'_>,
     lines: usize,
     is_some: bool,
     causes: &[Told],
@@ -86,7 +86,7 @@ fn put_end<S: Sink>(
 /// Writes the causes, of which each is told once.
 fn put_once<S: Sink>(
     alloc: Global,
-    asked: Asked<'_, '_>,
+    asked: Asked<'_>,
     causes: &[Told],
     sink: &mut S,
 ) -> Result<(), RunFault>
@@ -110,7 +110,7 @@ fn put_once<S: Sink>(
 }
 
 /// The objects of causes.
-fn causes_json(alloc: Global, names: &Names<'_>, causes: &[Told]) -> Result<String, AllocError>
+fn causes_json(alloc: Global, names: &Names, causes: &[Told]) -> Result<String, AllocError>
     ensures { IfOk result (λ text. string_bytes text ≡ flat_map (object_in names.now true) (map plain_told causes.now)) }
 {
     let mut text = String::new(alloc);
@@ -124,7 +124,7 @@ fn causes_json(alloc: Global, names: &Names<'_>, causes: &[Told]) -> Result<Stri
 fn push_cause(
     alloc: Global,
     text: &mut String,
-    names: &Names<'_>,
+    names: &Names,
     told: &Told,
 ) -> Result<(), AllocError>
     ensures { OnOk result (string_bytes text.new ≡ string_bytes text.old ++ object_in names.now true (plain_told told.now)) }
@@ -139,7 +139,7 @@ fn push_cause(
     write!(text, "{object}\n")
 }
 
-fn nothing_text(form: Form<'_, '_>, is_some: bool, meaning: bool) -> &'static str
+fn nothing_text(form: Form<'_>, is_some: bool, meaning: bool) -> &'static str
     ensures { result.now ≡ said form.entry (nothing_for meaning is_some) }
 {
     match form {

@@ -42,7 +42,7 @@ pub(crate) fn put_lines<'l, A: Book, B: Book, S: Sink>(
     sink: &mut S,
     upgrade: &Upgrade<'_, A, B>,
     places: &[usize],
-    asked: Asked<'_, '_>,
+    asked: Asked<'_>,
     list: &'l [Entry],
 ) -> Result<Box<Listing<'l>>, RunFault>
     requires sound { ¬ IsTrue (S.has_failed sink.old) }
@@ -108,7 +108,7 @@ fn put_commands<A: Book, B: Book, S: Sink>(
     sink: &mut S,
     upgrade: &Upgrade<'_, A, B>,
     places: &[usize],
-    asked: Asked<'_, '_>,
+    asked: Asked<'_>,
     forgets: bool,
 ) -> Result<(), RunFault>
     requires sound { ¬ IsTrue (S.has_failed sink.old) }
@@ -138,7 +138,7 @@ fn put_command<A: Book, B: Book, S: Sink>(
     sink: &mut S,
     upgrade: &Upgrade<'_, A, B>,
     place: usize,
-    asked: Asked<'_, '_>,
+    asked: Asked<'_>,
 ) -> Result<(), RunFault>
     requires sound { ¬ IsTrue (S.has_failed sink.old) }
     requires place { place < length (sides_of upgrade.now).sender.commands }
@@ -169,7 +169,7 @@ fn put_each<A: Book, B: Book, S: Sink>(
     breaks: &Breaks,
     lines: &[Line],
     place: usize,
-    asked: Asked<'_, '_>,
+    asked: Asked<'_>,
 ) -> Result<(), RunFault>
     requires { ¬ IsTrue (S.has_failed sink.old) }
     ensures all { OnOk result ((told : List PlainTold)
@@ -195,7 +195,7 @@ fn put_line<A: Book, B: Book, S: Sink>(
     breaks: &Breaks,
     line: &Line,
     place: usize,
-    asked: Asked<'_, '_>,
+    asked: Asked<'_>,
 ) -> Result<(), RunFault>
     requires { ¬ IsTrue (S.has_failed sink.old) }
     ensures all { OnOk result ((t : PlainTold)

@@ -25,7 +25,7 @@ pub(crate) fn see_line<A: Book, B: Book>(
     breaks: &Breaks,
     line: &Line,
     place: usize,
-    asked: Asked<'_, '_>,
+    asked: Asked<'_>,
 ) -> Result<Option<Shown>, AllocError>
     ensures { IfOk result (λ shown. (t : PlainTold)
         × IsToldIn upgrade.now breaks.now place asked.entry.messages line.now (t ∷ [])
@@ -54,7 +54,7 @@ pub(crate) fn see_line<A: Book, B: Book>(
 /// A line in the form that is asked for.
 fn in_form(
     alloc: Global,
-    asked: Asked<'_, '_>,
+    asked: Asked<'_>,
     words: String,
     digits: Option<String>,
 ) -> Result<Shown, AllocError>

@@ -24,7 +24,7 @@ use std::alloc::Global;
 /// an object, too. It ends as without JSON, and answers the same report. The form that is asked for isn't looked at.
 pub fn breaking<S: Sink>(
     alloc: Global,
-    asked: Asked<'_, '_>,
+    asked: Asked<'_>,
     inputs: &Inputs,
     sink: &mut S,
 ) -> Result<Reported, RunFault>
@@ -54,7 +54,7 @@ pub fn breaking<S: Sink>(
 /// The same, in one clause.
 fn reported<S: Sink>(
     alloc: Global,
-    asked: Asked<'_, '_>,
+    asked: Asked<'_>,
     inputs: &Inputs,
     sink: &mut S,
 ) -> Result<Reported, RunFault>
@@ -78,7 +78,7 @@ fn reported<S: Sink>(
 /// Lists what breaks over dictionaries that were read.
 fn over_books<S: Sink>(
     alloc: Global,
-    asked: Asked<'_, '_>,
+    asked: Asked<'_>,
     inputs: &Inputs,
     books: BothBooks,
     sink: &mut S,

@@ -20,7 +20,7 @@ use std::alloc::{AllocError, Global};
 /// Writes the objects of two dictionaries that were read and the text of a list of accepted lines.
 pub(crate) fn listed<S: Sink>(
     alloc: Global,
-    asked: Asked<'_, '_>,
+    asked: Asked<'_>,
     list: &Input,
     books: &BothBooks,
     sink: &mut S,
@@ -40,7 +40,7 @@ pub(crate) fn listed<S: Sink>(
 }
 
 /// The AVPs of two dictionaries by their names.
-fn names_in(alloc: Global, books: &BothBooks) -> Result<Names<'_>, AllocError>
+fn names_in(alloc: Global, books: &BothBooks) -> Result<Names, AllocError>
     ensures { IfOk result (AreNamesOf
         (⟦<IndexedBook as Book>⟧.meaning books.now.first.value.book)
         (⟦<IndexedBook as Book>⟧.meaning books.now.second.value.book)) }
@@ -53,9 +53,9 @@ fn names_in(alloc: Global, books: &BothBooks) -> Result<Names<'_>, AllocError>
 /// Writes the objects of lines, or of causes.
 fn list_lines<'a, A: Book, B: Book, S: Sink>(
     alloc: Global,
-    asked: Asked<'a, '_>,
+    asked: Asked<'a>,
     list: &Input,
-    names: &'a Names<'_>,
+    names: &'a Names,
     a: &A,
     b: &B,
     sink: &mut S,
@@ -82,7 +82,7 @@ fn list_lines<'a, A: Book, B: Book, S: Sink>(
 /// Writes the object behind all others.
 fn put_ending<A: Book, S: Sink>(
     alloc: Global,
-    asked: Asked<'_, '_>,
+    asked: Asked<'_>,
     list: &Input,
     a: &A,
     listed: Listed,

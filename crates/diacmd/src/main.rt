@@ -84,7 +84,7 @@ where
     }
 }
 
-fn asked_of(breaking: &Breaking) -> Asked<'_, '_> {
+fn asked_of(breaking: &Breaking) -> Asked<'_> {
     Asked {
         sends: breaking.sends,
         unknown: breaking.unknown,
@@ -99,7 +99,7 @@ fn asked_of(breaking: &Breaking) -> Asked<'_, '_> {
 /// Lists what breaks, and explains it, unless it is to be quiet.
 fn list<'a, R>(
     rt: &R,
-    asked: Asked<'_, '_>,
+    asked: Asked<'_>,
     inputs: &Inputs,
     origins: &Origins<'a>,
     manner: Manner,
@@ -129,7 +129,7 @@ where
 fn note_upgrade<R: AllocGlobal + Eprint>(
     rt: &R,
     texts: &InputTexts<'_>,
-    asked: Asked<'_, '_>,
+    asked: Asked<'_>,
     inputs: &Inputs,
     report: &Report,
 ) {

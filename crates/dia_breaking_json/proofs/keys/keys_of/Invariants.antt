@@ -1,6 +1,0 @@
-use Rattle.std.proofs.Common.{◌≡◌, map, take}
-use Rattle.dia_book.specs.Dictionary.{DictEntry}
-use Rattle.dia_breaking_json.proofs.keys.keys_of.Given as goal
-
-abbrev pub invariant-loop-index : goal.invariant-loop-index
-invariant-loop-index g l = l.keys.items ≡ take l.index (map (λ (e : DictEntry). e.key) (g.B.Book.meaning l.book).entries)
