@@ -11,6 +11,7 @@ pub mod MachineSoundness
 pub mod MachineRuns
 pub mod ReaderSteps
 pub mod ReaderInHeads
+pub mod ReaderInDeclarations
 pub mod ReaderInRules
 pub mod HeadCompleteness
 pub mod MachineCompleteness

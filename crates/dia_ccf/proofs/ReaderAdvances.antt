@@ -1,5 +1,5 @@
 -- What the reader keeps when it goes on to the next token.
-use Rattle.std.proofs.Common.{◌≡◌, ℕ, zero, suc, ◌+◌, ◌-◌, List, [], ◌∷◌, ◌++◌, map, take, drop, Option, Some, None, sym, ap, ◌∙◌, arith}
+use Rattle.std.proofs.Common.{◌≡◌, ℕ, zero, suc, ◌+◌, ◌-◌, ◌<◌, ◌≤◌, List, [], ◌∷◌, ◌++◌, length, map, take, drop, drop-drop, length-drop, Option, Some, None, refl, sym, ap, ◌∙◌, arith}
 use Rattle.std.specs.Prelude.{slice_get, IsSome}
 use Rattle.std.specs.Option.{option_map}
 use Rattle.std.proofs.lemmas.List.{drop-map}
@@ -53,3 +53,40 @@ before_next text taken at end (Some token) some counted begins lies = before_one
 
 pub earlier_next : (text : List ℕ) (taken : ℕ) (last : Option ℕ) → last ≡ place_before text taken → last ≡ place_before text ((taken + 1) - 1)
 earlier_next text taken last h = let same : (taken + 1) - 1 ≡ taken = omega arith in h ∙ ap (place_before text) (sym same)
+
+-- ---- how far the next token is
+
+one_ahead : (token : Option LexerToken) → IsSome token → length (ahead token) ≡ 1
+one_ahead None some = absurd cc
+one_ahead (Some token) some = refl
+
+pub few_next : (taken at end to : ℕ) (token : Option LexerToken) → IsSome token → taken ≤ at → at + length (ahead token) ≤ end → end ≤ to → taken + 1 ≤ to
+few_next taken at end to token some few long further = omega (arith, few, long, further, one_ahead token some)
+
+not_last : (ps : List Placed) (token : Token) (rest : List Token) → map (λ placed. capped placed.token) ps ≡ token ∷ rest → 0 < length ps
+not_last [] token rest h = absurd cc
+not_last (p ∷ ps) token rest h = omega arith
+
+pub reached_next : (text : List ℕ) (taken at end : ℕ) (token : Option LexerToken) → IsSome token → drop taken (placed_tokens text) ≡ tokens_from text at
+    → left_from text at ≡ sees token (left_from text end) → taken + 1 ≤ length (placed_tokens text)
+reached_next text taken at end None some counted begins = absurd cc
+reached_next text taken at end (Some token) some counted begins =
+    omega (arith, not_last (tokens_from text at) (shown token) (left_from text end) begins, ap length counted, length-drop taken (placed_tokens text))
+
+pub counted_next : (text : List ℕ) (taken at end to : ℕ) (token : Option LexerToken) → IsSome token → drop taken (placed_tokens text) ≡ tokens_from text at
+    → drop (length (ahead token)) (tokens_from text at) ≡ tokens_from text end → tokens_from text end ≡ tokens_from text to → drop (taken + 1) (placed_tokens text) ≡ tokens_from text to
+counted_next text taken at end to token some counted rest same =
+    let one = one_ahead token some in
+    let more : taken + length (ahead token) ≡ taken + 1 = ap (λ (n : ℕ). taken + n) one in
+    sym (drop-drop (length (ahead token)) taken (placed_tokens text) ∙ ap (λ (n : ℕ). drop n (placed_tokens text)) more)
+    ∙ ap (drop (length (ahead token))) counted ∙ rest ∙ same
+
+-- what the reader has gone past
+pub left_next : (text : List ℕ) (at end to : ℕ) (token : Option LexerToken) → IsSome token → left_from text at ≡ sees token (left_from text end)
+    → tokens_from text end ≡ tokens_from text to → left_from text at ≡ ahead token ++ left_from text to
+left_next text at end to None some begins same = absurd cc
+left_next text at end to (Some token) some begins same =
+    begins ∙ ap (λ (ps : List Placed). shown token ∷ map (λ placed. capped placed.token) ps) same
+
+pub taken_next : (taken : ℕ) (token : Option LexerToken) → IsSome token → taken + 1 ≡ taken + length (ahead token)
+taken_next taken token some = ap (λ (n : ℕ). taken + n) (sym (one_ahead token some))

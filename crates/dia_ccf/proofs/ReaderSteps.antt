@@ -112,6 +112,11 @@ pub exits : {X : Type 0} (from : Course) (to : X → State) (k : Refusal) (resul
 exits from to k (Ok x) new is h = absurd is
 exits from to k (Err e) new is h = subst (λ (r : Refusal). StopsAt from r new) (sym is) h
 
+-- the same behind steps that were made
+pub exits_along : {X : Type 0} (from mid : Course) (to : X → State) (k : Refusal) (result : Result X Refusal) (new : Reader) → from ≡ mid → IsErrAnd result (λ e. e ≡ k) → StopsAt mid k new
+    → Leads from to result new
+exits_along from mid to k result new e is h = leads_along from mid to result new e (exits mid to k result new is h)
+
 -- ---- qualifiers
 
 pub map_twice : {X Y Z : Type 0} (f : Y → Z) (g : X → Y) (o : Option X) → option_map f (option_map g o) ≡ option_map (λ x. f (g x)) o
