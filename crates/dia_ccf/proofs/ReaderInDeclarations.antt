@@ -1,27 +1,31 @@
 -- Steps of the reader in a declaration.
-use Rattle.std.proofs.Common.{◌≡◌, ℕ, ◌≤◌, arith, Bool, true, false, List, [], ◌∷◌, ◌++◌, None, Result, refl, sym, ap, ◌∙◌}
-use Rattle.std.specs.Prelude.{◌&&◌, not, IsTrue, String, string_bytes}
+use Rattle.std.proofs.Common.{◌≡◌, ℕ, Bool, true, false, List, [], ◌∷◌, ◌++◌, None, Result, Ok, Err, length, refl, sym, ap, subst, ◌∙◌}
+use Rattle.std.specs.Prelude.{◌&&◌, not, nat_lt, is_some, codes, IsTrue, String, string_bytes}
 use Rattle.std.specs.List.{list_all}
 use Rattle.std.specs.Global.{Global}
 use Rattle.std.proofs.lemmas.List.Folds.{list_all-append}
 use Rattle.dia_terms.specs.declared.FormatName.{FormatName}
 use Rattle.dia_terms.specs.declared.MRule.{MRule}
+use Rattle.dia_terms.specs.declared.MRule.TheVariants.{Must, MustNot, Any}
 use Rattle.dia_terms.specs.declared.FormatName.TheVariants.{Enumerated}
 use Rattle.dia_terms.specs.contracts.formats.FormatName.{the_type}
 use Rattle.dia_terms.specs.Formats.{is_enumerated}
 use denote.Enum.Bare.{sameb}
 use Rattle.dia_ccf.specs.declared.reading.refusal.Refusal.{Refusal}
+use Rattle.dia_ccf.specs.declared.reading.refusal.Refusal.TheVariants as refusal
 use Rattle.dia_ccf.specs.declared.reading.Reader.{Reader}
-use Rattle.dia_ccf.specs.Limits.{max_number}
+use Rattle.dia_ccf.specs.Limits.{max_number, max_name}
 use Rattle.dia_ccf.specs.Names.{is_range}
 use Rattle.dia_ccf.specs.Plain.{PlainSource, PlainDecl}
-use Rattle.dia_ccf.specs.Tokens.{Token, Open_parenthesis, Close_parenthesis}
-use Rattle.dia_ccf.specs.Machine.{State, Between, Decl_name, Decl_code, Decl_vendor, Decl_format, Decl_rule, Decl_values, In_values, add_decl, with_values}
-use Rattle.dia_ccf.specs.Machine.{outcome, next, name_at, number_at, format_at, rule_at, same_sign, is_none}
-use Rattle.dia_ccf.specs.ReaderFunctions.{course, left, begins_with, Accepts, Leads, Takes}
+use Rattle.dia_ccf.specs.Tokens.{Token, Name, Open_parenthesis, Close_parenthesis}
+use Rattle.dia_ccf.specs.Machine.{Between, Decl_name, Decl_code, Decl_vendor, Decl_number, Decl_format, Decl_rule, Decl_values, In_values, add_decl, with_values}
+use Rattle.dia_ccf.specs.Machine.{name_at, number_at, format_at, rule_at, same_sign, is_word, is_none}
+use Rattle.dia_ccf.specs.ReaderFunctions.{course, left, begins_with, why_ahead, Passes, Accepts, Leads, Takes}
+use Rattle.dia_ccf.specs.Grammar.{rule_word}
+use Rattle.dia_ccf.proofs.TokenTests.{word-is, rule_named-word}
 use Rattle.dia_ccf.proofs.MachineRuns.{outcome_same}
 use Rattle.dia_ccf.proofs.MachineCompleteness.{and_false}
-use Rattle.dia_ccf.proofs.ReaderSteps.{accepted, wants_all, takes_sign, stays}
+use Rattle.dia_ccf.proofs.ReaderSteps.{accepted, wants_all, passes_one, takes_sign, stays, leads_along}
 use Rattle.dia_ccf.proofs.ReaderInRules.{and_true}
 
 -- ---- one token each
@@ -53,6 +57,43 @@ pub rule_leads : (done : PlainSource) (n : List ℕ) (code vendor : ℕ) (format
 rule_leads done n code vendor format old new result told =
     accepted false false rule_at (λ r. r) (λ r. (done, Decl_values (bare n code vendor format r))) (done, Decl_rule n code vendor format) old new result
     (wants_all false false rule_at (λ r. (done, Decl_values (bare n code vendor format r))) (done, Decl_rule n code vendor format) (λ t. refl) (λ t. refl) refl (left old)) told
+
+-- ---- the vendor
+
+pub vendor_leads : (done : PlainSource) (n : List ℕ) (code : ℕ) (old mid new : Reader) (result : Result ℕ Refusal) → Takes (is_word (codes "vendor")) old true mid
+    → Accepts true false (number_at 0 max_number) (λ m. m) mid result new → Leads (course (done, Decl_vendor n code) old) (λ v. (done, Decl_format n code v)) result new
+vendor_leads done n code old mid new result (t, e, passes) told =
+    leads_along (course (done, Decl_vendor n code) old) (course (done, Decl_number n code) mid) (λ v. (done, Decl_format n code v)) result new
+    (passes_one (done, Decl_vendor n code) (done, Decl_number n code) t old mid passes (rw e refl))
+    (accepted true false (number_at 0 max_number) (λ m. m) (λ v. (done, Decl_format n code v)) (done, Decl_number n code) mid new result
+    (wants_all true false (number_at 0 max_number) (λ v. (done, Decl_format n code v)) (done, Decl_number n code) (λ t. refl) (λ t. refl) refl (left mid)) told)
+
+pub no_vendor : (done : PlainSource) (n : List ℕ) (code : ℕ) (old new : Reader) → begins_with (is_word (codes "vendor")) (left old) ≡ false → new ≡ old
+    → course (done, Decl_vendor n code) old ≡ course (done, Decl_format n code 0) new
+no_vendor done n code old new none same =
+    stays (done, Decl_vendor n code) (done, Decl_format n code 0) old new same
+    (outcome_same (done, Decl_vendor n code) (done, Decl_format n code 0) (left old) (λ t us e.
+    let other : is_word (codes "vendor") t ≡ false = ap (begins_with (is_word (codes "vendor"))) (sym e) ∙ none in
+    (rw other refl, refl)) (λ e. refl))
+
+-- ---- the rule
+
+pub rule_told : (r : MRule) (old mid new : Reader) → mid ≡ old → Takes (is_word (rule_word r)) mid true new → Accepts false false rule_at (λ x. x) old (Ok r) new
+rule_told r old mid new same (t, e, passes) = (t, ap rule_at (word-is (rule_word r) t e) ∙ rule_named-word r, subst (λ (from : Reader). Passes from (t ∷ []) new) same passes)
+
+no_rule_ahead : (ts : List Token) → begins_with (is_word (rule_word Must)) ts ≡ false → begins_with (is_word (rule_word MustNot)) ts ≡ false → begins_with (is_word (rule_word Any)) ts ≡ false
+    → (begins_with (λ t. is_some (rule_at t)) ts ≡ false) × (refusal.Syntax ≡ why_ahead false false ts)
+no_rule_ahead [] a b c = (refl, refl)
+no_rule_ahead (Name w ∷ us) a b c = (rw (a, b, c) refl, rw (and_false (nat_lt max_name (length w))) refl)
+no_rule_ahead (t ∷ us) a b c = (refl, refl)
+
+pub no_rule : (old first second new : Reader) → Takes (is_word (rule_word Must)) old false first → Takes (is_word (rule_word MustNot)) first false second
+    → Takes (is_word (rule_word Any)) second false new → Accepts false false rule_at (λ (x : MRule). x) old (Err refusal.Syntax) new
+no_rule old first second new (a, e) (b, f) (c, g) =
+    let other = ap (λ (r : Reader). begins_with (is_word (rule_word MustNot)) (left r)) (sym e) ∙ b in
+    let third = ap (λ (r : Reader). begins_with (is_word (rule_word Any)) (left r)) (sym (f ∙ e)) ∙ c in
+    let told = no_rule_ahead (left old) a other third in
+    (g ∙ f ∙ e, told.0, told.1)
 
 -- ---- values
 

@@ -159,7 +159,12 @@ fn comment_len(bytes: &[u8]) -> usize
     ensures len { result ≡ prefix_len (λ b. not (b == 10)) bytes.now }
     ensures within { result ≤ length bytes.now }
 {
-    bytes.iter().take_while(|b| **b != b'\n').count()
+    for index in 0..bytes.len() {
+        if bytes[index] == b'\n' {
+            return index;
+        }
+    }
+    bytes.len()
 }
 
 /// The token that begins at a place, and its length.
@@ -232,7 +237,12 @@ fn run_len(bytes: &[u8]) -> usize
     ensures len { result ≡ prefix_len is_run_byte bytes.now }
     ensures within { result ≤ length bytes.now }
 {
-    bytes.iter().take_while(|b| is_run_byte(**b)).count()
+    for index in 0..bytes.len() {
+        if !is_run_byte(bytes[index]) {
+            return index;
+        }
+    }
+    bytes.len()
 }
 
 fn is_run_byte(b: u8) -> bool
@@ -260,7 +270,12 @@ fn run_token(run: &str) -> Token<'_>
 fn is_digits(bytes: &[u8]) -> bool
     ensures { result ≡ list_all is_ascii_digit bytes.now }
 {
-    bytes.iter().all(|b| b.is_ascii_digit())
+    for b in bytes {
+        if !b.is_ascii_digit() {
+            return false;
+        }
+    }
+    true
 }
 
 /// The token that a run of digits is.
@@ -288,11 +303,21 @@ pub(crate) fn is_name_run(bytes: &[u8]) -> bool
 fn is_run(bytes: &[u8]) -> bool
     ensures { result ≡ list_all is_run_byte bytes.now }
 {
-    bytes.iter().all(|b| is_run_byte(*b))
+    for b in bytes {
+        if !is_run_byte(*b) {
+            return false;
+        }
+    }
+    true
 }
 
 fn has_letter(bytes: &[u8]) -> bool
     ensures { result ≡ list_any is_ascii_alphabetic bytes.now }
 {
-    bytes.iter().any(|b| b.is_ascii_alphabetic())
+    for b in bytes {
+        if b.is_ascii_alphabetic() {
+            return true;
+        }
+    }
+    false
 }

@@ -1,4 +1,4 @@
-use Rattle.std.proofs.Common.{◌≡◌, ℕ, ◌≤◌, List, [], arith, ap, sym, ◌∙◌}
+use Rattle.std.proofs.Common.{ℕ, List, arith, ap, sym, ◌∙◌}
 use Rattle.dia_ccf.specs.declared.reading.Reader.{Reader}
 use Rattle.dia_ccf.specs.Machine.{In_values}
 use Rattle.dia_ccf.specs.ReaderFunctions.{course}
