@@ -149,9 +149,9 @@ fn put_head(text: &mut String, head: Head) -> Result<(), AllocError>
             pxy,
             app,
         } => {
-            write!(text, "Diameter Header: {code}")?;
-            put_flag(text, request, ", REQ")?;
-            put_flag(text, pxy, ", PXY")?;
+            let request = flag_text(request, ", REQ");
+            let pxy = flag_text(pxy, ", PXY");
+            write!(text, "Diameter Header: {code}{request}{pxy}")?;
             put_application(text, app)
         }
         Head::Error { pxy } => write!(text, "Diameter Header: code, ERR{}", error_proxy(pxy)),
@@ -168,14 +168,10 @@ fn put_group_vendor(text: &mut String, vendor: u32) -> Result<(), AllocError>
     write!(text, " {vendor}")
 }
 
-fn put_flag(text: &mut String, is_set: bool, flag: &str) -> Result<(), AllocError>
-    ensures { OnOk result (string_bytes text.new
-        ≡ string_bytes text.old ++ flag_text is_set flag.now) }
+fn flag_text(is_set: bool, flag: &str) -> &str
+    ensures { result.now ≡ flag_text is_set flag.now }
 {
-    if is_set {
-        text.push_str(flag)?;
-    }
-    Ok(())
+    if is_set { flag } else { "" }
 }
 
 fn put_application(text: &mut String, app: Option<u32>) -> Result<(), AllocError>
@@ -234,17 +230,17 @@ fn put_qualifier(text: &mut String, qual: Option<Qual>) -> Result<(), AllocError
     let Some(qual) = qual else {
         return Ok(());
     };
-    put_count(text, qual.min)?;
-    text.push('*')?;
-    put_count(text, qual.max)?;
-    text.push(' ')
+    put_count(text, qual.min, "*")?;
+    put_count(text, qual.max, " ")
 }
 
-fn put_count(text: &mut String, count: Option<u32>) -> Result<(), AllocError>
-    ensures { OnOk result (string_bytes text.new ≡ string_bytes text.old ++ count_text count) }
+/// A count, and what stands behind it.
+fn put_count(text: &mut String, count: Option<u32>, behind: &str) -> Result<(), AllocError>
+    ensures { OnOk result (string_bytes text.new
+        ≡ string_bytes text.old ++ (count_text count ++ behind.now)) }
 {
     match count {
-        Some(count) => write!(text, "{count}"),
-        None => Ok(()),
+        Some(count) => write!(text, "{count}{behind}"),
+        None => text.push_str(behind),
     }
 }
