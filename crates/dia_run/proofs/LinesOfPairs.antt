@@ -1,5 +1,5 @@
 -- The line of a pair that fails a test.
-use Rattle.std.proofs.Common.{◌≡◌, ℕ, ◌<◌, List, length, map, Result, Ok, Err, refl, sym, subst, ap, ◌∙◌, get_or, codes, arith}
+use Rattle.std.proofs.Common.{◌≡◌, ℕ, ◌<◌, List, ◌++◌, length, map, Result, Ok, Err, refl, sym, subst, ap, ◌∙◌, append_assoc, get_or, codes, arith}
 use Rattle.std.specs.Prelude.{IfOk, String, string_bytes, option_map}
 use Rattle.std.specs.Global.{Global}
 use Rattle.std.proofs.lemmas.Option.{slice_get-map, slice_get_read}
@@ -17,7 +17,7 @@ use Rattle.dia_inclusion.specs.Closed.{IsTableAnswer}
 use Rattle.dia_io.specs.declared.Exit.{Exit}
 use Rattle.dia_io.specs.declared.Exit.TheVariants as exits
 use Rattle.dia_run.specs.declared.commands.Outcome.{Outcome}
-use Rattle.dia_run.specs.Pairs.{IsAnswerText, IsFailureText, failure_line, NamesPair}
+use Rattle.dia_run.specs.Pairs.{IsAnswerText, IsFailureText, failure_line, NamesPair, test_word}
 
 -- the pair of a failure stands in the table
 pub names_pair : (a b : Dictionary) (u : Unknown) (table : PlainTable) (answer : Answer) → IsTableAnswer a b u table answer → NamesPair table answer
@@ -60,3 +60,16 @@ avp_fails table answer k i test p r is is_k names at is_text is_exit =
     let same = is ∙ ap (λ (j : PairKind). No j i test) is_k in
     subst (λ (a : Answer). IfOk r (λ o. IsAnswerText (plain_table table) a (string_bytes o.text) o.exit)) (sym same)
     (fails_at (codes "avp") table.avps.items p i test r (subst (NamesPair (plain_table table)) same names) at is_text is_exit)
+
+nine : (a b c d e f g h i : List ℕ) → (((a ++ (b ++ c ++ d ++ e ++ f)) ++ g) ++ h) ++ i ≡ a ++ (b ++ (c ++ (d ++ (e ++ (f ++ (g ++ (h ++ i)))))))
+nine a b c d e f g h i =
+    append_assoc ((a ++ (b ++ c ++ d ++ e ++ f)) ++ g) h i ∙ append_assoc (a ++ (b ++ c ++ d ++ e ++ f)) g (h ++ i) ∙ append_assoc a (b ++ c ++ d ++ e ++ f) (g ++ (h ++ i))
+    ∙ ap (λ (t : List ℕ). a ++ t) (append_assoc (b ++ c ++ d ++ e) f (g ++ (h ++ i)) ∙ append_assoc (b ++ c ++ d) e (f ++ (g ++ (h ++ i)))
+    ∙ append_assoc (b ++ c) d (e ++ (f ++ (g ++ (h ++ i)))) ∙ append_assoc b c (d ++ (e ++ (f ++ (g ++ (h ++ i))))))
+
+-- the line of a pair, as it is made
+pub failure_told : (text word left right tested : List ℕ) (p : List ℕ × List ℕ) (test : Test)
+    → text ≡ codes "no " ++ (word ++ (codes " " ++ (left ++ (codes " = " ++ (right ++ (codes " " ++ (tested ++ codes "\n")))))))
+    → left ≡ p.0 → right ≡ p.1 → tested ≡ test_word test → text ≡ failure_line word p test
+failure_told text word left right tested p test is is_left is_right is_tested =
+    is ∙ rw (is_left, is_right, is_tested) (sym (nine (codes "no ") word (codes " ") p.0 (codes " = ") p.1 (codes " ") (test_word test) (codes "\n")))
