@@ -7,7 +7,6 @@ pub mod OnePairOutcome
 pub mod OneOutcome
 pub mod YesShowsInclusion
 pub mod RefusedInputs
-pub mod NamedDictionaries
 pub mod LinesOfPairs
 pub mod HexTexts
 pub mod DecodedPieces

@@ -1,12 +1,10 @@
-use Rattle.std.proofs.Common.{inr, refl, subst, sym}
+use Rattle.std.proofs.Common.{inr, refl}
 use Rattle.std.specs.Prelude.{string_bytes}
-use Rattle.std.proofs.lemmas.Result.{IfOk-weaker, err_from_is_err_and}
-use Rattle.dia_ccf.specs.declared.Source.{Source}
+use Rattle.std.proofs.lemmas.Result.{err_from_is_err_and}
 use Rattle.dia_ccf.specs.Plain.{plain_source}
 use Rattle.dia_dict.specs.Resolution.{wrong}
 use Rattle.dia_report.specs.Refusals.{wrong_text}
-use Rattle.dia_run.specs.Texts.{IsSourceText, IsNoDictionaryText}
-use Rattle.dia_run.proofs.NamedDictionaries.{names_dictionary}
+use Rattle.dia_run.specs.Texts.{IsNoDictionaryText}
 use Rattle.dia_run.proofs.RefusedInputs.{told_of_source, told_why}
 use Rattle.dia_run.proofs.inputs.dictionary.read_dictionary.Goals as goal
 
@@ -26,11 +24,3 @@ returns-in_ok-found-in-Err-Stands-clause-told c =
 pub returns-in_ok-found-in-Err-Stands-clause-kept : goal.returns-in_ok-found-in-Err-Stands-clause-kept
 returns-in_ok-found-in-Err-Stands-clause-kept c =
     rw (c.tell.ensures.bad, c.in_ok-found-in-Err-Stands.ensures) c.in_ok-source.ensures.source
-
-pub returns-in-Ok-clause-source : goal.returns-in-Ok-clause-source
-returns-in-Ok-clause-source c =
-    IfOk-weaker c.indexed.result _ _ (λ read is. subst (λ (s : Source). IsSourceText c.args.input.now (plain_source s)) (sym is) c.in_ok-source.ensures.source) c.indexed.ensures.source
-
-pub returns-in-Ok-clause-book : goal.returns-in-Ok-clause-book
-returns-in-Ok-clause-book c =
-    names_dictionary _ c.args.input.now (plain_source c.in_ok-source.source) _ c.indexed.result c.in_ok-source.ensures.source c.in-Ok.ensures.ok c.indexed.ensures.meaning c.indexed.ensures.sound
