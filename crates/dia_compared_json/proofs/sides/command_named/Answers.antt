@@ -1,9 +1,10 @@
-use Rattle.std.proofs.Common.{◌≤◌, length, sym, arith, option_and_then, ◌∙◌, ap}
+use Rattle.std.proofs.Common.{◌≤◌, length, refl, sym, arith, option_and_then, ◌∙◌, ap}
 use Rattle.std.specs.Prelude.{slice_get}
 use Rattle.std.specs.Str.{bytes_eq}
 use Rattle.dia_book.specs.Dictionary.{PlainDefinition, plain_definition}
 use Rattle.dia_valid.proofs.SelectedCommands.{command_at}
 use Rattle.dia_inclusion.proofs.FilteredMembers.{none_more_at}
+use Rattle.dia_inclusion.proofs.PlacesOfCommands.{within}
 use Rattle.dia_compared_json.proofs.Names.{command_found, none_named_at}
 use Rattle.dia_compared_json.proofs.sides.command_named.Goals as goal
 
@@ -27,3 +28,11 @@ returns g c =
     let d = g.B.Book.meaning c.args.book.now in
     let all : length d.commands ≤ c.loop-index.index = omega (arith, c.loop-index-test.false, c.commands-index-end.ensures) in
     sym (ap (option_and_then (slice_get d.commands)) (none_named_at (λ (y : PlainDefinition). bytes_eq c.args.name.now y.name) d.commands c.loop-index.index all c.loop-index.invariant))
+
+pub command_at-requires : goal.command_at-requires
+command_at-requires g c = omega (arith, c.loop-index-test.true, c.commands-index-end.ensures)
+
+pub def-command-requires : goal.def-command-requires
+def-command-requires g c =
+    let d = g.B.Book.meaning c.args.book.now in
+    within d d c.command_at.result c.loop-index.index refl c.command_at.ensures (omega (arith, c.loop-index-test.true, c.commands-index-end.ensures))
