@@ -1,3 +1,4 @@
 pub mod Lists
 pub mod Sets
+pub mod CauseLaws
 pub mod Tallies

@@ -1,5 +1,5 @@
 -- Lines of which each cause is kept once, and how often causes were counted.
-use Rattle.std.proofs.Common.{◌≡◌, ℕ, ◌+◌, ◌-◌, ◌^◌, ◌<◌, ◌≤◌, Bool, true, false, cond, List, [], ◌∷◌, ◌++◌, map, take, get_or, length, string_bytes, Bor, Result, Ok, Err, refl, sym, ap, subst, ◌∙◌, append_assoc, arith, inl, inr}
+use Rattle.std.proofs.Common.{◌≡◌, ℕ, ◌+◌, ◌^◌, ◌<◌, ◌≤◌, Bool, true, false, cond, List, [], ◌∷◌, ◌++◌, map, take, get_or, length, string_bytes, Bor, Result, Ok, Err, refl, sym, ap, subst, ◌∙◌, append_assoc, arith, inl, inr}
 use Rattle.std.specs.declared.string.String.{String}
 use Rattle.std.specs.Prelude.{◌≢◌, ◌==◌, ◌⊎◌, ◌&&◌, ◌||◌, IfOk, drop, filter, is_some, nat_eq, not, Some, None, Option, unwrap_or}
 use Rattle.std.specs.Cmp.{IsEquivalence}
@@ -9,7 +9,7 @@ use Rattle.std.specs.Option.{MatchOption}
 use Rattle.std.specs.Str.{bytes_eq}
 use Rattle.std.specs.Str.Pattern.{FindsCharPrefix}
 use Rattle.std.proofs.lemmas.Bool.{eqb-true}
-use Rattle.std.proofs.lemmas.Cmp.{nat_eq_equiv, nat_list_eq_equiv}
+use Rattle.std.proofs.lemmas.Cmp.{nat_eq_equiv}
 use Rattle.std.proofs.lemmas.List.{append-nil, map-append, take_more}
 use Rattle.std.proofs.lemmas.List.Elements.{filter-append}
 use Rattle.std.proofs.lemmas.List.Folds.{list_any-append}
@@ -27,40 +27,7 @@ use Rattle.dia_accepted.specs.Seen.{AreCauses, HaveCome, IsKeyOf, is_command, is
 use Rattle.dia_accepted.specs.Sets.{bytes_of, found, has, tally}
 use Rattle.dia_accepted.specs.Words.{behind_space, cause_text}
 use Rattle.dia_accepted.proofs.Sets.{found_insert, or_false, or_true, same_vec}
-
--- ---- tests
-
-both_true : (a b : Bool) → a ≡ true → b ≡ true → (a && b) ≡ true
-both_true a b e f = λ i. (e i && f i)
-
-each_true : (a b : Bool) → (a && b) ≡ true → (a ≡ true) × (b ≡ true)
-each_true true b e = (refl, e)
-each_true false b e = absurd (let z : false ≡ true = e in cc)
-
-not_twice : (b : Bool) → not (not b) ≡ b
-not_twice true = refl
-not_twice false = refl
-
-either_way : (a b : Bool) → (a || b) ≡ (b || a)
-either_way true true = refl
-either_way true false = refl
-either_way false true = refl
-either_way false false = refl
-
-pub cause_laws : IsEquivalence same_cause
-cause_laws = record {
-  refl = λ x. nat_list_eq_equiv.refl (cause_text x.words);
-  symm = λ x y. nat_list_eq_equiv.symm (cause_text x.words) (cause_text y.words);
-  congr = λ x y z. nat_list_eq_equiv.congr (cause_text x.words) (cause_text y.words) (cause_text z.words);
-}
-
-pub command_laws : IsEquivalence same_cause_of_command
-command_laws = record {
-  refl = λ x. both_true (nat_eq x.command x.command) (same_cause x x) (nat_eq_equiv.refl x.command) (cause_laws.refl x);
-  symm = λ x y. (λ i. (nat_eq_equiv.symm x.command y.command i && cause_laws.symm x y i));
-  congr = λ x y z e. (let p = each_true (nat_eq x.command y.command) (same_cause x y) e in
-      λ i. (nat_eq_equiv.congr x.command y.command z.command p.0 i && cause_laws.congr x y z p.1 i));
-}
+use Rattle.dia_accepted.proofs.CauseLaws.{either_way, cause_laws, command_laws}
 
 -- ---- each once
 

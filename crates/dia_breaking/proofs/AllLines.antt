@@ -4,22 +4,19 @@ use Rattle.std.specs.Prelude.{◌⊎◌, ◌&&◌, not, is_some, IfSome, slice_g
 use Rattle.std.specs.Option.{option_map_or}
 use Rattle.std.proofs.lemmas.Bool.{both_ways, le-leb}
 use Rattle.std.proofs.lemmas.List.{length-map}
-use Rattle.std.proofs.lemmas.Option.{none-some, same_Some}
+use Rattle.std.proofs.lemmas.Option.{same_Some}
 use Rattle.dia_wire.specs.declared.Header.{Header}
 use Rattle.dia_wire.specs.Wire.{PlainAvp, key_of, HasP, IsMessage}
-use Rattle.dia_book.specs.declared.Class.{Class}
-use Rattle.dia_book.specs.declared.DefHead.{DefHead}
 use Rattle.dia_book.specs.declared.DRule.{DRule}
-use Rattle.dia_book.specs.declared.DefHead.TheVariants.{Group, Command, Error}
-use Rattle.dia_book.specs.Dictionary.{Dictionary, PlainDefinition, AreRules, IsDictionary, IsCommandHead, definitions, groups, has_command, selected}
+use Rattle.dia_book.specs.declared.DefHead.TheVariants.{Command}
+use Rattle.dia_book.specs.Dictionary.{Dictionary, PlainDefinition, AreRules, IsDictionary, definitions, has_command, selected}
 use Rattle.dia_book.proofs.Members.{at_map, into_left, into_map}
 use Rattle.dia_policy.specs.declared.Unknown.{Unknown}
 use Rattle.dia_policy.specs.declared.Levels.TheVariants as levels
 use Rattle.dia_policy.specs.declared.Sends.{Sends}
 use Rattle.dia_valid.specs.Valid.{AllFit, AllowsP, IsValid, Placed, class_of}
 use Rattle.dia_valid.specs.Rules.{rules_in}
-use Rattle.dia_valid.proofs.Members.{IsIn, all_of, at_in, in_append, in_at, in_contains, in_left, in_right, there_is}
-use Rattle.dia_valid.proofs.SelectedCommands.{Choice, NoChoice, choose, command_at}
+use Rattle.dia_valid.proofs.Members.{IsIn, at_in, in_append, in_contains, in_left, in_right, there_is}
 use Rattle.dia_breaking_sites.specs.Sent.{IsSent}
 use Rattle.dia_breaking_sites.specs.Sites.{AreAsked, IsLevelOf, IsReadAlone}
 use Rattle.dia_breaking_sites.specs.Selection.{IsSelected, max_body}
@@ -27,8 +24,8 @@ use Rattle.dia_breaking_sites.proofs.LevelsOfB.{levels_read}
 use Rattle.dia_breaking_sites.proofs.SafeMessages.{small_app}
 use Rattle.dia_breaking_shortest.specs.Floors.{AreFloors, total}
 use Rattle.dia_breaking_shortest.proofs.FloorsOfLengths.{in_map}
-use Rattle.dia_breaking_levels.specs.declared.line.Line.{Line as LevelLine}
 use Rattle.dia_breaking_levels.proofs.AloneBounds.{least_within}
+use Rattle.dia_breaking_levels.specs.declared.line.Line.{Line as LevelLine}
 use Rattle.dia_breaking_levels.specs.LevelTests.{price}
 use Rattle.dia_breaking_ways.specs.Walks.{IsWalk, plain_exits}
 use Rattle.dia_breaking.specs.declared.heads.Head.{Head}
@@ -40,7 +37,7 @@ use Rattle.dia_breaking.specs.declared.own_lines.Kind.{Kind}
 use Rattle.dia_breaking.specs.declared.own_lines.Kind.TheVariants as kinds
 use Rattle.dia_breaking.specs.declared.readings.Reading.{Reading}
 use Rattle.dia_breaking.specs.declared.start.Start.{Start}
-use Rattle.dia_breaking.specs.Free.{AreValidWhereFree, HasThisP, IsFree, IsFreeLevel, IsReadBy, IsSelectedFor, TellsFlags}
+use Rattle.dia_breaking.specs.Free.{AreValidWhereFree, HasThisP, IsFree, IsFreeLevel, IsReadBy, TellsFlags}
 use Rattle.dia_breaking.specs.Headers.{HasHead, IsCommandPlace, TellsRefusal, allows, head_in}
 use Rattle.dia_breaking.specs.LevelCosts.{PicksShortest}
 use Rattle.dia_breaking.specs.Lengths.{Costs}
@@ -48,7 +45,7 @@ use Rattle.dia_breaking.specs.Listing.{Told, Basis, IsListing, IsWalkFrom, basis
 use Rattle.dia_breaking.specs.Mended.{AreValidOnceMended, IsLevelAt, IsMendedFor}
 use Rattle.dia_breaking.specs.Readings.{AreReadings}
 use Rattle.dia_breaking.specs.Sites.{command_site, command_sites, group_sites, other_head, read_site, refused_site}
-use Rattle.dia_breaking.specs.TheLines.{AreFacts, AreIfRoom, AreLevels, AreLinesBetween, AreLinesOf, Facts, IsCommandLevel, IsStartOf, costs_in}
+use Rattle.dia_breaking.specs.TheLines.{AreFacts, AreIfRoom, AreLinesBetween, AreLinesOf, Facts, IsCommandLevel, IsStartOf, costs_in}
 use Rattle.dia_breaking.specs.Words.{head_at}
 use Rattle.dia_breaking.specs.Sides.{sides, answer}
 use Rattle.dia_breaking.proofs.AllMeanings.{begins, no_group_here}
@@ -65,55 +62,7 @@ use Rattle.dia_breaking.proofs.Shortest.{first_is_shortest}
 use Rattle.dia_breaking.proofs.ToldHeaders.{allows_head, allows_holds, head_allows, holds_allows, is_set, read_at}
 use Rattle.dia_breaking.proofs.ToldLines.{AllTold, IsToldIn, cause_is, from_data, from_flags, from_groups, from_heads, from_levels, from_unknown, in_each, told_of}
 use Rattle.dia_breaking.proofs.TopLevels.{top_level}
-
--- ---- lists
-
-levels_at : (P : Reading → List LevelLine → Type 0) (readings : List Reading) (all : List (List LevelLine)) → AreLevels P readings all → (i : ℕ) (r : Reading) → slice_get readings i ≡ Some r
-    → (found : List LevelLine) × (slice_get all i ≡ Some found) × P r found
-levels_at P [] all are i r at = absurd (none-some r at)
-levels_at P (q ∷ readings) [] are i r at = absurd are
-levels_at P (q ∷ readings) (found ∷ all) are zero r at = (found, refl, subst (λ (z : Reading). P z found) (same_Some q r at) are.0)
-levels_at P (q ∷ readings) (found ∷ all) are (suc i) r at = levels_at P readings all are.1 i r at
-
--- ---- a definition of a command has a head
-
-head_of : (h : DefHead) → IsCommandHead h → (its : Head) × (head_in h ≡ Some its)
-head_of (Group key) is = absurd is
-head_of (Command code class app p) is = (_, refl)
-head_of (Error p) is = (_, refl)
-
-command_head : (d : Dictionary) → IsDictionary d → (code : ℕ) (class : Class) (app n : ℕ) (y : PlainDefinition) → selected d code class app ≡ Some n → slice_get (definitions d) n ≡ Some y
-    → (its : Head) × (head_in y.head ≡ Some its)
-command_head d sound code class app n y select at = by (choose d code class app)
-  where
-    by : Choice d code class app ⊎ NoChoice d code class app → (its : Head) × (head_in y.head ≡ Some its)
-    by (inl ch) =
-        let place : length (groups d) + ch.place ≡ n = same_Some _ n (sym ch.is_selected ∙ select) in
-        let here = command_at d ch.place n y (sym place) at in
-        head_of y.head (all_of (λ (z : PlainDefinition). IsCommandHead z.head) d.commands y sound.command_heads (in_at d.commands ch.place y here))
-    by (inr none) = absurd (none-some n (sym none.is_none ∙ select))
-
--- ---- the sites of readings
-
-place_of : (head : Head) (r : Reading) (o : Option Head) → IsCommandPlace r.read_as (option_map_or (read_site head r) o (refused_site head r)).place
-place_of head r None = refl
-place_of head r (Some other) = refl
-
-read_by : (da db : Dictionary) (c : ℕ) (head : Head) (r : Reading) (x y : PlainDefinition) (o : Option Head) → IsReadBy da db c (option_map_or (read_site head r) o (refused_site head r)).place x y
-    → IsSelectedFor db x.head r.read_as y
-read_by da db c head r x y None read = read.1
-read_by da db c head r x y (Some other) read = read.1
-
--- a reading by this definition of B
-record IsReadingOf (db : Dictionary) (head : Head) (readings : List Reading) (y : PlainDefinition) : Type 0 where
-  place : ℕ
-  reading : Reading
-  at : slice_get readings place ≡ Some reading
-  number : ℕ
-  select : selected db head.code head.class reading.read_as ≡ Some number
-  is_other : slice_get (definitions db) number ≡ Some y
-  its : Head
-  is_its : head_in y.head ≡ Some its
+use Rattle.dia_breaking.proofs.SitesOfReadings.{levels_at, command_head, place_of, read_by, IsReadingOf}
 
 module _ (da db : Dictionary) (who : Sends) (u : Unknown) (made : Facts) (start : Start) (c : ℕ) (sites : List Site) (lines : List Line) (sa : IsDictionary da) (sb : IsDictionary db)
     (facts : AreFacts (sides da db who u) made) (floors : AreFloors da who (costs_in (sides da db who u) made).listed) (head_is : HasHead da c start.head)

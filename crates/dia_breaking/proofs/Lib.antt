@@ -57,6 +57,7 @@ pub mod TopLevels
 pub mod OwnFits
 pub mod PlacedLevels
 pub mod AllMeanings
+pub mod SitesOfReadings
 pub mod AllLines
 mod WalkGraphs
 mod Fronts

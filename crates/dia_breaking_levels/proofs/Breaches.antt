@@ -11,7 +11,8 @@ use Rattle.dia_valid.proofs.Members.{IsIn, in_all, at_in, in_contains, contains_
 use Rattle.dia_breaking_levels.specs.CountsAndRanks.{AreSound, times, strangers, rank, InOrder, AreInPlace}
 use Rattle.dia_breaking_levels.specs.Breaches.{IsLate, Breach}
 use Rattle.dia_breaking_levels.specs.Breaches.Breach.{Few, Many, Not_allowed, Few_others, Many_others, Late}
-use Rattle.dia_breaking_levels.proofs.CountsAndRanks.{rank_within, ranked, order_at, placed-in_place, in_place-placed}
+use Rattle.dia_breaking_levels.proofs.CountsAndRanks.{rank_within, ranked, order_at, placed-in_place}
+use Rattle.dia_breaking_levels.proofs.KeysInPlace.{in_place-placed}
 
 -- each has P, or else there is a B
 all_or : {X : Type 0} (P : X → Type 0) (B : Type 0) (xs : List X) → ((x : X) → IsIn x xs → P x ⊎ B) → AllByRecursion P xs ⊎ B

@@ -13,11 +13,10 @@ use Rattle.dia_book.proofs.SameKeys.{same_key-refl, same_key-true}
 use Rattle.dia_book.proofs.Members.{AreApart, AreApart-filter}
 use Rattle.dia_valid.specs.Valid.{InBounds, Runs, Placed, MayBeLoose, fixed_rules, loose_rules, is_listed, has_wildcard, counted}
 use Rattle.dia_valid.proofs.LongestRuns.{AreDistinct}
-use Rattle.dia_valid.proofs.RuleCounts.{fixed_place}
 use Rattle.dia_valid.specs.Rules.{HasRule, HasWildcard}
-use Rattle.dia_valid.proofs.Members.{IsIn, in_all, all_map}
+use Rattle.dia_valid.proofs.Members.{IsIn, in_all}
 use Rattle.dia_valid.proofs.RulesOfKeys.{all_middle, IsRunKey, listed, is_listed_by, runs_none, runs_some}
-use Rattle.dia_valid.proofs.Members.{in_at, at_in, in_contains, contains_in, all_in, in_filter, into_filter, in_right, in_append, count_append, count_none, count_all}
+use Rattle.dia_valid.proofs.Members.{in_at, at_in, in_contains, contains_in, all_in, in_filter, into_filter, in_append, count_append, count_none}
 use Rattle.dia_breaking_levels.specs.CountsAndRanks.{AreSound, times, strangers, rank, InOrder, AreInPlace}
 
 -- ---- the rules of a dictionary
@@ -30,30 +29,30 @@ definition_sound d def is c = subst (λ (x : PlainDefinition). AreSound x.rules)
 
 -- ---- sound rules
 
-key_of_test : (key : Key) (o : Option Key) → option_map_or (same_key key) o false ≡ true → o ≡ Some key
+pub key_of_test : (key : Key) (o : Option Key) → option_map_or (same_key key) o false ≡ true → o ≡ Some key
 key_of_test key None h = absurd (let e : false ≡ true = h in cc)
 key_of_test key (Some k) h = ap (λ (x : Key). Some x) (sym (same_key-true key k h))
 
-lists : (r : DRule) (key : Key) → r.key ≡ Some key → lists_key key r ≡ true
+pub lists : (r : DRule) (key : Key) → r.key ≡ Some key → lists_key key r ≡ true
 lists r key e = ap (λ (o : Option Key). option_map_or (same_key key) o false) e ∙ same_key-refl key
 
 lists_not : (r : DRule) (key : Key) → r.key ≢ Some key → lists_key key r ≡ false
 lists_not r key other = false_from_ne_true (lists_key key r) (λ e. other (key_of_test key r.key e))
 
-not_both : (b : Bool) → b ≡ true → b ≡ false → ⊥
+pub not_both : (b : Bool) → b ≡ true → b ≡ false → ⊥
 not_both b e f = absurd (let h : true ≡ false = sym e ∙ f in cc)
 
 not_true : (b : Bool) → not b ≡ true → b ≡ false
 not_true true h = absurd (let e : false ≡ true = h in cc)
 not_true false h = refl
 
-fixed_part : (rules : List DRule) (r : DRule) → IsIn r (fixed_rules rules) → IsIn r rules × (is_fixed r ≡ true)
+pub fixed_part : (rules : List DRule) (r : DRule) → IsIn r (fixed_rules rules) → IsIn r rules × (is_fixed r ≡ true)
 fixed_part rules r h = in_filter is_fixed rules r h
 
-loose_part : (rules : List DRule) (r : DRule) → IsIn r (loose_rules rules) → IsIn r rules × (is_fixed r ≡ false)
+pub loose_part : (rules : List DRule) (r : DRule) → IsIn r (loose_rules rules) → IsIn r rules × (is_fixed r ≡ false)
 loose_part rules r h = let s = in_filter (λ (t : DRule). not (is_fixed t)) rules r h in (s.0, not_true (is_fixed r) s.1)
 
-into_loose : (rules : List DRule) (r : DRule) → IsIn r rules → is_fixed r ≡ false → IsIn r (loose_rules rules)
+pub into_loose : (rules : List DRule) (r : DRule) → IsIn r rules → is_fixed r ≡ false → IsIn r (loose_rules rules)
 into_loose rules r h e = into_filter (λ (t : DRule). not (is_fixed t)) rules r h (ap not e)
 
 pub one_rule : (rules : List DRule) (r s : DRule) → AreSound rules → IsIn r rules → IsIn s rules → r.key ≡ s.key → r ≡ s
@@ -67,7 +66,7 @@ one_rule rules r s sound i j e =
 fixed_or_loose : (rules : List DRule) (r s : DRule) → AreSound rules → IsIn r rules → IsIn s rules → r.key ≡ s.key → is_fixed r ≡ true → is_fixed s ≡ false → ⊥
 fixed_or_loose rules r s sound i j e f g = not_both (is_fixed r) f (ap (λ (t : DRule). is_fixed t) (one_rule rules r s sound i j e) ∙ g)
 
-fixed_key : (rules : List DRule) (r : DRule) → AreSound rules → IsIn r rules → is_fixed r ≡ true → IsSome r.key
+pub fixed_key : (rules : List DRule) (r : DRule) → AreSound rules → IsIn r rules → is_fixed r ≡ true → IsSome r.key
 fixed_key rules r sound i f =
     let c = contains_in rules r i in
     subst (λ (t : DRule). IsTrue (is_fixed t) → IsSome t.key) c.2 (sound.fixed_keys c.0 r c.1) f
@@ -85,19 +84,19 @@ apart_distinct (r ∷ rules) h = (
   apart_distinct rules (λ i j x y at at' same. let z : suc i ≡ suc j = h (suc i) (suc j) x y at at' same in omega (arith, z)),
 )
 
-fixed_distinct : (rules : List DRule) → AreSound rules → AreDistinct (fixed_rules rules)
+pub fixed_distinct : (rules : List DRule) → AreSound rules → AreDistinct (fixed_rules rules)
 fixed_distinct rules sound = apart_distinct (fixed_rules rules) (AreApart-filter (λ (r : DRule). r.key) is_fixed rules sound.distinct)
 
 -- ---- how many
 
-counted_key : (rules : List DRule) (s : DRule) (keys : List Key) (k : Key) → s.key ≡ Some k → counted rules s keys ≡ times k keys
+pub counted_key : (rules : List DRule) (s : DRule) (keys : List Key) (k : Key) → s.key ≡ Some k → counted rules s keys ≡ times k keys
 counted_key rules s keys k e = ap (λ (o : Option Key). count_by (λ (q : Key). if not (is_some o) then not (is_listed rules q) else option_map_or (same_key q) o false) keys) e
 
-counted_wild : (rules : List DRule) (s : DRule) (keys : List Key) → s.key ≡ None → counted rules s keys ≡ strangers rules keys
+pub counted_wild : (rules : List DRule) (s : DRule) (keys : List Key) → s.key ≡ None → counted rules s keys ≡ strangers rules keys
 counted_wild rules s keys e = ap (λ (o : Option Key). count_by (λ (q : Key). if not (is_some o) then not (is_listed rules q) else option_map_or (same_key q) o false) keys) e
 
 -- none of a key among others
-none_of : (k : Key) (keys : List Key) → ((q : Key) → IsIn q keys → q ≢ k) → times k keys ≡ 0
+pub none_of : (k : Key) (keys : List Key) → ((q : Key) → IsIn q keys → q ≢ k) → times k keys ≡ 0
 none_of k keys other = count_none (λ (q : Key). same_key q k) keys (λ q i. false_from_ne_true (same_key q k) (λ e. other q i (same_key-true q k e)))
 
 -- no rule of these has a key of those
@@ -106,10 +105,10 @@ AreFree rules keys = (q : Key) (r : DRule) → IsIn q keys → IsIn r rules → 
 
 -- ---- ranks
 
-first_rank : (r : DRule) (rules : List DRule) (q : Key) → r.key ≡ Some q → rank (r ∷ rules) q ≡ 0
+pub first_rank : (r : DRule) (rules : List DRule) (q : Key) → r.key ≡ Some q → rank (r ∷ rules) q ≡ 0
 first_rank r rules q e = ap (λ (b : Bool). if b then 0 else suc (rank rules q)) (lists r q e)
 
-later_rank : (r : DRule) (rules : List DRule) (q : Key) → r.key ≢ Some q → rank (r ∷ rules) q ≡ suc (rank rules q)
+pub later_rank : (r : DRule) (rules : List DRule) (q : Key) → r.key ≢ Some q → rank (r ∷ rules) q ≡ suc (rank rules q)
 later_rank r rules q other = ap (λ (b : Bool). if b then 0 else suc (rank rules q)) (lists_not r q other)
 
 pub rank_within : (rules : List DRule) (q : Key) → rank rules q ≤ length rules
@@ -157,7 +156,7 @@ any_order [] = tt
 any_order (k ∷ keys) = (all_in (λ (q : Key). rank [] k ≤ rank [] q) keys (λ q i. omega arith), any_order keys)
 
 -- keys in order by some rules are so by others that rank them alike
-order_as : (rules others : List DRule) (keys : List Key) → ((x y : Key) → IsIn x keys → IsIn y keys → rank rules x ≤ rank rules y → rank others x ≤ rank others y) → InOrder rules keys
+pub order_as : (rules others : List DRule) (keys : List Key) → ((x y : Key) → IsIn x keys → IsIn y keys → rank rules x ≤ rank rules y → rank others x ≤ rank others y) → InOrder rules keys
     → InOrder others keys
 order_as rules others [] alike o = tt
 order_as rules others (k ∷ keys) alike o = (
@@ -166,7 +165,7 @@ order_as rules others (k ∷ keys) alike o = (
 )
 
 -- keys behind a run
-order_behind : (rules : List DRule) (run after : List Key) → InOrder rules (run ++ after) → InOrder rules after
+pub order_behind : (rules : List DRule) (run after : List Key) → InOrder rules (run ++ after) → InOrder rules after
 order_behind rules [] after o = o
 order_behind rules (k ∷ run) after o = order_behind rules run after o.1
 
@@ -205,7 +204,7 @@ runs_order (r ∷ rules) keys rest distinct (run, after, parts, all, bounds, mor
         by (inr h) = free q r h (inl refl) e
 
 -- the runs of rules that are among these have no stranger
-runs_listed : (rules : List DRule) (keys rest : List Key) → Runs (fixed_rules rules) keys rest → strangers rules keys ≡ strangers rules rest
+pub runs_listed : (rules : List DRule) (keys rest : List Key) → Runs (fixed_rules rules) keys rest → strangers rules keys ≡ strangers rules rest
 runs_listed rules keys rest runs =
     let m = all_middle (fixed_rules rules) keys rest runs in
     let here = ap (strangers rules) m.1 in
@@ -216,7 +215,7 @@ runs_listed rules keys rest runs =
     omega (arith, here, both, none)
 
 -- nor the key of a loose rule
-runs_loose : (rules : List DRule) (keys rest : List Key) (r : DRule) (k : Key) → AreSound rules → Runs (fixed_rules rules) keys rest → IsIn r rules → is_fixed r ≡ false → r.key ≡ Some k
+pub runs_loose : (rules : List DRule) (keys rest : List Key) (r : DRule) (k : Key) → AreSound rules → Runs (fixed_rules rules) keys rest → IsIn r rules → is_fixed r ≡ false → r.key ≡ Some k
     → times k keys ≡ times k rest
 runs_loose rules keys rest r k sound runs i f e = runs_none (fixed_rules rules) keys rest k runs (all_in (λ (t : DRule). t.key ≢ Some k) (fixed_rules rules) (λ t j g.
     let p = fixed_part rules t j in
@@ -291,144 +290,3 @@ placed-in_place rules keys sound placed = in_place rules sound keys placed
 pub placed_order : (rules : List DRule) (keys : List Key) (i j : ℕ) (x y : Key) → AreSound rules → Placed rules keys → slice_get keys i ≡ Some x → slice_get keys j ≡ Some y → i < j
     → rank (fixed_rules rules) x ≤ rank (fixed_rules rules) y
 placed_order rules keys i j x y sound placed at at' lt = order_at (fixed_rules rules) keys i j x y (in_place rules sound keys placed).order at at' lt
-
--- ---- keys that come as often as the rules say, and in order, are placed
-
--- keys in order begin with all of the first rule's key
-record FirstRun (r : DRule) (keys : List Key) : Type 0 where
-  run : List Key
-  after : List Key
-  parts : keys ≡ run ++ after
-  all : AllByRecursion (λ key. r.key ≡ Some key) run
-  no_more : (q : Key) → IsIn q after → r.key ≢ Some q
-
--- behind a key of another rule the first rule's key does not come
-none_behind : (r : DRule) (rules : List DRule) (k : Key) (keys : List Key) → InOrder (r ∷ rules) (k ∷ keys) → r.key ≢ Some k → (q : Key) → IsIn q (k ∷ keys) → r.key ≢ Some q
-none_behind r rules k keys o other q (inl same) e = other (e ∙ ap (λ (x : Key). Some x) same)
-none_behind r rules k keys o other q (inr i) e =
-    let le : rank (r ∷ rules) k ≤ rank (r ∷ rules) q = in_all (λ (x : Key). rank (r ∷ rules) k ≤ rank (r ∷ rules) x) q keys o.0 i in
-    let zero_rank = first_rank r rules q e in
-    let some_rank = later_rank r rules k other in
-    omega (arith, le, zero_rank, some_rank)
-
-first_run : (r : DRule) (rules : List DRule) (keys : List Key) → InOrder (r ∷ rules) keys → FirstRun r keys
-first_run r rules [] o = record { run = []; after = []; parts = refl; all = tt; no_more = λ q i e. absurd i }
-first_run r rules (k ∷ keys) o = by (lists_key k r) refl (first_run r rules keys o.1)
-  where
-    by : (b : Bool) → lists_key k r ≡ b → FirstRun r keys → FirstRun r (k ∷ keys)
-    by true e t = record { run = k ∷ t.run; after = t.after; parts = ap (λ (ks : List Key). k ∷ ks) t.parts; all = (key_of_test k r.key e, t.all); no_more = t.no_more }
-    by false e t = record {
-      run = [];
-      after = k ∷ keys;
-      parts = refl;
-      all = tt;
-      no_more = none_behind r rules k keys o (λ same. not_both (lists_key k r) (lists r k same) e);
-    }
-
--- the first rule's key comes as often as its run is long
-times_run : (r : DRule) (keys : List Key) (t : FirstRun r keys) (k : Key) → r.key ≡ Some k → times k keys ≡ length t.run
-times_run r keys t k e =
-    let here = ap (times k) t.parts in
-    let both = count_append (λ (q : Key). same_key q k) t.run t.after in
-    let ones = count_all (λ (q : Key). same_key q k) t.run (all_map (λ (q : Key). r.key ≡ Some q) (λ (q : Key). same_key q k ≡ true)
-    (λ q f. ap (λ (x : Key). same_key x k) (same_Some q k (sym f ∙ e)) ∙ same_key-refl k) t.run t.all) in
-    let zeros = none_of k t.after (λ q i same. t.no_more q i (e ∙ ap (λ (x : Key). Some x) (sym same))) in
-    omega (arith, here, both, ones, zeros)
-
--- and another key as often as it does behind the run
-times_after : (r : DRule) (keys : List Key) (t : FirstRun r keys) (k : Key) → r.key ≢ Some k → times k keys ≡ times k t.after
-times_after r keys t k other =
-    let here = ap (times k) t.parts in
-    let both = count_append (λ (q : Key). same_key q k) t.run t.after in
-    let zeros = none_of k t.run (λ q i same. other (in_all (λ (key : Key). r.key ≡ Some key) q t.run t.all i ∙ ap (λ (x : Key). Some x) same)) in
-    omega (arith, here, both, zeros)
-
-record Behind (rules : List DRule) (keys : List Key) : Type 0 where
-  rest : List Key
-  runs : Runs rules keys rest
-  free : AreFree rules rest
-
-order_after : (r : DRule) (rules : List DRule) (keys : List Key) (t : FirstRun r keys) → InOrder (r ∷ rules) keys → InOrder rules t.after
-order_after r rules keys t o =
-    order_as (r ∷ rules) rules t.after (λ x y i j le. omega (arith, le, later_rank r rules x (t.no_more x i), later_rank r rules y (t.no_more y j)))
-    (order_behind (r ∷ rules) t.run t.after (subst (InOrder (r ∷ rules)) t.parts o))
-
-some_of : (o : Option Key) → IsSome o → (k : Key) × (o ≡ Some k)
-some_of None h = absurd (let e : false ≡ true = h in cc)
-some_of (Some k) h = (k, refl)
-
-free_behind : (r : DRule) (rules : List DRule) (keys : List Key) (t : FirstRun r keys) (b : Behind rules t.after) → AreFree (r ∷ rules) b.rest
-free_behind r rules keys t b q s i (inr j) e = b.free q s i j e
-free_behind r rules keys t b q s i (inl same) e =
-    let m = all_middle rules t.after b.rest b.runs in
-    t.no_more q (subst (λ (ks : List Key). IsIn q ks) (sym m.1) (in_right m.0 b.rest q i)) (ap (λ (x : DRule). x.key) (sym same) ∙ e)
-
--- each of these rules' keys comes as often as the rule says
-abbrev AreAsOften : List DRule → List Key → Type 0
-AreAsOften rules keys = (k : Key) (r : DRule) → IsIn r rules → r.key ≡ Some k → InBounds r (times k keys)
-
-often_after : (r : DRule) (rules : List DRule) (keys : List Key) (t : FirstRun r keys) → AreDistinct (r ∷ rules) → AreAsOften (r ∷ rules) keys → AreAsOften rules t.after
-often_after r rules keys t distinct counts k s i e =
-    subst (InBounds s) (times_after r keys t k (λ f. in_all (λ (x : DRule). (key : Key) → r.key ≡ Some key → x.key ≢ Some key) s rules distinct.0 i k f e)) (counts k s (inr i) e)
-
-order_runs : (rules : List DRule) (keys : List Key) → AreDistinct rules → AllByRecursion (λ r. IsSome r.key) rules → AreAsOften rules keys → InOrder rules keys → Behind rules keys
-order_runs [] keys distinct keyed counts o = record { rest = keys; runs = refl; free = λ q r i j e. absurd j }
-order_runs (r ∷ rules) keys distinct keyed counts o =
-    let t = first_run r rules keys o in
-    let own = some_of r.key keyed.0 in
-    let bounds : InBounds r (length t.run) = subst (InBounds r) (times_run r keys t own.0 own.1) (counts own.0 r (inl refl) own.1) in
-    let b = order_runs rules t.after distinct.1 keyed.1 (often_after r rules keys t distinct counts) (order_after r rules keys t o) in
-    record { rest = b.rest; runs = (t.run, t.after, t.parts, t.all, bounds, b.runs); free = free_behind r rules keys t b }
-
-module _ (rules : List DRule) (sound : AreSound rules) (keys : List Key) (h : AreInPlace rules keys) where
-  behind : Behind (fixed_rules rules) keys
-  behind = order_runs (fixed_rules rules) keys (fixed_distinct rules sound)
-      (all_in (λ (r : DRule). IsSome r.key) (fixed_rules rules) (λ r i. let p = fixed_part rules r i in fixed_key rules r sound p.0 p.1))
-      (λ k r i e. h.counts k r (contains_in rules r (fixed_part rules r i).0, e))
-      h.order
-
-  may_be : (q : Key) → IsIn q behind.rest → MayBeLoose rules q
-  may_be q i = by (is_listed rules q) refl
-    where
-      in_keys : IsIn q keys
-      in_keys = let m = all_middle (fixed_rules rules) keys behind.rest behind.runs in subst (λ (ks : List Key). IsIn q ks) (sym m.1) (in_right m.0 behind.rest q i)
-
-      by_rule : (r : DRule) → IsIn r rules → r.key ≡ Some q → (f : Bool) → is_fixed r ≡ f → MayBeLoose rules q
-      by_rule r j e true f = absurd (behind.free q r i (into_filter is_fixed rules r j f) e)
-      by_rule r j e false f = inl (is_listed_by (loose_rules rules) q r (into_loose rules r j f) e)
-
-      by : (b : Bool) → is_listed rules q ≡ b → MayBeLoose rules q
-      by true e = let r = listed rules q e in by_rule r.0 r.1 r.2 (is_fixed r.0) refl
-      by false e = inr (e, h.allowed q (contains_in keys q in_keys) e)
-
-  loose_bounds : (r : DRule) (o : Option Key) → IsIn r rules → is_fixed r ≡ false → r.key ≡ o → InBounds r (counted rules r behind.rest)
-  loose_bounds r (Some k) i f e =
-      subst (InBounds r) (runs_loose rules keys behind.rest r k sound behind.runs i f e ∙ sym (counted_key rules r behind.rest k e)) (h.counts k r (contains_in rules r i, e))
-  loose_bounds r None i f e =
-      subst (InBounds r) (runs_listed rules keys behind.rest behind.runs ∙ sym (counted_wild rules r behind.rest e)) (h.others r (contains_in rules r i, e))
-
-  are_placed : Placed rules keys
-  are_placed = record {
-    rest = behind.rest;
-    runs = behind.runs;
-    loose = all_in (MayBeLoose rules) behind.rest may_be;
-    counts = all_in (λ (r : DRule). InBounds r (counted rules r behind.rest)) (loose_rules rules) (λ r i. let p = loose_part rules r i in loose_bounds r r.key p.0 p.1 refl);
-  }
-
-pub in_place-placed : (rules : List DRule) (keys : List Key) → AreSound rules → AreInPlace rules keys → Placed rules keys
-in_place-placed rules keys sound h = are_placed rules sound keys h
-
--- ---- what ranks are
-
-pub rank_fixed : (rules : List DRule) (i : ℕ) (r : DRule) (k : Key) → AreSound rules → slice_get (fixed_rules rules) i ≡ Some r → r.key ≡ Some k → rank (fixed_rules rules) k ≡ i
-rank_fixed rules i r k sound at e = rank_at (fixed_rules rules) i r k (fixed_distinct rules sound) at e
-
-pub rank_other : (rules : List DRule) (k : Key) → ((r : DRule) → HasRule (fixed_rules rules) k r → ⊥) → rank (fixed_rules rules) k ≡ length (fixed_rules rules)
-rank_other rules k none = rank_of_none (fixed_rules rules) k (λ r i e. none r (contains_in (fixed_rules rules) r i, e))
-
--- where the fixed rules stand first, a fixed rule's key ranks by the rule's place among all
-pub rank_rule : (rules : List DRule) (i : ℕ) (r : DRule) (k : Key) → AreRules rules → slice_get rules i ≡ Some r → is_fixed r ≡ true → r.key ≡ Some k → rank (fixed_rules rules) k ≡ i
-rank_rule rules i r k are at f e =
-    let p = at_in (fixed_rules rules) r (into_filter is_fixed rules r (in_at rules i r at) f) in
-    let same : p.place ≡ i = are.distinct p.place i r r (fixed_place rules p.place r are p.at).0 at refl in
-    rank_fixed rules p.place r k (rules_sound rules are) p.at e ∙ same

@@ -1,4 +1,5 @@
 pub mod CountsAndRanks
+pub mod KeysInPlace
 pub mod Breaches
 pub mod LeastLevels
 pub mod Orders

@@ -15,7 +15,8 @@ use Rattle.dia_valid.proofs.Members.{IsIn, in_at, in_contains, in_filter, into_f
 use Rattle.dia_valid.proofs.RulesOfKeys.{is_listed_by}
 use Rattle.dia_breaking_levels.specs.CountsAndRanks.{AreSound, rank}
 use Rattle.dia_breaking_levels.specs.Places.{place_of, place}
-use Rattle.dia_breaking_levels.proofs.CountsAndRanks.{rules_sound, one_rule, rank_rule, rank_other}
+use Rattle.dia_breaking_levels.proofs.CountsAndRanks.{rules_sound, one_rule}
+use Rattle.dia_breaking_levels.proofs.KeysInPlace.{rank_rule, rank_other}
 use Rattle.dia_breaking_levels.proofs.LeastLevels.{not_both}
 use Rattle.dia_breaking_levels.proofs.LineBounds.{no_rule}
 

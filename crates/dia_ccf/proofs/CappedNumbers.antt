@@ -11,7 +11,7 @@ use Rattle.dia_ccf.specs.Limits.{max_number, max_command_code, max_value}
 use Rattle.dia_ccf.specs.LexerTokens.{capped}
 use Rattle.dia_ccf.specs.Machine.{State, Place, HeadPlace, number_at, next, step, next_in_head, whole, refused, outcome, Outcome, Reads, Stops, gone_on, ended, Decl_code, Decl_number, In_values}
 use Rattle.dia_ccf.specs.Machine.{After_value, After_dots, In_head, Rules, Qual_star, After_angle, Loose_close, sign_at, closing_sign, Command_code, Group_code, Flags, Group_vendor}
-use Rattle.dia_ccf.proofs.MachineCompleteness.{and_false}
+use Rattle.dia_ccf.proofs.DeclarationCompleteness.{and_false}
 
 cap_size : (least most n m : ℕ) (b c : Bool) → nat_le n most ≡ b → nat_le m most ≡ c → m ≡ min n 4294967296 → most < 4294967296 → number_at least most (Number m) ≡ number_at least most (Number n)
 cap_size least most n m true c e f is small =

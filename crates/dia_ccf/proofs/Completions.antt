@@ -19,7 +19,7 @@ use Rattle.dia_terms.specs.Formats.{is_enumerated}
 use Rattle.dia_ccf.specs.Machine.{slot_at, Outcome, Reads, Stops, outcome}
 use Rattle.dia_ccf.proofs.TokenTests.{number_at-is}
 use Rattle.dia_ccf.proofs.MachineRuns.{take_one, number_at-some}
-use Rattle.dia_ccf.proofs.MachineCompleteness.{and_false}
+use Rattle.dia_ccf.proofs.DeclarationCompleteness.{and_false}
 
 -- ---- the places where the machine can stand
 

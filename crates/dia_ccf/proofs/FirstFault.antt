@@ -27,7 +27,7 @@ use Rattle.dia_ccf.proofs.MachineSoundness.{sound}
 use Rattle.dia_ccf.proofs.MachineCompleteness.{complete}
 use Rattle.dia_ccf.proofs.Completions.{is_sound, sound_next, can_complete}
 use Rattle.dia_ccf.proofs.TokenTests.{some_is, number_at-is}
-use Rattle.dia_ccf.proofs.MachineCompleteness.{and_false}
+use Rattle.dia_ccf.proofs.DeclarationCompleteness.{and_false}
 use Rattle.dia_ccf.proofs.WantedBehind.{wanted_behind}
 use Rattle.dia_ccf.proofs.WhatIsWanted.{next_some, whole_some}
 use Rattle.dia_ccf.proofs.MachineRuns.{take_one, number_at-some}

@@ -2,11 +2,13 @@ pub mod WorkedTexts
 pub mod TokensOfTexts
 pub mod TokensFromPlaces
 pub mod TextsOfClasses
+pub mod CanonicalHeads
 pub mod CanonicalTexts
 pub mod TokenTests
 pub mod WordTests
 pub mod WhatFollows
 pub mod WhatFollowsInHeads
+pub mod StepsBack
 pub mod MachineSoundness
 pub mod MachineRuns
 pub mod ReaderSteps
@@ -14,6 +16,7 @@ pub mod ReaderInHeads
 pub mod ReaderInDeclarations
 pub mod ReaderInRules
 pub mod HeadCompleteness
+pub mod DeclarationCompleteness
 pub mod MachineCompleteness
 pub mod Completions
 pub mod WantedBehind

@@ -24,7 +24,7 @@ use Rattle.dia_ccf.specs.ReaderFunctions.{course, left, begins_with, why_ahead, 
 use Rattle.dia_ccf.specs.Grammar.{rule_word}
 use Rattle.dia_ccf.proofs.TokenTests.{word-is, rule_named-word}
 use Rattle.dia_ccf.proofs.MachineRuns.{outcome_same}
-use Rattle.dia_ccf.proofs.MachineCompleteness.{and_false}
+use Rattle.dia_ccf.proofs.DeclarationCompleteness.{and_false}
 use Rattle.dia_ccf.proofs.ReaderSteps.{accepted, wants_all, passes_one, takes_sign, stays, leads_along}
 use Rattle.dia_ccf.proofs.ReaderInRules.{and_true}
 

@@ -17,7 +17,7 @@ use Rattle.dia_ccf.specs.Machine.{why, Fixed_name, After_angle, Def_assign, next
 use Rattle.dia_ccf.specs.ReaderFunctions.{left, begins_with, Takes, Accepts, Leads, course, Wants}
 use Rattle.dia_ccf.proofs.MachineRuns.{outcome_same}
 use Rattle.dia_ccf.proofs.WhatFollows.{in_order, still_fixed, still_loose}
-use Rattle.dia_ccf.proofs.MachineCompleteness.{and_false}
+use Rattle.dia_ccf.proofs.DeclarationCompleteness.{and_false}
 use Rattle.dia_ccf.proofs.TokenTests.{same_sign-is}
 use Rattle.dia_ccf.proofs.ReaderSteps.{takes_sign, passes_one, accepted, wants_all, leads_along}
 

@@ -32,7 +32,7 @@ use Rattle.dia_ccf.specs.Machine.{on_rules, begins_qualifier, begins_loose, step
 use Rattle.dia_ccf.specs.Wanting.{wanted_at, wanted_in_head, value_of, small_value, behind, behind_all, behind_item, behind_value, next_wanted, behind_loose}
 use Rattle.dia_ccf.specs.Wanting.{behind_bracket, behind_rule, behind_in_rules, behind_in_declaration, behind_in_head}
 use Rattle.dia_ccf.proofs.TokenTests.{same_sign-is, number_at-is, format_at-is}
-use Rattle.dia_ccf.proofs.MachineCompleteness.{and_false}
+use Rattle.dia_ccf.proofs.DeclarationCompleteness.{and_false}
 use Rattle.dia_ccf.proofs.MachineRuns.{number_at-some}
 use Rattle.dia_ccf.proofs.Completions.{is_sound}
 use Rattle.dia_ccf.proofs.CappedNumbers.{number_capped}

@@ -17,6 +17,7 @@ pub mod Duplicates
 pub mod Distinct
 pub mod FaultlessSources
 pub mod DerivedSources
+pub mod SoundRules
 pub mod SoundSources
 pub mod BaseRows
 pub mod BaseSound

@@ -16,7 +16,9 @@ pub mod OneAnswer
 pub mod FirstFailedTest
 pub mod FailedPairs
 pub mod ReachedKeys
+pub mod FollowedKeys
 pub mod CommandsByCode
+pub mod CommandsBeside
 pub mod WantedDefinitions
 pub mod NamedCommands
 pub mod OneProposal

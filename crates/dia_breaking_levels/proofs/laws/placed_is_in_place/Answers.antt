@@ -1,4 +1,5 @@
-use Rattle.dia_breaking_levels.proofs.CountsAndRanks.{placed-in_place, in_place-placed}
+use Rattle.dia_breaking_levels.proofs.CountsAndRanks.{placed-in_place}
+use Rattle.dia_breaking_levels.proofs.KeysInPlace.{in_place-placed}
 use Rattle.dia_breaking_levels.proofs.laws.placed_is_in_place.Goals as goal
 
 pub returns : goal.returns

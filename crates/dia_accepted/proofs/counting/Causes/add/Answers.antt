@@ -1,4 +1,4 @@
-use Rattle.std.proofs.Common.{refl, [], ◌∙◌}
+use Rattle.std.proofs.Common.{refl, ◌∙◌}
 use Rattle.dia_accepted.specs.Accepted.{plain_told}
 use Rattle.dia_accepted.specs.declared.told.Told.{Told}
 use Rattle.dia_accepted.proofs.Tallies.{causes_more, pushed_told}

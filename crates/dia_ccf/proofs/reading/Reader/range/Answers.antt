@@ -8,7 +8,7 @@ use Rattle.dia_ccf.specs.Machine.{Outcome, In_values, After_value, After_dots, i
 use Rattle.dia_ccf.specs.ReaderFunctions.{course, left, begins_with, Wants}
 use Rattle.dia_ccf.proofs.TokenTests.{number_at-is}
 use Rattle.dia_ccf.proofs.MachineRuns.{outcome_same, number_at-some}
-use Rattle.dia_ccf.proofs.MachineCompleteness.{and_false}
+use Rattle.dia_ccf.proofs.DeclarationCompleteness.{and_false}
 use Rattle.dia_ccf.proofs.ReaderSteps.{accepted, takes_sign, leads_along, exits}
 use Rattle.dia_ccf.proofs.reading.Reader.range.Goals as goal
 

@@ -4,7 +4,7 @@ use Rattle.dia_terms.specs.Formats.{is_enumerated}
 use Rattle.dia_ccf.specs.Tokens.{Open_parenthesis}
 use Rattle.dia_ccf.specs.Machine.{Between, add_decl, same_sign}
 use Rattle.dia_ccf.specs.ReaderFunctions.{course, left, begins_with}
-use Rattle.dia_ccf.proofs.MachineCompleteness.{and_false}
+use Rattle.dia_ccf.proofs.DeclarationCompleteness.{and_false}
 use Rattle.dia_ccf.proofs.ReaderInDeclarations.{enumerated_is, values_opened, no_values}
 use Rattle.dia_ccf.proofs.reading.Reader.values.Goals as goal
 use Rattle.dia_ccf.proofs.reading.Reader.values.Goals.{else-eq-via-then-eq+else-takes, else-eq-via-else-eq}

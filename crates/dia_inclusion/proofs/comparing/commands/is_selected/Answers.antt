@@ -6,7 +6,7 @@ use Rattle.dia_book.specs.Dictionary.{PlainDefinition, plain_definition}
 use Rattle.dia_book.specs.declared.Definition.{Definition}
 use Rattle.dia_inclusion.specs.Sides.{Sides}
 use Rattle.dia_inclusion.specs.PairTests.{plain_names, serves, is_pair, is_ready}
-use Rattle.dia_inclusion.proofs.CommandsByCode.{selected_listed, selected_unlisted, selected_only}
+use Rattle.dia_inclusion.proofs.CommandsBeside.{selected_listed, selected_unlisted, selected_only}
 use Rattle.dia_inclusion.proofs.comparing.commands.is_selected.Goals as goal
 
 pub returns-in-Some-of_code : goal.returns-in-Some-of_code

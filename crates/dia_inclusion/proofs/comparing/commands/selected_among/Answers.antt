@@ -5,7 +5,7 @@ use Rattle.dia_inclusion.specs.Sides.{Sides}
 use Rattle.dia_inclusion.specs.PairTests.{plain_names, is_selected}
 use Rattle.dia_valid.proofs.SelectedCommands.{command_at}
 use Rattle.dia_inclusion.proofs.PlacesOfCommands.{command_head, within}
-use Rattle.dia_inclusion.proofs.CommandsByCode.{map_more}
+use Rattle.dia_inclusion.proofs.CommandsBeside.{map_more}
 use Rattle.dia_inclusion.proofs.comparing.commands.selected_among.Goals as goal
 
 pub loop-index-preserved : goal.loop-index-preserved

@@ -3,7 +3,7 @@ use Rattle.std.specs.Prelude.{slice_get}
 use Rattle.dia_book.specs.Dictionary.{Dictionary, plain_definition, definitions, groups}
 use Rattle.dia_inclusion.specs.Sides.{Sides}
 use Rattle.dia_inclusion.proofs.PlacesOfCommands.{within}
-use Rattle.dia_inclusion.proofs.CommandsByCode.{pair_fails, pair_fails_tenth}
+use Rattle.dia_inclusion.proofs.CommandsBeside.{pair_fails, pair_fails_tenth}
 use Rattle.dia_inclusion.proofs.comparing.pair_tests.failed_commands.Goals as goal
 
 pub failed_definitions-requires-clause-first : goal.failed_definitions-requires-clause-first

@@ -5,7 +5,7 @@ use Rattle.std.specs.Prelude.{String}
 use Rattle.std.specs.Global.{Global}
 use Rattle.dia_tables.specs.TableText.{plain_pair}
 use Rattle.dia_inclusion.specs.PairTests.{plain_names, is_pair}
-use Rattle.dia_inclusion.proofs.CommandsByCode.{same_selected}
+use Rattle.dia_inclusion.proofs.CommandsBeside.{same_selected}
 use Rattle.dia_inclusion.proofs.comparing.pairs.selected_by.Goals as goal
 
 pub returns : goal.returns

@@ -7,7 +7,7 @@ use Rattle.dia_book.specs.Dictionary.{plain_definition}
 use Rattle.dia_book.specs.declared.Definition.{Definition}
 use Rattle.dia_tables.specs.TableText.{plain_pair}
 use Rattle.dia_inclusion.proofs.WantedDefinitions.{pairs_more}
-use Rattle.dia_inclusion.proofs.CommandsByCode.{item_there}
+use Rattle.dia_inclusion.proofs.CommandsBeside.{item_there}
 use Rattle.dia_inclusion.proofs.proposing.wanting.push_all_wanted.Goals as goal
 
 pub loop-other-preserved : goal.loop-other-preserved

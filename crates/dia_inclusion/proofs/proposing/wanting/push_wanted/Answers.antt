@@ -7,7 +7,7 @@ use Rattle.std.specs.Borrow.{Bor}
 use Rattle.dia_inclusion.specs.Sides.{Sides}
 use Rattle.dia_tables.specs.TableText.{plain_pair}
 use Rattle.dia_inclusion.specs.WantedNames.{wanted_name, AddsPairs}
-use Rattle.dia_inclusion.proofs.CommandsByCode.{names_listed, names_unlisted, names_only}
+use Rattle.dia_inclusion.proofs.CommandsBeside.{names_listed, names_unlisted, names_only}
 use Rattle.dia_inclusion.proofs.proposing.wanting.push_wanted.Goals as goal
 
 pub returns-in-Some-of_code : goal.returns-in-Some-of_code

@@ -6,7 +6,7 @@ use Rattle.dia_book.specs.declared.DefHead.{DefHead}
 use Rattle.dia_book.specs.Dictionary.{IsCommandHead}
 use Rattle.dia_dict.specs.SourceChecks.{PlacedDef, placed_def, told_selector}
 use Rattle.dia_dict.proofs.BaseRows.{row_passes}
-use Rattle.dia_dict.proofs.SoundSources.{head_of-command}
+use Rattle.dia_dict.proofs.SoundRules.{head_of-command}
 use Rattle.dia_dict.proofs.resolving.finding.entries.selecting.Goals as goal
 
 pub of-selector-requires : goal.of-selector-requires

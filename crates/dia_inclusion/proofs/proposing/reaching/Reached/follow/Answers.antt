@@ -4,7 +4,8 @@ use Rattle.dia_wire.specs.declared.Key.{Key}
 use Rattle.dia_book.specs.declared.DRule.{DRule}
 use Rattle.dia_inclusion.specs.declared.proposing.reaching.Reached.{Reached}
 use Rattle.dia_inclusion.specs.ReachedKeys.{IsShared, Admits, ComesToAll}
-use Rattle.dia_inclusion.proofs.ReachedKeys.{following_none, follow_group, follow_none, following_all, taken_nearer, rules_at}
+use Rattle.dia_inclusion.proofs.ReachedKeys.{rules_at}
+use Rattle.dia_inclusion.proofs.FollowedKeys.{following_none, follow_group, follow_none, following_all, taken_nearer}
 use Rattle.dia_inclusion.proofs.proposing.reaching.Reached.follow.Goals as goal
 
 pub loop-key-init : goal.loop-key-init

@@ -1,5 +1,5 @@
 use Rattle.dia_inclusion.specs.ReachedKeys.{potential}
-use Rattle.dia_inclusion.proofs.ReachedKeys.{Following}
+use Rattle.dia_inclusion.proofs.FollowedKeys.{Following}
 use Rattle.dia_inclusion.proofs.proposing.reaching.Reached.follow.Given as goal
 
 abbrev pub invariant-loop-key : goal.invariant-loop-key
