@@ -1,7 +1,7 @@
 -- Look-ups by name: two texts are one where their bytes are.
-use Rattle.std.proofs.Common.{◌≡◌, ℕ, Bool, true, false, cond, List, [], ◌∷◌, length, map, Option, Some, None, refl, sym, ap, ◌∙◌, arith, Bor, Decides, nat_lt}
+use Rattle.std.proofs.Common.{◌≡◌, ℕ, Bool, true, false, cond, List, [], ◌∷◌, length, map, Some, None, refl, sym, ap, ◌∙◌, arith, Bor, Decides, nat_lt}
 use Rattle.std.specs.Prelude.{slice_get, position, find, option_and_then}
-use Rattle.std.specs.List.{position_or_len, list_any}
+use Rattle.std.specs.List.{position_or_len}
 use Rattle.std.specs.Option.{option_map}
 use Rattle.std.specs.Str.{bytes_eq}
 use Rattle.std.proofs.lemmas.Bool.{ltb-false}
@@ -10,7 +10,7 @@ use Rattle.std.proofs.lemmas.List.Folds.{find_at}
 use Rattle.std.proofs.lemmas.Option.{slice_get_past}
 use Rattle.std.proofs.lemmas.Slice.Eq.{bytes_eq-Decides}
 use Rattle.dia_terms.specs.Names.{same_bytes}
-use Rattle.dia_book.proofs.Lists.{position-map, list_any-map}
+use Rattle.dia_book.proofs.Lists.{position-map}
 
 pub same_bytes-Decides : (a b : List ℕ) → Decides (same_bytes a b) (a ≡ b)
 same_bytes-Decides = bytes_eq-Decides
@@ -42,19 +42,5 @@ pub place_of_name : {X : Type 0} (name : X → List ℕ) (xs : List X) (keys : L
 place_of_name name xs keys all text =
     sym (position-map (λ (k : Bor (List ℕ)). k.now) (bytes_eq text) keys) ∙ ap (position (bytes_eq text)) all ∙ position-map name (bytes_eq text) xs
 
--- what is found by a name is what stands at its place
-pub found_by_name : {X Y : Type 0} (f : X → Y) (name : Y → List ℕ) (xs : List X) (keys : List (Bor (List ℕ))) → map (λ (k : Bor (List ℕ)). k.now) keys ≡ map (λ x. name (f x)) xs
-    → (text : List ℕ) (place : Option ℕ) → place ≡ position (λ (k : Bor (List ℕ)). bytes_eq text k.now) keys
-    → find (λ y. same_bytes text (name y)) (map f xs) ≡ option_map f (option_and_then (slice_get xs) place)
-found_by_name f name xs keys all text place e =
-    find-map f (λ y. same_bytes text (name y)) xs ∙ ap (option_map f) (find-place (λ x. same_bytes text (name (f x))) xs
-    ∙ ap (option_and_then (slice_get xs)) (sym (e ∙ place_of_name (λ x. name (f x)) xs keys all text)))
-
 pub length_by_name : {X : Type 0} (name : X → List ℕ) (xs : List X) (keys : List (Bor (List ℕ))) → map (λ (k : Bor (List ℕ)). k.now) keys ≡ map name xs → length keys ≡ length xs
 length_by_name name xs keys all = omega (arith, ap length all, length-map keys (λ (k : Bor (List ℕ)). k.now), length-map xs name)
-
-pub list_any_by_name : {X Y : Type 0} (f : X → Y) (name : Y → List ℕ) (xs : List X) (keys : List (Bor (List ℕ))) → map (λ (k : Bor (List ℕ)). k.now) keys ≡ map (λ x. name (f x)) xs
-    → (text : List ℕ) → list_any (λ (k : Bor (List ℕ)). bytes_eq text k.now) keys ≡ list_any (λ y. same_bytes text (name y)) (map f xs)
-list_any_by_name f name xs keys all text =
-    sym (list_any-map (λ (k : Bor (List ℕ)). k.now) (bytes_eq text) keys) ∙ ap (list_any (bytes_eq text)) all ∙ list_any-map (λ x. name (f x)) (bytes_eq text) xs
-    ∙ sym (list_any-map f (λ y. same_bytes text (name y)) xs)

@@ -11,7 +11,7 @@ use Rattle.clap.specs.Words.{App, HasKind, fault_of, kind_of, subcommand_of}
 use Rattle.clap.specs.declared.builder.value_parser.ValueParser.TheVariants as vp
 use Rattle.clap.specs.declared.error.Error.{Error}
 use Rattle.clap.specs.declared.error.kind.ErrorKind.TheVariants.{OutOfMemory}
-use Rattle.dia_cli.specs.Asking.{IsAtFault, IsProgram, IsRefused, IsRequestOf, IsUnrun, is_asked}
+use Rattle.dia_cli.specs.Asking.{IsAtFault, IsProgram, IsRefused, IsRequestOf, IsUnrun}
 use Rattle.dia_cli.specs.Words.{is_limit}
 use Rattle.dia_cli.specs.Origins.{reads_twice}
 use Rattle.dia_cli.specs.Request.{read_once}
@@ -83,9 +83,3 @@ pub none_is_refused : {T : Type 0} (line : App) (words : List Text) (read : Resu
 none_is_refused line words (Ok x) program made = absurd made
 none_is_refused line words (Err ending) program made =
     (line, program, subst (λ e. IsAtFault (fault_of line words) e ⊎ IsUnrun (subcommand_of line words) e) (sym made) (inr tt))
-
--- out of memory, or what clap tells, where there is no request
-pub told_is_unrun : (found : Option (Text × List Row)) (error : Error) (made : Ending) → is_asked found ≡ false
-    → ((kind_of error ≡ OutOfMemory) × (made ≡ NoMemory)) ⊎ ((kind_of error ≢ OutOfMemory) × (made ≡ Told error)) → IsUnrun found made
-told_is_unrun found error made unasked (inl memory) = subst (IsUnrun found) (sym memory.1) tt
-told_is_unrun found error made unasked (inr told) = subst (IsUnrun found) (sym told.1) unasked
