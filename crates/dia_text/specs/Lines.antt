@@ -93,17 +93,7 @@ start_at d text =
     Ok (record { code = code; flags = None; app = None }, behind_word (behind_word text)))
     else (start_named d (first_word text) >>= λ start. Ok (start, behind_word text))
 
-unfoldable pub header_at : Dictionary → List ℕ → Result Header Kind
-header_at d text = do
-  start ← start_at d text
-  flags ← flags_field header_letters start.0.flags start.1
-  app ← number_field (codes "app") start.0.app flags.1
-  hop ← number_field (codes "hop") None app.1
-  e2e ← number_field (codes "end") None hop.1
-  end ← no_more e2e.1
-  Ok (record { flags = flags.0; code = start.0.code; app = app.0; hop = hop.0; e2e = e2e.0 })
-
--- what `header_at` reads behind the flags
+-- the numbers behind the flags
 abbrev pub header_behind : Start → ℕ → List ℕ → Result Header Kind
 header_behind start flags text = do
   app ← number_field (codes "app") start.app text
@@ -111,6 +101,12 @@ header_behind start flags text = do
   e2e ← number_field (codes "end") None hop.1
   end ← no_more e2e.1
   Ok (record { flags = flags; code = start.code; app = app.0; hop = hop.0; e2e = e2e.0 })
+
+unfoldable pub header_at : Dictionary → List ℕ → Result Header Kind
+header_at d text = do
+  start ← start_at d text
+  flags ← flags_field header_letters start.0.flags start.1
+  header_behind start.0 flags.0 flags.1
 
 -- a line in front of the header, or the header
 unfoldable pub header_of : Dictionary → List ℕ → Result (Option Header) Kind
