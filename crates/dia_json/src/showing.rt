@@ -19,7 +19,7 @@ use dia_dict::{Book, IndexedBook};
 use dia_io::{Exit, Inputs};
 use dia_refused_json::{quoted, refuse};
 use dia_report::{Answered, CutListing, Refused, Report};
-use dia_run::{read_dictionary, read_message};
+use dia_run::{listing_exit, read_dictionary, read_message};
 use dia_wire::{HEADER_LENGTH, Header, split_message};
 use std::alloc::{AllocError, Global};
 
@@ -97,13 +97,6 @@ fn objects_of<B: Book>(
     let bad = push_level(alloc, &mut text, book, body, HEADER_LENGTH)?;
     let exit = listing_exit(bad);
     Ok(Shown { text, exit })
-}
-
-/// How a listing ends that may end at a bad length.
-fn listing_exit(bad: bool) -> Exit
-    ensures { result ≡ listing_exit bad }
-{
-    if bad { Exit::No } else { Exit::Yes }
 }
 
 /// Adds the object of a header. `size` is the Message Length.

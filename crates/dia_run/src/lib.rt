@@ -23,7 +23,7 @@ mod running;
 
 pub use commands::check::{push_subject, verdict};
 pub use commands::compare::{test_word, told_answer};
-pub use commands::show::{push_vendor, show_message};
+pub use commands::show::{listing_exit, push_vendor, show_message};
 pub use commands::{Outcome, answer_of, outcome_of, told};
 pub use dia_io::{
     Command, Exit, Failed, Feed, FromReader, Input, InputFault, Inputs, RunFault, Sink, ToWriter,

@@ -5,7 +5,7 @@ ghost use Rattle.std.specs.Io.KnownBytes.{Appends};
 ghost use Rattle.dia_io.specs.declared.Exit.{Exit as AnyExit};
 ghost use Rattle.dia_io.specs.Writing.{AppendsFront};
 ghost use Rattle.dia_report.specs.Refusals.{bad_input_text};
-ghost use Rattle.dia_run.specs.Outcome.{Ends, listing_exit};
+ghost use Rattle.dia_run.specs.Outcome.{Ends};
 ghost use Rattle.dia_run.specs.Report.{IsReadFrom};
 ghost use Rattle.dia_run.specs.Texts.{line};
 ghost use Rattle.dia_show.specs.Manners.{plain_manner_of};
@@ -22,7 +22,7 @@ use crate::reporting::{Answered, Report, Reported};
 use dia_dict::{Book, IndexedBook};
 use dia_io::{Exit, Inputs, RunFault, Sink, put_all};
 use dia_report::{BadInput, CutListing, ReadBook, Refused};
-use dia_run::{Outcome, read_dictionary, read_message};
+use dia_run::{Outcome, listing_exit, read_dictionary, read_message};
 use dia_wire::{HEADER_LENGTH, split_message};
 use std::alloc::{AllocError, Global};
 
@@ -139,11 +139,4 @@ pub fn show_message<B: Book>(
     let bad = push_level(alloc, &mut text, manner, book, body, HEADER_LENGTH)?;
     let exit = listing_exit(bad);
     Ok(Outcome { text, exit })
-}
-
-/// How a listing ends that may end at a bad length.
-fn listing_exit(bad: bool) -> Exit
-    ensures { result ≡ listing_exit bad }
-{
-    if bad { Exit::No } else { Exit::Yes }
 }

@@ -72,8 +72,8 @@ fn push_header(text: &mut String, header: &Header, length: usize) -> Result<(), 
     )
 }
 
-/// How a listing ends that may end at a bad length.
-fn listing_exit(bad: bool) -> Exit
+/// How a listing ends: with `No` where it stops at a bad length.
+pub fn listing_exit(bad: bool) -> Exit
     ensures { result ≡ listing_exit bad }
 {
     if bad { Exit::No } else { Exit::Yes }
