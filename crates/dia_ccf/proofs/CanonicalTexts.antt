@@ -115,7 +115,7 @@ all_loose (r ∷ rules) h =
     let parts = and_parts (not (is_fixed r.kind)) (list_all (λ k. not (is_fixed k)) (map (λ r. r.kind) rules)) h in
     (loose_kind r.kind parts.0, all_loose rules parts.1)
 
-fixed_first_splits : (rules : List Rule) → fixed_first (map (λ r. r.kind) rules) ≡ true → FixedFirst (map plain_rule rules)
+pub fixed_first_splits : (rules : List Rule) → fixed_first (map (λ r. r.kind) rules) ≡ true → FixedFirst (map plain_rule rules)
 fixed_first_splits [] h = ([], [], refl, tt, tt)
 fixed_first_splits (r ∷ rules) h =
     let kinds = map (λ r. r.kind) rules in

@@ -26,4 +26,6 @@ pub mod CappedNumbers
 pub mod ReaderFindings
 pub mod ReaderAdvances
 pub mod OneFault
+pub mod ReaderPlaces
+pub mod HeadTokens
 pub mod ReaderAnswers

@@ -7,6 +7,7 @@ pub mod Lexemes
 pub mod Plain
 pub mod Grammar
 pub mod Faults
+pub mod Places
 pub mod CanonicalText
 pub mod Machine
 pub mod Wanting

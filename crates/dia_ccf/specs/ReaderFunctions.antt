@@ -1,5 +1,5 @@
 -- What the functions of the reader do, in terms of the machine.
-use Rattle.std.specs.Prelude.{◌≡◌, ℕ, ◌+◌, ◌<◌, ◌≤◌, Bool, true, false, IsTrue, List, [], ◌∷◌, ◌++◌, Option, Some, None, Result, Ok, Err, MatchBool, is_some, length, string_bytes}
+use Rattle.std.specs.Prelude.{◌≡◌, ℕ, ◌+◌, ◌<◌, ◌≤◌, Bool, true, false, IsTrue, List, [], ◌∷◌, ◌++◌, Option, Some, None, Result, Ok, Err, MatchBool, is_some, length, drop, codes, string_bytes}
 use Rattle.std.specs.Option.{option_map}
 use Rattle.dia_ccf.specs.declared.reading.refusal.Refusal.{Refusal}
 use Rattle.dia_ccf.specs.declared.reading.refusal.Refusal.TheVariants as refusal
@@ -9,14 +9,23 @@ use Rattle.dia_ccf.specs.declared.fault.CcfFault.{CcfFault}
 use Rattle.dia_ccf.specs.declared.fault.CcfFault.TheVariants as faults
 use Rattle.dia_ccf.specs.declared.refused.Refused.{Refused}
 use Rattle.dia_ccf.specs.declared.refused.Refused.TheVariants as refuseds
-use Rattle.dia_ccf.specs.Tokens.{Token, Comma, line_at}
+use Rattle.dia_ccf.specs.Tokens.{Token, Comma, Close_bracket, line_at, tokens}
+use Rattle.dia_ccf.specs.Faults.{place_of}
+use Rattle.dia_ccf.specs.Places.{RuleStands, opened}
+use Rattle.dia_terms.specs.declared.Pxy.{Pxy}
+use Rattle.dia_terms.specs.declared.Pxy.TheVariants.{Either}
+use Rattle.dia_ccf.specs.declared.source.Head.{Head}
+use Rattle.dia_ccf.specs.declared.source.Head.TheVariants.{Group, Command, Error}
+use Rattle.dia_ccf.specs.Limits.{max_number, max_command_code}
+use Rattle.dia_terms.specs.Formats.{format_word}
+use Rattle.dia_ccf.specs.Grammar.{Tokens, ◌then◌, one, nothing, either, keyword, comma, flag, application, group_vendor, error_proxy, name, number, vendor, word, values, rule_word, rule as rule_tokens}
 use Rattle.dia_ccf.specs.LexerTokens.{left_from}
 use Rattle.dia_ccf.specs.declared.reading.definitions.Opening.{Opening}
 use Rattle.dia_ccf.specs.declared.reading.definitions.Behind.{Behind}
 use Rattle.dia_ccf.specs.declared.reading.definitions.Behind.TheVariants as behinds
 use Rattle.dia_terms.specs.declared.RuleKind.TheVariants.{Fixed}
 use Rattle.dia_ccf.specs.Names.{is_name}
-use Rattle.dia_ccf.specs.Plain.{PlainSource, PlainDef, plain_source, plain_rule}
+use Rattle.dia_ccf.specs.Plain.{PlainSource, PlainDecl, PlainDef, plain_source, plain_rule}
 use Rattle.dia_ccf.specs.Machine.{State, Place, Between, Def_assign, Rules, add_def, with_rule, Outcome, Reads, Stops, outcome, next, whole, refused, why, is_keyword, same_sign}
 
 -- the tokens from the one ahead on
@@ -111,6 +120,65 @@ Goes found old new = old ≤ new
 abbrev pub Finishes : Course → Result Source Refusal → Reader → Type 0
 Finishes from (Ok source) new = from ≡ (new.text.now, Reads (plain_source source))
 Finishes from (Err error) new = StopsAt from error new
+
+-- the tokens of the text from the one ahead on
+abbrev pub still : Reader → List Token
+still reader = drop reader.taken (tokens reader.text.now)
+
+-- the tokens that were passed are of the class
+abbrev pub Derived : Tokens → Reader → Reader → Type 0
+Derived class old new = (front : List Token) × (still old ≡ front ++ still new) × class front × (old.text.now ≡ new.text.now)
+
+-- a declaration behind its `%avp`
+abbrev pub declaring : PlainDecl → Tokens
+declaring d = name d.name then number max_number d.code then vendor d.vendor then word (format_word d.format) then word (rule_word d.rule) then values d.format d.values
+
+-- a comma that was read and belongs to what comes next
+abbrev pub pending : Bool → Tokens
+pending false = nothing
+pending true = one Comma
+
+-- the words that begin a head: whether it is that of a group
+abbrev pub header_words : Bool → Tokens
+header_words true = either (keyword (codes "avp") then keyword (codes "header")) (keyword (codes "avp-header"))
+header_words false = either (keyword (codes "diameter") then keyword (codes "header")) (keyword (codes "diameter-header"))
+
+-- a head of each kind, behind its colon and, with errors, its `code`
+abbrev pub group_of : Head → Tokens
+group_of (Group code n) = number max_number code then group_vendor n
+group_of head = λ ts. ⊥
+
+abbrev pub command_of : Head → Tokens
+command_of (Command code request pxy app) = number max_command_code code then flag request (codes "req") then flag pxy (codes "pxy") then application app
+command_of head = λ ts. ⊥
+
+abbrev pub error_of : Head → Tokens
+error_of (Error pxy) = comma then keyword (codes "err") then error_proxy pxy
+error_of head = λ ts. ⊥
+
+-- a proxiable flag behind its `[`
+abbrev pub in_brackets : Pxy → Tokens
+in_brackets Either = comma then keyword (codes "pxy") then one Close_bracket
+in_brackets pxy = λ ts. ⊥
+
+-- the tokens from the place up to the one ahead are of the class
+abbrev pub From : ℕ → Tokens → Reader → Type 0
+From at class reader = (k : ℕ) × (front : List Token) × (drop k (tokens reader.text.now) ≡ front ++ still reader) × class front × (place_of reader.text.now k ≡ at)
+
+-- the tokens from the one ahead on begin with those of the class
+abbrev pub Begins : Tokens → Reader → Type 0
+Begins class reader = (front : List Token) × (rest : List Token) × (still reader ≡ front ++ rest) × class front
+
+-- a rule that stands behind some rules was passed
+abbrev pub Rule_behind : Behind → Reader → Reader → Type 0
+Rule_behind (behinds.Rule rule) old new = Derived (rule_tokens (plain_rule rule)) old new
+Rule_behind found old new = Unit {0}
+
+-- what stands behind some rules stands at its place: a rule, or the beginning of the next definition, up to the token ahead
+abbrev pub Placed_behind : Behind → Reader → Type 0
+Placed_behind (behinds.Rule rule) new = RuleStands new.text.now rule
+Placed_behind (behinds.Definition opening) new = From opening.at (opened (string_bytes opening.name)) new
+Placed_behind behinds.Nothing new = Unit {0}
 
 -- nothing has been read
 abbrev pub nothing_read : PlainSource

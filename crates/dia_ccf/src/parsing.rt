@@ -7,6 +7,7 @@ ghost use Rattle.dia_ccf.specs.Plain.{PlainSource, plain_source};
 ghost use Rattle.dia_ccf.specs.Tokens.{Token, tokens};
 ghost use Rattle.dia_ccf.specs.Grammar.{Derives};
 ghost use Rattle.dia_ccf.specs.Faults.{IsFault};
+ghost use Rattle.dia_ccf.specs.Places.{IsPlaced};
 ghost use Rattle.dia_ccf.specs.Refusals.{IsRefused};
 
 use crate::fault::CcfFault;
@@ -25,6 +26,8 @@ use std::alloc::Global;
 pub fn parse(alloc: Global, text: &str) -> Result<Source, CcfFault>
     // What is read is derived from the text's tokens.
     ensures found { IfOk result (λ source. Derives (tokens text.now) (plain_source source)) }
+    // Each part of it stands at its place.
+    ensures placed { IfOk result (IsPlaced text.now) }
     // No other source is, and one that is derived is read, unless memory runs out.
     ensures only { (source : PlainSource) → length text.now ≤ max_text
         → Derives (tokens text.now) source
@@ -42,6 +45,7 @@ pub fn parse(alloc: Global, text: &str) -> Result<Source, CcfFault>
 /// Reads a text as [`parse`] does. Of a text that is refused it tells the place, and what could stand there.
 pub fn read(alloc: Global, text: &str) -> Result<Source, Refused>
     ensures found { IfOk result (λ source. Derives (tokens text.now) (plain_source source)) }
+    ensures placed { IfOk result (IsPlaced text.now) }
     ensures only { (source : PlainSource) → length text.now ≤ max_text
         → Derives (tokens text.now) source
         → MatchResult result (λ found. plain_source found ≡ source) (λ e. e ≡ Refused.NoMemory) }

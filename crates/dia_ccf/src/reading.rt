@@ -1,5 +1,5 @@
 //! Reading the grammar (RFC 6733 section 3.2) with one token of look-ahead.
-ghost use Rattle.std.specs.Prelude.{◌≡◌, ◌+◌, ◌-◌, ◌≤◌, take, drop, length, map, slice_get, OnOk, IfErr};
+ghost use Rattle.std.specs.Prelude.{◌≡◌, ◌+◌, ◌-◌, ◌≤◌, ℕ, List, take, drop, length, map, slice_get, OnOk, IfErr};
 ghost use Rattle.std.specs.Char.{to_ascii_lowercase};
 ghost use Rattle.dia_ccf.specs.Limits.{max_text};
 ghost use Rattle.dia_ccf.specs.Plain.{plain_source, plain_decl, plain_def};
@@ -7,6 +7,7 @@ ghost use Rattle.dia_ccf.specs.Machine.{add_decl, add_def};
 ghost use Rattle.dia_ccf.specs.Tokens.{placed_tokens, line_at};
 ghost use Rattle.dia_ccf.specs.declared.wanted.Wanted.TheVariants.{Item};
 ghost use Rattle.dia_ccf.specs.Faults.{token_place};
+ghost use Rattle.dia_ccf.specs.Places.{IsPlaced, DeclStands, DefStands};
 ghost use Rattle.dia_ccf.specs.Refusals.{place_before};
 ghost use Rattle.dia_ccf.specs.Wanting.{behind_all};
 ghost use Rattle.dia_ccf.specs.LexerTokens.{tokens_from, left_from, ahead, sees};
@@ -60,7 +61,7 @@ pub(crate) struct Reader<'a> {
 }
 
 impl<'a> Reader<'a> {
-    ghost use Rattle.std.specs.Prelude.{true, false, IsSome, string_bytes};
+    ghost use Rattle.std.specs.Prelude.{true, false, IsSome, IfOk, string_bytes};
     ghost use Rattle.dia_ccf.specs.LexerTokens.{shown_sign};
     ghost use Rattle.dia_ccf.specs.Machine.{Between, same_sign, is_word, is_keyword, is_number};
     ghost use Rattle.dia_ccf.specs.Machine.{number_at, name_at, sign_at, keyword_at};
@@ -227,7 +228,8 @@ impl<'a> Reader<'a> {
 
     /// The whole text, from its first token.
     pub(crate) fn source(&mut self) -> Result<Source, Refusal>
-        ensures { Finishes (course (nothing_read, Between) self.old) result self.new }
+        ensures read { Finishes (course (nothing_read, Between) self.old) result self.new }
+        ensures placed { IfOk result (IsPlaced self.new.text.now) }
     {
         let mut source = Source {
             avps: Vec::new(self.alloc),
@@ -320,6 +322,8 @@ fn line_of(text: &str, at: usize) -> u32
 fn keep_declaration(source: &mut Source, decl: Decl) -> Result<(), Refusal>
     ensures kept { OnOk result
         (plain_source source.new ≡ add_decl (plain_source source.old) (plain_decl decl)) }
+    ensures placed { (text : List ℕ) → IsPlaced text source.old → DeclStands text decl
+        → OnOk result (IsPlaced text source.new) }
     ensures err { IfErr result (λ e. e ≡ Refusal.NoMemory) }
 {
     source.avps.push(decl)?;
@@ -330,6 +334,8 @@ fn keep_declaration(source: &mut Source, decl: Decl) -> Result<(), Refusal>
 fn keep_definition(source: &mut Source, def: Def) -> Result<(), Refusal>
     ensures kept { OnOk result
         (plain_source source.new ≡ add_def (plain_source source.old) (plain_def def)) }
+    ensures placed { (text : List ℕ) → IsPlaced text source.old → DefStands text def
+        → OnOk result (IsPlaced text source.new) }
     ensures err { IfErr result (λ e. e ≡ Refusal.NoMemory) }
 {
     match def.head {

@@ -9,6 +9,7 @@ use dia_terms::{FormatName, MRule};
 impl<'a> Reader<'a> {
     ghost use Rattle.std.specs.Prelude.{◌≡◌, ◌<◌, ◌≤◌, ℕ, ◌++◌, [], ◌∷◌, List};
     ghost use Rattle.std.specs.Prelude.{◌&&◌, false, not, IfOk, OnOk, IsTrue};
+    ghost use Rattle.dia_ccf.specs.Grammar.{◌then◌, one, each, vendor, range, values};
     ghost use Rattle.std.specs.Option.{option_map};
     ghost use Rattle.std.specs.List.{list_all};
     ghost use Rattle.dia_ccf.specs.Names.{fits_values, is_number, is_range};
@@ -19,6 +20,7 @@ impl<'a> Reader<'a> {
     ghost use Rattle.dia_ccf.specs.Machine.{add_decl, with_values, format_at};
     ghost use Rattle.dia_ccf.specs.Machine.{rule_at, is_none, same_sign};
     ghost use Rattle.dia_ccf.specs.ReaderFunctions.{Accepts, Leads, course, begins_with, left};
+    ghost use Rattle.dia_ccf.specs.ReaderFunctions.{Derived, declaring};
 
     /// A declaration, whose `%avp` stands at a place and was read.
     pub(super) fn declaration(&mut self, at: usize) -> Result<Decl, Refusal>
@@ -26,6 +28,7 @@ impl<'a> Reader<'a> {
             → Leads (course (done, Decl_name) self.old)
             (λ d. (add_decl done (plain_decl d), Between)) result self.new }
         ensures placed { IfOk result (λ d. d.at ≡ at) }
+        ensures derived { IfOk result (λ d. Derived (declaring (plain_decl d)) self.old self.new) }
         ensures farther { OnOk result (self.old.taken ≤ self.new.taken) }
     {
         let name = self.name()?;
@@ -52,6 +55,7 @@ impl<'a> Reader<'a> {
             (λ vendor. (done, Decl_format name code vendor)) result self.new }
         ensures farther { OnOk result (self.old.taken ≤ self.new.taken) }
         ensures small { IfOk result (λ vendor. IsTrue (is_number vendor)) }
+        ensures derived { IfOk result (λ found. Derived (vendor found) self.old self.new) }
     {
         if self.takes_word("vendor") {
             self.number(0, u32::MAX)
@@ -95,6 +99,8 @@ impl<'a> Reader<'a> {
               Between,
             )) result self.new }
         ensures listed { IfOk result (λ values. IsTrue (fits_values format values)) }
+        ensures derived { IfOk result (λ found. Derived
+            (values format (option_map (λ v. v.items) found)) self.old self.new) }
         ensures farther { OnOk result (self.old.taken ≤ self.new.taken) }
     {
         if format == FormatName::Enumerated && self.takes(Sign::OpenParenthesis) {
@@ -111,6 +117,8 @@ impl<'a> Reader<'a> {
             (λ ranges. (add_decl done (with_values d ranges.items), Between)) result self.new }
         ensures some { IfOk result (λ ranges. is_none ranges.items ≡ false) }
         ensures listed { IfOk result (λ ranges. IsTrue (list_all is_range ranges.items)) }
+        ensures derived { IfOk result (λ found. Derived
+            (each range found.items then one Close_parenthesis) self.old self.new) }
         ensures farther { OnOk result (self.old.taken ≤ self.new.taken) }
     {
         let mut ranges = Vec::new(self.alloc);
@@ -131,6 +139,7 @@ impl<'a> Reader<'a> {
             → Leads (course (done, In_values d ranges) self.old)
             (λ range. (done, In_values d (ranges ++ range ∷ []))) result self.new }
         ensures listed { IfOk result (λ range. IsTrue (is_range range)) }
+        ensures derived { IfOk result (λ found. Derived (range found) self.old self.new) }
         ensures farther { OnOk result (self.old.taken < self.new.taken) }
     {
         let low = self.number(0, MAX_VALUE)?;

@@ -46,6 +46,10 @@ impl<'a> Reader<'a> {
     ghost use Rattle.dia_ccf.specs.ReaderFunctions.{Reads_by, course, begins_with};
     ghost use Rattle.dia_ccf.specs.ReaderFunctions.{left, behind, after_rules};
     ghost use Rattle.dia_ccf.specs.ReaderFunctions.{KeepsOrder, NamesNext, Goes};
+    ghost use Rattle.dia_ccf.specs.ReaderFunctions.{Derived, From, Begins, Placed_behind, Rule_behind};
+    ghost use Rattle.dia_ccf.specs.Grammar.{◌then◌, one, each, name, rule, bracketed, count, qualifier};
+    ghost use Rattle.std.specs.List.{All};
+    ghost use Rattle.dia_ccf.specs.Places.{DefStands, RuleStands, opened};
 
     /// The name of a definition, in angle brackets or bare.
     pub(super) fn defined_name(&mut self) -> Result<String, Refusal>
@@ -55,6 +59,7 @@ impl<'a> Reader<'a> {
             → Leads (course (done, Between) self.old)
             (λ name. (done, Def_assign (string_bytes name))) result self.new }
         ensures named { IfOk result (λ name. IsTrue (is_name (string_bytes name))) }
+        ensures derived { IfOk result (λ name. Derived (opened (string_bytes name)) self.old self.new) }
         ensures farther { OnOk result (self.old.taken < self.new.taken) }
     {
         if self.takes(Sign::Less) {
@@ -71,6 +76,8 @@ impl<'a> Reader<'a> {
             → ((name : List ℕ) → Reads_by false false (sign_at Greater) (λ u. to name) (mid name))
             → Leads (course state self.old) (λ name. to (string_bytes name)) result self.new }
         ensures named { IfOk result (λ name. IsTrue (is_name (string_bytes name))) }
+        ensures derived { IfOk result
+            (λ found. Derived (name (string_bytes found) then one Greater) self.old self.new) }
         ensures farther { OnOk result (self.old.taken ≤ self.new.taken) }
     {
         let name = self.name()?;
@@ -80,12 +87,16 @@ impl<'a> Reader<'a> {
 
     /// The definition whose beginning was read, and the beginning of the next one, where that is a name in angle brackets.
     pub(super) fn definition(&mut self, opening: Opening) -> Result<(Def, Option<Opening>), Refusal>
-        requires { IsTrue (is_name (string_bytes opening.name)) }
+        requires named { IsTrue (is_name (string_bytes opening.name)) }
+        requires begun { From opening.at (opened (string_bytes opening.name)) self.old }
         ensures read { (done : PlainSource)
             → Leads (course (done, Def_assign (string_bytes opening.name)) self.old)
             (λ found. (add_def done (plain_def found.0), behind found.1)) result self.new }
         ensures named { IfOk result
             (λ found. IfSome found.1 (λ next. IsTrue (is_name (string_bytes next.name)))) }
+        ensures placed { IfOk result (λ found. DefStands self.new.text.now found.0) }
+        ensures begun { IfOk result (λ found. IfSome found.1
+            (λ next. From next.at (opened (string_bytes next.name)) self.new)) }
         ensures farther { OnOk result (self.old.taken < self.new.taken) }
     {
         let Opening { at, name } = opening;
@@ -117,6 +128,11 @@ impl<'a> Reader<'a> {
             (λ found. IsTrue (fixed_first (map (λ r. r.kind) found.0.items))) }
         ensures named { IfOk result
             (λ found. IfSome found.1 (λ next. IsTrue (is_name (string_bytes next.name)))) }
+        ensures placed { IfOk result (λ found. All (RuleStands self.new.text.now) found.0.items) }
+        ensures derived { IfOk result
+            (λ found. Begins (each rule (map plain_rule found.0.items)) self.old) }
+        ensures begun { IfOk result (λ found. IfSome found.1
+            (λ next. From next.at (opened (string_bytes next.name)) self.new)) }
         ensures farther { OnOk result (self.old.taken ≤ self.new.taken) }
     {
         let mut rules = Vec::new(self.alloc);
@@ -139,6 +155,8 @@ impl<'a> Reader<'a> {
             → Leads (course (done, Rules d) self.old) (after_rules done d) result self.new }
         ensures ordered { IfOk result (λ found. KeepsOrder found only_fixed) }
         ensures named { IfOk result NamesNext }
+        ensures placed { IfOk result (λ found. Placed_behind found self.new) }
+        ensures derived { IfOk result (λ found. Rule_behind found self.old self.new) }
         ensures farther { IfOk result (λ found. Goes found self.old.taken self.new.taken) }
     {
         let at = self.at;
@@ -205,6 +223,8 @@ impl<'a> Reader<'a> {
             → Leads (course (done, Rules d) self.old)
             (λ rule. (done, Rules (with_rule d (plain_rule rule)))) result self.new }
         ensures ordered { IfOk result (λ rule. rule.kind ≡ RuleKind.Fixed → fixed ≡ true) }
+        ensures placed { IfOk result (λ rule. RuleStands self.new.text.now rule) }
+        ensures derived { IfOk result (λ found. Derived (rule (plain_rule found)) self.old self.new) }
         ensures farther { OnOk result (self.old.taken < self.new.taken) }
     {
         let at = self.at;
@@ -229,6 +249,9 @@ impl<'a> Reader<'a> {
             → Leads (course state self.old)
             (λ rule. (done, Rules (with_rule d (plain_rule rule)))) result self.new }
         ensures ordered { IfOk result (λ rule. rule.kind ≢ RuleKind.Fixed) }
+        ensures placed { IfOk result (λ rule. (rule.at ≡ at) × (rule.qual ≡ qual)) }
+        ensures derived { IfOk result
+            (λ rule. Derived (bracketed rule.kind (plain_rule rule).name) self.old self.new) }
         ensures farther { OnOk result (self.old.taken < self.new.taken) }
     {
         if self.takes(Sign::OpenBrace) {
@@ -259,6 +282,7 @@ impl<'a> Reader<'a> {
             (λ qual. (done, Qual_done d qual)) result self.new }
         ensures farther { OnOk result (self.old.taken < self.new.taken) }
         ensures small { IfOk result (λ qual. IsTrue (is_qualifier (Some qual))) }
+        ensures derived { IfOk result (λ qual. Derived (qualifier (Some qual)) self.old self.new) }
     {
         let min = self.count()?;
         self.expect(Sign::Star)?;
@@ -271,6 +295,7 @@ impl<'a> Reader<'a> {
         ensures read { MatchBool (begins_with is_number (left self.old))
             (Accepts true false (λ token. option_map (λ n. Some n) (number_at 0 max_number token))
             (λ n. n) self.old result self.new) ((result ≡ Ok None) × (self.new ≡ self.old)) }
+        ensures derived { IfOk result (λ n. Derived (count n) self.old self.new) }
         ensures small { IfOk result (λ n. IsTrue (is_number_or_none n)) }
         ensures farther { OnOk result (self.old.taken ≤ self.new.taken) }
     {

@@ -18,6 +18,9 @@ impl<'a> Reader<'a> {
     ghost use Rattle.dia_ccf.specs.Machine.{Error_word, Error_flags, Error_either};
     ghost use Rattle.dia_ccf.specs.Machine.{Head_end, is_keyword, is_number};
     ghost use Rattle.dia_ccf.specs.ReaderFunctions.{Flags_read, Leads, course, begins_with, left};
+    ghost use Rattle.dia_ccf.specs.ReaderFunctions.{Derived, header_words, group_of};
+    ghost use Rattle.dia_ccf.specs.ReaderFunctions.{command_of, error_of, in_brackets};
+    ghost use Rattle.dia_ccf.specs.Grammar.{head, error_proxy};
 
     /// A head up to its `>`, where its `<` was read.
     pub(super) fn head(&mut self) -> Result<Head, Refusal>
@@ -25,6 +28,7 @@ impl<'a> Reader<'a> {
             → Leads (course (done, In_head name Head_word) self.old)
             (λ head. (done, In_head name (Head_end head))) result self.new }
         ensures sound { IfOk result (λ head. IsTrue (is_head head)) }
+        ensures derived { IfOk result (λ found. Derived (head found) self.old self.new) }
         ensures farther { OnOk result (self.old.taken ≤ self.new.taken) }
     {
         if self.is_avp_header()? {
@@ -44,6 +48,7 @@ impl<'a> Reader<'a> {
         ensures read { (done : PlainSource) (name : List ℕ)
             → Leads (course (done, In_head name Head_word) self.old)
             (λ avp. (done, In_head name (cond avp Avp_colon Diameter_colon))) result self.new }
+        ensures derived { IfOk result (λ avp. Derived (header_words avp) self.old self.new) }
         ensures farther { OnOk result (self.old.taken ≤ self.new.taken) }
     {
         if self.takes_keyword("avp") {
@@ -67,6 +72,7 @@ impl<'a> Reader<'a> {
             → Leads (course (done, In_head name Group_code) self.old)
             (λ head. (done, In_head name (Head_end head))) result self.new }
         ensures sound { IfOk result (λ head. IsTrue (is_head head)) }
+        ensures derived { IfOk result (λ head. Derived (group_of head) self.old self.new) }
         ensures farther { OnOk result (self.old.taken ≤ self.new.taken) }
     {
         let code = self.number(0, u32::MAX)?;
@@ -85,6 +91,7 @@ impl<'a> Reader<'a> {
             → Leads (course (done, In_head name Command_code) self.old)
             (λ head. (done, In_head name (Head_end head))) result self.new }
         ensures sound { IfOk result (λ head. IsTrue (is_head head)) }
+        ensures derived { IfOk result (λ head. Derived (command_of head) self.old self.new) }
         ensures farther { OnOk result (self.old.taken ≤ self.new.taken) }
     {
         let code = self.number(0, MAX_COMMAND_CODE)?;
@@ -134,6 +141,7 @@ impl<'a> Reader<'a> {
             → Leads (course (done, In_head name (Error_word false)) self.old)
             (λ head. (done, In_head name (Head_end head))) result self.new }
         ensures sound { IfOk result (λ head. IsTrue (is_head head)) }
+        ensures derived { IfOk result (λ head. Derived (error_of head) self.old self.new) }
         ensures farther { OnOk result (self.old.taken ≤ self.new.taken) }
     {
         self.takes(Sign::Comma);
@@ -147,6 +155,7 @@ impl<'a> Reader<'a> {
         ensures read { (done : PlainSource) (name : List ℕ)
             → Leads (course (done, In_head name (Error_flags false)) self.old)
             (λ pxy. (done, In_head name (Head_end (Head.Error pxy)))) result self.new }
+        ensures derived { IfOk result (λ pxy. Derived (error_proxy pxy) self.old self.new) }
         ensures farther { OnOk result (self.old.taken ≤ self.new.taken) }
     {
         if self.takes(Sign::OpenBracket) {
@@ -167,6 +176,7 @@ impl<'a> Reader<'a> {
         ensures read { (done : PlainSource) (name : List ℕ)
             → Leads (course (done, In_head name (Error_either false)) self.old)
             (λ pxy. (done, In_head name (Head_end (Head.Error pxy)))) result self.new }
+        ensures derived { IfOk result (λ pxy. Derived (in_brackets pxy) self.old self.new) }
         ensures farther { OnOk result (self.old.taken ≤ self.new.taken) }
     {
         self.takes(Sign::Comma);

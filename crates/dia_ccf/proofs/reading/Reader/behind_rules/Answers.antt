@@ -6,6 +6,17 @@ use Rattle.dia_ccf.specs.ReaderFunctions.{course, left, begins_with, after_rules
 use Rattle.dia_ccf.proofs.MachineCompleteness.{angle_settled}
 use Rattle.dia_ccf.proofs.ReaderSteps.{leads_along, exits, takes_sign}
 use Rattle.dia_ccf.proofs.ReaderInRules.{bare_wanted, rules_end, angle_defines, or_false}
+use Rattle.std.proofs.Common.{Some, None, Ok}
+use Rattle.dia_terms.specs.declared.RuleKind.TheVariants.{Fixed}
+use Rattle.dia_ccf.specs.Grammar.{◌then◌, qualifier, bracketed}
+use Rattle.dia_ccf.specs.Places.{opened}
+use Rattle.dia_ccf.proofs.ReaderPlaces.{from_place, angled, bare_fixed, stands_at, loose_stands, unmoved}
+use Rattle.std.proofs.Common.{subst}
+use Rattle.dia_ccf.specs.declared.reading.Reader.{Reader}
+use Rattle.dia_ccf.specs.Grammar.{rule}
+use Rattle.dia_ccf.specs.Plain.{plain_rule}
+use Rattle.dia_ccf.specs.ReaderFunctions.{Derived}
+use Rattle.dia_ccf.proofs.ReaderPlaces.{loose_derived}
 use Rattle.dia_ccf.proofs.reading.Reader.behind_rules.Goals as goal
 
 pub returns-in_err-name-clause-read : goal.returns-in_err-name-clause-read
@@ -66,3 +77,31 @@ returns-clause-read c = λ done d e.
     ap (course (done, Rules d)) (sym same) ∙ ap (λ (o : Outcome). (c.takes.new.self.text.now, o))
     (rules_end done d (left c.takes.new.self) (ap (λ r. begins_with (same_sign Less) (left r)) same ∙ c.if-takes.ensures.0)
     (sym c.is_at_qualifier.ensures ∙ c.if-is_at_qualifier.false) (sym c.is_at_loose.ensures ∙ c.if-is_at_loose.false)))
+
+pub returns-then-is_at_definition-clause-placed : goal.returns-then-is_at_definition-clause-placed
+returns-then-is_at_definition-clause-placed c =
+    from_place (opened (string_bytes c.in_ok-name.name)) c.args.self.now c.name_in_angles.new.self
+    (angled c.args.self.now c.takes.new.self c.name_in_angles.new.self c.in_ok-name.name c.if-takes.ensures c.in_ok-name.ensures.derived)
+
+pub returns-then-takes-clause-placed : goal.returns-then-takes-clause-placed
+returns-then-takes-clause-placed c =
+    stands_at (qualifier None then bracketed Fixed (Some (string_bytes c.in_ok-name.name))) c.args.self.now c.name_in_angles.new.self
+    (bare_fixed c.args.self.now c.takes.new.self c.name_in_angles.new.self c.in_ok-name.name c.if-takes.ensures c.in_ok-name.ensures.derived)
+
+pub returns-then-is_at_loose-clause-placed : goal.returns-then-is_at_loose-clause-placed
+returns-then-is_at_loose-clause-placed c =
+    loose_stands (Ok c.in_ok-rule-2.rule) c.args.self.now.at None c.args.self.now c.takes.new.self c.loose.new.self refl
+    (unmoved (qualifier None) c.args.self.now c.takes.new.self c.if-takes.ensures.1 refl) c.in_ok-rule-2.ensures.placed c.in_ok-rule-2.ensures.derived
+
+pub returns-then-takes-clause-derived : goal.returns-then-takes-clause-derived
+returns-then-takes-clause-derived c =
+    bare_fixed c.args.self.now c.takes.new.self c.name_in_angles.new.self c.in_ok-name.name c.if-takes.ensures c.in_ok-name.ensures.derived
+
+pub returns-then-is_at_qualifier-clause-derived : goal.returns-then-is_at_qualifier-clause-derived
+returns-then-is_at_qualifier-clause-derived c =
+    subst (λ (r : Reader). Derived (rule (plain_rule c.in_ok-rule.rule)) r c.qualified.new.self) c.if-takes.ensures.1 c.in_ok-rule.ensures.derived
+
+pub returns-then-is_at_loose-clause-derived : goal.returns-then-is_at_loose-clause-derived
+returns-then-is_at_loose-clause-derived c =
+    loose_derived (Ok c.in_ok-rule-2.rule) c.args.self.now.at None c.args.self.now c.takes.new.self c.loose.new.self
+    (unmoved (qualifier None) c.args.self.now c.takes.new.self c.if-takes.ensures.1 refl) c.in_ok-rule-2.ensures.placed c.in_ok-rule-2.ensures.derived

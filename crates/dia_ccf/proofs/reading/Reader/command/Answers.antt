@@ -6,6 +6,14 @@ use Rattle.dia_ccf.specs.Machine.{Outcome, same_sign, In_head, Command_code, Hea
 use Rattle.dia_ccf.specs.ReaderFunctions.{course, left}
 use Rattle.dia_ccf.proofs.ReaderSteps.{accepted, leads_along, exits}
 use Rattle.dia_ccf.proofs.ReaderInHeads.{flags_at, command_at, command_begun, number_wanted, command_ends, code_wanted, takes_farther, number_small, both_hold}
+use Rattle.std.specs.Prelude.{codes, None}
+use Rattle.dia_ccf.specs.Grammar.{◌then◌, nothing, number, comma, flag}
+use Rattle.dia_ccf.specs.Limits.{max_command_code}
+use Rattle.dia_ccf.specs.ReaderFunctions.{pending, command_of, begins_with}
+use Rattle.dia_ccf.specs.Machine.{is_number}
+use Rattle.dia_ccf.specs.declared.source.Head.TheVariants.{Command}
+use Rattle.dia_ccf.proofs.ReaderPlaces.{along, of_class, number_derived_to}
+use Rattle.dia_ccf.proofs.HeadTokens.{comma_pending, none_pending, number_pending, flag_next, command_grouped}
 use Rattle.dia_ccf.proofs.reading.Reader.command.Goals as goal
 
 pub returns-in_err-code-clause-read : goal.returns-in_err-code-clause-read
@@ -79,3 +87,35 @@ returns-then-not-wants_number-clause-farther c = omega (
   c.flag-request.ensures.farther,
   c.flag-pxy.ensures.farther,
 )
+
+pub returns-then-not-wants_number-clause-derived : goal.returns-then-not-wants_number-clause-derived
+returns-then-not-wants_number-clause-derived c =
+    let code = number max_command_code c.in_ok-code.code in
+    let b = c.takes-comma.result in
+    let n = c.in_ok-code.ensures in
+    let rq = c.flag-request.result in
+    let px = c.flag-pxy.result in
+    let begun = along code (pending b) c.args.self.now c.number.new.self c.takes-comma.new.self (number_derived_to 0 max_command_code c.in_ok-code.code c.args.self.now c.number.new.self n.0 (omega arith) n.1 n.2).1
+    (comma_pending b c.number.new.self c.takes-comma.new.self c.takes-comma.ensures) in
+    let asked = flag_next (codes "req") b code rq c.args.self.now c.takes-comma.new.self c.flag-request.new.self begun c.flag-request.ensures.read in
+    let before = (code then flag rq.0 (codes "req")) then flag px.0 (codes "pxy") in
+    let proxied = flag_next (codes "pxy") rq.1 (code then flag rq.0 (codes "req")) px c.args.self.now c.flag-request.new.self c.flag-pxy.new.self asked c.flag-pxy.ensures.read in
+    of_class (before then nothing) (command_of (Command c.in_ok-code.code rq.0 px.0 None)) c.args.self.now c.flag-pxy.new.self (command_grouped c.in_ok-code.code rq.0 px.0 None)
+    (none_pending before px.1 (begins_with is_number (left c.flag-pxy.new.self)) c.args.self.now c.flag-pxy.new.self (sym c.wants_number.ensures ∙ c.if-not-wants_number.true) proxied)
+
+pub returns-clause-derived : goal.returns-clause-derived
+returns-clause-derived c =
+    let code = number max_command_code c.in_ok-code.code in
+    let b = c.takes-comma.result in
+    let n = c.in_ok-code.ensures in
+    let rq = c.flag-request.result in
+    let px = c.flag-pxy.result in
+    let begun = along code (pending b) c.args.self.now c.number.new.self c.takes-comma.new.self (number_derived_to 0 max_command_code c.in_ok-code.code c.args.self.now c.number.new.self n.0 (omega arith) n.1 n.2).1
+    (comma_pending b c.number.new.self c.takes-comma.new.self c.takes-comma.ensures) in
+    let asked = flag_next (codes "req") b code rq c.args.self.now c.takes-comma.new.self c.flag-request.new.self begun c.flag-request.ensures.read in
+    let before = (code then flag rq.0 (codes "req")) then flag px.0 (codes "pxy") in
+    let proxied = flag_next (codes "pxy") rq.1 (code then flag rq.0 (codes "req")) px c.args.self.now c.flag-request.new.self c.flag-pxy.new.self asked c.flag-pxy.ensures.read in
+    let app = c.in_ok-app.app in
+    let a = c.in_ok-app.ensures in
+    of_class (before then comma then number max_number app) (command_of (Command c.in_ok-code.code rq.0 px.0 (Some app))) c.args.self.now c.number-2.new.self
+    (command_grouped c.in_ok-code.code rq.0 px.0 (Some app)) (number_pending before px.1 app a.0 c.args.self.now c.flag-pxy.new.self c.number-2.new.self proxied a.1 a.2)

@@ -8,6 +8,10 @@ use Rattle.dia_ccf.specs.ReaderFunctions.{course}
 use Rattle.dia_ccf.proofs.TokenTests.{name_at-is, number_at-is}
 use Rattle.dia_ccf.proofs.ReaderSteps.{exits, exits_along}
 use Rattle.dia_ccf.proofs.ReaderInDeclarations.{bare, name_leads, code_leads, format_leads, rule_leads}
+use Rattle.std.specs.Option.{option_map}
+use Rattle.dia_terms.specs.Formats.{format_word}
+use Rattle.dia_ccf.specs.Grammar.{◌then◌, name, number, vendor, word, values, rule_word}
+use Rattle.dia_ccf.proofs.ReaderPlaces.{along, name_derived, number_derived, format_derived, m_rule_derived}
 use Rattle.dia_ccf.proofs.reading.Reader.declaration.Goals as goal
 
 pub returns-in_err-name-clause-read : goal.returns-in_err-name-clause-read
@@ -99,3 +103,18 @@ invariant_of-result c =
       numbered = rw (small, c.in_ok-vendor.ensures.small) refl;
       listed = c.in_ok-values.ensures.listed;
     }
+
+pub returns-clause-derived : goal.returns-clause-derived
+returns-clause-derived c =
+    let n = c.in_ok-name.name in
+    let code = number max_number c.in_ok-code.code in
+    let v = vendor c.in_ok-vendor.vendor in
+    let f = word (format_word c.in_ok-format.format) in
+    let r = word (rule_word c.in_ok-rule.rule) in
+    let vs = values c.in_ok-format.format (option_map (λ v. v.items) c.in_ok-values.values) in
+    let numbered = c.in_ok-code.ensures in
+    along (name (string_bytes n)) (code then v then f then r then vs) c.args.self.now c.name.new.self c.values.new.self (name_derived c.args.self.now c.name.new.self n c.in_ok-name.ensures)
+    (along code (v then f then r then vs) c.name.new.self c.number.new.self c.values.new.self (number_derived c.name.new.self c.number.new.self c.in_ok-code.code numbered.0 numbered.1 numbered.2)
+    (along v (f then r then vs) c.number.new.self c.vendor.new.self c.values.new.self c.in_ok-vendor.ensures.derived
+    (along f (r then vs) c.vendor.new.self c.format.new.self c.values.new.self (format_derived c.vendor.new.self c.format.new.self c.in_ok-format.format c.in_ok-format.ensures)
+    (along r vs c.format.new.self c.m_rule.new.self c.values.new.self (m_rule_derived c.format.new.self c.m_rule.new.self c.in_ok-rule.rule c.in_ok-rule.ensures) c.in_ok-values.ensures.derived))))

@@ -1,11 +1,17 @@
 use Rattle.std.proofs.Common.{[], refl, Ok, Err, ◌∙◌}
 use Rattle.std.specs.Prelude.{string_bytes}
-use Rattle.dia_ccf.specs.Plain.{PlainDef, plain_def}
+use Rattle.dia_ccf.specs.Plain.{PlainDef, plain_def, plain_rule}
 use Rattle.dia_ccf.specs.Tokens.{Less, Greater, Assign}
 use Rattle.dia_ccf.specs.Machine.{Def_assign, Head_open, In_head, Head_word, Head_end, Rules, add_def}
 use Rattle.dia_ccf.specs.ReaderFunctions.{course, behind}
 use Rattle.dia_ccf.proofs.ReaderSteps.{sign_leads, leads_along, exits}
 use Rattle.dia_ccf.proofs.ReaderInHeads.{head_closed}
+use Rattle.std.proofs.Common.{subst, map, List, ℕ}
+use Rattle.dia_ccf.specs.Grammar.{◌then◌, one, each, head, rule, definition}
+use Rattle.dia_ccf.specs.Places.{StandsAt, opened}
+use Rattle.dia_ccf.specs.ReaderFunctions.{nothing_read}
+use Rattle.dia_ccf.proofs.ReaderPlaces.{same_text, stands_as, stands_along, begins_along, sign_derived}
+use Rattle.dia_ccf.proofs.CanonicalTexts.{fixed_first_splits}
 use Rattle.dia_ccf.proofs.reading.Reader.definition.Goals as goal
 
 pub returns-in_err-expect-clause-read : goal.returns-in_err-expect-clause-read
@@ -77,3 +83,20 @@ returns-clause-read c = λ done.
     ∙ c.in_ok-head.ensures.read done name
     ∙ sign_leads (done, In_head name (Head_end head)) (done, Rules d) Greater c.head.new.self c.expect-3.new.self (Ok tt) (head_closed done name head) (λ t. refl) refl c.in_ok-expect-3.ensures
     ∙ c.in_ok-rules.ensures.read done name head)
+
+pub returns-clause-placed : goal.returns-clause-placed
+returns-clause-placed c =
+    let name = string_bytes c.args.opening.name in
+    let rules = each rule (map plain_rule c.in_ok-rules.rules.items) in
+    let h = head c.in_ok-head.head in
+    let begins = begins_along (one Assign) (one Less then h then one Greater then rules) c.args.self.now c.expect.new.self (sign_derived Assign c.args.self.now c.expect.new.self refl c.in_ok-expect.ensures)
+    (begins_along (one Less) (h then one Greater then rules) c.expect.new.self c.expect-2.new.self (sign_derived Less c.expect.new.self c.expect-2.new.self refl c.in_ok-expect-2.ensures)
+    (begins_along h (one Greater then rules) c.expect-2.new.self c.head.new.self c.in_ok-head.ensures.derived
+    (begins_along (one Greater) rules c.head.new.self c.expect-3.new.self (sign_derived Greater c.head.new.self c.expect-3.new.self refl c.in_ok-expect-3.ensures) c.in_ok-rules.ensures.derived))) in
+    let class = opened name then one Assign then one Less then h then one Greater then rules in
+    let d : PlainDef = record { name = name; head = c.in_ok-head.head; rules = map plain_rule c.in_ok-rules.rules.items } in
+    let stands = stands_as class (definition d) c.args.self.now.text.now c.args.opening.at (λ ts k. (fixed_first_splits c.in_ok-rules.rules.items c.in_ok-rules.ensures.ordered, k))
+    (stands_along (opened name) (one Assign then one Less then h then one Greater then rules) c.args.opening.at c.args.self.now c.requires.begun begins) in
+    let same = c.in_ok-expect.ensures.2.1 ∙ c.in_ok-expect-2.ensures.2.1 ∙ same_text (c.in_ok-head.ensures.read nothing_read []) ∙ c.in_ok-expect-3.ensures.2.1
+    ∙ same_text (c.in_ok-rules.ensures.read nothing_read [] c.in_ok-head.head) in
+    (subst (λ (text : List ℕ). StandsAt text c.args.opening.at (definition d)) same stands, c.in_ok-rules.ensures.placed)

@@ -5,6 +5,9 @@ use Rattle.dia_ccf.specs.Machine.{same_sign, In_head, Error_word, Error_flags, H
 use Rattle.dia_ccf.specs.ReaderFunctions.{course}
 use Rattle.dia_ccf.proofs.ReaderSteps.{leads_along, exits}
 use Rattle.dia_ccf.proofs.ReaderInHeads.{comma_then, error_stops, takes_farther}
+use Rattle.dia_ccf.specs.Grammar.{◌then◌, comma, keyword, error_proxy}
+use Rattle.dia_ccf.proofs.ReaderPlaces.{along}
+use Rattle.dia_ccf.proofs.HeadTokens.{comma_passed, keyword_read}
 use Rattle.dia_ccf.proofs.reading.Reader.error.Goals as goal
 
 pub returns-in_err-expect_keyword-clause-read : goal.returns-in_err-expect_keyword-clause-read
@@ -36,3 +39,11 @@ returns-clause-farther c = omega (
   c.in_ok-expect_keyword.ensures.2.2,
   c.in_ok-pxy.ensures.farther,
 )
+
+pub returns-clause-derived : goal.returns-clause-derived
+returns-clause-derived c =
+    let word = keyword (codes "err") in
+    let proxy = error_proxy c.in_ok-pxy.pxy in
+    along comma (word then proxy) c.args.self.now c.takes.new.self c.error_proxy.new.self (comma_passed c.takes.result c.args.self.now c.takes.new.self c.takes.ensures)
+    (along word proxy c.takes.new.self c.expect_keyword.new.self c.error_proxy.new.self (keyword_read (codes "err") c.takes.new.self c.expect_keyword.new.self c.in_ok-expect_keyword.ensures)
+    c.in_ok-pxy.ensures.derived)

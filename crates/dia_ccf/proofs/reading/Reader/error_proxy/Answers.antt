@@ -10,6 +10,10 @@ use Rattle.dia_ccf.specs.ReaderFunctions.{course, left, begins_with, Wants}
 use Rattle.dia_ccf.proofs.MachineRuns.{outcome_same}
 use Rattle.dia_ccf.proofs.ReaderSteps.{accepted, takes_sign, leads_along, exits}
 use Rattle.dia_ccf.proofs.ReaderInHeads.{keyword_passed}
+use Rattle.std.proofs.Common.{inl}
+use Rattle.dia_ccf.specs.Grammar.{◌then◌, comma, keyword, error_proxy}
+use Rattle.dia_ccf.proofs.ReaderPlaces.{along, unmoved}
+use Rattle.dia_ccf.proofs.HeadTokens.{bracketed_proxy, comma_passed, keyword_taken, keyword_read, behind_none}
 use Rattle.dia_ccf.proofs.reading.Reader.error_proxy.Goals as goal
 
 abbrev proxied : PlainSource → List ℕ → State
@@ -83,3 +87,26 @@ returns-clause-read c = λ done name.
     ap (course (done, In_head name (Error_flags false))) (sym (second.1 ∙ first.1))
     ∙ ap (λ (o : Outcome). (c.takes-2.new.self.text.now, o)) (no_flag done name (left c.takes-2.new.self) none no_comma third.0)
     ∙ ap (course (done, In_head name (Head_end (Error Clear)))) (sym third.1))
+
+pub returns-then-takes-clause-derived : goal.returns-then-takes-clause-derived
+returns-then-takes-clause-derived c =
+    bracketed_proxy c.proxy_in_brackets.result c.args.self.now c.takes.new.self c.proxy_in_brackets.new.self c.if-takes.ensures c.proxy_in_brackets.ensures.derived
+
+pub returns-then-takes-2-clause-derived : goal.returns-then-takes-2-clause-derived
+returns-then-takes-2-clause-derived c =
+    let word = keyword (codes "pxy") in
+    behind_none (comma then word) c.args.self.now c.takes.new.self c.expect_keyword.new.self c.if-takes.ensures.1
+    (along comma word c.takes.new.self c.takes-2.new.self c.expect_keyword.new.self
+    (comma_passed true c.takes.new.self c.takes-2.new.self c.if-takes-2.ensures)
+    (keyword_read (codes "pxy") c.takes-2.new.self c.expect_keyword.new.self c.in_ok-expect_keyword.ensures))
+
+pub returns-then-takes_keyword-clause-derived : goal.returns-then-takes_keyword-clause-derived
+returns-then-takes_keyword-clause-derived c =
+    let word = keyword (codes "pxy") in
+    behind_none (comma then word) c.args.self.now c.takes-2.new.self c.takes_keyword.new.self (c.if-takes-2.ensures.1 ∙ c.if-takes.ensures.1)
+    (along comma word c.takes-2.new.self c.takes-2.new.self c.takes_keyword.new.self (unmoved comma c.takes-2.new.self c.takes-2.new.self refl (inl refl))
+    (keyword_taken (codes "pxy") c.takes-2.new.self c.takes_keyword.new.self c.if-takes_keyword.ensures))
+
+pub returns-clause-derived : goal.returns-clause-derived
+returns-clause-derived c =
+    unmoved (error_proxy Clear) c.args.self.now c.takes_keyword.new.self (c.if-takes_keyword.ensures.1 ∙ c.if-takes-2.ensures.1 ∙ c.if-takes.ensures.1) refl

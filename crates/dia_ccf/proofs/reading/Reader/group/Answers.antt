@@ -6,6 +6,12 @@ use Rattle.dia_ccf.specs.Machine.{Outcome, same_sign, In_head, Group_code, Head_
 use Rattle.dia_ccf.specs.ReaderFunctions.{course, left}
 use Rattle.dia_ccf.proofs.ReaderSteps.{accepted, leads_along, exits}
 use Rattle.dia_ccf.proofs.ReaderInHeads.{group_at, group_end, group_wanted, group_begun, vendor_wanted, group_ends, takes_farther, number_small, both_hold}
+use Rattle.std.proofs.Common.{inl, inr}
+use Rattle.dia_ccf.specs.Grammar.{◌then◌, nothing, number, group_vendor, comma}
+use Rattle.dia_ccf.specs.Machine.{is_number}
+use Rattle.dia_ccf.specs.ReaderFunctions.{pending, left, begins_with}
+use Rattle.dia_ccf.proofs.ReaderPlaces.{along, of_class, number_derived}
+use Rattle.dia_ccf.proofs.HeadTokens.{comma_pending, none_pending, number_pending, then_more}
 use Rattle.dia_ccf.proofs.reading.Reader.group.Goals as goal
 
 pub returns-in_err-code-clause-read : goal.returns-in_err-code-clause-read
@@ -68,3 +74,25 @@ returns-clause-farther c = omega (
   takes_farther (same_sign Comma) c.number.new.self c.takes-comma.new.self c.takes-comma.result c.takes-comma.ensures,
   c.in_ok-vendor.ensures.2.2,
 )
+
+pub returns-then-not-wants_number-clause-derived : goal.returns-then-not-wants_number-clause-derived
+returns-then-not-wants_number-clause-derived c =
+    let code = number max_number c.in_ok-code.code in
+    let b = c.takes-comma.result in
+    let n = c.in_ok-code.ensures in
+    let begun = along code (pending b) c.args.self.now c.number.new.self c.takes-comma.new.self (number_derived c.args.self.now c.number.new.self c.in_ok-code.code n.0 n.1 n.2)
+    (comma_pending b c.number.new.self c.takes-comma.new.self c.takes-comma.ensures) in
+    of_class (code then nothing) (code then group_vendor 0) c.args.self.now c.takes-comma.new.self (λ ts k. then_more code nothing (group_vendor 0) ts (λ us l. inl (l, refl)) k)
+    (none_pending code b (begins_with is_number (left c.takes-comma.new.self)) c.args.self.now c.takes-comma.new.self (sym c.wants_number.ensures ∙ c.if-not-wants_number.true) begun)
+
+pub returns-clause-derived : goal.returns-clause-derived
+returns-clause-derived c =
+    let code = number max_number c.in_ok-code.code in
+    let b = c.takes-comma.result in
+    let n = c.in_ok-code.ensures in
+    let v = c.in_ok-vendor.ensures in
+    let begun = along code (pending b) c.args.self.now c.number.new.self c.takes-comma.new.self (number_derived c.args.self.now c.number.new.self c.in_ok-code.code n.0 n.1 n.2)
+    (comma_pending b c.number.new.self c.takes-comma.new.self c.takes-comma.ensures) in
+    of_class (code then comma then number max_number c.in_ok-vendor.vendor) (code then group_vendor c.in_ok-vendor.vendor) c.args.self.now c.number-2.new.self
+    (λ ts k. then_more code (comma then number max_number c.in_ok-vendor.vendor) (group_vendor c.in_ok-vendor.vendor) ts (λ us l. inr l) k)
+    (number_pending code b c.in_ok-vendor.vendor v.0 c.args.self.now c.takes-comma.new.self c.number-2.new.self begun v.1 v.2)

@@ -5,6 +5,12 @@ use Rattle.dia_ccf.specs.Machine.{In_head, Head_word, Avp_colon, Diameter_colon,
 use Rattle.dia_ccf.specs.ReaderFunctions.{course, left, begins_with}
 use Rattle.dia_ccf.proofs.ReaderSteps.{sign_leads, leads_along, exits}
 use Rattle.dia_ccf.proofs.ReaderInHeads.{avp_colon, diameter_colon, keyword_passed}
+use Rattle.std.proofs.Common.{Bool, true}
+use Rattle.dia_ccf.specs.declared.reading.Reader.{Reader}
+use Rattle.dia_ccf.specs.Grammar.{◌then◌, one, keyword, avp_header, diameter_header}
+use Rattle.dia_ccf.specs.ReaderFunctions.{Derived, header_words, group_of, command_of, error_of}
+use Rattle.dia_ccf.proofs.ReaderPlaces.{along, sign_derived}
+use Rattle.dia_ccf.proofs.HeadTokens.{head_by, group_head, command_head, error_head, keyword_taken}
 use Rattle.dia_ccf.proofs.reading.Reader.head.Goals as goal
 
 pub returns-in_err-is_avp_header-clause-read : goal.returns-in_err-is_avp_header-clause-read
@@ -62,3 +68,27 @@ returns-else-takes_keyword-clause-read c = λ done name.
     c.in_ok-expect-2.ensures
     ∙ ap (course (done, In_head name Command_code)) (sym k.1))
     (c.command.ensures.read done name (subst (λ r. begins_with (is_keyword (codes "code")) (left r) ≡ false) (sym k.1) k.0)))
+
+pub returns-then-branch-clause-derived : goal.returns-then-branch-clause-derived
+returns-then-branch-clause-derived c =
+    let words = subst (λ (b : Bool). Derived (header_words b) c.args.self.now c.is_avp_header.new.self) c.if-branch.true c.in_ok-is_avp_header.ensures.derived in
+    head_by avp_header group_of c.group.result c.args.self.now c.expect.new.self c.group.new.self group_head
+    (along (header_words true) (one Colon) c.args.self.now c.is_avp_header.new.self c.expect.new.self words (sign_derived Colon c.is_avp_header.new.self c.expect.new.self refl c.in_ok-expect.ensures))
+    c.group.ensures.derived
+
+pub returns-then-takes_keyword-clause-derived : goal.returns-then-takes_keyword-clause-derived
+returns-then-takes_keyword-clause-derived c =
+    let words = subst (λ (b : Bool). Derived (header_words b) c.args.self.now c.is_avp_header.new.self) c.if-branch.false c.in_ok-is_avp_header.ensures.derived in
+    let begun = along (header_words false) (one Colon) c.args.self.now c.is_avp_header.new.self c.expect-2.new.self words
+    (sign_derived Colon c.is_avp_header.new.self c.expect-2.new.self refl c.in_ok-expect-2.ensures) in
+    head_by (diameter_header then keyword (codes "code")) error_of c.error.result c.args.self.now c.takes_keyword.new.self c.error.new.self error_head
+    (along diameter_header (keyword (codes "code")) c.args.self.now c.expect-2.new.self c.takes_keyword.new.self begun (keyword_taken (codes "code") c.expect-2.new.self c.takes_keyword.new.self c.if-takes_keyword.ensures))
+    c.error.ensures.derived
+
+pub returns-else-takes_keyword-clause-derived : goal.returns-else-takes_keyword-clause-derived
+returns-else-takes_keyword-clause-derived c =
+    let words = subst (λ (b : Bool). Derived (header_words b) c.args.self.now c.is_avp_header.new.self) c.if-branch.false c.in_ok-is_avp_header.ensures.derived in
+    let begun = along (header_words false) (one Colon) c.args.self.now c.is_avp_header.new.self c.expect-2.new.self words
+    (sign_derived Colon c.is_avp_header.new.self c.expect-2.new.self refl c.in_ok-expect-2.ensures) in
+    head_by diameter_header command_of c.command.result c.args.self.now c.takes_keyword.new.self c.command.new.self command_head
+    (subst (λ (r : Reader). Derived diameter_header c.args.self.now r) (sym c.if-takes_keyword.ensures.1) begun) c.command.ensures.derived

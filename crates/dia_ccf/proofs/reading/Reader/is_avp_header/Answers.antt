@@ -7,6 +7,11 @@ use Rattle.dia_ccf.specs.Machine.{HeadPlace, In_head, Head_word, Avp_word, Avp_c
 use Rattle.dia_ccf.specs.ReaderFunctions.{course, left, begins_with, Wants}
 use Rattle.dia_ccf.proofs.ReaderSteps.{map_twice, accepted, leads_along, exits}
 use Rattle.dia_ccf.proofs.ReaderInHeads.{keyword_passed}
+use Rattle.std.proofs.Common.{inl, inr, true}
+use Rattle.dia_ccf.specs.Grammar.{◌then◌, keyword}
+use Rattle.dia_ccf.specs.ReaderFunctions.{header_words}
+use Rattle.dia_ccf.proofs.ReaderPlaces.{along, of_class}
+use Rattle.dia_ccf.proofs.HeadTokens.{keyword_taken, keyword_read, behind_none}
 use Rattle.dia_ccf.proofs.reading.Reader.is_avp_header.Goals as goal
 
 avp_wanted : (done : PlainSource) (name : List ℕ) (ts : List Token)
@@ -107,3 +112,36 @@ returns-in_ok-expect_keyword-3-clause-read c = λ done name.
     ap (course (done, In_head name Head_word)) (sym all)
     ∙ accepted {X = Unit {0}} false false (keyword_at (codes "diameter-header")) (λ u. tt) (λ u. (done, In_head name Diameter_colon)) (done, In_head name Head_word)
     c.takes_keyword-3.new.self c.expect_keyword-else-takes_keyword-3.new.self (Ok tt) wanted c.in_ok-expect_keyword-3.ensures)
+
+pub returns-then-takes_keyword-clause-derived : goal.returns-then-takes_keyword-clause-derived
+returns-then-takes_keyword-clause-derived c =
+    let first = keyword (codes "avp") in
+    let second = keyword (codes "header") in
+    of_class (first then second) (header_words true) c.args.self.now c.expect_keyword.new.self (λ ts k. inl k)
+    (along first second c.args.self.now c.takes_keyword.new.self c.expect_keyword.new.self (keyword_taken (codes "avp") c.args.self.now c.takes_keyword.new.self c.if-takes_keyword.ensures)
+    (keyword_read (codes "header") c.takes_keyword.new.self c.expect_keyword.new.self c.in_ok-expect_keyword.ensures))
+
+pub returns-then-takes_keyword-2-clause-derived : goal.returns-then-takes_keyword-2-clause-derived
+returns-then-takes_keyword-2-clause-derived c =
+    let word = keyword (codes "avp-header") in
+    of_class word (header_words true) c.args.self.now c.takes_keyword-2.new.self (λ ts k. inr k)
+    (behind_none word c.args.self.now c.takes_keyword.new.self c.takes_keyword-2.new.self c.if-takes_keyword.ensures.1
+    (keyword_taken (codes "avp-header") c.takes_keyword.new.self c.takes_keyword-2.new.self c.if-takes_keyword-2.ensures))
+
+pub returns-in_ok-expect_keyword-2-clause-derived : goal.returns-in_ok-expect_keyword-2-clause-derived
+returns-in_ok-expect_keyword-2-clause-derived c =
+    let first = keyword (codes "diameter") in
+    let second = keyword (codes "header") in
+    let last = c.expect_keyword-then-takes_keyword-3.new.self in
+    of_class (first then second) (header_words false) c.args.self.now last (λ ts k. inl k)
+    (behind_none (first then second) c.args.self.now c.takes_keyword-2.new.self last (c.if-takes_keyword-2.ensures.1 ∙ c.if-takes_keyword.ensures.1)
+    (along first second c.takes_keyword-2.new.self c.takes_keyword-3.new.self last (keyword_taken (codes "diameter") c.takes_keyword-2.new.self c.takes_keyword-3.new.self c.if-takes_keyword-3.ensures)
+    (keyword_read (codes "header") c.takes_keyword-3.new.self last c.in_ok-expect_keyword-2.ensures)))
+
+pub returns-in_ok-expect_keyword-3-clause-derived : goal.returns-in_ok-expect_keyword-3-clause-derived
+returns-in_ok-expect_keyword-3-clause-derived c =
+    let word = keyword (codes "diameter-header") in
+    let last = c.expect_keyword-else-takes_keyword-3.new.self in
+    of_class word (header_words false) c.args.self.now last (λ ts k. inr k)
+    (behind_none word c.args.self.now c.takes_keyword-3.new.self last (c.if-takes_keyword-3.ensures.1 ∙ c.if-takes_keyword-2.ensures.1 ∙ c.if-takes_keyword.ensures.1)
+    (keyword_read (codes "diameter-header") c.takes_keyword-3.new.self last c.in_ok-expect_keyword-3.ensures))

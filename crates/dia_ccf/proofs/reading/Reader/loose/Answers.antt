@@ -7,6 +7,8 @@ use Rattle.dia_ccf.specs.ReaderFunctions.{course}
 use Rattle.dia_ccf.proofs.ReaderSteps.{leads_along, exits, slot_named}
 use Rattle.dia_ccf.proofs.ReaderInHeads.{takes_farther}
 use Rattle.dia_ccf.proofs.ReaderInRules.{loose_rule, brace_opened, bracket_leads, slot_leads, close_leads}
+use Rattle.dia_ccf.specs.Tokens.{Open_bracket, Close_brace, Close_bracket}
+use Rattle.dia_ccf.proofs.ReaderPlaces.{bracket_derived, takes_derived, started}
 use Rattle.dia_ccf.proofs.reading.Reader.loose.Goals as goal
 
 -- ---- in braces
@@ -89,3 +91,13 @@ returns-clause-farther c = omega (
   c.in_ok-name-2.ensures.2.2,
   c.in_ok-expect-3.ensures.2.2,
 )
+
+pub returns-then-takes-clause-derived : goal.returns-then-takes-clause-derived
+returns-then-takes-clause-derived c =
+    bracket_derived Open_brace Close_brace c.args.self.now c.takes.new.self c.slot.new.self c.expect.new.self c.in_ok-name.name refl
+    (takes_derived Open_brace c.args.self.now c.takes.new.self refl c.if-takes.ensures) c.in_ok-name.ensures c.in_ok-expect.ensures
+
+pub returns-clause-derived : goal.returns-clause-derived
+returns-clause-derived c =
+    bracket_derived Open_bracket Close_bracket c.args.self.now c.expect-2.new.self c.slot-2.new.self c.expect-3.new.self c.in_ok-name-2.name refl
+    (started Open_bracket c.args.self.now c.takes.new.self c.expect-2.new.self c.if-takes.ensures.1 refl c.in_ok-expect-2.ensures) c.in_ok-name-2.ensures c.in_ok-expect-3.ensures

@@ -1,9 +1,11 @@
-use Rattle.std.proofs.Common.{Ok, Err}
+use Rattle.std.proofs.Common.{Ok, Err, refl}
 use Rattle.std.specs.Prelude.{true, false, string_bytes}
 use Rattle.dia_ccf.specs.Tokens.{Greater}
 use Rattle.dia_ccf.specs.Machine.{name_at, sign_at}
 use Rattle.dia_ccf.specs.ReaderFunctions.{course, left}
 use Rattle.dia_ccf.proofs.ReaderSteps.{accepted, wants_by, leads_along, exits, named_by}
+use Rattle.dia_ccf.specs.Grammar.{name, one}
+use Rattle.dia_ccf.proofs.ReaderPlaces.{along, name_derived, sign_derived}
 use Rattle.dia_ccf.proofs.reading.Reader.name_in_angles.Goals as goal
 
 pub returns-in_err-expect-clause-read : goal.returns-in_err-expect-clause-read
@@ -19,3 +21,9 @@ returns-in_err-expect-clause-read c = λ state mid to h k.
 
 pub returns-clause-named : goal.returns-clause-named
 returns-clause-named c = named_by c.args.self.now c.name.new.self (Ok c.in_ok-name.name) c.in_ok-name.ensures
+
+pub returns-clause-derived : goal.returns-clause-derived
+returns-clause-derived c =
+    let n = string_bytes c.in_ok-name.name in
+    along (name n) (one Greater) c.args.self.now c.name.new.self c.expect.new.self (name_derived c.args.self.now c.name.new.self c.in_ok-name.name c.in_ok-name.ensures)
+    (sign_derived Greater c.name.new.self c.expect.new.self refl c.in_ok-expect.ensures)

@@ -7,6 +7,9 @@ use Rattle.dia_ccf.specs.Machine.{In_head, Error_either, Error_close, Head_end, 
 use Rattle.dia_ccf.specs.ReaderFunctions.{course, left}
 use Rattle.dia_ccf.proofs.ReaderSteps.{accepted, leads_along, exits}
 use Rattle.dia_ccf.proofs.ReaderInHeads.{comma_then, proxy_stops, either_closes, takes_farther}
+use Rattle.dia_ccf.specs.Grammar.{◌then◌, one, comma, keyword}
+use Rattle.dia_ccf.proofs.ReaderPlaces.{along, sign_derived}
+use Rattle.dia_ccf.proofs.HeadTokens.{comma_passed, keyword_read}
 use Rattle.dia_ccf.proofs.reading.Reader.proxy_in_brackets.Goals as goal
 
 pub returns-in_err-expect_keyword-clause-read : goal.returns-in_err-expect_keyword-clause-read
@@ -40,3 +43,10 @@ returns-clause-farther c = omega (
   c.in_ok-expect_keyword.ensures.2.2,
   c.in_ok-expect.ensures.2.2,
 )
+
+pub returns-clause-derived : goal.returns-clause-derived
+returns-clause-derived c =
+    let word = keyword (codes "pxy") in
+    along comma (word then one Close_bracket) c.args.self.now c.takes.new.self c.expect.new.self (comma_passed c.takes.result c.args.self.now c.takes.new.self c.takes.ensures)
+    (along word (one Close_bracket) c.takes.new.self c.expect_keyword.new.self c.expect.new.self (keyword_read (codes "pxy") c.takes.new.self c.expect_keyword.new.self c.in_ok-expect_keyword.ensures)
+    (sign_derived Close_bracket c.expect_keyword.new.self c.expect.new.self refl c.in_ok-expect.ensures))

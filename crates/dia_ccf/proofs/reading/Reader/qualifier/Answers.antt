@@ -2,6 +2,9 @@ use Rattle.std.proofs.Common.{arith, refl, ◌∙◌}
 use Rattle.dia_ccf.specs.Machine.{Rules, Qual_star, Qual_done}
 use Rattle.dia_ccf.specs.ReaderFunctions.{course}
 use Rattle.dia_ccf.proofs.ReaderSteps.{leads_along, exits, min_read, max_read, min_stops, star_stops, max_stops}
+use Rattle.dia_ccf.specs.Tokens.{Star}
+use Rattle.dia_ccf.specs.Grammar.{◌then◌, one, count}
+use Rattle.dia_ccf.proofs.ReaderPlaces.{along, sign_derived}
 use Rattle.dia_ccf.proofs.reading.Reader.qualifier.Goals as goal
 
 pub returns-in_err-min-clause-read : goal.returns-in_err-min-clause-read
@@ -35,3 +38,10 @@ returns-clause-farther c = omega (arith, c.in_ok-min.ensures.farther, c.in_ok-ex
 
 pub returns-clause-small : goal.returns-clause-small
 returns-clause-small c = rw (c.in_ok-min.ensures.small, c.in_ok-max.ensures.small) refl
+
+pub returns-clause-derived : goal.returns-clause-derived
+returns-clause-derived c =
+    let min = c.in_ok-min.min in
+    let max = c.in_ok-max.max in
+    along (count min) (one Star then count max) c.args.self.now c.count.new.self c.count-2.new.self c.in_ok-min.ensures.derived
+    (along (one Star) (count max) c.count.new.self c.expect.new.self c.count-2.new.self (sign_derived Star c.count.new.self c.expect.new.self refl c.in_ok-expect.ensures) c.in_ok-max.ensures.derived)

@@ -10,6 +10,7 @@ use Rattle.dia_ccf.proofs.TokenTests.{number_at-is}
 use Rattle.dia_ccf.proofs.MachineRuns.{outcome_same, number_at-some}
 use Rattle.dia_ccf.proofs.DeclarationCompleteness.{and_false}
 use Rattle.dia_ccf.proofs.ReaderSteps.{accepted, takes_sign, leads_along, exits}
+use Rattle.dia_ccf.proofs.ReaderPlaces.{range_derived, value_alone}
 use Rattle.dia_ccf.proofs.reading.Reader.range.Goals as goal
 
 low_wanted : (done : PlainSource) (d : PlainDecl) (ranges : List (ℕ × ℕ)) (ts : List Token) → (not (is_none ranges) && begins_with (same_sign Close_parenthesis) ts) ≡ false
@@ -69,3 +70,10 @@ returns-clause-read c = λ done d ranges h.
     (low_wanted done d ranges (left c.args.self.now) h) c.in_ok-low.ensures
     ∙ ap (λ (o : Outcome). (c.number.new.self.text.now, o)) (one_value done d ranges low (left c.number.new.self) c.if-takes.ensures.0)
     ∙ ap (course (done, In_values d (ranges ++ (low, low) ∷ []))) (sym c.if-takes.ensures.1))
+
+pub returns-then-takes-clause-derived : goal.returns-then-takes-clause-derived
+returns-then-takes-clause-derived c =
+    range_derived c.in_ok-low.low c.in_ok-high.high c.args.self.now c.number.new.self c.takes.new.self c.number-then-takes.new.self c.in_ok-low.ensures c.if-takes.ensures c.in_ok-high.ensures
+
+pub returns-clause-derived : goal.returns-clause-derived
+returns-clause-derived c = value_alone c.in_ok-low.low c.args.self.now c.number.new.self c.takes.new.self c.in_ok-low.ensures c.if-takes.ensures.1

@@ -5,7 +5,8 @@ use Rattle.dia_ccf.specs.Names.{is_range}
 use Rattle.dia_ccf.specs.Tokens.{Close_parenthesis}
 use Rattle.dia_ccf.specs.Plain.{PlainDecl, PlainSource}
 use Rattle.dia_ccf.specs.Machine.{In_values, is_none, same_sign}
-use Rattle.dia_ccf.specs.ReaderFunctions.{course, begins_with, left}
+use Rattle.dia_ccf.specs.ReaderFunctions.{course, begins_with, left, Derived}
+use Rattle.dia_ccf.specs.Grammar.{each, range}
 use Rattle.dia_ccf.proofs.reading.Reader.ranges.Given as goal
 
 abbrev pub invariant-loop-ranges : goal.invariant-loop-ranges
@@ -13,6 +14,7 @@ invariant-loop-ranges l = record {
   read : (done : PlainSource) (d : PlainDecl) → course (done, In_values d []) l.initial.self ≡ course (done, In_values d l.ranges.items) l.self;
   closed : (not (is_none l.ranges.items) && begins_with (same_sign Close_parenthesis) (left l.self)) ≡ false;
   listed : IsTrue (list_all is_range l.ranges.items);
+  derived : Derived (each range l.ranges.items) l.initial.self l.self;
   farther : l.initial.self.taken ≤ l.self.taken;
 }
 

@@ -1,10 +1,16 @@
-use Rattle.std.proofs.Common.{Option, sym, ap, ◌∙◌}
+use Rattle.std.proofs.Common.{Option, sym, ap, subst, refl, ◌∙◌}
 use Rattle.dia_ccf.specs.declared.reading.Reader.{Reader}
 use Rattle.dia_ccf.specs.declared.reading.definitions.Opening.{Opening}
 use Rattle.dia_ccf.specs.Plain.{PlainSource, plain_source}
 use Rattle.dia_ccf.specs.Tokens.{Declares}
 use Rattle.dia_ccf.specs.Machine.{Between, same_sign}
 use Rattle.dia_ccf.specs.ReaderFunctions.{course, behind, begins_with, left}
+use Rattle.dia_ccf.proofs.ReaderPlaces.{placed_still, same_text, began, decl_stands}
+use Rattle.dia_ccf.proofs.ReaderSteps.{takes_sign}
+use Rattle.std.specs.Prelude.{IfSome, string_bytes}
+use Rattle.dia_ccf.specs.Places.{opened}
+use Rattle.dia_ccf.specs.ReaderFunctions.{From}
+use Rattle.dia_ccf.specs.Machine.{Decl_name}
 use Rattle.dia_ccf.proofs.reading.Reader.source.Goals as goal
 
 pub loop-next-preserved-in-Some : goal.loop-next-preserved-in-Some
@@ -16,6 +22,9 @@ loop-next-preserved-in-Some c =
           ∙ c.in_ok-def.ensures.read read
           ∙ ap (λ (s : PlainSource). course (s, behind c.in_ok-def.following) c.definition.new.self) (sym c.in_ok-keep_definition.ensures.kept);
       named = c.in_ok-def.ensures.named;
+      placed = c.in_ok-keep_definition.ensures.placed c.definition.new.self.text.now
+          (placed_still c.loop-next.self.text.now c.definition.new.self.text.now c.loop-next.source (same_text (c.in_ok-def.ensures.read read)) c.loop-next.invariant.placed) c.in_ok-def.ensures.placed;
+      begun = c.in_ok-def.ensures.begun;
     }
 
 pub loop-next-preserved : goal.loop-next-preserved
@@ -28,4 +37,25 @@ loop-next-preserved c =
           ∙ ap (course (read, Between)) (sym same)
           ∙ c.in_ok-name.ensures.read read (ap (λ (r : Reader). begins_with (same_sign Declares) (left r)) same ∙ c.if-takes.ensures.0);
       named = c.in_ok-name.ensures.named;
+      placed = placed_still c.loop-next.self.text.now c.defined_name.new.self.text.now c.loop-next.source
+          (ap (λ (r : Reader). r.text.now) (sym same) ∙ c.in_ok-name.ensures.derived.3) c.loop-next.invariant.placed;
+      begun = began c.loop-next.self c.takes.new.self c.defined_name.new.self c.in_ok-name.name same c.in_ok-name.ensures.derived;
+    }
+
+pub loop-next-preserved-in-Continue-branch-4 : goal.loop-next-preserved-in-Continue-branch-4
+loop-next-preserved-in-Continue-branch-4 c =
+    let read = plain_source c.loop-next.source in
+    let now = c.declaration.new.self in
+    let none = c.in_default.is in
+    let took = c.if-takes.ensures in
+    record {
+      read =
+          c.loop-next.invariant.read ∙ ap (λ (o : Option Opening). course (read, behind o) c.loop-next.self) none
+          ∙ takes_sign (read, Between) (read, Decl_name) Declares c.loop-next.self c.takes.new.self took refl ∙ c.in_ok-decl.ensures.read read
+          ∙ ap (λ (s : PlainSource). course (s, Between) now) (sym c.in_ok-keep_declaration.ensures.kept)
+          ∙ ap (λ (o : Option Opening). course (plain_source c.keep_declaration.new.source, behind o) now) (sym none);
+      named = c.loop-next.invariant.named;
+      placed = c.in_ok-keep_declaration.ensures.placed now.text.now (placed_still c.loop-next.self.text.now now.text.now c.loop-next.source (took.2.1 ∙ same_text (c.in_ok-decl.ensures.read read)) c.loop-next.invariant.placed)
+          (decl_stands c.in_ok-decl.decl c.loop-next.self c.takes.new.self now c.in_ok-decl.ensures.placed took c.in_ok-decl.ensures.derived);
+      begun = subst (λ (o : Option Opening). IfSome o (λ next. From next.at (opened (string_bytes next.name)) now)) (sym none) tt;
     }

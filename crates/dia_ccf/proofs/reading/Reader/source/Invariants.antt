@@ -3,13 +3,16 @@ use Rattle.std.specs.Prelude.{IsTrue, IfSome, string_bytes}
 use Rattle.dia_ccf.specs.Names.{is_name}
 use Rattle.dia_ccf.specs.Plain.{plain_source}
 use Rattle.dia_ccf.specs.Machine.{Between}
-use Rattle.dia_ccf.specs.ReaderFunctions.{course, behind, nothing_read}
+use Rattle.dia_ccf.specs.ReaderFunctions.{course, behind, nothing_read, From}
+use Rattle.dia_ccf.specs.Places.{IsPlaced, opened}
 use Rattle.dia_ccf.proofs.reading.Reader.source.Given as goal
 
 abbrev pub invariant-loop-next : goal.invariant-loop-next
 invariant-loop-next l = record {
   read : course (nothing_read, Between) l.initial.self ≡ course (plain_source l.source, behind l.next) l.self;
   named : IfSome l.next (λ next. IsTrue (is_name (string_bytes next.name)));
+  placed : IsPlaced l.self.text.now l.source;
+  begun : IfSome l.next (λ next. From next.at (opened (string_bytes next.name)) l.self);
 }
 
 abbrev pub decreases-loop-next : goal.decreases-loop-next

@@ -6,6 +6,9 @@ use Rattle.dia_ccf.specs.Machine.{Between, add_decl, same_sign}
 use Rattle.dia_ccf.specs.ReaderFunctions.{course, left, begins_with}
 use Rattle.dia_ccf.proofs.DeclarationCompleteness.{and_false}
 use Rattle.dia_ccf.proofs.ReaderInDeclarations.{enumerated_is, values_opened, no_values}
+use Rattle.std.proofs.Common.{None, refl}
+use Rattle.dia_ccf.specs.Grammar.{values}
+use Rattle.dia_ccf.proofs.ReaderPlaces.{values_derived, unmoved}
 use Rattle.dia_ccf.proofs.reading.Reader.values.Goals as goal
 use Rattle.dia_ccf.proofs.reading.Reader.values.Goals.{else-eq-via-then-eq+else-takes, else-eq-via-else-eq}
 
@@ -27,3 +30,15 @@ returns-clause-read c = λ done d same none.
           (ap (λ (b : Bool). b && ahead) (ap is_enumerated same ∙ enumerated_is c.args.format ∙ sym c.eq.ensures ∙ w.if-eq.false))
     ]
     ∙ ap (λ (v : Option (List (ℕ × ℕ))). course (add_decl done (record d { values = v }), Between) c.else-eq.self) none)
+
+pub returns-then-takes-clause-derived : goal.returns-then-takes-clause-derived
+returns-then-takes-clause-derived c =
+    values_derived c.args.format c.in_ok-ranges.ranges.items c.args.self.now c.takes.new.self c.ranges-then-takes.new.self (enumerated_is c.args.format ∙ sym c.eq.ensures ∙ c.if-eq.true)
+    c.in_ok-ranges.ensures.some c.if-takes.ensures c.in_ok-ranges.ensures.derived
+
+pub returns-clause-derived : goal.returns-clause-derived
+returns-clause-derived c =
+    elim c.else-eq.branch [
+      | else-eq-via-then-eq+else-takes w ↦ unmoved (values c.args.format None) c.args.self.now c.else-eq.self (w.self-is ∙ w.if-takes.ensures.1) refl
+      | else-eq-via-else-eq w ↦ unmoved (values c.args.format None) c.args.self.now c.else-eq.self w.self-is refl
+    ]
