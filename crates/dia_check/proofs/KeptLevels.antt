@@ -22,13 +22,16 @@ use Rattle.dia_check.proofs.Tallies.{unmet_rising, unmet_below, unmet_none}
 
 -- ---- a level of which nothing was read
 
-pub fresh : (rules : List DRule) (level : OpenLevel) (many : ℕ) → level.run ≡ 0 → many ≤ length rules → IsCounted rules [] level (unmet 0 many)
-fresh rules level many run le = record {
+pub fresh : (rules : List DRule) (level : OpenLevel) (many : ℕ) → level.run ≡ 0 → many ≤ length rules → IsFirstWanted rules 0 level.done
+    → IsCounted rules [] level (unmet 0 many)
+fresh rules level many run le wanted = record {
   run = rw run (at_start (fixed_rules rules));
   rising = unmet_rising 0 many;
   below = unmet_below 0 many (length rules) (omega (arith, le));
   counted = λ i rule at. unmet_none 0 many i ∙ sym (met_none rules i rule);
   met_before = λ i rule from to at. absurd (omega (arith, run, to));
+  done_within = wanted.within;
+  done = λ i rule from to at. let none = wanted.none_before i rule from to at in omega (arith, none);
 }
 
 -- ---- a level more, and one less
@@ -146,13 +149,13 @@ own_counted defs o outer level rules tally now same e =
     (subst (λ (rs : List DRule). IsCounted rs level.keys o.innermost now.mine) same now.innermost.counted)
 
 -- a level is opened in the innermost one
-pub opened : (defs : List PlainDefinition) (definition : PlainDefinition) (old new : OpenLevels) (outer : List SoFar) (level : SoFar) (rules : List DRule) (def end many : ℕ) (now : AreOpen defs old outer level)
-    → slice_get defs def ≡ Some definition → definition.rules ≡ rules → many ≤ length rules
-    → new.innermost ≡ record { def = def; end = end; base = length old.tallies.items; run = 0 }
+pub opened : (defs : List PlainDefinition) (definition : PlainDefinition) (old new : OpenLevels) (outer : List SoFar) (level : SoFar) (rules : List DRule) (def end many done : ℕ) (now : AreOpen defs old outer level)
+    → slice_get defs def ≡ Some definition → definition.rules ≡ rules → many ≤ length rules → IsFirstWanted rules 0 done
+    → new.innermost ≡ record { def = def; end = end; base = length old.tallies.items; run = 0; done = done }
     → new.outer.items ≡ old.outer.items ++ old.innermost ∷ [] → new.tallies.items ≡ old.tallies.items ++ unmet 0 many
     → vec_capacity old.tallies ≤ vec_capacity new.tallies → length old.tallies.items + length rules ≤ vec_capacity new.tallies
     → AreOpen defs new (outer ++ level ∷ []) (begun rules end)
-opened defs definition old new outer level rules def end many o is_definition is_rules few is_innermost is_outer is_tallies more enough = record {
+opened defs definition old new outer level rules def end many done o is_definition is_rules few wanted is_innermost is_outer is_tallies more enough = record {
   before = o.before ++ o.mine;
   mine = unmet 0 many;
   parts = is_tallies ∙ ap (λ (t : List Met). t ++ unmet 0 many) o.parts;
@@ -163,7 +166,7 @@ opened defs definition old new outer level rules def end many o is_definition is
     is_definition = is_definition;
     is_rules = is_rules;
     is_end = refl;
-    counted = fresh rules _ many refl few;
+    counted = fresh rules _ many refl few wanted;
   });
   outer_room = rw is_outer (room_push (vec_capacity new.tallies) old.outer.items outer old.innermost level
       (room_more (vec_capacity old.tallies) (vec_capacity new.tallies) old.outer.items outer more o.outer_room) (let own = o.room in omega (arith, own, more)));
@@ -171,12 +174,12 @@ opened defs definition old new outer level rules def end many o is_definition is
 }
 
 -- the body is opened
-pub body_opened : (defs : List PlainDefinition) (definition : PlainDefinition) (new : OpenLevels) (rules : List DRule) (def end many : ℕ)
-    → slice_get defs def ≡ Some definition → definition.rules ≡ rules → many ≤ length rules
-    → new.innermost ≡ record { def = def; end = end; base = 0; run = 0 }
+pub body_opened : (defs : List PlainDefinition) (definition : PlainDefinition) (new : OpenLevels) (rules : List DRule) (def end many done : ℕ)
+    → slice_get defs def ≡ Some definition → definition.rules ≡ rules → many ≤ length rules → IsFirstWanted rules 0 done
+    → new.innermost ≡ record { def = def; end = end; base = 0; run = 0; done = done }
     → new.outer.items ≡ [] → new.tallies.items ≡ unmet 0 many → length rules ≤ vec_capacity new.tallies
     → AreOpen defs new [] (begun rules end)
-body_opened defs definition new rules def end many is_definition is_rules few is_innermost is_outer is_tallies enough = record {
+body_opened defs definition new rules def end many done is_definition is_rules few wanted is_innermost is_outer is_tallies enough = record {
   before = [];
   mine = unmet 0 many;
   parts = is_tallies;
@@ -187,7 +190,7 @@ body_opened defs definition new rules def end many is_definition is_rules few is
     is_definition = is_definition;
     is_rules = is_rules;
     is_end = refl;
-    counted = fresh rules _ many refl few;
+    counted = fresh rules _ many refl few wanted;
   });
   outer_room = rw is_outer tt;
   room = let at = ap (λ (l : OpenLevel). l.base) is_innermost in omega (arith, at, enough);
@@ -250,6 +253,8 @@ told_further defs old new outer level rules rule place now same t is_innermost i
       below = subst (λ (rs : List DRule). AreBelow (length rs) (drop old.innermost.base new.tallies.items)) (sym same) t.below;
       counted = λ i r at. counts i ∙ now.innermost.counted.counted i r at;
       met_before = λ i r from to at. let enough = now.innermost.counted.met_before i r from to at in let e = counts i in omega (arith, enough, e);
+      done_within = now.innermost.counted.done_within;
+      done = λ i r from to at. let enough = now.innermost.counted.done i r from to at in let e = counts i in omega (arith, enough, e);
     };
   });
   outer_room = subst (λ (ks : List OpenLevel). HaveTallyRoom (vec_capacity new.tallies) ks outer) (sym is_outer)
@@ -267,12 +272,12 @@ met_again rules keys level old new from to a b met i rule above below at =
     let enough = met i rule above below at in let e = a.counted i rule at in let f = b.counted i rule at in omega (arith, enough, e, f)
 
 -- the innermost level is met further
-pub met_further : (defs : List PlainDefinition) (old new : OpenLevels) (outer : List SoFar) (level : SoFar) (rules : List DRule) (key : Key) (run : ℕ) (tally : List Met)
+pub met_further : (defs : List PlainDefinition) (old new : OpenLevels) (outer : List SoFar) (level : SoFar) (rules : List DRule) (key : Key) (run done : ℕ) (tally : List Met)
     (now : AreOpen defs old outer level) → level.rules ≡ rules
-    → IsCounted rules (level.keys ++ key ∷ []) (record old.innermost { run = run }) tally → new.innermost ≡ record old.innermost { run = run }
+    → IsCounted rules (level.keys ++ key ∷ []) (record old.innermost { run = run; done = done }) tally → new.innermost ≡ record old.innermost { run = run; done = done }
     → new.outer.items ≡ old.outer.items → new.tallies.items ≡ take old.innermost.base old.tallies.items ++ tally → vec_capacity old.tallies ≤ vec_capacity new.tallies
     → AreOpen defs new outer (and_key level key)
-met_further defs old new outer level rules key run tally now same counted is_innermost is_outer is_tallies more = record {
+met_further defs old new outer level rules key run done tally now same counted is_innermost is_outer is_tallies more = record {
   before = now.before;
   mine = tally;
   parts = is_tallies ∙ ap (λ (t : List Met). t ++ tally) (tallies_before defs old outer level now);
@@ -283,11 +288,42 @@ met_further defs old new outer level rules key run tally now same counted is_inn
     is_definition = now.innermost.is_definition;
     is_rules = now.innermost.is_rules;
     is_end = now.innermost.is_end;
-    counted = subst (λ (rs : List DRule). IsCounted rs (level.keys ++ key ∷ []) (record old.innermost { run = run }) tally) (sym same) counted;
+    counted = subst (λ (rs : List DRule). IsCounted rs (level.keys ++ key ∷ []) (record old.innermost { run = run; done = done }) tally) (sym same) counted;
   });
   outer_room = subst (λ (t : List OpenLevel). HaveTallyRoom (vec_capacity new.tallies) t outer) (sym is_outer)
       (room_more (vec_capacity old.tallies) (vec_capacity new.tallies) old.outer.items outer more now.outer_room);
   room = let own = now.room in let at = ap (λ (i : OpenLevel). i.base) is_innermost in omega (arith, own, at, more);
+}
+
+-- ---- the rules that are met, up to a place
+
+pub met_all : (rules : List DRule) (tally : List Met) (from to : ℕ) → AreMet rules tally 0 from → AreMet rules tally from to → AreMet rules tally 0 to
+met_all rules tally from to a b i rule above below at = by (nat_lt i from) refl
+  where
+    by : (x : Bool) → nat_lt i from ≡ x → rule.min ≤ count_in tally i
+    by true e = a i rule above (ltb-true i from e) at
+    by false e = b i rule (ltb-false i from e) below at
+
+pub unmet_all : (rules : List DRule) (tally : List Met) (from to i : ℕ) → AreMet rules tally 0 from → IsFirstUnmet rules tally from to i → IsFirstUnmet rules tally 0 to i
+unmet_all rules tally from to i a u = record {
+  from_here = omega arith;
+  inside = u.inside;
+  rule = u.rule;
+  is_rule = u.is_rule;
+  unmet = u.unmet;
+  met_before = met_all rules tally from i a u.met_before;
+}
+
+pub done_further : (rules : List DRule) (keys : List Key) (level : OpenLevel) (tally : List Met) (done : ℕ) → IsCounted rules keys level tally → done ≤ length rules → AreMet rules tally 0 done
+    → IsCounted rules keys (record level { done = done }) tally
+done_further rules keys level tally done c within met = record {
+  run = c.run;
+  rising = c.rising;
+  below = c.below;
+  counted = c.counted;
+  met_before = c.met_before;
+  done_within = within;
+  done = met;
 }
 
 -- ---- the end of a level

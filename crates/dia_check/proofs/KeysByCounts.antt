@@ -163,6 +163,8 @@ module _ (rules : List DRule) (are : AreRules rules) (keys : List Key) (key : Ke
           below = one.below;
           counted = λ j other here. one.counts j ∙ sym (met_next j other here);
           met_before = λ j other from lt here. let old = met_to run enough j other from lt here in let more = one.counts j in omega (arith, old, more);
+          done_within = c.done_within;
+          done = λ j other from lt here. let old = c.done j other from lt here in let more = one.counts j in omega (arith, old, more);
         };
       }
         where

@@ -71,6 +71,8 @@ pub record IsCounted (rules : List DRule) (keys : List Key) (level : OpenLevel) 
   pub below : AreBelow (length rules) tally
   pub counted : (i : ℕ) (rule : DRule) → slice_get rules i ≡ Some rule → count_in tally i ≡ met rules keys i rule
   pub met_before : AreMet rules tally 0 level.run
+  pub done_within : level.done ≤ length rules
+  pub done : AreMet rules tally 0 level.done
 
 -- where one key more leads: into the run of a fixed rule or behind all the runs, and to the rule that counts it
 pub record Leads (rules : List DRule) (keys : List Key) (key : Key) (old run : ℕ) (rule : Option ℕ) : Type 0 where

@@ -3,7 +3,7 @@
 mod tally;
 mod unmet;
 
-ghost use Rattle.std.specs.Prelude.{◌≡◌, ◌<◌, ◌++◌, ◌∷◌, [], List, Option};
+ghost use Rattle.std.specs.Prelude.{◌≡◌, ◌<◌, ◌≤◌, ◌↔◌, ◌++◌, ◌∷◌, [], List, Option};
 ghost use Rattle.std.specs.Prelude.{Some, drop, length, slice_get, MatchOption};
 ghost use Rattle.std.specs.Prelude.{OnOk, IfOk, IsTrue, IsFalse, MatchResult};
 ghost use Rattle.dia_wire.specs.declared.Key.{Key as AnyKey};
@@ -17,7 +17,7 @@ ghost use Rattle.dia_check.specs.OpenLevels.{IsMetAtEnd, IsMissingAtEnd, SoFar};
 ghost use Rattle.dia_check.specs.OpenLevels.{begun, and_key, HasRoom, AreOpen};
 
 use self::tally::{Met, lay_out, read, told_at, write};
-use self::unmet::{first_unmet, missing, unmet_among};
+use self::unmet::{first_unmet, met_up_to, missing, unmet_among};
 use crate::fault::{Reason, Subject};
 use dia_book::{DRule, DefId, Shape, Slot};
 use dia_wire::Key;
@@ -47,6 +47,9 @@ pub(crate) struct OpenLevel {
     base: usize,
     /// The fixed rule in whose run the level is; behind the last run, the number of fixed rules.
     run: usize,
+    /// A place in front of which each rule was met often enough: the number of rules, where the AVPs that have to be there
+    /// came in the order of their rules.
+    done: usize,
 }
 
 /// The levels that are open, and their tallies, one level behind the other.
@@ -81,16 +84,18 @@ impl Wrong {
 }
 
 impl OpenLevel {
-    /// A level of which nothing was read yet, whose tally begins at a place.
+    /// A level of which nothing was read yet, whose tally begins at a place, and whose first rule with a least count stands
+    /// at another.
     #[inline(always)]
-    fn new(def: DefId, end: usize, base: usize) -> Self
-        ensures { result ≡ record { def = def; end = end; base = base; run = 0 } }
+    fn new(def: DefId, end: usize, base: usize, done: usize) -> Self
+        ensures { result ≡ record { def = def; end = end; base = base; run = 0; done = done } }
     {
         OpenLevel {
             def,
             end,
             base,
             run: 0,
+            done,
         }
     }
 
@@ -146,21 +151,23 @@ impl OpenLevels {
         alloc: Global,
         def: DefId,
         rules: &[DRule],
+        shape: &Shape,
         end: usize,
     ) -> Result<Self, AllocError>
+        requires { IsShape rules.now shape.now }
         ensures { (defs : List PlainDefinition) (definition : PlainDefinition)
             → slice_get defs def ≡ Some definition → definition.rules ≡ rules.now
             → IfOk result (λ levels. AreOpen defs levels [] (begun rules.now end)) }
     {
         let mut levels = OpenLevels::empty(alloc);
-        levels.begin(def, rules, end)?;
+        levels.begin(def, rules, shape, end)?;
         Ok(levels)
     }
 
     /// Levels of no message, which have no memory yet.
     pub(crate) fn empty(alloc: Global) -> Self {
         OpenLevels {
-            innermost: OpenLevel::new(DefId::new(0), 0, 0),
+            innermost: OpenLevel::new(DefId::new(0), 0, 0, 0),
             outer: Vec::new(alloc),
             tallies: Vec::new(alloc),
         }
@@ -173,8 +180,10 @@ impl OpenLevels {
         &mut self,
         def: DefId,
         rules: &[DRule],
+        shape: &Shape,
         end: usize,
     ) -> Result<(), AllocError>
+        requires { IsShape rules.now shape.now }
         ensures { (defs : List PlainDefinition) (definition : PlainDefinition)
             → slice_get defs def ≡ Some definition → definition.rules ≡ rules.now
             → OnOk result (AreOpen defs self.new [] (begun rules.now end)) }
@@ -183,7 +192,7 @@ impl OpenLevels {
         self.tallies.clear();
         self.tallies.reserve(rules.len() + ROOM_FOR_GROUPS)?;
         lay_out(&mut self.tallies, rules.len().min(LAID_OUT_OF_BODY));
-        self.innermost = OpenLevel::new(def, end, 0);
+        self.innermost = OpenLevel::new(def, end, 0, shape.first_wanted(rules, 0));
         Ok(())
     }
 
@@ -197,7 +206,14 @@ impl OpenLevels {
 
     /// Opens a level in the innermost one. This alone takes memory.
     #[inline(always)]
-    pub(crate) fn open(&mut self, def: DefId, rules: &[DRule], end: usize) -> Result<(), AllocError>
+    pub(crate) fn open(
+        &mut self,
+        def: DefId,
+        rules: &[DRule],
+        shape: &Shape,
+        end: usize,
+    ) -> Result<(), AllocError>
+        requires shape { IsShape rules.now shape.now }
         requires rules { AreRules rules.now }
         requires open { ∥ ((defs : List PlainDefinition) × (outer : List SoFar) × (level : SoFar)
             × AreOpen defs self.old outer level) ∥₁ }
@@ -209,7 +225,8 @@ impl OpenLevels {
     {
         self.outer.push(self.innermost)?;
         self.tallies.reserve(rules.len())?;
-        self.innermost = OpenLevel::new(def, end, self.tallies.len());
+        let done = shape.first_wanted(rules, 0);
+        self.innermost = OpenLevel::new(def, end, self.tallies.len(), done);
         lay_out(&mut self.tallies, rules.len().min(LAID_OUT_OF_GROUP));
         Ok(())
     }
@@ -228,9 +245,9 @@ impl OpenLevels {
             → (defs : List PlainDefinition) (outer : List SoFar) (level : SoFar)
             → AreOpen defs self.old outer level → outer ≡ [] }
     {
+        self.tallies.truncate(self.innermost.base);
         match self.outer.pop() {
             Some(next) => {
-                self.tallies.truncate(self.innermost.base);
                 self.innermost = next;
                 true
             }
@@ -260,15 +277,23 @@ impl OpenLevels {
     {
         let tally = &self.tallies[self.innermost.base..];
         match self.innermost.rule_for(tally, rules, shape, slot, key) {
-            Ok((run, rule)) => self.count(rules, run, rule, key),
+            Ok((run, rule)) => self.count(rules, shape, run, rule, key),
             Err(wrong) => Some(wrong),
         }
     }
 
     /// Counts an AVP of this key, which leads into a run and to a rule, or says that there is one too many.
     #[inline(always)]
-    fn count(&mut self, rules: &[DRule], run: usize, rule: usize, key: Key) -> Option<Wrong>
+    fn count(
+        &mut self,
+        rules: &[DRule],
+        shape: &Shape,
+        run: usize,
+        rule: usize,
+        key: Key,
+    ) -> Option<Wrong>
         requires rules { AreRules rules.now }
+        requires shape { IsShape rules.now shape.now }
         requires led { ∥ ((defs : List PlainDefinition) × (outer : List SoFar) × (level : SoFar)
             × AreOpen defs self.old outer level × (level.rules ≡ rules.now) × HasRoom level
             × IsLed rules.now level.keys key (drop self.old.innermost.base self.old.tallies.items)
@@ -292,7 +317,19 @@ impl OpenLevels {
         };
         write(&mut self.tallies, place, met);
         self.innermost.run = run;
+        if rule != self.innermost.done {
+            return None;
+        }
+        self.innermost.done = met_up_to(rules, shape, rule, met.count);
         None
+    }
+
+    /// Whether it is known, without a look at the tally, that nothing is missing at the end of the innermost level.
+    #[inline(always)]
+    pub(crate) fn is_met(&self, rules: &[DRule]) -> bool
+        ensures { IsTrue result ↔ (length rules.now ≤ self.now.innermost.done) }
+    {
+        rules.len() <= self.innermost.done
     }
 
     /// What is missing at the end of the innermost level.
@@ -306,7 +343,7 @@ impl OpenLevels {
             (IsMissingAtEnd rules.now level.keys) }
     {
         let tally = &self.tallies[self.innermost.base..];
-        let place = unmet_among(rules, shape, tally, 0, rules.len())?;
+        let place = unmet_among(rules, shape, tally, self.innermost.done, rules.len())?;
         Some(missing(rules[place]))
     }
 

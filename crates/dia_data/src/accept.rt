@@ -22,6 +22,8 @@ pub enum Leaf {
 /// Whether the format accepts the data.
 ///
 /// The data of a Grouped AVP is a level of AVPs, which is read elsewhere: its answer is always `Fine`.
+// inlined into the loop over AVPs, where a call would put its values on the stack
+#[inline(always)]
 pub fn accepts(format: &Format, bytes: &[u8]) -> Leaf
     ensures { IsLeafAnswer result (plain_format format.now) bytes.now }
 {

@@ -4,5 +4,6 @@ pub mod HeaderRead
 pub mod OneHeader
 pub mod OneMessage
 pub mod AvpHeadRead
+pub mod FlagsAndLength
 pub mod Written
 pub mod Decode

@@ -8,6 +8,7 @@ ghost use Rattle.dia_wire.specs.Number.{number};
 ghost use Rattle.dia_wire.specs.Wire.{HasVendorFlag, CannotBegin, IsBadLength};
 
 use crate::avp::{AVP_HEAD_LENGTH, AVP_VENDOR, AvpFault, VENDOR_AVP_HEAD_LENGTH, padded};
+use crate::header::THREE_BYTES;
 use byteorder::{BigEndian, ByteOrder};
 
 /// What the first 8 bytes of an AVP say (RFC 6733 section 4.1).
@@ -40,8 +41,7 @@ impl Opening {
             ↔ IsBadLength (slice_index bytes.now 4) (number (take 3 (drop 5 bytes.now))) room }
     {
         let code = BigEndian::read_u32(bytes);
-        let flags = bytes[4];
-        let length = BigEndian::read_u24(&bytes[5..]);
+        let (flags, length) = flags_and_length(bytes);
         let has_vendor = flags & AVP_VENDOR != 0;
         let start = if has_vendor {
             VENDOR_AVP_HEAD_LENGTH
@@ -73,4 +73,15 @@ impl Opening {
             None
         }
     }
+}
+
+/// The AVP Flags and the AVP Length, which lie in one word.
+#[inline(always)]
+pub(crate) fn flags_and_length(bytes: &[u8]) -> (u8, u32)
+    requires { avp_head_length ≤ length bytes.now }
+    ensures flags { result.0 ≡ slice_index bytes.now 4 }
+    ensures length { result.1 ≡ big_from 0 3 (drop 5 bytes.now) }
+{
+    let word = BigEndian::read_u32(&bytes[4..]);
+    ((word / THREE_BYTES) as u8, word % THREE_BYTES)
 }

@@ -12,7 +12,7 @@ ghost use Rattle.dia_wire.specs.Wire.{HasWholeHead, Heads, CannotBegin, IsBadLen
 
 use crate::avp::{AVP_HEAD_LENGTH, Avp, AvpFault, AvpHead, padded};
 use crate::header::{HEADER_LENGTH, HeadFault, Header, MessageFault};
-use crate::opening::Opening;
+use crate::opening::{Opening, flags_and_length};
 use byteorder::{BigEndian, ByteOrder};
 
 /// The header and the Message Length of the first 20 bytes (RFC 6733 section 3), whatever follows them:
@@ -43,9 +43,10 @@ pub fn read_header(bytes: &[u8]) -> Result<(Header, u32), HeadFault>
     if length < HEADER_LENGTH as u32 || length % 4 != 0 {
         return Err(HeadFault::Length);
     }
+    let (flags, code) = flags_and_length(bytes);
     let header = Header {
-        flags: bytes[4],
-        code: BigEndian::read_u24(&bytes[5..]),
+        flags,
+        code,
         app: BigEndian::read_u32(&bytes[8..]),
         hop: BigEndian::read_u32(&bytes[12..]),
         e2e: BigEndian::read_u32(&bytes[16..]),

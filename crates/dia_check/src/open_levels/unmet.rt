@@ -1,9 +1,10 @@
 //! Rules of a level that were met too seldom.
 
-ghost use Rattle.std.specs.Prelude.{◌≡◌, ◌≤◌, length, MatchOption};
+ghost use Rattle.std.specs.Prelude.{◌≡◌, ◌<◌, ◌≤◌, List, length, MatchOption};
 ghost use Rattle.dia_book.specs.Shapes.{IsShape};
 ghost use Rattle.dia_check.specs.Faults.{subject_of};
-ghost use Rattle.dia_check.specs.Tallies.{AreRising};
+ghost use Rattle.dia_check.specs.declared.open_levels.tally.Met.{Met as AnyMet};
+ghost use Rattle.dia_check.specs.Tallies.{AreRising, count_in};
 ghost use Rattle.dia_check.specs.OpenLevels.{AreMet, IsFirstUnmet};
 
 use super::Wrong;
@@ -22,6 +23,22 @@ pub(super) fn missing(rule: DRule) -> Wrong
     Wrong {
         reason: Reason::Missing,
         subject,
+    }
+}
+
+/// How far the rules are met, from the first on, where those in front of a rule are, and it was met so often now.
+#[inline(always)]
+pub(super) fn met_up_to(rules: &[DRule], shape: &Shape, rule: usize, count: u32) -> usize
+    requires shape { IsShape rules.now shape.now }
+    requires within { rule < length rules.now }
+    ensures within { result ≤ length rules.now }
+    ensures met { (tally : List AnyMet) → count_in tally rule ≡ count
+        → AreMet rules.now tally 0 rule → AreMet rules.now tally 0 result }
+{
+    if rules[rule].min <= count {
+        shape.first_wanted(rules, rule + 1)
+    } else {
+        rule
     }
 }
 

@@ -1,16 +1,18 @@
-use Rattle.std.proofs.Common.{◌≡◌, ◌+◌, ℕ, List, None, Some, length, drop, refl, sym, ap, ◌∙◌, arith}
+use Rattle.std.proofs.Common.{◌≡◌, ◌+◌, ℕ, List, None, Some, length, drop, refl, sym, ap, subst, ◌∙◌, arith}
 use Rattle.std.proofs.Math.Logic.{∥∥₁_elim}
 use Rattle.std.proofs.lemmas.List.{length-drop}
 use Rattle.std.proofs.lemmas.Option.{same_Some, slice_get-get_or, slice_get_within}
 use Rattle.std.specs.Coded.{le_prop}
-use Rattle.std.specs.Prelude.{◌<◌, set, slice_get}
+use Rattle.std.proofs.lemmas.Bool.{eq-eqb}
+use Rattle.std.specs.Prelude.{◌<◌, ◌==◌, if◌then◌else◌, Bool, set, slice_get}
 use Rattle.dia_book.specs.declared.DRule.{DRule}
 use Rattle.dia_book.specs.declared.RuleKind.TheVariants.{Fixed}
 use Rattle.dia_check.specs.declared.open_levels.OpenLevels.{OpenLevels}
 use Rattle.dia_check.specs.declared.open_levels.tally.Met.{Met}
+use Rattle.dia_check.specs.OpenLevels.{AreMet}
 use Rattle.dia_check.specs.Tallies.{IsTold, count_in}
 use Rattle.dia_check.proofs.KeysByCounts.{rule_within, count_few, too_many_first, met_now, is_max_of, no_max_of}
-use Rattle.dia_check.proofs.KeptLevels.{own_counted, own_low, told_further, met_again, met_further}
+use Rattle.dia_check.proofs.KeptLevels.{own_counted, own_low, told_further, met_again, met_further, done_further}
 use Rattle.dia_check.proofs.Tallies.{below_prop, found_count, get_from, rising_prop, set_from, told_more}
 use Rattle.dia_check.proofs.open_levels.OpenLevels.count.Goals as goal
 
@@ -88,14 +90,14 @@ returns-then-eq c defs outer level now same led =
     (met_again rules level.keys self.innermost _ _ self.innermost.run c.args.run before counted led.1) c.args.rule refl _
     (slice_get-get_or rules c.args.rule _ lt) (is_max_of _ _ c.if-eq.ensures ∙ ap (λ (n : ℕ). Some n) (sym read.2)))
 
-pub returns : goal.returns
-returns c defs outer level now same led =
+pub returns-then-rule-self : goal.returns-then-rule-self
+returns-then-rule-self c defs outer level now same led =
     let self = c.args.self.now in
     let rules = c.args.rules.now in
     let t = c.told_at-place.ensures.told in
     let tallies = c.told_at-place.new.tallies in
     let mid : OpenLevels = record { innermost = self.innermost; outer = self.outer; tallies = tallies } in
-    let after : OpenLevels = record { innermost = record self.innermost { run = c.args.run }; outer = self.outer; tallies = c.write.new.tallies } in
+    let after : OpenLevels = record { innermost = record self.innermost { run = c.args.run; done = self.innermost.done }; outer = self.outer; tallies = c.write.new.tallies } in
     let next = told_further defs self mid outer level rules c.args.rule c.told_at-place.result now same t refl refl c.told_at-place.ensures.capacity in
     let before = own_counted defs self outer level rules _ now same refl in
     let counted = own_counted defs mid outer level rules _ next same refl in
@@ -110,7 +112,45 @@ returns c defs outer level now same led =
     (λ e. no_max_of _ _ c.if-eq.ensures (e ∙ ap (λ (n : ℕ). Some n) read.2)) in
     let low = own_low defs mid outer level next in (
       met.none_wrong,
-      met_further defs mid after outer level rules c.args.key c.args.run (set (drop self.innermost.base tallies.items) t.behind m) next same met.counted refl refl
+      met_further defs mid after outer level rules c.args.key c.args.run self.innermost.done (set (drop self.innermost.base tallies.items) t.behind m) next same
+          met.counted refl refl
           (c.write.ensures.items ∙ ap (λ (n : ℕ). set tallies.items n m) t.is_place ∙ set_from tallies.items self.innermost.base t.behind m low)
           (omega (arith, c.write.ensures.capacity)),
     )
+
+pub returns : goal.returns
+returns c defs outer level now same led =
+    let self = c.args.self.now in
+    let rules = c.args.rules.now in
+    let t = c.told_at-place.ensures.told in
+    let tallies = c.told_at-place.new.tallies in
+    let mid : OpenLevels = record { innermost = self.innermost; outer = self.outer; tallies = tallies } in
+    let after : OpenLevels = record { innermost = record self.innermost { run = c.args.run; done = c.met_up_to-self.result }; outer = self.outer; tallies = c.write.new.tallies } in
+    let next = told_further defs self mid outer level rules c.args.rule c.told_at-place.result now same t refl refl c.told_at-place.ensures.capacity in
+    let before = own_counted defs self outer level rules _ now same refl in
+    let counted = own_counted defs mid outer level rules _ next same refl in
+    let lt = (rule_within rules c.requires.rules level.keys c.args.key self.innermost _ counted c.args.run _ led.0 c.args.rule refl).0 in
+    let read = is_told _ _ _ _ _ _ c.read-met.result t c.read-met.ensures in
+    let m : Met = record { rule = c.read-met.result.rule; count = c.read-met.result.count + 1 } in
+    let one = told_more (length rules) 1 c.args.rule (drop self.innermost.base tallies.items) counted.rising counted.below m read.1 lt t.behind c.read-met.result t.place_of read.0 read.1
+    (ap (λ (n : ℕ). n + 1) (sym read.2)) in
+    let met = met_now rules c.requires.rules level.keys c.args.key self.innermost _ counted c.args.run _ led.0
+    (met_again rules level.keys self.innermost _ _ self.innermost.run c.args.run before counted led.1) c.args.rule refl _
+    (slice_get-get_or rules c.args.rule no_rule lt) (set (drop self.innermost.base tallies.items) t.behind m) one
+    (λ e. no_max_of _ _ c.if-eq.ensures (e ∙ ap (λ (n : ℕ). Some n) read.2)) in
+    let counts : count_in (set (drop self.innermost.base tallies.items) t.behind m) c.args.rule ≡ m.count =
+    let more = one.counts c.args.rule in
+    let once = ap (λ (b : Bool). count_in (drop self.innermost.base tallies.items) c.args.rule + (if b then 1 else 0)) (eq-eqb c.args.rule c.args.rule refl) in
+    omega (arith, more, once, read.2) in
+    let low = own_low defs mid outer level next in (
+      met.none_wrong,
+      met_further defs mid after outer level rules c.args.key c.args.run c.met_up_to-self.result (set (drop self.innermost.base tallies.items) t.behind m) next same
+          (done_further rules _ (record self.innermost { run = c.args.run }) _ c.met_up_to-self.result met.counted c.met_up_to-self.ensures.within
+          (c.met_up_to-self.ensures.met _ counts (subst (λ (n : ℕ). AreMet rules (set (drop self.innermost.base tallies.items) t.behind m) 0 n) (sym c.if-rule-self.false) met.counted.done))) refl refl
+          (c.write.ensures.items ∙ ap (λ (n : ℕ). set tallies.items n m) t.is_place ∙ set_from tallies.items self.innermost.base t.behind m low)
+          (omega (arith, c.write.ensures.capacity)),
+    )
+
+pub met_up_to-self-requires-clause-within : goal.met_up_to-self-requires-clause-within
+met_up_to-self-requires-clause-within c = ∥∥₁_elim c.requires.led le_prop (λ x. let (defs, outer, level, now, same, few, led) = x in
+    (rule_within c.args.rules.now c.requires.rules level.keys c.args.key c.args.self.now.innermost _ (own_counted defs c.args.self.now outer level c.args.rules.now _ now same refl) c.args.run _ led.0 c.args.rule refl).0)

@@ -3,7 +3,7 @@ use Rattle.std.proofs.Math.Logic.{∥∥₁_elim}
 use Rattle.std.specs.Coded.{le_prop}
 use Rattle.std.specs.Prelude.{◌≤◌}
 use Rattle.std.proofs.lemmas.Option.{slice_get-get_or}
-use Rattle.dia_check.proofs.KeptLevels.{own_low, own_slice, own_counted, all_met, one_missing}
+use Rattle.dia_check.proofs.KeptLevels.{own_low, own_slice, own_counted, all_met, one_missing, met_all, unmet_all}
 use Rattle.dia_check.proofs.Tallies.{rising_prop}
 use Rattle.dia_check.proofs.open_levels.OpenLevels.missing.Goals as goal
 
@@ -34,18 +34,27 @@ unmet_among-requires-clause-rising c = ∥∥₁_elim c.requires.open (rising_pr
 
 pub returns-in_err-place : goal.returns-in_err-place
 returns-in_err-place c defs outer level now same =
+    let counted = own_counted defs c.args.self.now outer level c.args.rules.now _ now same (own_slice c.args.self.now c.deref.result.now c.deref.ensures.value) in
     rw c.from_residual.ensures
     (all_met c.args.rules.now level.keys c.args.self.now.innermost _
-    (own_counted defs c.args.self.now outer level c.args.rules.now _ now same (own_slice c.args.self.now c.deref.result.now c.deref.ensures.value)) c.in_err-place.ensures)
+    counted (met_all c.args.rules.now _ c.args.self.now.innermost.done _ counted.done c.in_err-place.ensures))
 
 pub returns : goal.returns
 returns c defs outer level now same =
+    let counted = own_counted defs c.args.self.now outer level c.args.rules.now _ now same (own_slice c.args.self.now c.deref.result.now c.deref.ensures.value) in
     rw c.missing.ensures (
       c.in_ok-place.place,
       _,
       one_missing c.args.rules.now level.keys c.args.self.now.innermost _ c.in_ok-place.place _
-          (own_counted defs c.args.self.now outer level c.args.rules.now _ now same (own_slice c.args.self.now c.deref.result.now c.deref.ensures.value)) c.in_ok-place.ensures
+          counted (unmet_all c.args.rules.now _ c.args.self.now.innermost.done _ c.in_ok-place.place counted.done c.in_ok-place.ensures)
           (slice_get-get_or c.args.rules.now c.in_ok-place.place _ c.in_ok-place.ensures.inside),
       refl,
       refl,
     )
+
+pub unmet_among-requires-clause-within : goal.unmet_among-requires-clause-within
+unmet_among-requires-clause-within c = (
+  ∥∥₁_elim c.requires.open le_prop (λ x. let (defs, outer, level, now, same) = x in
+      (own_counted defs c.args.self.now outer level c.args.rules.now _ now same (own_slice c.args.self.now c.deref.result.now c.deref.ensures.value)).done_within),
+  omega arith,
+)
