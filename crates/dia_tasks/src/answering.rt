@@ -1,35 +1,61 @@
 //! Commands whose inputs are read whole.
 
+ghost use Rattle.std.specs.Prelude.{IfOk, IsTrue, string_bytes};
+ghost use Rattle.dia_cli.specs.Ending.{stream};
+ghost use Rattle.dia_run.specs.Outcome.{IsOutcome};
+ghost use Rattle.dia_tasks.specs.Answers.{IsJson};
+ghost use Rattle.dia_tasks.specs.Endings.{Puts, Runs};
+
 use dia_cli::Ending;
-use dia_io::{Command, Inputs, RunFault, ToWriter, put_all};
+use dia_io::{Command, Inputs, RunFault, Sink, ToWriter, put_all};
 use dia_report::{Answered, Reported};
 use dia_run::run_reporting;
-use std::alloc::AllocError;
-use std::io;
+use std::alloc::{AllocError, Global};
+use std::io::Write;
 
 /// Runs a command whose inputs were read whole.
-pub fn answer<'a, R>(rt: &R, command: &Command, inputs: &Inputs) -> Result<Reported, Ending<'a>>
-where
-    R: AllocGlobal + Print,
+pub fn answer<'a, W: Write>(
+    alloc: Global,
+    command: &Command,
+    inputs: &Inputs,
+    out: &mut ToWriter<W>,
+) -> Result<Reported, Ending<'a>>
+    requires { ¬ IsTrue (⟦<ToWriter<W> as Sink>⟧.has_failed out.old) }
+    ensures { Runs (IsOutcome command.now inputs.now)
+        (stream (⟦<ToWriter<W> as Sink>⟧.written out.old) (⟦<ToWriter<W> as Sink>⟧.written out.new)
+        (⟦<ToWriter<W> as Sink>⟧.has_failed out.new)) result }
 {
-    let mut sink = ToWriter::new(io::writer(rt));
-    match run_reporting(rt.alloc(), command, inputs, &mut sink) {
+    match run_reporting(alloc, command, inputs, out) {
         Ok(reported) => Ok(reported),
-        Err(fault) => Err(Ending::of_run(fault, "standard output", sink.failure())),
+        Err(fault) => Err(Ending::of_run(fault, "standard output", out.failure())),
     }
 }
 
 /// Runs a command whose inputs were read whole, and answers as JSON. `render` has no such answer.
-pub fn answer_as_json<'a, R>(
-    rt: &R,
+pub fn answer_as_json<'a, W: Write>(
+    alloc: Global,
     command: &Command,
     inputs: &Inputs,
+    out: &mut ToWriter<W>,
 ) -> Result<Reported, Ending<'a>>
-where
-    R: AllocGlobal + Print,
+    requires { ¬ IsTrue (⟦<ToWriter<W> as Sink>⟧.has_failed out.old) }
+    ensures { Runs (IsJson command.now inputs.now)
+        (stream (⟦<ToWriter<W> as Sink>⟧.written out.old) (⟦<ToWriter<W> as Sink>⟧.written out.new)
+        (⟦<ToWriter<W> as Sink>⟧.has_failed out.new)) result }
 {
-    let alloc = rt.alloc();
-    let made = match command {
+    put_answer(made_as_json(alloc, command, inputs), out)
+}
+
+/// The answer of a command as JSON.
+fn made_as_json(
+    alloc: Global,
+    command: &Command,
+    inputs: &Inputs,
+) -> Result<Answered, AllocError>
+    ensures { IfOk result (λ answered. IsJson command.now inputs.now
+        (string_bytes answered.text) answered.exit) }
+{
+    match command {
         Command::Show => dia_json::show(alloc, inputs),
         Command::Check { unknown, levels } => dia_json::check(alloc, *unknown, *levels, inputs),
         Command::Refute { unknown, levels } => dia_json::refute(alloc, *unknown, *levels, inputs),
@@ -37,24 +63,27 @@ where
             dia_json::propose(alloc, *unknown, names.as_slice(), inputs)
         }
         Command::Compare { unknown } => dia_compared_json::compare(alloc, *unknown, inputs),
-        Command::Render => return answer(rt, command, inputs),
-    };
-    put_answer(rt, made)
+        Command::Render => dia_run::answer(alloc, command, inputs),
+    }
 }
 
 /// Writes what was answered.
-fn put_answer<'a, R>(rt: &R, made: Result<Answered, AllocError>) -> Result<Reported, Ending<'a>>
-where
-    R: AllocGlobal + Print,
+fn put_answer<'a, W: Write>(
+    made: Result<Answered, AllocError>,
+    out: &mut ToWriter<W>,
+) -> Result<Reported, Ending<'a>>
+    requires { ¬ IsTrue (⟦<ToWriter<W> as Sink>⟧.has_failed out.old) }
+    ensures { Puts made
+        (stream (⟦<ToWriter<W> as Sink>⟧.written out.old) (⟦<ToWriter<W> as Sink>⟧.written out.new)
+        (⟦<ToWriter<W> as Sink>⟧.has_failed out.new)) result }
 {
     let Answered { text, exit, report } = made?;
-    let mut sink = ToWriter::new(io::writer(rt));
-    match put_all(&mut sink, text.as_bytes()) {
+    match put_all(out, text.as_bytes()) {
         Ok(()) => Ok(Reported { exit, report }),
         Err(failed) => Err(Ending::of_run(
             RunFault::from(failed),
             "standard output",
-            sink.failure(),
+            out.failure(),
         )),
     }
 }

@@ -1,13 +1,16 @@
 //! Commands that read their messages a piece at a time.
 
-ghost use Rattle.std.specs.Prelude.{IsTrue};
+ghost use Rattle.std.specs.Prelude.{◌≡◌, ◌⊎◌, ◌↔◌, true, false, Err, IfOk, IsErr, IsTrue, is_some};
+ghost use Rattle.dia_cli.specs.Ending.{stream};
+ghost use Rattle.dia_lines.specs.declared.fault.LinesFault.TheVariants.{Device};
+ghost use Rattle.dia_tasks.specs.Captures.{ArePut, Captures, IsBegun, IsEndingOf, fed, known_of, messages_word};
 
 use crate::front::{Front, is_telling};
 use crate::inputs::word_of;
 use crate::manner::Manner;
 use crate::telling::tell_made;
 use dia_captures::{Captured, Lines, check_lines, check_stream, refute_lines};
-use dia_cli::{Ending, Origin, Origins, STANDARD_INPUT};
+use dia_cli::{Ending, Opener, Origin, Origins, STANDARD_INPUT};
 use dia_explain_answers::{Asked, push_check_alone, push_refute_alone};
 use dia_explain_inputs::push_front;
 use dia_explain_places::Note;
@@ -16,9 +19,8 @@ use dia_lines::LinesFault;
 use dia_policy::{Levels, Unknown};
 use dia_report::Reported;
 use std::alloc::Global;
-use std::io::Read;
-use std::rt::Files;
-use std::{fs, io};
+use std::io;
+use std::io::{Read, Write};
 
 /// Standard output, as it is named where it fails.
 const OUTPUT: &str = "standard output";
@@ -32,11 +34,42 @@ pub struct Capture {
 }
 
 impl Capture {
-    pub fn new(lines: Lines, unknown: Unknown, levels: Levels) -> Self {
+    pub fn new(lines: Lines, unknown: Unknown, levels: Levels) -> Self
+        ensures lines { result.lines ≡ lines }
+        ensures unknown { result.unknown ≡ unknown }
+        ensures levels { result.levels ≡ levels }
+    {
         Capture {
             lines,
             unknown,
             levels,
+        }
+    }
+
+    /// Puts a line of text, or a JSON object, for each message.
+    fn run_as<F: Feed, S: Sink>(
+        self,
+        alloc: Global,
+        json: bool,
+        inputs: &Inputs,
+        feed: &mut F,
+        sink: &mut S,
+    ) -> Result<Captured, LinesFault>
+        requires sound_feed { ¬ IsTrue (F.has_failed feed.old) }
+        requires sound_sink { ¬ IsTrue (S.has_failed sink.old) }
+        ensures put { IfOk result (λ captured. ArePut self.lines json self.unknown self.levels inputs.now
+            (fed (F.remaining feed.old) (F.remaining feed.new))
+            (stream (S.written sink.old) (S.written sink.new) (S.has_failed sink.new)) captured.reported.exit) }
+        ensures begun { IsErr result → IsBegun self.lines json self.unknown self.levels inputs.now
+            (fed (F.remaining feed.old) (F.remaining feed.new))
+            (stream (S.written sink.old) (S.written sink.new) (S.has_failed sink.new)) }
+        ensures device { (result ≡ Err Device)
+            ↔ (IsTrue (F.has_failed feed.new) ⊎ IsTrue (S.has_failed sink.new)) }
+    {
+        if json {
+            self.run_json(alloc, inputs, feed, sink)
+        } else {
+            self.run(alloc, inputs, feed, sink)
         }
     }
 
@@ -50,6 +83,14 @@ impl Capture {
     ) -> Result<Captured, LinesFault>
         requires sound_feed { ¬ IsTrue (F.has_failed feed.old) }
         requires sound_sink { ¬ IsTrue (S.has_failed sink.old) }
+        ensures put { IfOk result (λ captured. ArePut self.lines false self.unknown self.levels inputs.now
+            (fed (F.remaining feed.old) (F.remaining feed.new))
+            (stream (S.written sink.old) (S.written sink.new) (S.has_failed sink.new)) captured.reported.exit) }
+        ensures begun { IsErr result → IsBegun self.lines false self.unknown self.levels inputs.now
+            (fed (F.remaining feed.old) (F.remaining feed.new))
+            (stream (S.written sink.old) (S.written sink.new) (S.has_failed sink.new)) }
+        ensures device { (result ≡ Err Device)
+            ↔ (IsTrue (F.has_failed feed.new) ⊎ IsTrue (S.has_failed sink.new)) }
     {
         let Capture {
             lines,
@@ -73,6 +114,14 @@ impl Capture {
     ) -> Result<Captured, LinesFault>
         requires sound_feed { ¬ IsTrue (F.has_failed feed.old) }
         requires sound_sink { ¬ IsTrue (S.has_failed sink.old) }
+        ensures put { IfOk result (λ captured. ArePut self.lines true self.unknown self.levels inputs.now
+            (fed (F.remaining feed.old) (F.remaining feed.new))
+            (stream (S.written sink.old) (S.written sink.new) (S.has_failed sink.new)) captured.reported.exit) }
+        ensures begun { IsErr result → IsBegun self.lines true self.unknown self.levels inputs.now
+            (fed (F.remaining feed.old) (F.remaining feed.new))
+            (stream (S.written sink.old) (S.written sink.new) (S.has_failed sink.new)) }
+        ensures device { (result ≡ Err Device)
+            ↔ (IsTrue (F.has_failed feed.new) ⊎ IsTrue (S.has_failed sink.new)) }
     {
         let Capture {
             lines,
@@ -89,17 +138,26 @@ impl Capture {
 
 /// Runs a command that reads its messages a piece at a time, and tells on standard error what came of them, unless it is to be
 /// quiet.
-pub fn captured<'a, R>(
+pub fn captured<'a, R, O, W>(
     rt: &R,
+    opener: &O,
     capture: Capture,
     inputs: &Inputs,
     origins: &Origins<'a>,
     manner: Manner,
+    out: &mut ToWriter<W>,
 ) -> Result<Reported, Ending<'a>>
 where
-    R: AllocGlobal + Files + Input + Print + Eprint,
+    R: AllocGlobal + Eprint,
+    O: Opener,
+    W: Write,
+    requires { ¬ IsTrue (⟦<ToWriter<W> as Sink>⟧.has_failed out.old) }
+    ensures { Captures capture.lines capture.unknown capture.levels manner.json inputs.now
+        (known_of (O.content opener.now) (O.input opener.now) origins.now.messages) (messages_word origins.now.messages)
+        (stream (⟦<ToWriter<W> as Sink>⟧.written out.old) (⟦<ToWriter<W> as Sink>⟧.written out.new)
+        (⟦<ToWriter<W> as Sink>⟧.has_failed out.new)) result }
 {
-    let answered = answer_messages(rt, capture, inputs, origins.messages, manner);
+    let answered = answer_messages(rt, opener, capture, inputs, origins.messages, manner, out);
     if !manner.quiet && matches!(&answered, Ok(Reported { exit: Exit::No, .. })) {
         advise(rt, capture, origins);
     }
@@ -107,58 +165,71 @@ where
 }
 
 /// Writes what a command says of the messages that a file or standard input has.
-fn answer_messages<'a, R>(
+fn answer_messages<'a, R, O, W>(
     rt: &R,
+    opener: &O,
     capture: Capture,
     inputs: &Inputs,
     messages: Origin<'a>,
     manner: Manner,
+    out: &mut ToWriter<W>,
 ) -> Result<Reported, Ending<'a>>
 where
-    R: AllocGlobal + Files + Input + Print + Eprint,
+    R: AllocGlobal + Eprint,
+    O: Opener,
+    W: Write,
+    requires { ¬ IsTrue (⟦<ToWriter<W> as Sink>⟧.has_failed out.old) }
+    ensures { Captures capture.lines capture.unknown capture.levels manner.json inputs.now
+        (known_of (O.content opener.now) (O.input opener.now) messages.entry) (messages_word messages.entry)
+        (stream (⟦<ToWriter<W> as Sink>⟧.written out.old) (⟦<ToWriter<W> as Sink>⟧.written out.new)
+        (⟦<ToWriter<W> as Sink>⟧.has_failed out.new)) result }
 {
     match messages {
-        Origin::File { path, .. } => match fs::open(rt, path) {
-            Ok(file) => answer(rt, capture, inputs, file, path, manner),
+        Origin::File { path, .. } => match opener.open(path) {
+            Ok(file) => answer(rt, capture, inputs, file, path, manner, out),
             Err(error) => Err(Ending::Device {
                 name: path,
                 error: Some(error),
             }),
         },
-        _ => answer(rt, capture, inputs, rt.reader(), STANDARD_INPUT, manner),
+        _ => {
+            let reader = opener.standard_input();
+            answer(rt, capture, inputs, reader, STANDARD_INPUT, manner, out)
+        }
     }
 }
 
 /// Writes what a command says of the messages that a reader gives, and tells what came of them, unless it is to be quiet. `name`
 /// is the word that names the reader.
-fn answer<'a, R, D>(
+fn answer<'a, R, D, W>(
     rt: &R,
     capture: Capture,
     inputs: &Inputs,
     reader: D,
     name: &'a str,
     manner: Manner,
+    out: &mut ToWriter<W>,
 ) -> Result<Reported, Ending<'a>>
 where
-    R: AllocGlobal + Print + Eprint,
+    R: AllocGlobal + Eprint,
     D: Read + Drop,
+    W: Write,
+    requires { ¬ IsTrue (⟦<ToWriter<W> as Sink>⟧.has_failed out.old) }
+    ensures { Captures capture.lines capture.unknown capture.levels manner.json inputs.now
+        (D.remaining reader) name.entry.now
+        (stream (⟦<ToWriter<W> as Sink>⟧.written out.old) (⟦<ToWriter<W> as Sink>⟧.written out.new)
+        (⟦<ToWriter<W> as Sink>⟧.has_failed out.new)) result }
 {
     let alloc = rt.alloc();
     let mut feed = Front::new(alloc, FromReader::new(reader));
-    let mut sink = ToWriter::new(io::writer(rt));
-    let ended = if manner.json {
-        capture.run_json(alloc, inputs, &mut feed, &mut sink)
-    } else {
-        capture.run(alloc, inputs, &mut feed, &mut sink)
-    };
-    match ended {
+    match capture.run_as(alloc, manner.json, inputs, &mut feed, out) {
         Ok(captured) => {
             if !manner.quiet {
                 tell(rt, capture.lines, &captured, name, &feed.kept);
             }
             Ok(captured.reported)
         }
-        Err(fault) => Err(ending_of(fault, name, sink.failure(), feed.feed.failure())),
+        Err(fault) => Err(ending_of(fault, name, out.failure(), feed.feed.failure())),
     }
 }
 
@@ -186,7 +257,9 @@ pub fn ending_of(
     name: &str,
     output: Option<io::Error>,
     input: Option<io::Error>,
-) -> Ending<'_> {
+) -> Ending<'_>
+    ensures { IsEndingOf fault name.entry.now (is_some output) result }
+{
     match fault {
         LinesFault::NoMemory => Ending::NoMemory,
         LinesFault::Device | LinesFault::Endless => match output {

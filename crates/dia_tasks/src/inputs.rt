@@ -1,5 +1,8 @@
 //! The inputs with the words that name them.
 
+ghost use Rattle.std.specs.Prelude.{◌≡◌};
+ghost use Rattle.dia_tasks.specs.Captures.{word_of};
+
 use dia_cli::{BASE_DICTIONARY, Origin, Origins, STANDARD_INPUT};
 use dia_explain_places::{InputTexts, NamedText};
 use dia_io::{Input, Inputs};
@@ -27,7 +30,9 @@ fn named<'a>(origin: Origin<'a>, input: &'a Input) -> NamedText<'a> {
 }
 
 /// The word that names an input.
-pub fn word_of(origin: Origin<'_>) -> &str {
+pub fn word_of(origin: Origin<'_>) -> &str
+    ensures { result.now ≡ word_of origin.entry }
+{
     match origin {
         Origin::Nowhere => "",
         Origin::Base => BASE_DICTIONARY,

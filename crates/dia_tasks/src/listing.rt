@@ -1,31 +1,42 @@
 //! `show --lines`.
 
+ghost use Rattle.std.specs.Prelude.{IsTrue};
+ghost use Rattle.dia_cli.specs.Ending.{stream};
+ghost use Rattle.dia_tasks.specs.Captures.{Lists, known_of, messages_word};
+
 use crate::captured::{ending_of, tell_front};
 use crate::front::Front;
 use crate::inputs::word_of;
 use crate::showing::told_of;
 use dia_captures::Lines;
-use dia_cli::{BASE_DICTIONARY, Ending, Origin, Origins, STANDARD_INPUT};
-use dia_io::{Exit, FromReader, Inputs, ToWriter};
+use dia_cli::{BASE_DICTIONARY, Ending, Opener, Origin, Origins, STANDARD_INPUT};
+use dia_io::{Exit, FromReader, Inputs, Sink, ToWriter};
 use dia_report::Reported;
 use dia_show::show_lines;
-use std::io::Read;
-use std::rt::Files;
-use std::{fs, io};
+use std::io::{Read, Write};
 
 /// Shows the message of each line, with names or without, and tells on standard error what came of them, unless it is to be
 /// quiet.
-pub fn list_lines<'a, R>(
+pub fn list_lines<'a, R, O, W>(
     rt: &R,
+    opener: &O,
     names: bool,
     inputs: &Inputs,
     origins: &Origins<'a>,
     quiet: bool,
+    out: &mut ToWriter<W>,
 ) -> Result<Reported, Ending<'a>>
 where
-    R: AllocGlobal + Files + Input + Print + Eprint,
+    R: AllocGlobal + Eprint,
+    O: Opener,
+    W: Write,
+    requires { ¬ IsTrue (⟦<ToWriter<W> as Sink>⟧.has_failed out.old) }
+    ensures { Lists names inputs.now
+        (known_of (O.content opener.now) (O.input opener.now) origins.now.messages) (messages_word origins.now.messages)
+        (stream (⟦<ToWriter<W> as Sink>⟧.written out.old) (⟦<ToWriter<W> as Sink>⟧.written out.new)
+        (⟦<ToWriter<W> as Sink>⟧.has_failed out.new)) result }
 {
-    let listed = list_messages(rt, names, inputs, origins, quiet);
+    let listed = list_messages(rt, opener, names, inputs, origins, quiet, out);
     if !quiet && matches!(&listed, Ok(Reported { exit: Exit::No, .. })) {
         advise(rt, word_of(origins.messages), word_of(origins.first));
     }
@@ -33,53 +44,70 @@ where
 }
 
 /// Shows the lines that a file or standard input has.
-fn list_messages<'a, R>(
+fn list_messages<'a, R, O, W>(
     rt: &R,
+    opener: &O,
     names: bool,
     inputs: &Inputs,
     origins: &Origins<'a>,
     quiet: bool,
+    out: &mut ToWriter<W>,
 ) -> Result<Reported, Ending<'a>>
 where
-    R: AllocGlobal + Files + Input + Print + Eprint,
+    R: AllocGlobal + Eprint,
+    O: Opener,
+    W: Write,
+    requires { ¬ IsTrue (⟦<ToWriter<W> as Sink>⟧.has_failed out.old) }
+    ensures { Lists names inputs.now
+        (known_of (O.content opener.now) (O.input opener.now) origins.now.messages) (messages_word origins.now.messages)
+        (stream (⟦<ToWriter<W> as Sink>⟧.written out.old) (⟦<ToWriter<W> as Sink>⟧.written out.new)
+        (⟦<ToWriter<W> as Sink>⟧.has_failed out.new)) result }
 {
     match origins.messages {
-        Origin::File { path, .. } => match fs::open(rt, path) {
-            Ok(file) => list(rt, names, inputs, origins, quiet, file),
+        Origin::File { path, .. } => match opener.open(path) {
+            Ok(file) => list(rt, names, inputs, origins, quiet, file, path, out),
             Err(error) => Err(Ending::Device {
                 name: path,
                 error: Some(error),
             }),
         },
-        _ => list(rt, names, inputs, origins, quiet, rt.reader()),
+        _ => {
+            let reader = opener.standard_input();
+            list(rt, names, inputs, origins, quiet, reader, STANDARD_INPUT, out)
+        }
     }
 }
 
-/// Shows the lines that a reader gives.
-fn list<'a, R, D>(
+/// Shows the lines that a reader gives. `name` is the word that names it.
+fn list<'a, R, D, W>(
     rt: &R,
     names: bool,
     inputs: &Inputs,
     origins: &Origins<'a>,
     quiet: bool,
     reader: D,
+    name: &'a str,
+    out: &mut ToWriter<W>,
 ) -> Result<Reported, Ending<'a>>
 where
-    R: AllocGlobal + Print + Eprint,
+    R: AllocGlobal + Eprint,
     D: Read + Drop,
+    W: Write,
+    requires { ¬ IsTrue (⟦<ToWriter<W> as Sink>⟧.has_failed out.old) }
+    ensures { Lists names inputs.now (D.remaining reader) name.entry.now
+        (stream (⟦<ToWriter<W> as Sink>⟧.written out.old) (⟦<ToWriter<W> as Sink>⟧.written out.new)
+        (⟦<ToWriter<W> as Sink>⟧.has_failed out.new)) result }
 {
     let alloc = rt.alloc();
-    let name = word_of(origins.messages);
     let mut feed = Front::new(alloc, FromReader::new(reader));
-    let mut sink = ToWriter::new(io::writer(rt));
-    match show_lines(alloc, names, inputs, &mut feed, &mut sink) {
+    match show_lines(alloc, names, inputs, &mut feed, out) {
         Ok(reported) => {
             if !quiet && !matches!(reported.exit, Exit::Bad) {
                 tell_front(rt, name, Lines::Checked, &feed.kept);
             }
             Ok(told_of(rt, reported, origins, quiet))
         }
-        Err(fault) => Err(ending_of(fault, name, sink.failure(), feed.feed.failure())),
+        Err(fault) => Err(ending_of(fault, name, out.failure(), feed.feed.failure())),
     }
 }
 

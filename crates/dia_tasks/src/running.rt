@@ -1,5 +1,11 @@
 //! A task, and what comes of it.
 
+ghost use Rattle.std.specs.Prelude.{IsTrue};
+ghost use Rattle.dia_cli.specs.Ending.{stream};
+ghost use Rattle.dia_tasks.specs.Answers.{IsAnswer, IsShow};
+ghost use Rattle.dia_tasks.specs.Endings.{Runs};
+ghost use Rattle.dia_tasks.specs.Tasks.{Attempts, Performs, world};
+
 use crate::answering::{answer, answer_as_json};
 use crate::captured::{Capture, captured};
 use crate::inputs::texts_of;
@@ -9,10 +15,10 @@ use crate::notes::{note, note_unnamed};
 use crate::showing::show_named;
 use crate::text::{made, shown};
 use dia_captures::Lines;
-use dia_cli::{Breaking, Ending, Origin, Origins, Task};
-use dia_io::{Command, Exit, Inputs};
+use dia_cli::{Breaking, Ending, Opener, Origin, Origins, Task};
+use dia_io::{Command, Exit, Inputs, Sink, ToWriter};
 use dia_report::{Report, Reported};
-use std::rt::Files;
+use std::io::Write;
 
 /// What comes of a task.
 #[derive(Clone, Copy)]
@@ -23,67 +29,136 @@ pub enum Outcome<'t> {
     Breaking(&'t Breaking),
 }
 
+/// How a task ended.
+#[derive(Drop)]
+enum Attempt<'a, 't> {
+    Ended(Result<Reported, Ending<'a>>),
+    /// It is `breaking`.
+    Breaking(&'t Breaking),
+}
+
 /// Does what is asked for, unless that is `breaking`, and explains the answer on standard error, unless it is to be quiet.
-pub fn run_task<'a, 't, R>(
+pub fn run_task<'a, 't, R, O, W>(
     rt: &R,
+    opener: &O,
     task: &'t Task,
     inputs: &Inputs,
     origins: &Origins<'a>,
     manner: Manner,
+    out: &mut ToWriter<W>,
 ) -> Result<Outcome<'t>, Ending<'a>>
 where
-    R: AllocGlobal + Files + Input + Print + Eprint,
+    R: AllocGlobal + Eprint,
+    O: Opener,
+    W: Write,
+    requires { ¬ IsTrue (⟦<ToWriter<W> as Sink>⟧.has_failed out.old) }
+    ensures { Performs task.now manner.json (world (O.content opener.now) (O.input opener.now)) origins.now inputs.now
+        (stream (⟦<ToWriter<W> as Sink>⟧.written out.old) (⟦<ToWriter<W> as Sink>⟧.written out.new)
+        (⟦<ToWriter<W> as Sink>⟧.has_failed out.new)) result }
 {
-    let quiet = manner.quiet;
-    let ended = match task {
-        Task::Breaking(asked) => return Ok(Outcome::Breaking(asked)),
-        Task::Whole(command) => run_whole(rt, command, inputs, origins, manner),
-        Task::ShowNamed => show_named(rt, true, inputs, origins, quiet),
-        Task::ShowLines { names } => list_lines(rt, *names, inputs, origins, quiet),
-        Task::Make => made(rt, inputs, origins.message, quiet),
-        Task::ShowText => shown(rt, inputs, origins.message, quiet),
-        Task::CheckLines { unknown, levels } => {
-            let capture = Capture::new(Lines::Checked, *unknown, *levels);
-            captured(rt, capture, inputs, origins, manner)
-        }
-        Task::RefuteLines { unknown, levels } => {
-            let capture = Capture::new(Lines::Refuted, *unknown, *levels);
-            captured(rt, capture, inputs, origins, manner)
-        }
-        Task::CheckStream { unknown, levels } => {
-            let capture = Capture::new(Lines::Placed, *unknown, *levels);
-            captured(rt, capture, inputs, origins, manner)
-        }
-    };
-    match ended {
-        Ok(Reported { exit, report }) => {
-            if !quiet {
+    match run_attempt(rt, opener, task, inputs, origins, manner, out) {
+        Attempt::Ended(Ok(Reported { exit, report })) => {
+            if !manner.quiet {
                 tell(rt, task, inputs, origins, &report);
             }
             Ok(Outcome::Done(exit))
         }
-        Err(ending) => Err(ending),
+        Attempt::Ended(Err(ending)) => Err(ending),
+        Attempt::Breaking(asked) => Ok(Outcome::Breaking(asked)),
+    }
+}
+
+/// Does what is asked for, unless that is `breaking`.
+fn run_attempt<'a, 't, R, O, W>(
+    rt: &R,
+    opener: &O,
+    task: &'t Task,
+    inputs: &Inputs,
+    origins: &Origins<'a>,
+    manner: Manner,
+    out: &mut ToWriter<W>,
+) -> Attempt<'a, 't>
+where
+    R: AllocGlobal + Eprint,
+    O: Opener,
+    W: Write,
+    requires { ¬ IsTrue (⟦<ToWriter<W> as Sink>⟧.has_failed out.old) }
+    ensures { Attempts task.now manner.json (world (O.content opener.now) (O.input opener.now)) origins.now inputs.now
+        (stream (⟦<ToWriter<W> as Sink>⟧.written out.old) (⟦<ToWriter<W> as Sink>⟧.written out.new)
+        (⟦<ToWriter<W> as Sink>⟧.has_failed out.new)) result }
+{
+    let quiet = manner.quiet;
+    match task {
+        Task::Breaking(asked) => Attempt::Breaking(asked),
+        Task::Whole(command) => {
+            Attempt::Ended(run_whole(rt, command, inputs, origins, manner, out))
+        }
+        Task::ShowNamed => Attempt::Ended(show_named(rt, true, inputs, origins, quiet, out)),
+        Task::ShowLines { names } => {
+            Attempt::Ended(list_lines(rt, opener, *names, inputs, origins, quiet, out))
+        }
+        Task::Make => Attempt::Ended(made(rt, inputs, origins.message, quiet, out)),
+        Task::ShowText => Attempt::Ended(shown(rt, inputs, origins.message, quiet, out)),
+        Task::CheckLines { unknown, levels } => {
+            let capture = Capture::new(Lines::Checked, *unknown, *levels);
+            Attempt::Ended(captured(rt, opener, capture, inputs, origins, manner, out))
+        }
+        Task::RefuteLines { unknown, levels } => {
+            let capture = Capture::new(Lines::Refuted, *unknown, *levels);
+            Attempt::Ended(captured(rt, opener, capture, inputs, origins, manner, out))
+        }
+        Task::CheckStream { unknown, levels } => {
+            let capture = Capture::new(Lines::Placed, *unknown, *levels);
+            Attempt::Ended(captured(rt, opener, capture, inputs, origins, manner, out))
+        }
     }
 }
 
 /// Runs a command whose inputs were read whole.
-fn run_whole<'a, R>(
+fn run_whole<'a, R, W>(
     rt: &R,
     command: &Command,
     inputs: &Inputs,
     origins: &Origins<'a>,
     manner: Manner,
+    out: &mut ToWriter<W>,
 ) -> Result<Reported, Ending<'a>>
 where
-    R: AllocGlobal + Print + Eprint,
+    R: AllocGlobal + Eprint,
+    W: Write,
+    requires { ¬ IsTrue (⟦<ToWriter<W> as Sink>⟧.has_failed out.old) }
+    ensures { Runs (IsAnswer manner.json origins.now.table command.now inputs.now)
+        (stream (⟦<ToWriter<W> as Sink>⟧.written out.old) (⟦<ToWriter<W> as Sink>⟧.written out.new)
+        (⟦<ToWriter<W> as Sink>⟧.has_failed out.new)) result }
 {
     if manner.json {
-        return answer_as_json(rt, command, inputs);
+        return answer_as_json(rt.alloc(), command, inputs, out);
     }
-    match (command, origins.table) {
-        (Command::Show, Origin::Nowhere) => answer(rt, command, inputs),
-        (Command::Show, _) => show_named(rt, false, inputs, origins, manner.quiet),
-        _ => answer(rt, command, inputs),
+    match command {
+        Command::Show => show_plainly(rt, inputs, origins, manner.quiet, out),
+        _ => answer(rt.alloc(), command, inputs, out),
+    }
+}
+
+/// Shows a message, with words of values where a table of them is named.
+fn show_plainly<'a, R, W>(
+    rt: &R,
+    inputs: &Inputs,
+    origins: &Origins<'a>,
+    quiet: bool,
+    out: &mut ToWriter<W>,
+) -> Result<Reported, Ending<'a>>
+where
+    R: AllocGlobal + Eprint,
+    W: Write,
+    requires { ¬ IsTrue (⟦<ToWriter<W> as Sink>⟧.has_failed out.old) }
+    ensures { Runs (IsShow origins.now.table inputs.now)
+        (stream (⟦<ToWriter<W> as Sink>⟧.written out.old) (⟦<ToWriter<W> as Sink>⟧.written out.new)
+        (⟦<ToWriter<W> as Sink>⟧.has_failed out.new)) result }
+{
+    match origins.table {
+        Origin::Nowhere => answer(rt.alloc(), &Command::Show, inputs, out),
+        _ => show_named(rt, false, inputs, origins, quiet, out),
     }
 }
 

@@ -1,11 +1,16 @@
 //! `show` with `--values` or `--names`.
 
+ghost use Rattle.std.specs.Prelude.{◌≡◌, IsTrue};
+ghost use Rattle.dia_cli.specs.Ending.{stream};
+ghost use Rattle.dia_show.specs.Outcome.{IsNamedOutcome};
+ghost use Rattle.dia_tasks.specs.Endings.{Runs};
+
 use crate::inputs::word_of;
 use dia_cli::{Ending, Origins};
-use dia_io::{Inputs, ToWriter};
+use dia_io::{Inputs, Sink, ToWriter};
 use dia_report::Reported;
 use dia_show::{BadValues, MAX_LINES, MAX_VALUES, Report, show};
-use std::io;
+use std::io::Write;
 
 /// What a line of a text of words is.
 const FORM: &str =
@@ -17,20 +22,25 @@ const DUPLICATE: &str = "a line before has the same AVP and number";
 
 /// Writes the lines of a message with words of values, with names or without, and explains why the words are refused, unless
 /// it is to be quiet. What else is reported is explained with the reports of other commands.
-pub fn show_named<'a, R>(
+pub fn show_named<'a, R, W>(
     rt: &R,
     names: bool,
     inputs: &Inputs,
     origins: &Origins<'a>,
     quiet: bool,
+    out: &mut ToWriter<W>,
 ) -> Result<Reported, Ending<'a>>
 where
-    R: AllocGlobal + Print + Eprint,
+    R: AllocGlobal + Eprint,
+    W: Write,
+    requires { ¬ IsTrue (⟦<ToWriter<W> as Sink>⟧.has_failed out.old) }
+    ensures { Runs (IsNamedOutcome names inputs.now)
+        (stream (⟦<ToWriter<W> as Sink>⟧.written out.old) (⟦<ToWriter<W> as Sink>⟧.written out.new)
+        (⟦<ToWriter<W> as Sink>⟧.has_failed out.new)) result }
 {
-    let mut sink = ToWriter::new(io::writer(rt));
-    match show(rt.alloc(), names, inputs, &mut sink) {
+    match show(rt.alloc(), names, inputs, out) {
         Ok(reported) => Ok(told_of(rt, reported, origins, quiet)),
-        Err(fault) => Err(Ending::of_run(fault, "standard output", sink.failure())),
+        Err(fault) => Err(Ending::of_run(fault, "standard output", out.failure())),
     }
 }
 
@@ -40,7 +50,9 @@ pub fn told_of<R: Eprint>(
     reported: dia_show::Reported,
     origins: &Origins<'_>,
     quiet: bool,
-) -> Reported {
+) -> Reported
+    ensures { result.exit ≡ reported.exit }
+{
     let dia_show::Reported { exit, report } = reported;
     let report = match report {
         Report::OfShow(report) => report,

@@ -1,42 +1,60 @@
 //! Commands on messages as text: `make`, and `show --as-text`.
 
+ghost use Rattle.std.specs.Prelude.{◌≡◌, IfOk, IfErr, IsTrue, false};
+ghost use Rattle.dia_cli.specs.Ending.{stream};
+ghost use Rattle.dia_make.specs.Outcome.{IsMakeOutcome};
+ghost use Rattle.dia_make.specs.Shown.{IsShowTextOutcome};
+ghost use Rattle.dia_tasks.specs.Endings.{Breaks, Runs, Writes};
+
 use crate::inputs::word_of;
 use crate::telling::tell_made;
 use dia_cli::{Ending, Origin};
-use dia_io::{Inputs, ToWriter};
+use dia_io::{Inputs, Sink, ToWriter};
 use dia_make::{make, note, show_text};
 use dia_report::{Report, Reported};
-use std::io;
+use std::alloc::Global;
+use std::io::Write;
 
 /// Writes the messages that a text makes, and explains why it makes none, unless it is to be quiet.
-pub fn made<'a, R>(
+pub fn made<'a, R, W>(
     rt: &R,
     inputs: &Inputs,
     text: Origin<'a>,
     quiet: bool,
+    out: &mut ToWriter<W>,
 ) -> Result<Reported, Ending<'a>>
 where
-    R: AllocGlobal + Print + Eprint,
+    R: AllocGlobal + Eprint,
+    W: Write,
+    requires { ¬ IsTrue (⟦<ToWriter<W> as Sink>⟧.has_failed out.old) }
+    ensures { Runs (IsMakeOutcome inputs.now)
+        (stream (⟦<ToWriter<W> as Sink>⟧.written out.old) (⟦<ToWriter<W> as Sink>⟧.written out.new)
+        (⟦<ToWriter<W> as Sink>⟧.has_failed out.new)) result }
 {
-    let mut sink = ToWriter::new(io::writer(rt));
-    match make(rt.alloc(), inputs, &mut sink) {
+    match make(rt.alloc(), inputs, out) {
         Ok(made) => Ok(explained(rt, made, inputs, text, quiet)),
-        Err(fault) => Err(Ending::of_run(fault, "standard output", sink.failure())),
+        Err(fault) => Err(Ending::of_run(fault, "standard output", out.failure())),
     }
 }
 
 /// Writes the text of a message, and explains why it has none, unless it is to be quiet.
-pub fn shown<'a, R>(
+pub fn shown<'a, R, W>(
     rt: &R,
     inputs: &Inputs,
     message: Origin<'a>,
     quiet: bool,
+    out: &mut ToWriter<W>,
 ) -> Result<Reported, Ending<'a>>
 where
-    R: AllocGlobal + Print + Eprint,
+    R: AllocGlobal + Eprint,
+    W: Write,
+    requires { ¬ IsTrue (⟦<ToWriter<W> as Sink>⟧.has_failed out.old) }
+    ensures { Runs (IsShowTextOutcome inputs.now)
+        (stream (⟦<ToWriter<W> as Sink>⟧.written out.old) (⟦<ToWriter<W> as Sink>⟧.written out.new)
+        (⟦<ToWriter<W> as Sink>⟧.has_failed out.new)) result }
 {
     let mut bytes = Vec::new(rt.alloc());
-    match put_shown(rt, inputs, &mut bytes) {
+    match put_shown(rt.alloc(), inputs, &mut bytes, out) {
         Ok(shown) => {
             let reported = explained(rt, shown, inputs, message, quiet);
             Ok(with_message(reported, bytes))
@@ -46,23 +64,31 @@ where
 }
 
 /// Writes the text of a message, whose bytes are added to `bytes`.
-fn put_shown<'a, R>(
-    rt: &R,
+fn put_shown<'a, W: Write>(
+    alloc: Global,
     inputs: &Inputs,
     bytes: &mut Vec<u8>,
+    out: &mut ToWriter<W>,
 ) -> Result<dia_make::Reported, Ending<'a>>
-where
-    R: AllocGlobal + Print,
+    requires { ¬ IsTrue (⟦<ToWriter<W> as Sink>⟧.has_failed out.old) }
+    ensures ok { IfOk result (λ reported. (¬ IsTrue (⟦<ToWriter<W> as Sink>⟧.has_failed out.new))
+        × Writes (IsShowTextOutcome inputs.now)
+        (stream (⟦<ToWriter<W> as Sink>⟧.written out.old) (⟦<ToWriter<W> as Sink>⟧.written out.new)
+        (⟦<ToWriter<W> as Sink>⟧.has_failed out.new)) reported.exit) }
+    ensures err { IfErr result (Breaks (IsShowTextOutcome inputs.now)
+        (stream (⟦<ToWriter<W> as Sink>⟧.written out.old) (⟦<ToWriter<W> as Sink>⟧.written out.new)
+        (⟦<ToWriter<W> as Sink>⟧.has_failed out.new))) }
 {
-    let mut sink = ToWriter::new(io::writer(rt));
-    match show_text(rt.alloc(), inputs, bytes, &mut sink) {
+    match show_text(alloc, inputs, bytes, out) {
         Ok(shown) => Ok(shown),
-        Err(fault) => Err(Ending::of_run(fault, "standard output", sink.failure())),
+        Err(fault) => Err(Ending::of_run(fault, "standard output", out.failure())),
     }
 }
 
 /// How a command ended, with the message that was shown.
-fn with_message(reported: Reported, message: Vec<u8>) -> Reported {
+fn with_message(reported: Reported, message: Vec<u8>) -> Reported
+    ensures { result.exit ≡ reported.exit }
+{
     let Reported { exit, report } = reported;
     let report = if matches!(&report, Report::Done) {
         Report::Shown(message)
@@ -80,7 +106,9 @@ fn explained<R: AllocGlobal + Eprint>(
     inputs: &Inputs,
     message: Origin<'_>,
     quiet: bool,
-) -> Reported {
+) -> Reported
+    ensures { result.exit ≡ made.exit }
+{
     let dia_make::Reported { exit, report } = made;
     if !quiet {
         tell_made(rt, note(rt.alloc(), word_of(message), inputs, &report));

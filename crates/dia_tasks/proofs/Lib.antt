@@ -1,0 +1,4 @@
+pub mod Commands
+pub mod Failures
+pub mod Feeds
+pub mod Results

@@ -1,0 +1,12 @@
+use Rattle.std.proofs.Common.{IfOk, string_bytes, ◌≡◌, ℕ, List}
+use Rattle.dia_tasks.proofs.Commands.{text_is_outcome}
+use Rattle.dia_tasks.proofs.running.run_whole.Goals as goal
+
+pub returns-then-manner : goal.returns-then-manner
+returns-then-manner g c = rw c.if-manner.true c.answer_as_json.ensures
+
+pub returns-in-Show : goal.returns-in-Show
+returns-in-Show g c = rw c.if-manner.false (rw c.in-Show.is c.show_plainly.ensures)
+
+pub returns-in_default : goal.returns-in_default
+returns-in_default g c = rw c.if-manner.false (text_is_outcome c.args.origins.now.table c.args.command.now c.args.inputs.now _ _ c.in_default.not-Show c.answer.ensures)

@@ -1,0 +1,6 @@
+use Rattle.std.proofs.Common.{rules, ◌≡◌, IsTrue, ℕ, List}
+use Rattle.dia_tasks.proofs.Results.{sound_at_ok}
+use Rattle.dia_tasks.proofs.text.put_shown.Goals as goal
+
+pub returns-in-Ok-clause-ok : goal.returns-in-Ok-clause-ok
+returns-in-Ok-clause-ok g c = let t = c.in-Ok.ensures.text in (sound_at_ok _ _ _ c.in-Ok.ensures.device, (t.0, t.1, t.3))

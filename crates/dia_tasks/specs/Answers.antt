@@ -1,0 +1,37 @@
+-- What is written for a command whose inputs are read whole, and how it ends.
+use Rattle.std.specs.Prelude.{ℕ, Bool, true, false, List, map, string_bytes}
+use Rattle.dia_io.specs.declared.Command.{Command}
+use Rattle.dia_io.specs.declared.Command.TheVariants.{Show, Render, Check, Compare, Refute, Propose}
+use Rattle.dia_io.specs.declared.Inputs.{Inputs}
+use Rattle.dia_io.specs.declared.Exit.{Exit}
+use Rattle.dia_cli.specs.declared.origin.Origin.{Origin}
+use Rattle.dia_cli.specs.declared.origin.Origin.TheVariants.{Nowhere}
+use Rattle.dia_run.specs.Outcome.{IsOutcome, IsRenderOutcome}
+use Rattle.dia_show.specs.Outcome.{IsNamedOutcome}
+use Rattle.dia_json.specs.Runs.{IsCheckJson, IsRefuteJson}
+use Rattle.dia_json.specs.Whole.{IsShowJson, IsProposeJson}
+use Rattle.dia_compared_json.specs.Compared.{IsCompareJson}
+
+-- as JSON, which `render` doesn't have
+abbrev pub IsJson : Command → Inputs → List ℕ → Exit → Type 0
+IsJson Show inputs text exit = IsShowJson inputs text exit
+IsJson Render inputs text exit = IsRenderOutcome inputs text exit
+IsJson (Check u most) inputs text exit = IsCheckJson u most inputs text exit
+IsJson (Compare u) inputs text exit = IsCompareJson u inputs text exit
+IsJson (Refute u most) inputs text exit = IsRefuteJson u most inputs text exit
+IsJson (Propose u names) inputs text exit = IsProposeJson u (map (λ name. string_bytes name) names.items) inputs text exit
+
+-- `show` with words of values, where a table is named
+abbrev pub IsShow : Origin → Inputs → List ℕ → Exit → Type 0
+IsShow Nowhere inputs text exit = IsOutcome Show inputs text exit
+IsShow table inputs text exit = IsNamedOutcome false inputs text exit
+
+-- as text
+abbrev pub IsText : Origin → Command → Inputs → List ℕ → Exit → Type 0
+IsText table Show inputs text exit = IsShow table inputs text exit
+IsText table command inputs text exit = IsOutcome command inputs text exit
+
+-- as JSON, if that is asked for
+abbrev pub IsAnswer : Bool → Origin → Command → Inputs → List ℕ → Exit → Type 0
+IsAnswer true table command inputs text exit = IsJson command inputs text exit
+IsAnswer false table command inputs text exit = IsText table command inputs text exit

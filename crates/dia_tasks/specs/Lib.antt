@@ -1,0 +1,4 @@
+pub mod Answers
+pub mod Captures
+pub mod Endings
+pub mod Tasks

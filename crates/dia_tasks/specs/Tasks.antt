@@ -1,0 +1,63 @@
+-- What a task writes on standard output, and how it ends: each task but `breaking`.
+use Rattle.std.specs.Prelude.{IsTrue, ◌≡◌, ℕ, Bool, true, false, List, Option, Result, Ok, Err}
+use Rattle.dia_io.specs.declared.Inputs.{Inputs}
+use Rattle.dia_captures.specs.declared.summaries.Lines.TheVariants.{Checked, Refuted, Placed}
+use Rattle.dia_make.specs.Outcome.{IsMakeOutcome}
+use Rattle.dia_make.specs.Shown.{IsShowTextOutcome}
+use Rattle.dia_show.specs.Outcome.{IsNamedOutcome}
+use Rattle.dia_report.specs.declared.reporting.Reported.{Reported}
+use Rattle.dia_cli.specs.Ending.{Stream}
+use Rattle.dia_cli.specs.declared.ending.Ending.{Ending}
+use Rattle.dia_cli.specs.declared.origin.Origins.{Origins}
+use Rattle.dia_cli.specs.declared.task.Task.{Task}
+use Rattle.dia_cli.specs.declared.task.Task.TheVariants as task
+use Rattle.dia_tasks.specs.Answers.{IsAnswer}
+use Rattle.dia_tasks.specs.Captures.{Captures, Lists, known_of, messages_word}
+use Rattle.dia_tasks.specs.Endings.{Runs}
+use Rattle.dia_tasks.specs.declared.running.Attempt.{Attempt}
+use Rattle.dia_tasks.specs.declared.running.Attempt.TheVariants as attempt
+use Rattle.dia_tasks.specs.declared.running.Outcome.{Outcome}
+use Rattle.dia_tasks.specs.declared.running.Outcome.TheVariants as outcome
+
+-- what files by their names and standard input hold, where that is known
+pub record World : Type 0 where
+  pub content : List ℕ → Option (List ℕ)
+  pub standard : Option (List ℕ)
+
+abbrev pub world : (List ℕ → Option (List ℕ)) → Option (List ℕ) → World
+world content standard = record { content = content; standard = standard }
+
+abbrev pub messages_of : World → Origins → Option (List ℕ)
+messages_of w origins = known_of w.content w.standard origins.messages
+
+-- a task with its options
+abbrev pub TaskRuns : Task → Bool → World → Origins → Inputs → Stream → Result Reported Ending → Type 0
+TaskRuns (task.Whole command) json w origins inputs out ended = Runs (IsAnswer json origins.table command inputs) out ended
+TaskRuns task.Make json w origins inputs out ended = Runs (IsMakeOutcome inputs) out ended
+TaskRuns task.ShowText json w origins inputs out ended = Runs (IsShowTextOutcome inputs) out ended
+TaskRuns task.ShowNamed json w origins inputs out ended = Runs (IsNamedOutcome true inputs) out ended
+TaskRuns (task.ShowLines names) json w origins inputs out ended =
+    Lists names inputs (messages_of w origins) (messages_word origins.messages) out ended
+TaskRuns (task.Breaking asked) json w origins inputs out ended = ⊥
+TaskRuns (task.CheckLines u most) json w origins inputs out ended =
+    Captures Checked u most json inputs (messages_of w origins) (messages_word origins.messages) out ended
+TaskRuns (task.RefuteLines u most) json w origins inputs out ended =
+    Captures Refuted u most json inputs (messages_of w origins) (messages_word origins.messages) out ended
+TaskRuns (task.CheckStream u most) json w origins inputs out ended =
+    Captures Placed u most json inputs (messages_of w origins) (messages_word origins.messages) out ended
+
+-- `breaking` is left to be done: nothing was written
+abbrev pub IsLeft : Task → Stream → Type 0
+IsLeft (task.Breaking asked) out = (¬ IsTrue out.failed) × (out.new ≡ out.old)
+IsLeft other out = ⊥
+
+-- a task, unless it is `breaking`
+abbrev pub Attempts : Task → Bool → World → Origins → Inputs → Stream → Attempt → Type 0
+Attempts t json w origins inputs out (attempt.Ended ended) = TaskRuns t json w origins inputs out ended
+Attempts t json w origins inputs out (attempt.Breaking asked) = (t ≡ task.Breaking asked.now) × IsLeft t out
+
+abbrev pub Performs : Task → Bool → World → Origins → Inputs → Stream → Result Outcome Ending → Type 0
+Performs t json w origins inputs out (Ok (outcome.Done exit)) =
+    (reported : Reported) × (reported.exit ≡ exit) × TaskRuns t json w origins inputs out (Ok reported)
+Performs t json w origins inputs out (Ok (outcome.Breaking asked)) = (t ≡ task.Breaking asked.now) × IsLeft t out
+Performs t json w origins inputs out (Err made) = TaskRuns t json w origins inputs out (Err made)
