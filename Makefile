@@ -16,6 +16,7 @@ install: all
 	install -D -m 644 -t "$(SHARE)/diacmd" $(filter-out %/differences.txt,$(wildcard dictionaries/*.txt))
 	while IFS=: read -r name parts; do \
 	    (cd dictionaries && cat $$parts) > "$(SHARE)/diacmd/$$name" || exit; done < dictionaries/together
+	install -m 644 integrations/ci/diacmd.jq "$(SHARE)/diacmd"
 	chmod 644 "$(SHARE)"/diacmd/*
 uninstall:
 	cd "$(SHARE)" && rm -f man/man1/diacmd.1 bash-completion/completions/diacmd zsh/site-functions/_diacmd
