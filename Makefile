@@ -1,12 +1,14 @@
-# bin/build proves and builds the program; this installs it, with its man page, completions and dictionaries.
+# bin/build proves and builds the program; this also tests it, and installs it with its man page, completions and dictionaries.
 PREFIX = /usr/local
 BUILD = bin/build --release
 PROGRAM = crates/diacmd/out/diacmd-release
 ROOT = $(DESTDIR)$(PREFIX)
 SHARE = $(ROOT)/share
-.PHONY: all install uninstall
+.PHONY: all check install uninstall
 all:
 	$(BUILD)
+check:
+	.ci/test
 install: all
 	install -D -m 755 "$(PROGRAM)" "$(ROOT)/bin/diacmd"
 	install -D -m 644 docs/diacmd.1 "$(SHARE)/man/man1/diacmd.1"
