@@ -1,12 +1,14 @@
-# bin/build proves and builds the program; this installs it, with its man page, completions and dictionaries.
+# bin/build proves and builds the program; this also tests it, and installs it with its man page, completions and dictionaries.
 PREFIX = /usr/local
 BUILD = bin/build --release
 PROGRAM = crates/diacmd/out/diacmd-release
 ROOT = $(DESTDIR)$(PREFIX)
 SHARE = $(ROOT)/share
-.PHONY: all install uninstall
+.PHONY: all check install uninstall
 all:
 	$(BUILD)
+check:
+	.ci/test
 install: all
 	install -D -m 755 "$(PROGRAM)" "$(ROOT)/bin/diacmd"
 	install -D -m 644 docs/diacmd.1 "$(SHARE)/man/man1/diacmd.1"
@@ -16,6 +18,7 @@ install: all
 	install -D -m 644 -t "$(SHARE)/diacmd" $(filter-out %/differences.txt,$(wildcard dictionaries/*.txt))
 	while IFS=: read -r name parts; do \
 	    (cd dictionaries && cat $$parts) > "$(SHARE)/diacmd/$$name" || exit; done < dictionaries/together
+	install -m 644 integrations/ci/diacmd.jq "$(SHARE)/diacmd"
 	chmod 644 "$(SHARE)"/diacmd/*
 uninstall:
 	cd "$(SHARE)" && rm -f man/man1/diacmd.1 bash-completion/completions/diacmd zsh/site-functions/_diacmd

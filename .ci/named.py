@@ -118,6 +118,7 @@ def lines(room):
     for options, told in {"": CAUSE_LINES, "--names ": CAUSE_NAMED, "--values words.txt --names ": CAUSE_NAMED + " REBOOTING"}.items():
         wanted = f"line 1\n{told}\nline 2\nmessage: not hexadecimal\nline 3\nmessage: short\nline 4\n{told}"
         room.check(f"show --lines {options}-", 1, wanted, stdin=text)
+    room.check("show --quiet --lines --names cause.hex", 0, f"line 1\n{CAUSE_NAMED}", err="")
     room.check("show cause.hex --lines", 0, f"line 1\n{CAUSE_LINES}")
     room.check("show --lines --values - cause.hex", 0, f"line 1\n{CAUSE_LINES} REBOOTING", stdin=WORDS)
     # each message of many lines, whose text comes in several pieces

@@ -204,15 +204,28 @@ static void faults_are_told(void) {
     dia_dict_close(&dict);
 }
 
+/* A name is written, and no byte behind it; and no byte at all where there is too little room, or no name. */
 static void names_are_told(void) {
     dia_dict dict = DIA_DICT_INIT;
+    dia_verdict v;
     uint8_t name[DIA_MAX_NAME];
     size_t count = 99;
+    memset(name, FILLING, sizeof name);
+    EXPECT(dia_avp_name(&dict, 264, 0, name, sizeof name, &count) == DIA_IS_CLOSED && count == 99 && is_left(name, sizeof name));
     EXPECT(dia_dict_open_base(&dict) == DIA_OK);
+    EXPECT(dia_avp_name(&dict, 264, 0, name, 10, &count) == DIA_NO_ROOM && count == 11 && is_left(name, sizeof name));
+    EXPECT(dia_avp_name(&dict, 264, 1, name, sizeof name, &count) == DIA_NONE && is_left(name, sizeof name));
     EXPECT(dia_avp_name(&dict, 264, 0, name, 11, &count) == DIA_OK && is_name(name, count, "Origin-Host"));
-    EXPECT(dia_avp_name(&dict, 264, 0, name, 10, &count) == DIA_NO_ROOM && count == 11);
-    EXPECT(dia_avp_name(&dict, 264, 1, name, sizeof name, &count) == DIA_NONE);
-    EXPECT(dia_command_name(&dict, UINT32_MAX, name, sizeof name, &count) == DIA_NONE);
+    EXPECT(is_left(name + 11, sizeof name - 11));
+    memset(name, FILLING, sizeof name);
+    EXPECT(dia_avp_name(&dict, 264, 0, name, sizeof name, &count) == DIA_OK && is_name(name, count, "Origin-Host"));
+    EXPECT(is_left(name + 11, sizeof name - 11));
+    memset(name, FILLING, sizeof name);
+    EXPECT(dia_check(&dict, DIA_KEPT, DIA_ANY_LEVELS, watchdog, 64, &v) == DIA_OK && v.outcome == DIA_VALID);
+    EXPECT(dia_command_name(&dict, v.command, name, 2, &count) == DIA_NO_ROOM && count == 3 && is_left(name, sizeof name));
+    EXPECT(dia_command_name(&dict, UINT32_MAX, name, sizeof name, &count) == DIA_NONE && is_left(name, sizeof name));
+    EXPECT(dia_command_name(&dict, v.command, name, sizeof name, &count) == DIA_OK && is_name(name, count, "DWR"));
+    EXPECT(is_left(name + 3, sizeof name - 3));
     dia_dict_close(&dict);
 }
 

@@ -135,7 +135,7 @@ static void a_watchdog_without_an_answer_closes(void) {
     dia_peer_close(&b);
 }
 
-/* Outputs are taken one by one, and none is lost. */
+/* Outputs are taken one by one, and none is lost. What is no part of one isn't written. */
 static void outputs_are_taken_in_order(void) {
     dia_peer a = DIA_PEER_INIT;
     dia_app app = {99, 99, 99, 99};
@@ -150,9 +150,13 @@ static void outputs_are_taken_in_order(void) {
     EXPECT(dia_peer_event(&a, 5, out, 0, 0) == DIA_BAD_ARGUMENT && dia_peer_event(&a, DIA_STOP, out, 0, 3) == DIA_BAD_ARGUMENT);
     EXPECT(dia_peer_event(&a, DIA_START, out, 0, 0) == DIA_OK);
     EXPECT(dia_peer_event(&a, DIA_TICK, out, 0, 0) == DIA_OUTPUTS_LEFT);
+    memset(out, FILLING, sizeof out);
     EXPECT(dia_peer_output(&a, &output, out, LENGTH(cer) - 1, &count, &why) == DIA_NO_ROOM);
-    EXPECT(count == LENGTH(cer) && output == 99 && why == 99);
-    EXPECT(sends(&a, cer, LENGTH(cer)) && rests(&a, DIA_STATE_WAIT_CEA));
+    EXPECT(count == LENGTH(cer) && output == 99 && why == 99 && is_left(out, sizeof out));
+    EXPECT(sends(&a, cer, LENGTH(cer)) && is_left(out + LENGTH(cer), sizeof out - LENGTH(cer)));
+    memset(out, FILLING, sizeof out);
+    EXPECT(dia_peer_output(&a, &output, out, sizeof out, &count, &why) == DIA_NONE && is_left(out, sizeof out));
+    EXPECT(rests(&a, DIA_STATE_WAIT_CEA));
     EXPECT(dia_peer_event(&a, DIA_TICK, out, 0, 0) == DIA_OK && closes(&a, DIA_WHY_TIMEOUT) && rests(&a, DIA_STATE_CLOSED));
     dia_peer_close(&a);
     dia_peer_close(&a);

@@ -46,4 +46,14 @@ static inline dia_status open_text(const char *text, dia_dict *dict, dia_problem
     return dia_dict_open((const uint8_t *)text, strlen(text), dict, problem);
 }
 
+/* What buffers are filled with, of which a call has to leave what it doesn't write. */
+#define FILLING 0x5a
+
+static inline int is_left(const uint8_t *at, size_t count) {
+    while (count > 0 && at[count - 1] == FILLING) {
+        count--;
+    }
+    return count == 0;
+}
+
 #endif
