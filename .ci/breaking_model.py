@@ -289,10 +289,11 @@ class Model:
     def meaning(self, key):
         """Of an AVP whose data B accepts, and reads as another format: both formats."""
         mine, other = self.a.entries.get(key), self.b.entries.get(key)
-        if not mine or not other or mine.group or other.group or {mine.m, other.m} == {"must", "mustnot"}:
+        if not mine or not other or {mine.m, other.m} == {"must", "mustnot"} or self.breaking_data(mine, other) is not None:
             return None
         f, g = mine.format, other.format
-        if f == g or g == "OctetString" or (f, g) in BELOW or self.breaking_data(mine, other) is not None:
+        are_leaves = not mine.group and not other.group
+        if f == g or are_leaves and (g == "OctetString" or (f, g) in BELOW):
             return None
         return f"{whole(f, mine.listed)} sent, {whole(g, other.listed)} read"
 

@@ -112,8 +112,8 @@ module _ (da db : Dictionary) (who : Sends) (u : Unknown) (made : Facts) (start 
   known_here key is = by (entry_of da key) refl
     where
       by : (o : Option ℕ) → entry_of da key ≡ o → IsSome (entry_of da key)
-      by None e = absurd (none-some is.leaves.sent
-          (sym (ap (λ (o : Option ℕ). option_map (λ (x : DictEntry). x.format) (option_and_then (λ i. slice_get da.entries i) o)) e) ∙ is.leaves.sent_is))
+      by None e = absurd (none-some is.formats.sent
+          (sym (ap (λ (o : Option ℕ). option_map (λ (x : DictEntry). x.format) (option_and_then (λ i. slice_get da.entries i) o)) e) ∙ is.formats.sent_is))
       by (Some i) e = ap (λ (o : Option ℕ). is_some o) e
 
   pub all_meant : HoldsOfLevels (sides da db who u) (answer c sites lines) (AreMeant (sides da db who u) meanings)

@@ -16,7 +16,7 @@ use Rattle.dia_breaking.specs.declared.keys.Own.{Own}
 use Rattle.dia_breaking.specs.declared.keys.Telling.{Telling}
 use Rattle.dia_breaking.specs.Exits.{AreExits, AreOutlooks, IsInner, IsOutlook}
 use Rattle.dia_breaking.specs.Outlooks.{group_rules}
-use Rattle.dia_breaking.specs.Telling.{AreGroups}
+use Rattle.dia_breaking.specs.Taken.{AreGroups}
 use Rattle.dia_breaking.specs.Lengths.{Costs}
 use Rattle.dia_breaking.proofs.Lists.{added, one_more}
 

@@ -1,5 +1,5 @@
 -- AVPs that are read as another format, as it is found.
-use Rattle.std.proofs.Common.{◌≡◌, ℕ, Bool, false, Some, refl, sym, subst, ◌∙◌, arith}
+use Rattle.std.proofs.Common.{◌≡◌, ℕ, Bool, false, Some, refl, sym, subst, ◌∙◌, arith, inl, inr}
 use Rattle.std.specs.Prelude.{◌↔◌, IsTrue}
 use Rattle.std.proofs.lemmas.Bool.{both_ways}
 use Rattle.std.proofs.lemmas.Option.{same_Some}
@@ -7,8 +7,16 @@ use Rattle.dia_wire.specs.declared.Key.{Key}
 use Rattle.dia_book.specs.declared.MRule.{MRule}
 use Rattle.dia_book.specs.declared.MRule.TheVariants.{Must, MustNot, Any as AnyM}
 use Rattle.dia_book.specs.Dictionary.{Dictionary}
+use Rattle.dia_policy.specs.declared.Unknown.{Unknown}
+use Rattle.dia_policy.specs.declared.Sends.{Sends}
 use Rattle.dia_valid.specs.Valid.{MHolds}
-use Rattle.dia_breaking.specs.Meanings.{ShareFlags, m_rule_in, share_flag}
+use Rattle.dia_breaking_avps.specs.declared.breaking.DataBreak.{DataBreak}
+use Rattle.dia_breaking_avps.specs.declared.breaking.DataBreak.TheVariants.{Groups}
+use Rattle.dia_breaking_avps.specs.Breaks.{IsDataBreak, IsSilentData}
+use Rattle.dia_breaking.specs.Meanings.{IsReadAsOther, ShareFlags, m_rule_in, share_flag}
+use Rattle.dia_breaking.specs.Sides.{sides}
+use Rattle.dia_breaking.proofs.Lists.{not_so}
+use Rattle.dia_breaking.proofs.OwnBreaks.{has_group, silent_by_taken}
 
 -- ---- flags
 
@@ -47,3 +55,14 @@ module _ (da db : Dictionary) (key : Key) where
         let second = subst (λ (r : MRule). MHolds r share.flags) (same_Some share.read read (sym share.read_is ∙ in_b)) share.is_read in
         is ∙ meet sent read (share.flags, first, second),
   )
+
+-- ---- data
+
+module _ (da db : Dictionary) (who : Sends) (u : Unknown) (key : Key) where
+  -- what both read level by level isn't read as another format
+  pub groups_alike : (a b : ℕ) → IsDataBreak da db who u key (Groups a b) → IsTrue false ↔ IsReadAsOther (sides da db who u) key
+  groups_alike a b both = not_so (IsReadAsOther (sides da db who u) key) (λ is. is.formats.other (inl (has_group da key a both.0, has_group db key b both.1)))
+
+  -- what breaks by its data is told as such
+  pub broken_apart : (found : DataBreak) → IsDataBreak da db who u key found → (IsSilentData found → ⊥) → IsTrue false ↔ IsReadAsOther (sides da db who u) key
+  broken_apart found content breaks = not_so (IsReadAsOther (sides da db who u) key) (λ is. breaks (silent_by_taken da db who u key found content (inr is.accepted)))

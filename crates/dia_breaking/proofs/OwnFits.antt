@@ -50,7 +50,8 @@ use Rattle.dia_breaking.specs.Listing.{Told, data_length, head_cause, own_cause,
 use Rattle.dia_breaking.specs.OwnBreaks.{IsOwnBreaks}
 use Rattle.dia_breaking.specs.OwnKeys.{data_key, flags_key}
 use Rattle.dia_breaking.specs.SentKeys.{AreSentKeys, IsStrange}
-use Rattle.dia_breaking.specs.Telling.{AreGroups, BreaksNothing, IsDataTaken}
+use Rattle.dia_breaking.specs.Taken.{AreGroups, IsDataTaken}
+use Rattle.dia_breaking.specs.Telling.{BreaksNothing}
 use Rattle.dia_breaking.specs.TheLines.{AreFacts, Facts, costs_in}
 use Rattle.dia_breaking.specs.Sides.{sides}
 use Rattle.dia_breaking.proofs.SentPrices.{strange_least}

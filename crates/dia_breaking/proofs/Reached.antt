@@ -33,7 +33,8 @@ use Rattle.dia_breaking.specs.Lengths.{Costs, costs_by, listed_length, other_len
 use Rattle.dia_breaking.specs.LevelCosts.{IsCostOf, PicksShortest, cost_of, with_listed}
 use Rattle.dia_breaking.specs.Meanings.{IsReadAsOther}
 use Rattle.dia_breaking.specs.Nodes.{exits_in, node_in}
-use Rattle.dia_breaking.specs.Telling.{AreGroups, IsExactlyOwn, IsExactTelling, is_news}
+use Rattle.dia_breaking.specs.Taken.{AreGroups}
+use Rattle.dia_breaking.specs.Telling.{IsExactlyOwn, IsExactTelling, is_news}
 use Rattle.dia_breaking.specs.Sides.{sides}
 use Rattle.dia_breaking.proofs.SentPrices.{stand_placed, stand_price}
 use Rattle.dia_breaking.proofs.LevelCosts.{cost_of as is_cost, one_is_shortest}

@@ -38,7 +38,8 @@ use Rattle.dia_breaking.specs.Lengths.{costs_by, other_length}
 use Rattle.dia_breaking.specs.LevelCosts.{PicksShortest}
 use Rattle.dia_breaking.specs.Nodes.{exits_in, level_in, node_in}
 use Rattle.dia_breaking.specs.Outlooks.{group_rules}
-use Rattle.dia_breaking.specs.Telling.{AreGroups, IsExactTelling}
+use Rattle.dia_breaking.specs.Taken.{AreGroups}
+use Rattle.dia_breaking.specs.Telling.{IsExactTelling}
 use Rattle.dia_breaking.specs.Sides.{sides}
 use Rattle.dia_breaking.proofs.SentLevels.{group_within, key_contained, sent_keys}
 use Rattle.dia_breaking.proofs.Reached.{Kept, by_wildcard, cost, costs_at, group_kept, led, listed}

@@ -16,7 +16,7 @@ use Rattle.dia_breaking.specs.declared.levels.LevelCost.{LevelCost}
 use Rattle.dia_breaking.specs.Lengths.{Costs}
 use Rattle.dia_breaking.specs.LevelCosts.{cost_of, with_listed}
 use Rattle.dia_breaking.specs.Outlooks.{group_rules}
-use Rattle.dia_breaking.specs.Telling.{AreGroups}
+use Rattle.dia_breaking.specs.Taken.{AreGroups}
 
 -- the place of the rule's key in what is told, if it is told, and the length of a least level that has an AVP of it
 abbrev pub exit_by : Telling → (Key → ℕ) → LevelCost → DRule → Option (ℕ × ℕ)

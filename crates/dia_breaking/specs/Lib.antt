@@ -23,6 +23,7 @@ pub mod SentLevels
 pub mod Sides
 pub mod Sites
 pub mod Stocks
+pub mod Taken
 pub mod Telling
 pub mod TheLines
 pub mod TheMeanings

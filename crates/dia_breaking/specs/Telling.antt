@@ -7,18 +7,15 @@ use Rattle.dia_book.specs.Keys.{same_key}
 use Rattle.dia_book.specs.Dictionary.{Dictionary}
 use Rattle.dia_policy.specs.declared.Unknown.{Unknown}
 use Rattle.dia_policy.specs.declared.Sends.{Sends}
-use Rattle.dia_breaking_avps.specs.Sent.{group_of, AreAccepted, IsAcceptedData, IsSentData}
-use Rattle.dia_breaking_avps.specs.Breaks.{AcceptsFlags, TakesLevels}
+use Rattle.dia_breaking_avps.specs.Sent.{group_of}
+use Rattle.dia_breaking_avps.specs.Breaks.{AcceptsFlags}
 use Rattle.dia_breaking_avps.specs.Laws.{FitKeyAlone}
 use Rattle.dia_breaking.specs.declared.keys.Own.{Own}
 use Rattle.dia_breaking.specs.declared.keys.Telling.{Telling}
 use Rattle.dia_breaking.specs.Meanings.{IsReadAsOther}
 use Rattle.dia_breaking.specs.SentKeys.{AreSentInOrder}
 use Rattle.dia_breaking.specs.Sides.{Sides}
-
--- both dictionaries see a level in AVPs of the key
-abbrev pub AreGroups : Dictionary → Dictionary → Key → Type 0
-AreGroups da db key = IsSome (group_of da key) × IsSome (group_of db key)
+use Rattle.dia_breaking.specs.Taken.{AreGroups, IsDataTaken}
 
 -- what is found of a key, where nothing breaks, is that B accepts each M flag of its AVPs, and that they fit alone
 pub record IsToldOf (s : Sides) (key : Key) (own : Own) : Type 0 where
@@ -42,10 +39,6 @@ pub record AreTold (s : Sides) (keys : List Key) (telling : Telling) : Type 0 wh
   pub rest : (key : Key) → Contains keys key → get same_key telling.places key ≡ None → (own : Own) × IsToldOf s key own × (is_news own ≡ false)
 
 -- ---- exactly these
-
--- B accepts all data of AVPs of the key that A's side sends; and where A sees levels in them, B takes any data, or each level is an Address of B's
-abbrev pub IsDataTaken : Dictionary → Dictionary → Sends → Unknown → Key → Type 0
-IsDataTaken da db who u key = AreAccepted (IsSentData da who key) (IsAcceptedData db u key) × (IsSome (group_of da key) → TakesLevels da db who key)
 
 -- no AVP of the key breaks by itself: B accepts each M flag that is sent, and the data, or both dictionaries see a level in it
 abbrev pub BreaksNothing : Dictionary → Dictionary → Sends → Unknown → Key → Type 0

@@ -60,10 +60,29 @@ any | $Y $T * [ AVP ] | $F $T * [ AVP ] => no other meaning\n
 any | $X <T> ::= < Diameter Header: 302, REQ, PXY > { X } | $F $T { X } => T: $M\n  01000020 c000012e000000000000000000000000 $X0\n
 any | $X <T> ::= < Diameter Header: 302, REQ, 5 > { X } | $F <T> ::= < Diameter Header: 302, REQ, 6 > { X } => T[application 6]: $M\n  01000020 8000012e000000050000000000000000 $X0\n
 
-# Groups: one that B or A alone sees, and one that no message can hold.
+# Groups that B reads as leaves: of a format that takes any data, and of Addresses, where each level is one. The AVPs in them have no line.
+any | $X $G $T [ G ] | %avp G 9100 OctetString any $T [ G ] => T: meaning G: Grouped sent, OctetString read\n  01000028 $H 0000238c00000014 $X0\n
+any | $Y <X> ::= < AVP Header: 9002 > [ Y ] $T { X } | %avp X 9002 IPFilterRule any $T { X } => T: meaning X: Grouped sent, IPFilterRule read\n  0100001c $H 0000232a00000008\n
+any | $X $G $T [ G ] | $F %avp G 9100 QoSFilterRule any $T [ G ] => T: meaning G: Grouped sent, QoSFilterRule read\n  01000028 $H 0000238c00000014 $X0\n
+any | $X $G $T [ G ] | %avp G 9100 Address any $T [ G ] => T: meaning G: Grouped sent, Address read\n  01000028 $H 0000238c00000014 $X0\n
+
+# In a group of both; M flags; through a wildcard; and what no rule lists.
+any | <G> ::= < AVP Header: 9100 > <K> ::= < AVP Header: 9101 > [ G ] $T [ K ] | %avp G 9100 OctetString any <K> ::= < AVP Header: 9101 > [ G ] $T [ K ] => T/K: meaning G: Grouped sent, OctetString read\n  01000024 $H 0000238d00000010 0000238c00000008\n
+any | $X $G $T [ G ] | %avp G 9100 OctetString must $T [ G ] => T: meaning G: Grouped sent, OctetString read\n  01000028 $H 0000238c40000014 $X0\n
+any | %avp G 9100 Grouped must <G> ::= < AVP Header: 9100 > $T [ G ] | %avp G 9100 OctetString mustnot $T [ G ] => no other meaning\n
+known | <G> ::= < AVP Header: 9100 > $T * [ AVP ] | %avp G 9100 OctetString any $T * [ AVP ] => T: meaning G: Grouped sent, OctetString read\n  0100001c $H 0000238c00000008\n
+listed | <G> ::= < AVP Header: 9100 > $T * [ AVP ] | %avp G 9100 OctetString any $T * [ AVP ] => no other meaning\n
+
+# Groups whose levels aren't all data of B's leaf, or not known to be; and leaves that B reads as groups: some data of each format are no level.
+any | $X <G> ::= < AVP Header: 9100 > [ X ] $T [ G ] | %avp G 9100 Address any $T [ G ] => no other meaning\n
+any | $X $G $T [ G ] | %avp G 9100 UTF8String any $T [ G ] => no other meaning\n
+any | $X $G $T [ G ] | %avp G 9100 Unsigned32 any $T [ G ] => no other meaning\n
 any | %avp X 9002 OctetString any $T { X } | $Y <X> ::= < AVP Header: 9002 > [ Y ] $T { X } => no other meaning\n
-any | $Y <X> ::= < AVP Header: 9002 > [ Y ] $T { X } | %avp X 9002 IPFilterRule any $T { X } => no other meaning\n
+any | $X $T { X } | $Y <X> ::= < AVP Header: 9002 > [ Y ] $T { X } => no other meaning\n
+
+# Groups that no message can hold.
 any | $X <P> ::= < AVP Header: 9100 > { P } { X } $T [ P ] | $F <P> ::= < AVP Header: 9100 > { P } { X } $T [ P ] => no other meaning\n
+any | <P> ::= < AVP Header: 9100 > { P } $T [ P ] | %avp P 9100 OctetString any $T [ P ] => no other meaning\n
 
 # As much as a message can hold, and one more.
 any | $X $T 1398099*1398099 { X } | $F $T 1398099*1398099 { X } => T: $M\n  16777208 bytes\n
@@ -73,6 +92,7 @@ any | $X $T 1398100*1398100 { X } | $F $T 1398100*1398100 { X } => no other mean
 const LINES: &str = r"
 # Meanings are no lines.
 any | $X $T { X } | $F $T { X } => nothing breaks\n
+any | $X $G $T [ G ] | %avp G 9100 OctetString any $T [ G ] => nothing breaks\n
 any | $X $Y $T { X } [ Y ] | $F $Y $T { X } => T: not-allowed Y: 0..1 sent\n  0100002c $H $X0 $Y0\n
 any | $X $T { X } | %avp X 9002 Float32 must $T { X } => T: m-bit X: M clear sent, M set accepted\n  01000020 $H $X0\n
 ";
