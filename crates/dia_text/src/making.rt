@@ -10,7 +10,7 @@ ghost use Rattle.dia_text.specs.Lines.{plain_line, head_at};
 ghost use Rattle.dia_text.specs.Reading.{FailsAt};
 
 use crate::draft::{Opened, add, push_byte_and_u24, push_u32};
-use crate::fault::{Fault, Kind, Misread, Misfit, NotMade, NotRead, Wanted, not_read};
+use crate::fault::{Fault, Kind, Misfit, Misread, NotMade, NotRead, Wanted, not_read};
 use crate::line::Line;
 use crate::lines::{head_at, header_of, line_of};
 use crate::names::NamedBook;
