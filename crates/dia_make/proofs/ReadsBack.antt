@@ -6,14 +6,15 @@ use Rattle.std.proofs.lemmas.List.Elements.{All-from_recursion}
 use Rattle.dia_wire.specs.declared.Header.{Header}
 use Rattle.dia_dict.specs.Dictionary.{Dictionary, IsDictionary}
 use Rattle.dia_wire.specs.Written.{header_bytes}
-use Rattle.dia_text.specs.declared.fault.Kind.{Kind}
+use Rattle.dia_text.specs.declared.fault.Misfit.{Misfit}
+use Rattle.dia_text.specs.declared.fault.Wanted.TheVariants.{HeaderLine, ClosingBrace, ShorterMessage}
 use Rattle.dia_text.specs.declared.fault.Kind.TheVariants.{Syntax, Braces, Limit}
 use Rattle.dia_text.specs.declared.fault.Fault.{Fault}
 use Rattle.dia_text.specs.Words.{first_word}
 use Rattle.dia_text.specs.Reading.{◌>>=◌}
 use Rattle.dia_text.specs.Lines.{PlainLine, Blank, Leaf, Open, Close, line_of, header_at, header_of}
 use Rattle.dia_text.specs.Drafts.{Frame, Level}
-use Rattle.dia_text.specs.Made.{lines, made_lines, message_from, body_from, begin, step, finished, no_level, line_added, fault_at, is_empty, has_word, digits_line, part_text, parts_text}
+use Rattle.dia_text.specs.Made.{lines, made_lines, message_from, body_from, begin, step, finished, no_level, line_added, fault_in, fault_at, is_empty, has_word, digits_line, part_text, parts_text}
 use Rattle.dia_text.specs.LineTexts.{leaf_line, open_line, close_line, header_line}
 use Rattle.dia_text.specs.TextOf.{IsLevelText, end, leaf, group, IsTextOf, behind_data}
 use Rattle.dia_text.proofs.Bytes.{AreBytes, bytes_split, bytes_take, bytes_drop, parts_of, fields_of}
@@ -25,7 +26,7 @@ use Rattle.dia_text.proofs.Parts.{then_nothing, part_added}
 
 -- ---- lines that say something aren't empty
 
-abbrev says_nothing : Result PlainLine Kind → Bool
+abbrev says_nothing : Result PlainLine Misfit → Bool
 says_nothing (Ok Blank) = true
 says_nothing (Ok (Leaf head bytes pad)) = false
 says_nothing (Ok (Open head)) = false
@@ -41,7 +42,7 @@ header_word : (d : Dictionary) (l : List ℕ) (h : Header) → header_of d l ≡
 unfolding header_of
 header_word d l h is = by (length (first_word l) == 0) refl
   where
-    has_none : Result (Option Header) Kind → Bool
+    has_none : Result (Option Header) Misfit → Bool
     has_none (Ok None) = true
     has_none (Ok (Some g)) = false
     has_none (Err kind) = false
@@ -95,30 +96,30 @@ no_fault : (r : Result (List ℕ) Fault) (f : Fault) (m : List ℕ) → r ≡ Er
 no_fault r f m bad is = true≢false (sym (ap is_made is) ∙ ap is_made bad)
 
 ends_same : (h : Header) (outer : List Frame) (bytes m : List ℕ) (n k : ℕ) → finished h outer bytes n ≡ Ok m → finished h outer bytes k ≡ Ok m
-ends_same h (f ∷ outer) bytes m n k is = absurd (no_fault (finished h (f ∷ outer) bytes n) (fault_at n Braces) m refl is)
+ends_same h (f ∷ outer) bytes m n k is = absurd (no_fault (finished h (f ∷ outer) bytes n) (fault_at n Braces ClosingBrace) m refl is)
 ends_same h [] bytes m n k is = by (nat_lt (20 + length bytes) (2 ^ 24)) refl
   where
     whole : List ℕ
     whole = header_bytes h (20 + length bytes) ++ bytes
 
     by : (b : Bool) → nat_lt (20 + length bytes) (2 ^ 24) ≡ b → finished h [] bytes k ≡ Ok m
-    by true e = ap (λ (c : Bool). if c then Ok whole else Err (fault_at k Limit)) e ∙ sym (ap (λ (c : Bool). if c then Ok whole else Err (fault_at n Limit)) e) ∙ is
-    by false e = absurd (no_fault (finished h [] bytes n) (fault_at n Limit) m (ap (λ (c : Bool). if c then Ok whole else Err (fault_at n Limit)) e) is)
+    by true e = ap (λ (c : Bool). if c then Ok whole else Err (fault_at k Limit ShorterMessage)) e ∙ sym (ap (λ (c : Bool). if c then Ok whole else Err (fault_at n Limit ShorterMessage)) e) ∙ is
+    by false e = absurd (no_fault (finished h [] bytes n) (fault_at n Limit ShorterMessage) m (ap (λ (c : Bool). if c then Ok whole else Err (fault_at n Limit ShorterMessage)) e) is)
 
 -- what follows a line, where what follows is the same with an empty line behind it
-line_ends : (d : Dictionary) (h : Header) (ls : List (List ℕ)) (n : ℕ) (m : List ℕ) (r : Result Level Kind)
+line_ends : (d : Dictionary) (h : Header) (l : List ℕ) (ls : List (List ℕ)) (n : ℕ) (m : List ℕ) (r : Result Level Misfit)
     → ((at : Level) → body_from d h (n + 1) (ls ++ ([] ∷ [])) at ≡ Ok m → body_from d h (n + 1) ls at ≡ Ok m)
-    → step r (n + 1) (body_from d h (n + 1) (ls ++ ([] ∷ []))) ≡ Ok m → step r (n + 1) (body_from d h (n + 1) ls) ≡ Ok m
-line_ends d h ls n m (Ok next) more is = more next is
-line_ends d h ls n m (Err kind) more is = absurd (no_fault (Err (fault_at (n + 1) kind)) (fault_at (n + 1) kind) m refl is)
+    → step r l (n + 1) (body_from d h (n + 1) (ls ++ ([] ∷ []))) ≡ Ok m → step r l (n + 1) (body_from d h (n + 1) ls) ≡ Ok m
+line_ends d h l ls n m (Ok next) more is = more next is
+line_ends d h l ls n m (Err e) more is = absurd (no_fault (Err (fault_in l (n + 1) e)) (fault_in l (n + 1) e) m refl is)
 
 body_ends : (d : Dictionary) (h : Header) (ls : List (List ℕ)) (n : ℕ) (at : Level) (m : List ℕ) → body_from d h n (ls ++ ([] ∷ [])) at ≡ Ok m → body_from d h n ls at ≡ Ok m
 body_ends d h [] n at m is =
-    ends_same h at.outer at.bytes m (n + 1) n (sym (ap (λ (r : Result Level Kind). step r (n + 1) (body_from d h (n + 1) [])) (blank_added d at)) ∙ is)
-body_ends d h (l ∷ ls) n at m is = line_ends d h ls n m (line_added d l at) (λ next k. body_ends d h ls (n + 1) next m k) is
+    ends_same h at.outer at.bytes m (n + 1) n (sym (ap (λ (r : Result Level Misfit). step r [] (n + 1) (body_from d h (n + 1) [])) (blank_added d at)) ∙ is)
+body_ends d h (l ∷ ls) n at m is = line_ends d h l ls n m (line_added d l at) (λ next k. body_ends d h ls (n + 1) next m k) is
 
 begun : (d : Dictionary) (h : Header) (l : List ℕ) (ls : List (List ℕ)) → header_of d l ≡ Ok (Some h) → message_from d 0 (l ∷ ls) ≡ body_from d h (0 + 1) ls no_level
-begun d h l ls is = ap (λ (r : Result (Option Header) Kind). begin r (0 + 1) (message_from d (0 + 1) ls) (λ header. body_from d header (0 + 1) ls no_level)) is
+begun d h l ls is = ap (λ (r : Result (Option Header) Misfit). begin r l (0 + 1) (message_from d (0 + 1) ls) (λ header. body_from d header (0 + 1) ls no_level)) is
 
 message_ends : (d : Dictionary) (h : Header) (l : List ℕ) (ls : List (List ℕ)) (m : List ℕ) → header_of d l ≡ Ok (Some h) → message_from d 0 (l ∷ (ls ++ ([] ∷ []))) ≡ Ok m → message_from d 0 (l ∷ ls) ≡ Ok m
 message_ends d h l ls m head is = begun d h l ls head ∙ body_ends d h ls (0 + 1) no_level m (sym (begun d h l (ls ++ ([] ∷ [])) head) ∙ is)
@@ -147,5 +148,5 @@ one_made d message text sound bytes t =
     sym (then_nothing (parts_text d 0 (slice_split is_empty (ls ++ ([] ∷ [])))))
     ∙ part_added d 0 (0 + length ls + 1) [] digits digits (ls ++ ([] ∷ [])) ls [] refl (All-from_recursion (λ (l : List ℕ). is_empty l ≡ false) ls (somes ls full)) part refl refl
     ∙ ap Ok (append-nil digits) in
-    ap (λ (xs : List (List ℕ)). if has_word xs then parts_text d 0 (slice_split is_empty xs) else Err (fault_at (length xs) Syntax)) all
+    ap (λ (xs : List (List ℕ)). if has_word xs then parts_text d 0 (slice_split is_empty xs) else Err (fault_at (length xs) Syntax HeaderLine)) all
     ∙ rw (word_first first (t.lines ++ ([] ∷ [])) word) parts

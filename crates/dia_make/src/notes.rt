@@ -1,23 +1,22 @@
 //! Notes: what is told on standard error of a text that is refused, and of a message that has no text.
 
+use crate::notes::meant::{Meant, byte_of, meant_of};
 use crate::notes::names::NamesOf;
-use crate::notes::spots::{Meant, Spot, spot_of};
-use crate::notes::tests_of_words::number_of;
+use crate::notes::wanted::words_of;
+use crate::notes::word::{line_end, word_at};
 use crate::reporting::{BadText, RefusedText, Report};
 use dia_data::{Format, push_hex_byte, push_value};
 use dia_dict::base_text;
-use dia_explain_places::Note;
+use dia_explain_places::{Note, start_of_line};
 use dia_io::{Input, Inputs};
 use dia_policy::MAX_MESSAGE_TEXT;
 use dia_text::Fault;
 use std::alloc::{AllocError, Global};
 
-mod avp_spots;
-mod header_spots;
+mod meant;
 mod names;
-mod spots;
-mod tests_of_words;
-mod words;
+mod wanted;
+mod word;
 
 /// How many bytes of a word are told.
 const SHOWN: usize = 60;
@@ -67,12 +66,16 @@ fn push_refused(note: &mut Note, name: &str, inputs: &Inputs, refused: &RefusedT
     }
 }
 
-/// Adds the place of a fault, what stands there and what could, and what may be meant. `names` are those of the dictionary by
-/// which the text was read.
+/// Adds the place of a fault, the word there and what could be in its place, and what may be meant. `names` are those of the
+/// dictionary by which the text was read.
 fn push_fault(note: &mut Note, name: &str, names: &NamesOf<'_>, text: &[u8], fault: &Fault) {
-    let spot = spot_of(names.book, text, fault);
-    let word = spot.word.text;
-    note.put_place(name, text, spot.word.at);
+    let start = start_of_line(text, u32::try_from(fault.line).unwrap_or(u32::MAX));
+    let at = match fault.at {
+        Some(at) => start.saturating_add(at),
+        None => line_end(text, start),
+    };
+    let word = word_at(text, at);
+    note.put_place(name, text, at);
     if word.is_empty() {
         note.put("no word is left here");
     } else {
@@ -80,17 +83,17 @@ fn push_fault(note: &mut Note, name: &str, names: &NamesOf<'_>, text: &[u8], fau
         note.put_shown(word.get(..SHOWN).unwrap_or(word));
         note.put("\"");
     }
-    note.put_all(&["; expected ", spot.wanted, "\n"]);
-    note.put_excerpt(text, spot.word.at);
-    push_meant(note, names, &spot)
+    note.put_all(&["; expected ", words_of(fault.wanted), "\n"]);
+    note.put_excerpt(text, at);
+    let front = text.get(..start).unwrap_or(text);
+    push_meant(note, names, word, meant_of(fault.wanted, word, front))
 }
 
-/// Adds what may be meant, and what to do.
-fn push_meant(note: &mut Note, names: &NamesOf<'_>, spot: &Spot<'_>) {
-    let word = spot.word.text;
+/// Adds what may be meant by a word, and what to do.
+fn push_meant(note: &mut Note, names: &NamesOf<'_>, word: &[u8], meant: Meant) {
     // Nothing where the word is no UTF-8.
     let spelt = str::from_utf8(word).unwrap_or("");
-    match spot.meant {
+    match meant {
         Meant::Nothing => {}
         Meant::Command => names.push_command(note, spelt),
         Meant::Avp => names.push_avp(note, spelt),
@@ -134,7 +137,7 @@ fn quoted(alloc: Global, word: &[u8]) -> Result<String, AllocError> {
 fn address(alloc: Global, word: &[u8]) -> Result<String, AllocError> {
     let mut digits = String::new(alloc);
     for part in word.split(|byte| *byte == b'.') {
-        push_hex_byte(&mut digits, (number_of(part).unwrap_or(0) & 0xff) as u8)?;
+        push_hex_byte(&mut digits, byte_of(part).unwrap_or(0))?;
     }
     Ok(digits)
 }

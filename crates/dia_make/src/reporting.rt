@@ -58,7 +58,7 @@ impl fmt::Display for BadText {
     fn fmt<W: fmt::Write>(&self, f: &mut fmt::Formatter<W>) -> fmt::Result {
         match self {
             BadText::TooLong => write!(f, "too long"),
-            BadText::Fault(Fault { kind, line }) => write!(f, "{kind} at line {line}"),
+            BadText::Fault(Fault { kind, line, .. }) => write!(f, "{kind} at line {line}"),
         }
     }
 }

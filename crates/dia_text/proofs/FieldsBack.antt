@@ -9,6 +9,7 @@ use Rattle.std.proofs.lemmas.Fmt.{digits_decimal, digits_value-decimal, decimal_
 use Rattle.dia_terms.specs.Names.{same_bytes}
 use Rattle.dia_wire.specs.Written.{padding}
 use Rattle.dia_data.specs.Shown.{hex_byte, hexadecimal}
+use Rattle.dia_text.specs.declared.fault.Wanted.{Wanted}
 use Rattle.dia_text.specs.Words.{first_word, behind_word}
 use Rattle.dia_text.specs.Numbers.{number_of, number_below, within}
 use Rattle.dia_text.specs.Fields.{flags_of, flags_field, number_field, length_field, padding_field, bytes_of}
@@ -39,23 +40,23 @@ number_back limit n less fits = ap (option_and_then (within limit)) (number_of_b
 
 -- ---- what a field says
 
-flags_there : (letters : List (ℕ × ℕ)) (default : Option ℕ) (text more word rest : List ℕ) (n : ℕ) → first_word text ≡ codes "flags" → behind_word text ≡ more → first_word more ≡ word → behind_word more ≡ rest
-    → flags_of letters word ≡ Some n → flags_field letters default text ≡ Ok (n, rest)
+flags_there : (letters : List (ℕ × ℕ)) (flags : Wanted) (default : Option ℕ) (wanted : Wanted) (text more word rest : List ℕ) (n : ℕ) → first_word text ≡ codes "flags" → behind_word text ≡ more → first_word more ≡ word → behind_word more ≡ rest
+    → flags_of letters word ≡ Some n → flags_field letters flags default wanted text ≡ Ok (n, rest)
 unfolding flags_field
-flags_there letters default text more word rest n k b f e value = rw (k, b, f, e, value) refl
+flags_there letters flags default wanted text more word rest n k b f e value = rw (k, b, f, e, value) refl
 
-flags_not_there : (letters : List (ℕ × ℕ)) (n : ℕ) (text : List ℕ) → same_bytes (first_word text) (codes "flags") ≡ false → flags_field letters (Some n) text ≡ Ok (n, text)
+flags_not_there : (letters : List (ℕ × ℕ)) (flags wanted : Wanted) (n : ℕ) (text : List ℕ) → same_bytes (first_word text) (codes "flags") ≡ false → flags_field letters flags (Some n) wanted text ≡ Ok (n, text)
 unfolding flags_field
-flags_not_there letters n text other = rw other refl
+flags_not_there letters flags wanted n text other = rw other refl
 
-number_there : (key : List ℕ) (default : Option ℕ) (text more word rest : List ℕ) (n : ℕ) → same_bytes (first_word text) key ≡ true → behind_word text ≡ more → first_word more ≡ word → behind_word more ≡ rest
-    → number_below (2 ^ 32) word ≡ Some n → number_field key default text ≡ Ok (n, rest)
+number_there : (key : List ℕ) (default : Option ℕ) (wanted : Wanted) (text more word rest : List ℕ) (n : ℕ) → same_bytes (first_word text) key ≡ true → behind_word text ≡ more → first_word more ≡ word → behind_word more ≡ rest
+    → number_below (2 ^ 32) word ≡ Some n → number_field key default wanted text ≡ Ok (n, rest)
 unfolding number_field
-number_there key default text more word rest n k b f e value = rw (k, b, f, e, value) refl
+number_there key default wanted text more word rest n k b f e value = rw (k, b, f, e, value) refl
 
-number_not_there : (key : List ℕ) (n : ℕ) (text : List ℕ) → same_bytes (first_word text) key ≡ false → number_field key (Some n) text ≡ Ok (n, text)
+number_not_there : (key : List ℕ) (wanted : Wanted) (n : ℕ) (text : List ℕ) → same_bytes (first_word text) key ≡ false → number_field key (Some n) wanted text ≡ Ok (n, text)
 unfolding number_field
-number_not_there key n text other = rw other refl
+number_not_there key wanted n text other = rw other refl
 
 pub length_not_there : (text : List ℕ) → same_bytes (first_word text) (codes "length") ≡ false → length_field text ≡ Ok (None, text)
 unfolding length_field
@@ -77,34 +78,34 @@ flags_value letters flags small =
     let other : same_bytes (hex_byte flags) (codes "-") ≡ false = and_right _ _ refl in
     rw (other, hex_byte_back flags small) refl
 
-pub flags_back : (letters : List (ℕ × ℕ)) (default : Option ℕ) (flags : ℕ) (ws : List (List ℕ)) → flags < 256 → same_bytes (first_word (spaced ws)) (codes "flags") ≡ false
-    → flags_field letters default (spaced (flags_words default flags ++ ws)) ≡ Ok (flags, spaced ws)
-flags_back letters default flags ws small other = by (option_eq nat_eq default (Some flags)) refl
+pub flags_back : (letters : List (ℕ × ℕ)) (wrong wanted : Wanted) (default : Option ℕ) (flags : ℕ) (ws : List (List ℕ)) → flags < 256 → same_bytes (first_word (spaced ws)) (codes "flags") ≡ false
+    → flags_field letters wrong default wanted (spaced (flags_words default flags ++ ws)) ≡ Ok (flags, spaced ws)
+flags_back letters wrong wanted default flags ws small other = by (option_eq nat_eq default (Some flags)) refl
   where
     by : (b : Bool) → option_eq nat_eq default (Some flags) ≡ b
-        → flags_field letters default (spaced ((if b then [] else (codes "flags" ∷ hex_byte flags ∷ [])) ++ ws)) ≡ Ok (flags, spaced ws)
-    by true e = ap (λ (o : Option ℕ). flags_field letters o (spaced ws)) (option_same default flags e) ∙ flags_not_there letters flags (spaced ws) other
+        → flags_field letters wrong default wanted (spaced ((if b then [] else (codes "flags" ∷ hex_byte flags ∷ [])) ++ ws)) ≡ Ok (flags, spaced ws)
+    by true e = ap (λ (o : Option ℕ). flags_field letters wrong o wanted (spaced ws)) (option_same default flags e) ∙ flags_not_there letters wrong wanted flags (spaced ws) other
     by false e =
-        flags_there letters default (spaced (codes "flags" ∷ hex_byte flags ∷ ws)) (spaced (hex_byte flags ∷ ws)) (hex_byte flags) (spaced ws) flags
+        flags_there letters wrong default wanted (spaced (codes "flags" ∷ hex_byte flags ∷ ws)) (spaced (hex_byte flags ∷ ws)) (hex_byte flags) (spaced ws) flags
         (next_is (codes "flags") (hex_byte flags ∷ ws) (keyword (codes "flags") (omega arith) refl)) (behind_next (codes "flags") (hex_byte flags ∷ ws) (keyword (codes "flags") (omega arith) refl))
         (next_is (hex_byte flags) ws (hex_byte_word flags)) (behind_next (hex_byte flags) ws (hex_byte_word flags)) (flags_value letters flags small)
 
-pub number_written : (key : List ℕ) (default : Option ℕ) (n : ℕ) (ws : List (List ℕ)) → n < 2 ^ 32 → IsWord key → same_bytes key key ≡ true
-    → number_field key default (spaced (key ∷ decimal n ∷ ws)) ≡ Ok (n, spaced ws)
-number_written key default n ws small word same =
+pub number_written : (key : List ℕ) (wanted : Wanted) (default : Option ℕ) (n : ℕ) (ws : List (List ℕ)) → n < 2 ^ 32 → IsWord key → same_bytes key key ≡ true
+    → number_field key default wanted (spaced (key ∷ decimal n ∷ ws)) ≡ Ok (n, spaced ws)
+number_written key wanted default n ws small word same =
     let fits : n < 2 ^ 64 = omega (arith, small) in
-    number_there key default (spaced (key ∷ decimal n ∷ ws)) (spaced (decimal n ∷ ws)) (decimal n) (spaced ws) n
+    number_there key default wanted (spaced (key ∷ decimal n ∷ ws)) (spaced (decimal n ∷ ws)) (decimal n) (spaced ws) n
     (ap (λ (w : List ℕ). same_bytes w key) (next_is key (decimal n ∷ ws) word) ∙ same) (behind_next key (decimal n ∷ ws) word)
     (next_is (decimal n) ws (decimal_word n fits)) (behind_next (decimal n) ws (decimal_word n fits)) (number_back (2 ^ 32) n small fits)
 
-pub app_back : (default : Option ℕ) (n : ℕ) (ws : List (List ℕ)) → n < 2 ^ 32 → same_bytes (first_word (spaced ws)) (codes "app") ≡ false
-    → number_field (codes "app") default (spaced (app_words default n ++ ws)) ≡ Ok (n, spaced ws)
-app_back default n ws small other = by (option_eq nat_eq default (Some n)) refl
+pub app_back : (wanted : Wanted) (default : Option ℕ) (n : ℕ) (ws : List (List ℕ)) → n < 2 ^ 32 → same_bytes (first_word (spaced ws)) (codes "app") ≡ false
+    → number_field (codes "app") default wanted (spaced (app_words default n ++ ws)) ≡ Ok (n, spaced ws)
+app_back wanted default n ws small other = by (option_eq nat_eq default (Some n)) refl
   where
     by : (b : Bool) → option_eq nat_eq default (Some n) ≡ b
-        → number_field (codes "app") default (spaced ((if b then [] else (codes "app" ∷ decimal n ∷ [])) ++ ws)) ≡ Ok (n, spaced ws)
-    by true e = ap (λ (o : Option ℕ). number_field (codes "app") o (spaced ws)) (option_same default n e) ∙ number_not_there (codes "app") n (spaced ws) other
-    by false e = number_written (codes "app") default n ws small (keyword (codes "app") (omega arith) refl) refl
+        → number_field (codes "app") default wanted (spaced ((if b then [] else (codes "app" ∷ decimal n ∷ [])) ++ ws)) ≡ Ok (n, spaced ws)
+    by true e = ap (λ (o : Option ℕ). number_field (codes "app") o wanted (spaced ws)) (option_same default n e) ∙ number_not_there (codes "app") wanted n (spaced ws) other
+    by false e = number_written (codes "app") wanted default n ws small (keyword (codes "app") (omega arith) refl) refl
 
 -- the padding that a line says
 abbrev pub said_pad : ℕ → List ℕ → Option (List ℕ)

@@ -11,6 +11,7 @@ use Rattle.dia_book.specs.declared.DefHead.{DefHead}
 use Rattle.dia_book.specs.declared.DefHead.TheVariants.{Group, Command, Error}
 use Rattle.dia_book.specs.Dictionary.{Dictionary, PlainDefinition, IsDictionary}
 use Rattle.dia_book.proofs.Members.{at_find}
+use Rattle.dia_text.specs.declared.fault.Wanted.TheVariants as want
 use Rattle.dia_text.specs.declared.commands.Start.{Start}
 use Rattle.dia_text.specs.Words.{first_word, behind_word}
 use Rattle.dia_text.specs.Numbers.{number_below}
@@ -38,8 +39,8 @@ start_by_name : (d : Dictionary) (text name rest : List ℕ) (s : Start) → fir
 unfolding start_at
 start_by_name d text name rest s is b other named = rw (is, other, named, b) refl
 
-header_read : (d : Dictionary) (text t1 t2 t3 t4 : List ℕ) (s : Start) (flags app hop e2e : ℕ) → start_at d text ≡ Ok (s, t1) → flags_field header_letters s.flags t1 ≡ Ok (flags, t2)
-    → number_field (codes "app") s.app t2 ≡ Ok (app, t3) → number_field (codes "hop") None t3 ≡ Ok (hop, t4) → number_field (codes "end") None t4 ≡ Ok (e2e, [])
+header_read : (d : Dictionary) (text t1 t2 t3 t4 : List ℕ) (s : Start) (flags app hop e2e : ℕ) → start_at d text ≡ Ok (s, t1) → flags_field header_letters want.CommandFlags s.flags want.Flags t1 ≡ Ok (flags, t2)
+    → number_field (codes "app") s.app want.App t2 ≡ Ok (app, t3) → number_field (codes "hop") None want.Hop t3 ≡ Ok (hop, t4) → number_field (codes "end") None want.End t4 ≡ Ok (e2e, [])
     → header_at d text ≡ Ok (record { flags = flags; code = s.code; app = app; hop = hop; e2e = e2e })
 unfolding header_at
 header_read d text t1 t2 t3 t4 s flags app hop e2e a b c e f = rw (a, b, c, e, f) refl
@@ -64,10 +65,10 @@ fields_back : (d : Dictionary) (h : Header) (s : Start) (n : ℕ) (b text : List
     → header_at d text ≡ Ok h
 fields_back d h s n b text f same start =
     header_read d text (spaced (field_words h s)) (spaced (app_words s.app h.app ++ identifier_words h)) (spaced (identifier_words h)) (spaced (codes "end" ∷ decimal h.e2e ∷ [])) s h.flags h.app h.hop h.e2e
-    start (flags_back header_letters s.flags h.flags (app_words s.app h.app ++ identifier_words h) f.flags (no_flags_first h s.app))
-    (app_back s.app h.app (identifier_words h) f.app (hop_first h))
-    (number_written (codes "hop") None h.hop (codes "end" ∷ decimal h.e2e ∷ []) f.hop (keyword (codes "hop") (omega arith) refl) refl)
-    (number_written (codes "end") None h.e2e [] f.e2e (keyword (codes "end") (omega arith) refl) refl)
+    start (flags_back header_letters want.CommandFlags want.Flags s.flags h.flags (app_words s.app h.app ++ identifier_words h) f.flags (no_flags_first h s.app))
+    (app_back want.App s.app h.app (identifier_words h) f.app (hop_first h))
+    (number_written (codes "hop") want.Hop None h.hop (codes "end" ∷ decimal h.e2e ∷ []) f.hop (keyword (codes "hop") (omega arith) refl) refl)
+    (number_written (codes "end") want.End None h.e2e [] f.e2e (keyword (codes "end") (omega arith) refl) refl)
     ∙ ap (λ (k : ℕ). Ok (record { flags = h.flags; code = k; app = h.app; hop = h.hop; e2e = h.e2e })) same
 
 -- ---- what the line begins with

@@ -7,7 +7,7 @@ use Rattle.dia_wire.specs.Wire.{PlainAvp, Spells, head_length, avp_length}
 use Rattle.dia_wire.specs.Written.{padding}
 use Rattle.dia_book.specs.Dictionary.{Dictionary, IsDictionary}
 use Rattle.dia_book.proofs.LookUpsByName.{same_bytes-true}
-use Rattle.dia_text.specs.declared.fault.Kind.{Kind}
+use Rattle.dia_text.specs.declared.fault.Wanted.TheVariants.{AvpFlags}
 use Rattle.dia_text.specs.declared.keys.AvpCode.{AvpCode}
 use Rattle.dia_text.specs.declared.line.Head.{Head}
 use Rattle.dia_text.specs.Words.{first_word, behind_word}
@@ -17,7 +17,7 @@ use Rattle.dia_text.specs.Keys.{code_of, default_flags, format_at}
 use Rattle.dia_text.specs.Values.{value_at}
 use Rattle.dia_text.specs.Lines.{PlainLine, Blank, Leaf, Open, Close, avp_letters, head_at, leaf_at, open_at, close_at, avp_at, line_of}
 use Rattle.dia_text.specs.Drafts.{Level, added, avp_of}
-use Rattle.dia_text.specs.Made.{line_added}
+use Rattle.dia_text.specs.Made.{in_line, line_added}
 use Rattle.dia_text.specs.LineTexts.{spaced, avp_word, code_at, avp_flags, IsWordOf, pad_words, leaf_line, open_line, close_line}
 use Rattle.dia_text.specs.TextOf.{behind_data}
 use Rattle.dia_text.proofs.Bytes.{HasParts, plain_head}
@@ -29,7 +29,7 @@ use Rattle.dia_text.proofs.KeysBack.{NamesAvp, word_names}
 -- ---- what a line says
 
 head_read : (d : Dictionary) (text t1 t2 : List ℕ) (code : AvpCode) (flags : ℕ) → code_of d (first_word text) ≡ Ok code → behind_word text ≡ t1
-    → flags_field avp_letters (Some (default_flags d code)) t1 ≡ Ok (flags, t2) → length_field t2 ≡ Ok (None, t2) → head_at d text ≡ Ok (record { code = code; flags = flags; said_length = None }, t2)
+    → flags_field avp_letters AvpFlags (Some (default_flags d code)) AvpFlags t1 ≡ Ok (flags, t2) → length_field t2 ≡ Ok (None, t2) → head_at d text ≡ Ok (record { code = code; flags = flags; said_length = None }, t2)
 unfolding head_at
 head_read d text t1 t2 code flags a b c e = rw (a, b, c, e) refl
 
@@ -74,7 +74,7 @@ head_back d v front ws p names no_flags no_length =
     let w = avp_word d (code_at v) in
     let first = first_is w (avp_flags d v ++ ws) names.begins.word in
     head_read d (w ++ spaced (avp_flags d v ++ ws)) (spaced (avp_flags d v ++ ws)) (spaced ws) (code_at v) v.flags (ap (code_of d) first ∙ names.reads)
-    (behind_is w (avp_flags d v ++ ws) names.begins.word) (flags_back avp_letters (Some (default_flags d (code_at v))) v.flags ws p.flags no_flags) (length_not_there (spaced ws) no_length)
+    (behind_is w (avp_flags d v ++ ws) names.begins.word) (flags_back avp_letters AvpFlags AvpFlags (Some (default_flags d (code_at v))) v.flags ws p.flags no_flags) (length_not_there (spaced ws) no_length)
 
 -- a line that is read so
 pub record IsLineOf (d : Dictionary) (l : PlainLine) (line : List ℕ) : Type 0 where
@@ -134,13 +134,16 @@ said_ends len pad = by (same_bytes pad (padding len)) refl
     by true e = sym (same_bytes-true pad (padding len) e)
     by false e = refl
 
-bound : {A B : Type 0} (r : Result A Kind) (x : A) (f : A → Result B Kind) (y : Result B Kind) → r ≡ Ok x → f x ≡ y → (r >>= f) ≡ y
-bound {A} r x f y is after = ap (λ (q : Result A Kind). q >>= f) is ∙ after
+bound : {A B E : Type 0} (r : Result A E) (x : A) (f : A → Result B E) (y : Result B E) → r ≡ Ok x → f x ≡ y → (r >>= f) ≡ y
+bound {A} {B} {E} r x f y is after = ap (λ (q : Result A E). q >>= f) is ∙ after
+
+adds : (d : Dictionary) (l : List ℕ) (line : PlainLine) (at next : Level) → line_of d l ≡ Ok line → added at line ≡ Ok next → line_added d l at ≡ Ok next
+adds d l line at next reads is = bound (line_of d l) line (λ x. in_line d l x (added at x)) (Ok next) reads (ap (in_line d l line) is)
 
 pub leaf_added : (d : Dictionary) (v : PlainAvp) (front word : List ℕ) (at : Level) → IsDictionary d → HasParts v front → IsWordOf d v word
     → line_added d (leaf_line d v word (behind_data v front)) at ≡ Ok (record { outer = at.outer; bytes = at.bytes ++ front })
 leaf_added d v front word at sound p is_word =
-    bound (line_of d (leaf_line d v word (behind_data v front))) (Leaf (plain_head v) v.bytes (said_pad (avp_length v) (behind_data v front))) (added at) (Ok (record { outer = at.outer; bytes = at.bytes ++ front }))
+    adds d (leaf_line d v word (behind_data v front)) (Leaf (plain_head v) v.bytes (said_pad (avp_length v) (behind_data v front))) at (record { outer = at.outer; bytes = at.bytes ++ front })
     (leaf_back d v front word sound p is_word).reads
     (bound (avp_of (plain_head v) v.bytes (said_pad (avp_length v) (behind_data v front))) front (λ avp. Ok (record { outer = at.outer; bytes = at.bytes ++ avp })) (Ok (record { outer = at.outer; bytes = at.bytes ++ front }))
     (avp_with v front (said_pad (avp_length v) (behind_data v front)) p (said_ends (avp_length v) (behind_data v front))) refl)
@@ -150,18 +153,18 @@ abbrev pub framed : PlainAvp → Level → Level
 framed v at = record { outer = record { before = at.bytes; head = plain_head v } ∷ at.outer; bytes = [] }
 
 pub open_added : (d : Dictionary) (v : PlainAvp) (front : List ℕ) (at : Level) → IsDictionary d → HasParts v front → line_added d (open_line d v) at ≡ Ok (framed v at)
-open_added d v front at sound p = bound (line_of d (open_line d v)) (Open (plain_head v)) (added at) (Ok (framed v at)) (open_back d v front sound p).reads refl
+open_added d v front at sound p = adds d (open_line d v) (Open (plain_head v)) at (framed v at) (open_back d v front sound p).reads refl
 
 pub close_added : (d : Dictionary) (v : PlainAvp) (front : List ℕ) (at : Level) → HasParts v front → padding (avp_length v) ≡ behind_data v front
     → line_added d close_line (record { outer = record { before = at.bytes; head = plain_head v } ∷ at.outer; bytes = v.bytes }) ≡ Ok (record { outer = at.outer; bytes = at.bytes ++ front })
 close_added d v front at p ends =
     let inside : Level = record { outer = record { before = at.bytes; head = plain_head v } ∷ at.outer; bytes = v.bytes } in
-    bound (line_of d close_line) (Close None) (added inside) (Ok (record { outer = at.outer; bytes = at.bytes ++ front })) (closes d)
+    adds d close_line (Close None) inside (record { outer = at.outer; bytes = at.bytes ++ front }) (closes d)
     (bound (avp_of (plain_head v) v.bytes None) front (λ avp. Ok (record { outer = at.outer; bytes = at.bytes ++ avp })) (Ok (record { outer = at.outer; bytes = at.bytes ++ front }))
     (avp_with v front None p ends) refl)
 
 pub blank_added : (d : Dictionary) (at : Level) → line_added d [] at ≡ Ok at
-blank_added d at = bound (line_of d []) Blank (added at) (Ok at) (blank d) refl
+blank_added d at = adds d [] Blank at at (blank d) refl
 
 -- ---- a group whose data ends at a multiple of four has no padding
 

@@ -7,7 +7,7 @@ use Rattle.dia_wire.specs.declared.Header.{Header}
 use Rattle.dia_wire.specs.Written.{header_bytes}
 use Rattle.dia_wire.proofs.OneHeader.{head_says}
 use Rattle.dia_book.specs.Dictionary.{Dictionary, IsDictionary}
-use Rattle.dia_text.specs.declared.fault.Kind.{Kind}
+use Rattle.dia_text.specs.declared.fault.Misfit.{Misfit}
 use Rattle.dia_text.specs.Lines.{header_of}
 use Rattle.dia_text.specs.Drafts.{Frame, Level}
 use Rattle.dia_text.specs.Made.{lines, made, message_from, body_from, begin, step, finished, no_level, line_added}
@@ -21,7 +21,7 @@ use Rattle.dia_text.proofs.LinesBack.{leaf_back, open_back, leaf_added, open_add
 -- ---- levels
 
 line_step : (d : Dictionary) (h : Header) (n : ℕ) (l : List ℕ) (ls : List (List ℕ)) (at next : Level) → line_added d l at ≡ Ok next → body_from d h n (l ∷ ls) at ≡ body_from d h (n + 1) ls next
-line_step d h n l ls at next is = ap (λ (r : Result Level Kind). step r (n + 1) (body_from d h (n + 1) ls)) is
+line_step d h n l ls at next is = ap (λ (r : Result Level Misfit). step r l (n + 1) (body_from d h (n + 1) ls)) is
 
 same_place : (d : Dictionary) (h : Header) (n m : ℕ) (ls : List (List ℕ)) (outer : List Frame) (a b : List ℕ) → n ≡ m → a ≡ b
     → body_from d h n ls (record { outer = outer; bytes = a }) ≡ body_from d h m ls (record { outer = outer; bytes = b })
@@ -82,7 +82,7 @@ level_back d h level ls sound (group v front rest members more s parts is_group 
 -- ---- messages
 
 begun : (d : Dictionary) (h : Header) (l : List ℕ) (ls : List (List ℕ)) → header_of d l ≡ Ok (Some h) → message_from d 0 (l ∷ ls) ≡ body_from d h (0 + 1) ls no_level
-begun d h l ls is = ap (λ (r : Result (Option Header) Kind). begin r (0 + 1) (message_from d (0 + 1) ls) (λ header. body_from d header (0 + 1) ls no_level)) is
+begun d h l ls is = ap (λ (r : Result (Option Header) Misfit). begin r l (0 + 1) (message_from d (0 + 1) ls) (λ header. body_from d header (0 + 1) ls no_level)) is
 
 ends : (h : Header) (message : List ℕ) (n : ℕ) → 20 ≤ length message → length message < 2 ^ 24 → take 20 message ≡ header_bytes h (length message)
     → finished h [] (drop 20 message) n ≡ Ok message

@@ -6,16 +6,19 @@ use Rattle.hex.specs.declared.error.FromHexError.{FromHexError}
 use Rattle.dia_terms.specs.Names.{same_bytes}
 use Rattle.dia_text.specs.declared.fault.Kind.{Kind}
 use Rattle.dia_text.specs.declared.fault.Kind.TheVariants.{Syntax, Value}
+use Rattle.dia_text.specs.declared.fault.Wanted.{Wanted}
+use Rattle.dia_text.specs.declared.fault.Wanted.TheVariants.{Number, AvpLength, Bytes}
+use Rattle.dia_text.specs.declared.fault.Misfit.{Misfit}
 use Rattle.dia_text.specs.Words.{first_word, behind_word}
 use Rattle.dia_text.specs.Numbers.{number_below, hex_byte_of, within}
-use Rattle.dia_text.specs.Reading.{◌>>=◌, some_or}
+use Rattle.dia_text.specs.Reading.{◌>>=◌, some_or, at_word}
 
--- a number below 2 ^ 32 behind its keyword
-unfoldable pub number_field : List ℕ → Option ℕ → List ℕ → Result (ℕ × List ℕ) Kind
-number_field keyword default text =
+-- a number below 2 ^ 32 behind its keyword; without a default the keyword has to be there
+unfoldable pub number_field : List ℕ → Option ℕ → Wanted → List ℕ → Result (ℕ × List ℕ) Misfit
+number_field keyword default wanted text =
     if same_bytes (first_word text) keyword
-    then (some_or (number_below (2 ^ 32) (first_word (behind_word text))) Value >>= λ n. Ok (n, behind_word (behind_word text)))
-    else (some_or default Syntax >>= λ n. Ok (n, text))
+    then (at_word (behind_word text) Number (some_or (number_below (2 ^ 32) (first_word (behind_word text))) Value) >>= λ n. Ok (n, behind_word (behind_word text)))
+    else (at_word text wanted (some_or default Syntax) >>= λ n. Ok (n, text))
 
 -- what follows the letter at the front
 abbrev pub behind_letter : ℕ → List ℕ → Option (List ℕ)
@@ -38,17 +41,18 @@ flags_of letters [] = None
 flags_of letters (c ∷ cs) =
     if same_bytes (c ∷ cs) (codes "-") then Some 0 else option_or (hex_byte_of (c ∷ cs)) (option_and_then (within 256) (letters_value letters (c ∷ cs)))
 
-unfoldable pub flags_field : List (ℕ × ℕ) → Option ℕ → List ℕ → Result (ℕ × List ℕ) Kind
-flags_field letters default text =
+-- flags behind their keyword; without a default the keyword has to be there
+unfoldable pub flags_field : List (ℕ × ℕ) → Wanted → Option ℕ → Wanted → List ℕ → Result (ℕ × List ℕ) Misfit
+flags_field letters flags default wanted text =
     if same_bytes (first_word text) (codes "flags")
-    then (some_or (flags_of letters (first_word (behind_word text))) Value >>= λ n. Ok (n, behind_word (behind_word text)))
-    else (some_or default Syntax >>= λ n. Ok (n, text))
+    then (at_word (behind_word text) flags (some_or (flags_of letters (first_word (behind_word text))) Value) >>= λ n. Ok (n, behind_word (behind_word text)))
+    else (at_word text wanted (some_or default Syntax) >>= λ n. Ok (n, text))
 
 -- an AVP Length that its field can say
-unfoldable pub length_field : List ℕ → Result (Option ℕ × List ℕ) Kind
+unfoldable pub length_field : List ℕ → Result (Option ℕ × List ℕ) Misfit
 length_field text =
     if same_bytes (first_word text) (codes "length")
-    then (some_or (number_below (2 ^ 24) (first_word (behind_word text))) Value >>= λ n. Ok (Some n, behind_word (behind_word text)))
+    then (at_word (behind_word text) AvpLength (some_or (number_below (2 ^ 24) (first_word (behind_word text))) Value) >>= λ n. Ok (Some n, behind_word (behind_word text)))
     else Ok (None, text)
 
 abbrev pub decoded : Result (List ℕ) FromHexError → Result (List ℕ) Kind
@@ -60,8 +64,8 @@ abbrev pub bytes_of : List ℕ → Result (List ℕ) Kind
 bytes_of [] = Err Syntax
 bytes_of (c ∷ cs) = if c == 120 then decoded (decode_of cs) else Err Value
 
-unfoldable pub padding_field : List ℕ → Result (Option (List ℕ) × List ℕ) Kind
+unfoldable pub padding_field : List ℕ → Result (Option (List ℕ) × List ℕ) Misfit
 padding_field text =
     if same_bytes (first_word text) (codes "pad")
-    then (bytes_of (first_word (behind_word text)) >>= λ bytes. Ok (Some bytes, behind_word (behind_word text)))
+    then (at_word (behind_word text) Bytes (bytes_of (first_word (behind_word text))) >>= λ bytes. Ok (Some bytes, behind_word (behind_word text)))
     else Ok (None, text)

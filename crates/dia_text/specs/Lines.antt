@@ -6,13 +6,15 @@ use Rattle.dia_wire.specs.declared.Header.{Header}
 use Rattle.dia_book.specs.Dictionary.{Dictionary}
 use Rattle.dia_text.specs.declared.fault.Kind.{Kind}
 use Rattle.dia_text.specs.declared.fault.Kind.TheVariants.{Syntax, Value}
+use Rattle.dia_text.specs.declared.fault.Wanted.TheVariants as want
+use Rattle.dia_text.specs.declared.fault.Misfit.{Misfit}
 use Rattle.dia_text.specs.declared.commands.Start.{Start}
 use Rattle.dia_text.specs.declared.line.Head.{Head}
 use Rattle.dia_text.specs.declared.line.Line.{Line}
 use Rattle.dia_text.specs.declared.line.Line.TheVariants as line
 use Rattle.dia_text.specs.Words.{first_word, behind_word}
 use Rattle.dia_text.specs.Numbers.{number_below}
-use Rattle.dia_text.specs.Reading.{◌>>=◌, some_or}
+use Rattle.dia_text.specs.Reading.{◌>>=◌, some_or, misfit, at_word}
 use Rattle.dia_text.specs.Fields.{number_field, flags_field, length_field, padding_field}
 use Rattle.dia_text.specs.Keys.{code_of, default_flags, format_at, start_named}
 use Rattle.dia_text.specs.Values.{value_at}
@@ -25,8 +27,8 @@ abbrev pub header_letters : List (ℕ × ℕ)
 header_letters = (82, 128) ∷ (80, 64) ∷ (69, 32) ∷ (84, 16) ∷ []
 
 -- no word follows
-abbrev pub no_more : List ℕ → Result (Unit {0}) Kind
-no_more text = if length (first_word text) == 0 then Ok tt else Err Syntax
+abbrev pub no_more : List ℕ → Result (Unit {0}) Misfit
+no_more text = if length (first_word text) == 0 then Ok tt else Err (misfit text want.LineEnd Syntax)
 
 -- ---- lines of AVPs
 
@@ -45,39 +47,39 @@ plain_line (line.Open head) = Open head
 plain_line (line.Close padding) = Close (option_map (λ p. p.items) padding)
 
 -- the word of an AVP, its flags, and its length if it is written
-unfoldable pub head_at : Dictionary → List ℕ → Result (Head × List ℕ) Kind
+unfoldable pub head_at : Dictionary → List ℕ → Result (Head × List ℕ) Misfit
 head_at d text = do
-  code ← code_of d (first_word text)
-  flags ← flags_field avp_letters (Some (default_flags d code)) (behind_word text)
+  code ← at_word text want.AvpName (code_of d (first_word text))
+  flags ← flags_field avp_letters want.AvpFlags (Some (default_flags d code)) want.AvpFlags (behind_word text)
   len ← length_field flags.1
   Ok (record { code = code; flags = flags.0; said_length = len.0 }, len.1)
 
 -- a value, and its padding if it is written
-unfoldable pub leaf_at : Dictionary → Head → List ℕ → Result PlainLine Kind
+unfoldable pub leaf_at : Dictionary → Head → List ℕ → Result PlainLine Misfit
 leaf_at d head text = do
   value ← value_at (format_at d head.code) text
   padding ← padding_field value.1
   end ← no_more padding.1
   Ok (Leaf head value.0 padding.0)
 
-unfoldable pub open_at : Head → List ℕ → Result PlainLine Kind
+unfoldable pub open_at : Head → List ℕ → Result PlainLine Misfit
 open_at head text = do
   end ← no_more text
   Ok (Open head)
 
-unfoldable pub close_at : List ℕ → Result PlainLine Kind
+unfoldable pub close_at : List ℕ → Result PlainLine Misfit
 close_at text = do
   padding ← padding_field text
   end ← no_more padding.1
   Ok (Close padding.0)
 
-unfoldable pub avp_at : Dictionary → List ℕ → Result PlainLine Kind
+unfoldable pub avp_at : Dictionary → List ℕ → Result PlainLine Misfit
 avp_at d text = do
   head ← head_at d text
   if same_bytes (first_word head.1) (codes "{") then open_at head.0 (behind_word head.1) else leaf_at d head.0 head.1
 
 -- a line in a message, behind its header
-unfoldable pub line_of : Dictionary → List ℕ → Result PlainLine Kind
+unfoldable pub line_of : Dictionary → List ℕ → Result PlainLine Misfit
 line_of d text =
     if length (first_word text) == 0 then Ok Blank
     else if same_bytes (first_word text) (codes "}") then close_at (behind_word text)
@@ -86,30 +88,30 @@ line_of d text =
 -- ---- the line of a header
 
 -- `code N`, or a command of the dictionary
-unfoldable pub start_at : Dictionary → List ℕ → Result (Start × List ℕ) Kind
+unfoldable pub start_at : Dictionary → List ℕ → Result (Start × List ℕ) Misfit
 start_at d text =
     if same_bytes (first_word text) (codes "code")
-    then (some_or (number_below (2 ^ 24) (first_word (behind_word text))) Value >>= λ code.
+    then (at_word (behind_word text) want.CommandCode (some_or (number_below (2 ^ 24) (first_word (behind_word text))) Value) >>= λ code.
     Ok (record { code = code; flags = None; app = None }, behind_word (behind_word text)))
-    else (start_named d (first_word text) >>= λ start. Ok (start, behind_word text))
+    else (at_word text want.CommandName (start_named d (first_word text)) >>= λ start. Ok (start, behind_word text))
 
 -- the numbers behind the flags
-abbrev pub header_behind : Start → ℕ → List ℕ → Result Header Kind
+abbrev pub header_behind : Start → ℕ → List ℕ → Result Header Misfit
 header_behind start flags text = do
-  app ← number_field (codes "app") start.app text
-  hop ← number_field (codes "hop") None app.1
-  e2e ← number_field (codes "end") None hop.1
+  app ← number_field (codes "app") start.app want.App text
+  hop ← number_field (codes "hop") None want.Hop app.1
+  e2e ← number_field (codes "end") None want.End hop.1
   end ← no_more e2e.1
   Ok (record { flags = flags; code = start.code; app = app.0; hop = hop.0; e2e = e2e.0 })
 
-unfoldable pub header_at : Dictionary → List ℕ → Result Header Kind
+unfoldable pub header_at : Dictionary → List ℕ → Result Header Misfit
 header_at d text = do
   start ← start_at d text
-  flags ← flags_field header_letters start.0.flags start.1
+  flags ← flags_field header_letters want.CommandFlags start.0.flags want.Flags start.1
   header_behind start.0 flags.0 flags.1
 
 -- a line in front of the header, or the header
-unfoldable pub header_of : Dictionary → List ℕ → Result (Option Header) Kind
+unfoldable pub header_of : Dictionary → List ℕ → Result (Option Header) Misfit
 header_of d text =
     if length (first_word text) == 0 then Ok None
     else (header_at d text >>= λ header. Ok (Some header))

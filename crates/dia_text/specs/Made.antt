@@ -1,5 +1,5 @@
 -- The message that a text writes, line by line, or its first fault.
-use Rattle.std.specs.Prelude.{◌≡◌, ℕ, ◌+◌, ◌≤◌, ◌^◌, ◌==◌, nat_lt, Bool, not, if◌then◌else◌, List, [], ◌∷◌, ◌++◌, length, drop, Option, Some, None, Result, Ok, Err, String, string_bytes}
+use Rattle.std.specs.Prelude.{◌≡◌, ℕ, ◌+◌, ◌-◌, ◌≤◌, ◌^◌, ◌==◌, nat_lt, Bool, not, if◌then◌else◌, List, [], ◌∷◌, ◌++◌, length, drop, Option, Some, None, Result, Ok, Err, String, string_bytes}
 use Rattle.std.specs.List.{slice_split, list_any, flat_map}
 use Rattle.dia_data.specs.Shown.{hex_byte}
 use Rattle.dia_wire.specs.declared.Header.{Header}
@@ -7,62 +7,106 @@ use Rattle.dia_wire.specs.Written.{header_bytes}
 use Rattle.dia_book.specs.Dictionary.{Dictionary}
 use Rattle.dia_text.specs.declared.fault.Kind.{Kind}
 use Rattle.dia_text.specs.declared.fault.Kind.TheVariants.{Syntax, Braces, Limit}
-use Rattle.dia_text.specs.declared.fault.Misread.{Misread}
-use Rattle.dia_text.specs.declared.fault.Misread.TheVariants as misread
+use Rattle.dia_text.specs.declared.fault.Wanted.{Wanted}
+use Rattle.dia_text.specs.declared.fault.Wanted.TheVariants as want
+use Rattle.dia_text.specs.declared.fault.Misfit.{Misfit}
+use Rattle.dia_text.specs.declared.fault.NotRead.{NotRead}
+use Rattle.dia_text.specs.declared.fault.NotRead.TheVariants as not_read
 use Rattle.dia_text.specs.declared.fault.Fault.{Fault}
 use Rattle.dia_text.specs.declared.fault.NotMade.{NotMade}
 use Rattle.dia_text.specs.declared.fault.NotMade.TheVariants as not_made
 use Rattle.std.specs.Global.{Vec}
-use Rattle.dia_text.specs.Words.{first_word}
-use Rattle.dia_text.specs.Reading.{◌>>=◌}
-use Rattle.dia_text.specs.Lines.{line_of, header_of}
-use Rattle.dia_text.specs.Drafts.{Level, Frame, added}
+use Rattle.dia_text.specs.declared.draft.Opened.{Opened}
+use Rattle.dia_text.specs.declared.line.Head.{Head}
+use Rattle.dia_text.specs.Words.{unblanked, first_word}
+use Rattle.dia_text.specs.Reading.{◌>>=◌, FailsAt, misfit}
+use Rattle.dia_text.specs.Lines.{PlainLine, Blank, Leaf, Open, Close, head_at, line_of, header_of}
+use Rattle.dia_text.specs.Drafts.{Level, Frame, Stands, added}
 
 abbrev pub lines : List ℕ → List (List ℕ)
 lines text = slice_split (λ b. b == 10) text
 
-abbrev pub fault_at : ℕ → Kind → Fault
-fault_at n kind = record { kind = kind; line = n }
+-- a fault in the line l, which has this number
+abbrev pub fault_in : List ℕ → ℕ → Misfit → Fault
+fault_in l n m = record { kind = m.kind; line = n; at = Some (length l - m.left); wanted = m.wanted }
+
+-- a fault at the end of a line
+abbrev pub fault_at : ℕ → Kind → Wanted → Fault
+fault_at n kind wanted = record { kind = kind; line = n; at = None; wanted = wanted }
+
+-- the same fault, n lines further on
+abbrev pub further : ℕ → Fault → Fault
+further n f = record { kind = f.kind; line = n + f.line; at = f.at; wanted = f.wanted }
 
 abbrev pub no_level : Level
 no_level = record { outer = []; bytes = [] }
 
 abbrev pub finished : Header → List Frame → List ℕ → ℕ → Result (List ℕ) Fault
-finished header (f ∷ fs) bytes n = Err (fault_at n Braces)
+finished header (f ∷ fs) bytes n = Err (fault_at n Braces want.ClosingBrace)
 finished header [] bytes n =
-    if nat_lt (20 + length bytes) (2 ^ 24) then Ok (header_bytes header (20 + length bytes) ++ bytes) else Err (fault_at n Limit)
+    if nat_lt (20 + length bytes) (2 ^ 24) then Ok (header_bytes header (20 + length bytes) ++ bytes) else Err (fault_at n Limit want.ShorterMessage)
 
-abbrev pub step : Result Level Kind → ℕ → (Level → Result (List ℕ) Fault) → Result (List ℕ) Fault
-step (Ok level) n more = more level
-step (Err kind) n more = Err (fault_at n kind)
+abbrev pub step : Result Level Misfit → List ℕ → ℕ → (Level → Result (List ℕ) Fault) → Result (List ℕ) Fault
+step (Ok level) l n more = more level
+step (Err m) l n more = Err (fault_in l n m)
+
+-- how many bytes of a line are left from the value of its AVP on
+abbrev pub value_left : Result (Head × List ℕ) Misfit → ℕ
+value_left (Ok x) = length (unblanked x.1)
+value_left (Err m) = m.left
+
+-- what could be in place of a closing brace
+abbrev pub brace_wanted : Kind → Wanted
+brace_wanted Braces = want.OpenGroup
+brace_wanted kind = want.ShorterGroup
+
+-- a value with more data than an AVP has
+abbrev pub value_misfit : Dictionary → List ℕ → Kind → Misfit
+value_misfit d l kind = record { kind = kind; wanted = want.ShorterData; left = value_left (head_at d l) }
+
+-- a line that can be read, and can't be added: a closing brace, or a value
+abbrev pub line_misfit : Dictionary → List ℕ → PlainLine → Kind → Misfit
+line_misfit d l (Close pad) kind = misfit l (brace_wanted kind) kind
+line_misfit d l Blank kind = value_misfit d l kind
+line_misfit d l (Leaf head bytes pad) kind = value_misfit d l kind
+line_misfit d l (Open head) kind = value_misfit d l kind
+
+abbrev pub in_line : Dictionary → List ℕ → PlainLine → Result Level Kind → Result Level Misfit
+in_line d l line (Ok level) = Ok level
+in_line d l line (Err kind) = Err (line_misfit d l line kind)
 
 -- what a line adds
-abbrev pub line_added : Dictionary → List ℕ → Level → Result Level Kind
-line_added d l level = line_of d l >>= added level
+abbrev pub line_added : Dictionary → List ℕ → Level → Result Level Misfit
+line_added d l level = line_of d l >>= λ line. in_line d l line (added level line)
+
+-- the line was added, unless memory was refused
+abbrev pub IsTaken : Result Level Misfit → Result (Unit {0}) NotRead → List ℕ → List Opened → Type 0
+IsTaken read (Ok u) out groups = (level : Level) × (read ≡ Ok level) × Stands level.outer level.bytes out groups
+IsTaken read (Err e) out groups = FailsAt e read
 
 -- the lines behind the first n, which end with the line of the header
 abbrev pub body_from : Dictionary → Header → ℕ → List (List ℕ) → Level → Result (List ℕ) Fault
 body_from d header n [] level = finished header level.outer level.bytes n
-body_from d header n (l ∷ ls) level = step (line_added d l level) (n + 1) (body_from d header (n + 1) ls)
+body_from d header n (l ∷ ls) level = step (line_added d l level) l (n + 1) (body_from d header (n + 1) ls)
 
-abbrev pub begin : Result (Option Header) Kind → ℕ → Result (List ℕ) Fault → (Header → Result (List ℕ) Fault) → Result (List ℕ) Fault
-begin (Ok None) n more body = more
-begin (Ok (Some header)) n more body = body header
-begin (Err kind) n more body = Err (fault_at n kind)
+abbrev pub begin : Result (Option Header) Misfit → List ℕ → ℕ → Result (List ℕ) Fault → (Header → Result (List ℕ) Fault) → Result (List ℕ) Fault
+begin (Ok None) l n more body = more
+begin (Ok (Some header)) l n more body = body header
+begin (Err m) l n more body = Err (fault_in l n m)
 
 -- the lines behind the first n, which are blank. A text that ends too early has its fault on its last line
 abbrev pub message_from : Dictionary → ℕ → List (List ℕ) → Result (List ℕ) Fault
-message_from d n [] = Err (fault_at n Syntax)
-message_from d n (l ∷ ls) = begin (header_of d l) (n + 1) (message_from d (n + 1) ls) (λ header. body_from d header (n + 1) ls no_level)
+message_from d n [] = Err (fault_at n Syntax want.HeaderLine)
+message_from d n (l ∷ ls) = begin (header_of d l) l (n + 1) (message_from d (n + 1) ls) (λ header. body_from d header (n + 1) ls no_level)
 
 abbrev pub made : Dictionary → List ℕ → Result (List ℕ) Fault
 made d text = message_from d 0 (lines text)
 
 -- ---- what the program answers
 
-abbrev pub placed : Misread → ℕ → NotMade
-placed misread.NoMemory n = not_made.NoMemory
-placed (misread.Fault kind) n = not_made.Fault (fault_at n kind)
+abbrev pub placed : NotRead → List ℕ → ℕ → NotMade
+placed not_read.NoMemory l n = not_made.NoMemory
+placed (not_read.Misfit m) l n = not_made.Fault (fault_in l n m)
 
 abbrev pub Misses : NotMade → Result (List ℕ) Fault → Type 0
 Misses not_made.NoMemory read = Unit {0}
@@ -94,7 +138,7 @@ digits_line bytes = flat_map hex_byte bytes ++ (10 ∷ [])
 -- the line of a message that is written behind n lines of the text, or its fault by its line in the text
 abbrev pub told_behind : ℕ → Result (List ℕ) Fault → Result (List ℕ) Fault
 told_behind n (Ok bytes) = Ok (digits_line bytes)
-told_behind n (Err f) = Err (fault_at (n + f.line) f.kind)
+told_behind n (Err f) = Err (further n f)
 
 abbrev pub part_text : Dictionary → ℕ → List (List ℕ) → Result (List ℕ) Fault
 part_text d n ls = if has_word ls then told_behind n (message_from d 0 ls) else Ok []
@@ -113,7 +157,7 @@ parts_text d n (p ∷ ps) = then_text (part_text d n p) (parts_text d (n + lengt
 -- a line for each message of a text. A text without a word has its fault on its last line
 abbrev pub made_lines : Dictionary → List ℕ → Result (List ℕ) Fault
 made_lines d text =
-    if has_word (lines text) then parts_text d 0 (slice_split is_empty (lines text)) else Err (fault_at (length (lines text)) Syntax)
+    if has_word (lines text) then parts_text d 0 (slice_split is_empty (lines text)) else Err (fault_at (length (lines text)) Syntax want.HeaderLine)
 
 -- ---- what the program answers for it
 
@@ -131,5 +175,5 @@ IsWithin n (not_made.Fault f) = f.line ≤ n
 IsWithin n not_made.NoMemory = Unit {0}
 
 abbrev pub behind_lines : ℕ → NotMade → NotMade
-behind_lines n (not_made.Fault f) = not_made.Fault (fault_at (n + f.line) f.kind)
+behind_lines n (not_made.Fault f) = not_made.Fault (further n f)
 behind_lines n not_made.NoMemory = not_made.NoMemory

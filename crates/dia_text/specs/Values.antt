@@ -13,9 +13,12 @@ use Rattle.dia_data.specs.declared.Reading.TheVariants.{Signed, Unsigned, Bits}
 use Rattle.dia_data.specs.Plain.{PlainFormat, Address, kind_of}
 use Rattle.dia_text.specs.declared.fault.Kind.{Kind}
 use Rattle.dia_text.specs.declared.fault.Kind.TheVariants.{Syntax, Value}
+use Rattle.dia_text.specs.declared.fault.Wanted.{Wanted}
+use Rattle.dia_text.specs.declared.fault.Wanted.TheVariants as want
+use Rattle.dia_text.specs.declared.fault.Misfit.{Misfit}
 use Rattle.dia_text.specs.Words.{unblanked, first_word, behind_word}
 use Rattle.dia_text.specs.Numbers.{number_of, number_below, signed_below, hex_byte_of}
-use Rattle.dia_text.specs.Reading.{◌>>=◌, some_or}
+use Rattle.dia_text.specs.Reading.{◌>>=◌, some_or, at_word}
 use Rattle.dia_text.specs.Fields.{behind_letter, bytes_of}
 
 -- the bytes of all parts, if each has some
@@ -56,10 +59,10 @@ address_of word =
     else None
 
 -- the number of a family, and the bytes of an address in it
-unfoldable pub family_at : List ℕ → Result (List ℕ × List ℕ) Kind
+unfoldable pub family_at : List ℕ → Result (List ℕ × List ℕ) Misfit
 family_at text = do
-  family ← number_bytes 2 (number_below (2 ^ 16) (first_word text))
-  address ← bytes_of (first_word (behind_word text))
+  family ← at_word text want.Family (number_bytes 2 (number_below (2 ^ 16) (first_word text)))
+  address ← at_word (behind_word text) want.Bytes (bytes_of (first_word (behind_word text)))
   Ok (family ++ address, behind_word (behind_word text))
 
 -- ---- texts
@@ -129,17 +132,42 @@ abbrev pub value_of : Option PlainFormat → List ℕ → Result (List ℕ) Kind
 value_of format [] = Err Syntax
 value_of format (c ∷ cs) = if c == 120 then bytes_of (c ∷ cs) else formatted format (c ∷ cs)
 
+-- what could be in place of a value that its format can't have
+abbrev pub kind_wanted : FormatKind → Wanted
+kind_wanted of_format.AnyBytes = want.TextOrBytes
+kind_wanted of_format.Utf8String = want.Text
+kind_wanted of_format.DiameterIdentity = want.Text
+kind_wanted of_format.DiameterUri = want.Text
+kind_wanted (of_format.FourBytes Unsigned) = want.Unsigned32
+kind_wanted (of_format.FourBytes Signed) = want.Signed32
+kind_wanted (of_format.FourBytes Bits) = want.Bytes
+kind_wanted (of_format.EightBytes Unsigned) = want.Unsigned64
+kind_wanted (of_format.EightBytes Signed) = want.Signed64
+kind_wanted (of_format.EightBytes Bits) = want.Bytes
+kind_wanted of_format.Enumerated = want.Signed32
+kind_wanted of_format.Grouped = want.Group
+kind_wanted of_format.Address = want.Address
+
+abbrev pub format_wanted : Option PlainFormat → Wanted
+format_wanted (Some format) = kind_wanted (kind_of format)
+format_wanted None = want.BytesOfUnknown
+
+-- the same of a word, which may be missing
+abbrev pub value_wanted : Option PlainFormat → List ℕ → Wanted
+value_wanted format [] = want.AnyValue
+value_wanted format (c ∷ cs) = format_wanted format
+
 -- a value of words, and what follows it
-unfoldable pub words_at : Option PlainFormat → List ℕ → Result (List ℕ × List ℕ) Kind
+unfoldable pub words_at : Option PlainFormat → List ℕ → Result (List ℕ × List ℕ) Misfit
 words_at format text =
     if is_address format && same_bytes (first_word text) (codes "family") then family_at (behind_word text)
-    else (value_of format (first_word text) >>= λ bytes. Ok (bytes, behind_word text))
+    else (at_word text (value_wanted format (first_word text)) (value_of format (first_word text)) >>= λ bytes. Ok (bytes, behind_word text))
 
 -- a value of words, or of what stands behind an opening quote
-abbrev pub value_or_text : Option PlainFormat → List ℕ → Option (List ℕ) → Result (List ℕ × List ℕ) Kind
+abbrev pub value_or_text : Option PlainFormat → List ℕ → Option (List ℕ) → Result (List ℕ × List ℕ) Misfit
 value_or_text format text None = words_at format text
-value_or_text format text (Some rest) = if may_be_text format then some_or (text_at rest) Value else Err Value
+value_or_text format text (Some rest) = at_word text (format_wanted format) (if may_be_text format then some_or (text_at rest) Value else Err Value)
 
 -- a value, and what follows it
-unfoldable pub value_at : Option PlainFormat → List ℕ → Result (List ℕ × List ℕ) Kind
+unfoldable pub value_at : Option PlainFormat → List ℕ → Result (List ℕ × List ℕ) Misfit
 value_at format text = value_or_text format text (behind_letter 34 (unblanked text))

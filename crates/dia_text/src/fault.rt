@@ -1,5 +1,8 @@
 //! Why a text is no message.
+ghost use Rattle.std.specs.Prelude.{◌≡◌};
+ghost use Rattle.dia_text.specs.Reading.{at_text, misfit};
 
+use crate::words::without_blanks;
 use std::alloc::{AllocError, AllocFailed};
 use std::fmt;
 use thiserror::Error;
@@ -37,7 +40,88 @@ impl fmt::Display for Kind {
     }
 }
 
+/// What could be where a text has its fault.
+#[derive(Debug, Clone, Copy, PartialEq, Eq)]
+pub enum Wanted {
+    /// The line of a header.
+    HeaderLine,
+    /// The name of a command that has a code, or `code`.
+    CommandName,
+    /// A number below 2^24, behind `code`.
+    CommandCode,
+    /// `flags`, which can't be left out behind `code`.
+    Flags,
+    /// A dash, two hexadecimal digits, or letters of R, P, E and T in this order.
+    CommandFlags,
+    /// `app`, which can't be left out behind `code`.
+    App,
+    /// `hop`.
+    Hop,
+    /// `end`.
+    End,
+    /// A number below 2^32.
+    Number,
+    /// The name or the code of an AVP, or a closing brace.
+    AvpName,
+    /// A dash, two hexadecimal digits, or letters of V, M and P in this order.
+    AvpFlags,
+    /// A number below 2^24, behind `length`.
+    AvpLength,
+    /// A value, or an opening brace.
+    AnyValue,
+    /// A number below 2^32, or `x` and pairs of hexadecimal digits.
+    Unsigned32,
+    /// A number from -2^31 up to 2^31, or these digits.
+    Signed32,
+    /// A number below 2^64, or these digits.
+    Unsigned64,
+    /// A number from -2^63 up to 2^63, or these digits.
+    Signed64,
+    /// An opening brace, or these digits.
+    Group,
+    /// An IPv4 or IPv6 address, `family` with its number and digits, or these digits.
+    Address,
+    /// A number below 2^16, behind `family`.
+    Family,
+    /// A text in quotes, or these digits.
+    Text,
+    /// The same for a format of any bytes.
+    TextOrBytes,
+    /// `x` and pairs of hexadecimal digits.
+    Bytes,
+    /// The same, since the dictionary doesn't know the AVP.
+    BytesOfUnknown,
+    /// No word more.
+    LineEnd,
+    /// Another line than a closing brace, since no group is open.
+    OpenGroup,
+    /// A closing brace, since a group is open where the text ends.
+    ClosingBrace,
+    /// Less data in a value: an AVP Length is below 2^24.
+    ShorterData,
+    /// A shorter group, for the same reason.
+    ShorterGroup,
+    /// A shorter message: a Message Length is below 2^24.
+    ShorterMessage,
+}
+
+/// What is wrong with a word of a line, and where.
+#[derive(Debug, Clone, Copy)]
+pub struct Misfit {
+    pub kind: Kind,
+    pub wanted: Wanted,
+    /// How many bytes of the line are left from the word on. Where a word is missing, from the comment on, or none.
+    pub left: usize,
+}
+
 /// Why a line wasn't read.
+#[derive(Clone, Copy)]
+pub enum NotRead {
+    Misfit(Misfit),
+    NoMemory,
+}
+
+/// Why a word wasn't read.
 #[derive(Clone, Copy, Debug, Drop, Error)]
 pub enum Misread {
     #[error("{0}")]
@@ -46,13 +130,17 @@ pub enum Misread {
     NoMemory,
 }
 
-/// The first line with which no message can go on, from 1, and what is wrong with it. Where the text ends too early, it is the
-/// last line. It prints as `syntax at line 3`.
+/// The first line with which no message can go on, and what is wrong with it. It prints as `syntax at line 3`.
 #[derive(Clone, Copy, Debug, Error)]
 #[error("{kind} at line {line}")]
 pub struct Fault {
     pub kind: Kind,
+    /// The number of the line, from 1. Where the text ends too early, it is the last line.
     pub line: usize,
+    /// The offset of the word in the line, in bytes; that of the comment or of the line's end where a word is missing. None where
+    /// the text ends too early.
+    pub at: Option<usize>,
+    pub wanted: Wanted,
 }
 
 /// Why no message was made.
@@ -62,6 +150,29 @@ pub enum NotMade {
     Fault(Fault),
     #[error("out of memory")]
     NoMemory,
+}
+
+/// What is wrong with the first word of a text.
+pub(crate) fn not_read(text: &[u8], wanted: Wanted, kind: Kind) -> NotRead
+    ensures { result ≡ NotRead.Misfit (misfit text.now wanted kind) }
+{
+    NotRead::Misfit(Misfit {
+        kind,
+        wanted,
+        left: without_blanks(text).len(),
+    })
+}
+
+impl Misread {
+    /// The same of the first word of a text.
+    pub(crate) fn at(self, text: &[u8], wanted: Wanted) -> NotRead
+        ensures { result ≡ at_text self text.now wanted }
+    {
+        match self {
+            Misread::Fault(kind) => not_read(text, wanted, kind),
+            Misread::NoMemory => NotRead::NoMemory,
+        }
+    }
 }
 
 impl From<AllocError> for Misread {
@@ -83,6 +194,17 @@ impl<T: Drop> From<AllocFailed<T>> for Misread {
 
     fn from(_error: AllocFailed<T>) -> Misread {
         Misread::NoMemory
+    }
+}
+
+impl From<AllocError> for NotRead {
+    ghost use Rattle.std.specs.Prelude.{◌≡◌};
+    ghost use Rattle.dia_text.specs.declared.fault.NotRead.TheVariants.{NoMemory};
+
+    ghost from_gives = { λ _ e. e ≡ NoMemory };
+
+    fn from(_error: AllocError) -> NotRead {
+        NotRead::NoMemory
     }
 }
 

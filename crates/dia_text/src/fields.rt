@@ -7,82 +7,95 @@ ghost use Rattle.dia_text.specs.Fields.{length_field, padding_field, bytes_of};
 ghost use Rattle.dia_text.specs.Fields.{letters_value, behind_letter, decoded};
 ghost use Rattle.hex.specs.Hex.{decode_of};
 ghost use Rattle.dia_text.specs.Numbers.{number_below, within};
-ghost use Rattle.dia_text.specs.Reading.{Gives, some_or};
+ghost use Rattle.dia_text.specs.Reading.{Gives, Reads, some_or, at_word};
+ghost use Rattle.dia_text.specs.Words.{first_word};
 
-use crate::fault::{Kind, Misread};
+use crate::fault::{Kind, Misread, NotRead, Wanted, not_read};
 use crate::numbers::{hex_byte_of, number_below, number32};
 use crate::words::next_word;
 use hex::FromHexError;
 use std::alloc::Global;
 
-/// A number behind its keyword, or the default where the keyword doesn't stand there; and what follows.
+/// A number behind its keyword, or the default where the keyword is missing; and what follows. `wanted` is what could be in place
+/// of a keyword that is missing and has no default.
 #[tactic(auto, unfolding(crate::specs::Fields::number_field))]
 pub(crate) fn number_field<'a>(
     keyword: &[u8],
     default: Option<u32>,
+    wanted: Wanted,
     text: &'a [u8],
-) -> Result<(u32, &'a [u8]), Misread>
-    ensures { Gives (λ x. (x.0, x.1.now)) result
-        (number_field keyword.now default text.entry.now) }
+) -> Result<(u32, &'a [u8]), NotRead>
+    ensures { Reads (λ x. (x.0, x.1.now)) result
+        (number_field keyword.now default wanted text.entry.now) }
 {
-    let (word, rest) = next_word(text);
+    let (word, behind) = next_word(text);
     if word == keyword {
-        let (word, rest) = next_word(rest);
-        let number = wanted_number(word)?;
+        let number = number_at(behind)?;
+        let (_, rest) = next_word(behind);
         Ok((number, rest))
     } else {
-        let number = wanted(default)?;
+        let number = default_at(text, wanted, default)?;
         Ok((number, text))
     }
 }
 
-/// Flags behind their keyword, or the default where the keyword doesn't stand there; and what follows.
+/// Flags behind their keyword, or the default where the keyword is missing; and what follows. `flags` is what could be in place
+/// of wrong flags, and `wanted` in place of a keyword that is missing and has no default.
 #[tactic(auto, unfolding(crate::specs::Fields::flags_field))]
 pub(crate) fn flags_field<'a>(
     letters: &[(u8, u8)],
+    flags: Wanted,
     default: Option<u8>,
+    wanted: Wanted,
     text: &'a [u8],
-) -> Result<(u8, &'a [u8]), Misread>
+) -> Result<(u8, &'a [u8]), NotRead>
     requires { length letters.now ≤ 4 }
-    ensures { Gives (λ x. (x.0, x.1.now)) result
-        (flags_field letters.now default text.entry.now) }
+    ensures { Reads (λ x. (x.0, x.1.now)) result
+        (flags_field letters.now flags default wanted text.entry.now) }
 {
-    let (word, rest) = next_word(text);
+    let (word, behind) = next_word(text);
     if word == b"flags".as_slice() {
-        let (word, rest) = next_word(rest);
-        let flags = wanted_flags(letters, word)?;
-        Ok((flags, rest))
+        let found = flags_at(letters, flags, behind)?;
+        let (_, rest) = next_word(behind);
+        Ok((found, rest))
     } else {
-        let flags = wanted(default)?;
-        Ok((flags, text))
+        let found = default_at(text, wanted, default)?;
+        Ok((found, text))
     }
 }
 
-fn wanted_number(word: &[u8]) -> Result<u32, Misread>
-    ensures { Gives (λ n. n) result (some_or (number_below (2 ^ 32) word.now) Kind.Value) }
+/// The number that the first word writes.
+fn number_at(text: &[u8]) -> Result<u32, NotRead>
+    ensures { Reads (λ n. n) result (at_word text.now Wanted.Number
+        (some_or (number_below (2 ^ 32) (first_word text.now)) Kind.Value)) }
 {
+    let (word, _) = next_word(text);
     match number32(word) {
         Some(number) => Ok(number),
-        None => Err(Misread::Fault(Kind::Value)),
+        None => Err(not_read(text, Wanted::Number, Kind::Value)),
     }
 }
 
-fn wanted<T: Copy>(default: Option<T>) -> Result<T, Misread>
-    ensures { Gives (λ x. x) result (some_or default Kind.Syntax) }
+/// The default of what is missing in front of a text.
+fn default_at<T: Copy>(text: &[u8], wanted: Wanted, default: Option<T>) -> Result<T, NotRead>
+    ensures { Reads (λ x. x) result (at_word text.now wanted (some_or default Kind.Syntax)) }
 {
     match default {
         Some(value) => Ok(value),
-        None => Err(Misread::Fault(Kind::Syntax)),
+        None => Err(not_read(text, wanted, Kind::Syntax)),
     }
 }
 
-fn wanted_flags(letters: &[(u8, u8)], word: &[u8]) -> Result<u8, Misread>
+/// The flags that the first word writes.
+fn flags_at(letters: &[(u8, u8)], wanted: Wanted, text: &[u8]) -> Result<u8, NotRead>
     requires { length letters.now ≤ 4 }
-    ensures { Gives (λ n. n) result (some_or (flags_of letters.now word.now) Kind.Value) }
+    ensures { Reads (λ n. n) result (at_word text.now wanted
+        (some_or (flags_of letters.now (first_word text.now)) Kind.Value)) }
 {
+    let (word, _) = next_word(text);
     match flags_of(letters, word) {
         Some(flags) => Ok(flags),
-        None => Err(Misread::Fault(Kind::Value)),
+        None => Err(not_read(text, wanted, Kind::Value)),
     }
 }
 
@@ -113,43 +126,57 @@ fn flags_by_letters(letters: &[(u8, u8)], word: &[u8]) -> Option<u8>
 
 /// An AVP Length behind its keyword; and what follows.
 #[tactic(auto, unfolding(crate::specs::Fields::length_field))]
-pub(crate) fn length_field(text: &[u8]) -> Result<(Option<u32>, &[u8]), Misread>
-    ensures { Gives (λ x. (x.0, x.1.now)) result (length_field text.entry.now) }
+pub(crate) fn length_field(text: &[u8]) -> Result<(Option<u32>, &[u8]), NotRead>
+    ensures { Reads (λ x. (x.0, x.1.now)) result (length_field text.entry.now) }
 {
-    let (word, rest) = next_word(text);
+    let (word, behind) = next_word(text);
     if word == b"length".as_slice() {
-        let (word, rest) = next_word(rest);
-        let length = three_byte_number(word)?;
+        let length = three_byte_number(behind, Wanted::AvpLength)?;
+        let (_, rest) = next_word(behind);
         Ok((Some(length), rest))
     } else {
         Ok((None, text))
     }
 }
 
-/// A number that three bytes hold.
-pub(crate) fn three_byte_number(word: &[u8]) -> Result<u32, Misread>
-    ensures value { Gives (λ n. n) result (some_or (number_below (2 ^ 24) word.now) Kind.Value) }
+/// The number that the first word writes, and that three bytes hold.
+pub(crate) fn three_byte_number(text: &[u8], wanted: Wanted) -> Result<u32, NotRead>
+    ensures value { Reads (λ n. n) result (at_word text.now wanted
+        (some_or (number_below (2 ^ 24) (first_word text.now)) Kind.Value)) }
     ensures small { IfOk result (λ n. n < 2 ^ 24) }
 {
+    let (word, _) = next_word(text);
     match number_below(1 << 24, word) {
         Some(number) => Ok(number as u32),
-        None => Err(Misread::Fault(Kind::Value)),
+        None => Err(not_read(text, wanted, Kind::Value)),
     }
 }
 
 /// Padding behind its keyword; and what follows.
 #[tactic(auto, unfolding(crate::specs::Fields::padding_field))]
-pub(crate) fn padding_field(alloc: Global, text: &[u8]) -> Result<(Option<Vec<u8>>, &[u8]), Misread>
-    ensures { Gives (λ x. (option_map (λ bytes. bytes.items) x.0, x.1.now)) result
+pub(crate) fn padding_field(alloc: Global, text: &[u8]) -> Result<(Option<Vec<u8>>, &[u8]), NotRead>
+    ensures { Reads (λ x. (option_map (λ bytes. bytes.items) x.0, x.1.now)) result
         (padding_field text.entry.now) }
 {
-    let (word, rest) = next_word(text);
+    let (word, behind) = next_word(text);
     if word == b"pad".as_slice() {
-        let (word, rest) = next_word(rest);
-        let bytes = bytes_of(alloc, word)?;
+        let bytes = bytes_at(alloc, behind)?;
+        let (_, rest) = next_word(behind);
         Ok((Some(bytes), rest))
     } else {
         Ok((None, text))
+    }
+}
+
+/// The bytes that the first word writes.
+pub(crate) fn bytes_at(alloc: Global, text: &[u8]) -> Result<Vec<u8>, NotRead>
+    ensures { Reads (λ bytes. bytes.items) result
+        (at_word text.now Wanted.Bytes (bytes_of (first_word text.now))) }
+{
+    let (word, _) = next_word(text);
+    match bytes_of(alloc, word) {
+        Ok(bytes) => Ok(bytes),
+        Err(misread) => Err(misread.at(text, Wanted::Bytes)),
     }
 }
 

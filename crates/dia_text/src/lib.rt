@@ -41,7 +41,7 @@ mod values;
 mod words;
 mod writing;
 
-pub use fault::{Fault, Kind, Misread, NotMade};
+pub use fault::{Fault, Kind, Misfit, Misread, NotMade, NotRead, Wanted};
 pub use keys::AvpCode;
 pub use line::{Head, Line};
 pub use lines::{header_of, line_of};

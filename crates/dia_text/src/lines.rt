@@ -1,14 +1,16 @@
 //! Lines, read.
 ghost use Rattle.std.specs.Prelude.{◌≡◌, ◌<◌, ◌^◌, IfOk, IfSome};
-ghost use Rattle.dia_text.specs.Reading.{Gives};
+ghost use Rattle.dia_text.specs.Reading.{Reads, at_word};
 ghost use Rattle.dia_text.specs.Lines.{plain_line, no_more, head_at, leaf_at};
 ghost use Rattle.dia_text.specs.Lines.{open_at, close_at, avp_at, line_of};
 ghost use Rattle.dia_text.specs.Lines.{start_at, header_behind, header_at, header_of};
+ghost use Rattle.dia_text.specs.Keys.{code_of, start_named};
+ghost use Rattle.dia_text.specs.Words.{first_word};
 
 use crate::commands::{Start, start_named};
-use crate::fault::{Kind, Misread};
+use crate::fault::{Kind, NotRead, Wanted, not_read};
 use crate::fields::{flags_field, length_field, number_field, padding_field, three_byte_number};
-use crate::keys::{code_of, default_flags, format_at};
+use crate::keys::{AvpCode, code_of, default_flags, format_at};
 use crate::line::{Head, Line};
 use crate::names::NamedBook;
 use crate::values::value_at;
@@ -29,8 +31,8 @@ pub fn line_of<B: Book>(
     alloc: Global,
     named: &NamedBook<'_, B>,
     text: &[u8],
-) -> Result<Line, Misread>
-    ensures { Gives plain_line result (line_of named.now text.now) }
+) -> Result<Line, NotRead>
+    ensures { Reads plain_line result (line_of named.now text.now) }
 {
     let (word, rest) = next_word(text);
     if word.is_empty() {
@@ -43,8 +45,8 @@ pub fn line_of<B: Book>(
 }
 
 #[tactic(auto, unfolding(crate::specs::Lines::avp_at))]
-fn avp_at<B: Book>(alloc: Global, named: &NamedBook<'_, B>, text: &[u8]) -> Result<Line, Misread>
-    ensures { Gives plain_line result (avp_at named.now text.now) }
+fn avp_at<B: Book>(alloc: Global, named: &NamedBook<'_, B>, text: &[u8]) -> Result<Line, NotRead>
+    ensures { Reads plain_line result (avp_at named.now text.now) }
 {
     let (head, text) = head_at(named, text)?;
     let (word, rest) = next_word(text);
@@ -56,16 +58,17 @@ fn avp_at<B: Book>(alloc: Global, named: &NamedBook<'_, B>, text: &[u8]) -> Resu
 }
 
 #[tactic(auto, unfolding(crate::specs::Lines::head_at))]
-fn head_at<'a, B: Book>(
+pub(crate) fn head_at<'a, B: Book>(
     named: &NamedBook<'_, B>,
     text: &'a [u8],
-) -> Result<(Head, &'a [u8]), Misread>
-    ensures { Gives (λ x. (x.0, x.1.now)) result (head_at named.now text.entry.now) }
+) -> Result<(Head, &'a [u8]), NotRead>
+    ensures { Reads (λ x. (x.0, x.1.now)) result (head_at named.now text.entry.now) }
 {
-    let (word, rest) = next_word(text);
-    let code = code_of(named, word)?;
-    let default = default_flags(named.book(), &code);
-    let (flags, rest) = flags_field(&AVP_LETTERS, Some(default), rest)?;
+    let (_, rest) = next_word(text);
+    let code = code_at(named, text)?;
+    let default = Some(default_flags(named.book(), &code));
+    let wanted = Wanted::AvpFlags;
+    let (flags, rest) = flags_field(&AVP_LETTERS, wanted, default, wanted, rest)?;
     let (said_length, rest) = length_field(rest)?;
     Ok((
         Head {
@@ -77,14 +80,26 @@ fn head_at<'a, B: Book>(
     ))
 }
 
+/// The AVP of the first word.
+fn code_at<B: Book>(named: &NamedBook<'_, B>, text: &[u8]) -> Result<AvpCode, NotRead>
+    ensures { Reads (λ code. code) result
+        (at_word text.now Wanted.AvpName (code_of named.now (first_word text.now))) }
+{
+    let (word, _) = next_word(text);
+    match code_of(named, word) {
+        Ok(code) => Ok(code),
+        Err(misread) => Err(misread.at(text, Wanted::AvpName)),
+    }
+}
+
 #[tactic(auto, unfolding(crate::specs::Lines::leaf_at))]
 fn leaf_at<B: Book>(
     alloc: Global,
     named: &NamedBook<'_, B>,
     head: &Head,
     text: &[u8],
-) -> Result<Line, Misread>
-    ensures { Gives plain_line result (leaf_at named.now head.now text.now) }
+) -> Result<Line, NotRead>
+    ensures { Reads plain_line result (leaf_at named.now head.now text.now) }
 {
     let format = format_at(named.book(), &head.code);
     let (bytes, rest) = value_at(alloc, format, text)?;
@@ -94,37 +109,37 @@ fn leaf_at<B: Book>(
 }
 
 #[tactic(auto, unfolding(crate::specs::Lines::open_at))]
-fn open_at(head: &Head, text: &[u8]) -> Result<Line, Misread>
-    ensures { Gives plain_line result (open_at head.now text.now) }
+fn open_at(head: &Head, text: &[u8]) -> Result<Line, NotRead>
+    ensures { Reads plain_line result (open_at head.now text.now) }
 {
     no_more(text)?;
     Ok(Line::Open(*head))
 }
 
 #[tactic(auto, unfolding(crate::specs::Lines::close_at))]
-fn close_at(alloc: Global, text: &[u8]) -> Result<Line, Misread>
-    ensures { Gives plain_line result (close_at text.now) }
+fn close_at(alloc: Global, text: &[u8]) -> Result<Line, NotRead>
+    ensures { Reads plain_line result (close_at text.now) }
 {
     let (padding, rest) = padding_field(alloc, text)?;
     no_more(rest)?;
     Ok(Line::Close(padding))
 }
 
-fn no_more(text: &[u8]) -> Result<(), Misread>
-    ensures { Gives (λ _. tt) result (no_more text.now) }
+fn no_more(text: &[u8]) -> Result<(), NotRead>
+    ensures { Reads (λ _. tt) result (no_more text.now) }
 {
     let (word, _) = next_word(text);
     if word.is_empty() {
         Ok(())
     } else {
-        Err(Misread::Fault(Kind::Syntax))
+        Err(not_read(text, Wanted::LineEnd, Kind::Syntax))
     }
 }
 
 /// The header that a line writes, or none where it is blank.
 #[tactic(auto, unfolding(crate::specs::Lines::header_of))]
-pub fn header_of<B: Book>(named: &NamedBook<'_, B>, text: &[u8]) -> Result<Option<Header>, Misread>
-    ensures value { Gives (λ header. header) result (header_of named.now text.now) }
+pub fn header_of<B: Book>(named: &NamedBook<'_, B>, text: &[u8]) -> Result<Option<Header>, NotRead>
+    ensures value { Reads (λ header. header) result (header_of named.now text.now) }
     ensures small { IfOk result (λ header. IfSome header (λ h. h.code < 2 ^ 24)) }
 {
     let (word, _) = next_word(text);
@@ -136,23 +151,29 @@ pub fn header_of<B: Book>(named: &NamedBook<'_, B>, text: &[u8]) -> Result<Optio
 }
 
 #[tactic(auto, unfolding(crate::specs::Lines::header_at))]
-fn header_at<B: Book>(named: &NamedBook<'_, B>, text: &[u8]) -> Result<Header, Misread>
-    ensures value { Gives (λ header. header) result (header_at named.now text.now) }
+fn header_at<B: Book>(named: &NamedBook<'_, B>, text: &[u8]) -> Result<Header, NotRead>
+    ensures value { Reads (λ header. header) result (header_at named.now text.now) }
     ensures small { IfOk result (λ header. header.code < 2 ^ 24) }
 {
     let (start, rest) = start_at(named, text)?;
-    let (flags, rest) = flags_field(&HEADER_LETTERS, start.flags, rest)?;
+    let (flags, rest) = flags_field(
+        &HEADER_LETTERS,
+        Wanted::CommandFlags,
+        start.flags,
+        Wanted::Flags,
+        rest,
+    )?;
     header_behind(&start, flags, rest)
 }
 
 /// The header of this start and these flags, with the numbers behind them.
-fn header_behind(start: &Start, flags: u8, text: &[u8]) -> Result<Header, Misread>
-    ensures value { Gives (λ header. header) result (header_behind start.now flags text.now) }
+fn header_behind(start: &Start, flags: u8, text: &[u8]) -> Result<Header, NotRead>
+    ensures value { Reads (λ header. header) result (header_behind start.now flags text.now) }
     ensures code { IfOk result (λ header. header.code ≡ start.now.code) }
 {
-    let (app, rest) = number_field(b"app", start.app, text)?;
-    let (hop, rest) = number_field(b"hop", None, rest)?;
-    let (e2e, rest) = number_field(b"end", None, rest)?;
+    let (app, rest) = number_field(b"app", start.app, Wanted::App, text)?;
+    let (hop, rest) = number_field(b"hop", None, Wanted::Hop, rest)?;
+    let (e2e, rest) = number_field(b"end", None, Wanted::End, rest)?;
     no_more(rest)?;
     Ok(Header {
         flags,
@@ -167,15 +188,15 @@ fn header_behind(start: &Start, flags: u8, text: &[u8]) -> Result<Header, Misrea
 fn start_at<'a, B: Book>(
     named: &NamedBook<'_, B>,
     text: &'a [u8],
-) -> Result<(Start, &'a [u8]), Misread>
-    ensures value { Gives (λ x. (x.0, x.1.now)) result
+) -> Result<(Start, &'a [u8]), NotRead>
+    ensures value { Reads (λ x. (x.0, x.1.now)) result
         (start_at named.now text.entry.now) }
     ensures small { IfOk result (λ x. x.0.code < 2 ^ 24) }
 {
-    let (word, rest) = next_word(text);
+    let (word, behind) = next_word(text);
     if word == b"code".as_slice() {
-        let (word, rest) = next_word(rest);
-        let code = three_byte_number(word)?;
+        let code = three_byte_number(behind, Wanted::CommandCode)?;
+        let (_, rest) = next_word(behind);
         let start = Start {
             code,
             flags: None,
@@ -183,7 +204,20 @@ fn start_at<'a, B: Book>(
         };
         Ok((start, rest))
     } else {
-        let start = start_named(named, word)?;
-        Ok((start, rest))
+        let start = command_at(named, text)?;
+        Ok((start, behind))
+    }
+}
+
+/// The command that the first word names.
+fn command_at<B: Book>(named: &NamedBook<'_, B>, text: &[u8]) -> Result<Start, NotRead>
+    ensures value { Reads (λ start. start) result
+        (at_word text.now Wanted.CommandName (start_named named.now (first_word text.now))) }
+    ensures small { IfOk result (λ start. start.code < 2 ^ 24) }
+{
+    let (word, _) = next_word(text);
+    match start_named(named, word) {
+        Ok(start) => Ok(start),
+        Err(misread) => Err(misread.at(text, Wanted::CommandName)),
     }
 }

@@ -1,16 +1,21 @@
 //! Texts, read: the message that a text writes.
 ghost use Rattle.std.specs.Prelude.{◌≡◌, ◌<◌, ◌≤◌, ◌^◌, ◌++◌};
-ghost use Rattle.std.specs.Prelude.{IfOk, IfErr, OnOk, length, drop, map};
+ghost use Rattle.std.specs.Prelude.{IfOk, Err, IfErr, OnOk, length, drop, map};
 ghost use Rattle.dia_wire.specs.Written.{header_bytes};
-ghost use Rattle.dia_text.specs.Drafts.{Level, Stands, IsAdded};
+ghost use Rattle.dia_text.specs.Drafts.{Level, Stands};
 ghost use Rattle.dia_text.specs.Made.{lines, made, body_from, no_level, finished};
-ghost use Rattle.dia_text.specs.Made.{line_added, placed, IsMade, IsBegun, IsWithin, message_from};
+ghost use Rattle.dia_text.specs.Made.{line_added, placed, IsMade, IsBegun, IsTaken, IsWithin, message_from};
+ghost use Rattle.dia_text.specs.Made.{fault_at, brace_wanted, in_line, value_misfit};
+ghost use Rattle.dia_text.specs.Lines.{plain_line, head_at};
+ghost use Rattle.dia_text.specs.Reading.{FailsAt};
 
 use crate::draft::{Opened, add, push_byte_and_u24, push_u32};
-use crate::fault::{Fault, Kind, Misread, NotMade};
-use crate::lines::{header_of, line_of};
+use crate::fault::{Fault, Kind, Misfit, Misread, NotMade, NotRead, Wanted, not_read};
+use crate::line::Line;
+use crate::lines::{head_at, header_of, line_of};
 use crate::names::NamedBook;
 use crate::splitting::split;
+use crate::words::without_blanks;
 use dia_book::Book;
 use dia_wire::{HEADER_LENGTH, Header};
 use std::alloc::{AllocError, Global};
@@ -59,23 +64,39 @@ fn header_from<B: Book>(
         match header_of(named, lines[index]) {
             Ok(None) => {}
             Ok(Some(header)) => return Ok((header, index + 1)),
-            Err(misread) => return Err(placed(misread, index + 1)),
+            Err(why) => return Err(placed(why, lines[index], index + 1)),
         }
     }
-    Err(NotMade::Fault(Fault {
-        kind: Kind::Syntax,
-        line: lines.len(),
-    }))
+    Err(ends(lines.len(), Kind::Syntax, Wanted::HeaderLine))
 }
 
-fn placed(misread: Misread, line: usize) -> NotMade
-    ensures value { result ≡ placed misread line }
+/// The fault of a line.
+fn placed(why: NotRead, text: &[u8], line: usize) -> NotMade
+    ensures value { result ≡ placed why text.now line }
     ensures line { IsWithin line result }
 {
-    match misread {
-        Misread::NoMemory => NotMade::NoMemory,
-        Misread::Fault(kind) => NotMade::Fault(Fault { kind, line }),
+    match why {
+        NotRead::NoMemory => NotMade::NoMemory,
+        NotRead::Misfit(misfit) => NotMade::Fault(Fault {
+            kind: misfit.kind,
+            line,
+            at: Some(text.len().saturating_sub(misfit.left)),
+            wanted: misfit.wanted,
+        }),
     }
+}
+
+/// The fault of a text that ends with a line.
+pub(crate) fn ends(line: usize, kind: Kind, wanted: Wanted) -> NotMade
+    ensures value { result ≡ NotMade.Fault (fault_at line kind wanted) }
+    ensures line { IsWithin line result }
+{
+    NotMade::Fault(Fault {
+        kind,
+        line,
+        at: None,
+        wanted,
+    })
 }
 
 /// The message of the lines behind its header.
@@ -97,7 +118,7 @@ fn body_of<B: Book>(
     for index in at..lines.len() {
         match take_line(alloc, named, &mut out, &mut groups, lines[index]) {
             Ok(()) => {}
-            Err(misread) => return Err(placed(misread, index + 1)),
+            Err(why) => return Err(placed(why, lines[index], index + 1)),
         }
     }
     finish(alloc, header, &out, &groups, lines.len())
@@ -109,14 +130,53 @@ fn take_line<B: Book>(
     out: &mut Vec<u8>,
     groups: &mut Vec<Opened>,
     text: &[u8],
-) -> Result<(), Misread>
+) -> Result<(), NotRead>
     requires { (level : Level) × Stands level.outer level.bytes out.old.items groups.old.items }
     ensures { (level : Level) → Stands level.outer level.bytes out.old.items groups.old.items
-        → IsAdded (line_added named.now text.now level) result
+        → IsTaken (line_added named.now text.now level) result
         out.new.items groups.new.items }
 {
     let line = line_of(alloc, named, text)?;
-    add(alloc, out, groups, &line)
+    match add(alloc, out, groups, &line) {
+        Ok(()) => Ok(()),
+        Err(Misread::Fault(kind)) => Err(not_added(named, text, &line, kind)),
+        Err(Misread::NoMemory) => Err(NotRead::NoMemory),
+    }
+}
+
+/// Why a line that was read can't be added.
+fn not_added<B: Book>(named: &NamedBook<'_, B>, text: &[u8], line: &Line, kind: Kind) -> NotRead
+    ensures { FailsAt result (in_line named.now text.now (plain_line line.now) (Err kind)) }
+{
+    match line {
+        Line::Close(_) => not_read(text, brace_wanted(kind), kind),
+        Line::Blank | Line::Leaf(..) | Line::Open(_) => value_misfit(named, text, kind),
+    }
+}
+
+/// The value of a line is at fault.
+fn value_misfit<B: Book>(named: &NamedBook<'_, B>, text: &[u8], kind: Kind) -> NotRead
+    ensures { FailsAt {Y = Level} result (Err (value_misfit named.now text.now kind)) }
+{
+    let left = match head_at(named, text) {
+        Ok((_, rest)) => without_blanks(rest).len(),
+        Err(NotRead::Misfit(misfit)) => misfit.left,
+        Err(NotRead::NoMemory) => return NotRead::NoMemory,
+    };
+    NotRead::Misfit(Misfit {
+        kind,
+        wanted: Wanted::ShorterData,
+        left,
+    })
+}
+
+fn brace_wanted(kind: Kind) -> Wanted
+    ensures { result ≡ brace_wanted kind }
+{
+    match kind {
+        Kind::Braces => Wanted::OpenGroup,
+        Kind::Syntax | Kind::Name | Kind::Value | Kind::Limit => Wanted::ShorterGroup,
+    }
 }
 
 /// The message of a header and these AVPs, if no group is open.
@@ -133,17 +193,11 @@ fn finish(
     ensures line { IfErr result (IsWithin line) }
 {
     if !groups.is_empty() {
-        return Err(NotMade::Fault(Fault {
-            kind: Kind::Braces,
-            line,
-        }));
+        return Err(ends(line, Kind::Braces, Wanted::ClosingBrace));
     }
     let length = HEADER_LENGTH + body.len();
     if length >= 1 << 24 {
-        return Err(NotMade::Fault(Fault {
-            kind: Kind::Limit,
-            line,
-        }));
+        return Err(ends(line, Kind::Limit, Wanted::ShorterMessage));
     }
     let mut message = Vec::with_capacity(alloc, length)?;
     push_header(&mut message, header, length as u32)?;

@@ -8,8 +8,8 @@ ghost use Rattle.dia_text.specs.Made.{is_empty, has_word, part_text, parts_text}
 ghost use Rattle.dia_text.specs.Made.{made_lines, digits_line, IsMadeText, IsPartAdded};
 ghost use Rattle.dia_text.specs.Made.{IsWithin, behind_lines, told_behind, message_from};
 
-use crate::fault::{Fault, Kind, NotMade};
-use crate::making::{lines_of, make_lines};
+use crate::fault::{Fault, Kind, NotMade, Wanted};
+use crate::making::{ends, lines_of, make_lines};
 use crate::names::NamedBook;
 use crate::words::next_word;
 use dia_book::Book;
@@ -23,10 +23,7 @@ pub fn make_all<B: Book>(alloc: Global, book: &B, text: &[u8]) -> Result<String,
 {
     let lines = lines_of(alloc, text)?;
     if !has_word(&lines) {
-        return Err(NotMade::Fault(Fault {
-            kind: Kind::Syntax,
-            line: lines.len(),
-        }));
+        return Err(ends(lines.len(), Kind::Syntax, Wanted::HeaderLine));
     }
     let named = NamedBook::new(alloc, book)?;
     parts_made(alloc, &named, &lines)
@@ -101,9 +98,9 @@ fn behind(at: usize, fault: NotMade) -> NotMade
     ensures { result ≡ behind_lines at fault }
 {
     match fault {
-        NotMade::Fault(Fault { kind, line }) => NotMade::Fault(Fault {
-            kind,
-            line: at + line,
+        NotMade::Fault(fault) => NotMade::Fault(Fault {
+            line: at + fault.line,
+            ..fault
         }),
         NotMade::NoMemory => NotMade::NoMemory,
     }

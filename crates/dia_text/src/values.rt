@@ -1,20 +1,22 @@
 //! The data that a value writes.
-ghost use Rattle.std.specs.Prelude.{◌≡◌, ◌==◌, ◌<◌, ◌^◌, ◌++◌, IfSome, map, option_copied};
+ghost use Rattle.std.specs.Prelude.{◌≡◌, ◌==◌, ◌<◌, ◌^◌, ◌++◌, IfSome, Err, if◌then◌else◌, map, option_copied};
 ghost use Rattle.std.specs.Option.{option_map};
 ghost use Rattle.std.specs.List.{slice_split};
 ghost use Rattle.dia_data.specs.Plain.{plain_format};
 ghost use Rattle.dia_text.specs.declared.fault.Kind.TheVariants.{Value};
-ghost use Rattle.dia_text.specs.Words.{unblanked};
+ghost use Rattle.dia_text.specs.Words.{unblanked, first_word};
+ghost use Rattle.dia_text.specs.Numbers.{number_below};
 ghost use Rattle.dia_text.specs.Fields.{behind_letter};
-ghost use Rattle.dia_text.specs.Reading.{Gives, some_or};
+ghost use Rattle.dia_text.specs.Reading.{Gives, Reads, some_or, at_word};
 ghost use Rattle.dia_text.specs.Values.{value_at, words_at, text_at, family_at, value_of, formatted};
 ghost use Rattle.dia_text.specs.Values.{number_bytes, address_of, in_family, each, unescaped};
 ghost use Rattle.dia_text.specs.Values.{may_be_text, is_address, is_text};
+ghost use Rattle.dia_text.specs.Values.{format_wanted, kind_wanted, value_wanted};
 ghost use Rattle.dia_text.specs.Values.{eight_read, formatted_as, four_read};
 ghost use Rattle.dia_text.specs.ValueParts.{part_bytes};
 
-use crate::fault::{Kind, Misread};
-use crate::fields::{behind_letter, bytes_of};
+use crate::fault::{Kind, Misread, NotRead, Wanted};
+use crate::fields::{behind_letter, bytes_at, bytes_of};
 use crate::numbers::{number_below, number_of, signed_below};
 use crate::splitting::{split, split_once};
 use crate::value_parts::{Part, push_parts};
@@ -29,14 +31,74 @@ pub(crate) fn value_at<'a>(
     alloc: Global,
     format: Option<&Format>,
     text: &'a [u8],
-) -> Result<(Vec<u8>, &'a [u8]), Misread>
-    ensures { Gives (λ x. (x.0.items, x.1.now)) result
+) -> Result<(Vec<u8>, &'a [u8]), NotRead>
+    ensures { Reads (λ x. (x.0.items, x.1.now)) result
         (value_at (option_map (λ format. plain_format format.now) format.entry) text.entry.now) }
 {
     match behind_quote(text) {
         None => words_at(alloc, format, text),
-        Some(rest) if may_be_text(format) => text_at(alloc, rest),
-        Some(_) => Err(Misread::Fault(Kind::Value)),
+        Some(rest) => match quoted_at(alloc, format, rest) {
+            Ok(value) => Ok(value),
+            Err(misread) => Err(misread.at(text, format_wanted(format))),
+        },
+    }
+}
+
+/// The bytes of a text behind its opening quote, if its AVP may have one, and what follows its closing quote.
+fn quoted_at<'a>(
+    alloc: Global,
+    format: Option<&Format>,
+    text: &'a [u8],
+) -> Result<(Vec<u8>, &'a [u8]), Misread>
+    ensures { Gives (λ x. (x.0.items, x.1.now)) result
+        (if may_be_text (option_map (λ format. plain_format format.now) format.entry) then some_or (text_at text.entry.now) Value else Err Value) }
+{
+    if may_be_text(format) {
+        text_at(alloc, text)
+    } else {
+        Err(Misread::Fault(Kind::Value))
+    }
+}
+
+/// What could be in place of a value of this format.
+fn format_wanted(format: Option<&Format>) -> Wanted
+    ensures { result
+        ≡ format_wanted (option_map (λ format. plain_format format.now) format.entry) }
+{
+    match format {
+        Some(format) => kind_wanted(format.kind()),
+        None => Wanted::BytesOfUnknown,
+    }
+}
+
+fn kind_wanted(kind: FormatKind) -> Wanted
+    ensures { result ≡ kind_wanted kind }
+{
+    match kind {
+        FormatKind::AnyBytes => Wanted::TextOrBytes,
+        FormatKind::Utf8String | FormatKind::DiameterIdentity | FormatKind::DiameterUri => {
+            Wanted::Text
+        }
+        FormatKind::FourBytes(Reading::Unsigned) => Wanted::Unsigned32,
+        FormatKind::FourBytes(Reading::Signed) | FormatKind::Enumerated => Wanted::Signed32,
+        FormatKind::EightBytes(Reading::Unsigned) => Wanted::Unsigned64,
+        FormatKind::EightBytes(Reading::Signed) => Wanted::Signed64,
+        FormatKind::FourBytes(Reading::Bits) | FormatKind::EightBytes(Reading::Bits) => {
+            Wanted::Bytes
+        }
+        FormatKind::Grouped => Wanted::Group,
+        FormatKind::Address => Wanted::Address,
+    }
+}
+
+/// What could be in place of a word that is no value of this format, or is missing.
+fn value_wanted(format: Option<&Format>, word: &[u8]) -> Wanted
+    ensures { result
+        ≡ value_wanted (option_map (λ format. plain_format format.now) format.entry) word.now }
+{
+    match word {
+        [] => Wanted::AnyValue,
+        _ => format_wanted(format),
     }
 }
 
@@ -113,16 +175,18 @@ fn words_at<'a>(
     alloc: Global,
     format: Option<&Format>,
     text: &'a [u8],
-) -> Result<(Vec<u8>, &'a [u8]), Misread>
-    ensures { Gives (λ x. (x.0.items, x.1.now)) result
+) -> Result<(Vec<u8>, &'a [u8]), NotRead>
+    ensures { Reads (λ x. (x.0.items, x.1.now)) result
         (words_at (option_map (λ format. plain_format format.now) format.entry) text.entry.now) }
 {
     let (word, rest) = next_word(text);
     if is_address(format) && word == b"family".as_slice() {
         return family_at(alloc, rest);
     }
-    let bytes = value_of(alloc, format, word)?;
-    Ok((bytes, rest))
+    match value_of(alloc, format, word) {
+        Ok(bytes) => Ok((bytes, rest)),
+        Err(misread) => Err(misread.at(text, value_wanted(format, word))),
+    }
 }
 
 fn is_address(format: Option<&Format>) -> bool
@@ -134,15 +198,27 @@ fn is_address(format: Option<&Format>) -> bool
 
 /// The data of an address behind the word `family`, and what follows it.
 #[tactic(auto, unfolding(crate::specs::Values::family_at))]
-fn family_at(alloc: Global, text: &[u8]) -> Result<(Vec<u8>, &[u8]), Misread>
-    ensures { Gives (λ x. (x.0.items, x.1.now)) result (family_at text.entry.now) }
+fn family_at(alloc: Global, text: &[u8]) -> Result<(Vec<u8>, &[u8]), NotRead>
+    ensures { Reads (λ x. (x.0.items, x.1.now)) result (family_at text.entry.now) }
 {
-    let (word, rest) = next_word(text);
-    let mut bytes = two(alloc, number_below(1 << 16, word))?;
-    let (word, rest) = next_word(rest);
-    let address = bytes_of(alloc, word)?;
+    let mut bytes = number_at(alloc, text)?;
+    let (_, behind) = next_word(text);
+    let address = bytes_at(alloc, behind)?;
     bytes.extend_from_slice(&address)?;
+    let (_, rest) = next_word(behind);
     Ok((bytes, rest))
+}
+
+/// The two bytes of the number of a family, which the first word writes.
+fn number_at(alloc: Global, text: &[u8]) -> Result<Vec<u8>, NotRead>
+    ensures { Reads (λ bytes. bytes.items) result (at_word text.now Wanted.Family
+        (number_bytes 2 (number_below (2 ^ 16) (first_word text.now)))) }
+{
+    let (word, _) = next_word(text);
+    match two(alloc, number_below(1 << 16, word)) {
+        Ok(bytes) => Ok(bytes),
+        Err(misread) => Err(misread.at(text, Wanted::Family)),
+    }
 }
 
 /// The data that a word writes for an AVP of this format, or for one that the dictionary doesn't know.

@@ -11,13 +11,16 @@ use Rattle.dia_book.specs.declared.DefHead.{DefHead}
 use Rattle.dia_book.specs.declared.DefHead.TheVariants.{Group, Command, Error}
 use Rattle.dia_book.specs.Dictionary.{Dictionary, DictEntry, PlainDefinition}
 use Rattle.dia_text.specs.declared.fault.Kind.{Kind}
+use Rattle.dia_text.specs.declared.fault.Misfit.{Misfit}
+use Rattle.dia_text.specs.declared.fault.Wanted.{Wanted}
+use Rattle.dia_text.specs.declared.fault.Wanted.TheVariants as want
 use Rattle.dia_text.specs.declared.fault.Kind.TheVariants.{Syntax, Name, Value}
 use Rattle.dia_text.specs.declared.keys.AvpCode.{AvpCode}
 use Rattle.dia_text.specs.declared.commands.Start.{Start}
 use Rattle.dia_text.specs.declared.line.Head.{Head}
 use Rattle.dia_text.specs.Words.{first_word, behind_word}
 use Rattle.dia_text.specs.Numbers.{number_of, number_below, within}
-use Rattle.dia_text.specs.Reading.{◌>>=◌, some_or}
+use Rattle.dia_text.specs.Reading.{◌>>=◌, some_or, at_word}
 use Rattle.dia_text.specs.Fields.{number_field, flags_field, length_field, padding_field}
 use Rattle.dia_text.specs.Keys.{is_no_slash, with_vendor, vendor_code, numbered, code_of_key, entry_named, code_of, default_flags, format_at, class_flags, p_flag, start_of, command_named, start_named}
 use Rattle.dia_text.specs.Values.{value_at}
@@ -27,11 +30,11 @@ use Rattle.dia_valid_texts.specs.ValidTexts.{KeyFits, AppFits, NumbersFit}
 -- ---- reading
 
 -- what holds of the first part, and so of what is read
-reads : {A B : Type 0} (P : A → Type 0) (Q : B → Type 0) (r : Result A Kind) (f : A → Result B Kind) → IfOk r P → ((x : A) → P x → IfOk (f x) Q) → IfOk (r >>= f) Q
+reads : {A B E : Type 0} (P : A → Type 0) (Q : B → Type 0) (r : Result A E) (f : A → Result B E) → IfOk r P → ((x : A) → P x → IfOk (f x) Q) → IfOk (r >>= f) Q
 reads P Q (Ok x) f h more = more x h
 reads P Q (Err k) f h more = tt
 
-any : {A : Type 0} (r : Result A Kind) → IfOk r (λ x. ⊤)
+any : {A E : Type 0} (r : Result A E) → IfOk r (λ x. ⊤)
 any (Ok x) = tt
 any (Err k) = tt
 
@@ -39,11 +42,15 @@ some_fits : {A : Type 0} (P : A → Type 0) (o : Option A) (k : Kind) → IfSome
 some_fits P (Some x) k h = h
 some_fits P None k h = tt
 
+at_fits : {A : Type 0} (P : A → Type 0) (text : List ℕ) (wanted : Wanted) (r : Result A Kind) → IfOk r P → IfOk (at_word text wanted r) P
+at_fits P text wanted (Ok x) h = h
+at_fits P text wanted (Err k) h = tt
+
 either : {A : Type 0} (P : A → Type 0) (a b : Option A) → IfSome a P → IfSome b P → IfSome (option_or a b) P
 either P (Some x) b h k = h
 either P None b h k = k
 
-if_ok : {A : Type 0} (P : A → Type 0) (b : Bool) (x y : Result A Kind) → IfOk x P → IfOk y P → IfOk (if b then x else y) P
+if_ok : {A E : Type 0} (P : A → Type 0) (b : Bool) (x y : Result A E) → IfOk x P → IfOk y P → IfOk (if b then x else y) P
 if_ok P true x y h k = h
 if_ok P false x y h k = k
 
@@ -117,8 +124,10 @@ code_fits d word fit =
 head_fits : (d : Dictionary) (text : List ℕ) → NumbersFit d → IfOk (head_at d text) (λ x. CodeFits x.0.code)
 unfolding head_at
 head_fits d text fit =
-    reads CodeFits (λ x. CodeFits x.0.code) (code_of d (first_word text)) _ (code_fits d (first_word text) fit)
-    (λ code h. reads (λ _. ⊤) (λ x. CodeFits x.0.code) (flags_field avp_letters (Some (default_flags d code)) (behind_word text)) _ (any (flags_field avp_letters (Some (default_flags d code)) (behind_word text)))
+    reads CodeFits (λ x. CodeFits x.0.code) (at_word text want.AvpName (code_of d (first_word text))) _
+    (at_fits CodeFits text want.AvpName (code_of d (first_word text)) (code_fits d (first_word text) fit))
+    (λ code h. reads (λ _. ⊤) (λ x. CodeFits x.0.code) (flags_field avp_letters want.AvpFlags (Some (default_flags d code)) want.AvpFlags (behind_word text)) _
+    (any (flags_field avp_letters want.AvpFlags (Some (default_flags d code)) want.AvpFlags (behind_word text)))
     (λ flags u. reads (λ _. ⊤) (λ x. CodeFits x.0.code) (length_field flags.1) _ (any (length_field flags.1)) (λ len v. h)))
 
 -- the head of a line, if it has one
@@ -167,13 +176,17 @@ pub record HasFields (h : Header) : Type 0 where
 abbrev StartFits : Start → Type 0
 StartFits s = (s.code < 2 ^ 24) × IfSome s.app (λ a. a < 2 ^ 32)
 
-field_fits : (keyword : List ℕ) (default : Option ℕ) (text : List ℕ) → IfSome default (λ n. n < 2 ^ 32) → IfOk (number_field keyword default text) (λ x. x.0 < 2 ^ 32)
+field_fits : (keyword : List ℕ) (default : Option ℕ) (wanted : Wanted) (text : List ℕ) → IfSome default (λ n. n < 2 ^ 32)
+    → IfOk (number_field keyword default wanted text) (λ x. x.0 < 2 ^ 32)
 unfolding number_field
-field_fits keyword default text h =
+field_fits keyword default wanted text h =
+    let number = some_or (number_below (2 ^ 32) (first_word (behind_word text))) Value in
     if_ok (λ x. x.0 < 2 ^ 32) (same_bytes (first_word text) keyword) _ _
-    (reads (λ n. n < 2 ^ 32) (λ x. x.0 < 2 ^ 32) (some_or (number_below (2 ^ 32) (first_word (behind_word text))) Value) _
-    (some_fits (λ n. n < 2 ^ 32) (number_below (2 ^ 32) (first_word (behind_word text))) Value (number_fits (2 ^ 32) (first_word (behind_word text)))) (λ n k. k))
-    (reads (λ n. n < 2 ^ 32) (λ x. x.0 < 2 ^ 32) (some_or default Syntax) _ (some_fits (λ n. n < 2 ^ 32) default Syntax h) (λ n k. k))
+    (reads (λ n. n < 2 ^ 32) (λ x. x.0 < 2 ^ 32) (at_word (behind_word text) want.Number number) _
+    (at_fits (λ n. n < 2 ^ 32) (behind_word text) want.Number number
+    (some_fits (λ n. n < 2 ^ 32) (number_below (2 ^ 32) (first_word (behind_word text))) Value (number_fits (2 ^ 32) (first_word (behind_word text))))) (λ n k. k))
+    (reads (λ n. n < 2 ^ 32) (λ x. x.0 < 2 ^ 32) (at_word text wanted (some_or default Syntax)) _
+    (at_fits (λ n. n < 2 ^ 32) text wanted (some_or default Syntax) (some_fits (λ n. n < 2 ^ 32) default Syntax h)) (λ n k. k))
 
 app_or_zero : (app : Option ℕ) → IfSome app (λ a. a < 2 ^ 32) → unwrap_or app 0 < 2 ^ 32
 app_or_zero None h = omega arith
@@ -200,19 +213,23 @@ name_fits d word fit =
 begins_fit : (d : Dictionary) (text : List ℕ) → NumbersFit d → IfOk (start_at d text) (λ x. StartFits x.0)
 unfolding start_at
 begins_fit d text fit =
+    let code = some_or (number_below (2 ^ 24) (first_word (behind_word text))) Value in
     if_ok (λ x. StartFits x.0) (same_bytes (first_word text) (codes "code")) _ _
-    (reads (λ n. n < 2 ^ 24) (λ x. StartFits x.0) (some_or (number_below (2 ^ 24) (first_word (behind_word text))) Value) _
-    (some_fits (λ n. n < 2 ^ 24) (number_below (2 ^ 24) (first_word (behind_word text))) Value (number_fits (2 ^ 24) (first_word (behind_word text)))) (λ n k. (k, tt)))
-    (reads StartFits (λ x. StartFits x.0) (start_named d (first_word text)) _ (name_fits d (first_word text) fit) (λ s k. k))
+    (reads (λ n. n < 2 ^ 24) (λ x. StartFits x.0) (at_word (behind_word text) want.CommandCode code) _
+    (at_fits (λ n. n < 2 ^ 24) (behind_word text) want.CommandCode code
+    (some_fits (λ n. n < 2 ^ 24) (number_below (2 ^ 24) (first_word (behind_word text))) Value (number_fits (2 ^ 24) (first_word (behind_word text))))) (λ n k. (k, tt)))
+    (reads StartFits (λ x. StartFits x.0) (at_word text want.CommandName (start_named d (first_word text))) _
+    (at_fits StartFits text want.CommandName (start_named d (first_word text)) (name_fits d (first_word text) fit)) (λ s k. k))
 
 fields_fit : (d : Dictionary) (text : List ℕ) → NumbersFit d → IfOk (header_at d text) HasFields
 unfolding header_at
 fields_fit d text fit =
     reads (λ x. StartFits x.0) HasFields (start_at d text) _ (begins_fit d text fit)
-    (λ start s. reads (λ _. ⊤) HasFields (flags_field header_letters start.0.flags start.1) _ (any (flags_field header_letters start.0.flags start.1))
-    (λ flags u. reads (λ x. x.0 < 2 ^ 32) HasFields (number_field (codes "app") start.0.app flags.1) _ (field_fits (codes "app") start.0.app flags.1 s.1)
-    (λ app a. reads (λ x. x.0 < 2 ^ 32) HasFields (number_field (codes "hop") None app.1) _ (field_fits (codes "hop") None app.1 tt)
-    (λ hop b. reads (λ x. x.0 < 2 ^ 32) HasFields (number_field (codes "end") None hop.1) _ (field_fits (codes "end") None hop.1 tt)
+    (λ start s. reads (λ _. ⊤) HasFields (flags_field header_letters want.CommandFlags start.0.flags want.Flags start.1) _
+    (any (flags_field header_letters want.CommandFlags start.0.flags want.Flags start.1))
+    (λ flags u. reads (λ x. x.0 < 2 ^ 32) HasFields (number_field (codes "app") start.0.app want.App flags.1) _ (field_fits (codes "app") start.0.app want.App flags.1 s.1)
+    (λ app a. reads (λ x. x.0 < 2 ^ 32) HasFields (number_field (codes "hop") None want.Hop app.1) _ (field_fits (codes "hop") None want.Hop app.1 tt)
+    (λ hop b. reads (λ x. x.0 < 2 ^ 32) HasFields (number_field (codes "end") None want.End hop.1) _ (field_fits (codes "end") None want.End hop.1 tt)
     (λ e2e c. reads (λ _. ⊤) HasFields (no_more e2e.1) _ (any (no_more e2e.1)) (λ e v. record { code = s.0; app = a; hop = b; e2e = c }))))))
 
 pub header_fits : (d : Dictionary) (text : List ℕ) → NumbersFit d → IfOk (header_of d text) (λ o. IfSome o HasFields)
@@ -224,7 +241,7 @@ header_fits d text fit =
 -- ---- of what was read
 
 pub read_fits : (d : Dictionary) (text : List ℕ) (l : PlainLine) → NumbersFit d → line_of d text ≡ Ok l → LineFits l
-read_fits d text l fit is = subst (λ (r : Result PlainLine Kind). IfOk r LineFits) is (line_fits d text fit)
+read_fits d text l fit is = subst (λ (r : Result PlainLine Misfit). IfOk r LineFits) is (line_fits d text fit)
 
 pub header_read : (d : Dictionary) (text : List ℕ) (h : Header) → NumbersFit d → header_of d text ≡ Ok (Some h) → HasFields h
-header_read d text h fit is = subst (λ (r : Result (Option Header) Kind). IfOk r (λ o. IfSome o HasFields)) is (header_fits d text fit)
+header_read d text h fit is = subst (λ (r : Result (Option Header) Misfit). IfOk r (λ o. IfSome o HasFields)) is (header_fits d text fit)

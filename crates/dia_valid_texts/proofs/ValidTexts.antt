@@ -15,13 +15,15 @@ use Rattle.dia_book.specs.Dictionary.{Dictionary, DictEntry, PlainDefinition}
 use Rattle.dia_policy.specs.declared.Unknown.{Unknown}
 use Rattle.dia_valid.specs.Valid.{MHolds, IsAccepted, IsLevel, Fits, Placed}
 use Rattle.dia_text.specs.declared.fault.Kind.{Kind}
+use Rattle.dia_text.specs.declared.fault.Misfit.{Misfit}
+use Rattle.dia_text.specs.declared.fault.Wanted.TheVariants.{ShorterMessage}
 use Rattle.dia_text.specs.declared.fault.Kind.TheVariants.{Limit}
 use Rattle.dia_text.specs.declared.fault.Fault.{Fault}
 use Rattle.dia_text.specs.declared.line.Head.{Head}
-use Rattle.dia_text.specs.Reading.{◌>>=◌}
+use Rattle.dia_text.specs.Reading.{◌>>=◌, misfit}
 use Rattle.dia_text.specs.Lines.{Blank, Leaf, Open, Close, line_of, header_of}
 use Rattle.dia_text.specs.Drafts.{Level, added, avp_of}
-use Rattle.dia_text.specs.Made.{made, message_from, body_from, begin, step, finished, no_level, line_added, fault_at}
+use Rattle.dia_text.specs.Made.{made, message_from, body_from, begin, step, finished, no_level, line_added, in_line, value_misfit, brace_wanted, fault_at}
 use Rattle.dia_valid_texts.specs.ValidTexts.{NumbersFit, IsOwn, key_at, IsValidLevel, end, blank, leaf, group, IsHeaderOf, IsValidText, IsValidOrLong}
 use Rattle.dia_valid_texts.proofs.Drawn.{drawn, bytes_drawn, own_m, added_or_long}
 use Rattle.dia_valid_texts.proofs.Fields.{CodeFits, HasFields, read_fits, header_read}
@@ -50,17 +52,17 @@ abbrev IsLong : Result (List ℕ) Fault → Type 0
 IsLong (Ok bytes) = ⊥
 IsLong (Err fault) = fault.kind ≡ Limit
 
-bound : {A B : Type 0} (r : Result A Kind) (x : A) (f : A → Result B Kind) (y : Result B Kind) → r ≡ Ok x → f x ≡ y → (r >>= f) ≡ y
-bound {A} r x f y is after = ap (λ (q : Result A Kind). q >>= f) is ∙ after
+bound : {A B E : Type 0} (r : Result A E) (x : A) (f : A → Result B E) (y : Result B E) → r ≡ Ok x → f x ≡ y → (r >>= f) ≡ y
+bound {A} {B} {E} r x f y is after = ap (λ (q : Result A E). q >>= f) is ∙ after
 
 bad : {A B : Type 0} (r : Result A Kind) (k : Kind) (f : A → Result B Kind) → r ≡ Err k → (r >>= f) ≡ Err k
 bad {A} r k f is = ap (λ (q : Result A Kind). q >>= f) is
 
 goes_on : (d : Dictionary) (h : Header) (n : ℕ) (l : List ℕ) (ls : List (List ℕ)) (at next : Level) → line_added d l at ≡ Ok next → body_from d h n (l ∷ ls) at ≡ body_from d h (n + 1) ls next
-goes_on d h n l ls at next is = ap (λ (r : Result Level Kind). step r (n + 1) (body_from d h (n + 1) ls)) is
+goes_on d h n l ls at next is = ap (λ (r : Result Level Misfit). step r l (n + 1) (body_from d h (n + 1) ls)) is
 
-too_long : (d : Dictionary) (h : Header) (n : ℕ) (l : List ℕ) (ls : List (List ℕ)) (at : Level) → line_added d l at ≡ Err Limit → IsLong (body_from d h n (l ∷ ls) at)
-too_long d h n l ls at is = subst IsLong (sym (ap (λ (r : Result Level Kind). step r (n + 1) (body_from d h (n + 1) ls)) is)) refl
+too_long : (d : Dictionary) (h : Header) (n : ℕ) (l : List ℕ) (ls : List (List ℕ)) (at : Level) (e : Misfit) → e.kind ≡ Limit → line_added d l at ≡ Err e → IsLong (body_from d h n (l ∷ ls) at)
+too_long d h n l ls at e long is = subst IsLong (sym (ap (λ (r : Result Level Misfit). step r l (n + 1) (body_from d h (n + 1) ls)) is)) long
 
 -- a level with more bytes at its end
 abbrev with_bytes : Level → List ℕ → Level
@@ -73,12 +75,14 @@ abbrev inside : Level → Head → List ℕ → Level
 inside at head bytes = record { outer = record { before = at.bytes; head = head } ∷ at.outer; bytes = bytes }
 
 leaf_line : (d : Dictionary) (l : List ℕ) (at : Level) (head : Head) (bytes : List ℕ) (r : Result Level Kind) → line_of d l ≡ Ok (Leaf head bytes None)
-    → (avp_of head bytes None >>= λ avp. Ok (with_bytes at avp)) ≡ r → line_added d l at ≡ r
-leaf_line d l at head bytes r is made = bound (line_of d l) (Leaf head bytes None) (added at) r is made
+    → (avp_of head bytes None >>= λ avp. Ok (with_bytes at avp)) ≡ r → line_added d l at ≡ in_line d l (Leaf head bytes None) r
+leaf_line d l at head bytes r is made =
+    bound (line_of d l) (Leaf head bytes None) (λ line. in_line d l line (added at line)) (in_line d l (Leaf head bytes None) r) is (ap (in_line d l (Leaf head bytes None)) made)
 
 close_line : (d : Dictionary) (l : List ℕ) (at : Level) (head : Head) (bytes : List ℕ) (r : Result Level Kind) → line_of d l ≡ Ok (Close None)
-    → (avp_of head bytes None >>= λ avp. Ok (with_bytes at avp)) ≡ r → line_added d l (inside at head bytes) ≡ r
-close_line d l at head bytes r is made = bound (line_of d l) (Close None) (added (inside at head bytes)) r is made
+    → (avp_of head bytes None >>= λ avp. Ok (with_bytes at avp)) ≡ r → line_added d l (inside at head bytes) ≡ in_line d l (Close None) r
+close_line d l at head bytes r is made =
+    bound (line_of d l) (Close None) (λ line. in_line d l line (added (inside at head bytes) line)) (in_line d l (Close None) r) is (ap (in_line d l (Close None)) made)
 
 appended : (at : Level) (head : Head) (bytes avp : List ℕ) → avp_of head bytes None ≡ Ok avp → (avp_of head bytes None >>= λ x. Ok (with_bytes at x)) ≡ Ok (with_bytes at avp)
 appended at head bytes avp is = bound (avp_of head bytes None) avp (λ x. Ok (with_bytes at x)) (Ok (with_bytes at avp)) is refl
@@ -135,10 +139,10 @@ leaf_read d u h keys others l more head e bytes is_leaf own code none fits is_ke
   where
     by : (avp_of head bytes None ≡ Err Limit) ⊎ ((avp_of head bytes None ≡ Ok (bytes_drawn head bytes)) × Spells (drawn head bytes) (bytes_drawn head bytes))
         → Reads d u h keys (body_from d h n (l ∷ (more ++ after)) at) after at
-    by (inl long) = inl (too_long d h n l (more ++ after) at
+    by (inl long) = inl (too_long d h n l (more ++ after) at (value_misfit d l Limit) refl
         (leaf_line d l at head bytes (Err Limit) is_leaf (bad (avp_of head bytes None) Limit (λ avp. Ok (with_bytes at avp)) long)))
     by (inr (is, s)) = behind_avp d u h keys others (body_from d h n (l ∷ (more ++ after)) at) _ after at head bytes (bytes_drawn head bytes) 0 s (leaf_fits d u head e bytes own none fits) is_keys
-        (goes_on d h n l (more ++ after) at (with_bytes at (bytes_drawn head bytes)) (leaf_line d l at head bytes _ is_leaf (appended at head bytes (bytes_drawn head bytes) is))) next
+        (goes_on d h n l (more ++ after) at (with_bytes at (bytes_drawn head bytes)) (leaf_line d l at head bytes (Ok (with_bytes at (bytes_drawn head bytes))) is_leaf (appended at head bytes (bytes_drawn head bytes) is))) next
 
 group_read : (d : Dictionary) (u : Unknown) (h : Header) (keys members others : List Key) (close : List ℕ) (more : List (List ℕ)) (head : Head) (e : DictEntry) (x : PlainDefinition)
     → line_of d close ≡ Ok (Close None) → IsOwn d head e → CodeFits head.code → e.group ≡ Some x → Placed x.rules members → keys ≡ key_at head ∷ others → (at : Level) (after : List (List ℕ)) (whole : Result (List ℕ) Fault)
@@ -152,11 +156,11 @@ group_read d u h keys members others close more head e x is_close own code is_gr
     level = (r.added.avps, r.added.spelled, subst (Placed x.rules) (sym r.added.keyed) placed, r.added.fit)
 
     by : (avp_of head r.bytes None ≡ Err Limit) ⊎ ((avp_of head r.bytes None ≡ Ok (bytes_drawn head r.bytes)) × Spells (drawn head r.bytes) (bytes_drawn head r.bytes)) → Reads d u h keys whole after at
-    by (inl long) = inl (subst IsLong (sym r.rest) (too_long d h r.line close (more ++ after) (inside at head r.bytes)
+    by (inl long) = inl (subst IsLong (sym r.rest) (too_long d h r.line close (more ++ after) (inside at head r.bytes) (misfit close (brace_wanted Limit) Limit) refl
         (close_line d close at head r.bytes (Err Limit) is_close (bad (avp_of head r.bytes None) Limit (λ avp. Ok (with_bytes at avp)) long))))
     by (inr (is, s)) = behind_avp d u h keys others whole _ after at head r.bytes (bytes_drawn head r.bytes) (suc r.added.depth) s (group_fits d u r.added.depth head e x r.bytes own is_group level) is_keys
         (r.rest ∙ goes_on d h r.line close (more ++ after) (inside at head r.bytes) (with_bytes at (bytes_drawn head r.bytes))
-        (close_line d close at head r.bytes _ is_close (appended at head r.bytes (bytes_drawn head r.bytes) is))) (next (r.line + 1) r.bytes)
+        (close_line d close at head r.bytes (Ok (with_bytes at (bytes_drawn head r.bytes))) is_close (appended at head r.bytes (bytes_drawn head r.bytes) is))) (next (r.line + 1) r.bytes)
 
 level_read : (d : Dictionary) (u : Unknown) (h : Header) → NumbersFit d → (ls : List (List ℕ)) (keys : List Key) → IsValidLevel d ls keys → (n : ℕ) (at : Level) (after : List (List ℕ))
     → Reads d u h keys (body_from d h n (ls ++ after) at) after at
@@ -169,7 +173,7 @@ level_read d u h fit ls keys (end none no_keys) n at after = inr (record {
 level_read d u h fit ls keys (blank l more is_blank rest parts) n at after =
     subst (λ (xs : List (List ℕ)). Reads d u h keys (body_from d h n (xs ++ after) at) after at) (sym parts)
     (subst (λ (r : Result (List ℕ) Fault). Reads d u h keys r after at)
-    (sym (goes_on d h n l (more ++ after) at at (bound (line_of d l) Blank (added at) (Ok at) is_blank refl)))
+    (sym (goes_on d h n l (more ++ after) at at (bound (line_of d l) Blank (λ line. in_line d l line (added at line)) (Ok at) is_blank refl)))
     (level_read d u h fit more keys rest (n + 1) at after))
 level_read d u h fit ls keys (leaf l more head e bytes others is_leaf own none fits rest parts is_keys) n at after =
     subst (λ (xs : List (List ℕ)). Reads d u h keys (body_from d h n (xs ++ after) at) after at) (sym parts)
@@ -179,7 +183,7 @@ level_read d u h fit ls keys (group l close inner more head e x members others i
     subst (λ (xs : List (List ℕ)). Reads d u h keys (body_from d h n (xs ++ after) at) after at) (sym parts)
     (subst (λ (xs : List (List ℕ)). Reads d u h keys (body_from d h n (l ∷ xs) at) after at) (sym (append_assoc inner (close ∷ more) after))
     (subst (λ (r : Result (List ℕ) Fault). Reads d u h keys r after at)
-    (sym (goes_on d h n l (inner ++ (close ∷ (more ++ after))) at (opened at head) (bound (line_of d l) (Open head) (added at) (Ok (opened at head)) is_open refl)))
+    (sym (goes_on d h n l (inner ++ (close ∷ (more ++ after))) at (opened at head) (bound (line_of d l) (Open head) (λ line. in_line d l line (added at line)) (Ok (opened at head)) is_open refl)))
     (group_read d u h keys members others close more head e x is_close own (read_fits d l (Open head) fit is_open) is_group placed is_keys at after (body_from d h (n + 1) (inner ++ (close ∷ (more ++ after))) (opened at head))
     (level_read d u h fit inner members level (n + 1) (opened at head) (close ∷ (more ++ after))) (λ m bytes. level_read d u h fit more others rest m (with_bytes at (bytes_drawn head bytes)) after))))
 
@@ -196,7 +200,7 @@ finished_valid d u h command keys bytes n fields head placed a = by (nat_lt (20 
     whole : List ℕ
     whole = header_bytes h (20 + length bytes) ++ bytes
 
-    by : (b : Bool) → nat_lt (20 + length bytes) (2 ^ 24) ≡ b → IsValidOrLong d u (if b then Ok whole else Err (fault_at n Limit))
+    by : (b : Bool) → nat_lt (20 + length bytes) (2 ^ 24) ≡ b → IsValidOrLong d u (if b then Ok whole else Err (fault_at n Limit ShorterMessage))
     by false e = refl
     by true e = (
       head.number,
@@ -234,10 +238,10 @@ body_valid d u h command keys ls n fields head placed reads =
 
 first_line : (d : Dictionary) (before : List (List ℕ)) (n : ℕ) (first : List ℕ) (body : List (List ℕ)) (h : Header) → AllByRecursion (λ l. header_of d l ≡ Ok None) before → header_of d first ≡ Ok (Some h)
     → (m : ℕ) × (message_from d n (before ++ (first ∷ body)) ≡ body_from d h m body no_level)
-first_line d [] n first body h all is = (n + 1, ap (λ (r : Result (Option Header) Kind). begin r (n + 1) (message_from d (n + 1) body) (λ header. body_from d header (n + 1) body no_level)) is)
+first_line d [] n first body h all is = (n + 1, ap (λ (r : Result (Option Header) Misfit). begin r first (n + 1) (message_from d (n + 1) body) (λ header. body_from d header (n + 1) body no_level)) is)
 first_line d (l ∷ before) n first body h (none, all) is =
     let next = first_line d before (n + 1) first body h all is in
-    (next.0, ap (λ (r : Result (Option Header) Kind). begin r (n + 1) (message_from d (n + 1) (before ++ (first ∷ body))) (λ header. body_from d header (n + 1) (before ++ (first ∷ body)) no_level)) none ∙ next.1)
+    (next.0, ap (λ (r : Result (Option Header) Misfit). begin r l (n + 1) (message_from d (n + 1) (before ++ (first ∷ body))) (λ header. body_from d header (n + 1) (before ++ (first ∷ body)) no_level)) none ∙ next.1)
 
 pub text_valid : (d : Dictionary) (text : List ℕ) → NumbersFit d → IsValidText d text → (u : Unknown) → IsValidOrLong d u (made d text)
 text_valid d text fit t u =

@@ -1,9 +1,9 @@
 use Rattle.std.proofs.Common.{◌≡◌, arith, ◌+◌, ◌∙◌, List, ℕ, Bor, Result, length, map, refl, ap, sym, subst}
 use Rattle.std.proofs.lemmas.List.{length-map}
 use Rattle.dia_text.specs.declared.fault.Fault.{Fault}
-use Rattle.dia_text.specs.Made.{placed, finished, Misses, IsMade, no_level}
+use Rattle.dia_text.specs.Made.{finished, IsMade, no_level}
 use Rattle.dia_text.proofs.Parts.{within_more}
-use Rattle.dia_text.proofs.LinesOfTexts.{front, next_line, bad_line, last_line}
+use Rattle.dia_text.proofs.LinesOfTexts.{front, next_line, bad_line, last_line, misses_same}
 use Rattle.dia_text.proofs.making.body_of.Goals as goal
 
 pub loop-index-init : goal.loop-index-init
@@ -12,7 +12,7 @@ loop-index-init g c = (no_level, (c.new-out.ensures.items, c.new-groups.ensures.
 pub returns-in-Err-clause-made : goal.returns-in-Err-clause-made
 returns-in-Err-clause-made g c =
     let inv = c.loop-index.invariant in
-    rw c.placed.ensures.value (subst (λ (read : Result (List ℕ) Fault). Misses (placed c.in-Err.misread (c.loop-index.index + 1)) read) inv.2
+    rw c.placed.ensures.value (misses_same _ _ _ inv.2
     (bad_line _ _ _ c.loop-index.index _ inv.0 _ (front c.args.lines.now c.loop-index.index _ c.loop-index-test.true) (c.in-Err.ensures inv.0 inv.1)))
 
 pub loop-index-preserved : goal.loop-index-preserved

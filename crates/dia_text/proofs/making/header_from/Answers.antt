@@ -1,8 +1,6 @@
-use Rattle.std.proofs.Common.{arith, ◌+◌, ◌∙◌, List, ℕ, Result, sym, subst}
-use Rattle.dia_text.specs.declared.fault.Fault.{Fault}
-use Rattle.dia_text.specs.Made.{placed, Misses}
+use Rattle.std.proofs.Common.{arith, ◌+◌, ◌∙◌, sym}
 use Rattle.dia_text.proofs.Parts.{within_more}
-use Rattle.dia_text.proofs.LinesOfTexts.{front, within, blank_line, header_line, no_header_line}
+use Rattle.dia_text.proofs.LinesOfTexts.{front, within, blank_line, header_line, no_header_line, misses_same}
 use Rattle.dia_text.proofs.making.header_from.Goals as goal
 
 pub returns-in-Ok-Some-clause-begun : goal.returns-in-Ok-Some-clause-begun
@@ -14,7 +12,7 @@ returns-in-Ok-Some-clause-begun g c = (
 
 pub returns-in-Err-clause-begun : goal.returns-in-Err-clause-begun
 returns-in-Err-clause-begun g c =
-    rw c.placed.ensures.value (subst (λ (read : Result (List ℕ) Fault). Misses (placed c.in-Err.misread (c.loop-index.index + 1)) read) c.loop-index.invariant
+    rw c.placed.ensures.value (misses_same _ _ _ c.loop-index.invariant
     (no_header_line _ _ c.loop-index.index _ _ (front c.args.lines.now c.loop-index.index _ c.loop-index-test.true) c.in-Err.ensures.value))
 
 pub loop-index-preserved : goal.loop-index-preserved

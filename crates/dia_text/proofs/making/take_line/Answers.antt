@@ -1,4 +1,6 @@
 use Rattle.std.proofs.lemmas.Result.{err_from_is_err_and}
+use Rattle.dia_text.specs.Made.{in_line}
+use Rattle.dia_text.specs.Lines.{plain_line}
 use Rattle.dia_text.specs.Drafts.{added}
 use Rattle.dia_text.proofs.LinesOfTexts.{bind_fails}
 use Rattle.dia_text.proofs.making.take_line.Goals as goal
@@ -6,7 +8,4 @@ use Rattle.dia_text.proofs.making.take_line.Goals as goal
 pub returns-in_err-line : goal.returns-in_err-line
 returns-in_err-line g c = λ level s.
     let p = err_from_is_err_and c.from_residual.result c.from_residual.ensures.1 in
-    rw (p.1, p.2) (bind_fails _ _ (added level) c.in_err-line.ensures)
-
-pub returns : goal.returns
-returns g c = λ level s. rw c.in_ok-line.ensures (c.add.ensures level s)
+    rw (p.1, p.2) (bind_fails _ _ _ c.in_err-line.ensures)

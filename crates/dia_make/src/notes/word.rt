@@ -1,0 +1,32 @@
+//! The word at a place of a text.
+
+/// The word that begins at a place. A text in quotes is one word, also where its closing quote is missing. The word is empty at a
+/// comment and at the end of a line.
+pub fn word_at(text: &[u8], at: usize) -> &[u8] {
+    let rest = text.get(at..).unwrap_or(b"".as_slice());
+    let length = match rest {
+        [b'"', behind @ ..] => quoted_length(behind),
+        _ => rest.iter().take_while(|byte| is_of_word(**byte)).count(),
+    };
+    rest.get(..length).unwrap_or(rest)
+}
+
+/// How long a text in quotes is, with its quotes, of which the opening one is in front of these bytes.
+fn quoted_length(behind: &[u8]) -> usize {
+    let inside = behind
+        .iter()
+        .take_while(|byte| !matches!(byte, b'"' | b'\n'))
+        .count();
+    let is_closed = matches!(behind.get(inside), Some(b'"'));
+    inside.saturating_add(if is_closed { 2 } else { 1 })
+}
+
+fn is_of_word(byte: u8) -> bool {
+    !matches!(byte, b' ' | b'\t' | b'\r' | b'\n' | b'#')
+}
+
+/// Where the line ends that begins at a place.
+pub fn line_end(text: &[u8], start: usize) -> usize {
+    let rest = text.get(start..).unwrap_or(b"".as_slice());
+    start.saturating_add(rest.iter().take_while(|byte| **byte != b'\n').count())
+}
