@@ -46,7 +46,8 @@ impl KeyTable {
         })
     }
 
-    /// The place of a key, if it has one. Among n keys it takes log n steps at most, whichever they are.
+    /// The place of a key, if it has one. Among n keys it takes log n steps at most, whichever they are; for most keys it is
+    /// the first row of the bucket that tells it.
     #[inline(always)]
     pub fn place(&self, key: Key) -> Option<usize>
         ensures { (place : AnyKey → Option ℕ)
@@ -55,7 +56,12 @@ impl KeyTable {
         let rank = rows::rank(key);
         let bucket = starts::bucket_of(rank, self.buckets);
         let low = self.starts[bucket] as usize;
-        let high = self.starts[bucket + 1] as usize;
-        searching::search(&self.rows, low, high, rank)
+        match self.rows.get(low) {
+            Some(row) if row.rank == rank => Some(row.place as usize),
+            _ => {
+                let high = self.starts[bucket + 1] as usize;
+                searching::search(&self.rows, low, high, rank)
+            }
+        }
     }
 }
