@@ -132,6 +132,17 @@ def stale_lines(command, room, tell):
     tell(found == wanted, "docs/JSON.md: a stale line", wanted, found)
 
 
+def by_hand(command, room, tell):
+    """What an answer may have and the others here don't: a line that is undecided, and characters that XML has another way to write."""
+    line = '{"undecided":true,"command":"T","path":["G"],"reason":"missing","avp":{"name":"X"},"sent":"0..1","accepted":"1"}'
+    stale = """{"stale":"T: <'a' & \\"b\\">","line":7}"""
+    (room / "answer.json").write_text(f'{line}\n{stale}\n{{"lines":1,"causes":1,"accepted":0,"stale":1}}\n')
+    said, status = run(command.replace("diacmd breaking --json ours.txt theirs.txt", "cat answer.json"), room)
+    found = [[case.get("classname"), case.get("name"), case[0].get("message")] for case in ElementTree.fromstring(said)]
+    wanted = [["T/G", "undecided missing X", "0..1 sent, 1 accepted"], ["accepted", """T: <'a' & "b">""", "stale"]]
+    tell((found, status) == (wanted, 0), "docs/JSON.md: an answer by hand", wanted, f"{status}\n{said}")
+
+
 def cases_of(lines):
     """The place, the cause and the detail of each line of `breaking`, or of a cause that `--once` writes."""
     for line in lines.splitlines():
@@ -175,4 +186,5 @@ def recipes(text, room, tell):
     without_breaks([command for command in commands if "diacmd breaking" in command], room, tell)
     junit = next(command for command in commands if "junit" in command)
     stale_lines(junit, room, tell)
+    by_hand(junit, room, tell)
     reasons(junit, room, tell)
