@@ -346,7 +346,7 @@ typedef struct dia_ip {
 /* An application that an end advertises. */
 typedef struct dia_app {
     uint32_t is_acct;    /* 0: Auth-Application-Id; else Acct-Application-Id */
-    uint32_t id;         /* the Application-ID, not that of relays */
+    uint32_t id;         /* the Application-ID; that of relays, 4294967295, only with DIA_MANNER_RELAYS */
     uint32_t has_vendor; /* 0: it stands alone; else in a Vendor-Specific-Application-Id */
     uint32_t vendor;     /* whose Vendor-Id this is */
 } dia_app;
@@ -373,6 +373,17 @@ enum {
 dia_status dia_peer_open(uint32_t role, const uint8_t *host, size_t host_len, const uint8_t *realm, size_t realm_len,
                          const uint8_t *product, size_t product_len, const dia_ip *addresses, size_t address_count,
                          const dia_app *apps, size_t app_count, const dia_numbers *numbers, dia_peer *peer, uint32_t *fault);
+
+/* What an end does beyond a connection of two nodes that aren't agents. */
+enum {
+    DIA_MANNER_RELAYS = 1 /* 4294967295 stands for all applications (RFC 6733 section 2.4) */
+};
+
+/* The same for an end of a manner, 0 or DIA_MANNER_RELAYS. DIA_BAD_ARGUMENT: `role` or `manner` is none. */
+dia_status dia_peer_open_as(uint32_t role, uint32_t manner, const uint8_t *host, size_t host_len, const uint8_t *realm,
+                            size_t realm_len, const uint8_t *product, size_t product_len, const dia_ip *addresses,
+                            size_t address_count, const dia_app *apps, size_t app_count, const dia_numbers *numbers,
+                            dia_peer *peer, uint32_t *fault);
 
 enum {
     DIA_START = 0, /* the transport connection is there */
@@ -422,10 +433,14 @@ enum {
 /* Where the connection stands. Takes no memory. */
 dia_status dia_peer_state(dia_peer *peer, uint32_t *state);
 
-/* Tells an application that both ends advertise by its index, from 0, the Auth ones first and then by number: *app with
+/* Tells an application that both ends have in common by its index, from 0, the Auth ones first and then by number: *app with
  * has_vendor 0. There is none before the connection is open, and they stay from then on. DIA_NONE: there are no more.
  * Takes no memory. */
 dia_status dia_peer_common(dia_peer *peer, size_t index, dia_app *app);
+
+/* Tells whether messages of an application are for this connection: *serves is 1 or 0. It is 1 for application 0, for those
+ * that both ends have in common, and for all between two relays. Takes no memory. */
+dia_status dia_peer_serves(dia_peer *peer, uint32_t id, uint32_t *serves);
 
 /* Closes the handle, and tells the other end nothing. Takes no memory. */
 void dia_peer_close(dia_peer *peer);

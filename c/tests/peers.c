@@ -12,6 +12,7 @@
 #define AUTH1 "\x00\x00\x01\x02\x40\x00\x00\x0c\x00\x00\x00\x01"
 #define AUTH4 "\x00\x00\x01\x02\x40\x00\x00\x0c\x00\x00\x00\x04"
 #define ACCT3 "\x00\x00\x01\x03\x40\x00\x00\x0c\x00\x00\x00\x03"
+#define RELAY "\x00\x00\x01\x02\x40\x00\x00\x0c\xff\xff\xff\xff"
 /* The responder `c.d`. */
 #define OH2 "\x00\x00\x01\x08\x40\x00\x00\x0b" "c.d\x00"
 #define OR2 "\x00\x00\x01\x28\x40\x00\x00\x09" "d\x00\x00\x00"
@@ -25,6 +26,7 @@
 
 static const char cer[] = "\x01\x00\x00\x6c\x80\x00\x01\x01" IDS("\x01", "\x01") OH OR IP VENDOR PRODUCT AUTH1 AUTH4;
 static const char cea[] = "\x01\x00\x00\x78\x00\x00\x01\x01" IDS("\x01", "\x01") SUCCESS OH2 OR2 IP2 VENDOR PRODUCT2 AUTH4 ACCT3;
+static const char relay_cea[] = "\x01\x00\x00\x6c\x00\x00\x01\x01" IDS("\x01", "\x01") SUCCESS OH2 OR2 IP2 VENDOR PRODUCT2 RELAY;
 static const char dwr[] = "\x01\x00\x00\x2c\x80\x00\x01\x18" IDS("\x01", "\x02") OH OR;
 static const char dwa[] = "\x01\x00\x00\x38\x00\x00\x01\x18" IDS("\x01", "\x02") SUCCESS OH2 OR2;
 static const char own_dwr[] = "\x01\x00\x00\x2c\x80\x00\x01\x18" IDS("\x01", "\x01") OH2 OR2;
@@ -116,6 +118,31 @@ static void two_ends_open_watch_and_close(void) {
     EXPECT(tell(&a, dpa, LENGTH(dpa)) == DIA_OK && closes(&a, DIA_WHY_STOPPED) && rests(&a, DIA_STATE_CLOSED));
     EXPECT(tell(&a, dpa, LENGTH(dpa)) == DIA_OK && rests(&a, DIA_STATE_CLOSED) && has_auth4(&a));
     dia_peer_close(&a);
+    dia_peer_close(&b);
+}
+
+/* An end that relays takes what the other names, and one that doesn't refuses the number of relays. */
+static void a_relay_has_what_the_other_names(void) {
+    const dia_ip address = {0, {127, 0, 0, 2}};
+    const dia_app relay = {0, 4294967295, 0, 0};
+    const dia_numbers numbers = {0, 0, 0, 1, 1};
+    const uint8_t *host = (const uint8_t *)"c.d", *realm = (const uint8_t *)"d", *product = (const uint8_t *)"q";
+    dia_peer b = DIA_PEER_INIT;
+    dia_app app = {99, 99, 99, 99};
+    uint32_t fault = 0, serves = 99;
+    EXPECT(dia_peer_serves(&b, 0, &serves) == DIA_IS_CLOSED && serves == 99);
+    EXPECT(dia_peer_open(DIA_RESPONDER, host, 3, realm, 1, product, 1, &address, 1, &relay, 1, &numbers, &b, &fault) == DIA_REFUSED
+           && fault == DIA_BAD_APPLICATION);
+    EXPECT(dia_peer_open_as(DIA_RESPONDER, 2, host, 3, realm, 1, product, 1, &address, 1, &relay, 1, &numbers, &b, &fault)
+           == DIA_BAD_ARGUMENT);
+    EXPECT(dia_peer_open_as(DIA_RESPONDER, DIA_MANNER_RELAYS, host, 3, realm, 1, product, 1, &address, 1, &relay, 1, &numbers, &b,
+                            &fault)
+           == DIA_OK);
+    EXPECT(dia_peer_event(&b, DIA_START, out, 0, 0) == DIA_OK && tell(&b, cer, LENGTH(cer)) == DIA_OK);
+    EXPECT(sends(&b, relay_cea, LENGTH(relay_cea)) && rests(&b, DIA_STATE_OPEN));
+    EXPECT(dia_peer_common(&b, 1, &app) == DIA_OK && app.is_acct == 0 && app.id == 4);
+    EXPECT(dia_peer_serves(&b, 4, &serves) == DIA_OK && serves == 1);
+    EXPECT(dia_peer_serves(&b, 5, &serves) == DIA_OK && serves == 0);
     dia_peer_close(&b);
 }
 
@@ -213,6 +240,7 @@ static void a_configuration_is_told(void) {
 
 int main(void) {
     two_ends_open_watch_and_close();
+    a_relay_has_what_the_other_names();
     a_watchdog_without_an_answer_closes();
     outputs_are_taken_in_order();
     configurations_are_refused();

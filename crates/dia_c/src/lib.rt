@@ -24,7 +24,8 @@ pub use dictionaries::{
 pub use fault_lists::{dia_faults_close, dia_faults_get, dia_faults_open, dia_line_column};
 pub use listings::dia_show;
 pub use peers::{
-    dia_peer_close, dia_peer_common, dia_peer_event, dia_peer_open, dia_peer_output, dia_peer_state,
+    dia_peer_close, dia_peer_common, dia_peer_event, dia_peer_open, dia_peer_open_as,
+    dia_peer_output, dia_peer_serves, dia_peer_state,
 };
 pub use streams::{
     dia_stream_close, dia_stream_feed, dia_stream_finish, dia_stream_levels, dia_stream_open,

@@ -3,7 +3,7 @@
 ghost use Rattle.std.specs.Prelude.{◌⊎◌, ◌≡◌, ◌≢◌, ◌<◌, ◌≤◌, [], length, slice_get, take, IfSome, IsSome, None};
 ghost use Rattle.dia_peer.specs.Outputs.{PlainOutput};
 ghost use Rattle.dia_c_calls.specs.Held.{Takes, peer_in};
-ghost use Rattle.dia_c_calls.specs.Peers.{HasFault, IsBegun, IsRole, config_of, told_pair};
+ghost use Rattle.dia_c_calls.specs.Peers.{HasFault, IsBegun, IsManner, IsRole, ServesAs, config_of, told_pair};
 ghost use Rattle.dia_c_calls.specs.PeerSteps.{HasHappened, IsEventNumber, IsToldOutput, WantsRoom, state_number};
 
 use dia_c_calls::{
@@ -28,11 +28,11 @@ pub extern "C" fn dia_peer_open(
 ) -> u32
     ensures ends { (result ≡ DONE) ⊎ (result ≡ REFUSED) ⊎ (result ≡ NO_MEMORY) ⊎ (result ≡ IS_OPEN) ⊎ (result ≡ BAD_ARGUMENT) }
     ensures done { result ≡ DONE → IfSome (peer_in handle.new.slot.seal.held)
-        (IsBegun role (config_of host.now realm.now product.now addresses.now apps.now numbers.now)) }
+        (IsBegun role 0 (config_of host.now realm.now product.now addresses.now apps.now numbers.now)) }
     ensures is_open { result ≡ DONE → IsSome (peer_in handle.new.slot.seal.held) }
     ensures kept { result ≢ DONE → handle.new.slot.seal.held ≡ handle.old.slot.seal.held }
     ensures refused { result ≡ REFUSED
-        → HasFault (config_of host.now realm.now product.now addresses.now apps.now numbers.now) fault.new }
+        → HasFault 0 (config_of host.now realm.now product.now addresses.now apps.now numbers.now) fault.new }
     ensures only { result ≢ REFUSED → fault.new ≡ fault.old }
     ensures was_closed { result ≢ IS_OPEN → result ≢ BAD_ARGUMENT → handle.old.slot.seal.held ≡ None }
     ensures was_open { result ≡ IS_OPEN → IsSome handle.old.slot.seal.held }
@@ -41,6 +41,39 @@ pub extern "C" fn dia_peer_open(
 {
     dia_c_calls::peer_open(
         alloc, role, host, realm, product, addresses, apps, numbers, handle, fault,
+    )
+}
+
+/// Opens one end of a connection that is of a manner: 1 is that of relays, 0 none.
+#[unsafe(no_mangle)]
+pub extern "C" fn dia_peer_open_as(
+    alloc: Global,
+    role: u32,
+    manner: u32,
+    host: &[u8],
+    realm: &[u8],
+    product: &[u8],
+    addresses: &[PeerAddress],
+    apps: &[PeerApp],
+    numbers: &PeerNumbers,
+    handle: &mut PeerHandle,
+    fault: &mut u32,
+) -> u32
+    ensures ends { (result ≡ DONE) ⊎ (result ≡ REFUSED) ⊎ (result ≡ NO_MEMORY) ⊎ (result ≡ IS_OPEN) ⊎ (result ≡ BAD_ARGUMENT) }
+    ensures done { result ≡ DONE → IfSome (peer_in handle.new.slot.seal.held)
+        (IsBegun role manner (config_of host.now realm.now product.now addresses.now apps.now numbers.now)) }
+    ensures is_open { result ≡ DONE → IsSome (peer_in handle.new.slot.seal.held) }
+    ensures kept { result ≢ DONE → handle.new.slot.seal.held ≡ handle.old.slot.seal.held }
+    ensures refused { result ≡ REFUSED
+        → HasFault manner (config_of host.now realm.now product.now addresses.now apps.now numbers.now) fault.new }
+    ensures only { result ≢ REFUSED → fault.new ≡ fault.old }
+    ensures was_closed { result ≢ IS_OPEN → result ≢ BAD_ARGUMENT → handle.old.slot.seal.held ≡ None }
+    ensures was_open { result ≡ IS_OPEN → IsSome handle.old.slot.seal.held }
+    ensures bad { result ≡ BAD_ARGUMENT → ¬ (IsRole role × IsManner manner) }
+    ensures good { result ≢ BAD_ARGUMENT → IsRole role × IsManner manner }
+{
+    dia_c_calls::peer_open_as(
+        alloc, role, manner, host, realm, product, addresses, apps, numbers, handle, fault,
     )
 }
 
@@ -130,6 +163,24 @@ pub extern "C" fn dia_peer_common(
     ensures only { result ≢ DONE → app.new ≡ app.old }
 {
     dia_c_calls::peer_common(alloc, handle, index, app)
+}
+
+/// Tells whether messages of an application are for this connection: 1, or 0 where they aren't.
+#[unsafe(no_mangle)]
+pub extern "C" fn dia_peer_serves(
+    alloc: Global,
+    handle: &mut PeerHandle,
+    id: u32,
+    serves: &mut u32,
+) -> u32
+    ensures ends { (result ≡ DONE) ⊎ (result ≡ IS_CLOSED) }
+    ensures kept { handle.new.slot.seal.held ≡ handle.old.slot.seal.held }
+    ensures done { result ≡ DONE → IfSome (peer_in handle.old.slot.seal.held) (λ peer. ServesAs id peer serves.new) }
+    ensures closed { result ≡ IS_CLOSED → handle.old.slot.seal.held ≡ None }
+    ensures was_open { result ≡ DONE → IsSome (peer_in handle.old.slot.seal.held) }
+    ensures only { result ≡ IS_CLOSED → serves.new ≡ serves.old }
+{
+    dia_c_calls::peer_serves(alloc, handle, id, serves)
 }
 
 /// Lets the end go, if the handle has one.

@@ -10,7 +10,8 @@ use Rattle.dia_peer.specs.declared.config.Ip.{Ip}
 use Rattle.dia_peer.specs.declared.config.Ip.TheVariants.{V4, V6}
 use Rattle.dia_peer.specs.declared.config.ConfigFault.{ConfigFault}
 use Rattle.dia_peer.specs.declared.config.ConfigFault.TheVariants as fault
-use Rattle.dia_peer.specs.Core.{PlainConfig, IsConfig, Pair}
+use Rattle.dia_peer.specs.declared.config.Manner.{Manner}
+use Rattle.dia_peer.specs.Core.{PlainConfig, IsAccepted, Pair, Serves}
 use Rattle.dia_peer.specs.Machine.{IsRefusedAs}
 use Rattle.dia_peer.specs.World.{idle}
 use Rattle.dia_c_calls.specs.declared.peer_config.PeerAddress.{PeerAddress}
@@ -23,6 +24,13 @@ IsRole n = (n ≡ 0) ⊎ (n ≡ 1)
 
 abbrev pub role_of : ℕ → Role
 role_of n = if nat_eq n 1 then Responder else Initiator
+
+-- the one manner has the number 1, and 0 is none
+abbrev pub IsManner : ℕ → Type 0
+IsManner n = (n ≡ 0) ⊎ (n ≡ 1)
+
+abbrev pub manner_of : ℕ → Manner
+manner_of n = record { relays = nat_eq n 1 }
 
 -- an IPv4 address has the first four of the bytes
 abbrev pub ip_of : PeerAddress → Ip
@@ -74,16 +82,20 @@ pub data IsNoText (c : PlainConfig) : ConfigFault → Type 0 where
   product : IsUtf8 c.host → IsUtf8 c.realm → ¬ IsUtf8 c.product → IsNoText c fault.Product
 
 -- why the configuration is refused: a name that is no text comes before all else
-abbrev pub IsFaultOf : PlainConfig → ConfigFault → Type 0
-IsFaultOf c f = IsNoText c f ⊎ (IsUtf8 c.host × IsUtf8 c.realm × IsUtf8 c.product × IsRefusedAs c f)
+abbrev pub IsFaultOf : Manner → PlainConfig → ConfigFault → Type 0
+IsFaultOf manner c f = IsNoText c f ⊎ (IsUtf8 c.host × IsUtf8 c.realm × IsUtf8 c.product × IsRefusedAs manner c f)
 
 -- and the number of this
-abbrev pub HasFault : PlainConfig → ℕ → Type 0
-HasFault c n = (f : ConfigFault) × IsFaultOf c f × (f ≢ fault.NoMemory) × (n ≡ fault_number f)
+abbrev pub HasFault : ℕ → PlainConfig → ℕ → Type 0
+HasFault manner c n = (f : ConfigFault) × IsFaultOf (manner_of manner) c f × (f ≢ fault.NoMemory) × (n ≡ fault_number f)
 
 -- an end of this configuration before its first event
-abbrev pub IsBegunAs : Role → PlainConfig → PlainEnd → Type 0
-IsBegunAs role c peer = IsConfig c × (peer ≡ record { core = idle c role; left = [] })
+abbrev pub IsBegunAs : Role → Manner → PlainConfig → PlainEnd → Type 0
+IsBegunAs role manner c peer = IsAccepted manner c × (peer ≡ record { core = idle c role manner; left = [] })
 
-abbrev pub IsBegun : ℕ → PlainConfig → PlainEnd → Type 0
-IsBegun role c peer = IsBegunAs (role_of role) c peer
+abbrev pub IsBegun : ℕ → ℕ → PlainConfig → PlainEnd → Type 0
+IsBegun role manner c peer = IsBegunAs (role_of role) (manner_of manner) c peer
+
+-- messages of the application are for this connection
+abbrev pub ServesAs : ℕ → PlainEnd → ℕ → Type 0
+ServesAs id peer n = (Serves peer.core.common id → n ≡ 1) × (¬ Serves peer.core.common id → n ≡ 0)

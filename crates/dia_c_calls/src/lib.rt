@@ -39,7 +39,10 @@ pub use handle::{DictHandle, FaultsHandle, PeerHandle, StreamHandle, TextHandle}
 pub use listings::show;
 pub use opening::Problem;
 pub use peer_config::{PeerAddress, PeerApp, PeerNumbers};
-pub use peers::{peer_close, peer_common, peer_event, peer_open, peer_output, peer_state};
+pub use peers::{
+    peer_close, peer_common, peer_event, peer_open, peer_open_as, peer_output, peer_serves,
+    peer_state,
+};
 pub use status::{
     BAD_ARGUMENT, DONE, IS_CLOSED, IS_OPEN, NO_MEMORY, NO_ROOM, NONE, OUTPUTS_LEFT, REFUSED, SPENT,
 };

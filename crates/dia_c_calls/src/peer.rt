@@ -1,7 +1,7 @@
 //! One end of a connection behind a handle.
 
 ghost use Rattle.std.specs.Prelude.{◌⊎◌, ◌≡◌, ◌≢◌, ℕ, [], ◌<◌, ◌≤◌, length, take, IfErr, IfOk};
-ghost use Rattle.dia_peer.specs.Core.{IsConfig, plain_config};
+ghost use Rattle.dia_peer.specs.Core.{IsAccepted, plain_config};
 ghost use Rattle.dia_peer.specs.Machine.{IsRefusedAs};
 ghost use Rattle.dia_peer.specs.Outputs.{SentBytes, ClosedFor};
 ghost use Rattle.dia_peer.specs.World.{idle};
@@ -10,7 +10,7 @@ ghost use Rattle.dia_c_calls.specs.PeerSteps.{HasStepped, IsTaken, WantsRoom, pl
 
 use crate::names::copied_whole;
 use crate::status::{DONE, NO_MEMORY, OUTPUTS_LEFT};
-use dia_peer::{Config, ConfigFault, Core, Event, Output, Role, Why};
+use dia_peer::{Config, ConfigFault, Core, Event, Manner, Output, Role, Why};
 use std::alloc::{AllocError, Global};
 
 /// One end of a connection, and what it wants done.
@@ -38,12 +38,17 @@ pub enum Given {
 
 impl Peer {
     /// An end before its first event.
-    pub fn new(alloc: Global, config: Config, role: Role) -> Result<Peer, ConfigFault>
-        ensures ok { IfOk result (λ peer. IsConfig (plain_config config)
-            × (plain_end peer ≡ record { core = idle (plain_config config) role; left = [] })) }
-        ensures err { IfErr result (IsRefusedAs (plain_config config)) }
+    pub fn new(
+        alloc: Global,
+        config: Config,
+        role: Role,
+        manner: Manner,
+    ) -> Result<Peer, ConfigFault>
+        ensures ok { IfOk result (λ peer. IsAccepted manner (plain_config config)
+            × (plain_end peer ≡ record { core = idle (plain_config config) role manner; left = [] })) }
+        ensures err { IfErr result (IsRefusedAs manner (plain_config config)) }
     {
-        let core = Core::new(alloc, config, role)?;
+        let core = Core::with(alloc, config, role, manner)?;
         Ok(Peer {
             core,
             outputs: Vec::new(alloc),

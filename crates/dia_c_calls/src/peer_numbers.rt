@@ -2,9 +2,10 @@
 
 ghost use Rattle.std.specs.Prelude.{◌≡◌, ◌≢◌, ◌<◌, IfSome, None};
 ghost use Rattle.dia_c_calls.specs.PeerSteps.{IsEventNumber, IsEventOf, cause_number, state_number, why_number};
-ghost use Rattle.dia_c_calls.specs.Peers.{IsRole, fault_number, role_of};
+ghost use Rattle.dia_peer.specs.Core.{Serves};
+ghost use Rattle.dia_c_calls.specs.Peers.{IsManner, IsRole, fault_number, manner_of, role_of};
 
-use dia_peer::{Cause, ConfigFault, Event, Role, State, Why};
+use dia_peer::{Cause, ConfigFault, Core, Event, Manner, Role, State, Why};
 
 /// The role of a number.
 pub fn role_of(role: u32) -> Option<Role>
@@ -16,6 +17,26 @@ pub fn role_of(role: u32) -> Option<Role>
         1 => Some(Role::Responder),
         _ => None,
     }
+}
+
+/// The manner of a number.
+pub fn manner_of(manner: u32) -> Option<Manner>
+    ensures some { IfSome result (λ found. (found ≡ manner_of manner) × IsManner manner) }
+    ensures none { result ≡ None → ¬ IsManner manner }
+{
+    match manner {
+        0 => Some(Manner { relays: false }),
+        1 => Some(Manner { relays: true }),
+        _ => None,
+    }
+}
+
+/// Whether messages of an application are for this connection, as a number.
+pub fn serves_number(core: &Core, id: u32) -> u32
+    ensures yes { Serves core.now.common id → result ≡ 1 }
+    ensures no { ¬ Serves core.now.common id → result ≡ 0 }
+{
+    if core.serves(id) { 1 } else { 0 }
 }
 
 /// The number of a fault of a configuration. Memory that was refused is none.

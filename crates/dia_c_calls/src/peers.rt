@@ -6,18 +6,20 @@ ghost use Rattle.dia_peer.specs.Core.{plain_config};
 ghost use Rattle.dia_peer.specs.Machine.{IsRefusedAs};
 ghost use Rattle.dia_peer.specs.Outputs.{PlainOutput};
 ghost use Rattle.dia_c_calls.specs.Held.{MayBePeer, Takes, peer_in};
-ghost use Rattle.dia_c_calls.specs.Peers.{HasFault, IsBegun, IsBegunAs, IsFaultOf, IsRole, config_of, told_pair};
+ghost use Rattle.dia_c_calls.specs.Peers.{HasFault, IsBegun, IsBegunAs, IsFaultOf, IsManner, IsRole, ServesAs, config_of, told_pair};
 ghost use Rattle.dia_c_calls.specs.PeerSteps.{HasHappened, IsEventNumber, IsToldOutput, WantsRoom, plain_end, state_number};
 
 use crate::handle::{PeerHandle, give_in, peer_in, tell_in};
 use crate::held::Held;
 use crate::peer::{Given, Peer};
 use crate::peer_config::{Names, PeerAddress, PeerApp, PeerNumbers, common_at, config_of};
-use crate::peer_numbers::{event_of, fault_number, role_of, state_number, why_number};
+use crate::peer_numbers::{
+    event_of, fault_number, manner_of, role_of, serves_number, state_number, why_number,
+};
 use crate::status::{
     BAD_ARGUMENT, DONE, IS_CLOSED, IS_OPEN, NO_MEMORY, NO_ROOM, NONE, OUTPUTS_LEFT, REFUSED,
 };
-use dia_peer::{Config, ConfigFault, Role};
+use dia_peer::{Config, ConfigFault, Manner, Role};
 use std::alloc::{AllocError, Global};
 
 /// The number of an output that is a message to be sent.
@@ -41,24 +43,61 @@ pub fn peer_open(
 ) -> u32
     ensures ends { (result ≡ DONE) ⊎ (result ≡ REFUSED) ⊎ (result ≡ NO_MEMORY) ⊎ (result ≡ IS_OPEN) ⊎ (result ≡ BAD_ARGUMENT) }
     ensures done { result ≡ DONE → IfSome (peer_in handle.new.slot.seal.held)
-        (IsBegun role (config_of host.now realm.now product.now addresses.now apps.now numbers.now)) }
+        (IsBegun role 0 (config_of host.now realm.now product.now addresses.now apps.now numbers.now)) }
     ensures is_open { result ≡ DONE → IsSome (peer_in handle.new.slot.seal.held) }
     ensures kept { result ≢ DONE → handle.new.slot.seal.held ≡ handle.old.slot.seal.held }
     ensures refused { result ≡ REFUSED
-        → HasFault (config_of host.now realm.now product.now addresses.now apps.now numbers.now) fault.new }
+        → HasFault 0 (config_of host.now realm.now product.now addresses.now apps.now numbers.now) fault.new }
     ensures only { result ≢ REFUSED → fault.new ≡ fault.old }
     ensures was_closed { result ≢ IS_OPEN → result ≢ BAD_ARGUMENT → handle.old.slot.seal.held ≡ None }
     ensures was_open { result ≡ IS_OPEN → IsSome handle.old.slot.seal.held }
     ensures bad { result ≡ BAD_ARGUMENT → ¬ IsRole role }
     ensures good { result ≢ BAD_ARGUMENT → IsRole role }
 {
+    peer_open_as(
+        alloc, role, 0, host, realm, product, addresses, apps, numbers, handle, fault,
+    )
+}
+
+/// Opens one end of a connection that is of a manner: 1 is that of relays, 0 none.
+pub fn peer_open_as(
+    alloc: Global,
+    role: u32,
+    manner: u32,
+    host: &[u8],
+    realm: &[u8],
+    product: &[u8],
+    addresses: &[PeerAddress],
+    apps: &[PeerApp],
+    numbers: &PeerNumbers,
+    handle: &mut PeerHandle,
+    fault: &mut u32,
+) -> u32
+    ensures ends { (result ≡ DONE) ⊎ (result ≡ REFUSED) ⊎ (result ≡ NO_MEMORY) ⊎ (result ≡ IS_OPEN) ⊎ (result ≡ BAD_ARGUMENT) }
+    ensures done { result ≡ DONE → IfSome (peer_in handle.new.slot.seal.held)
+        (IsBegun role manner (config_of host.now realm.now product.now addresses.now apps.now numbers.now)) }
+    ensures is_open { result ≡ DONE → IsSome (peer_in handle.new.slot.seal.held) }
+    ensures kept { result ≢ DONE → handle.new.slot.seal.held ≡ handle.old.slot.seal.held }
+    ensures refused { result ≡ REFUSED
+        → HasFault manner (config_of host.now realm.now product.now addresses.now apps.now numbers.now) fault.new }
+    ensures only { result ≢ REFUSED → fault.new ≡ fault.old }
+    ensures was_closed { result ≢ IS_OPEN → result ≢ BAD_ARGUMENT → handle.old.slot.seal.held ≡ None }
+    ensures was_open { result ≡ IS_OPEN → IsSome handle.old.slot.seal.held }
+    ensures bad { result ≡ BAD_ARGUMENT → ¬ (IsRole role × IsManner manner) }
+    ensures good { result ≢ BAD_ARGUMENT → IsRole role × IsManner manner }
+{
     let Some(role) = role_of(role) else {
+        return BAD_ARGUMENT;
+    };
+    let Some(manner) = manner_of(manner) else {
         return BAD_ARGUMENT;
     };
     if handle.is_open() {
         return IS_OPEN;
     }
-    match begun(alloc, role, host, realm, product, addresses, apps, numbers) {
+    match begun(
+        alloc, role, manner, host, realm, product, addresses, apps, numbers,
+    ) {
         Ok(held) => {
             handle.put(held);
             DONE
@@ -77,6 +116,7 @@ pub fn peer_open(
 fn begun(
     alloc: Global,
     role: Role,
+    manner: Manner,
     host: &[u8],
     realm: &[u8],
     product: &[u8],
@@ -85,10 +125,10 @@ fn begun(
     numbers: &PeerNumbers,
 ) -> Result<Box<Held>, ConfigFault>
     ensures ok { IfOk result (λ held. IfSome (peer_in (Some held.value))
-        (IsBegunAs role (config_of host.now realm.now product.now addresses.now apps.now numbers.now))) }
+        (IsBegunAs role manner (config_of host.now realm.now product.now addresses.now apps.now numbers.now))) }
     ensures is_peer { IfOk result (λ held. (∥ MayBePeer (Some held.value) ∥₁) × IsSome (peer_in (Some held.value))) }
     ensures err { IfErr result (λ found. found ≢ ConfigFault.NoMemory
-        → IsFaultOf (config_of host.now realm.now product.now addresses.now apps.now numbers.now) found) }
+        → IsFaultOf manner (config_of host.now realm.now product.now addresses.now apps.now numbers.now) found) }
 {
     let Ok(host) = str::from_utf8(host) else {
         return Err(ConfigFault::Host);
@@ -105,16 +145,21 @@ fn begun(
         product,
     };
     let config = config_of(alloc, names, addresses, apps, numbers)?;
-    begun_of(alloc, config, role)
+    begun_of(alloc, config, role, manner)
 }
 
 /// An end of this configuration, in a box.
-fn begun_of(alloc: Global, config: Config, role: Role) -> Result<Box<Held>, ConfigFault>
-    ensures ok { IfOk result (λ held. IfSome (peer_in (Some held.value)) (IsBegunAs role (plain_config config))) }
+fn begun_of(
+    alloc: Global,
+    config: Config,
+    role: Role,
+    manner: Manner,
+) -> Result<Box<Held>, ConfigFault>
+    ensures ok { IfOk result (λ held. IfSome (peer_in (Some held.value)) (IsBegunAs role manner (plain_config config))) }
     ensures is_peer { IfOk result (λ held. (∥ MayBePeer (Some held.value) ∥₁) × IsSome (peer_in (Some held.value))) }
-    ensures err { IfErr result (IsRefusedAs (plain_config config)) }
+    ensures err { IfErr result (IsRefusedAs manner (plain_config config)) }
 {
-    let peer = Peer::new(alloc, config, role)?;
+    let peer = Peer::new(alloc, config, role, manner)?;
     Ok(boxed(alloc, peer)?)
 }
 
@@ -249,6 +294,23 @@ pub fn peer_common(alloc: Global, handle: &mut PeerHandle, index: usize, app: &m
         }
         None => NONE,
     }
+}
+
+/// Tells whether messages of an application are for this connection: 1, or 0 where they aren't.
+pub fn peer_serves(alloc: Global, handle: &mut PeerHandle, id: u32, serves: &mut u32) -> u32
+    ensures ends { (result ≡ DONE) ⊎ (result ≡ IS_CLOSED) }
+    ensures kept { handle.new.slot.seal.held ≡ handle.old.slot.seal.held }
+    ensures done { result ≡ DONE → IfSome (peer_in handle.old.slot.seal.held) (λ peer. ServesAs id peer serves.new) }
+    ensures closed { result ≡ IS_CLOSED → handle.old.slot.seal.held ≡ None }
+    ensures was_open { result ≡ DONE → IsSome (peer_in handle.old.slot.seal.held) }
+    ensures only { result ≡ IS_CLOSED → serves.new ≡ serves.old }
+{
+    let Some(held) = handle.take(alloc) else {
+        return IS_CLOSED;
+    };
+    *serves = serves_number(&peer_in(&held).core, id);
+    handle.put(held);
+    DONE
 }
 
 /// Lets the end go, if the handle has one.

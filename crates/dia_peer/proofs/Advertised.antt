@@ -126,8 +126,8 @@ same_code Acct Acct e = refl
 same_code Auth Acct e = absurd (omega (arith, e))
 same_code Acct Auth e = absurd (omega (arith, e))
 
-module _ (c : PlainConfig) (numbers : AllByRecursion (λ (a : App). a.id < 4294967295) c.apps) where
-  number_fits : (apps : List App) → AllByRecursion (λ (a : App). a.id < 4294967295) apps → (a : App) → IsIn apps a → number (to_be_bytes w32 a.id) ≡ a.id
+module _ (c : PlainConfig) (numbers : AllByRecursion (λ (a : App). a.id < 4294967296) c.apps) where
+  number_fits : (apps : List App) → AllByRecursion (λ (a : App). a.id < 4294967296) apps → (a : App) → IsIn apps a → number (to_be_bytes w32 a.id) ≡ a.id
   number_fits [] all a h = absurd h
   number_fits (b ∷ apps) all a (inl e) = subst (λ (x : App). number (to_be_bytes w32 x.id) ≡ x.id) e (byte_sum b.id (let lt = all.0 in omega (arith, lt)))
   number_fits (b ∷ apps) all a (inr h) = number_fits apps all.1 a h

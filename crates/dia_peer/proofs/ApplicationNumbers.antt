@@ -57,7 +57,7 @@ insert_acct auth acct new id e p = by p.kind p.id
 
 -- ---- the list of what is named
 
-abbrev listed : List ℕ → List ℕ → List Pair
+abbrev pub listed : List ℕ → List ℕ → List Pair
 listed auth acct = map (λ (id : ℕ). pair Auth id) auth ++ map (λ (id : ℕ). pair Acct id) acct
 
 from_map : (kind other : Kind) (ids : List ℕ) (n : ℕ) → IsIn (map (λ (id : ℕ). pair kind id) ids) (pair other n) → (kind ≡ other) × IsIn ids n

@@ -17,7 +17,7 @@ opened_apps : (apps : List App) → ∥ AreApps apps ∥₁ → AreApps apps
 opened_apps apps t = record {
   some = ∥∥₁_elim t (hlevel props) (λ s. s.some);
   few = ∥∥₁_elim t (hlevel props) (λ s. s.few);
-  numbers = ∥∥₁_elim t (AllByRecursion-prop (λ (a : App). a.id < 4294967295) (λ a. hlevel props) apps) (λ s. s.numbers);
+  numbers = ∥∥₁_elim t (AllByRecursion-prop (λ (a : App). a.id < 4294967296) (λ a. hlevel props) apps) (λ s. s.numbers);
   distinct = λ i j a b p q e. ∥∥₁_elim t (hlevel props) (λ s. s.distinct i j a b p q e);
 }
 

@@ -150,7 +150,7 @@ no_capabilities c v h =
     ⊎_elim (λ l. ⊎_elim (λ a. no_addresses c.addresses v a) (λ t. no_two c v t) (in_cases (map (λ ip. avp 257 64 (address ip)) c.addresses) (avp32 266 c.vendor ∷ avp 269 0 c.product ∷ []) v l))
     (λ s. no_state c.state_id v s) (in_cases (map (λ ip. avp 257 64 (address ip)) c.addresses ++ avp32 266 c.vendor ∷ avp 269 0 c.product ∷ []) (if_some (avp32 278) c.state_id) v h)
 
-module _ (c : PlainConfig) (numbers : AllByRecursion (λ (a : App). a.id < 4294967295) c.apps) where
+module _ (c : PlainConfig) (numbers : AllByRecursion (λ (a : App). a.id < 4294967296) c.apps) where
   no_applications : (v : PlainAvp) → IsIn (applications c) v → v.code ≢ 268
   no_applications v h k =
       ⊎_elim (λ x. omega (arith, k, plain_code c numbers Auth v x)) (λ t. ⊎_elim (λ y. omega (arith, k, plain_code c numbers Acct v y)) (λ z. omega (arith, k, vendor_code c numbers v z)) t)
@@ -177,7 +177,7 @@ pub record IsSentBy (role : Role) (c : PlainConfig) (state : State) (bytes : Lis
   pub are_bytes : AreBytes bytes
   pub message : MessageWithZeros m.header m.avps bytes
 
-module _ (c : PlainConfig) (numbers : AllByRecursion (λ (a : App). a.id < 4294967295) c.apps) (b : List ℕ) where
+module _ (c : PlainConfig) (numbers : AllByRecursion (λ (a : App). a.id < 4294967296) c.apps) (b : List ℕ) where
   -- a good reading of what was sent has its code, its R flag, its identifiers and its AVPs
   pub sent_code : (m : Sent) (code : ℕ) (r e : Bool) (ids : Ids) (vs : List PlainAvp) → MessageWithZeros m.header m.avps b → IsGood b code r e ids vs → code ≡ m.header.code
   sent_code m code r e ids vs z g = sym g.code_is ∙ ap (λ (h : Header). h.code) (one_message g.header m.header vs m.avps b g.message z.message).0
@@ -199,7 +199,7 @@ module _ (c : PlainConfig) (numbers : AllByRecursion (λ (a : App). a.id < 42949
   pairs_of : (front vs : List PlainAvp) (apps : List Pair) → ((v : PlainAvp) → IsIn front v → (v.code < 258) ⊎ (260 < v.code)) → vs ≡ front ++ applications c → AreAdvertised vs apps → ArePairs apps
   pairs_of front vs apps quiet same are p =
       let is : AreAdvertised (front ++ applications c) apps = subst (λ (x : List PlainAvp). AreAdvertised x apps) same are in
-      ((λ m. from_advertised c numbers front quiet p ((is p).0 (of_in apps p m))), (λ h. to_in apps p ((is p).1 (into_advertised c numbers front quiet p h))))
+      ((λ m. from_advertised c numbers front quiet p ((is.0 p).0 (of_in apps p m))), (λ h. to_in apps p ((is.0 p).1 (into_advertised c numbers front quiet p h))))
 
   module _ (role : Role) (state : State) where
     cer_was_sent : (m : Sent) (ids : Ids) (vs : List PlainAvp) (apps : List Pair) → MaySend role c state m → MessageWithZeros m.header m.avps b → IsGood b 257 true false ids vs

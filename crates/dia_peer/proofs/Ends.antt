@@ -5,21 +5,23 @@ use Rattle.std.proofs.lemmas.Option.{same_Some, none-some}
 use Rattle.dia_wire.specs.Wire.{PlainAvp, MessageWithZeros}
 use Rattle.dia_peer.specs.declared.kept_requests.Ids.{Ids}
 use Rattle.dia_peer.specs.declared.config.App.{App}
+use Rattle.dia_peer.specs.declared.config.Manner.{Manner}
 use Rattle.dia_peer.specs.declared.config.Role.{Role}
 use Rattle.dia_peer.specs.declared.config.Role.TheVariants.{Initiator, Responder}
 use Rattle.dia_peer.specs.declared.event.State.{State}
 use Rattle.dia_peer.specs.declared.event.State.TheVariants.{Open}
-use Rattle.dia_peer.specs.Core.{PlainConfig, IsConfig, PlainCore, PlainTaken, Pair, pair_of, common_of}
+use Rattle.dia_peer.specs.Core.{PlainConfig, IsConfig, PlainCore, PlainTaken, Pair, pair_of, common_by, common_of, relays}
 use Rattle.dia_peer.specs.Messages.{Received, Cer, Cea, cea, IsGood, IsReceived}
 use Rattle.dia_peer.specs.Table.{Happening, Starts, Gets, Ticks, Stops, Breaks, Deed, Sends, Closes, Outcome, nothing, same_bytes, repeated, only_responder, happens_in, happens}
-use Rattle.dia_peer.specs.World.{End, World, Event, Start, Tick, Stop, Lose, Deliver, AreBytes, AreSpelled, Goes, HappensAt, Happens, Run, start, AreShared, IsPastOpen, RepeatsAnswer, Agrees}
-use Rattle.dia_peer.proofs.Sets.{IsIn, to_in, of_in, in_cases, in_left, in_right, in_common, into_common, eq_self}
+use Rattle.dia_peer.specs.World.{End, World, Event, Start, Tick, Stop, Lose, Deliver, AreBytes, AreSpelled, Goes, HappensAt, Happens, Run, start, AreShared, IsCommon, HoldsShared, HoldSame, IsPastOpen, RepeatsAnswer, Agrees}
+use Rattle.dia_peer.proofs.Sets.{IsIn, to_in, of_in, in_cases, in_left, in_right, eq_self}
+use Rattle.dia_peer.proofs.Commons.{relays_same, common_is, common_turns}
 use Rattle.dia_peer.proofs.SpelledMessages.{one_writing}
 use Rattle.dia_peer.proofs.Moves.{Suits, may_later, AllMay, Opened, stays, by_answer, by_request, Moves, moves}
 use Rattle.dia_peer.proofs.Delivered.{IsSentBy, is_request, received_cer, received_cea}
 
 abbrev Numbers : PlainConfig → Type 0
-Numbers c = AllByRecursion (λ (a : App). a.id < 4294967295) c.apps
+Numbers c = AllByRecursion (λ (a : App). a.id < 4294967296) c.apps
 
 abbrev Has : PlainConfig → Pair → Type 0
 Has c p = IsIn (map pair_of c.apps) p
@@ -27,9 +29,10 @@ Has c p = IsIn (map pair_of c.apps) p
 -- ---- one end
 
 -- an end of this role and configuration: what it has sent
-record IsEnd (role : Role) (c : PlainConfig) (e : End) : Type 0 where
+record IsEnd (role : Role) (c : PlainConfig) (manner : Manner) (e : End) : Type 0 where
   config : e.core.config ≡ c
   role_is : e.core.role ≡ role
+  manner_is : e.core.manner ≡ manner
   suits : Suits role e.core.state
   sent : (bytes : List ℕ) → IsIn e.sent bytes → IsSentBy role c e.core.state bytes
 
@@ -47,19 +50,20 @@ sent_now role c state (Sends s ∷ deeds) messages (b, rest, e, are, message, mo
     by (inl same) later = record { m = s; may = may.0; are_bytes = subst AreBytes same are; message = subst (MessageWithZeros s.header s.avps) same message }
     by (inr k) later = later k
 
-moved : (role : Role) (c : PlainConfig) (old : End) (h : Happening) → IsEnd role c old → Moves old.core h (happens old.core h)
-moved role c old h e = moves old.core h (subst (λ r. Suits r old.core.state) (sym e.role_is) e.suits)
+moved : (role : Role) (c : PlainConfig) (manner : Manner) (old : End) (h : Happening) → IsEnd role c manner old → Moves old.core h (happens old.core h)
+moved role c manner old h e = moves old.core h (subst (λ r. Suits r old.core.state) (sym e.role_is) e.suits)
 
-end_goes : (role : Role) (c : PlainConfig) (old : End) (h : Happening) (messages : List (List ℕ)) → IsEnd role c old → AreSpelled (happens old.core h).deeds messages
-    → IsEnd role c (record { core = (happens old.core h).core; sent = old.sent ++ messages })
-end_goes role c old h messages e is =
-    let m = moved role c old h e in
+end_goes : (role : Role) (c : PlainConfig) (manner : Manner) (old : End) (h : Happening) (messages : List (List ℕ)) → IsEnd role c manner old → AreSpelled (happens old.core h).deeds messages
+    → IsEnd role c manner (record { core = (happens old.core h).core; sent = old.sent ++ messages })
+end_goes role c manner old h messages e is =
+    let m = moved role c manner old h e in
     let may : AllMay role c (happens old.core h).core.state (happens old.core h).deeds =
     subst (λ r. AllMay r c (happens old.core h).core.state (happens old.core h).deeds) e.role_is
     (subst (λ k. AllMay old.core.role k (happens old.core h).core.state (happens old.core h).deeds) e.config m.sends) in
     record {
       config = m.config ∙ e.config;
       role_is = m.role ∙ e.role_is;
+      manner_is = m.manner ∙ e.manner_is;
       suits = subst (λ r. Suits r (happens old.core h).core.state) e.role_is m.suits;
       sent = λ bytes k. ⊎_elim (λ l. sent_later role c old.core.state (happens old.core h).core.state bytes m.past (e.sent bytes l))
           (λ r. sent_now role c (happens old.core h).core.state (happens old.core h).deeds messages is may bytes r) (in_cases old.sent messages bytes k);
@@ -108,18 +112,20 @@ went old other (Deliver k) new (bytes, what, at, received, g) = record {
 
 -- ---- both ends
 
--- the applications of both configurations
-abbrev IsShared : PlainConfig → PlainConfig → List Pair → Type 0
-IsShared a b pairs = (p : Pair) → IsIn pairs p ↔ (Has a p × Has b p)
+-- the applications that both have in common
+abbrev IsShared : Manner → PlainConfig → PlainConfig → List Pair → Type 0
+IsShared manner a b pairs = (p : Pair) → IsIn pairs p ↔ IsCommon (relays manner (map pair_of a.apps)) (relays manner (map pair_of b.apps)) (map pair_of a.apps) (map pair_of b.apps) p
 
-shared_common : (c other : PlainConfig) (apps : List Pair) → ((p : Pair) → IsIn apps p ↔ Has other p) → IsShared c other (common_of c apps)
-shared_common c other apps are p = (
-  λ m. (let k = in_common c apps p m in (k.0, (are p).0 k.1)),
-  λ h. into_common c apps p h.0 ((are p).1 h.1),
-)
+shared_common : (manner : Manner) (c other : PlainConfig) (apps pairs : List Pair) → ((p : Pair) → IsIn apps p ↔ Has other p) → common_of manner c apps ≡ Some pairs → IsShared manner c other pairs
+shared_common manner c other apps pairs are is =
+    let same : relays manner apps ≡ relays manner (map pair_of other.apps) = relays_same manner apps (map pair_of other.apps) are in
+    common_is (relays manner (map pair_of c.apps)) (relays manner (map pair_of other.apps)) (map pair_of c.apps) apps (map pair_of other.apps) pairs are
+    (ap (λ (t : Bool). common_by (relays manner (map pair_of c.apps)) t (map pair_of c.apps) apps) (sym same) ∙ is)
 
-turned : (a b : PlainConfig) (pairs : List Pair) → IsShared b a pairs → IsShared a b pairs
-turned a b pairs s p = ((λ m. (let k = (s p).0 m in (k.1, k.0))), (λ h. (s p).1 (h.1, h.0)))
+turned : (manner : Manner) (a b : PlainConfig) (pairs : List Pair) → IsShared manner b a pairs → IsShared manner a b pairs
+turned manner a b pairs s p =
+    let x = map pair_of a.apps in let y = map pair_of b.apps in
+    ((λ m. common_turns (relays manner y) (relays manner x) y x p ((s p).0 m)), (λ h. (s p).1 (common_turns (relays manner x) (relays manner y) x y p h)))
 
 -- the responder took a CER, and has sent its answer
 record Took (b : PlainConfig) (e : End) : Type 0 where
@@ -134,11 +140,11 @@ record Took (b : PlainConfig) (e : End) : Type 0 where
   good : IsGood taken.bytes 257 true false ids avps
 
 -- what holds after any events
-record Holds (a b : PlainConfig) (w : World) : Type 0 where
-  i : IsEnd Initiator a w.initiator
-  r : IsEnd Responder b w.responder
-  i_open : w.initiator.core.state ≡ Open → IsShared a b w.initiator.core.common × (0 < length w.initiator.core.common) × IsPastOpen w.responder.core.state
-  r_open : w.responder.core.state ≡ Open → IsShared a b w.responder.core.common × (0 < length w.responder.core.common) × Took b w.responder
+record Holds (a : PlainConfig) (m : Manner) (b : PlainConfig) (n : Manner) (w : World) : Type 0 where
+  i : IsEnd Initiator a m w.initiator
+  r : IsEnd Responder b n w.responder
+  i_open : w.initiator.core.state ≡ Open → IsShared m a b w.initiator.core.common × (0 < length w.initiator.core.common) × IsPastOpen w.responder.core.state
+  r_open : w.responder.core.state ≡ Open → IsShared n a b w.responder.core.common × (0 < length w.responder.core.common) × Took b w.responder
 
 roles_differ : (r : Role) → r ≡ Initiator → r ≡ Responder → ⊥
 roles_differ r e f = let g : Initiator ≡ Responder = sym e ∙ f in absurd cc
@@ -146,34 +152,34 @@ roles_differ r e f = let g : Initiator ≡ Responder = sym e ∙ f in absurd cc
 abbrev made : End → Happening → List (List ℕ) → End
 made old h messages = record { core = (happens old.core h).core; sent = old.sent ++ messages }
 
-module _ (a b : PlainConfig) (an : Numbers a) (bn : Numbers b) where
-  begins : Holds a b (start a b)
+module _ (a : PlainConfig) (m : Manner) (b : PlainConfig) (n : Manner) (an : Numbers a) (bn : Numbers b) where
+  begins : Holds a m b n (start a m b n)
   begins = record {
-    i = record { config = refl; role_is = refl; suits = tt; sent = λ bytes m. absurd m };
-    r = record { config = refl; role_is = refl; suits = tt; sent = λ bytes m. absurd m };
+    i = record { config = refl; role_is = refl; manner_is = refl; suits = tt; sent = λ bytes k. absurd k };
+    r = record { config = refl; role_is = refl; manner_is = refl; suits = tt; sent = λ bytes k. absurd k };
     i_open = λ e. absurd cc;
     r_open = λ e. absurd cc;
   }
 
   -- the initiator opens by a CEA of a responder that has opened
-  initiator_opens : (w : World) (h : Happening) → Holds a b w → IsFrom w.responder h → Opened w.initiator.core h (happens w.initiator.core h)
-      → IsShared a b (happens w.initiator.core h).core.common × (0 < length (happens w.initiator.core h).core.common) × IsPastOpen w.responder.core.state
+  initiator_opens : (w : World) (h : Happening) → Holds a m b n w → IsFrom w.responder h → Opened w.initiator.core h (happens w.initiator.core h)
+      → IsShared m a b (happens w.initiator.core h).core.common × (0 < length (happens w.initiator.core h).core.common) × IsPastOpen w.responder.core.state
   initiator_opens w h hold from (stays e common taken) =
-      subst (λ (x : List Pair). IsShared a b x × (0 < length x) × IsPastOpen w.responder.core.state) (sym common) (hold.i_open e)
+      subst (λ (x : List Pair). IsShared m a b x × (0 < length x) × IsPastOpen w.responder.core.state) (sym common) (hold.i_open e)
   initiator_opens w h hold from (by_request ids bytes apps role is common some taken deeds) = absurd (roles_differ w.initiator.core.role hold.i.role_is role)
   initiator_opens w h hold from (by_answer ids apps role is common some) =
-      let (bytes, m, received) = from (Cea ids 2001 apps) is in
-      let says = received_cea b bn bytes Responder w.responder.core.state ids apps (hold.r.sent bytes m) received in
-      let config : common_of w.initiator.core.config apps ≡ common_of a apps = ap (λ (c : PlainConfig). common_of c apps) hold.i.config in
-      (subst (IsShared a b) (sym (common ∙ config)) (shared_common a b apps says.2), some, says.1)
+      let (bytes, at, received) = from (Cea ids 2001 apps) is in
+      let says = received_cea b bn bytes Responder w.responder.core.state ids apps (hold.r.sent bytes at) received in
+      let config : common_of w.initiator.core.manner w.initiator.core.config apps ≡ common_of m a apps = λ i. common_of (hold.i.manner_is i) (hold.i.config i) apps in
+      (shared_common m a b apps _ says.2 (sym config ∙ common), some, says.1)
 
   -- the responder opens by a CER of the initiator, and answers it
-  responder_opens : (w : World) (h : Happening) (messages : List (List ℕ)) → Holds a b w → IsFrom w.initiator h → AreSpelled (happens w.responder.core h).deeds messages
+  responder_opens : (w : World) (h : Happening) (messages : List (List ℕ)) → Holds a m b n w → IsFrom w.initiator h → AreSpelled (happens w.responder.core h).deeds messages
       → Opened w.responder.core h (happens w.responder.core h)
-      → IsShared a b (happens w.responder.core h).core.common × (0 < length (happens w.responder.core h).core.common) × Took b (made w.responder h messages)
+      → IsShared n a b (happens w.responder.core h).core.common × (0 < length (happens w.responder.core h).core.common) × Took b (made w.responder h messages)
   responder_opens w h messages hold from spelled (stays e common taken) =
       let old = hold.r_open e in let t = old.2 in (
-        subst (IsShared a b) (sym common) old.0,
+        subst (IsShared n a b) (sym common) old.0,
         subst (λ (x : List Pair). 0 < length x) (sym common) old.1,
         record {
           taken = t.taken;
@@ -189,11 +195,11 @@ module _ (a b : PlainConfig) (an : Numbers a) (bn : Numbers b) where
       )
   responder_opens w h messages hold from spelled (by_answer ids apps role is common some) = absurd (roles_differ w.responder.core.role role hold.r.role_is)
   responder_opens w h messages hold from spelled (by_request ids same apps role is common some taken deeds) =
-      let (bytes, m, received) = from (Cer ids same apps) is in
-      let says = received_cer a an bytes Initiator w.initiator.core.state ids same apps (hold.i.sent bytes m) received in
-      let config : common_of w.responder.core.config apps ≡ common_of b apps = ap (λ (c : PlainConfig). common_of c apps) hold.r.config in
+      let (bytes, at, received) = from (Cer ids same apps) is in
+      let says = received_cer a an bytes Initiator w.initiator.core.state ids same apps (hold.i.sent bytes at) received in
+      let config : common_of w.responder.core.manner w.responder.core.config apps ≡ common_of n b apps = λ i. common_of (hold.r.manner_is i) (hold.r.config i) apps in
       let (answer, rest, is_sent, are_bytes, message, none) = subst (λ (d : List Deed). AreSpelled d messages) deeds spelled in (
-        turned a b (happens w.responder.core h).core.common (subst (IsShared b a) (sym (common ∙ config)) (shared_common b a apps says.1)),
+        turned n a b (happens w.responder.core h).core.common (shared_common n b a apps _ says.1 (sym config ∙ common)),
         some,
         record {
           taken = record { bytes = same; ids = ids };
@@ -208,36 +214,36 @@ module _ (a b : PlainConfig) (an : Numbers a) (bn : Numbers b) where
         },
       )
 
-  initiator_goes : (w : World) (h : Happening) (messages : List (List ℕ)) → Holds a b w → IsFrom w.responder h → AreSpelled (happens w.initiator.core h).deeds messages
-      → Holds a b (record { initiator = made w.initiator h messages; responder = w.responder })
+  initiator_goes : (w : World) (h : Happening) (messages : List (List ℕ)) → Holds a m b n w → IsFrom w.responder h → AreSpelled (happens w.initiator.core h).deeds messages
+      → Holds a m b n (record { initiator = made w.initiator h messages; responder = w.responder })
   initiator_goes w h messages hold from spelled = record {
-    i = end_goes Initiator a w.initiator h messages hold.i spelled;
+    i = end_goes Initiator a m w.initiator h messages hold.i spelled;
     r = hold.r;
-    i_open = λ e. initiator_opens w h hold from ((moved Initiator a w.initiator h hold.i).opened e);
+    i_open = λ e. initiator_opens w h hold from ((moved Initiator a m w.initiator h hold.i).opened e);
     r_open = hold.r_open;
   }
 
-  responder_goes : (w : World) (h : Happening) (messages : List (List ℕ)) → Holds a b w → IsFrom w.initiator h → AreSpelled (happens w.responder.core h).deeds messages
-      → Holds a b (record { initiator = w.initiator; responder = made w.responder h messages })
+  responder_goes : (w : World) (h : Happening) (messages : List (List ℕ)) → Holds a m b n w → IsFrom w.initiator h → AreSpelled (happens w.responder.core h).deeds messages
+      → Holds a m b n (record { initiator = w.initiator; responder = made w.responder h messages })
   responder_goes w h messages hold from spelled = record {
     i = hold.i;
-    r = end_goes Responder b w.responder h messages hold.r spelled;
-    i_open = λ e. (let o = hold.i_open e in (o.0, o.1, (moved Responder b w.responder h hold.r).past o.2));
-    r_open = λ e. responder_opens w h messages hold from spelled ((moved Responder b w.responder h hold.r).opened e);
+    r = end_goes Responder b n w.responder h messages hold.r spelled;
+    i_open = λ e. (let o = hold.i_open e in (o.0, o.1, (moved Responder b n w.responder h hold.r).past o.2));
+    r_open = λ e. responder_opens w h messages hold from spelled ((moved Responder b n w.responder h hold.r).opened e);
   }
 
-  goes : (w : World) (role : Role) (e : Event) (v : World) → Holds a b w → Happens w role e v → Holds a b v
+  goes : (w : World) (role : Role) (e : Event) (v : World) → Holds a m b n w → Happens w role e v → Holds a m b n v
   goes w Initiator e v hold (at, same) =
       let g = went w.initiator w.responder e v.initiator at in
       let new = initiator_goes w g.h g.messages hold g.from g.spelled in
-      subst (λ (x : World). Holds a b x) (λ i. record { initiator = sym g.is i; responder = sym same i }) new
+      subst (λ (x : World). Holds a m b n x) (λ i. record { initiator = sym g.is i; responder = sym same i }) new
   goes w Responder e v hold (at, same) =
       let g = went w.responder w.initiator e v.responder at in
       let new = responder_goes w g.h g.messages hold g.from g.spelled in
-      subst (λ (x : World). Holds a b x) (λ i. record { initiator = sym same i; responder = sym g.is i }) new
+      subst (λ (x : World). Holds a m b n x) (λ i. record { initiator = sym same i; responder = sym g.is i }) new
 
-  runs : (w : World) (events : List (Role × Event)) (v : World) → Holds a b w → Run w events v → Holds a b v
-  runs w [] v hold run = subst (Holds a b) (sym run) hold
+  runs : (w : World) (events : List (Role × Event)) (v : World) → Holds a m b n w → Run w events v → Holds a m b n v
+  runs w [] v hold run = subst (Holds a m b n) (sym run) hold
   runs w (e ∷ events) v hold (mid, first, later) = runs mid events v (goes w e.0 e.1 mid hold first) later
 
 -- ---- the CER that was taken comes again
@@ -260,8 +266,8 @@ again_is c taken ids apps open_now role is =
     ∙ ap (λ (t : Option PlainTaken). repeated c taken.bytes t) is
     ∙ ap (λ (t : Bool). cond t (says_again c taken) (nothing c)) (bytes_self taken.bytes)
 
-repeats : (b : PlainConfig) (e : End) → IsEnd Responder b e → e.core.state ≡ Open → Took b e → RepeatsAnswer e
-repeats b e is_end open_now t = record {
+repeats : (b : PlainConfig) (n : Manner) (e : End) → IsEnd Responder b n e → e.core.state ≡ Open → Took b e → RepeatsAnswer e
+repeats b n e is_end open_now t = record {
   taken = t.taken;
   is_taken = t.is_taken;
   answer = t.answer;
@@ -283,18 +289,23 @@ repeats b e is_end open_now t = record {
 
 -- ---- the law
 
-shared : (a b : PlainConfig) (pairs : List Pair) → IsShared a b pairs → AreShared a b pairs
-shared a b pairs s p = (
-  λ m. (let k = (s p).0 (to_in pairs p m) in (of_in (map pair_of a.apps) p k.0, of_in (map pair_of b.apps) p k.1)),
-  λ h. of_in pairs p ((s p).1 (to_in (map pair_of a.apps) p h.0, to_in (map pair_of b.apps) p h.1)),
-)
+shared : (manner : Manner) (a b : PlainConfig) (pairs : List Pair) → IsShared manner a b pairs → AreShared manner a b pairs
+shared manner a b pairs s p = ((λ m. (s p).0 (to_in pairs p m)), (λ h. of_in pairs p ((s p).1 h)))
 
-pub agrees : (a b : PlainConfig) (events : List (Role × Event)) (w : World) → IsConfig a → IsConfig b → Run (start a b) events w → Agrees a b w
-agrees a b events w ac bc run =
-    let h = runs a b ac.apps.numbers bc.apps.numbers (start a b) events w (begins a b ac.apps.numbers bc.apps.numbers) run in
+hold_same : (a : PlainConfig) (m : Manner) (b : PlainConfig) (n : Manner) (w : World) → HoldsShared m a b w.initiator.core → HoldsShared n a b w.responder.core → HoldSame m n w
+hold_same a m b n w ours theirs i_open r_open same p =
+    let x = (ours i_open).0 in let y = subst (λ (k : Manner). AreShared k a b w.responder.core.common) (sym same) (theirs r_open).0 in
+    ((λ k. (y p).1 ((x p).0 k)), (λ k. (x p).1 ((y p).0 k)))
+
+pub agrees : (a b : PlainConfig) (m n : Manner) (events : List (Role × Event)) (w : World) → IsConfig a → IsConfig b → Run (start a m b n) events w → Agrees a m b n w
+agrees a b m n events w ac bc run =
+    let h = runs a m b n ac.apps.numbers bc.apps.numbers (start a m b n) events w (begins a m b n ac.apps.numbers bc.apps.numbers) run in
+    let ours : HoldsShared m a b w.initiator.core = λ e. (shared m a b w.initiator.core.common (h.i_open e).0, (h.i_open e).1) in
+    let theirs : HoldsShared n a b w.responder.core = λ e. (shared n a b w.responder.core.common (h.r_open e).0, (h.r_open e).1) in
     record {
-      initiator = λ e. (shared a b w.initiator.core.common (h.i_open e).0, (h.i_open e).1);
-      responder = λ e. (shared a b w.responder.core.common (h.r_open e).0, (h.r_open e).1);
+      initiator = ours;
+      responder = theirs;
+      same = hold_same a m b n w ours theirs;
       follows = λ e. (h.i_open e).2;
-      repeats = λ e. repeats b w.responder h.r e (h.r_open e).2;
+      repeats = λ e. repeats b n w.responder h.r e (h.r_open e).2;
     }

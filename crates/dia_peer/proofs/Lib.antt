@@ -1,5 +1,7 @@
 pub mod WorkedConnections
 pub mod Sets
+pub mod Commons
+pub mod Orders
 pub mod SpelledMessages
 pub mod Advertised
 pub mod Moves

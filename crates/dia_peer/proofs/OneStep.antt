@@ -17,10 +17,9 @@ use Rattle.dia_peer.specs.declared.event.Event.TheVariants as event
 use Rattle.dia_peer.specs.declared.event.Output.{Output}
 use Rattle.dia_peer.specs.declared.event.Output.TheVariants as output
 use Rattle.dia_peer.specs.declared.event.State.{State}
-use Rattle.dia_peer.specs.declared.event.State.TheVariants.{WaitCea, WaitCer}
 use Rattle.dia_peer.specs.declared.event.Why.{Why}
 use Rattle.dia_peer.specs.declared.event.Why.TheVariants as why
-use Rattle.dia_peer.specs.Core.{PlainConfig, PlainCore, Pair, pair_of, same_pair, sorted_pairs, common_of}
+use Rattle.dia_peer.specs.Core.{PlainCore, Pair}
 use Rattle.dia_peer.specs.Messages.{
   Received,
   Unreadable,
@@ -43,7 +42,8 @@ use Rattle.dia_peer.specs.Messages.{
 use Rattle.dia_peer.specs.Table.{Happening, Gets, Deed, Sends, Closes, Outcome, nothing, closes, same_ids, opens, accepts, happens_in, happens}
 use Rattle.dia_peer.specs.Machine.{IsHappening, IsOutput, AreOutputs, IsStep}
 use Rattle.dia_peer.specs.Outputs.{SentBytes, ClosedFor, plain_output, SendsBytes}
-use Rattle.dia_peer.proofs.Sets.{to_in, of_in, any_in, in_any, eq_same}
+use Rattle.dia_peer.proofs.Sets.{eq_same}
+use Rattle.dia_peer.proofs.Orders.{one_list}
 use Rattle.dia_peer.proofs.SpelledMessages.{one_message, has_length, one_writing}
 use Rattle.dia_peer.proofs.Delivered.{code_at}
 use Rattle.dia_peer.proofs.OneResult.{one_result}
@@ -57,31 +57,13 @@ both_true false false f g = refl
 
 -- ---- lists of the same applications
 
-abbrev Alike : List Pair → List Pair → Type 0
-Alike apps others = (p : Pair) → Contains apps p ↔ Contains others p
-
-alike : (avps : List PlainAvp) (apps others : List Pair) → AreAdvertised avps apps → AreAdvertised avps others → Alike apps others
-alike avps apps others f g p = ((λ m. (g p).1 ((f p).0 m)), (λ m. (f p).1 ((g p).0 m)))
-
-any_same : (p : Pair) (apps others : List Pair) → (Contains apps p ↔ Contains others p) → list_any (same_pair p) apps ≡ list_any (same_pair p) others
-any_same p apps others h =
-    both_true (list_any (same_pair p) apps) (list_any (same_pair p) others) (λ e. in_any p others (to_in others p (h.0 (of_in apps p (any_in p apps e)))))
-    (λ e. in_any p apps (to_in apps p (h.1 (of_in others p (any_in p others e)))))
-
-common_same : (c : PlainConfig) (apps others : List Pair) → Alike apps others → common_of c apps ≡ common_of c others
-common_same c apps others same = λ i. filter (λ (p : Pair). any_same p apps others (same p) i) (sorted_pairs (map pair_of c.apps))
-
-cer_same : (c : PlainCore) (state : State) (ids : Ids) (b : List ℕ) (apps others : List Pair) → Alike apps others
+cer_same : (c : PlainCore) (state : State) (ids : Ids) (b : List ℕ) (apps others : List Pair) → apps ≡ others
     → happens_in state c (Gets (Cer ids b apps)) ≡ happens_in state c (Gets (Cer ids b others))
-cer_same c WaitCer ids b apps others same = ap (λ (common : List Pair). accepts c ids b common) (common_same c.config apps others same)
-cer_same c state ids b apps others same = refl
+cer_same c state ids b apps others same = ap (λ (x : List Pair). happens_in state c (Gets (Cer ids b x))) same
 
-cea_same : (c : PlainCore) (state : State) (ids : Ids) (n m : ℕ) (apps others : List Pair) → n ≡ m → Alike apps others
+cea_same : (c : PlainCore) (state : State) (ids : Ids) (n m : ℕ) (apps others : List Pair) → n ≡ m → apps ≡ others
     → happens_in state c (Gets (Cea ids n apps)) ≡ happens_in state c (Gets (Cea ids m others))
-cea_same c WaitCea ids n m apps others result same =
-    let common = common_same c.config apps others same in
-    λ i. cond (same_ids ids c.last_cer) (cond (result i == 2001) (opens c (common i)) (cond (result i == 5010) (closes c [] why.NoCommon) (closes c [] why.Refused))) (nothing c)
-cea_same c state ids n m apps others result same = refl
+cea_same c state ids n m apps others result same = λ i. happens_in state c (Gets (Cea ids (result i) (same i)))
 
 -- ---- what a valid message is to a core
 
@@ -96,7 +78,7 @@ told b false false true false ids result apps = Dpr ids
 told b false false false true ids result apps = Dwa ids
 told b false false false false ids result apps = Dpa ids
 
-told_same : (c : PlainCore) (b : List ℕ) (error capabilities request watchdog : Bool) (ids : Ids) (n m : ℕ) (apps others : List Pair) → (error ≡ false → capabilities ≡ true → Alike apps others)
+told_same : (c : PlainCore) (b : List ℕ) (error capabilities request watchdog : Bool) (ids : Ids) (n m : ℕ) (apps others : List Pair) → (error ≡ false → capabilities ≡ true → apps ≡ others)
     → (error ≡ false → capabilities ≡ true → request ≡ false → n ≡ m)
     → happens c (Gets (told b error capabilities request watchdog ids n apps)) ≡ happens c (Gets (told b error capabilities request watchdog ids m others))
 told_same c b true true request watchdog ids n m apps others lists results = refl
@@ -149,8 +131,8 @@ reading_same c b what again r s =
     let moved : happens c (Gets (told b r.error (r.code == 257) r.request (r.code == 280) r.ids r.result r.apps))
     ≡ happens c (Gets (told b s.error (s.code == 257) s.request (s.code == 280) s.ids r.result r.apps)) =
     λ i. happens c (Gets (told b (error i) (code i == 257) (request i) (code i == 280) (ids i) r.result r.apps)) in
-    let lists : s.error ≡ false → (s.code == 257) ≡ true → Alike r.apps s.apps =
-    λ e t. alike s.avps r.apps s.apps (subst (λ (vs : List PlainAvp). AreAdvertised vs r.apps) one.1 (r.advertised (error ∙ e) (is_code ∙ t))) (s.advertised e t) in
+    let lists : s.error ≡ false → (s.code == 257) ≡ true → r.apps ≡ s.apps =
+    λ e t. one_list s.avps r.apps s.apps (subst (λ (vs : List PlainAvp). AreAdvertised vs r.apps) one.1 (r.advertised (error ∙ e) (is_code ∙ t))) (s.advertised e t) in
     let results : s.error ≡ false → (s.code == 257) ≡ true → s.request ≡ false → r.result ≡ s.result =
     λ e t q. one_result b s.code s.request s.error s.ids s.avps r.result s.result k (eq_same s.code 257 t) q e
     (subst (λ (vs : List PlainAvp). HasResult vs r.result) one.1 (r.resulted (error ∙ e) (is_code ∙ t) (request ∙ q))) (s.resulted e t q) in

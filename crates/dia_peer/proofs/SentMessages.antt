@@ -32,18 +32,20 @@ either : (c : PlainCore) (b : Bool) (x y : Outcome) → SendsOurs c x → SendsO
 either c true x y h k = h
 either c false x y h k = k
 
-by_opens : (c : PlainCore) (apps : List Pair) → SendsOurs c (opens c apps)
-by_opens c [] = tt
-by_opens c (p ∷ ps) = tt
+by_opens : (c : PlainCore) (found : Option (List Pair)) → SendsOurs c (opens c found)
+by_opens c None = tt
+by_opens c (Some []) = tt
+by_opens c (Some (p ∷ ps)) = tt
 
 by_answered : (c : PlainCore) (result : ℕ) (apps : List Pair) → SendsOurs c (answered c result apps)
 by_answered c result apps =
-    either c (result == 2001) (opens c (common_of c.config apps)) (cond (result == 5010) (closes c [] why.NoCommon) (closes c [] why.Refused)) (by_opens c (common_of c.config apps))
+    either c (result == 2001) (opens c (common_of c.manner c.config apps)) (cond (result == 5010) (closes c [] why.NoCommon) (closes c [] why.Refused)) (by_opens c (common_of c.manner c.config apps))
     (either c (result == 5010) (closes c [] why.NoCommon) (closes c [] why.Refused) tt tt)
 
-by_accepts : (c : PlainCore) (ids : Ids) (bytes : List ℕ) (apps : List Pair) → SendsOurs c (accepts c ids bytes apps)
-by_accepts c ids bytes [] = (is_cea ids 5010, tt)
-by_accepts c ids bytes (p ∷ ps) = (is_cea ids 2001, tt)
+by_accepts : (c : PlainCore) (ids : Ids) (bytes : List ℕ) (found : Option (List Pair)) → SendsOurs c (accepts c ids bytes found)
+by_accepts c ids bytes None = tt
+by_accepts c ids bytes (Some []) = (is_cea ids 5010, tt)
+by_accepts c ids bytes (Some (p ∷ ps)) = (is_cea ids 2001, tt)
 
 by_repeated : (c : PlainCore) (bytes : List ℕ) (taken : Option PlainTaken) → SendsOurs c (repeated c bytes taken)
 by_repeated c bytes None = tt
@@ -67,7 +69,7 @@ in_state : (s : State) (c : PlainCore) (h : Happening) → SendsOurs c (happens_
 in_state Idle c Starts = by_start c c.role
 in_state WaitCea c (Gets (Cea ids result apps)) = either c (same_ids ids c.last_cer) (answered c result apps) (nothing c) (by_answered c result apps) tt
 in_state WaitCea c (Gets (Refusal ids)) = either c (same_ids ids c.last_cer) (closes c [] why.Refused) (nothing c) tt tt
-in_state WaitCer c (Gets (Cer ids bytes apps)) = by_accepts c ids bytes (common_of c.config apps)
+in_state WaitCer c (Gets (Cer ids bytes apps)) = by_accepts c ids bytes (common_of c.manner c.config apps)
 in_state Open c (Gets (Cer ids bytes apps)) = by_role c c.role (repeated c bytes c.taken) (by_repeated c bytes c.taken)
 in_state Open c (Gets (Dwr ids)) = (is_dwa ids, tt)
 in_state Open c (Gets (Dwa ids)) = either c (same_ids ids c.last_dwr) (record { core = record c { waits = false }; deeds = [] }) (nothing c) tt tt

@@ -4,7 +4,7 @@ use Rattle.std.specs.List.{filter_map, fold, list_any, cons_option}
 use Rattle.std.proofs.lemmas.Bool.{or_left, or_right}
 use Rattle.dia_peer.specs.declared.config.Kind.{Kind}
 use Rattle.dia_peer.specs.declared.config.Kind.TheVariants.{Auth, Acct}
-use Rattle.dia_peer.specs.Core.{PlainConfig, Pair, pair_of, comes_before, same_kind, same_pair, insert_pair, sorted_pairs, common_of}
+use Rattle.dia_peer.specs.Core.{Pair, comes_before, same_kind, same_pair, insert_pair, sorted_pairs}
 
 abbrev pub IsIn : {X : Type 0} → List X → X → Type 0
 IsIn [] x = ⊥
@@ -164,12 +164,11 @@ in_any p [] m = absurd m
 in_any p (q ∷ qs) (inl e) = or_left (same_pair p q) (list_any (same_pair p) qs) (ap (same_pair p) e ∙ same_self p)
 in_any p (q ∷ qs) (inr m) = or_right (same_pair p q) (list_any (same_pair p) qs) (in_any p qs m)
 
--- the common applications are those of the configuration that are among these
-pub in_common : (c : PlainConfig) (theirs : List Pair) (p : Pair) → IsIn (common_of c theirs) p → IsIn (map pair_of c.apps) p × IsIn theirs p
-in_common c theirs p m =
-    let k = in_filter (λ q. list_any (same_pair q) theirs) (sorted_pairs (map pair_of c.apps)) p m in
-    (in_sorted (map pair_of c.apps) p k.0, any_in p theirs k.1)
+-- the applications of one list that are also in another
+pub in_both : (ours theirs : List Pair) (p : Pair) → IsIn (filter (λ q. list_any (same_pair q) theirs) (sorted_pairs ours)) p → IsIn ours p × IsIn theirs p
+in_both ours theirs p m =
+    let k = in_filter (λ q. list_any (same_pair q) theirs) (sorted_pairs ours) p m in
+    (in_sorted ours p k.0, any_in p theirs k.1)
 
-pub into_common : (c : PlainConfig) (theirs : List Pair) (p : Pair) → IsIn (map pair_of c.apps) p → IsIn theirs p → IsIn (common_of c theirs) p
-into_common c theirs p m k =
-    into_filter (λ q. list_any (same_pair q) theirs) (sorted_pairs (map pair_of c.apps)) p (into_sorted (map pair_of c.apps) p m) (in_any p theirs k)
+pub into_both : (ours theirs : List Pair) (p : Pair) → IsIn ours p → IsIn theirs p → IsIn (filter (λ q. list_any (same_pair q) theirs) (sorted_pairs ours)) p
+into_both ours theirs p m k = into_filter (λ q. list_any (same_pair q) theirs) (sorted_pairs ours) p (into_sorted ours p m) (in_any p theirs k)

@@ -10,7 +10,7 @@ use Rattle.dia_wire.specs.Wire.{PlainAvp, key_of}
 use Rattle.dia_peer.specs.declared.config.Kind.{Kind}
 use Rattle.dia_peer.specs.declared.config.Kind.TheVariants.{Auth, Acct}
 use Rattle.dia_peer.specs.declared.named_apps.NamedApps.{NamedApps}
-use Rattle.dia_peer.specs.Core.{Pair, pair}
+use Rattle.dia_peer.specs.Core.{Pair, pair, are_in_order}
 use Rattle.dia_peer.specs.Messages.{NamesPair, Advertises, AreAdvertised, HasResult}
 use Rattle.dia_peer.specs.Incoming.{kind_of, named_by, NamesApplication, Tells, SaidBy, IsResult, is_vendor_specific, Has, pairs_named}
 use Rattle.dia_peer.proofs.Sets.{IsIn, to_in, of_in, same_fields}
@@ -67,10 +67,13 @@ into_tells avps p (inr (v, inner, m, key, all, names)) =
     into_said Tells avps p v (to_in avps v m) (inr (subst (λ (k : Key). IsTrue (is_vendor_specific k)) (sym key) refl, (inner, all, into_named inner p names)))
 
 -- the list of what was found is what the AVPs advertise
-pub advertised : (n : NamedApps) (avps : List PlainAvp) → ((p : Pair) → Has n p ↔ SaidBy Tells avps p) → AreAdvertised avps (pairs_named n)
-advertised n avps has p = (
-  λ m. advertises avps p ((has p).0 (of_in _ p.id (from_listed n.auth.keys n.acct.keys p (to_in (pairs_named n) p m)))),
-  λ a. of_in (pairs_named n) p (into_listed n.auth.keys n.acct.keys p (to_in _ p.id ((has p).1 (into_tells avps p a)))),
+pub advertised : (n : NamedApps) (avps : List PlainAvp) → ((p : Pair) → Has n p ↔ SaidBy Tells avps p) → IsTrue (are_in_order (pairs_named n)) → AreAdvertised avps (pairs_named n)
+advertised n avps has ordered = (
+  λ p. (
+    λ m. advertises avps p ((has p).0 (of_in _ p.id (from_listed n.auth.keys n.acct.keys p (to_in (pairs_named n) p m)))),
+    λ a. of_in (pairs_named n) p (into_listed n.auth.keys n.acct.keys p (to_in _ p.id ((has p).1 (into_tells avps p a)))),
+  ),
+  ordered,
 )
 
 pub has_result : (avps : List PlainAvp) (n : ℕ) → SaidBy IsResult avps n → HasResult avps n

@@ -9,7 +9,7 @@ use Rattle.dia_peer.specs.declared.event.State.TheVariants.{Open}
 use Rattle.dia_peer.specs.declared.config.Kind.TheVariants.{Auth, Acct}
 use Rattle.dia_peer.specs.declared.config.Ip.TheVariants.{V4}
 use Rattle.dia_peer.specs.declared.event.Why.TheVariants as why
-use Rattle.dia_peer.specs.Core.{PlainConfig, Pair, PlainCore, Sent}
+use Rattle.dia_peer.specs.Core.{PlainConfig, Pair, PlainCore, Sent, plain}
 use Rattle.dia_peer.specs.Messages.{cer, cea, dwr, Cer, Cea}
 use Rattle.dia_peer.specs.Table.{happens, Starts, Gets, Ticks, Sends, Closes, Outcome}
 use Rattle.dia_peer.specs.World.{idle}
@@ -74,10 +74,10 @@ abbrev acct : ℕ → Pair
 acct n = record { kind = Acct; id = n }
 
 abbrev waiting : PlainCore
-waiting = (happens (idle a Initiator) Starts).core
+waiting = (happens (idle a Initiator plain) Starts).core
 
 abbrev listening : PlainCore
-listening = (happens (idle b Responder) Starts).core
+listening = (happens (idle b Responder plain) Starts).core
 
 -- the CER opens the responder, with the one application that both have; a second one changes nothing, and gets the same answer
 abbrev opened : Outcome

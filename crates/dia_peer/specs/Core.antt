@@ -1,6 +1,6 @@
 -- What one end of a connection keeps.
-use Rattle.std.specs.Prelude.{◌≡◌, ℕ, ◌<◌, ◌≤◌, ◌&&◌, nat_lt, ◌==◌, Bool, true, false, if◌then◌else◌, List, [], ◌∷◌, length, map, filter, Option, Some, slice_get, string_bytes, All}
-use Rattle.std.specs.List.{list_any, fold, AllByRecursion}
+use Rattle.std.specs.Prelude.{◌≡◌, ℕ, ◌^◌, ◌<◌, ◌≤◌, ◌⊎◌, ◌&&◌, ◌||◌, nat_lt, ◌==◌, Bool, true, false, IsTrue, if◌then◌else◌, List, [], ◌∷◌, length, map, filter, Option, Some, None, slice_get, string_bytes, All}
+use Rattle.std.specs.List.{list_any, list_all, fold, AllByRecursion}
 use Rattle.dia_data.specs.Leaf.{IsGraphic}
 use Rattle.dia_wire.specs.declared.Header.{Header}
 use Rattle.dia_wire.specs.Wire.{PlainAvp}
@@ -11,6 +11,7 @@ use Rattle.dia_peer.specs.declared.config.Kind.TheVariants.{Auth, Acct}
 use Rattle.dia_peer.specs.declared.config.App.{App}
 use Rattle.dia_peer.specs.declared.config.Ip.{Ip}
 use Rattle.dia_peer.specs.declared.config.Config.{Config}
+use Rattle.dia_peer.specs.declared.config.Manner.{Manner}
 use Rattle.dia_peer.specs.declared.event.State.{State}
 use Rattle.dia_peer.specs.declared.kept_requests.Ids.{Ids}
 use Rattle.dia_peer.specs.declared.kept_requests.Taken.{Taken}
@@ -70,8 +71,8 @@ AreDistinct apps = (i j : ℕ) (a b : App) → slice_get apps i ≡ Some a → s
 pub record AreApps (apps : List App) : Type 0 where
   pub some : 0 < length apps
   pub few : length apps ≤ APP_LIMIT
-  -- four bytes (RFC 6733 section 3), and not that of relays
-  pub numbers : AllByRecursion (λ a. a.id < RELAY) apps
+  -- four bytes (RFC 6733 section 3)
+  pub numbers : AllByRecursion (λ a. a.id < 2 ^ 32) apps
   pub distinct : AreDistinct apps
 
 -- as many bytes as the family wants
@@ -79,13 +80,27 @@ abbrev pub IsIp : Ip → Type 0
 IsIp (V4 bytes) = length bytes ≡ 4
 IsIp (V6 bytes) = length bytes ≡ 16
 
--- a configuration that is accepted
+-- what is asked of every configuration
 pub record IsConfig (c : PlainConfig) : Type 0 where
   pub host : IsIdentity c.host
   pub realm : IsIdentity c.realm
   pub product : IsUtf8 c.product × (length c.product ≤ NAME_LIMIT)
   pub addresses : (0 < length c.addresses) × (length c.addresses ≤ ADDRESS_LIMIT) × AllByRecursion IsIp c.addresses
   pub apps : AreApps c.apps
+
+-- ---- manners
+
+-- no manner beyond those of two nodes that talk to each other
+abbrev pub plain : Manner
+plain = record { relays = false }
+
+-- the application of relays (RFC 6733 section 2.4) is for those of that manner
+abbrev pub MayHold : Manner → List App → Type 0
+MayHold manner apps = IsTrue manner.relays ⊎ AllByRecursion (λ a. a.id < RELAY) apps
+
+-- a configuration that a core of this manner accepts
+abbrev pub IsAccepted : Manner → PlainConfig → Type 0
+IsAccepted manner c = IsConfig c × MayHold manner c.apps
 
 -- ---- sets of applications, Auth first and then by number
 
@@ -107,9 +122,43 @@ insert_pair p (q ∷ qs) = if comes_before p q then p ∷ q ∷ qs else q ∷ in
 abbrev pub sorted_pairs : List Pair → List Pair
 sorted_pairs ps = fold (λ sorted p. insert_pair p sorted) [] ps
 
--- the applications of a configuration that are also among these
-abbrev pub common_of : PlainConfig → List Pair → List Pair
-common_of c theirs = filter (λ p. list_any (same_pair p) theirs) (sorted_pairs (map pair_of c.apps))
+-- each once, Auth first and then by number
+abbrev pub are_in_order : List Pair → Bool
+are_in_order [] = true
+are_in_order (p ∷ ps) = list_all (comes_before p) ps && are_in_order ps
+
+-- ---- common applications (RFC 6733 sections 2.4 and 5.3)
+
+-- all applications, as an end that relays advertises them
+abbrev pub all : List Pair
+all = pair Auth RELAY ∷ []
+
+-- the number of relays is among these
+abbrev pub is_relay : List Pair → Bool
+is_relay ps = list_any (λ p. p.id == RELAY) ps
+
+-- whether these are to be read as those of a relay
+abbrev pub relays : Manner → List Pair → Bool
+relays manner ps = manner.relays && is_relay ps
+
+-- of a relay: the applications of the other end, up to as many as a configuration may have
+abbrev pub all_of : List Pair → Option (List Pair)
+all_of theirs = if nat_lt APP_LIMIT (length theirs) then None else Some theirs
+
+-- our applications and theirs, by whether ours are a relay's and whether theirs are
+abbrev pub common_by : Bool → Bool → List Pair → List Pair → Option (List Pair)
+common_by true true ours theirs = Some all
+common_by true false ours theirs = all_of theirs
+common_by false true ours theirs = Some (sorted_pairs ours)
+common_by false false ours theirs = Some (filter (λ p. list_any (same_pair p) theirs) (sorted_pairs ours))
+
+-- the applications that a configuration has in common with these. None: more than an end may hold
+abbrev pub common_of : Manner → PlainConfig → List Pair → Option (List Pair)
+common_of manner c theirs = common_by (relays manner (map pair_of c.apps)) (relays manner theirs) (map pair_of c.apps) theirs
+
+-- messages of the application are for this connection: each connection has the base protocol
+abbrev pub Serves : List Pair → ℕ → Type 0
+Serves common n = (n ≡ 0) ⊎ IsTrue (list_any (λ p. (p.id == RELAY) || (p.id == n)) common)
 
 -- ---- a core
 
@@ -128,6 +177,7 @@ taken_of t = record { bytes = t.bytes.items; ids = t.ids }
 pub record PlainCore : Type 0 where
   pub config : PlainConfig
   pub role : Role
+  pub manner : Manner
   pub state : State
   pub common : List Pair
   pub next : Ids

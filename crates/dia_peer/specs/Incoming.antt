@@ -1,6 +1,7 @@
 -- What the types that hold a message's reading mean.
 use Rattle.std.specs.Prelude.{◌≡◌, ℕ, ◌⊎◌, ◌==◌, ◌&&◌, Bool, if◌then◌else◌, List, [], ◌∷◌, ◌++◌, length, map, Option, Some, None, IsSome, IsTrue, Contains}
 use Rattle.std.specs.List.{AllByRecursion}
+use Rattle.std.specs.Global.{Vec}
 use Rattle.std.specs.Option.{option_map}
 use Rattle.dia_wire.specs.declared.Key.{Key}
 use Rattle.dia_wire.specs.Number.{number}
@@ -11,7 +12,7 @@ use Rattle.dia_peer.specs.declared.config.Kind.TheVariants.{Auth, Acct}
 use Rattle.dia_peer.specs.declared.named_apps.NamedApps.{NamedApps}
 use Rattle.dia_peer.specs.declared.incoming.Incoming.{Incoming}
 use Rattle.dia_peer.specs.declared.incoming.Incoming.TheVariants as incoming
-use Rattle.dia_peer.specs.Core.{Pair}
+use Rattle.dia_peer.specs.Core.{Pair, pairs_of}
 use Rattle.dia_peer.specs.Messages.{Received, Unreadable, Foreign, Invalid, Cer, Dwr, Dpr, Cea, Refusal, Dwa, Dpa, Other}
 
 abbrev pub pick : {X : Type 0} → X → X → Kind → X
@@ -24,6 +25,9 @@ numbers_of n kind = pick n.auth.keys n.acct.keys kind
 
 abbrev pub Has : NamedApps → Pair → Type 0
 Has n p = Contains (numbers_of n p.kind) p.id
+
+abbrev pub plain_pairs : Vec (Kind × ℕ) → List Pair
+plain_pairs pairs = pairs_of pairs.items
 
 abbrev pub pairs_named : NamedApps → List Pair
 pairs_named n = map (λ id. record { kind = Auth; id = id }) n.auth.keys ++ map (λ id. record { kind = Acct; id = id }) n.acct.keys

@@ -6,13 +6,14 @@ use Rattle.dia_check.specs.declared.Unknown.TheVariants.{Kept}
 use Rattle.dia_check.specs.declared.Levels.TheVariants.{Any}
 use Rattle.dia_valid.specs.Valid.{IsValid}
 use Rattle.dia_peer.specs.declared.codes.TheConstants.{NAME_LIMIT, ADDRESS_LIMIT}
+use Rattle.dia_peer.specs.declared.config.Manner.{Manner}
 use Rattle.dia_peer.specs.declared.config.ConfigFault.{ConfigFault}
 use Rattle.dia_peer.specs.declared.config.ConfigFault.TheVariants as fault
 use Rattle.dia_peer.specs.declared.event.Event.{Event}
 use Rattle.dia_peer.specs.declared.event.Event.TheVariants as event
 use Rattle.dia_peer.specs.declared.event.Output.{Output}
 use Rattle.dia_peer.specs.declared.event.Output.TheVariants as output
-use Rattle.dia_peer.specs.Core.{PlainConfig, PlainCore, IsConfig, IsIdentity, AreApps}
+use Rattle.dia_peer.specs.Core.{PlainConfig, PlainCore, IsIdentity, AreApps, MayHold, IsAccepted}
 use Rattle.dia_peer.specs.Messages.{Received, IsReceived}
 use Rattle.dia_peer.specs.Table.{Happening, Starts, Gets, Ticks, Stops, Breaks, Deed, Sends, Closes, Outcome, happens}
 
@@ -46,12 +47,12 @@ IsSound (output.Close why) = ⊤
 abbrev pub IsStep : PlainCore → Event → List Output → PlainCore → Type 0
 IsStep old e outputs new = (h : Happening) × IsHappening e h × (new ≡ (happens old h).core) × AreOutputs (happens old h).deeds outputs
 
--- the first thing that is wrong with a configuration
-abbrev pub IsRefusedAs : PlainConfig → ConfigFault → Type 0
-IsRefusedAs c fault.Host = ¬ IsIdentity c.host
-IsRefusedAs c fault.Realm = IsIdentity c.host × ¬ IsIdentity c.realm
-IsRefusedAs c fault.Product = IsIdentity c.host × IsIdentity c.realm × (NAME_LIMIT < length c.product)
-IsRefusedAs c fault.Address = IsIdentity c.host × IsIdentity c.realm × (length c.product ≤ NAME_LIMIT) × ((c.addresses ≡ []) ⊎ (ADDRESS_LIMIT < length c.addresses))
-IsRefusedAs c fault.Application = IsIdentity c.host × IsIdentity c.realm × (length c.product ≤ NAME_LIMIT) × (0 < length c.addresses) × (length c.addresses ≤ ADDRESS_LIMIT) × (¬ AreApps c.apps)
+-- the first thing that is wrong with a configuration for a core of this manner
+abbrev pub IsRefusedAs : Manner → PlainConfig → ConfigFault → Type 0
+IsRefusedAs manner c fault.Host = ¬ IsIdentity c.host
+IsRefusedAs manner c fault.Realm = IsIdentity c.host × ¬ IsIdentity c.realm
+IsRefusedAs manner c fault.Product = IsIdentity c.host × IsIdentity c.realm × (NAME_LIMIT < length c.product)
+IsRefusedAs manner c fault.Address = IsIdentity c.host × IsIdentity c.realm × (length c.product ≤ NAME_LIMIT) × ((c.addresses ≡ []) ⊎ (ADDRESS_LIMIT < length c.addresses))
+IsRefusedAs manner c fault.Application = IsIdentity c.host × IsIdentity c.realm × (length c.product ≤ NAME_LIMIT) × (0 < length c.addresses) × (length c.addresses ≤ ADDRESS_LIMIT) × (¬ (AreApps c.apps × MayHold manner c.apps))
 -- memory is taken where nothing else is wrong
-IsRefusedAs c fault.NoMemory = IsConfig c
+IsRefusedAs manner c fault.NoMemory = IsAccepted manner c

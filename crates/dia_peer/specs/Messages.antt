@@ -38,7 +38,7 @@ use Rattle.dia_peer.specs.declared.config.Ip.TheVariants.{V4, V6}
 use Rattle.dia_peer.specs.declared.event.Cause.{Cause}
 use Rattle.dia_peer.specs.declared.event.Cause.TheVariants.{Rebooting, Busy, DoNotWant}
 use Rattle.dia_peer.specs.declared.kept_requests.Ids.{Ids}
-use Rattle.dia_peer.specs.Core.{PlainConfig, Pair, Sent}
+use Rattle.dia_peer.specs.Core.{PlainConfig, Pair, Sent, are_in_order}
 
 -- an AVP of this project's messages
 abbrev pub avp : ℕ → ℕ → List ℕ → PlainAvp
@@ -136,8 +136,9 @@ NamesPair avps p = (v : PlainAvp) × Contains avps v × (number v.bytes ≡ p.id
 abbrev pub Advertises : List PlainAvp → Pair → Type 0
 Advertises avps p = NamesPair avps p ⊎ ((v : PlainAvp) × (inner : List PlainAvp) × Contains avps v × (key_of v ≡ record { code = VENDOR_SPECIFIC_APPLICATION_ID; vendor = 0 }) × SpellsAll inner v.bytes × NamesPair inner p)
 
+-- exactly these, each once and in order
 abbrev pub AreAdvertised : List PlainAvp → List Pair → Type 0
-AreAdvertised avps pairs = (p : Pair) → Contains pairs p ↔ Advertises avps p
+AreAdvertised avps pairs = ((p : Pair) → Contains pairs p ↔ Advertises avps p) × IsTrue (are_in_order pairs)
 
 abbrev pub HasResult : List PlainAvp → ℕ → Type 0
 HasResult avps n = (v : PlainAvp) × Contains avps v × (key_of v ≡ record { code = RESULT_CODE; vendor = 0 }) × (number v.bytes ≡ n)

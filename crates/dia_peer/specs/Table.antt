@@ -52,18 +52,20 @@ abbrev pub starts : PlainCore → Role → Outcome
 starts c Initiator = record { core = record c { state = WaitCea; next = after c.next; last_cer = Some c.next }; deeds = Sends (cer c.config c.next) ∷ [] }
 starts c Responder = record { core = record c { state = WaitCer }; deeds = [] }
 
--- the answer to the CER opens, where there are common applications
-abbrev pub opens : PlainCore → List Pair → Outcome
-opens c [] = closes c [] why.NoCommon
-opens c (p ∷ ps) = record { core = record c { state = Open; common = p ∷ ps }; deeds = [] }
+-- the answer to the CER opens, where there are common applications, and no more than an end may hold
+abbrev pub opens : PlainCore → Option (List Pair) → Outcome
+opens c None = closes c [] why.Invalid
+opens c (Some []) = closes c [] why.NoCommon
+opens c (Some (p ∷ ps)) = record { core = record c { state = Open; common = p ∷ ps }; deeds = [] }
 
 abbrev pub answered : PlainCore → ℕ → List Pair → Outcome
-answered c result apps = if result == SUCCESS then opens c (common_of c.config apps) else (if result == NO_COMMON_APPLICATION then closes c [] why.NoCommon else closes c [] why.Refused)
+answered c result apps = if result == SUCCESS then opens c (common_of c.manner c.config apps) else (if result == NO_COMMON_APPLICATION then closes c [] why.NoCommon else closes c [] why.Refused)
 
 -- a CER gets a CEA, and opens where there are common applications
-abbrev pub accepts : PlainCore → Ids → List ℕ → List Pair → Outcome
-accepts c ids bytes [] = closes c (Sends (cea c.config ids NO_COMMON_APPLICATION) ∷ []) why.NoCommon
-accepts c ids bytes (p ∷ ps) = record {
+abbrev pub accepts : PlainCore → Ids → List ℕ → Option (List Pair) → Outcome
+accepts c ids bytes None = closes c [] why.Invalid
+accepts c ids bytes (Some []) = closes c (Sends (cea c.config ids NO_COMMON_APPLICATION) ∷ []) why.NoCommon
+accepts c ids bytes (Some (p ∷ ps)) = record {
   core = record c { state = Open; common = p ∷ ps; taken = Some (record { bytes = bytes; ids = ids }) };
   deeds = Sends (cea c.config ids SUCCESS) ∷ [];
 }
@@ -99,7 +101,7 @@ happens_in WaitCea c (Gets (Cea ids result apps)) = if same_ids ids c.last_cer t
 happens_in WaitCea c (Gets (Refusal ids)) = if same_ids ids c.last_cer then closes c [] why.Refused else nothing c
 happens_in WaitCea c Ticks = closes c [] why.Timeout
 happens_in WaitCea c (Stops cause) = closes c [] why.Stopped
-happens_in WaitCer c (Gets (Cer ids bytes apps)) = accepts c ids bytes (common_of c.config apps)
+happens_in WaitCer c (Gets (Cer ids bytes apps)) = accepts c ids bytes (common_of c.manner c.config apps)
 happens_in WaitCer c Ticks = closes c [] why.Timeout
 happens_in WaitCer c (Stops cause) = closes c [] why.Stopped
 happens_in Open c (Gets (Cer ids bytes apps)) = only_responder c.role (repeated c bytes c.taken) (nothing c)

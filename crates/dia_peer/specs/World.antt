@@ -1,5 +1,5 @@
 -- Two ends that send messages to each other. What is delivered was sent: at any time, any number of times, or never.
-use Rattle.std.specs.Prelude.{◌≡◌, ℕ, ◌<◌, ◌⊎◌, ◌↔◌, List, [], ◌∷◌, ◌++◌, length, map, Some, None, Contains, slice_get, false}
+use Rattle.std.specs.Prelude.{◌≡◌, ℕ, ◌<◌, ◌⊎◌, ◌↔◌, Bool, List, [], ◌∷◌, ◌++◌, length, map, Some, None, Contains, slice_get, true, false}
 use Rattle.std.specs.List.{AllByRecursion}
 use Rattle.dia_wire.specs.Wire.{MessageWithZeros}
 use Rattle.dia_peer.specs.declared.config.Role.{Role}
@@ -7,15 +7,19 @@ use Rattle.dia_peer.specs.declared.config.Role.TheVariants.{Initiator, Responder
 use Rattle.dia_peer.specs.declared.event.State.{State}
 use Rattle.dia_peer.specs.declared.event.State.TheVariants.{Idle, Open, WaitDpa, Closed}
 use Rattle.dia_peer.specs.declared.event.Cause.{Cause}
-use Rattle.dia_peer.specs.Core.{PlainConfig, PlainCore, PlainTaken, Pair, pair_of}
+use Rattle.dia_peer.specs.declared.codes.TheConstants.{RELAY}
+use Rattle.dia_peer.specs.declared.config.Kind.TheVariants.{Auth}
+use Rattle.dia_peer.specs.declared.config.Manner.{Manner}
+use Rattle.dia_peer.specs.Core.{PlainConfig, PlainCore, PlainTaken, Pair, pair, pair_of, relays}
 use Rattle.dia_peer.specs.Messages.{Received, IsReceived}
 use Rattle.dia_peer.specs.Table.{Happening, Starts, Gets, Ticks, Stops, Breaks, Deed, Sends, Closes, happens}
 
 -- the core of a configuration before its first event
-abbrev pub idle : PlainConfig → Role → PlainCore
-idle config role = record {
+abbrev pub idle : PlainConfig → Role → Manner → PlainCore
+idle config role manner = record {
   config = config;
   role = role;
+  manner = manner;
   state = Idle;
   common = [];
   next = record { hop = config.hop; e2e = config.e2e };
@@ -74,19 +78,31 @@ abbrev pub Run : World → List (Role × Event) → World → Type 0
 Run w [] v = v ≡ w
 Run w (e ∷ es) v = (mid : World) × Happens w e.0 e.1 mid × Run mid es v
 
-abbrev pub start : PlainConfig → PlainConfig → World
-start a b = record { initiator = record { core = idle a Initiator; sent = [] }; responder = record { core = idle b Responder; sent = [] } }
+-- two ends, each of its configuration and manner
+abbrev pub start : PlainConfig → Manner → PlainConfig → Manner → World
+start a m b n = record { initiator = record { core = idle a Initiator m; sent = [] }; responder = record { core = idle b Responder n; sent = [] } }
 
--- the applications that both configurations hold
-abbrev pub AreShared : PlainConfig → PlainConfig → List Pair → Type 0
-AreShared a b pairs = (p : Pair) → Contains pairs p ↔ (Contains (map pair_of a.apps) p × Contains (map pair_of b.apps) p)
+-- an application that two lists have in common, by whether each is a relay's: a relay has all that the other has
+abbrev pub IsCommon : Bool → Bool → List Pair → List Pair → Pair → Type 0
+IsCommon true true xs ys p = p ≡ pair Auth RELAY
+IsCommon true false xs ys p = Contains ys p
+IsCommon false true xs ys p = Contains xs p
+IsCommon false false xs ys p = Contains xs p × Contains ys p
+
+-- the applications that two configurations have in common, as an end of this manner reads them
+abbrev pub AreShared : Manner → PlainConfig → PlainConfig → List Pair → Type 0
+AreShared manner a b pairs = (p : Pair) → Contains pairs p ↔ IsCommon (relays manner (map pair_of a.apps)) (relays manner (map pair_of b.apps)) (map pair_of a.apps) (map pair_of b.apps) p
 
 abbrev pub IsPastOpen : State → Type 0
 IsPastOpen state = (state ≡ Open) ⊎ (state ≡ WaitDpa) ⊎ (state ≡ Closed)
 
 -- an open end holds exactly the shared applications, and there is one
-abbrev pub HoldsShared : PlainConfig → PlainConfig → PlainCore → Type 0
-HoldsShared a b core = core.state ≡ Open → AreShared a b core.common × (0 < length core.common)
+abbrev pub HoldsShared : Manner → PlainConfig → PlainConfig → PlainCore → Type 0
+HoldsShared manner a b core = core.state ≡ Open → AreShared manner a b core.common × (0 < length core.common)
+
+-- two open ends of one manner hold the same
+abbrev pub HoldSame : Manner → Manner → World → Type 0
+HoldSame m n w = w.initiator.core.state ≡ Open → w.responder.core.state ≡ Open → m ≡ n → (p : Pair) → Contains w.initiator.core.common p ↔ Contains w.responder.core.common p
 
 -- the CER that opened the responder gets, when it comes again, the CEA that was sent, byte for byte, and changes nothing in the core
 pub record RepeatsAnswer (responder : End) : Type 0 where
@@ -96,8 +112,9 @@ pub record RepeatsAnswer (responder : End) : Type 0 where
   pub sent : Contains responder.sent answer
   pub again : (what : Received) (new : End) → IsReceived taken.bytes what → Goes responder (Gets what) new → new ≡ record { core = responder.core; sent = responder.sent ++ answer ∷ [] }
 
-pub record Agrees (a b : PlainConfig) (w : World) : Type 0 where
-  pub initiator : HoldsShared a b w.initiator.core
-  pub responder : HoldsShared a b w.responder.core
+pub record Agrees (a : PlainConfig) (m : Manner) (b : PlainConfig) (n : Manner) (w : World) : Type 0 where
+  pub initiator : HoldsShared m a b w.initiator.core
+  pub responder : HoldsShared n a b w.responder.core
+  pub same : HoldSame m n w
   pub follows : w.initiator.core.state ≡ Open → IsPastOpen w.responder.core.state
   pub repeats : w.responder.core.state ≡ Open → RepeatsAnswer w.responder

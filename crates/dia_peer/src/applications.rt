@@ -1,18 +1,25 @@
 //! The applications of a configuration, in order.
 
-ghost use Rattle.std.specs.Prelude.{◌≡◌, ◌<◌, ◌+◌, ◌↔◌, IsTrue, IfOk, IfSome, Some};
+ghost use Rattle.std.specs.Prelude.{◌≡◌, ◌==◌, ◌<◌, ◌+◌, ◌^◌, ◌↔◌, IsTrue, IfOk, IfSome, Some};
 ghost use Rattle.std.specs.Prelude.{length, map, drop, position, slice_get};
 ghost use Rattle.std.specs.List.{AllByRecursion, list_any};
 ghost use Rattle.dia_peer.specs.declared.config.App.{App as AnyApp};
-ghost use Rattle.dia_peer.specs.Core.{AreDistinct, pair_of, the_pair, pairs_of};
+ghost use Rattle.dia_peer.specs.Core.{AreDistinct, MayHold, pair_of, the_pair, pairs_of};
 ghost use Rattle.dia_peer.specs.Core.{comes_before, same_pair, sorted_pairs};
 
 use crate::codes::RELAY;
-use crate::config::{App, Kind};
+use crate::config::{App, Kind, Manner};
 use std::alloc::{AllocError, Global};
 
-/// Whether the numbers of all applications may be advertised: none is that of relays (RFC 6733 section 2.4).
-pub(crate) fn may_be_used(apps: &[App]) -> bool
+/// Whether an end of this manner may advertise the applications: the number of relays (RFC 6733 section 2.4) is for those
+/// of that manner.
+pub(crate) fn may_be_used(apps: &[App], manner: Manner) -> bool
+    ensures { IsTrue result ↔ MayHold manner apps.now }
+{
+    manner.relays || have_no_relay(apps)
+}
+
+fn have_no_relay(apps: &[App]) -> bool
     ensures { IsTrue result ↔ AllByRecursion (λ a. a.id < RELAY) apps.now }
 {
     for app in apps {
@@ -23,8 +30,22 @@ pub(crate) fn may_be_used(apps: &[App]) -> bool
     true
 }
 
-fn is_relay(id: u32) -> bool
-    ensures { IsTrue result ↔ ¬ (id < RELAY) }
+/// Each number has four bytes.
+pub(crate) fn know_their_numbers(apps: &[App])
+    ensures { AllByRecursion (λ a. a.id < 2 ^ 32) apps.now }
+{
+    for app in apps {
+        has_four_bytes(app.id);
+    }
+}
+
+fn has_four_bytes(id: u32)
+    ensures { id < 2 ^ 32 }
+{}
+
+pub(crate) fn is_relay(id: u32) -> bool
+    ensures below { IsTrue result ↔ ¬ (id < RELAY) }
+    ensures same { result ≡ (id == RELAY) }
 {
     id == RELAY
 }

@@ -47,7 +47,7 @@ pub struct Config {
     pub addresses: Vec<Ip>,
     /// Vendor-Id.
     pub vendor: u32,
-    /// 1 to 1,024 applications, each kind and number once, and none of number 4294967295, which is for relays.
+    /// 1 to 1,024 applications, each kind and number once. Only the manner `relays` allows the number 4294967295.
     pub apps: Vec<App>,
     /// Origin-State-Id, where it is sent.
     pub state_id: Option<u32>,
@@ -55,6 +55,14 @@ pub struct Config {
     pub hop: u32,
     /// The End-to-End Identifier of the first request.
     pub e2e: u32,
+}
+
+/// What a core does beyond a connection of two nodes that aren't agents. Each is chosen for itself.
+#[derive(Clone, Copy, PartialEq, Eq)]
+pub struct Manner {
+    /// The application 4294967295 says that an end relays (RFC 6733 sections 2.4 and 5.3): it has all applications of the
+    /// other in common with it. Without this manner the number is one as others, and no configuration may hold it.
+    pub relays: bool,
 }
 
 /// Why a configuration is refused: the first that stands, in this order.

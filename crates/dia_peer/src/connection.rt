@@ -1,11 +1,13 @@
-ghost use Rattle.std.specs.Prelude.{◌≡◌, IfOk, IfErr, OnErr, All, List, [], ◌∷◌};
-ghost use Rattle.dia_peer.specs.Core.{IsConfig, plain_config, pairs_of};
+ghost use Rattle.std.specs.Prelude.{◌≡◌, ◌==◌, ◌||◌, ◌↔◌, IfOk, IfErr, IsTrue, OnErr, All, List, [], ◌∷◌};
+ghost use Rattle.dia_peer.specs.Core.{IsAccepted, Serves, plain, plain_config, pairs_of};
+ghost use Rattle.std.specs.List.{list_any};
 ghost use Rattle.dia_peer.specs.Messages.{after};
 ghost use Rattle.dia_peer.specs.World.{idle};
 
 mod on_message;
 
-use crate::config::{Config, ConfigFault, Kind, Role};
+use crate::codes::RELAY;
+use crate::config::{Config, ConfigFault, Kind, Manner, Role};
 use crate::event::{Cause, Event, Output, State, Why};
 use crate::kept_requests::{Ids, Taken};
 use crate::node::Node;
@@ -39,6 +41,7 @@ impl Model for Core {
     ghost view = { λ c. record {
       config = plain_config c.node.config;
       role = c.role;
+      manner = c.node.manner;
       state = c.state;
       common = pairs_of c.common.items;
       next = c.next;
@@ -69,11 +72,25 @@ impl Core {
     ///
     /// The first of the faults of a configuration that stands is told. The error `NoMemory` comes only where memory was refused.
     pub fn new(alloc: Global, config: Config, role: Role) -> Result<Core, ConfigFault>
-        ensures ok { IfOk result
-            (λ core. IsConfig (plain_config config) × (core ≡ idle (plain_config config) role)) }
-        ensures err { IfErr result (IsRefusedAs (plain_config config)) }
+        ensures ok { IfOk result (λ core. IsAccepted plain (plain_config config)
+            × (core ≡ idle (plain_config config) role plain)) }
+        ensures err { IfErr result (IsRefusedAs plain (plain_config config)) }
     {
-        let node = Node::new(alloc, config)?;
+        Core::with(alloc, config, role, Manner { relays: false })
+    }
+
+    /// A core of a manner before its first event. All else is as in `new`.
+    pub fn with(
+        alloc: Global,
+        config: Config,
+        role: Role,
+        manner: Manner,
+    ) -> Result<Core, ConfigFault>
+        ensures ok { IfOk result (λ core. IsAccepted manner (plain_config config)
+            × (core ≡ idle (plain_config config) role manner)) }
+        ensures err { IfErr result (IsRefusedAs manner (plain_config config)) }
+    {
+        let node = Node::new(alloc, config, manner)?;
         let next = Ids {
             hop: node.config.hop,
             e2e: node.config.e2e,
@@ -99,12 +116,20 @@ impl Core {
         self.state
     }
 
-    /// The applications that both ends advertise, Auth first and then by number: none before the connection is
-    /// open, and kept from then on. Takes no memory.
+    /// The applications that both ends have in common, Auth first and then by number: none before the connection is
+    /// open, and kept from then on. Between two relays it is 4294967295 alone, which stands for all. Takes no memory.
     pub fn common(&self) -> &[(Kind, u32)]
         ensures { pairs_of result.now ≡ self.now.common }
     {
         &self.common
+    }
+
+    /// Whether messages of an application are for this connection: those of the base protocol (0) always, the others where
+    /// both ends have the application in common. Takes no memory.
+    pub fn serves(&self, id: u32) -> bool
+        ensures { IsTrue result ↔ Serves self.now.common id }
+    {
+        id == 0 || is_among(id, &self.common)
     }
 
     /// What is to be done at an event, in order. On an error, which comes only where memory was refused, nothing has changed.
@@ -260,6 +285,13 @@ impl Core {
         self.state = State::Closed;
         Ok(outputs)
     }
+}
+
+/// Whether the application is among those in common, of which that of relays stands for all.
+fn is_among(id: u32, common: &[(Kind, u32)]) -> bool
+    ensures { result ≡ list_any (λ app. (app.1 == RELAY) || (app.1 == id)) common.now }
+{
+    common.iter().any(|app| app.1 == RELAY || app.1 == id)
 }
 
 /// The identifiers one greater, 0 after 4294967295.

@@ -1,9 +1,9 @@
 //! What the AVPs of a message say: the applications that it names, and its result code.
 
-ghost use Rattle.std.specs.Prelude.{◌≡◌, ◌⊎◌, ◌↔◌, ℕ, List, IfOk, OnOk, MatchOption};
+ghost use Rattle.std.specs.Prelude.{◌≡◌, ◌⊎◌, ◌↔◌, ℕ, List, IsTrue, IfOk, OnOk, MatchOption};
 ghost use Rattle.std.specs.List.{AllByRecursion};
 ghost use Rattle.dia_wire.specs.Wire.{PlainAvp, plain_avp, SpellsAll};
-ghost use Rattle.dia_peer.specs.Core.{Pair};
+ghost use Rattle.dia_peer.specs.Core.{Pair, are_in_order};
 ghost use Rattle.dia_peer.specs.Incoming.{
   Has,
   HasNumber,
@@ -16,6 +16,7 @@ ghost use Rattle.dia_peer.specs.Incoming.{
   kind_of,
   is_vendor_specific,
   is_result_code,
+  pairs_named,
 };
 
 use crate::codes::{
@@ -31,15 +32,17 @@ use std::alloc::{AllocError, Global};
 ///
 /// Each is put into an ordered set: a body of n AVPs takes n times log n steps.
 pub(crate) fn named_in(alloc: Global, body: &[u8]) -> Result<NamedApps, AllocError>
-    ensures { IfOk result
+    ensures told { IfOk result
         (λ named. (avps : List PlainAvp) → SpellsAll avps body.now → AllByRecursion IsReadable avps
         → (p : Pair) → Has named p ↔ SaidBy Tells avps p) }
+    ensures ordered { IfOk result (λ named. IsTrue (are_in_order (pairs_named named))) }
 {
     let mut named = NamedApps::new(alloc);
     for found in Avps::new(body) {
         let Ok(avp) = found else { break };
         add_told(&mut named, &avp)?;
     }
+    named.know_their_order();
     Ok(named)
 }
 

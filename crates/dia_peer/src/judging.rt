@@ -1,18 +1,18 @@
 //! What is asked of a configuration.
 
 ghost use Rattle.std.specs.Prelude.{◌≡◌, ◌↔◌, IfOk, IfErr, IsTrue, length, All};
-ghost use Rattle.dia_peer.specs.Core.{IsConfig, IsIdentity, IsIp, plain_config};
+ghost use Rattle.dia_peer.specs.Core.{IsAccepted, IsIdentity, IsIp, plain_config};
 ghost use Rattle.dia_peer.specs.Machine.{IsRefusedAs};
 
-use crate::applications::{are_distinct, may_be_used};
+use crate::applications::{are_distinct, know_their_numbers, may_be_used};
 use crate::codes::{ADDRESS_LIMIT, APP_LIMIT, NAME_LIMIT};
-use crate::config::{Config, ConfigFault, Ip};
+use crate::config::{Config, ConfigFault, Ip, Manner};
 use dia_book::{Format, Leaf, accepts};
 
 /// Tells the first thing that is wrong with a configuration. It takes no memory.
-pub(crate) fn judge(config: &Config) -> Result<(), ConfigFault>
-    ensures ok { IfOk result (λ _. IsConfig (plain_config config.now)) }
-    ensures err { IfErr result (IsRefusedAs (plain_config config.now)) }
+pub(crate) fn judge(config: &Config, manner: Manner) -> Result<(), ConfigFault>
+    ensures ok { IfOk result (λ _. IsAccepted manner (plain_config config.now)) }
+    ensures err { IfErr result (IsRefusedAs manner (plain_config config.now)) }
 {
     if !is_identity(&config.host) {
         return Err(ConfigFault::Host);
@@ -28,9 +28,13 @@ pub(crate) fn judge(config: &Config) -> Result<(), ConfigFault>
         return Err(ConfigFault::Address);
     }
     know_their_lengths(&config.addresses);
-    if config.apps.is_empty() || config.apps.len() > APP_LIMIT || !may_be_used(&config.apps) {
+    if config.apps.is_empty()
+        || config.apps.len() > APP_LIMIT
+        || !may_be_used(&config.apps, manner)
+    {
         return Err(ConfigFault::Application);
     }
+    know_their_numbers(&config.apps);
     if are_distinct(&config.apps) {
         Ok(())
     } else {

@@ -11,16 +11,17 @@ ghost use Rattle.dia_peer.specs.Messages.{IsOurs};
 ghost use Rattle.dia_peer.specs.World.{World, Event as AnyEvent, Run, start, Agrees};
 ghost use Rattle.dia_peer.specs.Machine.{IsStep};
 ghost use Rattle.dia_peer.specs.Outputs.{plain_output, SendsBytes};
+ghost use Rattle.dia_peer.specs.declared.config.Manner.{Manner as AnyManner};
 ghost use Rattle.dia_peer.specs.declared.config.Role.{Role as AnyRole};
 ghost use Rattle.dia_peer.specs.declared.event.Event.{Event as CoreEvent};
 ghost use Rattle.dia_peer.specs.declared.event.Output.{Output as CoreOutput};
 
-/// However the messages of two ends are lost, repeated or reordered, each end that is open holds the
-/// applications that both advertise.
+/// However the messages of two ends of any manners are lost, repeated or reordered, each end that is open holds the
+/// applications that both have in common as its manner reads them, at least one; two open ends of one manner hold the same.
 pub fn agreement()
-    ensures { (a b : PlainConfig) (events : List (AnyRole × AnyEvent)) (w : World)
+    ensures { (a b : PlainConfig) (m n : AnyManner) (events : List (AnyRole × AnyEvent)) (w : World)
         → IsConfig a → IsConfig b
-        → Run (start a b) events w → Agrees a b w }
+        → Run (start a m b n) events w → Agrees a m b n w }
 {}
 
 /// Each message that a core of an accepted configuration sends is valid under the base dictionary, whatever its

@@ -44,7 +44,7 @@ mod named_apps;
 mod node;
 mod receiving;
 
-pub use config::{App, Config, ConfigFault, Ip, Kind, Role};
+pub use config::{App, Config, ConfigFault, Ip, Kind, Manner, Role};
 pub use connection::Core;
 pub use event::{Cause, Event, Output, State, Why};
 pub use laws::{agreement, one_step, our_messages_are_valid};

@@ -1,11 +1,12 @@
 //! What a core has of its configuration, and the messages that it makes of it.
 
-ghost use Rattle.std.specs.Prelude.{◌≡◌, ◌++◌, IfOk, IfErr, OnOk, map, filter, ◌∷◌, []};
+ghost use Rattle.std.specs.Prelude.{◌≡◌, ◌==◌, ◌++◌, IfOk, IfErr, OnOk, map, filter, ◌∷◌, []};
 ghost use Rattle.std.specs.Int.{w16, to_be_bytes};
 ghost use Rattle.std.specs.List.{filter_map, list_any};
-ghost use Rattle.dia_peer.specs.Core.{IsConfig, plain_config, pair_of, the_pair};
-ghost use Rattle.dia_peer.specs.Core.{pairs_of, same_pair, sorted_pairs, common_of};
-ghost use Rattle.dia_peer.specs.Incoming.{pairs_named};
+ghost use Rattle.std.specs.Option.{option_map};
+ghost use Rattle.dia_peer.specs.Core.{IsConfig, IsAccepted, plain_config, pair_of, the_pair};
+ghost use Rattle.dia_peer.specs.Core.{pairs_of, same_pair, sorted_pairs, common_by, common_of, relays, all};
+ghost use Rattle.dia_peer.specs.Incoming.{pairs_named, plain_pairs};
 ghost use Rattle.dia_peer.specs.Drafts.{drafted};
 ghost use Rattle.dia_peer.specs.Messages.{
   avp,
@@ -21,13 +22,13 @@ ghost use Rattle.dia_peer.specs.Messages.{
   if_some,
 };
 
-use crate::applications::sorted;
+use crate::applications::{is_relay, sorted};
 use crate::base_book::BaseBook;
 use crate::codes::{
     ACCT_APPLICATION_ID, AUTH_APPLICATION_ID, HOST_IP_ADDRESS, ORIGIN_HOST, ORIGIN_REALM,
-    ORIGIN_STATE_ID, PRODUCT_NAME, VENDOR_ID, VENDOR_SPECIFIC_APPLICATION_ID,
+    ORIGIN_STATE_ID, PRODUCT_NAME, RELAY, VENDOR_ID, VENDOR_SPECIFIC_APPLICATION_ID,
 };
-use crate::config::{App, Config, ConfigFault, Ip, Kind};
+use crate::config::{App, Config, ConfigFault, Ip, Kind, Manner};
 use crate::draft::Draft;
 use crate::judging::judge;
 use crate::named_apps::NamedApps;
@@ -40,6 +41,7 @@ pub(crate) struct Node {
     pub alloc: Global,
     pub base: BaseBook,
     pub config: Config,
+    pub manner: Manner,
     pub apps: Vec<(Kind, u32)>,
     pub ghost sound: { ∥ IsConfig (plain_config config) ∥₁ },
     pub ghost in_order: { ∥ pairs_of apps.items ≡ sorted_pairs (map pair_of config.apps.items) ∥₁ },
@@ -48,26 +50,75 @@ pub(crate) struct Node {
 impl Node {
     ghost use Rattle.dia_peer.specs.Machine.{IsRefusedAs};
 
-    pub(crate) fn new(alloc: Global, config: Config) -> Result<Node, ConfigFault>
-        ensures ok { IfOk result (λ node. IsConfig (plain_config config)
-            × (plain_config node.config ≡ plain_config config)) }
-        ensures err { IfErr result (IsRefusedAs (plain_config config)) }
+    pub(crate) fn new(alloc: Global, config: Config, manner: Manner) -> Result<Node, ConfigFault>
+        ensures ok { IfOk result (λ node. IsAccepted manner (plain_config config)
+            × (plain_config node.config ≡ plain_config config) × (node.manner ≡ manner)) }
+        ensures err { IfErr result (IsRefusedAs manner (plain_config config)) }
     {
-        judge(&config)?;
+        judge(&config, manner)?;
         let apps = sorted(alloc, &config.apps)?;
         let base = BaseBook::new(alloc)?;
         Ok(Node {
             alloc,
             base,
             config,
+            manner,
             apps,
         })
     }
 
-    /// The applications of the configuration that are also among these, in order.
-    pub(crate) fn common(&self, named: &NamedApps) -> Result<Vec<(Kind, u32)>, AllocError>
+    /// The applications that the configuration has in common with these. None: more than an end may hold.
+    pub(crate) fn common(&self, named: &NamedApps) -> Result<Option<Vec<(Kind, u32)>>, AllocError>
+        ensures { IfOk result (λ found. option_map plain_pairs found
+            ≡ common_of self.now.manner (plain_config self.now.config) (pairs_named named.now)) }
+    {
+        self.common_by(self.relays(), self.finds_relay(named), named)
+    }
+
+    /// Whether the applications of the configuration are those of a relay.
+    fn relays(&self) -> bool
+        ensures { result ≡ relays self.now.manner (map pair_of self.now.config.apps.items) }
+    {
+        self.manner.relays && has_relay(&self.apps)
+    }
+
+    /// Whether these are to be read as those of a relay.
+    fn finds_relay(&self, named: &NamedApps) -> bool
+        ensures { result ≡ relays self.now.manner (pairs_named named.now) }
+    {
+        self.manner.relays && named.has_relay()
+    }
+
+    fn common_by(
+        &self,
+        ours_relay: bool,
+        theirs_relay: bool,
+        named: &NamedApps,
+    ) -> Result<Option<Vec<(Kind, u32)>>, AllocError>
+        ensures { IfOk result (λ found. option_map plain_pairs found
+            ≡ common_by ours_relay theirs_relay (map pair_of self.now.config.apps.items) (pairs_named named.now)) }
+    {
+        match (ours_relay, theirs_relay) {
+            (true, true) => Ok(Some(all(self.alloc)?)),
+            (true, false) => named.all_of(self.alloc),
+            (false, true) => Ok(Some(self.own()?)),
+            (false, false) => Ok(Some(self.shared(named)?)),
+        }
+    }
+
+    /// The applications of the configuration, in order.
+    fn own(&self) -> Result<Vec<(Kind, u32)>, AllocError>
         ensures { IfOk result (λ pairs. pairs_of pairs.items
-            ≡ common_of (plain_config self.now.config) (pairs_named named.now)) }
+            ≡ sorted_pairs (map pair_of self.now.config.apps.items)) }
+    {
+        Ok(Vec::from_slice(self.alloc, &self.apps)?)
+    }
+
+    /// The applications of the configuration that are also among these, in order.
+    fn shared(&self, named: &NamedApps) -> Result<Vec<(Kind, u32)>, AllocError>
+        ensures { IfOk result (λ pairs. pairs_of pairs.items
+            ≡ filter (λ p. list_any (same_pair p) (pairs_named named.now))
+            (sorted_pairs (map pair_of self.now.config.apps.items))) }
     {
         let mut common = Vec::new(self.alloc);
         for pair in &self.apps {
@@ -75,6 +126,20 @@ impl Node {
         }
         Ok(common)
     }
+}
+
+/// The application that stands for all.
+fn all(alloc: Global) -> Result<Vec<(Kind, u32)>, AllocError>
+    ensures { IfOk result (λ pairs. pairs_of pairs.items ≡ all) }
+{
+    Ok(vec![in alloc; (Kind::Auth, RELAY)]?)
+}
+
+/// Whether one of the applications is that of relays.
+fn has_relay(apps: &[(Kind, u32)]) -> bool
+    ensures { result ≡ list_any (λ app. app.1 == RELAY) apps.now }
+{
+    apps.iter().any(|app| is_relay(app.1))
 }
 
 fn push_if_named(

@@ -1,6 +1,6 @@
 //! Two ends that send messages to each other: the messages byte for byte, and schedules that a generator draws.
 
-use dia_peer::{App, Config, Core, Event, Ip, Kind, Output, Role};
+use dia_peer::{App, Config, Core, Event, Ip, Kind, Manner, Output, Role};
 use std::alloc::{AllocError, Global};
 use std::process::Abort;
 
@@ -9,6 +9,7 @@ mod drawing;
 mod example;
 mod faults;
 mod names;
+mod relays;
 mod schedules;
 mod steps;
 
@@ -30,6 +31,13 @@ struct Ends {
 /// An end of this configuration.
 fn end(rt: &(impl AllocGlobal + Abort), config: Config, role: Role) -> Box<Core> {
     let core = Core::new(rt.alloc(), config, role).expect(rt, "an end");
+    Box::new(rt.alloc(), core).ok().expect(rt, "memory")
+}
+
+/// An end that relays.
+fn relay(rt: &(impl AllocGlobal + Abort), config: Config, role: Role) -> Box<Core> {
+    let manner = Manner { relays: true };
+    let core = Core::with(rt.alloc(), config, role, manner).expect(rt, "an end");
     Box::new(rt.alloc(), core).ok().expect(rt, "memory")
 }
 

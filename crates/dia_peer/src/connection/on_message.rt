@@ -1,8 +1,8 @@
 //! What a core does with a message that comes.
 
 ghost use Rattle.std.specs.Prelude.{◌≡◌, IfOk, OnErr};
-ghost use Rattle.dia_peer.specs.Core.{pairs_of};
-ghost use Rattle.dia_peer.specs.Incoming.{received_of, pairs_named};
+ghost use Rattle.std.specs.Option.{option_map};
+ghost use Rattle.dia_peer.specs.Incoming.{received_of, pairs_named, plain_pairs};
 ghost use Rattle.dia_peer.specs.Machine.{Does};
 ghost use Rattle.dia_peer.specs.Table.{
   happens,
@@ -90,11 +90,14 @@ impl Core {
         }
     }
 
-    fn opens(&mut self, common: Vec<(Kind, u32)>) -> Result<Vec<Output>, AllocError>
+    fn opens(&mut self, common: Option<Vec<(Kind, u32)>>) -> Result<Vec<Output>, AllocError>
         ensures ok { IfOk result
-            (λ outputs. Does (opens self.old (pairs_of common.items)) outputs.items self.new) }
+            (λ outputs. Does (opens self.old (option_map plain_pairs common)) outputs.items self.new) }
         ensures err { OnErr result (self.new ≡ self.old) }
     {
+        let Some(common) = common else {
+            return self.closes(Why::Invalid);
+        };
         if common.is_empty() {
             return self.closes(Why::NoCommon);
         }
@@ -128,12 +131,15 @@ impl Core {
         &mut self,
         ids: Ids,
         bytes: &[u8],
-        common: Vec<(Kind, u32)>,
+        common: Option<Vec<(Kind, u32)>>,
     ) -> Result<Vec<Output>, AllocError>
         ensures ok { IfOk result
-            (λ outputs. Does (accepts self.old ids bytes.now (pairs_of common.items)) outputs.items self.new) }
+            (λ outputs. Does (accepts self.old ids bytes.now (option_map plain_pairs common)) outputs.items self.new) }
         ensures err { OnErr result (self.new ≡ self.old) }
     {
+        let Some(common) = common else {
+            return self.closes(Why::Invalid);
+        };
         if common.is_empty() {
             let cea = self.node.cea(ids, NO_COMMON_APPLICATION)?;
             return self.sends_and_closes(cea, Why::NoCommon);

@@ -3,17 +3,18 @@
 //! ```text
 //! ends HOP [STATE] | APPLICATIONS | APPLICATIONS => STATE STATE
 //! END start, END comes MESSAGE, END tick, END stop CAUSE, END lost => STATE [send MESSAGE] [close WHY]
-//! END common => APPLICATIONS
+//! END common => APPLICATIONS, END serves NUMBER => true, or false
 //! ```
 //!
 //! `ends` makes a new initiator, `i`, and a new responder, `r`: the Hop-by-Hop Identifier of the initiator's first request, the
-//! Origin-State-Id of both where there is one, and the applications of each, such as `auth:4`. A step is what happens at an
+//! Origin-State-Id of both where there is one, and the applications of each, such as `auth:4`; `relays` in place of `ends`
+//! makes two ends that relay. A step is what happens at an
 //! end, and its answer the state that the end then is in and what it did. `common` is answered by the applications that an
 //! end shares with the other.
 
 use super::names::NAMES;
 use super::steps::STEPS;
-use super::{Ends, end, first, second, tell};
+use super::{Ends, end, first, relay, second, tell};
 use crate::words::{number_of, same};
 use dia_peer::{App, Cause, Core, Event, Kind, Output, Role};
 use dia_rows::{Names, Row, bytes_of, field, without_blanks, word};
@@ -35,7 +36,7 @@ fn plays_connections(rt: HostRuntime) {
 /// Checks a row: new ends, or a step of the ends that there are. Blanks count for nothing.
 fn plays(rt: &(impl AllocGlobal + Abort), names: &Names, ends: &mut Ends, row: &Row<'_>) {
     let found = match word(row.call, 0) {
-        "ends" => begins(rt, ends, row.call),
+        "ends" | "relays" => begins(rt, ends, row.call),
         "i" => done(rt, names, &mut ends.initiator, row.call),
         _ => done(rt, names, &mut ends.responder, row.call),
     };
@@ -66,6 +67,12 @@ fn ends_of(rt: &(impl AllocGlobal + Abort), call: &str) -> Ends {
     let apps = apps_of(rt, field(call, 2));
     let mut theirs = second(rt.alloc(), apps.as_slice()).expect(rt, "memory");
     theirs.state_id = state;
+    if word(numbers, 0) == "relays" {
+        return Ends {
+            initiator: relay(rt, ours, Role::Initiator),
+            responder: relay(rt, theirs, Role::Responder),
+        };
+    }
     Ends {
         initiator: end(rt, ours, Role::Initiator),
         responder: end(rt, theirs, Role::Responder),
@@ -110,6 +117,7 @@ fn done(rt: &(impl AllocGlobal + Abort), names: &Names, core: &mut Core, call: &
     let bytes = bytes_of(rt.alloc(), digits.as_slice()).expect(rt, call);
     let event = match word(call, 1) {
         "common" => return common(rt.alloc(), core).expect(rt, "memory"),
+        "serves" => return serves(rt, core, number_of(rt, word(call, 2))),
         "start" => Event::Start,
         "tick" => Event::Tick,
         "lost" => Event::Lost,
@@ -128,8 +136,14 @@ fn cause_of(word: &str) -> Cause {
     }
 }
 
+/// Whether messages of an application are for an end, as text.
+fn serves(rt: &(impl AllocGlobal + Abort), core: &Core, id: u32) -> String {
+    let found = core.serves(id);
+    format!(in rt.alloc(); "{found}").expect(rt, "memory")
+}
+
 /// The applications that an end shares with the other, as text.
-fn common(alloc: Global, core: &Core) -> Result<String, AllocError> {
+pub(super) fn common(alloc: Global, core: &Core) -> Result<String, AllocError> {
     let mut text = String::new(alloc);
     for (kind, id) in core.common() {
         write!(text, "{kind:?} {id} ")?;

@@ -123,6 +123,31 @@ r start => WaitCer
 r comes 0100006c80000101 000000000000000100000001 $OH $OR $IP $VENDOR $P $RELAY $AUTH4 => Open send $CEA
 r common => Auth 4
 
+# An end that relays finds none in common with one that names none: as the responder, and as the initiator.
+relays 1 | auth:4294967295 | auth:4294967295 => Idle Idle
+r start => WaitCer
+r comes 0100005480000101 000000000000000100000001 $OH $OR $IP $VENDOR $P => Closed send 0100006c00000101 000000000000000100000001 $NO_COMMON $OH2 $OR2 $IP2 $VENDOR $P2 $RELAY close NoCommon
+i start => WaitCea send 0100006080000101 000000000000000100000001 $OH $OR $IP $VENDOR $P $RELAY
+i comes 0100006000000101 000000000000000100000001 $SUCCESS $OH2 $OR2 $IP2 $VENDOR $P2 => Closed close NoCommon
+
+# An end that relays takes what the other names: auth 4 twice and out of order.
+relays 1 | auth:1 | auth:4294967295 => Idle Idle
+r start => WaitCer
+r serves 0 => true
+r serves 4 => false
+r comes 0100008480000101 000000000000000100000001 $OH $OR $IP $VENDOR $P $ACCT3 $AUTH4 $AUTH1 $AUTH4 => Open send 0100006c00000101 000000000000000100000001 $SUCCESS $OH2 $OR2 $IP2 $VENDOR $P2 $RELAY
+r common => Auth 1 Auth 4 Acct 3
+r serves 0 => true
+r serves 3 => true
+r serves 5 => false
+
+# Two ends that relay have all applications.
+relays 1 | auth:1 auth:4 | acct:4294967295 => Idle Idle
+r start => WaitCer
+r comes 0100006080000101 000000000000000100000001 $OH $OR $IP $VENDOR $P $RELAY => Open send 0100006c00000101 000000000000000100000001 $SUCCESS $OH2 $OR2 $IP2 $VENDOR $P2 000001034000000cffffffff
+r common => Auth 4294967295
+r serves 7 => true
+
 # A Vendor-Specific-Application-Id with two applications: 44 bytes.
 ends 1 | auth:1 | auth:4 acct:3 => Idle Idle
 r start => WaitCer

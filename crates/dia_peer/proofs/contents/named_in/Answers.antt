@@ -12,8 +12,8 @@ loop-found-preserved c avps all are =
     walk_goes IsReadable Tells avps (λ p. ⊥) (Has c.loop-found.named) (Has c.add_told.new.named) level left (plain_avp c.in-Ok.avp) (c.loop-found.invariant avps all are)
     (goes_on level left c.in-Some.found c.in-Ok.avp c.in-Some.ensures.steps c.in-Ok.is) c.in_ok-add_told.ensures
 
-pub returns : goal.returns
-returns c avps all are p =
+pub returns-clause-told : goal.returns-clause-told
+returns-clause-told c avps all are p =
     let level = level_left c.loop-found.found-iterator in let left = level_left c.next.new.self in
     let none : BeginsWithNone level =
     elim c.match-next.branch [

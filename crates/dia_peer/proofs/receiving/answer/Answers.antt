@@ -29,11 +29,11 @@ returns-then-header-eq-CAPABILITIES_EXCHANGE c =
     let h = c.args.header.now in let b = c.args.bytes.now in let r = reads h b c.requires.head c.requires.valid in
     let good = answer_good h b c.ids_of-ids.result r c.requires.valid c.requires.clear c.ids_of-ids.ensures in
     let body = subst (SpellsAll r.avps) (sym (rest_of b)) r.body in
-    let named : (p : Pair) → Has c.in_ok-named.named p ↔ SaidBy Tells r.avps p = c.in_ok-named.ensures r.avps body r.readable in (
+    let named : (p : Pair) → Has c.in_ok-named.named p ↔ SaidBy Tells r.avps p = c.in_ok-named.ensures.told r.avps body r.readable in (
       r.avps,
       subst (λ (n : ℕ). IsGood b n false false c.ids_of-ids.result r.avps) c.if-header-eq-CAPABILITIES_EXCHANGE.true good,
       has_result r.avps c.in-Some.result_code (c.in-Some.ensures r.avps body r.coded),
-      advertised c.in_ok-named.named r.avps named,
+      advertised c.in_ok-named.named r.avps named c.in_ok-named.ensures.ordered,
     )
 
 pub unreachable-requires : goal.unreachable-requires

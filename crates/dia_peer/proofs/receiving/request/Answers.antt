@@ -11,8 +11,8 @@ pub returns-then-header-eq-CAPABILITIES_EXCHANGE : goal.returns-then-header-eq-C
 returns-then-header-eq-CAPABILITIES_EXCHANGE c =
     let h = c.args.header.now in let b = c.args.bytes.now in let r = reads h b c.requires.head c.requires.valid in
     let good = request_good h b c.ids_of-ids.result r c.requires.valid c.requires.set c.ids_of-ids.ensures in
-    let named : (p : Pair) → Has c.in_ok-named.named p ↔ SaidBy Tells r.avps p = c.in_ok-named.ensures r.avps (subst (SpellsAll r.avps) (sym (rest_of b)) r.body) r.readable in
-    (r.avps, subst (λ (n : ℕ). IsGood b n true false c.ids_of-ids.result r.avps) c.if-header-eq-CAPABILITIES_EXCHANGE.true good, refl, advertised c.in_ok-named.named r.avps named)
+    let named : (p : Pair) → Has c.in_ok-named.named p ↔ SaidBy Tells r.avps p = c.in_ok-named.ensures.told r.avps (subst (SpellsAll r.avps) (sym (rest_of b)) r.body) r.readable in
+    (r.avps, subst (λ (n : ℕ). IsGood b n true false c.ids_of-ids.result r.avps) c.if-header-eq-CAPABILITIES_EXCHANGE.true good, refl, advertised c.in_ok-named.named r.avps named c.in_ok-named.ensures.ordered)
 
 pub returns-then-header-eq-DEVICE_WATCHDOG : goal.returns-then-header-eq-DEVICE_WATCHDOG
 returns-then-header-eq-DEVICE_WATCHDOG c =

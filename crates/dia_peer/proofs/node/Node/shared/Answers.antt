@@ -1,23 +1,16 @@
 use Rattle.std.proofs.Common.{◌≡◌, ℕ, ◌+◌, Bool, List, map, filter, take, sym, ap, subst, ◌∙◌}
 use Rattle.std.specs.List.{list_any}
-use Rattle.std.proofs.Math.Logic.{∥∥₁_elim}
-use Rattle.std.proofs.Props.{props}
 use Rattle.std.proofs.lemmas.List.{take_all}
-use mathlib.Core.Sum.{⊎_set}
-use Rattle.dia_peer.specs.declared.config.App.{App}
 use Rattle.dia_peer.specs.declared.config.Kind.{Kind}
 use Rattle.dia_peer.specs.declared.config.Kind.TheVariants.{Auth}
 use Rattle.dia_peer.specs.declared.named_apps.NamedApps.{NamedApps}
-use Rattle.dia_peer.specs.Core.{Pair, pair_of, pairs_of, same_pair, sorted_pairs}
+use Rattle.dia_peer.specs.Core.{Pair, pairs_of, same_pair}
 use Rattle.dia_peer.specs.Incoming.{pairs_named}
-use Rattle.dia_peer.proofs.KeptApplications.{kept_step}
-use Rattle.dia_peer.proofs.node.Node.common.Goals as goal
+use Rattle.dia_peer.proofs.KeptApplications.{in_order, kept_step}
+use Rattle.dia_peer.proofs.node.Node.shared.Goals as goal
 
 abbrev kept : NamedApps → Pair → Bool
 kept n p = list_any (same_pair p) (pairs_named n)
-
-in_order : (items : List (Kind × ℕ)) (apps : List App) → ∥ pairs_of items ≡ sorted_pairs (map pair_of apps) ∥₁ → pairs_of items ≡ sorted_pairs (map pair_of apps)
-in_order items apps t = ∥∥₁_elim t (hlevel (props, ⊎_set)) (λ e. e)
 
 pub loop-pair-preserved : goal.loop-pair-preserved
 loop-pair-preserved c =
