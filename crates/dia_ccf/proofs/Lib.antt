@@ -26,6 +26,7 @@ pub mod CappedNumbers
 pub mod ReaderFindings
 pub mod ReaderAdvances
 pub mod OneFault
+pub mod RisingPlaces
 pub mod ReaderPlaces
 pub mod HeadTokens
 pub mod ReaderAnswers

@@ -1,9 +1,10 @@
 -- The tokens that the reader passed, and the places where they begin.
-use Rattle.std.proofs.Common.{◌≡◌, ℕ, ◌+◌, ◌≤◌, Bool, true, false, List, [], ◌∷◌, ◌++◌, map, drop, drop-drop, min, Option, Some, None, refl, sym, ap, subst, ◌∙◌, arith, inl, inr, append_assoc, ◌⊎◌, ⊎_elim}
-use Rattle.std.specs.Prelude.{Result, Ok, Err, IfOk, String, string_bytes, codes}
+use Rattle.std.proofs.Common.{◌≡◌, ℕ, ◌+◌, ◌<◌, ◌≤◌, length, length-append, length-drop, Bool, true, false, List, [], ◌∷◌, ◌++◌, map, drop, drop-drop, min, Option, Some, None, refl, sym, ap, subst, ◌∙◌, arith, inl, inr, append_assoc, ◌⊎◌, ⊎_elim}
+use Rattle.std.specs.Prelude.{Result, Ok, Err, IfOk, IfSome, String, string_bytes, codes}
 use Rattle.std.specs.Option.{option_map}
 use Rattle.std.specs.Global.{Global}
-use Rattle.std.proofs.lemmas.List.{drop-map, map-append}
+use Rattle.std.proofs.lemmas.Bool.{cases_lt}
+use Rattle.std.proofs.lemmas.List.{drop-map, map-append, length-map}
 use Rattle.dia_ccf.specs.declared.reading.Reader.{Reader}
 use Rattle.dia_ccf.specs.declared.reading.refusal.Refusal.{Refusal}
 use Rattle.dia_ccf.specs.declared.source.Qual.{Qual}
@@ -12,29 +13,32 @@ use Rattle.dia_terms.specs.declared.FormatName.TheVariants.{Enumerated}
 use Rattle.dia_terms.specs.declared.MRule.{MRule}
 use Rattle.dia_terms.specs.Formats.{format_word, is_enumerated}
 use Rattle.dia_ccf.specs.Limits.{max_number, max_value}
-use Rattle.dia_ccf.specs.Tokens.{Token, Number, Name, Placed, Less, Greater, Declares, Dots, Open_parenthesis, Close_parenthesis, tokens, placed_tokens}
+use Rattle.dia_ccf.specs.Tokens.{Token, Number, Name, Placed, Less, Greater, Assign, Declares, Dots, Open_parenthesis, Close_parenthesis, tokens, placed_tokens}
 use Rattle.dia_ccf.specs.LexerTokens.{capped, tokens_from, left_from}
 use Rattle.dia_ccf.specs.Grammar.{Tokens, ◌then◌, one, name, number, qualifier, slot, word, vendor, range, each, values, declaration, rule_word}
 use Rattle.dia_ccf.specs.Faults.{place_of}
 use Rattle.dia_ccf.specs.declared.source.Rule.{Rule}
 use Rattle.dia_ccf.specs.declared.source.Decl.{Decl}
 use Rattle.dia_ccf.specs.declared.source.Source.{Source}
-use Rattle.std.specs.List.{All}
+use Rattle.std.specs.List.{All, AllPairs}
 use Rattle.std.proofs.lemmas.List.Elements.{All-push}
+use Rattle.std.proofs.lemmas.List.Quantifiers.{all_pairs_push}
 use Rattle.dia_terms.specs.declared.Pxy.{Pxy}
 use Rattle.dia_terms.specs.declared.Pxy.TheVariants.{Clear}
 use Rattle.dia_ccf.specs.declared.source.Head.{Head}
 use Rattle.dia_ccf.specs.declared.source.Head.TheVariants.{Command, Error}
 use Rattle.dia_terms.specs.declared.RuleKind.TheVariants.{Fixed}
 use Rattle.dia_ccf.specs.declared.source.Def.{Def}
-use Rattle.dia_ccf.specs.Plain.{PlainSource, PlainRule, PlainDef, plain_rule, plain_decl, plain_def, plain_source}
-use Rattle.dia_ccf.specs.Grammar.{bracketed, rule}
-use Rattle.dia_ccf.specs.Places.{StandsAt, RuleStands, DeclStands, IsPlaced, opened}
+use Rattle.dia_ccf.specs.Plain.{PlainSource, PlainDef, plain_rule, plain_decl, plain_def, plain_source}
+use Rattle.dia_ccf.specs.Grammar.{bracketed, rule, head}
+use Rattle.dia_ccf.specs.declared.reading.definitions.Opening.{Opening}
+use Rattle.dia_ccf.specs.Places.{Spans, RulesStand, DeclStands, IsPlaced, IsPlacedBefore, opened, heading}
 use Rattle.dia_ccf.specs.Machine.{same_sign, sign_at, name_at, number_at, slot_at, format_at, rule_at, is_word, is_none, is_number, add_def, add_by_head}
-use Rattle.dia_ccf.specs.ReaderFunctions.{left, still, Passes, Takes, Accepts, Derived, From, Begins, declaring, Course}
+use Rattle.dia_ccf.specs.ReaderFunctions.{left, still, Passes, Takes, Accepts, Derived, From, declaring, unread, Course}
 use Rattle.dia_ccf.proofs.TokenTests.{same_sign-is, sign_at-is, name_at-is, number_at-is, slot_at-is, slot_tokens, Is_slot, word-is, format_at-is, rule_at-is}
 use Rattle.dia_ccf.proofs.WhatFollows.{each-append, each-one}
 use Rattle.dia_ccf.proofs.ReaderFindings.{place_is}
+use Rattle.dia_ccf.proofs.RisingPlaces.{places_rise}
 
 -- ---- one token
 
@@ -127,13 +131,43 @@ slot_derived old new x (t, is, passes) =
 
 -- ---- places
 
-pub from_place : (class : Tokens) (old new : Reader) → Derived class old new → From old.at class new
-from_place class old new (front, e, h, same) =
-    let place : place_of old.text.now old.taken ≡ old.at = sym (place_is old.text.now old.taken old.at old.counted old.reached old.placed) in
-    (old.taken, front, ap (λ (text : List ℕ). drop old.taken (tokens text)) (sym same) ∙ e, h, ap (λ (text : List ℕ). place_of text old.taken) (sym same) ∙ place)
+pub spans : (class : Tokens) (old new : Reader) → Derived class old new → Spans new.text.now old.taken class new.taken
+spans class old new (front, e, h, same) = (front, ap (λ (text : List ℕ). drop old.taken (tokens text)) (sym same) ∙ e, h)
 
-pub stands : (class : Tokens) (at : ℕ) (reader : Reader) → From at class reader → StandsAt reader.text.now at class
-stands class at reader (k, front, e, h, place) = (k, front, still reader, e, h, place)
+place_now : (old new : Reader) → old.text.now ≡ new.text.now → place_of new.text.now old.taken ≡ old.at
+place_now old new same = ap (λ (text : List ℕ). place_of text old.taken) (sym same) ∙ sym (place_is old.text.now old.taken old.at old.counted old.reached old.placed)
+
+pub from_place : (class : Tokens) (at : ℕ) (old new : Reader) → at ≡ old.at → Derived class old new → From at class new
+from_place class at old new e h = (old.taken, spans class old new h, place_now old new h.3 ∙ sym e)
+
+-- the reader stands farther on where it has passed more tokens
+pub goes_on : (old new : Reader) → old.text.now ≡ new.text.now → old.taken < new.taken → old.at < new.at
+goes_on old new same less =
+    let rise = places_rise new.text.now old.taken new.taken less new.reached in
+    omega (arith, rise, place_now old new same, place_now new new refl)
+
+pub never_back : (old new : Reader) → old.text.now ≡ new.text.now → old.taken ≤ new.taken → old.at ≤ new.at
+never_back old new same most =
+    ⊎_elim (λ (less : old.taken < new.taken). let on = goes_on old new same less in omega (arith, on))
+    (λ (late : new.taken ≤ old.taken).
+    (let equal : old.taken ≡ new.taken = omega (arith, most, late) in
+    let e = sym (place_now old new same) ∙ ap (place_of new.text.now) equal ∙ place_now new new refl in
+    omega (arith, e))) (cases_lt old.taken new.taken)
+
+opened_long : (text : List ℕ) (front : List Token) → opened text front → 0 < length front
+opened_long text front (inl (x, y, e, f, g)) = omega (arith, ap length e, ap length f, length-append x y)
+opened_long text front (inr (h, e)) = omega (arith, ap length e)
+
+-- what is passed from a place on has a token at least, so the token ahead is behind the place
+pub opened_before : (text : List ℕ) (at : ℕ) (reader : Reader) → From at (opened text) reader → at < reader.at
+opened_before text at reader (k, (front, e, h), place) =
+    let all = reader.text.now in
+    let long = opened_long text front h in
+    let lengths = sym (length-drop k (tokens all)) ∙ ap length e ∙ length-append front (still reader) in
+    let most = length-map (placed_tokens all) (λ (p : Placed). p.token) in
+    let less : k < reader.taken = omega (arith, long, lengths, most, reader.reached, length-drop reader.taken (tokens all)) in
+    let rise = places_rise all k reader.taken less reader.reached in
+    omega (arith, rise, place, place_now reader reader refl)
 
 -- ---- the name of a definition
 
@@ -157,9 +191,6 @@ bare_opened old mid new (Err k) same h = tt
 
 -- ---- rules
 
-pub stands_at : (class : Tokens) (old new : Reader) → Derived class old new → StandsAt new.text.now old.at class
-stands_at class old new h = stands class old.at new (from_place class old new h)
-
 -- a bracket, the name and the closing bracket
 pub bracket_derived : (first_sign close : Token) (old mid last new : Reader) (x : Option (String Global)) → is_number close ≡ false → Derived (one first_sign) old mid
     → (t : Token) × (slot_at t ≡ Some (option_map (λ text. string_bytes text) x)) × Passes mid (t ∷ []) last
@@ -167,19 +198,6 @@ pub bracket_derived : (first_sign close : Token) (old mid last new : Reader) (x 
 bracket_derived first_sign close old mid last new x h first named closed =
     let name = slot (option_map (λ text. string_bytes text) x) in
     along (one first_sign) (name then one close) old mid new first (along name (one close) mid last new (slot_derived mid last x named) (sign_derived close last new h closed))
-
-one_rule : (r : Rule) (at : ℕ) (qual : Option Qual) (old mid new : Reader) → r.at ≡ at → r.qual ≡ qual → at ≡ old.at → Derived (qualifier qual) old mid
-    → Derived (bracketed r.kind (plain_rule r).name) mid new → RuleStands new.text.now r
-one_rule r at qual old mid new e f g first second =
-    let before = subst (λ (q : Option Qual). Derived (qualifier q) old mid) (sym f) first in
-    let all = along (qualifier r.qual) (bracketed r.kind (plain_rule r).name) old mid new before second in
-    subst (λ (n : ℕ). StandsAt new.text.now n (rule (plain_rule r))) (sym (e ∙ g)) (stands_at (rule (plain_rule r)) old new all)
-
--- a rule that is not fixed, behind its qualifier
-pub loose_stands : (result : Result Rule Refusal) (at : ℕ) (qual : Option Qual) (old mid new : Reader) → at ≡ old.at → Derived (qualifier qual) old mid
-    → IfOk result (λ r. (r.at ≡ at) × (r.qual ≡ qual)) → IfOk result (λ r. Derived (bracketed r.kind (plain_rule r).name) mid new) → IfOk result (λ r. RuleStands new.text.now r)
-loose_stands (Ok r) at qual old mid new e first h second = one_rule r at qual old mid new h.0 h.1 e first second
-loose_stands (Err k) at qual old mid new e first h second = tt
 
 pub bare_fixed : (old mid new : Reader) (x : String Global) → Takes (same_sign Less) old true mid → Derived (name (string_bytes x) then one Greater) mid new
     → Derived (qualifier None then bracketed Fixed (Some (string_bytes x))) old new
@@ -199,18 +217,23 @@ same_text e = ap (λ (c : Course). c.0) e
 abbrev pub no_head : Head
 no_head = Error Clear
 
-pub more_stand : (text now : List ℕ) (rules more : List Rule) (r : Rule) → text ≡ now → more ≡ rules ++ r ∷ [] → All (RuleStands text) rules → RuleStands now r → All (RuleStands now) more
-more_stand text now rules more r same grown all one =
-    subst (All (RuleStands now)) (sym grown) (All-push (RuleStands now) rules r (subst (λ (t : List ℕ). All (RuleStands t) rules) same all) one)
-
 pub all_pushed : {X : Type 0} (P : X → Type 0) (xs more : List X) (x : X) → more ≡ xs ++ x ∷ [] → All P xs → P x → All P more
 all_pushed P xs more x grown all one = subst (All P) (sym grown) (All-push P xs x all one)
 
-pub all_stand : (text now : List ℕ) (rules : List Rule) → text ≡ now → All (RuleStands text) rules → All (RuleStands now) rules
-all_stand text now rules same all = subst (λ (t : List ℕ). All (RuleStands t) rules) same all
-
 pub placed_still : (text now : List ℕ) (source : Source) → text ≡ now → IsPlaced text source → IsPlaced now source
 placed_still text now source same h = subst (λ (t : List ℕ). IsPlaced t source) same h
+
+pub before_still : (text now : List ℕ) (n m : ℕ) (source : Source) → text ≡ now → n ≡ m → IsPlacedBefore text n source → IsPlacedBefore now m source
+before_still text now n m source same e h = subst (λ (k : ℕ). IsPlacedBefore now k source) e (subst (λ (t : List ℕ). IsPlacedBefore t n source) same h)
+
+-- one more part, whose place is greater
+pub further : {X : Type 0} (place : X → ℕ) (n m : ℕ) (xs : List X) → n < m → All (λ x. place x < n) xs → All (λ x. place x < m) xs
+further place n m xs less all = λ k d within. let before = all k d within in omega (arith, less, before)
+
+pub rise_pushed : {X : Type 0} (place : X → ℕ) (xs more : List X) (x : X) → more ≡ xs ++ x ∷ [] → AllPairs (λ a b. place a < place b) xs → All (λ a. place a < place x) xs
+    → AllPairs (λ a b. place a < place b) more
+rise_pushed place xs more x grown rise all =
+    subst (AllPairs (λ a b. place a < place b)) (sym grown) (all_pairs_push (λ a b. place a < place b) xs x rise (λ k d within. all k d within))
 
 -- ---- declarations
 
@@ -270,12 +293,12 @@ values_derived f (r ∷ rs) old mid new h some took all =
 
 pub decl_stands : (d : Decl) (old mid new : Reader) → d.at ≡ old.at → Takes (same_sign Declares) old true mid → Derived (declaring (plain_decl d)) mid new → DeclStands new.text.now d
 decl_stands d old mid new e took h =
-    let class = declaration (plain_decl d) in
-    subst (λ (at : ℕ). StandsAt new.text.now at class) (sym e) (stands_at class old new (along (one Declares) (declaring (plain_decl d)) old mid new (takes_derived Declares old mid refl took) h))
+    let f = from_place (declaration (plain_decl d)) d.at old new e (along (one Declares) (declaring (plain_decl d)) old mid new (takes_derived Declares old mid refl took) h) in
+    (f.0, new.taken, f.1, f.2)
 
 -- the name of a definition, where nothing was passed before
 pub began : (old mid new : Reader) (x : String Global) → mid ≡ old → Derived (opened (string_bytes x)) mid new → From old.at (opened (string_bytes x)) new
-began old mid new x same h = from_place (opened (string_bytes x)) old new (subst (λ (r : Reader). Derived (opened (string_bytes x)) r new) same h)
+began old mid new x same h = from_place (opened (string_bytes x)) old.at old new refl (subst (λ (r : Reader). Derived (opened (string_bytes x)) r new) same h)
 
 -- a definition that is kept as a command
 pub command_kept : (source : Source) (def : Def) (more : List Def)
@@ -289,33 +312,50 @@ command_kept source def more is grown =
 
 -- ---- whole rules and definitions
 
+pub begins_there : (result : Result Rule Refusal) (at : ℕ) (qual : Option Qual) → IfOk result (λ r. (r.at ≡ at) × (r.qual ≡ qual)) → IfOk result (λ r. r.at ≡ at)
+begins_there (Ok r) at qual h = h.0
+begins_there (Err k) at qual h = tt
+
 pub loose_derived : (result : Result Rule Refusal) (at : ℕ) (qual : Option Qual) (old mid new : Reader) → Derived (qualifier qual) old mid
     → IfOk result (λ r. (r.at ≡ at) × (r.qual ≡ qual)) → IfOk result (λ r. Derived (bracketed r.kind (plain_rule r).name) mid new) → IfOk result (λ r. Derived (rule (plain_rule r)) old new)
 loose_derived (Ok r) at qual old mid new first h second =
     along (qualifier r.qual) (bracketed r.kind (plain_rule r).name) old mid new (subst (λ (q : Option Qual). Derived (qualifier q) old mid) (sym h.1) first) second
 loose_derived (Err k) at qual old mid new first h second = tt
 
+rules_push : (text : List ℕ) (k : ℕ) (rules : List Rule) (r : Rule) (m next : ℕ) → RulesStand text k rules m → Spans text m (rule (plain_rule r)) next → place_of text m ≡ r.at
+    → RulesStand text k (rules ++ r ∷ []) next
+rules_push text k [] r m next e s place = (next, subst (λ (n : ℕ). Spans text n (rule (plain_rule r)) next) (sym e) s, ap (place_of text) e ∙ place, refl)
+rules_push text k (x ∷ rules) r m next (n, s, place, more) t last = (n, s, place, rules_push text n rules r m next more t last)
+
 -- one more rule
-pub rules_derived : (rules more : List Rule) (r : Rule) (old mid new : Reader) → more ≡ rules ++ r ∷ [] → Derived (each rule (map plain_rule rules)) old mid → Derived (rule (plain_rule r)) mid new
-    → Derived (each rule (map plain_rule more)) old new
-rules_derived rules more r old mid new grown first second =
-    let before = map plain_rule rules in
-    let last = plain_rule r in
-    subst (λ (rs : List PlainRule). Derived (each rule rs) old new) (sym (ap (map plain_rule) grown ∙ map-append plain_rule rules (r ∷ [])))
-    (of_class (each rule before then rule last) (each rule (before ++ last ∷ [])) old new
-    (λ ts (front, rest, e, a, b). subst (each rule (before ++ last ∷ [])) (sym e) (each-append rule before (last ∷ []) front rest a (each-one rule last rest b)))
-    (along (each rule before) (rule last) old mid new first second))
+pub rules_more : (rules more : List Rule) (r : Rule) (k : ℕ) (old new : Reader) → more ≡ rules ++ r ∷ [] → RulesStand old.text.now k rules old.taken → Derived (rule (plain_rule r)) old new → r.at ≡ old.at
+    → RulesStand new.text.now k more new.taken
+rules_more rules more r k old new grown all h at =
+    subst (λ (rs : List Rule). RulesStand new.text.now k rs new.taken) (sym grown)
+    (rules_push new.text.now k rules r old.taken new.taken (subst (λ (text : List ℕ). RulesStand text k rules old.taken) h.3 all) (spans (rule (plain_rule r)) old new h) (place_now old new h.3 ∙ sym at))
 
-pub begins_with_all : (class : Tokens) (old new : Reader) → Derived class old new → Begins class old
-begins_with_all class old new (front, e, a, s) = (front, still new, e, a)
+pub rules_still : (text now : List ℕ) (k m : ℕ) (rules : List Rule) → text ≡ now → RulesStand text k rules m → RulesStand now k rules m
+rules_still text now k m rules same all = subst (λ (t : List ℕ). RulesStand t k rules m) same all
 
-pub begins_along : (first second : Tokens) (old mid : Reader) → Derived first old mid → Begins second mid → Begins (first then second) old
-begins_along first second old mid (front, e, a, s) (back, rest, f, b) =
-    (front ++ back, rest, e ∙ ap (λ (us : List Token). front ++ us) f ∙ sym (append_assoc front back rest), (front, back, refl, a, b))
+pub def_stands : (text : List ℕ) (at : ℕ) (name : List ℕ) (h : Head) (rules : List Rule) (end : ℕ) (old mid : Reader) → From at (opened name) old
+    → Derived (one Assign then one Less then head h then one Greater) old mid → mid.text.now ≡ text → RulesStand text mid.taken rules end
+    → (k : ℕ) × (m : ℕ) × (end : ℕ) × Spans text k (heading (record { name = name; head = h; rules = map plain_rule rules })) m × (place_of text k ≡ at) × RulesStand text m rules end
+def_stands text at name h rules end old mid (k, (front, e, a), place) (back, f, b, t) same stand =
+    let d : PlainDef = record { name = name; head = h; rules = map plain_rule rules } in
+    let up_to = f ∙ ap (λ (u : List ℕ). back ++ drop mid.taken (tokens u)) (sym t) in
+    let all = e ∙ ap (λ (us : List Token). front ++ us) up_to ∙ sym (append_assoc front back (drop mid.taken (tokens old.text.now))) in (
+      k,
+      mid.taken,
+      end,
+      subst (λ (u : List ℕ). Spans u k (heading d) mid.taken) (t ∙ same) (front ++ back, all, (front, back, refl, a, b)),
+      ap (λ (u : List ℕ). place_of u k) (sym (t ∙ same)) ∙ place,
+      stand,
+    )
 
-pub stands_along : (first second : Tokens) (at : ℕ) (reader : Reader) → From at first reader → Begins second reader → StandsAt reader.text.now at (first then second)
-stands_along first second at reader (k, front, e, a, place) (back, rest, f, b) =
-    (k, front ++ back, rest, e ∙ ap (λ (us : List Token). front ++ us) f ∙ sym (append_assoc front back rest), (front, back, refl, a, b), place)
-
-pub stands_as : (first second : Tokens) (text : List ℕ) (at : ℕ) → ((ts : List Token) → first ts → second ts) → StandsAt text at first → StandsAt text at second
-stands_as first second text at h (k, front, rest, e, a, place) = (k, front, rest, e, h front a, place)
+-- what comes behind a definition begins behind its name
+pub definition_before : (at : ℕ) (name : List ℕ) (next : Option Opening) (old mid new : Reader) → From at (opened name) old → old.text.now ≡ mid.text.now → old.taken ≤ mid.taken
+    → mid.text.now ≡ new.text.now → mid.taken ≤ new.taken → IfSome next (λ o. mid.at ≤ o.at) → at < unread next new
+definition_before at name None old mid new begun same first still second later =
+    omega (arith, opened_before name at old begun, never_back old mid same first, never_back mid new still second)
+definition_before at name (Some o) old mid new begun same first still second later =
+    omega (arith, opened_before name at old begun, never_back old mid same first, later)

@@ -11,7 +11,7 @@ use Rattle.dia_ccf.specs.declared.refused.Refused.{Refused}
 use Rattle.dia_ccf.specs.declared.refused.Refused.TheVariants as refuseds
 use Rattle.dia_ccf.specs.Tokens.{Token, Comma, Close_bracket, line_at, tokens}
 use Rattle.dia_ccf.specs.Faults.{place_of}
-use Rattle.dia_ccf.specs.Places.{RuleStands, opened}
+use Rattle.dia_ccf.specs.Places.{Spans, opened}
 use Rattle.dia_terms.specs.declared.Pxy.{Pxy}
 use Rattle.dia_terms.specs.declared.Pxy.TheVariants.{Either}
 use Rattle.dia_ccf.specs.declared.source.Head.{Head}
@@ -163,22 +163,24 @@ in_brackets pxy = λ ts. ⊥
 
 -- the tokens from the place up to the one ahead are of the class
 abbrev pub From : ℕ → Tokens → Reader → Type 0
-From at class reader = (k : ℕ) × (front : List Token) × (drop k (tokens reader.text.now) ≡ front ++ still reader) × class front × (place_of reader.text.now k ≡ at)
+From at class reader = (k : ℕ) × Spans reader.text.now k class reader.taken × (place_of reader.text.now k ≡ at)
 
--- the tokens from the one ahead on begin with those of the class
-abbrev pub Begins : Tokens → Reader → Type 0
-Begins class reader = (front : List Token) × (rest : List Token) × (still reader ≡ front ++ rest) × class front
+-- what stands behind some rules was passed: a rule, or the beginning of the next definition
+abbrev pub Passed_behind : Behind → Reader → Reader → Type 0
+Passed_behind (behinds.Rule rule) old new = Derived (rule_tokens (plain_rule rule)) old new
+Passed_behind (behinds.Definition opening) old new = Derived (opened (string_bytes opening.name)) old new
+Passed_behind behinds.Nothing old new = Unit {0}
 
--- a rule that stands behind some rules was passed
-abbrev pub Rule_behind : Behind → Reader → Reader → Type 0
-Rule_behind (behinds.Rule rule) old new = Derived (rule_tokens (plain_rule rule)) old new
-Rule_behind found old new = Unit {0}
-
--- what stands behind some rules stands at its place: a rule, or the beginning of the next definition, up to the token ahead
+-- it begins at the token that was ahead
 abbrev pub Placed_behind : Behind → Reader → Type 0
-Placed_behind (behinds.Rule rule) new = RuleStands new.text.now rule
-Placed_behind (behinds.Definition opening) new = From opening.at (opened (string_bytes opening.name)) new
-Placed_behind behinds.Nothing new = Unit {0}
+Placed_behind (behinds.Rule rule) old = rule.at ≡ old.at
+Placed_behind (behinds.Definition opening) old = opening.at ≡ old.at
+Placed_behind behinds.Nothing old = Unit {0}
+
+-- the place where what isn't in the source yet begins
+abbrev pub unread : Option Opening → Reader → ℕ
+unread None reader = reader.at
+unread (Some opening) reader = opening.at
 
 -- nothing has been read
 abbrev pub nothing_read : PlainSource

@@ -1,5 +1,5 @@
 //! Reading the grammar (RFC 6733 section 3.2) with one token of look-ahead.
-ghost use Rattle.std.specs.Prelude.{◌≡◌, ◌+◌, ◌-◌, ◌≤◌, ℕ, List, take, drop, length, map, slice_get, OnOk, IfErr};
+ghost use Rattle.std.specs.Prelude.{◌≡◌, ◌+◌, ◌-◌, ◌<◌, ◌≤◌, ℕ, List, take, drop, length, map, slice_get, OnOk, IfErr};
 ghost use Rattle.std.specs.Char.{to_ascii_lowercase};
 ghost use Rattle.dia_ccf.specs.Limits.{max_text};
 ghost use Rattle.dia_ccf.specs.Plain.{plain_source, plain_decl, plain_def};
@@ -7,7 +7,7 @@ ghost use Rattle.dia_ccf.specs.Machine.{add_decl, add_def};
 ghost use Rattle.dia_ccf.specs.Tokens.{placed_tokens, line_at};
 ghost use Rattle.dia_ccf.specs.declared.wanted.Wanted.TheVariants.{Item};
 ghost use Rattle.dia_ccf.specs.Faults.{token_place};
-ghost use Rattle.dia_ccf.specs.Places.{IsPlaced, DeclStands, DefStands};
+ghost use Rattle.dia_ccf.specs.Places.{IsPlaced, IsPlacedBefore, DeclStands, DefStands};
 ghost use Rattle.dia_ccf.specs.Refusals.{place_before};
 ghost use Rattle.dia_ccf.specs.Wanting.{behind_all};
 ghost use Rattle.dia_ccf.specs.LexerTokens.{tokens_from, left_from, ahead, sees};
@@ -322,8 +322,8 @@ fn line_of(text: &str, at: usize) -> u32
 fn keep_declaration(source: &mut Source, decl: Decl) -> Result<(), Refusal>
     ensures kept { OnOk result
         (plain_source source.new ≡ add_decl (plain_source source.old) (plain_decl decl)) }
-    ensures placed { (text : List ℕ) → IsPlaced text source.old → DeclStands text decl
-        → OnOk result (IsPlaced text source.new) }
+    ensures placed { (text : List ℕ) (at : ℕ) → IsPlacedBefore text decl.at source.old
+        → DeclStands text decl → decl.at < at → OnOk result (IsPlacedBefore text at source.new) }
     ensures err { IfErr result (λ e. e ≡ Refusal.NoMemory) }
 {
     source.avps.push(decl)?;
@@ -334,8 +334,8 @@ fn keep_declaration(source: &mut Source, decl: Decl) -> Result<(), Refusal>
 fn keep_definition(source: &mut Source, def: Def) -> Result<(), Refusal>
     ensures kept { OnOk result
         (plain_source source.new ≡ add_def (plain_source source.old) (plain_def def)) }
-    ensures placed { (text : List ℕ) → IsPlaced text source.old → DefStands text def
-        → OnOk result (IsPlaced text source.new) }
+    ensures placed { (text : List ℕ) (at : ℕ) → IsPlacedBefore text def.at source.old
+        → DefStands text def → def.at < at → OnOk result (IsPlacedBefore text at source.new) }
     ensures err { IfErr result (λ e. e ≡ Refusal.NoMemory) }
 {
     match def.head {

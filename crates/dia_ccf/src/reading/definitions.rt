@@ -46,10 +46,9 @@ impl<'a> Reader<'a> {
     ghost use Rattle.dia_ccf.specs.ReaderFunctions.{Reads_by, course, begins_with};
     ghost use Rattle.dia_ccf.specs.ReaderFunctions.{left, behind, after_rules};
     ghost use Rattle.dia_ccf.specs.ReaderFunctions.{KeepsOrder, NamesNext, Goes};
-    ghost use Rattle.dia_ccf.specs.ReaderFunctions.{Derived, From, Begins, Placed_behind, Rule_behind};
-    ghost use Rattle.dia_ccf.specs.Grammar.{◌then◌, one, each, name, rule, bracketed, count, qualifier};
-    ghost use Rattle.std.specs.List.{All};
-    ghost use Rattle.dia_ccf.specs.Places.{DefStands, RuleStands, opened};
+    ghost use Rattle.dia_ccf.specs.ReaderFunctions.{Derived, From, Passed_behind, Placed_behind, unread};
+    ghost use Rattle.dia_ccf.specs.Grammar.{◌then◌, one, name, rule, bracketed, count, qualifier};
+    ghost use Rattle.dia_ccf.specs.Places.{DefStands, RulesStand, opened};
 
     /// The name of a definition, in angle brackets or bare.
     pub(super) fn defined_name(&mut self) -> Result<String, Refusal>
@@ -95,8 +94,10 @@ impl<'a> Reader<'a> {
         ensures named { IfOk result
             (λ found. IfSome found.1 (λ next. IsTrue (is_name (string_bytes next.name)))) }
         ensures placed { IfOk result (λ found. DefStands self.new.text.now found.0) }
+        ensures begins { IfOk result (λ found. found.0.at ≡ opening.at) }
         ensures begun { IfOk result (λ found. IfSome found.1
             (λ next. From next.at (opened (string_bytes next.name)) self.new)) }
+        ensures later { IfOk result (λ found. opening.at < unread found.1 self.new) }
         ensures farther { OnOk result (self.old.taken < self.new.taken) }
     {
         let Opening { at, name } = opening;
@@ -128,11 +129,11 @@ impl<'a> Reader<'a> {
             (λ found. IsTrue (fixed_first (map (λ r. r.kind) found.0.items))) }
         ensures named { IfOk result
             (λ found. IfSome found.1 (λ next. IsTrue (is_name (string_bytes next.name)))) }
-        ensures placed { IfOk result (λ found. All (RuleStands self.new.text.now) found.0.items) }
-        ensures derived { IfOk result
-            (λ found. Begins (each rule (map plain_rule found.0.items)) self.old) }
+        ensures placed { IfOk result (λ found. (end : ℕ)
+            × RulesStand self.new.text.now self.old.taken found.0.items end) }
         ensures begun { IfOk result (λ found. IfSome found.1
             (λ next. From next.at (opened (string_bytes next.name)) self.new)) }
+        ensures later { IfOk result (λ found. IfSome found.1 (λ next. self.old.at ≤ next.at)) }
         ensures farther { OnOk result (self.old.taken ≤ self.new.taken) }
     {
         let mut rules = Vec::new(self.alloc);
@@ -155,8 +156,8 @@ impl<'a> Reader<'a> {
             → Leads (course (done, Rules d) self.old) (after_rules done d) result self.new }
         ensures ordered { IfOk result (λ found. KeepsOrder found only_fixed) }
         ensures named { IfOk result NamesNext }
-        ensures placed { IfOk result (λ found. Placed_behind found self.new) }
-        ensures derived { IfOk result (λ found. Rule_behind found self.old self.new) }
+        ensures placed { IfOk result (λ found. Placed_behind found self.old) }
+        ensures derived { IfOk result (λ found. Passed_behind found self.old self.new) }
         ensures farther { IfOk result (λ found. Goes found self.old.taken self.new.taken) }
     {
         let at = self.at;
@@ -223,7 +224,7 @@ impl<'a> Reader<'a> {
             → Leads (course (done, Rules d) self.old)
             (λ rule. (done, Rules (with_rule d (plain_rule rule)))) result self.new }
         ensures ordered { IfOk result (λ rule. rule.kind ≡ RuleKind.Fixed → fixed ≡ true) }
-        ensures placed { IfOk result (λ rule. RuleStands self.new.text.now rule) }
+        ensures placed { IfOk result (λ rule. rule.at ≡ self.old.at) }
         ensures derived { IfOk result (λ found. Derived (rule (plain_rule found)) self.old self.new) }
         ensures farther { OnOk result (self.old.taken < self.new.taken) }
     {

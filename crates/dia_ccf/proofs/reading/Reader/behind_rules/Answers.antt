@@ -6,11 +6,9 @@ use Rattle.dia_ccf.specs.ReaderFunctions.{course, left, begins_with, after_rules
 use Rattle.dia_ccf.proofs.MachineCompleteness.{angle_settled}
 use Rattle.dia_ccf.proofs.ReaderSteps.{leads_along, exits, takes_sign}
 use Rattle.dia_ccf.proofs.ReaderInRules.{bare_wanted, rules_end, angle_defines, or_false}
-use Rattle.std.proofs.Common.{Some, None, Ok}
-use Rattle.dia_terms.specs.declared.RuleKind.TheVariants.{Fixed}
-use Rattle.dia_ccf.specs.Grammar.{◌then◌, qualifier, bracketed}
-use Rattle.dia_ccf.specs.Places.{opened}
-use Rattle.dia_ccf.proofs.ReaderPlaces.{from_place, angled, bare_fixed, stands_at, loose_stands, unmoved}
+use Rattle.std.proofs.Common.{None, Ok}
+use Rattle.dia_ccf.specs.Grammar.{qualifier}
+use Rattle.dia_ccf.proofs.ReaderPlaces.{angled, bare_fixed, unmoved}
 use Rattle.std.proofs.Common.{subst}
 use Rattle.dia_ccf.specs.declared.reading.Reader.{Reader}
 use Rattle.dia_ccf.specs.Grammar.{rule}
@@ -78,20 +76,12 @@ returns-clause-read c = λ done d e.
     (rules_end done d (left c.takes.new.self) (ap (λ r. begins_with (same_sign Less) (left r)) same ∙ c.if-takes.ensures.0)
     (sym c.is_at_qualifier.ensures ∙ c.if-is_at_qualifier.false) (sym c.is_at_loose.ensures ∙ c.if-is_at_loose.false)))
 
-pub returns-then-is_at_definition-clause-placed : goal.returns-then-is_at_definition-clause-placed
-returns-then-is_at_definition-clause-placed c =
-    from_place (opened (string_bytes c.in_ok-name.name)) c.args.self.now c.name_in_angles.new.self
-    (angled c.args.self.now c.takes.new.self c.name_in_angles.new.self c.in_ok-name.name c.if-takes.ensures c.in_ok-name.ensures.derived)
+pub returns-then-is_at_definition-clause-derived : goal.returns-then-is_at_definition-clause-derived
+returns-then-is_at_definition-clause-derived c =
+    angled c.args.self.now c.takes.new.self c.name_in_angles.new.self c.in_ok-name.name c.if-takes.ensures c.in_ok-name.ensures.derived
 
-pub returns-then-takes-clause-placed : goal.returns-then-takes-clause-placed
-returns-then-takes-clause-placed c =
-    stands_at (qualifier None then bracketed Fixed (Some (string_bytes c.in_ok-name.name))) c.args.self.now c.name_in_angles.new.self
-    (bare_fixed c.args.self.now c.takes.new.self c.name_in_angles.new.self c.in_ok-name.name c.if-takes.ensures c.in_ok-name.ensures.derived)
-
-pub returns-then-is_at_loose-clause-placed : goal.returns-then-is_at_loose-clause-placed
-returns-then-is_at_loose-clause-placed c =
-    loose_stands (Ok c.in_ok-rule-2.rule) c.args.self.now.at None c.args.self.now c.takes.new.self c.loose.new.self refl
-    (unmoved (qualifier None) c.args.self.now c.takes.new.self c.if-takes.ensures.1 refl) c.in_ok-rule-2.ensures.placed c.in_ok-rule-2.ensures.derived
+pub returns-then-is_at_qualifier-clause-placed : goal.returns-then-is_at_qualifier-clause-placed
+returns-then-is_at_qualifier-clause-placed c = c.in_ok-rule.ensures.placed ∙ ap (λ (r : Reader). r.at) c.if-takes.ensures.1
 
 pub returns-then-takes-clause-derived : goal.returns-then-takes-clause-derived
 returns-then-takes-clause-derived c =

@@ -1,17 +1,15 @@
 use Rattle.std.proofs.Common.{[], refl, Ok, Err, ◌∙◌}
 use Rattle.std.specs.Prelude.{string_bytes}
-use Rattle.dia_ccf.specs.Plain.{PlainDef, plain_def, plain_rule}
+use Rattle.dia_ccf.specs.Plain.{PlainDef, plain_def}
 use Rattle.dia_ccf.specs.Tokens.{Less, Greater, Assign}
 use Rattle.dia_ccf.specs.Machine.{Def_assign, Head_open, In_head, Head_word, Head_end, Rules, add_def}
 use Rattle.dia_ccf.specs.ReaderFunctions.{course, behind}
 use Rattle.dia_ccf.proofs.ReaderSteps.{sign_leads, leads_along, exits}
 use Rattle.dia_ccf.proofs.ReaderInHeads.{head_closed}
-use Rattle.std.proofs.Common.{subst, map, List, ℕ}
-use Rattle.dia_ccf.specs.Grammar.{◌then◌, one, each, head, rule, definition}
-use Rattle.dia_ccf.specs.Places.{StandsAt, opened}
+use Rattle.std.proofs.Common.{◌≤◌, arith}
+use Rattle.dia_ccf.specs.Grammar.{◌then◌, one, head}
 use Rattle.dia_ccf.specs.ReaderFunctions.{nothing_read}
-use Rattle.dia_ccf.proofs.ReaderPlaces.{same_text, stands_as, stands_along, begins_along, sign_derived}
-use Rattle.dia_ccf.proofs.CanonicalTexts.{fixed_first_splits}
+use Rattle.dia_ccf.proofs.ReaderPlaces.{same_text, along, sign_derived, def_stands, definition_before}
 use Rattle.dia_ccf.proofs.reading.Reader.definition.Goals as goal
 
 pub returns-in_err-expect-clause-read : goal.returns-in_err-expect-clause-read
@@ -86,17 +84,21 @@ returns-clause-read c = λ done.
 
 pub returns-clause-placed : goal.returns-clause-placed
 returns-clause-placed c =
-    let name = string_bytes c.args.opening.name in
-    let rules = each rule (map plain_rule c.in_ok-rules.rules.items) in
-    let h = head c.in_ok-head.head in
-    let begins = begins_along (one Assign) (one Less then h then one Greater then rules) c.args.self.now c.expect.new.self (sign_derived Assign c.args.self.now c.expect.new.self refl c.in_ok-expect.ensures)
-    (begins_along (one Less) (h then one Greater then rules) c.expect.new.self c.expect-2.new.self (sign_derived Less c.expect.new.self c.expect-2.new.self refl c.in_ok-expect-2.ensures)
-    (begins_along h (one Greater then rules) c.expect-2.new.self c.head.new.self c.in_ok-head.ensures.derived
-    (begins_along (one Greater) rules c.head.new.self c.expect-3.new.self (sign_derived Greater c.head.new.self c.expect-3.new.self refl c.in_ok-expect-3.ensures) c.in_ok-rules.ensures.derived))) in
-    let class = opened name then one Assign then one Less then h then one Greater then rules in
-    let d : PlainDef = record { name = name; head = c.in_ok-head.head; rules = map plain_rule c.in_ok-rules.rules.items } in
-    let stands = stands_as class (definition d) c.args.self.now.text.now c.args.opening.at (λ ts k. (fixed_first_splits c.in_ok-rules.rules.items c.in_ok-rules.ensures.ordered, k))
-    (stands_along (opened name) (one Assign then one Less then h then one Greater then rules) c.args.opening.at c.args.self.now c.requires.begun begins) in
-    let same = c.in_ok-expect.ensures.2.1 ∙ c.in_ok-expect-2.ensures.2.1 ∙ same_text (c.in_ok-head.ensures.read nothing_read []) ∙ c.in_ok-expect-3.ensures.2.1
-    ∙ same_text (c.in_ok-rules.ensures.read nothing_read [] c.in_ok-head.head) in
-    (subst (λ (text : List ℕ). StandsAt text c.args.opening.at (definition d)) same stands, c.in_ok-rules.ensures.placed)
+    let h = c.in_ok-head.head in
+    let old = c.args.self.now in
+    let mid = c.expect-3.new.self in
+    let up_to = along (one Assign) (one Less then head h then one Greater) old c.expect.new.self mid (sign_derived Assign old c.expect.new.self refl c.in_ok-expect.ensures)
+    (along (one Less) (head h then one Greater) c.expect.new.self c.expect-2.new.self mid (sign_derived Less c.expect.new.self c.expect-2.new.self refl c.in_ok-expect-2.ensures)
+    (along (head h) (one Greater) c.expect-2.new.self c.head.new.self mid c.in_ok-head.ensures.derived (sign_derived Greater c.head.new.self mid refl c.in_ok-expect-3.ensures))) in
+    let (end, stand) = c.in_ok-rules.ensures.placed in
+    def_stands c.rules.new.self.text.now c.args.opening.at (string_bytes c.args.opening.name) h c.in_ok-rules.rules.items end old mid c.requires.begun up_to
+    (same_text (c.in_ok-rules.ensures.read nothing_read [] h)) stand
+
+pub returns-clause-later : goal.returns-clause-later
+returns-clause-later c =
+    let old = c.args.self.now in
+    let mid = c.expect-3.new.self in
+    let same = c.in_ok-expect.ensures.2.1 ∙ c.in_ok-expect-2.ensures.2.1 ∙ same_text (c.in_ok-head.ensures.read nothing_read []) ∙ c.in_ok-expect-3.ensures.2.1 in
+    let farther : old.taken ≤ mid.taken = omega (arith, c.in_ok-expect.ensures.2.2, c.in_ok-expect-2.ensures.2.2, c.in_ok-head.ensures.farther, c.in_ok-expect-3.ensures.2.2) in
+    definition_before c.args.opening.at (string_bytes c.args.opening.name) c.in_ok-rules.next old mid c.rules.new.self c.requires.begun same farther
+    (same_text (c.in_ok-rules.ensures.read nothing_read [] c.in_ok-head.head)) c.in_ok-rules.ensures.farther c.in_ok-rules.ensures.later

@@ -8,9 +8,9 @@ use Rattle.std.proofs.Common.{sym, subst}
 use Rattle.std.specs.Prelude.{string_bytes}
 use Rattle.dia_terms.specs.declared.RuleKind.TheVariants.{Fixed}
 use Rattle.dia_ccf.specs.declared.reading.Reader.{Reader}
-use Rattle.dia_ccf.specs.Grammar.{◌then◌, qualifier, bracketed}
+use Rattle.dia_ccf.specs.Grammar.{qualifier, bracketed}
 use Rattle.dia_ccf.specs.ReaderFunctions.{Derived}
-use Rattle.dia_ccf.proofs.ReaderPlaces.{along, in_angles, stands_at, loose_stands}
+use Rattle.dia_ccf.proofs.ReaderPlaces.{along, in_angles, begins_there}
 use Rattle.dia_ccf.proofs.ReaderPlaces.{loose_derived}
 use Rattle.dia_ccf.proofs.reading.Reader.qualified.Goals as goal
 
@@ -62,20 +62,8 @@ returns-clause-farther c =
     farther_yet c.loose.result c.args.self.now.taken c.takes_fixed.new.self.taken c.loose.new.self.taken
     (omega (arith, c.in_ok-qual.ensures.farther, c.takes_fixed.ensures.farther)) c.loose.ensures.farther
 
-pub returns-then-takes_fixed-clause-placed : goal.returns-then-takes_fixed-clause-placed
-returns-then-takes_fixed-clause-placed c =
-    let q = c.in_ok-qual.qual in
-    let n = string_bytes c.in_ok-name.name in
-    let fixed = bracketed Fixed (Some n) in
-    stands_at (qualifier (Some q) then fixed) c.args.self.now c.name_in_angles.new.self
-    (along (qualifier (Some q)) fixed c.args.self.now c.qualifier.new.self c.name_in_angles.new.self c.in_ok-qual.ensures.derived
-    (in_angles c.qualifier.new.self c.takes_fixed.new.self c.name_in_angles.new.self c.in_ok-name.name c.if-takes_fixed.ensures.read.1 c.in_ok-name.ensures.derived))
-
 pub returns-clause-placed : goal.returns-clause-placed
-returns-clause-placed c =
-    let qual = Some c.in_ok-qual.qual in
-    loose_stands c.loose.result c.args.self.now.at qual c.args.self.now c.takes_fixed.new.self c.loose.new.self refl
-    (subst (λ (r : Reader). Derived (qualifier qual) c.args.self.now r) (sym c.if-takes_fixed.ensures.read.1) c.in_ok-qual.ensures.derived) c.loose.ensures.placed c.loose.ensures.derived
+returns-clause-placed c = begins_there c.loose.result c.args.self.now.at (Some c.in_ok-qual.qual) c.loose.ensures.placed
 
 pub returns-then-takes_fixed-clause-derived : goal.returns-then-takes_fixed-clause-derived
 returns-then-takes_fixed-clause-derived c =

@@ -8,8 +8,9 @@ use Rattle.dia_ccf.specs.Machine.{Rules, with_rule}
 use Rattle.dia_ccf.specs.ReaderFunctions.{course, after_rules}
 use Rattle.dia_ccf.proofs.ReaderInRules.{rules_append, fixed_more, order_more, kind_told}
 use Rattle.dia_ccf.specs.ReaderFunctions.{nothing_read}
-use Rattle.dia_ccf.proofs.ReaderPlaces.{same_text, no_head, more_stand, all_stand, rules_derived, begins_with_all}
-use Rattle.dia_ccf.specs.Grammar.{each, rule as rule_tokens}
+use Rattle.dia_ccf.proofs.ReaderPlaces.{same_text, no_head, rules_more, rules_still, from_place, never_back}
+use Rattle.std.specs.Prelude.{string_bytes}
+use Rattle.dia_ccf.specs.Places.{opened}
 use Rattle.dia_ccf.proofs.reading.Reader.rules.Goals as goal
 
 abbrev with_items : List ℕ → Head → List Rule → PlainDef
@@ -36,24 +37,34 @@ loop-rules-preserved c =
           ∙ ap (λ (e : PlainDef). course (done, Rules e) c.behind_rules.new.self) (one_more name head items now rule grown));
       fixed = fixed_more items now rule fixed c.is_fixed-only_fixed.result grown c.loop-rules.invariant.fixed (kind_told rule.kind fixed keeps ∙ sym c.is_fixed-only_fixed.ensures);
       ordered = order_more items now rule fixed grown c.loop-rules.invariant.fixed c.loop-rules.invariant.ordered keeps;
-      placed = more_stand c.loop-rules.self.text.now c.behind_rules.new.self.text.now items now rule (same_text (c.in_ok-rule.ensures.read nothing_read (with_items [] no_head items) c.loop-rules.invariant.fixed))
-          grown c.loop-rules.invariant.placed (rw c.in-Rule.is at c.in_ok-rule.ensures.placed);
-      derived = rules_derived items now rule c.args.self.now c.loop-rules.self c.behind_rules.new.self grown c.loop-rules.invariant.derived (rw c.in-Rule.is at c.in_ok-rule.ensures.derived);
+      placed = rules_more items now rule c.args.self.now.taken c.loop-rules.self c.behind_rules.new.self grown c.loop-rules.invariant.placed (rw c.in-Rule.is at c.in_ok-rule.ensures.derived)
+          (rw c.in-Rule.is at c.in_ok-rule.ensures.placed);
       farther = omega (arith, c.loop-rules.invariant.farther, goes);
     }
 
 pub returns-in-Definition-clause-placed : goal.returns-in-Definition-clause-placed
 returns-in-Definition-clause-placed c =
+    let old = c.loop-rules.self in
+    let new = c.behind_rules.new.self in
     let items = c.loop-rules.rules.items in
-    all_stand c.loop-rules.self.text.now c.behind_rules.new.self.text.now items (same_text (c.in_ok-rule.ensures.read nothing_read (with_items [] no_head items) c.loop-rules.invariant.fixed)) c.loop-rules.invariant.placed
+    (old.taken, rules_still old.text.now new.text.now c.args.self.now.taken old.taken items (same_text (c.in_ok-rule.ensures.read nothing_read (with_items [] no_head items) c.loop-rules.invariant.fixed)) c.loop-rules.invariant.placed)
 
 pub returns-in-Nothing-clause-placed : goal.returns-in-Nothing-clause-placed
 returns-in-Nothing-clause-placed c =
+    let old = c.loop-rules.self in
+    let new = c.behind_rules.new.self in
     let items = c.loop-rules.rules.items in
-    all_stand c.loop-rules.self.text.now c.behind_rules.new.self.text.now items (same_text (c.in_ok-rule.ensures.read nothing_read (with_items [] no_head items) c.loop-rules.invariant.fixed)) c.loop-rules.invariant.placed
+    (old.taken, rules_still old.text.now new.text.now c.args.self.now.taken old.taken items (same_text (c.in_ok-rule.ensures.read nothing_read (with_items [] no_head items) c.loop-rules.invariant.fixed)) c.loop-rules.invariant.placed)
 
-pub returns-in-Definition-clause-derived : goal.returns-in-Definition-clause-derived
-returns-in-Definition-clause-derived c = begins_with_all (each rule_tokens (map plain_rule c.loop-rules.rules.items)) c.args.self.now c.loop-rules.self c.loop-rules.invariant.derived
+pub returns-in-Definition-clause-begun : goal.returns-in-Definition-clause-begun
+returns-in-Definition-clause-begun c =
+    let next = c.in-Definition.opening in
+    from_place (opened (string_bytes next.name)) next.at c.loop-rules.self c.behind_rules.new.self (rw c.in-Definition.is at c.in_ok-rule.ensures.placed) (rw c.in-Definition.is at c.in_ok-rule.ensures.derived)
 
-pub returns-in-Nothing-clause-derived : goal.returns-in-Nothing-clause-derived
-returns-in-Nothing-clause-derived c = begins_with_all (each rule_tokens (map plain_rule c.loop-rules.rules.items)) c.args.self.now c.loop-rules.self c.loop-rules.invariant.derived
+pub returns-in-Definition-clause-later : goal.returns-in-Definition-clause-later
+returns-in-Definition-clause-later c =
+    let old = c.args.self.now in
+    let here = c.loop-rules.self in
+    let begins : c.in-Definition.opening.at ≡ here.at = rw c.in-Definition.is at c.in_ok-rule.ensures.placed in
+    let back = never_back old here (same_text (c.loop-rules.invariant.read nothing_read [] no_head)) c.loop-rules.invariant.farther in
+    omega (arith, begins, back)

@@ -4,10 +4,8 @@ use Rattle.dia_ccf.specs.declared.source.Head.{Head}
 use Rattle.dia_ccf.specs.Names.{fixed_first}
 use Rattle.dia_ccf.specs.Plain.{PlainSource, plain_rule}
 use Rattle.dia_ccf.specs.Machine.{Rules, all_fixed}
-use Rattle.dia_ccf.specs.ReaderFunctions.{course, Derived}
-use Rattle.dia_ccf.specs.Grammar.{each, rule}
-use Rattle.std.specs.List.{All}
-use Rattle.dia_ccf.specs.Places.{RuleStands}
+use Rattle.dia_ccf.specs.ReaderFunctions.{course}
+use Rattle.dia_ccf.specs.Places.{RulesStand}
 use Rattle.dia_ccf.proofs.reading.Reader.rules.Given as goal
 
 abbrev pub invariant-loop-rules : goal.invariant-loop-rules
@@ -16,8 +14,7 @@ invariant-loop-rules l = record {
       ≡ course (done, Rules (record { name = name; head = head; rules = map plain_rule l.rules.items })) l.self;
   fixed : all_fixed (map plain_rule l.rules.items) ≡ l.only_fixed;
   ordered : IsTrue (fixed_first (map (λ r. r.kind) l.rules.items));
-  placed : All (RuleStands l.self.text.now) l.rules.items;
-  derived : Derived (each rule (map plain_rule l.rules.items)) l.initial.self l.self;
+  placed : RulesStand l.self.text.now l.initial.self.taken l.rules.items l.self.taken;
   farther : l.initial.self.taken ≤ l.self.taken;
 }
 
