@@ -30,6 +30,7 @@ COMMANDS = """
 + breaking --meaning narrow.txt wide.txt
 + breaking narrow.txt wide.txt
 + breaking --accepted known.txt wide.txt narrow.txt
++ breaking --accepted known.txt narrow.txt wide.txt
 + breaking narrow.txt wrong.txt
 + compare narrow.txt wide.txt table.txt
 + compare wide.txt narrow.txt table.txt

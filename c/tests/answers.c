@@ -257,16 +257,19 @@ static void texts_are_read_in_pieces(void) {
     EXPECT(dia_render((const uint8_t *)untidy, strlen(untidy), &text, &problem) == DIA_OK);
     EXPECT(dia_render((const uint8_t *)untidy, strlen(untidy), &text, &problem) == DIA_IS_OPEN);
     EXPECT(dia_text_length(&text, &count) == DIA_OK && count == strlen(canonical));
+    memset(piece, FILLING, sizeof piece);
     while (dia_text_read(&text, from, piece, sizeof piece, &count) == DIA_OK && count > 0) {
         EXPECT(count == 7 || count == strlen(canonical) % 7);
+        EXPECT(is_left(piece + count, sizeof piece - count));
         memcpy(all + from, piece, count);
+        memset(piece, FILLING, sizeof piece);
         from += count;
     }
     EXPECT(is_name(all, from, canonical));
-    EXPECT(dia_text_read(&text, SIZE_MAX, piece, sizeof piece, &count) == DIA_OK && count == 0);
-    EXPECT(dia_text_read(&text, 0, piece, 0, &count) == DIA_OK && count == 0);
+    EXPECT(dia_text_read(&text, SIZE_MAX, piece, sizeof piece, &count) == DIA_OK && count == 0 && is_left(piece, sizeof piece));
+    EXPECT(dia_text_read(&text, 0, piece, 0, &count) == DIA_OK && count == 0 && is_left(piece, sizeof piece));
     dia_text_close(&text);
-    EXPECT(dia_text_read(&text, 0, piece, sizeof piece, &count) == DIA_IS_CLOSED);
+    EXPECT(dia_text_read(&text, 0, piece, sizeof piece, &count) == DIA_IS_CLOSED && is_left(piece, sizeof piece));
 }
 
 int main(void) {
