@@ -3,7 +3,7 @@
 use crate::notes::meant::{Meant, byte_of, meant_of};
 use crate::notes::names::NamesOf;
 use crate::notes::wanted::words_of;
-use crate::notes::word::{line_end, word_at};
+use crate::notes::word::{end_of_words, word_at};
 use crate::reporting::{BadText, RefusedText, Report};
 use dia_data::{Format, push_hex_byte, push_value};
 use dia_dict::base_text;
@@ -72,7 +72,7 @@ fn push_fault(note: &mut Note, name: &str, names: &NamesOf<'_>, text: &[u8], fau
     let start = start_of_line(text, u32::try_from(fault.line).unwrap_or(u32::MAX));
     let at = match fault.at {
         Some(at) => start.saturating_add(at),
-        None => line_end(text, start),
+        None => end_of_words(text, start),
     };
     let word = word_at(text, at);
     note.put_place(name, text, at);

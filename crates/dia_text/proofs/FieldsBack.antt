@@ -40,14 +40,14 @@ number_back limit n less fits = ap (option_and_then (within limit)) (number_of_b
 
 -- ---- what a field says
 
-flags_there : (letters : List (ℕ × ℕ)) (flags : Wanted) (default : Option ℕ) (wanted : Wanted) (text more word rest : List ℕ) (n : ℕ) → first_word text ≡ codes "flags" → behind_word text ≡ more → first_word more ≡ word → behind_word more ≡ rest
-    → flags_of letters word ≡ Some n → flags_field letters flags default wanted text ≡ Ok (n, rest)
+flags_there : (letters : List (ℕ × ℕ)) (wrong : Wanted) (default : Option ℕ) (wanted : Wanted) (text more word rest : List ℕ) (n : ℕ) → first_word text ≡ codes "flags" → behind_word text ≡ more → first_word more ≡ word → behind_word more ≡ rest
+    → flags_of letters word ≡ Some n → flags_field letters wrong default wanted text ≡ Ok (n, rest)
 unfolding flags_field
-flags_there letters flags default wanted text more word rest n k b f e value = rw (k, b, f, e, value) refl
+flags_there letters wrong default wanted text more word rest n k b f e value = rw (k, b, f, e, value) refl
 
-flags_not_there : (letters : List (ℕ × ℕ)) (flags wanted : Wanted) (n : ℕ) (text : List ℕ) → same_bytes (first_word text) (codes "flags") ≡ false → flags_field letters flags (Some n) wanted text ≡ Ok (n, text)
+flags_not_there : (letters : List (ℕ × ℕ)) (wrong wanted : Wanted) (n : ℕ) (text : List ℕ) → same_bytes (first_word text) (codes "flags") ≡ false → flags_field letters wrong (Some n) wanted text ≡ Ok (n, text)
 unfolding flags_field
-flags_not_there letters flags wanted n text other = rw other refl
+flags_not_there letters wrong wanted n text other = rw other refl
 
 number_there : (key : List ℕ) (default : Option ℕ) (wanted : Wanted) (text more word rest : List ℕ) (n : ℕ) → same_bytes (first_word text) key ≡ true → behind_word text ≡ more → first_word more ≡ word → behind_word more ≡ rest
     → number_below (2 ^ 32) word ≡ Some n → number_field key default wanted text ≡ Ok (n, rest)

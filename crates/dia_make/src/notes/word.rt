@@ -25,8 +25,23 @@ fn is_of_word(byte: u8) -> bool {
     !matches!(byte, b' ' | b'\t' | b'\r' | b'\n' | b'#')
 }
 
-/// Where the line ends that begins at a place.
-pub fn line_end(text: &[u8], start: usize) -> usize {
-    let rest = text.get(start..).unwrap_or(b"".as_slice());
-    start.saturating_add(rest.iter().take_while(|byte| **byte != b'\n').count())
+/// The place behind the last word of the line that begins at a place: that of its comment, or of its end.
+pub fn end_of_words(text: &[u8], start: usize) -> usize {
+    let mut at = start;
+    for _ in text {
+        at = at.saturating_add(blanks_at(text, at));
+        let length = word_at(text, at).len();
+        if length == 0 {
+            return at;
+        }
+        at = at.saturating_add(length);
+    }
+    at
+}
+
+fn blanks_at(text: &[u8], at: usize) -> usize {
+    let rest = text.get(at..).unwrap_or(b"".as_slice());
+    rest.iter()
+        .take_while(|byte| matches!(byte, b' ' | b'\t' | b'\r'))
+        .count()
 }
