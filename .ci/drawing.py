@@ -19,6 +19,8 @@ SAME_BYTES = [
     [*of_data(4), "Enumerated"], of_data(8), [*of_data("any"), "UTF8String"], ["DiameterURI", "DiameterIdentity", "Address"],
 ]
 """Formats of which each has data of another in its row."""
+OF_LEVELS = [*of_data("any"), "Address"]
+"""Formats that have all levels of a group as data, or may have them."""
 COUNTS = [("", ""), ("", ""), ("1", ""), ("", "2"), ("2", ""), ("1", "3"), ("0", "1"), ("2", "2")]
 
 
@@ -73,13 +75,15 @@ def variant(draw, text):
 
 
 def renamed(draw, text):
-    """The dictionary with another format for some leaves, most of whose data stay valid."""
+    """The dictionary with another format for some leaves, most of whose data stay valid, and with leaves for some groups."""
     lines = text.splitlines()
     for at, line in enumerate(lines):
         words = line.split()
         row = next((row for row in SAME_BYTES if words[0] == "%avp" and words[3] in row), None)
         if row and draw.random() < 0.5:
             lines[at] = " ".join(words[:3] + [draw.choice(row)] + words[4:5])
+        elif line.startswith("<K") and draw.random() < 0.2:
+            lines[at] = f"%avp {words[0][1:-1]} {words[5]} {draw.choice(OF_LEVELS)} any"
     return "\n".join(lines) + "\n"
 
 

@@ -43,9 +43,9 @@ pub record ShareFlags (da db : Dictionary) (key : Key) : Type 0 where
   pub is_sent : MHolds sent flags
   pub is_read : MHolds read flags
 
--- B accepts some AVPs of the key, whatever data A's side sends in them, and reads these as another format. AVPs of another format that aren't so break by
--- themselves, which is told in their place: B refuses each M flag that is sent, or some data; or A's are levels, B's are UTF8Strings or Addresses, and
--- whether B accepts all of them isn't known
+-- B accepts some AVPs of the key, whatever data A's side sends in them, and reads these as another format. Left out are AVPs of another format of which B
+-- refuses each M flag that is sent, or some data; or which are levels for A and UTF8Strings, Addresses or numbers of eight bytes for B, where it isn't
+-- known whether B accepts all of them. They have lines of what breaks, if a message has room for such data
 pub record IsReadAsOther (s : Sides) (key : Key) : Type 0 where
   pub formats : AreOtherFormats s.sender s.receiver key
   pub flags : ShareFlags s.sender s.receiver key

@@ -33,7 +33,8 @@ IsMeant meanings key = (line : Line) × Contains meanings line × (line.cause �
 abbrev pub AreMeant : Sides → List Line → AboutLevels
 AreMeant s meanings x y avps = (v : PlainAvp) → Contains avps v → IsReadAsOther s (key_of v) → IsMeant meanings (key_of v)
 
--- B's side reads no AVP of a level as another format
+-- B's side reads no AVP of a level as another format: no leaf, no group as a leaf, and no leaf as a group. Groups of both are levels of their own.
+-- `IsReadAsOther` says what is left out
 abbrev pub IsReadAsSent : Sides → AboutLevels
 IsReadAsSent s x y avps = (v : PlainAvp) → Contains avps v → ¬ IsReadAsOther s (key_of v)
 
