@@ -46,7 +46,7 @@ LONG = 100_000
 
 
 def full(room):
-    """Each command tells that standard output is full, whatever it has to say, and ends with 3."""
+    """Each command reports that standard output is full, whatever it has to say, and ends with 3."""
     room.write("words.txt", WORDS)
     room.write("known.txt", KNOWN)
     if not os.access("/dev/full", os.W_OK):

@@ -204,7 +204,7 @@ static void faults_are_told(void) {
     dia_dict_close(&dict);
 }
 
-/* A name is written, and no byte behind it; and no byte at all where there is too little room, or no name. */
+/* A name is written, and no byte after it; and no byte at all where there is too little room, or no name. */
 static void names_are_told(void) {
     dia_dict dict = DIA_DICT_INIT;
     dia_verdict v;

@@ -8,7 +8,7 @@ def answers:
 # Whether an input is refused; with --lines a line that is no message is an answer.
 def is_refused: .error and (.error != "message" or has("column") or (has("line") | not));
 
-# The line of a refused input, with its column and what could stand there.
+# The line of a refused input, with its column and what was expected there.
 def refusal:
   ([.error, .kind, .name, .slot] | map(select(.)) | "\(.[0]): \(.[1:] | join(" "))")
   + (if .line then " at line \(.line)" else "" end)
@@ -18,7 +18,7 @@ def refusal:
 # The objects of an answer. Fails where there is none, and where an input is refused.
 def objects: answers | if is_refused then error(refusal) else . end;
 
-# The lines of `breaking`. Fails also where the object behind them is missing.
+# The lines of `breaking`. Fails also where the object after them is missing.
 def breaks:
   foreach (objects, null) as $it ({}; {$it, is_whole: ($it // {causes: .is_whole} | .causes)};
     if .is_whole then empty elif .it then .it else error("the answer isn't whole") end);
@@ -61,7 +61,7 @@ def annotations($file):
     elif .verdict == "valid" then empty
     else "::error file=\($file),line=\(.line)::\([.code, .reason // .verdict // .kind, .avp.name // .avp.code] | map(select(.)) | join(" "))" end;
 
-# Where the text of a dictionary is refused, as editors read it: the file, the line and the column, and what could stand there.
+# Where the text of a dictionary is refused, as editors read it: the file, the line and the column, and what was expected there.
 def places($file):
   answers | select(.error)
   | ([$file, .line, (if .line then .column // 1 else empty end)] | map(select(.) | tostring) | join(":"))
