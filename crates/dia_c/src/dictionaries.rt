@@ -1,6 +1,6 @@
 //! Dictionaries: opened from a text or built in, shared, closed, and asked for names.
 
-ghost use Rattle.std.specs.Prelude.{◌⊎◌, ◌≡◌, ◌≢◌, ◌≤◌, ◌<◌, ℕ, List, length, take};
+ghost use Rattle.std.specs.Prelude.{◌⊎◌, ◌≡◌, ◌≢◌, ◌≤◌, ◌<◌, ℕ, List, length, take, drop};
 ghost use Rattle.std.specs.Prelude.{None, Some, IsSome, IfSome};
 ghost use Rattle.dia_book.specs.Dictionary.{definitions, entry_of, groups};
 ghost use Rattle.dia_dict.specs.Base.{base};
@@ -88,6 +88,8 @@ pub extern "C" fn dia_command_name(
     ensures none { result ≡ NONE → IfSome (dict_in handle.old.slot.seal.held)
         (λ d. (length (definitions d) ≤ command) ⊎ (command < length (groups d))) }
     ensures count { result ≡ DONE → count.new ≤ length out.new }
+    ensures rest { result ≡ DONE → drop count.new out.new ≡ drop count.new out.old }
+    ensures untouched { result ≢ DONE → out.new ≡ out.old }
     ensures room { result ≡ NO_ROOM → length out.new < count.new }
     ensures wanted { result ≡ NO_ROOM → IfSome (dict_in handle.old.slot.seal.held)
         (λ d. (name : List ℕ) × IsCommandName d command name × (count.new ≡ length name)) }
@@ -115,6 +117,8 @@ pub extern "C" fn dia_avp_name(
     ensures none { result ≡ NONE → IfSome (dict_in handle.old.slot.seal.held)
         (λ d. entry_of d (record { code = code; vendor = vendor }) ≡ None) }
     ensures count { result ≡ DONE → count.new ≤ length out.new }
+    ensures rest { result ≡ DONE → drop count.new out.new ≡ drop count.new out.old }
+    ensures untouched { result ≢ DONE → out.new ≡ out.old }
     ensures room { result ≡ NO_ROOM → length out.new < count.new }
     ensures wanted { result ≡ NO_ROOM → IfSome (dict_in handle.old.slot.seal.held)
         (λ d. (name : List ℕ) × IsAvpName d (record { code = code; vendor = vendor }) name × (count.new ≡ length name)) }

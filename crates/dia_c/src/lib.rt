@@ -3,6 +3,7 @@
 #![tactic(auto)]
 
 ghost use Rattle.std.specs.Prelude.{◌≡◌};
+ghost use Rattle.dia_c_calls.specs.Statuses.{abi_version};
 
 mod checks;
 mod comparisons;
@@ -39,7 +40,7 @@ const ABI_VERSION: u32 = 1;
 /// The version of this interface.
 #[unsafe(no_mangle)]
 pub extern "C" fn dia_abi_version() -> u32
-    ensures { result ≡ ABI_VERSION }
+    ensures { result ≡ abi_version }
 {
     ABI_VERSION
 }

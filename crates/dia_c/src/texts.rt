@@ -41,6 +41,7 @@ pub extern "C" fn dia_text_read(
     ensures done { result ≡ DONE → IfSome (text_in handle.old.slot.seal.held)
         (λ text. (count.new ≡ min (length out.old) (length text - from))
         × (take count.new out.new ≡ take count.new (drop from text))) }
+    ensures rest { result ≡ DONE → drop count.new out.new ≡ drop count.new out.old }
     ensures closed { result ≡ IS_CLOSED → handle.old.slot.seal.held ≡ None }
     ensures was_open { result ≡ DONE → IsSome (text_in handle.old.slot.seal.held) }
     ensures only { result ≡ IS_CLOSED → (count.new ≡ count.old) × (out.new ≡ out.old) }

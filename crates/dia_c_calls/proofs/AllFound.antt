@@ -6,6 +6,7 @@ use Rattle.dia_ccf.specs.declared.source.Source.{Source}
 use Rattle.dia_ccf.specs.Plain.{plain_source}
 use Rattle.dia_ccf.specs.Tokens.{tokens}
 use Rattle.dia_ccf.specs.Grammar.{Derives}
+use Rattle.dia_ccf.specs.Places.{IsPlaced}
 use Rattle.dia_dict.specs.Resolution.{all_findings}
 use Rattle.dia_c_calls.specs.AllFaults.{AreFaultsOf, IsUnreadFor, fault_of}
 use Rattle.dia_c_calls.specs.PlainFaults.{PlainFault}
@@ -18,6 +19,6 @@ unread told text f r is one = if_ok r (λ x e. AreFaultsOf.unread f is e) one
 
 -- a text that is read has those of its source
 pub read : {A E : Type 0} (told : A → List PlainFault) (text : List ℕ) (source : Source) (r : Result A E)
-    → IsUtf8 text → Derives (tokens text) (plain_source source)
+    → IsUtf8 text → Derives (tokens text) (plain_source source) → IsPlaced text source
     → IfOk r (λ x. told x ≡ map (fault_of text source) (all_findings (plain_source source))) → IfOk r (λ x. AreFaultsOf text (told x))
-read told text source r utf8 derived all = if_ok r (λ x e. AreFaultsOf.read source utf8 derived e) all
+read told text source r utf8 derived placed all = if_ok r (λ x e. AreFaultsOf.read source utf8 derived placed e) all

@@ -8,6 +8,7 @@ use Rattle.dia_ccf.specs.Limits.{max_text}
 use Rattle.dia_ccf.specs.Plain.{plain_source}
 use Rattle.dia_ccf.specs.Tokens.{tokens}
 use Rattle.dia_ccf.specs.Grammar.{Derives}
+use Rattle.dia_ccf.specs.Places.{IsPlaced}
 use Rattle.dia_ccf.specs.Refusals.{IsMisfit}
 use Rattle.dia_dict.specs.Resolution.{PlainFinding, all_findings}
 use Rattle.dia_explain_places.specs.Parts.{part_place}
@@ -27,5 +28,5 @@ fault_of text source f = record { kind = number_of f.wrong.kind; token = 0; at =
 -- these are all faults of the text, in the order of docs/FAULTS.md: the one for which it is not read, or all of the source that it is read as
 pub data AreFaultsOf (text : List ℕ) (fs : List PlainFault) : Type 0 where
   unread : (f : PlainFault) → IsUnreadFor text f → fs ≡ f ∷ [] → AreFaultsOf text fs
-  read : (source : Source) → IsUtf8 text → Derives (tokens text) (plain_source source)
+  read : (source : Source) → IsUtf8 text → Derives (tokens text) (plain_source source) → IsPlaced text source
       → fs ≡ map (fault_of text source) (all_findings (plain_source source)) → AreFaultsOf text fs

@@ -45,6 +45,7 @@ pub use peers::{
 };
 pub use status::{
     BAD_ARGUMENT, DONE, IS_CLOSED, IS_OPEN, NO_MEMORY, NO_ROOM, NONE, OUTPUTS_LEFT, REFUSED, SPENT,
+    status_numbers,
 };
 pub use streams::{Fed, stream_close, stream_feed, stream_finish, stream_levels, stream_open};
 pub use texts::{render, text_close, text_length, text_read};

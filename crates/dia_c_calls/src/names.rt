@@ -39,7 +39,9 @@ pub fn copied(name: &str, out: &mut [u8], count: &mut usize) -> u32
     ensures count { count.new ≡ length name.now }
     ensures kept { length out.new ≡ length out.old }
     ensures done { result ≡ DONE → (length name.now ≤ length out.new) × (take (length name.now) out.new ≡ name.now) }
+    ensures rest { result ≡ DONE → drop (length name.now) out.new ≡ drop (length name.now) out.old }
     ensures room { result ≡ NO_ROOM → length out.new < length name.now }
+    ensures untouched { result ≡ NO_ROOM → out.new ≡ out.old }
     ensures ends { (result ≡ DONE) ⊎ (result ≡ NO_ROOM) }
 {
     *count = name.len();
@@ -54,7 +56,9 @@ pub fn copied(name: &str, out: &mut [u8], count: &mut usize) -> u32
 pub fn copied_whole(bytes: &[u8], out: &mut [u8]) -> bool
     ensures kept { length out.new ≡ length out.old }
     ensures done { IsTrue result → (length bytes.now ≤ length out.new) × (take (length bytes.now) out.new ≡ bytes.now) }
+    ensures rest { IsTrue result → drop (length bytes.now) out.new ≡ drop (length bytes.now) out.old }
     ensures room { ¬ IsTrue result → length out.new < length bytes.now }
+    ensures untouched { ¬ IsTrue result → out.new ≡ out.old }
 {
     if bytes.len() > out.len() {
         return false;
@@ -67,6 +71,7 @@ pub fn copied_whole(bytes: &[u8], out: &mut [u8]) -> bool
 pub fn copied_from(bytes: &[u8], from: usize, out: &mut [u8]) -> usize
     ensures count { result ≡ min (length out.old) (length bytes.now - from) }
     ensures copied { take result out.new ≡ take result (drop from bytes.now) }
+    ensures rest { drop result out.new ≡ drop result out.old }
 {
     if from >= bytes.len() {
         return 0;

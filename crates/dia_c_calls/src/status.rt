@@ -1,5 +1,9 @@
 //! What a call answers. `c/dia.h` has the same numbers.
 
+ghost use Rattle.std.specs.Prelude.{◌≡◌};
+ghost use Rattle.dia_c_calls.specs.Statuses.{ok, refused, none, no_memory, no_room};
+ghost use Rattle.dia_c_calls.specs.Statuses.{is_open, is_closed, bad_argument, outputs_left, spent};
+
 /// Done.
 pub const DONE: u32 = 0;
 
@@ -29,3 +33,17 @@ pub const OUTPUTS_LEFT: u32 = 8;
 
 /// The stream was refused memory before.
 pub const SPENT: u32 = 9;
+
+/// Each answer has the number of its word in `c/dia.h`.
+pub fn status_numbers()
+    ensures ok { DONE ≡ ok }
+    ensures refused { REFUSED ≡ refused }
+    ensures none { NONE ≡ none }
+    ensures no_memory { NO_MEMORY ≡ no_memory }
+    ensures no_room { NO_ROOM ≡ no_room }
+    ensures is_open { IS_OPEN ≡ is_open }
+    ensures is_closed { IS_CLOSED ≡ is_closed }
+    ensures bad_argument { BAD_ARGUMENT ≡ bad_argument }
+    ensures outputs_left { OUTPUTS_LEFT ≡ outputs_left }
+    ensures spent { SPENT ≡ spent }
+{}

@@ -1,19 +1,44 @@
 //! How much breaks.
 
+ghost use Rattle.std.specs.Prelude.{◌≡◌, ◌≢◌, length};
+ghost use Rattle.dia_explain_places.specs.Notes.{Gains};
+ghost use Rattle.dia_explain_upgrades.specs.Tally.{cause_word, line_word, tally_text};
+
 use dia_explain_places::{InputTexts, Note};
 use dia_upgrades::Told;
 
 /// Adds how many lines are left, and how many causes they have, if there are some; with the names of the two dictionaries.
-pub fn push_tally(note: &mut Note, texts: &InputTexts<'_>, lines: usize, causes: usize) {
+pub fn push_tally(note: &mut Note, texts: &InputTexts<'_>, lines: usize, causes: &[Told])
+    ensures none { lines ≡ 0 → note.new ≡ note.old }
+    ensures some { lines ≢ 0 → Gains note.old note.new
+        (tally_text lines (length causes.now) texts.now.first.name.now texts.now.second.name.now) }
+{
     if lines == 0 {
         return;
     }
     note.put_number(lines as u64);
-    note.put(if lines == 1 { " line, " } else { " lines, " });
-    note.put_number(causes as u64);
-    note.put(if causes == 1 { " cause" } else { " causes" });
-    let (first, second) = (texts.first.name, texts.second.name);
-    note.put_all(&[": what ", first, " sends and ", second, " accepts\n"]);
+    note.put(line_word(lines));
+    note.put_number(causes.len() as u64);
+    note.put(cause_word(causes.len()));
+    note.put(": what ");
+    note.put(texts.first.name);
+    note.put(" sends and ");
+    note.put(texts.second.name);
+    note.put(" accepts\n");
+}
+
+/// What stands behind a number of lines.
+fn line_word(lines: usize) -> &'static str
+    ensures { result.now ≡ line_word lines }
+{
+    if lines == 1 { " line, " } else { " lines, " }
+}
+
+/// What stands behind a number of causes.
+fn cause_word(causes: usize) -> &'static str
+    ensures { result.now ≡ cause_word causes }
+{
+    if causes == 1 { " cause" } else { " causes" }
 }
 
 /// Adds how many AVPs are read as another format, with the first, if there are some. `meanings` has a line for each.

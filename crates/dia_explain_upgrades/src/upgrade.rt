@@ -49,7 +49,7 @@ fn push_found(
             meanings,
             ..
         } => {
-            push_tally(note, texts, *lines, causes.len());
+            push_tally(note, texts, *lines, causes);
             if *lines > 0 {
                 push_less(note, asked, inputs, books);
             }

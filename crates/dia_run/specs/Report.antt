@@ -5,7 +5,7 @@ use Rattle.dia_ccf.specs.Limits.{max_text}
 use Rattle.dia_ccf.specs.Plain.{plain_source}
 use Rattle.dia_ccf.specs.Refusals.{IsRefused}
 use Rattle.dia_check.specs.Faults.{IsAnswer as IsChecked}
-use Rattle.dia_tables.specs.TableText.{plain_table}
+use Rattle.dia_tables.specs.TableText.{max_table, plain_table}
 use Rattle.dia_inclusion.specs.Closed.{IsTableAnswer as IsCompared}
 use Rattle.dia_inclusion.specs.Failings.{AreFailingsFor}
 use Rattle.dia_dict.specs.Dictionary.{Dictionary as AnyDictionary}
@@ -22,12 +22,13 @@ use Rattle.dia_report.specs.declared.reporting.Report.{Report}
 use Rattle.dia_report.specs.declared.reporting.Report.TheVariants.{Done, Refused, NoCommand, Shown, Cut, Invalid, Unrefuting, Compared}
 use Rattle.dia_report.specs.declared.refusing.Refused.{Refused as AnyRefusal}
 use Rattle.dia_report.specs.declared.refusing.Refused.TheVariants as refusal
-use Rattle.dia_report.specs.declared.bad_input.BadInput.TheVariants.{Dictionary}
-use Rattle.dia_report.specs.declared.bad_input.BadDictionary.TheVariants.{NoSource, Wrong}
+use Rattle.dia_report.specs.declared.bad_input.BadInput.TheVariants.{Dictionary, Table}
+use Rattle.dia_report.specs.declared.bad_input.BadDictionary.TheVariants.{NotText, NoSource, Wrong}
+use Rattle.dia_report.specs.declared.bad_input.BadTable.TheVariants as table
 use Rattle.dia_report.specs.Refusals.{TellsOf, bad_input_text}
 use Rattle.dia_run.specs.Outcome.{Refuses}
 use Rattle.dia_run.specs.Pairs.{IsTableText, IsAnswerText}
-use Rattle.dia_run.specs.Texts.{line, IsSourceText, IsDictionaryText, IsMessageText}
+use Rattle.dia_run.specs.Texts.{line, IsNoText, IsSourceText, IsDictionaryText, IsMessageText}
 use Rattle.dia_run.specs.Verdict.{IsVerdict}
 
 -- what was made holds: a text and an end, or the line of a refusal
@@ -74,8 +75,10 @@ TellsRefusal (refusal.Bad bad) answered = (answered.report ≡ Refused bad)
     × Refuses (bad_input_text bad) (string_bytes answered.text) answered.exit
 TellsRefusal refusal.NoMemory answered = ⊥
 
--- what is told of a dictionary was found in this input: where its text is refused, or what it says
+-- what is told of a dictionary was found in this input: where its text is refused, or what it says; and of a table, where its bytes are no text
 abbrev pub HasFinding : Input → AnyRefusal → Type 0
 HasFinding input (refusal.Bad (Dictionary number (NoSource misfit))) = (text : List ℕ) × Holds input max_text text × IsRefused text (At misfit)
 HasFinding input (refusal.Bad (Dictionary number (Wrong found))) = IsSourceText input (plain_source found.source.value)
+HasFinding input (refusal.Bad (Dictionary number (NotText at))) = IsNoText input max_text at
+HasFinding input (refusal.Bad (Table (table.NotText at))) = IsNoText input max_table at
 HasFinding input refused = ⊤

@@ -1,6 +1,7 @@
 -- What the texts of the inputs say, and what is told of one that says nothing.
 use Rattle.std.specs.Prelude.{◌≡◌, ◌≢◌, ℕ, ◌⊎◌, not, List, [], ◌∷◌, ◌++◌, filter, None, Some, Ok, codes, IsOk}
 use Rattle.std.specs.Str.{IsUtf8}
+use Rattle.std.specs.Str.Lossy.{utf8_valid_len}
 pub use Rattle.dia_terms.specs.Texts.{digits_of}
 use Rattle.hex.specs.Hex.{decode_of}
 use Rattle.dia_ccf.specs.declared.CcfFault.{CcfFault}
@@ -22,6 +23,10 @@ use Rattle.dia_report.specs.Refusals.{fault_text, wrong_text}
 -- a text and its line feed
 abbrev pub line : List ℕ → List ℕ
 line text = text ++ 10 ∷ []
+
+-- the input is no text: this many of its bytes are the longest front that is UTF-8
+abbrev pub IsNoText : Input → ℕ → ℕ → Type 0
+IsNoText input limit at = (bytes : List ℕ) × Holds input limit bytes × (¬ IsUtf8 bytes) × (at ≡ utf8_valid_len bytes)
 
 -- ---- dictionaries
 

@@ -82,7 +82,7 @@ IsRefusedWith input told = (IsOver input max_values × (told ≡ values_line bad
 
 refused_with : (input : Input) (bad : BadValues) → IsNoValuesText input bad → IsRefusedWith input (values_line bad)
 refused_with input bads.TooLong over = inl (over, refl)
-refused_with input (bads.NotText at) (text, held, lacks) = inr (inl (text, held, lacks, refl))
+refused_with input (bads.NotText at) (text, held, lacks, there) = inr (inl (text, held, lacks, refl))
 refused_with input (bads.Syntax n) has = inr (inr (fault.Syntax n, has, refl))
 refused_with input (bads.Duplicate n) has = inr (inr (fault.Duplicate n, has, refl))
 refused_with input (bads.Limit n) has = inr (inr (fault.Limit n, has, refl))

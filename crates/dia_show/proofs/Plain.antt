@@ -74,7 +74,7 @@ no_words input words empty (text, holds, utf8, fine, is_words) = is_words ∙ ap
 no_fault : {X : Type 0} (input : Input) (bad : BadValues) → Holds input max_values [] → IsNoValuesText input bad → X
 no_fault (Bytes v) bads.TooLong empty over = absurd (omega (arith, over, ap length empty.0))
 no_fault TooLong bads.TooLong empty over = absurd empty
-no_fault input (bads.NotText at) empty (text, holds, bad) = absurd (bad (subst IsUtf8 (sym (same_text input text empty holds)) IsUtf8-nil))
+no_fault input (bads.NotText at) empty (text, holds, bad, there) = absurd (bad (subst IsUtf8 (sym (same_text input text empty holds)) IsUtf8-nil))
 no_fault input (bads.Syntax n) empty (text, holds, utf8, is) = let none = sym (ap values_fault (same_text input text empty holds)) ∙ is in absurd cc
 no_fault input (bads.Duplicate n) empty (text, holds, utf8, is) = let none = sym (ap values_fault (same_text input text empty holds)) ∙ is in absurd cc
 no_fault input (bads.Limit n) empty (text, holds, utf8, is) = let none = sym (ap values_fault (same_text input text empty holds)) ∙ is in absurd cc

@@ -103,7 +103,7 @@ module _ (m : Manner) (d : Dictionary) where
 
 pub values_or_not : (input : Input) (words : List Word) (bad : BadValues) → IsValuesText input words → IsNoValuesText input bad → ⊥
 values_or_not input words bads.TooLong (text, held, utf8, fine, is) over = not_over input max_values text held over
-values_or_not input words (bads.NotText at) (text, held, utf8, fine, is) (other, held', lacks) = lacks (subst IsUtf8 (held_once input max_values text other held held') utf8)
+values_or_not input words (bads.NotText at) (text, held, utf8, fine, is) (other, held', lacks, there) = lacks (subst IsUtf8 (held_once input max_values text other held held') utf8)
 values_or_not input words (bads.Syntax n) (text, held, utf8, fine, is) (other, held', utf8', wrong) =
     let none = sym fine ∙ ap values_fault (held_once input max_values text other held held') ∙ wrong in absurd cc
 values_or_not input words (bads.Duplicate n) (text, held, utf8, fine, is) (other, held', utf8', wrong) =

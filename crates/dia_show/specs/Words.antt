@@ -7,6 +7,7 @@ use Rattle.std.specs.Map.{lookup}
 use Rattle.std.specs.Option.{option_or}
 use Rattle.std.specs.Str.{IsUtf8, bytes_eq}
 use Rattle.std.specs.Str.Lines.{lines}
+use Rattle.std.specs.Str.Lossy.{utf8_valid_len}
 use Rattle.dia_io.specs.declared.Input.{Input}
 use Rattle.dia_io.specs.Inputs.{Holds, IsOver}
 use Rattle.dia_report.specs.Refusals.{fault_at}
@@ -120,7 +121,7 @@ HasFault input f = (text : List ℕ) × Holds input max_values text × IsUtf8 te
 -- the input is no such text, and this is why
 abbrev pub IsNoValuesText : Input → BadValues → Type 0
 IsNoValuesText input TooLong = IsOver input max_values
-IsNoValuesText input (NotText at) = (text : List ℕ) × Holds input max_values text × (¬ IsUtf8 text)
+IsNoValuesText input (NotText at) = (text : List ℕ) × Holds input max_values text × (¬ IsUtf8 text) × (at ≡ utf8_valid_len text)
 IsNoValuesText input (Syntax n) = HasFault input (fault.Syntax n)
 IsNoValuesText input (Duplicate n) = HasFault input (fault.Duplicate n)
 IsNoValuesText input (Limit n) = HasFault input (fault.Limit n)

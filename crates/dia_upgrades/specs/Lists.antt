@@ -1,6 +1,7 @@
 -- The list of accepted lines, as an input.
 use Rattle.std.specs.Prelude.{◌≡◌, ℕ, List, ◌++◌, codes, Some, None}
 use Rattle.std.specs.Str.{IsUtf8}
+use Rattle.std.specs.Str.Lossy.{utf8_valid_len}
 use Rattle.dia_accepted.specs.Accepted.{PlainEntry, entries_of, list_fault, max_list}
 use Rattle.dia_accepted.specs.declared.ListFault.{ListFault}
 use Rattle.dia_accepted.specs.declared.ListFault.TheVariants as faults
@@ -21,7 +22,7 @@ HasFault input fault = (text : List ℕ) × Holds input max_list text × IsUtf8 
 -- the input is the text of no list, and this is why
 abbrev pub IsNoListText : Input → BadList → Type 0
 IsNoListText input TooLong = IsOver input max_list
-IsNoListText input (NotText at) = (text : List ℕ) × Holds input max_list text × (¬ IsUtf8 text)
+IsNoListText input (NotText at) = (text : List ℕ) × Holds input max_list text × (¬ IsUtf8 text) × (at ≡ utf8_valid_len text)
 IsNoListText input (Syntax n) = HasFault input (faults.Syntax n)
 IsNoListText input (Limit n) = HasFault input (faults.Limit n)
 

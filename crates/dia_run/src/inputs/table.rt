@@ -1,9 +1,11 @@
 //! A table of pairs as text.
 
 ghost use Rattle.std.specs.Prelude.{◌≡◌, ◌≢◌, IfOk, IfErr};
+ghost use Rattle.dia_io.specs.declared.Input.{Input as AnyInput};
 ghost use Rattle.dia_tables.specs.TableText.{plain_table};
 ghost use Rattle.dia_report.specs.Refusals.{table_line, TellsOf, bad_table_text};
 ghost use Rattle.dia_run.specs.Pairs.{IsTableText, IsNoTableText, table_fault_text};
+ghost use Rattle.dia_run.specs.Report.{HasFinding};
 
 use dia_io::Input;
 use dia_report::{BadInput, BadTable, Refused};
@@ -15,6 +17,7 @@ use std::alloc::Global;
 pub fn read_table(alloc: Global, input: &Input) -> Result<Table, Refused>
     ensures table { IfOk result (λ table. IsTableText input.now (plain_table table)) }
     ensures told { IfErr result (TellsOf (IsNoTableText input.now)) }
+    ensures kept { IfErr result (HasFinding input.now) }
 {
     let Some(bytes) = input.within(MAX_TABLE) else {
         return Err(tell(BadTable::TooLong));
@@ -34,7 +37,7 @@ pub fn read_table(alloc: Global, input: &Input) -> Result<Table, Refused>
 
 fn tell(why: BadTable) -> Refused
     ensures told { TellsOf (λ told. told ≡ table_line (bad_table_text why)) result }
-    ensures bad { result ≢ Refused.NoMemory }
+    ensures bad { result ≡ Refused.Bad (BadInput.Table why) }
 {
     Refused::Bad(BadInput::Table(why))
 }
@@ -44,6 +47,7 @@ fn tell_fault(fault: TableFault) -> Refused
     ensures told { TellsOf (λ told. (fault ≢ TableFault.NoMemory)
         × (told ≡ table_line (table_fault_text fault))) result }
     ensures memory { result ≡ Refused.NoMemory → fault ≡ TableFault.NoMemory }
+    ensures kept { (input : AnyInput) → HasFinding input result }
 {
     match fault {
         TableFault::Syntax { line } => tell(BadTable::Syntax { line }),

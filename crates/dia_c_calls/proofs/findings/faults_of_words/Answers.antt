@@ -5,7 +5,7 @@ use Rattle.dia_c_calls.proofs.AllFound.{read, unread}
 use Rattle.dia_c_calls.proofs.findings.faults_of_words.Goals as goal
 
 pub returns-in-Ok : goal.returns-in-Ok
-returns-in-Ok c utf8 = read _ c.args.text.now c.in-Ok.source c.faults_of_source.result utf8 c.in-Ok.ensures.found c.faults_of_source.ensures
+returns-in-Ok c utf8 = read _ c.args.text.now c.in-Ok.source c.faults_of_source.result utf8 c.in-Ok.ensures.found c.in-Ok.ensures.placed c.faults_of_source.ensures
 
 pub returns-in-Err-TooLong : goal.returns-in-Err-TooLong
 returns-in-Err-TooLong c utf8 =

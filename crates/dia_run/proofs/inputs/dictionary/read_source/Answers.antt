@@ -1,4 +1,4 @@
-use Rattle.std.proofs.Common.{refl, codes}
+use Rattle.std.proofs.Common.{refl, ◌∙◌, codes}
 use Rattle.dia_run.specs.Texts.{IsNoSourceText, too_long, not_text}
 use Rattle.dia_run.proofs.RefusedInputs.{told_why, told_text, most_bytes, is_refused_of}
 use Rattle.dia_run.proofs.inputs.dictionary.read_source.Goals as goal
@@ -18,3 +18,7 @@ returns-in-Err-read-clause-told c =
 pub returns-in-Err-read-clause-kept : goal.returns-in-Err-read-clause-kept
 returns-in-Err-read-clause-kept c =
     c.tell_text.ensures.kept c.args.input.now c.in-Some.bytes.now c.in-Some.ensures.some (is_refused_of _ _ _ c.in-Ok.ensures.cases.0 c.in-Err-read.ensures.refused)
+
+pub returns-in-Err-clause-kept : goal.returns-in-Err-clause-kept
+returns-in-Err-clause-kept c =
+    rw c.tell-in-Err.ensures.bad (c.in-Some.bytes.now, c.in-Some.ensures.some, c.in-Err.ensures.cases.0, c.valid_up_to-at.ensures ∙ c.in-Err.ensures.valid_len)
