@@ -33,8 +33,11 @@ const LAID_OUT_OF_GROUP: usize = 8;
 /// memory for theirs.
 const ROOM_FOR_GROUPS: usize = 32;
 
-/// How many levels, and how many rules in tallies, are kept in memory behind a message: 64 KB and 16 KB at most.
-const MOST_KEPT: usize = 2048;
+/// How many levels are kept in memory behind a message: 40 KB at most.
+const MOST_LEVELS_KEPT: usize = 1024;
+
+/// How many rules in tallies are: 40 KB at most, enough for as many levels of groups of four rules.
+const MOST_RULES_KEPT: usize = 5120;
 
 /// An open level.
 #[derive(Clone, Copy)]
@@ -199,7 +202,8 @@ impl OpenLevels {
     /// Gives memory back where it is more than most messages want.
     #[inline(always)]
     pub(crate) fn give_back(&mut self, alloc: Global) {
-        if self.outer.capacity() > MOST_KEPT || self.tallies.capacity() > MOST_KEPT {
+        let many_levels = self.outer.capacity() > MOST_LEVELS_KEPT;
+        if many_levels || self.tallies.capacity() > MOST_RULES_KEPT {
             *self = OpenLevels::empty(alloc);
         }
     }
