@@ -11,7 +11,8 @@ ORDERS = [
         "undecided", "command", "application", "path", "commands", "first", "reason", "refused_application", "avp", "sent", "sent_min",
         "sent_max", "behind", "accepted", "accepted_min", "accepted_max", "read", "in_header", "message",
     ],
-    ["command", "application", "path"], ["name", "code", "vendor", "second"], ["code", "vendor"], ["lines", "causes", "accepted"],
+    ["command", "application", "path"], ["name", "code", "vendor", "second"], ["code", "vendor"], ["lines", "causes", "accepted", "stale"],
+    ["stale", "line"],
 ]
 """The members of each kind of object, in their order."""
 

@@ -1,12 +1,13 @@
 -- The lines of a list, one behind another.
-use Rattle.std.proofs.Common.{◌≡◌, ℕ, zero, suc, ◌+◌, ◌<◌, ◌≤◌, Bool, true, false, cond, List, [], ◌∷◌, ◌++◌, length, take, get_or, Option, Some, None, refl, sym, ap, ◌∙◌, append_assoc, arith}
-use Rattle.std.specs.Prelude.{nat_lt, slice_get, ◌||◌}
+use Rattle.std.proofs.Common.{◌≡◌, ℕ, zero, suc, ◌+◌, ◌<◌, ◌≤◌, Bool, true, false, cond, List, [], ◌∷◌, ◌++◌, length, map, take, get_or, Option, Some, None, refl, sym, ap, ◌∙◌, append_assoc, arith}
+use Rattle.std.specs.Prelude.{nat_lt, slice_get, string_bytes}
 use Rattle.std.specs.Option.{option_or}
-use Rattle.std.proofs.lemmas.List.{append-nil}
+use Rattle.std.proofs.lemmas.List.{append-nil, map-append}
+use Rattle.dia_accepted.specs.declared.list.Entry.{Entry}
 use Rattle.dia_accepted.specs.declared.list.ListFault.{ListFault}
-use Rattle.dia_accepted.specs.declared.list.ListFault.TheVariants.{Syntax, Limit}
-use Rattle.dia_accepted.specs.Accepted.{PlainEntry, entries_by, entries_from, fault_from, line_fault, max_lines}
-use Rattle.dia_accepted.specs.Words.{has_form, has_once_form, is_skipped}
+use Rattle.dia_accepted.specs.declared.list.ListFault.TheVariants.{Limit}
+use Rattle.dia_accepted.specs.Accepted.{PlainEntry, entry, plain_entry, entries_by, entries_from, fault_from, form_fault, line_fault, max_lines}
+use Rattle.dia_accepted.specs.Words.{counted, entry_text, entry_words, is_skipped}
 
 pub line_at : (ts : List (List ℕ)) (i : ℕ) (words : List ℕ) → i < length ts → words ≡ get_or ts i words → slice_get ts i ≡ Some words
 line_at [] i words within is = absurd (omega arith)
@@ -30,6 +31,13 @@ entries_more n (x ∷ xs) words =
     ap (λ (es : List PlainEntry). entries_by n x ++ es) (entries_more (n + 1) xs words)
     ∙ ap (λ (k : ℕ). entries_by n x ++ (entries_from (n + 1) xs ++ entries_by k words)) (let e : n + 1 + length xs ≡ n + suc (length xs) = omega arith in e)
     ∙ sym (append_assoc (entries_by n x) (entries_from (n + 1) xs) (entries_by (n + suc (length xs)) words))
+
+-- one entry more
+pub entry_pushed : (old new : List Entry) (made : Entry) (n : ℕ) (words : List ℕ) → new ≡ old ++ made ∷ [] → made.line ≡ n → string_bytes made.words ≡ words
+    → made.counted.items ≡ counted (entry_words words) → map plain_entry new ≡ map plain_entry old ++ entry n words ∷ []
+entry_pushed old new made n words pushed line_is words_are counted_is =
+    ap (map plain_entry) pushed ∙ map-append plain_entry old (made ∷ [])
+    ∙ (λ i. let e : PlainEntry = record { line = line_is i; words = words_are i; counted = counted_is i } in map plain_entry old ++ e ∷ [])
 
 -- ---- faults
 
@@ -65,7 +73,7 @@ first_fault n (t ∷ ts) (suc k) words fault at none here =
 within_limit : (n : ℕ) (words : List ℕ) → line_fault n words ≡ None → n ≤ max_lines
 within_limit n words none = by (nat_lt max_lines n) refl none
   where
-    by : (b : Bool) → nat_lt max_lines n ≡ b → cond b (Some (Limit n)) (cond (is_skipped words || (has_form words || has_once_form words)) None (Some (Syntax n))) ≡ None → n ≤ max_lines
+    by : (b : Bool) → nat_lt max_lines n ≡ b → cond b (Some (Limit n)) (cond (is_skipped words) None (form_fault n (entry_text words))) ≡ None → n ≤ max_lines
     by true e f = absurd (let z : Some (Limit n) ≡ None = f in cc)
     by false e f = grind arith
 

@@ -1,9 +1,10 @@
 -- Look-ups of texts, and what they tell of the lines of a list.
-use Rattle.std.proofs.Common.{◌≡◌, ℕ, ◌+◌, ◌<◌, Bool, true, false, cond, List, [], ◌∷◌, ◌++◌, map, take, get_or, length, refl, sym, ap, subst, ◌∙◌, append_assoc}
-use Rattle.std.specs.Global.{Vec}
-use Rattle.std.specs.Prelude.{◌||◌, ◌&&◌, Option, Some, None, filter, is_some, not, unwrap_or}
+use Rattle.std.proofs.Common.{◌≡◌, ℕ, suc, ◌+◌, ◌<◌, Bool, true, false, cond, List, [], ◌∷◌, ◌++◌, map, take, get_or, length, String, refl, sym, ap, subst, ◌∙◌, append_assoc, arith}
+use Rattle.std.specs.Global.{Global, Vec}
+use Rattle.std.specs.Prelude.{◌==◌, ◌||◌, ◌&&◌, Option, Some, None, filter, is_some, not, string_bytes, unwrap_or}
 use Rattle.std.specs.List.{AllByRecursion, list_any}
 use Rattle.std.specs.Str.{bytes_eq}
+use Rattle.std.proofs.lemmas.Bool.{eqb-true}
 use Rattle.std.proofs.lemmas.Bool.Decides.{same_from_decides}
 use Rattle.std.proofs.lemmas.Slice.Eq.{bytes_eq-Decides}
 use Rattle.std.proofs.lemmas.List.{map-append, take_more}
@@ -12,10 +13,10 @@ use Rattle.std.proofs.lemmas.List.Folds.{list_any-append}
 use Rattle.indexmap.specs.IndexMap.{insert_entry}
 use Rattle.dia_accepted.specs.declared.accepting.Accepting.{Accepting}
 use Rattle.dia_accepted.specs.declared.list.Entry.{Entry}
-use Rattle.dia_accepted.specs.Accepted.{PlainEntry, PlainTold, accepts, is_stale, plain_entry, stale_lines}
-use Rattle.dia_accepted.specs.Seen.{HasSeen, entry_with, mark, unmarked_lines}
+use Rattle.dia_accepted.specs.Accepted.{PlainEntry, PlainTold, accepts, is_about, plain_entry, unused_of}
+use Rattle.dia_accepted.specs.Seen.{HasSeen, entry_with, mark, unmarked}
 use Rattle.dia_accepted.specs.Sets.{bytes_of, found, has}
-use Rattle.dia_accepted.specs.Words.{anywhere, counted}
+use Rattle.dia_accepted.specs.Words.{anywhere, command_in, counted}
 
 -- ---- tests
 
@@ -185,42 +186,75 @@ each_in front (e ∷ list) = (
   subst (λ (l : List PlainEntry). AllByRecursion (λ x. list_any (is_text x.counted) l ≡ true) list) (append_assoc front (e ∷ []) list) (each_in (front ++ e ∷ []) list),
 )
 
-unmarked_stale : (all list : List PlainEntry) (told : List PlainTold) (es : List (Vec ℕ × Bool)) → ((x : List ℕ) → found es x ≡ mark all told x)
-    → AllByRecursion (λ e. list_any (is_text e.counted) all ≡ true) list → unmarked_lines es list ≡ stale_lines list told
-unmarked_stale all [] told es marks inside = refl
-unmarked_stale all (e ∷ list) told es marks (here, inside) =
+unmarked_unused : (all list : List PlainEntry) (told : List PlainTold) (es : List (Vec ℕ × Bool)) → ((x : List ℕ) → found es x ≡ mark all told x)
+    → AllByRecursion (λ e. list_any (is_text e.counted) all ≡ true) list → unmarked es list ≡ unused_of list told
+unmarked_unused all [] told es marks inside = refl
+unmarked_unused all (e ∷ list) told es marks (here, inside) =
     let known : unwrap_or (found es e.counted) false ≡ told_as told e.counted =
     ap (λ (o : Option Bool). unwrap_or o false) (marks e.counted ∙ ap (λ (b : Bool). cond b (Some (told_as told e.counted)) None) here) in
-    ap (λ (b : Bool). map (λ (x : PlainEntry). x.line) (cond (not b) (e ∷ filter (λ (x : PlainEntry). not (unwrap_or (found es x.counted) false)) list) (filter (λ (x : PlainEntry). not (unwrap_or (found es x.counted) false)) list))) known
-    ∙ by (not (told_as told e.counted)) (unmarked_stale all list told es marks inside)
-  where
-    by : (b : Bool) → unmarked_lines es list ≡ stale_lines list told
-        → map (λ (x : PlainEntry). x.line) (cond b (e ∷ filter (λ (x : PlainEntry). not (unwrap_or (found es x.counted) false)) list) (filter (λ (x : PlainEntry). not (unwrap_or (found es x.counted) false)) list))
-        ≡ map (λ (x : PlainEntry). x.line) (cond b (e ∷ filter (is_stale told) list) (filter (is_stale told) list))
-    by true rest = ap (λ (ls : List ℕ). e.line ∷ ls) rest
-    by false rest = rest
+    ap (λ (b : Bool). cond (not b) (e ∷ unmarked es list) (unmarked es list)) known
+    ∙ ap (λ (es : List PlainEntry). cond (not (told_as told e.counted)) (e ∷ es) es) (unmarked_unused all list told es marks inside)
 
-pub stale_by : (accepting : Accepting) (list : List PlainEntry) (told : List PlainTold) (lines : List ℕ) → lines ≡ unmarked_lines accepting.texts.entries (map plain_entry accepting.list.now)
-    → HasSeen accepting list told → lines ≡ stale_lines list told
-stale_by accepting list told lines is seen =
-    is ∙ ap (unmarked_lines accepting.texts.entries) seen.list_is ∙ unmarked_stale list list told accepting.texts.entries seen.marks_are (each_in [] list)
+pub unused_by : (accepting : Accepting) (list : List PlainEntry) (told : List PlainTold) (entries : List PlainEntry) → entries ≡ unmarked accepting.texts.entries (map plain_entry accepting.list.now)
+    → HasSeen accepting list told → entries ≡ unused_of list told
+unused_by accepting list told entries is seen =
+    is ∙ ap (unmarked accepting.texts.entries) seen.list_is ∙ unmarked_unused list list told accepting.texts.entries seen.marks_are (each_in [] list)
 
--- one line of the list more
-pub unmarked_more : (es : List (Vec ℕ × Bool)) (list : List Entry) (i : ℕ) (e : Entry) (known : Bool) → i < length list → e ≡ get_or list i e → known ≡ unwrap_or (found es e.counted.items) false
-    → unmarked_lines es (map plain_entry (take (i + 1) list)) ≡ unmarked_lines es (map plain_entry (take i list)) ++ cond known [] (e.line ∷ [])
-unmarked_more es list i e known less is test =
-    let line = λ (x : PlainEntry). x.line in
-    let keeps = λ (x : PlainEntry). not (unwrap_or (found es x.counted) false) in
-    ap (unmarked_lines es) (ap (map plain_entry) (take_more list i e less) ∙ map-append plain_entry (take i list) (get_or list i e ∷ []))
-    ∙ ap (map line) (filter-append keeps (map plain_entry (take i list)) (plain_entry (get_or list i e) ∷ []))
-    ∙ map-append line (filter keeps (map plain_entry (take i list))) (filter keeps (plain_entry (get_or list i e) ∷ []))
-    ∙ ap (λ (x : Entry). unmarked_lines es (map plain_entry (take i list)) ++ unmarked_lines es (plain_entry x ∷ [])) (sym is)
-    ∙ ap (λ (c : Bool). unmarked_lines es (map plain_entry (take i list)) ++ map line (cond (not c) (plain_entry e ∷ []) [])) (sym test)
-    ∙ ap (λ (ls : List ℕ). unmarked_lines es (map plain_entry (take i list)) ++ ls) (lines known)
+-- one entry of the list more
+pub filtered_more : (keeps : PlainEntry → Bool) (list : List Entry) (i : ℕ) (e : Entry) (known : Bool) → i < length list → e ≡ get_or list i e → known ≡ not (keeps (plain_entry e))
+    → filter keeps (map plain_entry (take (i + 1) list)) ≡ filter keeps (map plain_entry (take i list)) ++ cond known [] (plain_entry e ∷ [])
+filtered_more keeps list i e known less is test =
+    ap (filter keeps) (ap (map plain_entry) (take_more list i e less) ∙ map-append plain_entry (take i list) (get_or list i e ∷ []))
+    ∙ filter-append keeps (map plain_entry (take i list)) (plain_entry (get_or list i e) ∷ [])
+    ∙ ap (λ (x : Entry). filter keeps (map plain_entry (take i list)) ++ filter keeps (plain_entry x ∷ [])) (sym is)
+    ∙ ap (λ (es : List PlainEntry). filter keeps (map plain_entry (take i list)) ++ es) (by (keeps (plain_entry e)) ∙ ap (λ (b : Bool). cond b [] (plain_entry e ∷ [])) (sym test))
   where
-    lines : (b : Bool) → map (λ (y : PlainEntry). y.line) (cond (not b) (plain_entry e ∷ []) []) ≡ cond b [] (e.line ∷ [])
-    lines true = refl
-    lines false = refl
+    by : (b : Bool) → cond b (plain_entry e ∷ []) [] ≡ cond (not b) [] (plain_entry e ∷ [])
+    by true = refl
+    by false = refl
+
+-- ---- the entries about some commands
+
+-- one name more
+pub names_more : (names : List (String Global)) (i : ℕ) (name : String Global) (k : Vec ℕ) (old new : List (Vec ℕ × Bool)) → i < length names → name ≡ get_or names i name → bytes_of k ≡ string_bytes name
+    → new ≡ insert_entry same_vec old k true → ((x : List ℕ) → has old x ≡ list_any (bytes_eq x) (map (λ (n : String Global). string_bytes n) (take i names)))
+    → (x : List ℕ) → has new x ≡ list_any (bytes_eq x) (map (λ (n : String Global). string_bytes n) (take (i + 1) names))
+names_more names i name k old new less is text inserted before x =
+    let bytes = λ (n : String Global). string_bytes n in
+    let taken = ap (map bytes) (take_more names i name less ∙ ap (λ (y : String Global). take i names ++ y ∷ []) (sym is)) ∙ map-append bytes (take i names) (name ∷ []) in
+    ap (λ (es : List (Vec ℕ × Bool)). has es x) inserted ∙ ap (λ (o : Option Bool). is_some o) (found_insert k true x old)
+    ∙ by (bytes_eq x (bytes_of k)) (found old x) ∙ (λ j. before x j || (bytes_eq x (text j) || false))
+    ∙ sym (list_any-append (bytes_eq x) (map bytes (take i names)) (string_bytes name ∷ [])) ∙ ap (list_any (bytes_eq x)) (sym taken)
+  where
+    by : (b : Bool) (o : Option Bool) → is_some (cond b (Some true) o) ≡ (is_some o || (b || false))
+    by true (Some v) = refl
+    by true None = refl
+    by false (Some v) = refl
+    by false None = refl
+
+not_none : (n : ℕ) → (suc n == 0) ≡ false
+not_none n = by (suc n == 0) refl
+  where
+    by : (b : Bool) → (suc n == 0) ≡ b → (suc n == 0) ≡ false
+    by true e = absurd (omega (arith, eqb-true (suc n) 0 e))
+    by false e = e
+
+pub about_by : (names : List (String Global)) (all : Bool) (known : List (Vec ℕ × Bool)) → (all ≡ (length names == 0))
+    → ((x : List ℕ) → has known x ≡ list_any (bytes_eq x) (map (λ (n : String Global). string_bytes n) names)) → (list : List PlainEntry)
+    → filter (λ (e : PlainEntry). cond all true (has known (command_in e.counted))) list ≡ filter (is_about (map (λ (n : String Global). string_bytes n) names)) list
+about_by names all known is are list = by names all is are list
+  where
+    by : (names : List (String Global)) (all : Bool) → (all ≡ (length names == 0))
+        → ((x : List ℕ) → has known x ≡ list_any (bytes_eq x) (map (λ (n : String Global). string_bytes n) names)) → (list : List PlainEntry)
+        → filter (λ (e : PlainEntry). cond all true (has known (command_in e.counted))) list ≡ filter (is_about (map (λ (n : String Global). string_bytes n) names)) list
+    by names all is are [] = refl
+    by [] all is are (e ∷ list) =
+        ap (λ (b : Bool). cond (cond b true (has known (command_in e.counted))) (e ∷ filter (λ (e : PlainEntry). cond all true (has known (command_in e.counted))) list) (filter (λ (e : PlainEntry). cond all true (has known (command_in e.counted))) list)) is
+        ∙ ap (λ (es : List PlainEntry). e ∷ es) (by [] all is are list)
+    by (n ∷ names) all is are (e ∷ list) =
+        ap (λ (b : Bool). cond (cond b true (has known (command_in e.counted))) (e ∷ filter (λ (e : PlainEntry). cond all true (has known (command_in e.counted))) list) (filter (λ (e : PlainEntry). cond all true (has known (command_in e.counted))) list)) (is ∙ not_none (length names))
+        ∙ ap (λ (b : Bool). cond b (e ∷ filter (λ (e : PlainEntry). cond all true (has known (command_in e.counted))) list) (filter (λ (e : PlainEntry). cond all true (has known (command_in e.counted))) list)) (are (command_in e.counted))
+        ∙ ap (λ (es : List PlainEntry). cond (list_any (bytes_eq (command_in e.counted)) (map (λ (n : String Global). string_bytes n) (n ∷ names))) (e ∷ es) es) (by (n ∷ names) all is are list)
 
 -- ---- the order in which lines come
 

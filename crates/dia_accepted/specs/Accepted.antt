@@ -1,5 +1,5 @@
--- A list of accepted lines: its text, the lines of an answer that it accepts, and those of its own that accept nothing.
-use Rattle.std.specs.Prelude.{ℕ, ◌+◌, nat_lt, ◌||◌, Bool, not, if◌then◌else◌, List, [], ◌∷◌, ◌++◌, map, filter, string_bytes, Option, Some, None}
+-- A list of accepted lines: its text, the lines of an answer that it accepts, and the entries of its own that accept none.
+use Rattle.std.specs.Prelude.{ℕ, ◌+◌, nat_lt, ◌||◌, Bool, true, not, if◌then◌else◌, List, [], ◌∷◌, ◌++◌, map, filter, string_bytes, Option, Some, None}
 use Rattle.std.specs.List.{list_any}
 use Rattle.std.specs.Option.{option_or}
 use Rattle.std.specs.Str.{bytes_eq}
@@ -8,7 +8,7 @@ use Rattle.dia_accepted.specs.declared.list.Entry.{Entry}
 use Rattle.dia_accepted.specs.declared.list.ListFault.{ListFault}
 use Rattle.dia_accepted.specs.declared.list.ListFault.TheVariants.{Syntax, Limit}
 use Rattle.dia_accepted.specs.declared.told.Told.{Told}
-use Rattle.dia_accepted.specs.Words.{anywhere, counted, entry_words, has_form, has_once_form, is_skipped}
+use Rattle.dia_accepted.specs.Words.{anywhere, command_in, counted, entry_text, entry_words, fault_column, has_form, has_once_form, is_skipped}
 
 -- ---- the text of the list
 
@@ -20,26 +20,31 @@ max_list = 1048576
 abbrev pub max_lines : ℕ
 max_lines = 65536
 
--- a line of the list, by its number, from 1, and what counts of it
+-- an entry, by the number of its line, from 1: its words, and what counts of them
 pub record PlainEntry : Type 0 where
   pub line : ℕ
+  pub words : List ℕ
   pub counted : List ℕ
 
 abbrev pub entry : ℕ → List ℕ → PlainEntry
-entry n words = record { line = n; counted = counted (entry_words words) }
+entry n words = record { line = n; words = words; counted = counted (entry_words words) }
 
--- that of the line of this number, if it counts: it isn't empty, and doesn't begin with `#`
+-- that of the line of this number, if it has one: a line may be empty, or a comment alone
 abbrev pub entries_by : ℕ → List ℕ → List PlainEntry
-entries_by n words = if is_skipped words then [] else entry n words ∷ []
+entries_by n line = if is_skipped line then [] else entry n (entry_text line) ∷ []
 
 -- those of lines that are numbered from n on
 abbrev pub entries_from : ℕ → List (List ℕ) → List PlainEntry
 entries_from n [] = []
 entries_from n (words ∷ rest) = entries_by n words ++ entries_from (n + 1) rest
 
+-- what is wrong with the words of an entry
+abbrev pub form_fault : ℕ → List ℕ → Option ListFault
+form_fault n words = if has_form words || has_once_form words then None else Some (Syntax n (fault_column words))
+
 -- what is wrong with the line of this number
 abbrev pub line_fault : ℕ → List ℕ → Option ListFault
-line_fault n words = if nat_lt max_lines n then Some (Limit n) else (if is_skipped words || (has_form words || has_once_form words) then None else Some (Syntax n))
+line_fault n line = if nat_lt max_lines n then Some (Limit n) else (if is_skipped line then None else form_fault n (entry_text line))
 
 -- the first fault of lines that are numbered from n on
 abbrev pub fault_from : ℕ → List (List ℕ) → Option ListFault
@@ -53,7 +58,7 @@ abbrev pub list_fault : List ℕ → Option ListFault
 list_fault text = fault_from 1 (lines text)
 
 abbrev pub plain_entry : Entry → PlainEntry
-plain_entry e = record { line = e.line; counted = e.counted.items }
+plain_entry e = record { line = e.line; words = string_bytes e.words; counted = e.counted.items }
 
 -- ---- the lines of an answer
 
@@ -86,9 +91,14 @@ abbrev pub left_of : List PlainEntry → List PlainTold → List PlainTold
 left_of list told = filter (λ t. not (is_accepted list t)) told
 
 -- it accepts none of these
-abbrev pub is_stale : List PlainTold → PlainEntry → Bool
-is_stale told e = not (list_any (λ t. accepts t.words e) told)
+abbrev pub is_unused : List PlainTold → PlainEntry → Bool
+is_unused told e = not (list_any (λ t. accepts t.words e) told)
 
--- the numbers of the lines that accept nothing
-abbrev pub stale_lines : List PlainEntry → List PlainTold → List ℕ
-stale_lines list told = map (λ e. e.line) (filter (is_stale told) list)
+-- the entries that accept none of these
+abbrev pub unused_of : List PlainEntry → List PlainTold → List PlainEntry
+unused_of list told = filter (is_unused told) list
+
+-- the entry is about a command of these names; about any, where there is no name
+abbrev pub is_about : List (List ℕ) → PlainEntry → Bool
+is_about [] e = true
+is_about (name ∷ names) e = list_any (bytes_eq (command_in e.counted)) (name ∷ names)

@@ -13,15 +13,18 @@ use Rattle.dia_accepted.specs.Words.{cause_text}
 -- ---- a list
 
 abbrev pub entry_with : List ℕ → PlainEntry
-entry_with text = record { line = 0; counted = text }
+entry_with text = record { line = 0; words = []; counted = text }
 
 -- what is known of a text: nothing, if it doesn't count of a line of the list; else whether such a line accepts one of these
 abbrev pub mark : List PlainEntry → List PlainTold → List ℕ → Option Bool
 mark list told text = if list_any (λ e. bytes_eq text e.counted) list then Some (list_any (λ t. accepts t.words (entry_with text)) told) else None
 
--- the numbers of the lines of a list whose texts aren't marked
-abbrev pub unmarked_lines : List (Vec ℕ × Bool) → List PlainEntry → List ℕ
-unmarked_lines texts list = map (λ e. e.line) (filter (λ e. not (unwrap_or (found texts e.counted) false)) list)
+-- the text of the entry isn't marked
+abbrev pub is_unmarked : List (Vec ℕ × Bool) → PlainEntry → Bool
+is_unmarked texts e = not (unwrap_or (found texts e.counted) false)
+
+abbrev pub unmarked : List (Vec ℕ × Bool) → List PlainEntry → List PlainEntry
+unmarked texts list = filter (is_unmarked texts) list
 
 -- the list is this one, and these lines have come
 pub record HasSeen (accepting : Accepting) (list : List PlainEntry) (told : List PlainTold) : Type 0 where

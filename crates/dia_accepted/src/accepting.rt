@@ -1,8 +1,8 @@
-//! Which lines a list accepts, one by one, and which of its own lines accept nothing.
+//! Which lines a list accepts, one by one, and which of its entries accept none.
 ghost use Rattle.std.specs.Prelude.{◌≡◌, ◌&&◌, ◌++◌, ◌∷◌, List, ℕ, [], IfOk, OnOk, Some, if◌then◌else◌, map, unwrap_or, true, false};
 ghost use Rattle.std.specs.Str.{bytes_eq};
 ghost use Rattle.dia_accepted.specs.Accepted.{plain_entry};
-ghost use Rattle.dia_accepted.specs.Seen.{mark, unmarked_lines};
+ghost use Rattle.dia_accepted.specs.Seen.{mark, unmarked};
 ghost use Rattle.dia_accepted.specs.Sets.{found, has};
 
 use crate::list::Entry;
@@ -27,7 +27,7 @@ impl Drop for Accepting<'_> {
 impl<'l> Accepting<'l> {
     ghost use Rattle.std.specs.Prelude.{◌≡◌, ◌++◌, ◌∷◌, List, [], IfOk, OnOk, map};
     ghost use Rattle.std.specs.List.{list_any};
-    ghost use Rattle.dia_accepted.specs.Accepted.{PlainEntry, PlainTold, accepts, plain_entry, stale_lines};
+    ghost use Rattle.dia_accepted.specs.Accepted.{PlainEntry, PlainTold, accepts, plain_entry, unused_of};
     ghost use Rattle.dia_accepted.specs.Seen.{HasSeen};
 
     /// No line has come.
@@ -54,10 +54,10 @@ impl<'l> Accepting<'l> {
         Ok(own || any)
     }
 
-    /// The numbers of the lines of the list that accept none of the lines that have come, in their order.
-    pub fn stale(&self, alloc: Global) -> Result<Vec<u32>, AllocError>
-        ensures { IfOk result (λ stale. (list : List PlainEntry) (told : List PlainTold) → HasSeen self.now list told
-            → stale.items ≡ stale_lines list told) }
+    /// The entries that accept none of the lines that have come, in their order.
+    pub fn unused(&self, alloc: Global) -> Result<Vec<Entry>, AllocError>
+        ensures { IfOk result (λ unused. (list : List PlainEntry) (told : List PlainTold) → HasSeen self.now list told
+            → map plain_entry unused.items ≡ unused_of list told) }
     {
         unmarked(alloc, self.list, &self.texts)
     }
@@ -88,20 +88,36 @@ fn mark_known(texts: &mut IndexMap<Vec<u8>, bool>, text: Vec<u8>) -> Result<bool
     Ok(known)
 }
 
-/// The numbers of the lines of a list that aren't marked.
+/// The entries of a list that aren't marked.
 fn unmarked(
     alloc: Global,
     list: &[Entry],
     texts: &IndexMap<Vec<u8>, bool>,
-) -> Result<Vec<u32>, AllocError>
-    ensures { IfOk result (λ lines. lines.items ≡ unmarked_lines texts.now.entries (map plain_entry list.now)) }
+) -> Result<Vec<Entry>, AllocError>
+    ensures { IfOk result (λ entries. map plain_entry entries.items ≡ unmarked texts.now.entries (map plain_entry list.now)) }
 {
-    let mut lines = Vec::new(alloc);
+    let mut entries = Vec::new(alloc);
     for entry in list {
         let known = is_marked(texts, entry.counted.as_slice());
-        push_unless(&mut lines, entry.line, known)?;
+        push_copy(alloc, &mut entries, entry, known)?;
     }
-    Ok(lines)
+    Ok(entries)
+}
+
+/// Adds a copy of an entry, unless it is known.
+pub(crate) fn push_copy(
+    alloc: Global,
+    entries: &mut Vec<Entry>,
+    entry: &Entry,
+    known: bool,
+) -> Result<(), AllocError>
+    ensures { OnOk result (map plain_entry entries.new.items ≡ map plain_entry entries.old.items
+        ++ (if known then [] else plain_entry entry.now ∷ [])) }
+{
+    if !known {
+        entries.push(entry.copy(alloc)?)?;
+    }
+    Ok(())
 }
 
 fn is_marked(texts: &IndexMap<Vec<u8>, bool>, text: &[u8]) -> bool

@@ -1,14 +1,18 @@
-//! Lists of accepted lines: which lines of an answer of `breaking` are known already, and which lines of the list are of no use
+//! Lists of accepted lines: which lines of an answer of `breaking` are known already, and which entries of the list are of no use
 //! any more. And the causes of lines, each told once.
 #![tactic(auto)]
 
 mod accepting;
+mod choosing;
 mod counting;
+mod entries;
+mod faults;
 mod list;
 mod told;
 mod words;
 
 pub use accepting::Accepting;
+pub use choosing::about;
 pub use counting::Causes;
 pub use list::{Entry, ListFault, MAX_LINES, MAX_LIST, read_list};
 pub use told::Told;

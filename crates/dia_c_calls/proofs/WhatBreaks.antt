@@ -23,6 +23,8 @@ use Rattle.dia_io.specs.declared.Exit.{Exit}
 use Rattle.dia_io.specs.declared.Exit.TheVariants.{Yes, No, Bad}
 use Rattle.dia_upgrades.specs.declared.Asked.{Asked}
 use Rattle.dia_upgrades.specs.declared.Form.TheVariants.{Text}
+use Rattle.dia_upgrades.specs.declared.Stale.TheVariants.{Ignored}
+use Rattle.dia_accepted.specs.declared.Entry.{Entry}
 use Rattle.dia_upgrades.specs.declared.BadList.{BadList}
 use Rattle.dia_upgrades.specs.declared.Found.{Found}
 use Rattle.dia_upgrades.specs.declared.Found.TheVariants as found
@@ -58,21 +60,21 @@ yes_of Bad e = absurd (let z : 0 ≡ 1 = e in omega (arith, z))
 
 module _ (asked : Asked) (input : Input) (a b : Dictionary) (text : List ℕ) (exit : Exit) (is : Found) where
   says_safe : IsListed asked input a b text exit is → exit ≡ Yes → IsSafe asked input a b
-  says_safe (nothing list apart can breaks differs is_text is_exit) is_yes = inl (breaks, differs)
-  says_safe (nothing_else list told apart can left some breaks is_text is_exit) is_yes = inr (list, can.list_is, breaks)
-  says_safe (told_lines list told apart can left is_text is_exit) is_yes = absurd (let e : No ≡ Yes = sym is_exit ∙ is_yes in cc)
+  says_safe (nothing list apart stale can breaks differs none is_text is_exit) is_yes = inl (breaks, differs)
+  says_safe (nothing_else list told apart stale can left some breaks none is_text is_exit) is_yes = inr (list, can.list_is, breaks)
+  says_safe (told_lines list told apart stale can left is_text is_exit) is_yes = absurd (let e : No ≡ Yes = sym is_exit ∙ is_yes in cc)
   says_safe (bad_list bad none refuses what) is_yes = absurd (let e : Bad ≡ Yes = sym refuses.1 ∙ is_yes in cc)
   says_safe (no_commands list is_list none refuses what) is_yes = absurd (let e : Bad ≡ Yes = sym refuses.1 ∙ is_yes in cc)
   says_safe (no_command list name is_list some first refuses what) is_yes = absurd (let e : Bad ≡ Yes = sym refuses.1 ∙ is_yes in cc)
 
-  module _ (stale : Vec ℕ) (n accepted : ℕ) (causes meanings : Vec Told) (has : is ≡ found.Listed stale n accepted causes meanings) where
+  module _ (unused old : Vec Entry) (n accepted : ℕ) (causes meanings : Vec Told) (has : is ≡ found.Listed unused old n accepted causes meanings) where
     answers : IsListed asked input a b text exit is → exit ≢ Bad
-    answers (nothing list apart can breaks differs is_text is_exit) = λ bad. (let e : Yes ≡ Bad = sym is_exit ∙ bad in cc)
-    answers (nothing_else list told apart can left some breaks is_text is_exit) = λ bad. (let e : Yes ≡ Bad = sym is_exit ∙ bad in cc)
-    answers (told_lines list told apart can left is_text is_exit) = λ bad. (let e : No ≡ Bad = sym is_exit ∙ bad in cc)
-    answers (bad_list bad none refuses what) = absurd (let e : found.NoList bad ≡ found.Listed stale n accepted causes meanings = sym what ∙ has in cc)
-    answers (no_commands list is_list none refuses what) = absurd (let e : found.NoCommands ≡ found.Listed stale n accepted causes meanings = sym what ∙ has in cc)
-    answers (no_command list name is_list some first refuses what) = absurd (let e : found.NoCommand ≡ found.Listed stale n accepted causes meanings = sym what ∙ has in cc)
+    answers (nothing list apart stale can breaks differs none is_text is_exit) = λ bad. (let e : Yes ≡ Bad = sym is_exit ∙ bad in cc)
+    answers (nothing_else list told apart stale can left some breaks none is_text is_exit) = λ bad. (let e : Yes ≡ Bad = sym is_exit ∙ bad in cc)
+    answers (told_lines list told apart stale can left is_text is_exit) = λ bad. (let e : No ≡ Bad = sym is_exit ∙ bad in cc)
+    answers (bad_list bad none refuses what) = absurd (let e : found.NoList bad ≡ found.Listed unused old n accepted causes meanings = sym what ∙ has in cc)
+    answers (no_commands list is_list none refuses what) = absurd (let e : found.NoCommands ≡ found.Listed unused old n accepted causes meanings = sym what ∙ has in cc)
+    answers (no_command list name is_list some first refuses what) = absurd (let e : found.NoCommand ≡ found.Listed unused old n accepted causes meanings = sym what ∙ has in cc)
 
     pub told : (answer : Option (List ℕ)) (safe : ℕ) → answer ≡ Some text → safe ≡ holds_of exit → IsListed asked input a b text exit is
         → IfSome answer (λ t. IsToldOf asked input a b t safe)
@@ -90,17 +92,17 @@ module _ (asked : Asked) (input : Input) (a b : Dictionary) (text : List ℕ) (e
   same_bad bad other e = cc
 
   pub no_list : (bad : BadList) (p : Problem) → is ≡ found.NoList bad → p ≡ list_problem bad → IsListed asked input a b text exit is → IsUnlisted a input (names_of asked) p
-  no_list bad p has told (nothing list apart can breaks differs is_text is_exit) = absurd (let t = can.tells in let e : found.NoList bad ≡ found.Listed t.stale t.lines t.accepted t.causes t.meanings = sym has ∙ t.is_listed in cc)
-  no_list bad p has told (nothing_else list told' apart can left some breaks is_text is_exit) = absurd (let t = can.tells in let e : found.NoList bad ≡ found.Listed t.stale t.lines t.accepted t.causes t.meanings = sym has ∙ t.is_listed in cc)
-  no_list bad p has told (told_lines list told' apart can left is_text is_exit) = absurd (let t = can.tells in let e : found.NoList bad ≡ found.Listed t.stale t.lines t.accepted t.causes t.meanings = sym has ∙ t.is_listed in cc)
+  no_list bad p has told (nothing list apart stale can breaks differs none is_text is_exit) = absurd (let t = can.tells in let e : found.NoList bad ≡ found.Listed t.unused t.stale_ones t.lines t.accepted t.causes t.meanings = sym has ∙ t.is_listed in cc)
+  no_list bad p has told (nothing_else list told' apart stale can left some breaks none is_text is_exit) = absurd (let t = can.tells in let e : found.NoList bad ≡ found.Listed t.unused t.stale_ones t.lines t.accepted t.causes t.meanings = sym has ∙ t.is_listed in cc)
+  no_list bad p has told (told_lines list told' apart stale can left is_text is_exit) = absurd (let t = can.tells in let e : found.NoList bad ≡ found.Listed t.unused t.stale_ones t.lines t.accepted t.causes t.meanings = sym has ∙ t.is_listed in cc)
   no_list bad p has told (bad_list other none refuses what) = IsUnlisted.bad_list bad (subst (IsNoListText input) (sym (same_bad bad other (sym has ∙ what))) none) told
   no_list bad p has told (no_commands list is_list none refuses what) = absurd (let e : found.NoList bad ≡ found.NoCommands = sym has ∙ what in cc)
   no_list bad p has told (no_command list name is_list some first refuses what) = absurd (let e : found.NoList bad ≡ found.NoCommand = sym has ∙ what in cc)
 
   pub unnamed : is ≡ found.NoCommand → IsListed asked input a b text exit is → (name : List ℕ) × IsFirstUnknown a (names_of asked) name
-  unnamed has (nothing list apart can breaks differs is_text is_exit) = absurd (let t = can.tells in let e : found.NoCommand ≡ found.Listed t.stale t.lines t.accepted t.causes t.meanings = sym has ∙ t.is_listed in cc)
-  unnamed has (nothing_else list told' apart can left some breaks is_text is_exit) = absurd (let t = can.tells in let e : found.NoCommand ≡ found.Listed t.stale t.lines t.accepted t.causes t.meanings = sym has ∙ t.is_listed in cc)
-  unnamed has (told_lines list told' apart can left is_text is_exit) = absurd (let t = can.tells in let e : found.NoCommand ≡ found.Listed t.stale t.lines t.accepted t.causes t.meanings = sym has ∙ t.is_listed in cc)
+  unnamed has (nothing list apart stale can breaks differs none is_text is_exit) = absurd (let t = can.tells in let e : found.NoCommand ≡ found.Listed t.unused t.stale_ones t.lines t.accepted t.causes t.meanings = sym has ∙ t.is_listed in cc)
+  unnamed has (nothing_else list told' apart stale can left some breaks none is_text is_exit) = absurd (let t = can.tells in let e : found.NoCommand ≡ found.Listed t.unused t.stale_ones t.lines t.accepted t.causes t.meanings = sym has ∙ t.is_listed in cc)
+  unnamed has (told_lines list told' apart stale can left is_text is_exit) = absurd (let t = can.tells in let e : found.NoCommand ≡ found.Listed t.unused t.stale_ones t.lines t.accepted t.causes t.meanings = sym has ∙ t.is_listed in cc)
   unnamed has (bad_list bad none refuses what) = absurd (let e : found.NoCommand ≡ found.NoList bad = sym has ∙ what in cc)
   unnamed has (no_commands list is_list none refuses what) = absurd (let e : found.NoCommand ≡ found.NoCommands = sym has ∙ what in cc)
   unnamed has (no_command list name is_list some first refuses what) = (name, first)
@@ -172,9 +174,9 @@ module _ (d : Dictionary) (xs : List (String Global)) (name : List ℕ) (first :
 -- ---- what is asked
 
 pub is_asked : (w : Wanted) (commands words : List ℕ) (given : Bor (List (String Global))) (names : List (String Global)) → given.now ≡ names → map text_of names ≡ lines words → words ≡ commands
-    → IsAskedBy w commands (record { sends = w.sends; unknown = w.unknown; messages = w.messages; once = w.once; meaning = w.meaning; form = Text; names = given })
+    → IsAskedBy w commands (record { sends = w.sends; unknown = w.unknown; messages = w.messages; once = w.once; meaning = w.meaning; stale = Ignored; form = Text; names = given })
 is_asked w commands words given names has is same =
-    record { sends = refl; unknown = refl; messages = refl; once = refl; meaning = refl; form = refl; names = ap (map text_of) has ∙ is ∙ ap lines same }
+    record { sends = refl; unknown = refl; messages = refl; once = refl; meaning = refl; stale = refl; form = refl; names = ap (map text_of) has ∙ is ∙ ap lines same }
 
 pub same_problem : (x p : Problem) → refused.Bad x ≡ refused.Bad p → p ≡ x
 same_problem x p e = cc

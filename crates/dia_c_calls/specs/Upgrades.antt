@@ -13,6 +13,7 @@ use Rattle.dia_io.specs.declared.Exit.TheVariants.{Bad}
 use Rattle.dia_io.specs.Inputs.{IsWhole}
 use Rattle.dia_upgrades.specs.declared.Asked.{Asked}
 use Rattle.dia_upgrades.specs.declared.Form.TheVariants.{Text}
+use Rattle.dia_upgrades.specs.declared.Stale.TheVariants.{Ignored}
 use Rattle.dia_upgrades.specs.declared.BadList.{BadList}
 use Rattle.dia_upgrades.specs.declared.BadList.TheVariants as list
 use Rattle.dia_upgrades.specs.Asking.{names_of}
@@ -50,13 +51,14 @@ wanted_of sends unknown options = record {
   meaning = has_option options 4;
 }
 
--- this is asked of the command: what is wanted, in words, of the commands whose names are the lines of the text
+-- this is asked of the command: what is wanted, in words, of the commands whose names are the lines of the text. No entry of the list is stale for it
 pub record IsAskedBy (wanted : Wanted) (commands : List ℕ) (asked : Asked) : Type 0 where
   pub sends : asked.sends ≡ wanted.sends
   pub unknown : asked.unknown ≡ wanted.unknown
   pub messages : asked.messages ≡ wanted.messages
   pub once : asked.once ≡ wanted.once
   pub meaning : asked.meaning ≡ wanted.meaning
+  pub stale : asked.stale ≡ Ignored
   pub form : asked.form ≡ Text
   pub names : names_of asked ≡ lines commands
 
@@ -91,7 +93,7 @@ pub record HasListed (a b : Dictionary) (wanted : Wanted) (commands accepted tex
 abbrev pub list_problem : BadList → Problem
 list_problem list.TooLong = problem 3 0 0
 list_problem (list.NotText at) = problem 0 0 0
-list_problem (list.Syntax n) = problem 1 n 0
+list_problem (list.Syntax n column) = problem 1 n 0
 list_problem (list.Limit n) = problem 3 n 0
 
 -- the number of a line by its place, as far as 32 bits have one

@@ -20,7 +20,7 @@ use crate::sink::TextSink;
 use crate::wanted::Wanted;
 use dia_book::Book;
 use dia_io::{Exit, Input, RunFault};
-use dia_upgrades::{Asked, BadList, Form, Found, Listed, MAX_LIST, breaking_of, named};
+use dia_upgrades::{Asked, BadList, Form, Found, Listed, MAX_LIST, Stale, breaking_of, named};
 use std::alloc::{AllocError, Global};
 
 /// The first dictionary has no commands.
@@ -64,6 +64,7 @@ pub fn listed<A: Book, B: Book>(
         messages,
         once,
         meaning,
+        stale: Stale::Ignored,
         form: Form::Text,
         names,
     };
@@ -157,7 +158,7 @@ fn list_problem(bad: BadList) -> Problem
     match bad {
         BadList::TooLong => problem(3, 0),
         BadList::NotText { .. } => problem(0, 0),
-        BadList::Syntax { line } => problem(1, line),
+        BadList::Syntax { line, .. } => problem(1, line),
         BadList::Limit { line } => problem(3, line),
     }
 }

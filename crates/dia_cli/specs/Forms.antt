@@ -31,7 +31,8 @@ pub data Telling : Type 0 where
   as_listing : Bool → Bool → Option Text → Telling
 
 -- a command with its options and the words of its inputs. `--levels`, `--dict`, `--values` and `--accepted` are their words; `check`, `compare`
--- and `propose` have `--json`, `refute` has `--lines` and `--json`, and `breaking` has `--json`, `--messages`, `--once` and `--meaning`, or not
+-- and `propose` have `--json`, `refute` has `--lines` and `--json`, and `breaking` has `--json`, `--messages`, `--once`, `--meaning` and
+-- `--stale-allowed`, or not
 pub data Form : Type 0 where
   show : Telling → Option Text → Text → Form
   make : Option Text → Text → Form
@@ -40,7 +41,7 @@ pub data Form : Type 0 where
   compare : Bool → Unknown → Text → Text → Text → Form
   refute : Bool → Bool → Unknown → Option Text → Text → Text → Text → Form
   propose : Bool → Unknown → Text → Text → Text → List Text → Form
-  breaking : Bool → Sends → Unknown → Bool → Bool → Bool → Option Text → Text → Text → List Text → Form
+  breaking : Bool → Sends → Unknown → Bool → Bool → Bool → Bool → Option Text → Text → Text → List Text → Form
 
 -- its row
 abbrev pub form_row : Form → CommandRow
@@ -51,7 +52,7 @@ form_row (render dictionary) = render_row
 form_row (compare json unknown first second table) = compare_row
 form_row (refute many json unknown levels first second message) = refute_row
 form_row (propose json unknown first second name names) = propose_row
-form_row (breaking json sends unknown messages once meaning accepted first second names) = breaking_row
+form_row (breaking json sends unknown messages once meaning allowed accepted first second names) = breaking_row
 
 abbrev pub form_name : Form → Text
 form_name form = (form_row form).name
@@ -97,9 +98,10 @@ form_options (compare json unknown first second table) = unknown_slot unknown �
 form_options (refute many json unknown levels first second message) =
     unknown_slot unknown ∷ flag (codes "lines") many ∷ flag (codes "json") json ∷ number (codes "levels") levels ∷ []
 form_options (propose json unknown first second name names) = unknown_slot unknown ∷ flag (codes "json") json ∷ []
-form_options (breaking json sends unknown messages once meaning accepted first second names) =
+form_options (breaking json sends unknown messages once meaning allowed accepted first second names) =
     unknown_slot unknown ∷ choice (codes "sends") (sender_given sends) ∷ flag (codes "messages") messages
-    ∷ flag (codes "once") once ∷ flag (codes "meaning") meaning ∷ flag (codes "json") json ∷ text (codes "accepted") accepted ∷ []
+    ∷ flag (codes "once") once ∷ flag (codes "meaning") meaning ∷ flag (codes "stale-allowed") allowed ∷ flag (codes "json") json
+    ∷ text (codes "accepted") accepted ∷ []
 
 abbrev pub form_inputs : Form → List Slot
 form_inputs (show telling dictionary message) = word (codes "MESSAGE") message ∷ []
@@ -109,7 +111,7 @@ form_inputs (render dictionary) = word (codes "D") dictionary ∷ []
 form_inputs (compare json unknown first second table) = pair_slots first second (word (codes "TABLE") table)
 form_inputs (refute many json unknown levels first second message) = pair_slots first second (word (codes "MESSAGE") message)
 form_inputs (propose json unknown first second name names) = pair_slots first second (words (codes "COMMAND") (name ∷ names))
-form_inputs (breaking json sends unknown messages once meaning accepted first second names) = pair_slots first second (words (codes "COMMAND") names)
+form_inputs (breaking json sends unknown messages once meaning allowed accepted first second names) = pair_slots first second (words (codes "COMMAND") names)
 
 -- ---- its task, and the words of its inputs
 
@@ -135,9 +137,9 @@ IsTaskOfForm (refute true json unknown levels first second messages) (RefuteLine
     (policy ≡ unknown) × IsLimitOf levels limit
 IsTaskOfForm (propose json unknown first second name names) (Whole (command.Propose policy commands)) =
     (policy ≡ unknown) × (map string_bytes commands.items ≡ name ∷ names)
-IsTaskOfForm (breaking json sends unknown messages once meaning accepted first second names) (Breaking asked) =
+IsTaskOfForm (breaking json sends unknown messages once meaning allowed accepted first second names) (Breaking asked) =
     (asked.sends ≡ sends) × (asked.unknown ≡ unknown) × (asked.messages ≡ messages) × (asked.once ≡ once) × (asked.meaning ≡ meaning)
-    × (map string_bytes asked.names.items ≡ names)
+    × (asked.stale_allowed ≡ allowed) × (map string_bytes asked.names.items ≡ names)
 IsTaskOfForm form task = ⊥
 
 -- the words of its inputs
@@ -157,7 +159,7 @@ form_words (compare json unknown first second table) = record (pair_texts first 
 form_words (refute false json unknown levels first second message) = record (pair_texts first second) { message = Some message }
 form_words (refute true json unknown levels first second messages) = record (pair_texts first second) { messages = Some messages }
 form_words (propose json unknown first second name names) = pair_texts first second
-form_words (breaking json sends unknown messages once meaning accepted first second names) =
+form_words (breaking json sends unknown messages once meaning allowed accepted first second names) =
     record (pair_texts first second) { table = Some (unwrap_or accepted (codes "@none")) }
 
 -- ---- what is found of a task
@@ -213,7 +215,7 @@ HasOptionsOf (Whole (command.Propose unknown names)) rows =
 HasOptionsOf (Breaking asked) rows =
     IsPolicy asked.unknown rows × (first_of (codes "sends") rows ≡ Some (sends_word asked.sends)) × IsFlag (codes "messages") asked.messages rows
     × IsFlag (codes "once") asked.once rows × IsFlag (codes "meaning") asked.meaning rows
-    × (unwrap_or (all_of (codes "COMMAND") rows) [] ≡ map string_bytes asked.names.items)
+    × IsFlag (codes "stale-allowed") asked.stale_allowed rows × (unwrap_or (all_of (codes "COMMAND") rows) [] ≡ map string_bytes asked.names.items)
 
 -- the task that was found: the name of its command, and its options
 abbrev pub IsTaskOf : Task → Text × List Row → Type 0
@@ -266,10 +268,10 @@ has_refuted rows = is_judged rows && (has_pair rows
 abbrev pub has_proposed : List Row → Bool
 has_proposed rows = has_policy rows && (has_pair rows && is_some (all_of (codes "COMMAND") rows))
 
--- `--messages`, `--once` and `--meaning`, given or not
+-- `--messages`, `--once`, `--meaning` and `--stale-allowed`, given or not
 abbrev pub has_flags : List Row → Bool
 has_flags rows = is_flag (first_of (codes "messages") rows)
-    && (is_flag (first_of (codes "once") rows) && is_flag (first_of (codes "meaning") rows))
+    && (is_flag (first_of (codes "once") rows) && (is_flag (first_of (codes "meaning") rows) && is_flag (first_of (codes "stale-allowed") rows)))
 
 abbrev pub has_listed : List Row → Bool
 has_listed rows = has_policy rows && (has_pair rows

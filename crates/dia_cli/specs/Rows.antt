@@ -108,7 +108,7 @@ abbrev pub breaking_row : CommandRow
 breaking_row = record {
   name = codes "breaking";
   options = quiet_option ∷ unknown_option ∷ option (codes "sends") sender ∷ option (codes "messages") no_value ∷ option (codes "once") no_value
-      ∷ option (codes "meaning") no_value ∷ option (codes "accepted") (any_word (codes "@none")) ∷ json_option ∷ [];
+      ∷ option (codes "meaning") no_value ∷ option (codes "accepted") (any_word (codes "@none")) ∷ option (codes "stale-allowed") no_value ∷ json_option ∷ [];
   inputs = input (codes "A") one ∷ input (codes "B") one ∷ input (codes "COMMAND") any ∷ [];
 }
 

@@ -284,6 +284,11 @@ const BREAKING: CommandRow<'static> = CommandRow {
             },
             help: "Lines that are known, as this command prints them, which aren't printed: a file, @none, or - for standard input",
         },
+        OptionRow {
+            id: "stale-allowed",
+            value: Value::Nothing,
+            help: "Doesn't fail where a line of --accepted accepts nothing any more",
+        },
         JSON,
     ],
     inputs: &[

@@ -16,9 +16,10 @@ pub(crate) struct Shown {
     pub messages: bool,
     pub once: bool,
     pub meaning: bool,
+    pub stale_allowed: bool,
 }
 
-/// Which of `--messages`, `--once` and `--meaning` are given.
+/// Which of `--messages`, `--once`, `--meaning` and `--stale-allowed` are given.
 pub(crate) fn shown_of(found: &ArgMatches<'_>) -> Option<Shown>
     ensures messages { IfSome result
         (λ shown. IsFlag (codes "messages") shown.messages (rows_of (found_of found.now))) }
@@ -26,15 +27,19 @@ pub(crate) fn shown_of(found: &ArgMatches<'_>) -> Option<Shown>
         (λ shown. IsFlag (codes "once") shown.once (rows_of (found_of found.now))) }
     ensures meaning { IfSome result
         (λ shown. IsFlag (codes "meaning") shown.meaning (rows_of (found_of found.now))) }
+    ensures stale { IfSome result
+        (λ shown. IsFlag (codes "stale-allowed") shown.stale_allowed (rows_of (found_of found.now))) }
     ensures none { result ≡ None → has_flags (rows_of (found_of found.now)) ≡ false }
 {
     let messages = flag_of(found, "messages")?;
     let once = flag_of(found, "once")?;
     let meaning = flag_of(found, "meaning")?;
+    let stale_allowed = flag_of(found, "stale-allowed")?;
     Some(Shown {
         messages,
         once,
         meaning,
+        stale_allowed,
     })
 }
 

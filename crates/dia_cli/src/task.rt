@@ -35,6 +35,8 @@ pub struct Breaking {
     pub once: bool,
     /// Whether AVPs that are read as another format are printed too.
     pub meaning: bool,
+    /// Whether the answer is the same where an entry of the list of accepted lines is stale.
+    pub stale_allowed: bool,
     /// The commands of A that are asked for: all where there is none.
     pub names: Vec<String>,
 }

@@ -4,7 +4,7 @@ use dia_explain_places::Note;
 use dia_io::Inputs;
 use dia_policy::Sends;
 use dia_report::BothBooks;
-use dia_upgrades::{Asked, lines_left};
+use dia_upgrades::{Asked, Stale, lines_left};
 
 /// Up to this product of commands and AVPs it is counted what breaks where less is sent, which takes as long as the answer.
 const MOST_COUNTED: usize = 1_000_000;
@@ -44,6 +44,7 @@ fn push_left(
     let asked = Asked {
         sends,
         messages,
+        stale: Stale::Ignored,
         ..asked
     };
     match lines_left(note.allocator(), asked, &inputs.table, books) {

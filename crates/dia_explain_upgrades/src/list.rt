@@ -1,7 +1,7 @@
 //! The list of accepted lines.
 
-use dia_explain_places::{NamedText, Note, start_of_line};
-use dia_upgrades::{BadList, MAX_LINES, MAX_LIST};
+use dia_explain_places::{NamedText, Note, line_from, nearest_name, start_of_line};
+use dia_upgrades::{BadList, Entry, MAX_LINES, MAX_LIST};
 
 /// The most lines of a list that are told one by one.
 const MOST: usize = 20;
@@ -17,7 +17,30 @@ const DICTIONARY_HINT: &str =
 
 /// What to do about such a line of another text.
 const LIST_HINT: &str = "hint: write the list by diacmd breaking A B > FILE, without --messages; \
-    a comment is a line that begins with #\n";
+    a comment begins with #\n";
+
+/// What a line is that accepts nothing here, and isn't stale.
+const NOT_ASKED: &str = "this line isn't asked about\n";
+
+/// Why it isn't.
+const UNASKED_HINT: &str =
+    "hint: such a line is about a command that isn't named, or about another --sends or --unknown\n";
+
+/// The reasons of lines.
+static REASONS: [&str; 12] = [
+    "command",
+    "application",
+    "proxiable",
+    "missing",
+    "too-many",
+    "not-allowed",
+    "order",
+    "unknown",
+    "m-bit",
+    "format",
+    "meaning",
+    "undecided",
+];
 
 /// Adds why a list is refused.
 pub fn push_bad_list(note: &mut Note, list: &NamedText<'_>, bad: &BadList) {
@@ -32,9 +55,12 @@ pub fn push_bad_list(note: &mut Note, list: &NamedText<'_>, bad: &BadList) {
             push_told(note, list, at, "these bytes aren't UTF-8\n");
             note.put("hint: save the file as UTF-8\n")
         }
-        BadList::Syntax { line } => {
-            push_told(note, list, start_of_line(text, line), NO_LINE);
-            if text.starts_with(b"%avp") || text.starts_with(b"<") {
+        BadList::Syntax { line, column } => {
+            let at = start_of_line(text, line).saturating_add(column.saturating_sub(1));
+            push_told(note, list, at, NO_LINE);
+            if let Some(reason) = nearest_reason(text, at) {
+                note.put_all(&["hint: did you mean ", reason, "?\n"])
+            } else if text.starts_with(b"%avp") || text.starts_with(b"<") {
                 note.put(DICTIONARY_HINT)
             } else {
                 note.put(LIST_HINT)
@@ -56,19 +82,72 @@ fn push_told(note: &mut Note, list: &NamedText<'_>, at: usize, told: &str) {
     note.put_excerpt(list.text, at);
 }
 
-/// Adds the lines of a list that accept nothing, how many they are, if not each is told, and what to do.
-pub fn push_stale(note: &mut Note, list: &NamedText<'_>, stale: &[u32]) {
-    for line in stale.iter().take(MOST) {
-        let at = start_of_line(list.text, *line);
-        push_told(note, list, at, "this line accepts nothing\n");
+/// The reason that is nearest to the word at a place of a list, which isn't one.
+fn nearest_reason(text: &[u8], at: usize) -> Option<&'static str> {
+    let word = line_from(text, at).split(|byte| *byte == b' ').next()?;
+    let word = str::from_utf8(word).ok()?;
+    if REASONS.iter().any(|reason| *reason == word) {
+        return None;
     }
-    let count = stale.len();
+    nearest_name(word, &REASONS)
+}
+
+/// Adds the stale entries of a list, those that accept nothing and aren't stale, and what to do.
+pub fn push_unused(note: &mut Note, list: &NamedText<'_>, unused: &[Entry], stale: &[Entry]) {
+    push_entries(
+        note,
+        list,
+        stale,
+        "this line accepts nothing\n",
+        " lines accept nothing\n",
+    );
+    if !stale.is_empty() {
+        note.put("hint: what such a line tells doesn't break any more, so the line can go\n");
+    }
+    push_unasked(note, list, unused, stale);
+}
+
+/// Adds the entries that accept nothing and aren't stale. Both lists are in the order of their lines.
+fn push_unasked(note: &mut Note, list: &NamedText<'_>, unused: &[Entry], stale: &[Entry]) {
+    let mut passed: usize = 0;
+    let mut count: usize = 0;
+    for entry in unused {
+        if is_at(stale, passed, entry.line) {
+            passed = passed.saturating_add(1);
+        } else {
+            count = count.saturating_add(1);
+            if count <= MOST {
+                push_told(note, list, start_of_line(list.text, entry.line), NOT_ASKED);
+            }
+        }
+    }
+    push_count(note, list, count, " lines aren't asked about\n");
+    if count > 0 {
+        note.put(UNASKED_HINT);
+    }
+}
+
+/// Whether the entry at a place is that of a line.
+fn is_at(entries: &[Entry], place: usize, line: u32) -> bool {
+    match entries.get(place) {
+        Some(entry) => entry.line == line,
+        None => false,
+    }
+}
+
+/// Adds entries of a list, with their lines, and how many they are, if not each is told.
+fn push_entries(note: &mut Note, list: &NamedText<'_>, entries: &[Entry], told: &str, all: &str) {
+    for entry in entries.iter().take(MOST) {
+        push_told(note, list, start_of_line(list.text, entry.line), told);
+    }
+    push_count(note, list, entries.len(), all);
+}
+
+/// Adds how many lines of a list there are, if not each is told.
+fn push_count(note: &mut Note, list: &NamedText<'_>, count: usize, told: &str) {
     if count > MOST {
         note.put_all(&[list.name, ": "]);
         note.put_number(count as u64);
-        note.put(" lines accept nothing\n");
-    }
-    if count > 0 {
-        note.put("hint: what such a line tells doesn't break any more, so the line can go\n");
+        note.put(told);
     }
 }

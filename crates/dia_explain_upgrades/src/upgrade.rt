@@ -1,7 +1,7 @@
 //! The note of an answer of `breaking`.
 
 use crate::less::push_less;
-use crate::list::{push_bad_list, push_stale};
+use crate::list::{push_bad_list, push_unused};
 use crate::namesakes::push_namesakes;
 use crate::tally::{push_meanings, push_tally};
 use crate::unchosen::push_unchosen;
@@ -43,6 +43,7 @@ fn push_found(
 ) -> Result<(), AllocError> {
     match found {
         Found::Listed {
+            unused,
             stale,
             lines,
             causes,
@@ -61,7 +62,7 @@ fn push_found(
                 &second_of(texts, books),
                 causes,
             )?;
-            push_stale(note, &texts.table, stale);
+            push_unused(note, &texts.table, unused, stale);
         }
         Found::NoList(bad) => push_bad_list(note, &texts.table, bad),
         Found::NoCommands => push_without_commands(note, &texts.first, &books.first.source),

@@ -2,7 +2,7 @@
 
 use dia_io::{Exit, Input, Inputs, ToWriter};
 use dia_policy::{Sends, Unknown};
-use dia_upgrades::{Asked, Form};
+use dia_upgrades::{Asked, Form, Stale};
 use dia_upgrades_json::breaking;
 use std::alloc::{AllocError, Global};
 use std::test::Fail;
@@ -14,14 +14,14 @@ const SECOND: &str = "%avp X 9001 Unsigned32 any <T> ::= < Diameter Header: 302,
 
 const LISTED: &str =
     r#"{"command":"T","path":[],"reason":"too-many","avp":{"name":"X","code":9001,"vendor":0},"sent":"0..*","sent_min":0,"sent_max":null,"accepted":"0..3","accepted_min":0,"accepted_max":3,"in_header":false}
-{"lines":1,"causes":1,"accepted":0}
+{"lines":1,"causes":1,"accepted":0,"stale":0}
 "#;
 
 #[test]
 fn lists_what_breaks(rt: HostRuntime) -> Result<(), Fail> {
     let alloc = rt.alloc();
     assert!(rt; is_listed(alloc, "", Exit::No, LISTED)?);
-    let none = "{\"lines\":0,\"causes\":0,\"accepted\":1}\n";
+    let none = "{\"lines\":0,\"causes\":0,\"accepted\":1,\"stale\":0}\n";
     assert!(rt;
         is_listed(
             alloc,
@@ -30,7 +30,12 @@ fn lists_what_breaks(rt: HostRuntime) -> Result<(), Fail> {
             none
         )?
     );
-    let syntax = "{\"error\":\"accepted\",\"kind\":\"syntax\",\"line\":1}\n";
+    let stale = "T: missing X: 0 sent, 1 accepted";
+    let objects =
+        "{\"stale\":\"T: missing X: 0 sent, 1 accepted\",\"line\":2}\n{\"lines\":0,\"causes\":0,\"accepted\":1,\"stale\":1}\n";
+    let list = format!(in alloc; "*: too-many X: 0..* sent, 0..3 accepted # agreed\n{stale}  \n")?;
+    assert!(rt; is_listed(alloc, list.as_str(), Exit::No, objects)?);
+    let syntax = "{\"error\":\"accepted\",\"kind\":\"syntax\",\"line\":1,\"column\":2}\n";
     assert!(rt; is_listed(alloc, "X", Exit::Bad, syntax)?);
     Ok(())
 }
@@ -45,6 +50,7 @@ fn is_listed(alloc: Global, list: &str, exit: Exit, objects: &str) -> Result<boo
         messages: false,
         once: false,
         meaning: false,
+        stale: Stale::Fails,
         form: Form::Text,
         names: &[],
     };

@@ -1,6 +1,6 @@
 -- What `breaking` answers, by the lines that were found.
-use Rattle.std.proofs.Common.{◌≡◌, ◌≢◌, ℕ, suc, ◌<◌, ◌==◌, Bool, true, false, cond, List, [], ◌∷◌, ◌++◌, length, map, Result, Ok, Err, refl, sym, ap, subst, ◌∙◌, arith, inl, inr}
-use Rattle.std.specs.Prelude.{IfErr, IfOk, OnOk, Option}
+use Rattle.std.proofs.Common.{◌≡◌, ◌≢◌, ℕ, suc, ◌<◌, ◌==◌, Bool, true, false, cond, List, [], ◌∷◌, ◌++◌, length, map, Result, Ok, Err, refl, sym, ap, subst, ◌∙◌, append_assoc, arith, inl, inr}
+use Rattle.std.specs.Prelude.{◌&&◌, filter, IfErr, IfOk, OnOk, Option}
 use Rattle.std.specs.Io.KnownBytes.{Appends}
 use Rattle.std.specs.List.{AllByRecursion}
 use Rattle.std.proofs.KnownBytes.{Appends-nil, Appends-trans}
@@ -15,10 +15,16 @@ use Rattle.dia_io.specs.declared.Exit.TheVariants.{Yes, No, Bad}
 use Rattle.dia_io.specs.declared.RunFault.{RunFault}
 use Rattle.dia_io.specs.declared.RunFault.TheVariants.{Device, NoMemory}
 use Rattle.dia_io.specs.Writing.{AppendsFront}
-use Rattle.dia_accepted.specs.Accepted.{PlainEntry, PlainTold, kept, left_of, plain_told}
+use Rattle.dia_accepted.specs.Accepted.{PlainEntry, PlainTold, kept, is_about, left_of, plain_entry, plain_told, unused_of}
 use Rattle.dia_accepted.specs.Causes.{once_of}
 use Rattle.dia_accepted.specs.Seen.{HasSeen}
+use Rattle.dia_accepted.specs.declared.list.Entry.{Entry}
+use Rattle.dia_breaking.specs.Sides.{Sides}
+use Rattle.std.specs.Global.{Vec}
+use Rattle.dia_policy.specs.declared.Sends.TheVariants as sent
 use Rattle.dia_upgrades.specs.declared.asked.Asked.{Asked}
+use Rattle.dia_upgrades.specs.declared.asked.Form.{Form}
+use Rattle.dia_upgrades.specs.declared.asked.Form.TheVariants.{Text, Json}
 use Rattle.dia_upgrades.specs.declared.reporting.Found.{Found}
 use Rattle.dia_upgrades.specs.declared.reporting.Listed.{Listed}
 use Rattle.dia_upgrades.specs.declared.seen.Seen.{Seen}
@@ -29,8 +35,9 @@ use Rattle.dia_upgrades.specs.Lists.{IsListText}
 use Rattle.dia_upgrades.specs.Outcome.{AreAllTold, CanAsk, IsAcceptedWhole, IsAnswerable, IsListed, IsReadAlike, OfEach, TellsFound, counted, nothing_for, nothing_left, shown, sides_in}
 use Rattle.dia_upgrades.specs.Outcome.{nothing, nothing_else, lines}
 use Rattle.dia_upgrades.specs.Places.{asked_places}
+use Rattle.dia_upgrades.specs.Stale.{AreLookedFor, AreStale, AreUnused, AreUnusedBy, failing, stale_text}
 use Rattle.dia_upgrades.specs.Told.{AreTold, number_at, written}
-use Rattle.dia_upgrades.specs.UnderWay.{AreAllPut, AreFirstLines, Answers, Ends, Finds, StandsPut, end_text, exit_of, is_any, text_shown}
+use Rattle.dia_upgrades.specs.UnderWay.{AreAllPut, AreFirstLines, Answers, Ends, Finds, StandsPut, end_text, exit_of, fails_of, is_any, lines_end, nothing_said, text_shown}
 use Rattle.dia_upgrades.proofs.AskedCommands.{asked_each, command_stands}
 use Rattle.dia_upgrades.proofs.LinesToTell.{nothing_shown}
 use Rattle.dia_upgrades.proofs.Puts.{front_behind}
@@ -52,97 +59,141 @@ is_nothing_left : (meaning : Bool) (told : List PlainTold) → nothing_for meani
 is_nothing_left meaning [] = refl
 is_nothing_left meaning (t ∷ told) = refl
 
--- what is written in the end, where no line is left
+no_stale_text : (f : Form) → stale_text f [] ≡ []
+no_stale_text Text = refl
+no_stale_text (Json names) = refl
+
+-- what is written in the end, where no line is left and no entry fails
 end_of_none : (asked : Asked) (told left causes : List PlainTold) (lines : ℕ) (is_some : Bool) → left ≡ [] → lines ≡ counted (length left) → is_some ≡ is_any told
-    → text_shown asked left ++ end_text asked lines is_some causes ≡ said asked.form (nothing_left asked.meaning told)
+    → text_shown asked left ++ end_text asked lines is_some causes [] ≡ said asked.form (nothing_left asked.meaning told)
 end_of_none asked told left causes n is_some none counts some =
     let zero : n ≡ 0 = counts ∙ ap (λ (xs : List PlainTold). counted (length xs)) none in
-    (λ i. text_shown asked (none i) ++ end_text asked (zero i) (some i) causes) ∙ ap (λ (x : List ℕ). x ++ said asked.form (nothing_for asked.meaning (is_any told))) (nothing_shown asked)
+    (λ i. text_shown asked (none i) ++ end_text asked (zero i) (some i) causes [])
+    ∙ ap (λ (x : List ℕ). x ++ (said asked.form (nothing_for asked.meaning (is_any told)) ++ stale_text asked.form [])) (nothing_shown asked)
+    ∙ ap (λ (x : List ℕ). said asked.form (nothing_for asked.meaning (is_any told)) ++ x) (no_stale_text asked.form)
+    ∙ append-nil (said asked.form (nothing_for asked.meaning (is_any told)))
     ∙ ap (said asked.form) (is_nothing_left asked.meaning told)
+
+not_zero_by : (m : ℕ) → 0 < m → (m == 0) ≡ false
+not_zero_by m some = test (m == 0) refl
+  where
+    test : (b : Bool) → (m == 0) ≡ b → (m == 0) ≡ false
+    test true e = absurd (omega (arith, some, eqb-true m 0 e))
+    test false e = e
 
 some_lines_left : (lines : ℕ) (t : PlainTold) (left : List PlainTold) → lines ≡ counted (length (t ∷ left)) → (lines == 0) ≡ false
 some_lines_left n t left counts = ap (λ (m : ℕ). m == 0) counts ∙ by (length left)
   where
-    test : (m : ℕ) → 0 < m → (b : Bool) → (m == 0) ≡ b → (m == 0) ≡ false
-    test m some true e = absurd (omega (arith, some, eqb-true m 0 e))
-    test m some false e = e
-
-    not_equal : (m : ℕ) → 0 < m → (m == 0) ≡ false
-    not_equal m some = test m some (m == 0) refl
-
     by : (n : ℕ) → (counted (suc n) == 0) ≡ false
-    by n = not_equal (counted (suc n)) (omega arith)
+    by n = not_zero_by (counted (suc n)) (omega arith)
 
 all_kept : (xs : List PlainTold) → map (kept true) xs ≡ xs
 all_kept xs = map-id xs
 
-end_of_some : (asked : Asked) (left causes : List PlainTold) (lines : ℕ) (is_some : Bool) → (lines == 0) ≡ false → causes ≡ once_of (map (kept asked.once) left)
-    → text_shown asked left ++ end_text asked lines is_some causes ≡ written asked (shown asked.once left)
-end_of_some asked left causes n is_some some causes_are =
-    ap (λ (b : Bool). text_shown asked left ++ cond b (said asked.form (nothing_for asked.meaning is_some)) (cond asked.once (written asked causes) [])) some
+-- what is written of the lines that are left
+lines_of_some : (asked : Asked) (left causes : List PlainTold) (lines : ℕ) (is_some : Bool) (n : ℕ) → (lines == 0) ≡ false → causes ≡ once_of (map (kept asked.once) left)
+    → text_shown asked left ++ lines_end asked lines is_some causes n ≡ written asked (shown asked.once left)
+lines_of_some asked left causes count is_some n some causes_are =
+    ap (λ (b : Bool). text_shown asked left ++ cond b (nothing_said asked.form asked.meaning is_some n) (cond asked.once (written asked causes) [])) some
     ∙ by asked.once causes_are
   where
     by : (b : Bool) → causes ≡ once_of (map (kept b) left) → cond b [] (written asked left) ++ cond b (written asked causes) [] ≡ written asked (shown b left)
     by true e = ap (written asked) (e ∙ ap once_of (all_kept left))
     by false e = append-nil (written asked left)
 
-module _ (asked : Asked) (input : Input) (a b : Dictionary) (list : List PlainEntry) (is_list : IsListText input list) where
-  module _ (sound : IsDictionary a) (can : CanAsk asked a) (apart : List PlainTold) where
-    answerable : (told : List PlainTold) (is : Found) → AreAllTold asked a b told apart → TellsFound asked.once list told apart is → IsAnswerable asked input a b list told apart is
-    answerable told is all tells = record { list_is = is_list; can_ask = can; all_told = all; tells = tells }
+end_of_some : (asked : Asked) (left causes : List PlainTold) (lines : ℕ) (is_some : Bool) (fails : List PlainEntry) → (lines == 0) ≡ false → causes ≡ once_of (map (kept asked.once) left)
+    → text_shown asked left ++ end_text asked lines is_some causes fails ≡ written asked (shown asked.once left) ++ stale_text asked.form fails
+end_of_some asked left causes count is_some fails some causes_are =
+    sym (append_assoc (text_shown asked left) (lines_end asked count is_some causes (length fails)) (stale_text asked.form fails))
+    ∙ ap (λ (x : List ℕ). x ++ stale_text asked.form fails) (lines_of_some asked left causes count is_some (length fails) some causes_are)
 
-    by_left : (told left causes : List PlainTold) (lines : ℕ) (is_some : Bool) (exit : Exit) (is : Found) → AreAllTold asked a b told apart → TellsFound asked.once list told apart is → left_of list told ≡ left
-        → lines ≡ counted (length (left_of list told)) → is_some ≡ is_any told → causes ≡ once_of (map (kept asked.once) (left_of list told)) → exit ≡ exit_of lines
-        → IsListed asked input a b (text_shown asked (left_of list told) ++ end_text asked lines is_some causes) exit is
-    by_left [] [] causes count is_some exit is all tells none counts some causes_are ends =
+-- where no line is left, and some entry fails
+end_of_stale : (asked : Asked) (left causes : List PlainTold) (lines : ℕ) (is_some : Bool) (e : PlainEntry) (fails : List PlainEntry) → left ≡ [] → lines ≡ counted (length left)
+    → text_shown asked left ++ end_text asked lines is_some causes (e ∷ fails) ≡ written asked (shown asked.once left) ++ stale_text asked.form (e ∷ fails)
+end_of_stale asked left causes n is_some e fails none counts =
+    let zero : n ≡ 0 = counts ∙ ap (λ (xs : List PlainTold). counted (length xs)) none in
+    let others = stale_text asked.form (e ∷ fails) in
+    (λ i. text_shown asked (none i) ++ end_text asked (zero i) is_some causes (e ∷ fails))
+    ∙ ap (λ (x : List ℕ). x ++ end_text asked 0 is_some causes (e ∷ fails)) (nothing_shown asked)
+    ∙ ap (λ (b : Bool). cond b (said asked.form (nothing_for asked.meaning is_some)) [] ++ others) (not_zero_by (suc (length fails)) (omega arith))
+    ∙ ap (λ (x : List ℕ). x ++ others) (sym (by asked.once))
+    ∙ ap (λ (xs : List PlainTold). written asked (shown asked.once xs) ++ others) (sym none)
+  where
+    by : (b : Bool) → written asked (shown b []) ≡ []
+    by true = refl
+    by false = refl
+
+module _ (asked : Asked) (input : Input) (a b : Dictionary) (list : List PlainEntry) (is_list : IsListText input list) where
+  module _ (sound : IsDictionary a) (can : CanAsk asked a) (apart : List PlainTold) (stale : List PlainEntry) where
+    answerable : (told : List PlainTold) (is : Found) → AreAllTold asked a b told apart → AreStale asked a b list told apart stale → TellsFound asked.once list told apart stale is
+        → IsAnswerable asked input a b list told apart stale is
+    answerable told is all are_stale tells = record { list_is = is_list; can_ask = can; all_told = all; are_stale = are_stale; tells = tells }
+
+    by_left : (told left causes : List PlainTold) (fails : List PlainEntry) (lines : ℕ) (is_some : Bool) (exit : Exit) (is : Found) → AreAllTold asked a b told apart → AreStale asked a b list told apart stale
+        → TellsFound asked.once list told apart stale is → left_of list told ≡ left → failing asked.stale stale ≡ fails
+        → lines ≡ counted (length (left_of list told)) → is_some ≡ is_any told → causes ≡ once_of (map (kept asked.once) (left_of list told)) → exit ≡ exit_of lines (length fails)
+        → IsListed asked input a b (text_shown asked (left_of list told) ++ end_text asked lines is_some causes fails) exit is
+    by_left [] [] causes [] count is_some exit is all are_stale tells none no_fails counts some causes_are ends =
         let places = asked_places a (names_of asked) in
         let breaks = of_each asked a (λ number. ∥ AreValid a b asked.sends asked.unknown number ∥₁) sound (told_valid a b asked.sends asked.unknown asked.messages asked.meaning places [] apart all refl) in
         let differs = λ (wanted : asked.meaning ≡ true). of_each asked a (IsReadAlike (sides_in asked a b)) sound (told_alike a b asked.sends asked.unknown asked.messages asked.meaning places [] apart all refl wanted) in
-        nothing list apart (answerable [] is all tells) breaks differs (end_of_none asked [] (left_of list []) causes count is_some none counts some)
-        (ends ∙ ap exit_of (counts ∙ ap (λ (xs : List PlainTold). counted (length xs)) none))
-    by_left (t ∷ told) [] causes count is_some exit is all tells none counts some causes_are ends =
+        nothing list apart stale (answerable [] is all are_stale tells) breaks differs no_fails (end_of_none asked [] (left_of list []) causes count is_some none counts some)
+        (ends ∙ ap (λ (m : ℕ). exit_of m 0) (counts ∙ ap (λ (xs : List PlainTold). counted (length xs)) none))
+    by_left (t ∷ told) [] causes [] count is_some exit is all are_stale tells none no_fails counts some causes_are ends =
         let places = asked_places a (names_of asked) in
         let accepted = told_accepted a b asked.sends asked.unknown asked.messages asked.meaning list places (t ∷ told) apart all none in
-        nothing_else list (t ∷ told) apart (answerable (t ∷ told) is all tells) none (λ e. let z : t ∷ told ≡ [] = e in cc)
-        (of_each asked a (IsAcceptedWhole (sides_in asked a b) asked.meaning list) sound accepted) (end_of_none asked (t ∷ told) (left_of list (t ∷ told)) causes count is_some none counts some)
-        (ends ∙ ap exit_of (counts ∙ ap (λ (xs : List PlainTold). counted (length xs)) none))
-    by_left told (t ∷ left) causes count is_some exit is all tells same counts some causes_are ends =
+        nothing_else list (t ∷ told) apart stale (answerable (t ∷ told) is all are_stale tells) none (λ e. let z : t ∷ told ≡ [] = e in cc)
+        (of_each asked a (IsAcceptedWhole (sides_in asked a b) asked.meaning list) sound accepted) no_fails (end_of_none asked (t ∷ told) (left_of list (t ∷ told)) causes count is_some none counts some)
+        (ends ∙ ap (λ (m : ℕ). exit_of m 0) (counts ∙ ap (λ (xs : List PlainTold). counted (length xs)) none))
+    by_left told [] causes (e ∷ fails) count is_some exit is all are_stale tells none some_fail counts some causes_are ends =
+        let never : failing asked.stale stale ≡ [] → ⊥ = λ z. (let y : e ∷ fails ≡ [] = sym some_fail ∙ z in cc) in
+        lines list told apart stale (answerable told is all are_stale tells) (inr never)
+        (end_of_stale asked (left_of list told) causes count is_some e fails none counts ∙ ap (λ (es : List PlainEntry). written asked (shown asked.once (left_of list told)) ++ stale_text asked.form es) (sym some_fail))
+        (ends ∙ ap (λ (m : ℕ). exit_of m (suc (length fails))) (counts ∙ ap (λ (xs : List PlainTold). counted (length xs)) none)
+        ∙ ap (λ (b : Bool). cond b Yes No) (not_zero_by (suc (length fails)) (omega arith)))
+    by_left told (t ∷ left) causes fails count is_some exit is all are_stale tells same fail counts some causes_are ends =
         let never : left_of list told ≡ [] → ⊥ = λ e. (let z : t ∷ left ≡ [] = sym same ∙ e in cc) in
         let not_none = some_lines_left count t left (counts ∙ ap (λ (xs : List PlainTold). counted (length xs)) same) in
-        lines list told apart (answerable told is all tells) never (end_of_some asked (left_of list told) causes count is_some not_none causes_are) (ends ∙ ap (λ (b : Bool). cond b Yes No) not_none)
+        lines list told apart stale (answerable told is all are_stale tells) (inl never)
+        (end_of_some asked (left_of list told) causes count is_some fails not_none causes_are ∙ ap (λ (es : List PlainEntry). written asked (shown asked.once (left_of list told)) ++ stale_text asked.form es) (sym fail))
+        (ends ∙ ap (λ (b : Bool). cond (b && length fails == 0) Yes No) not_none)
 
     module _ (places : List ℕ) (old mid : Option (List ℕ)) (seen : Seen) (places_are : places ≡ asked_places a (names_of asked))
-        (all : AreAllPut (sides_in asked a b) asked list places old mid seen) (apart_is : all.apart ≡ apart) where
+        (all : AreAllPut (sides_in asked a b) asked list places old mid seen) (apart_is : all.apart ≡ apart) (unused_ones stale_ones : Vec Entry)
+        (stale_is : map plain_entry stale_ones.items ≡ stale) (unused_are : map plain_entry unused_ones.items ≡ unused_of list (all.told ++ apart)) (are_stale : AreStale asked a b list all.told apart stale) where
       all_told : AreAllTold asked a b all.told apart
       all_told =
           subst (AreTold (sides_in asked a b) asked.messages asked.meaning (asked_places a (names_of asked)) all.told) apart_is
           (subst (λ (ps : List ℕ). AreTold (sides_in asked a b) asked.messages asked.meaning ps all.told all.apart) places_are all.are_told)
 
-      kept_causes : (is : Found) (f : Finds seen is) → map plain_told f.causes.items ≡ once_of (map (kept asked.once) (left_of list all.told))
+      kept_causes : (is : Found) (f : Finds seen unused_ones stale_ones is) → map plain_told f.causes.items ≡ once_of (map (kept asked.once) (left_of list all.told))
       kept_causes is f = f.causes_are all.forgets (map (kept asked.once) (left_of list all.told)) all.place all.visits all.are_seen.are_kept.causes
 
-      finds_tell : (is : Found) → Finds seen is → TellsFound asked.once list all.told apart is
+      finds_tell : (is : Found) → Finds seen unused_ones stale_ones is → TellsFound asked.once list all.told apart stale is
       finds_tell is f = record {
-        stale = f.stale;
+        unused = unused_ones;
+        stale_ones = stale_ones;
         lines = seen.lines;
         accepted = seen.accepted;
         causes = f.causes;
         meanings = f.meanings;
         is_listed = f.found_is;
-        stale_are = f.stale_are list (all.told ++ apart) (subst (λ (xs : List PlainTold). HasSeen seen.accepting list (all.told ++ xs)) apart_is all.are_seen.judged.accepting);
+        unused_are = unused_are;
+        stale_are = stale_is;
         lines_are = all.are_seen.judged.lines_are;
         accepted_are = all.are_seen.judged.accepted_are;
         causes_are = kept_causes is f;
         meanings_are = f.meanings_are all.forgets (left_of list all.apart) all.place all.visits all.are_seen.are_kept.meanings ∙ ap (λ (xs : List PlainTold). once_of (left_of list xs)) apart_is;
       }
 
-      abbrev pub whole_text : (is : Found) → Finds seen is → List ℕ
-      whole_text is f = text_shown asked (left_of list all.told) ++ end_text asked seen.lines seen.is_some (map plain_told f.causes.items)
+      abbrev pub whole_text : (is : Found) → Finds seen unused_ones stale_ones is → List ℕ
+      whole_text is f = text_shown asked (left_of list all.told) ++ end_text asked seen.lines seen.is_some (map plain_told f.causes.items) (fails_of asked stale_ones)
 
-      listed_so : (is : Found) (f : Finds seen is) (exit : Exit) → exit ≡ exit_of seen.lines → IsListed asked input a b (whole_text is f) exit is
+      listed_so : (is : Found) (f : Finds seen unused_ones stale_ones is) (exit : Exit) → exit ≡ exit_of seen.lines (length (fails_of asked stale_ones)) → IsListed asked input a b (whole_text is f) exit is
       listed_so is f exit ends =
           let judged = all.are_seen.judged in
-          by_left all.told (left_of list all.told) (map plain_told f.causes.items) seen.lines seen.is_some exit is all_told (finds_tell is f) refl judged.lines_are judged.is_some_is (kept_causes is f) ends
+          by_left all.told (left_of list all.told) (map plain_told f.causes.items) (fails_of asked stale_ones) seen.lines seen.is_some exit is all_told are_stale (finds_tell is f) refl
+          (ap (failing asked.stale) (sym stale_is)) judged.lines_are judged.is_some_is (kept_causes is f) ends
 
       begun_whole : (is_once : Bool) → asked.once ≡ is_once → IsBegun asked input a b (cond is_once [] (written asked (left_of list all.told)))
       begun_whole true e = nothing_yet refl
@@ -151,13 +202,24 @@ module _ (asked : Asked) (input : Input) (a b : Dictionary) (list : List PlainEn
           (sym (append-nil (left_of list all.told))) refl
 
       -- where all lines were put, and it is known what stands behind them
-      pub all_answered : (new : Option (List ℕ)) (r : Result Listed RunFault) → Ends asked seen mid new r → Answers asked input a b old new r
+      pub all_answered : (new : Option (List ℕ)) (r : Result Listed RunFault) → Ends asked seen unused_ones stale_ones mid new r → Answers asked input a b old new r
       all_answered new (Ok listed) (f, ends, put) =
           (whole_text listed.found f, listed_so listed.found f listed.exit ends, Appends-trans old mid new (text_shown asked (left_of list all.told)) _ all.is_put put)
       all_answered new (Err Device) (is, f, front) =
-          (whole_text is f, inr (exit_of seen.lines, (is, listed_so is f (exit_of seen.lines) refl)), front_behind old mid new (text_shown asked (left_of list all.told)) _ all.is_put front)
+          (whole_text is f, inr (exit_of seen.lines (length (fails_of asked stale_ones)), (is, listed_so is f (exit_of seen.lines (length (fails_of asked stale_ones))) refl)), front_behind old mid new (text_shown asked (left_of list all.told)) _ all.is_put front)
       all_answered new (Err NoMemory) same =
           (text_shown asked (left_of list all.told), begun_whole asked.once refl, subst (λ (o : Option (List ℕ)). Appends old o (text_shown asked (left_of list all.told))) (sym same) all.is_put)
+
+  -- where memory is refused behind all lines
+  module _ (can : CanAsk asked a) (places : List ℕ) (old new : Option (List ℕ)) (seen : Seen) (places_are : places ≡ asked_places a (names_of asked))
+      (all : AreAllPut (sides_in asked a b) asked list places old new seen) where
+    all_begun : (is_once : Bool) → asked.once ≡ is_once → IsBegun asked input a b (cond is_once [] (written asked (left_of list all.told)))
+    all_begun true e = nothing_yet refl
+    all_begun false e =
+        some_lines list places [] all.told all.apart (left_of list all.told) [] is_list can e (sym places_are ∙ sym (append-nil places)) all.are_told (sym (append-nil (left_of list all.told))) refl
+
+    pub no_memory_answered : Answers asked input a b old new (Err NoMemory)
+    no_memory_answered = (text_shown asked (left_of list all.told), all_begun asked.once refl, all.is_put)
 
   -- where not all lines were put
   module _ (can : CanAsk asked a) (places : List ℕ) (old new : Option (List ℕ)) (places_are : places ≡ asked_places a (names_of asked)) where
@@ -169,6 +231,23 @@ module _ (asked : Asked) (input : Input) (a b : Dictionary) (list : List PlainEn
         → Answers asked input a b old new (Err fault)
     first_answered Device first f stands = (text_shown asked first, inl (begun_so first f asked.once refl), stands)
     first_answered NoMemory first f stands = (text_shown asked first, begun_so first f asked.once refl, stands)
+
+-- the entries that accept none of the lines that were found
+pub unused_by : (asked : Asked) (list : List PlainEntry) (s : Sides) (places : List ℕ) (old new : Option (List ℕ)) (seen : Seen) (all : AreAllPut s asked list places old new seen) (unused : List PlainEntry)
+    → ((list : List PlainEntry) (told : List PlainTold) → HasSeen seen.accepting list told → unused ≡ unused_of list told) → unused ≡ unused_of list (all.told ++ all.apart)
+unused_by asked list s places old new seen all unused is = is list (all.told ++ all.apart) all.are_seen.judged.accepting
+
+pub are_stale_by : (asked : Asked) (a b : Dictionary) (list : List PlainEntry) (told apart : List PlainTold) (stale : List PlainEntry) (unused : Vec Entry) (slice : List Entry) → slice ≡ unused.items
+    → map plain_entry unused.items ≡ unused_of list (told ++ apart)
+    → AreLookedFor asked.stale asked a b (filter (is_about (names_of asked)) (map plain_entry slice)) stale → AreStale asked a b list told apart stale
+are_stale_by asked a b list told apart stale unused slice same is found =
+    subst (λ (es : List PlainEntry). AreLookedFor asked.stale asked a b (filter (is_about (names_of asked)) es) stale) (ap (map plain_entry) same ∙ is) found
+
+-- entries that are unused with one sender after another
+pub unused_in : (asked : Asked) (a b : Dictionary) (entries about first second stale : List PlainEntry) → entries ≡ about → AreUnusedBy asked a b sent.Any entries first
+    → AreUnusedBy asked a b sent.Known first second → AreUnusedBy asked a b sent.Listed second stale → AreUnused asked a b about stale
+unused_in asked a b entries about first second stale same one two three =
+    subst (λ (es : List PlainEntry). AreUnused asked a b es stale) same (first, second, one, two, three)
 
 -- nothing is written where memory is refused before
 pub none_answered : (asked : Asked) (input : Input) (a b : Dictionary) (put : Option (List ℕ)) → Answers asked input a b put put (Err NoMemory)

@@ -10,15 +10,17 @@ use Rattle.dia_upgrades.specs.Forms.{line_in, object_in}
 use Rattle.dia_upgrades.specs.Told.{told_text, written}
 use Rattle.dia_upgrades.specs.declared.reporting.Found.{Found}
 use Rattle.dia_upgrades.specs.declared.seen.Seen.{Seen}
-use Rattle.dia_upgrades.specs.UnderWay.{Ends, Finds, end_text}
-use Rattle.dia_accepted.specs.Accepted.{plain_told}
+use Rattle.dia_upgrades.specs.UnderWay.{Ends, Finds, end_text, fails_of}
+use Rattle.dia_accepted.specs.Accepted.{PlainEntry, plain_entry, plain_told}
 use Rattle.dia_io.specs.Writing.{AppendsFront}
 use Rattle.dia_io.specs.declared.RunFault.{RunFault}
 use Rattle.dia_io.specs.declared.RunFault.TheVariants.{Device, NoMemory}
 use Rattle.dia_run.specs.Texts.{line}
 use Rattle.std.proofs.lemmas.Grind.{flat_map-append}
 use Rattle.std.proofs.lemmas.List.{append-nil, map-append, take_more}
+use Rattle.dia_accepted.specs.declared.list.Entry.{Entry}
 use Rattle.dia_accepted.specs.declared.told.Told.{Told}
+use Rattle.std.specs.Global.{Vec}
 
 -- in words
 pub written_text : (asked : Asked) (told : List PlainTold) → asked.form ≡ Text → told_text told ≡ written asked told
@@ -37,11 +39,11 @@ object_added (Ok u) old new written object is e = e ∙ ap (λ (t : List ℕ). o
 object_added (Err f) old new written object is e = tt
 
 -- what stands behind all lines isn't written whole
-pub ends_fault : {U : Type 0} (asked : Asked) (seen : Seen) (old new : Option (List ℕ)) (fault : RunFault) (is : Found) (finds : Finds seen is)
-    → (r : Result U RunFault) → r ≡ Err fault → (r ≡ Err Device → AppendsFront old new (end_text asked seen.lines seen.is_some (map plain_told finds.causes.items))) → (r ≡ Err NoMemory → new ≡ old)
-    → Ends asked seen old new (Err fault)
-ends_fault asked seen old new Device is finds r e front nothing = (is, finds, front e)
-ends_fault asked seen old new NoMemory is finds r e front nothing = nothing e
+pub ends_fault : {U : Type 0} (asked : Asked) (seen : Seen) (unused stale : Vec Entry) (old new : Option (List ℕ)) (fault : RunFault) (is : Found) (finds : Finds seen unused stale is)
+    → (r : Result U RunFault) → r ≡ Err fault → (r ≡ Err Device → AppendsFront old new (end_text asked seen.lines seen.is_some (map plain_told finds.causes.items) (fails_of asked stale))) → (r ≡ Err NoMemory → new ≡ old)
+    → Ends asked seen unused stale old new (Err fault)
+ends_fault asked seen unused stale old new Device is finds r e front nothing = (is, finds, front e)
+ends_fault asked seen unused stale old new NoMemory is finds r e front nothing = nothing e
 
 -- an object more
 pub objects_more : (f : PlainTold → List ℕ) (lines : List Told) (i : ℕ) (t : Told) → i < length lines → t ≡ get_or lines i t → (old new : List ℕ) → old ≡ flat_map f (map plain_told (take i lines))
@@ -51,3 +53,12 @@ objects_more f lines i t less is old new before added =
     ap (map plain_told) (take_more lines i t less ∙ ap (λ (x : Told). take i lines ++ x ∷ []) (sym is)) ∙ map-append plain_told (take i lines) (t ∷ []) in
     added ∙ ap (λ (o : List ℕ). o ++ f (plain_told t)) before ∙ ap (λ (o : List ℕ). flat_map f (map plain_told (take i lines)) ++ o) (sym (append-nil (f (plain_told t))))
     ∙ sym (flat_map-append f (map plain_told (take i lines)) (plain_told t ∷ [])) ∙ ap (flat_map f) (sym more)
+
+-- a line of a stale entry more
+pub stale_more : (f : PlainEntry → List ℕ) (entries : List Entry) (i : ℕ) (e : Entry) → i < length entries → e ≡ get_or entries i e → (old new : List ℕ) → old ≡ flat_map f (map plain_entry (take i entries))
+    → new ≡ old ++ f (plain_entry e) → new ≡ flat_map f (map plain_entry (take (i + 1) entries))
+stale_more f entries i e less is old new before added =
+    let more : map plain_entry (take (i + 1) entries) ≡ map plain_entry (take i entries) ++ plain_entry e ∷ [] =
+    ap (map plain_entry) (take_more entries i e less ∙ ap (λ (x : Entry). take i entries ++ x ∷ []) (sym is)) ∙ map-append plain_entry (take i entries) (e ∷ []) in
+    added ∙ ap (λ (o : List ℕ). o ++ f (plain_entry e)) before ∙ ap (λ (o : List ℕ). flat_map f (map plain_entry (take i entries)) ++ o) (sym (append-nil (f (plain_entry e))))
+    ∙ sym (flat_map-append f (map plain_entry (take i entries)) (plain_entry e ∷ [])) ∙ ap (flat_map f) (sym more)

@@ -15,6 +15,7 @@ use Rattle.dia_io.specs.declared.Exit.{Exit}
 use Rattle.dia_io.specs.declared.Exit.TheVariants.{Yes, No, Bad}
 use Rattle.dia_io.specs.Inputs.{Holds, IsOver}
 use Rattle.dia_accepted.specs.Accepted.{PlainEntry, PlainTold, left_of, list_fault, max_list}
+use Rattle.dia_accepted.specs.declared.Entry.{Entry}
 use Rattle.dia_accepted.specs.declared.Told.{Told}
 use Rattle.dia_accepted.specs.declared.ListFault.{ListFault}
 use Rattle.dia_run.specs.Texts.{IsDictionaryText}
@@ -28,7 +29,8 @@ use Rattle.dia_upgrades.specs.declared.reporting.Found.TheVariants as founds
 use Rattle.dia_upgrades.specs.Asking.{names_of}
 use Rattle.dia_upgrades.specs.Forms.{said}
 use Rattle.dia_upgrades.specs.Lists.{IsListText, IsNoListText}
-use Rattle.dia_upgrades.specs.Outcome.{AreLeft, AreRead, CanAsk, CannotAnswer, HasLines, HasNoLines, IsAnswerable, IsBreakingOutcome, IsListed, TellsFound, counted, nothing_else_breaks, nothing_else_differs, nothing_left}
+use Rattle.dia_upgrades.specs.Outcome.{AreAllTold, AreLeft, AreRead, CanAsk, CannotAnswer, HasLines, HasNoLines, IsAnswerable, IsBreakingOutcome, IsListed, NoneIsStale, TellsFound, counted, nothing_else_breaks, nothing_else_differs, nothing_left}
+use Rattle.dia_upgrades.specs.Stale.{AreStale, failing}
 use Rattle.dia_upgrades.specs.Outcome.{nothing, nothing_else, lines, bad_list, no_commands, no_command}
 use Rattle.dia_upgrades.specs.Outcome.{AreRefused, bad_first, bad_second, bad_accepted, none_there, bad_name, IsSafeUpgrade, safe, accepted, IsUnsafeUpgrade}
 
@@ -48,38 +50,38 @@ no_fault text other fault same none some = let e : None ≡ Some fault = sym non
 list_or_not : (input : Input) (list : List PlainEntry) (bad : BadList) → IsListText input list → IsNoListText input bad → ⊥
 list_or_not input list lists.TooLong (text, holds, utf8, none, is) over = held_or_over input max_list text holds over
 list_or_not input list (lists.NotText at) (text, holds, utf8, none, is) (other, held, not_utf8, there) = not_utf8 (subst IsUtf8 (same_held input max_list text other holds held) utf8)
-list_or_not input list (lists.Syntax n) (text, holds, utf8, none, is) (other, held, also, fault) = no_fault text other _ (same_held input max_list text other holds held) none fault
+list_or_not input list (lists.Syntax n column) (text, holds, utf8, none, is) (other, held, also, fault) = no_fault text other _ (same_held input max_list text other holds held) none fault
 list_or_not input list (lists.Limit n) (text, holds, utf8, none, is) (other, held, also, fault) = no_fault text other _ (same_held input max_list text other holds held) none fault
 
 -- ---- how much is left
 
-module _ (asked : Asked) (input : Input) (a b : Dictionary) (text : List ℕ) (exit : Exit) (is : Found) (stale : Vec ℕ) (n known : ℕ) (causes meanings : Vec Told) where
-  same_lines : (list : List PlainEntry) (told apart : List PlainTold) → is ≡ founds.Listed stale n known causes meanings → TellsFound asked.once list told apart is → n ≡ counted (length (left_of list told))
-  same_lines list told apart e f =
-      let z : founds.Listed stale n known causes meanings ≡ founds.Listed f.stale f.lines f.accepted f.causes f.meanings = sym e ∙ f.is_listed in let same : n ≡ f.lines = cc in same ∙ f.lines_are
+module _ (asked : Asked) (input : Input) (a b : Dictionary) (text : List ℕ) (exit : Exit) (is : Found) (unused old : Vec Entry) (n known : ℕ) (causes meanings : Vec Told) where
+  same_lines : (list : List PlainEntry) (told apart : List PlainTold) (stale : List PlainEntry) → is ≡ founds.Listed unused old n known causes meanings → TellsFound asked.once list told apart stale is → n ≡ counted (length (left_of list told))
+  same_lines list told apart stale e f =
+      let z : founds.Listed unused old n known causes meanings ≡ founds.Listed f.unused f.stale_ones f.lines f.accepted f.causes f.meanings = sym e ∙ f.is_listed in let same : n ≡ f.lines = cc in same ∙ f.lines_are
 
-  left_by : (list : List PlainEntry) (told apart : List PlainTold) → is ≡ founds.Listed stale n known causes meanings → IsAnswerable asked input a b list told apart is → AreLeft asked input a b n
-  left_by list told apart e can = (list, told, apart, can.list_is, can.all_told, same_lines list told apart e can.tells)
+  left_by : (list : List PlainEntry) (told apart : List PlainTold) (stale : List PlainEntry) → is ≡ founds.Listed unused old n known causes meanings → IsAnswerable asked input a b list told apart stale is → AreLeft asked input a b n
+  left_by list told apart stale e can = (list, told, apart, can.list_is, can.all_told, same_lines list told apart stale e can.tells)
 
-  pub lines_are_left : IsListed asked input a b text exit is → is ≡ founds.Listed stale n known causes meanings → AreLeft asked input a b n
-  lines_are_left (nothing list apart can breaks differs is_text is_exit) e = left_by list [] apart e can
-  lines_are_left (nothing_else list told apart can left some breaks is_text is_exit) e = left_by list told apart e can
-  lines_are_left (lines list told apart can left is_text is_exit) e = left_by list told apart e can
-  lines_are_left (bad_list bad none refuses what) e = absurd (let z : founds.NoList bad ≡ founds.Listed stale n known causes meanings = sym what ∙ e in cc)
-  lines_are_left (no_commands list is_list none refuses what) e = absurd (let z : founds.NoCommands ≡ founds.Listed stale n known causes meanings = sym what ∙ e in cc)
-  lines_are_left (no_command list name is_list some first refuses what) e = absurd (let z : founds.NoCommand ≡ founds.Listed stale n known causes meanings = sym what ∙ e in cc)
+  pub lines_are_left : IsListed asked input a b text exit is → is ≡ founds.Listed unused old n known causes meanings → AreLeft asked input a b n
+  lines_are_left (nothing list apart stale can breaks differs none is_text is_exit) e = left_by list [] apart stale e can
+  lines_are_left (nothing_else list told apart stale can left some breaks none is_text is_exit) e = left_by list told apart stale e can
+  lines_are_left (lines list told apart stale can left is_text is_exit) e = left_by list told apart stale e can
+  lines_are_left (bad_list bad none refuses what) e = absurd (let z : founds.NoList bad ≡ founds.Listed unused old n known causes meanings = sym what ∙ e in cc)
+  lines_are_left (no_commands list is_list none refuses what) e = absurd (let z : founds.NoCommands ≡ founds.Listed unused old n known causes meanings = sym what ∙ e in cc)
+  lines_are_left (no_command list name is_list some first refuses what) e = absurd (let z : founds.NoCommand ≡ founds.Listed unused old n known causes meanings = sym what ∙ e in cc)
 
 pub left_in : (asked : Asked) (input : Input) (a b : Dictionary) (text : List ℕ) (exit : Exit) (is : Found) (r : Option ℕ) → IsListed asked input a b text exit is
     → IfSome r (HasLines is) → IfSome r (AreLeft asked input a b)
 left_in asked input a b text exit is None listed has = tt
-left_in asked input a b text exit is (Some n) listed (stale, known, causes, meanings, e) = lines_are_left asked input a b text exit is stale n known causes meanings listed e
+left_in asked input a b text exit is (Some n) listed (unused, old, known, causes, meanings, e) = lines_are_left asked input a b text exit is unused old n known causes meanings listed e
 
 -- where the lines could be told, no answer is a refusal
-module _ (asked : Asked) (input : Input) (a b : Dictionary) (list : List PlainEntry) (told apart : List PlainTold) (has : Found) (can : IsAnswerable asked input a b list told apart has) where
+module _ (asked : Asked) (input : Input) (a b : Dictionary) (list : List PlainEntry) (told apart : List PlainTold) (stale : List PlainEntry) (has : Found) (can : IsAnswerable asked input a b list told apart stale has) where
   pub answered_or_not : (text : List ℕ) (is : Found) → IsListed asked input a b text Bad is → ⊥
-  answered_or_not text is (nothing list' apart' can' breaks differs is_text is_exit) = absurd (let e : Bad ≡ Yes = is_exit in cc)
-  answered_or_not text is (nothing_else list' told' apart' can' left some breaks is_text is_exit) = absurd (let e : Bad ≡ Yes = is_exit in cc)
-  answered_or_not text is (lines list' told' apart' can' left is_text is_exit) = absurd (let e : Bad ≡ No = is_exit in cc)
+  answered_or_not text is (nothing list' apart' stale' can' breaks differs none is_text is_exit) = absurd (let e : Bad ≡ Yes = is_exit in cc)
+  answered_or_not text is (nothing_else list' told' apart' stale' can' left some breaks none is_text is_exit) = absurd (let e : Bad ≡ Yes = is_exit in cc)
+  answered_or_not text is (lines list' told' apart' stale' can' left is_text is_exit) = absurd (let e : Bad ≡ No = is_exit in cc)
   answered_or_not text is (bad_list bad none refuses what) = list_or_not input list bad can.list_is none
   answered_or_not text is (no_commands list' is_list none refuses what) = can.can_ask.some none
   answered_or_not text is (no_command list' name is_list some first refuses what) =
@@ -89,21 +91,21 @@ module _ (asked : Asked) (input : Input) (a b : Dictionary) (list : List PlainEn
 module _ (asked : Asked) (input : Input) (a b : Dictionary) (text : List ℕ) (exit : Exit) (is : Found) where
   -- without lines it ends so
   refused_by : IsListed asked input a b text exit is → HasNoLines is → CannotAnswer asked input a b
-  refused_by (nothing list apart can breaks differs is_text is_exit) none = absurd (subst HasNoLines can.tells.is_listed none)
-  refused_by (nothing_else list told apart can left some breaks is_text is_exit) none = absurd (subst HasNoLines can.tells.is_listed none)
-  refused_by (lines list told apart can left is_text is_exit) none = absurd (subst HasNoLines can.tells.is_listed none)
+  refused_by (nothing list apart stale can breaks differs none_fails is_text is_exit) none = absurd (subst HasNoLines can.tells.is_listed none)
+  refused_by (nothing_else list told apart stale can left some breaks none_fails is_text is_exit) none = absurd (subst HasNoLines can.tells.is_listed none)
+  refused_by (lines list told apart stale can left is_text is_exit) none = absurd (subst HasNoLines can.tells.is_listed none)
   refused_by (bad_list bad un refuses what) none = (text, is, bad_list bad un (refuses.0, refl) what)
   refused_by (no_commands list is_list un refuses what) none = (text, is, no_commands list is_list un (refuses.0, refl) what)
   refused_by (no_command list name is_list some first refuses what) none = (text, is, no_command list name is_list some first (refuses.0, refl) what)
 
   -- and where it ends so, it has no lines
   never_refused : (n : ℕ) → IsListed asked input a b text exit is → HasLines is n → CannotAnswer asked input a b → ⊥
-  never_refused n (nothing list apart can breaks differs is_text is_exit) has (t, f, cannot) = answered_or_not asked input a b list [] apart is can t f cannot
-  never_refused n (nothing_else list told apart can left some breaks is_text is_exit) has (t, f, cannot) = answered_or_not asked input a b list told apart is can t f cannot
-  never_refused n (lines list told apart can left is_text is_exit) has (t, f, cannot) = answered_or_not asked input a b list told apart is can t f cannot
-  never_refused n (bad_list bad none refuses what) (stale, known, causes, meanings, e) cannot = absurd (let z : founds.NoList bad ≡ founds.Listed stale n known causes meanings = sym what ∙ e in cc)
-  never_refused n (no_commands list is_list none refuses what) (stale, known, causes, meanings, e) cannot = absurd (let z : founds.NoCommands ≡ founds.Listed stale n known causes meanings = sym what ∙ e in cc)
-  never_refused n (no_command list name is_list some first refuses what) (stale, known, causes, meanings, e) cannot = absurd (let z : founds.NoCommand ≡ founds.Listed stale n known causes meanings = sym what ∙ e in cc)
+  never_refused n (nothing list apart stale can breaks differs none is_text is_exit) has (t, f, cannot) = answered_or_not asked input a b list [] apart stale is can t f cannot
+  never_refused n (nothing_else list told apart stale can left some breaks none is_text is_exit) has (t, f, cannot) = answered_or_not asked input a b list told apart stale is can t f cannot
+  never_refused n (lines list told apart stale can left is_text is_exit) has (t, f, cannot) = answered_or_not asked input a b list told apart stale is can t f cannot
+  never_refused n (bad_list bad none refuses what) (unused, old, known, causes, meanings, e) cannot = absurd (let z : founds.NoList bad ≡ founds.Listed unused old n known causes meanings = sym what ∙ e in cc)
+  never_refused n (no_commands list is_list none refuses what) (unused, old, known, causes, meanings, e) cannot = absurd (let z : founds.NoCommands ≡ founds.Listed unused old n known causes meanings = sym what ∙ e in cc)
+  never_refused n (no_command list name is_list some first refuses what) (unused, old, known, causes, meanings, e) cannot = absurd (let z : founds.NoCommand ≡ founds.Listed unused old n known causes meanings = sym what ∙ e in cc)
 
   pub none_where_refused : (r : Option ℕ) → IsListed asked input a b text exit is → IfSome r (HasLines is) → (IsNone r → HasNoLines is) → (r ≡ None) ↔ CannotAnswer asked input a b
   none_where_refused None listed some none = (λ e. refused_by listed (none refl), λ cannot. refl)
@@ -119,12 +121,18 @@ module _ (asked : Asked) (inputs : Inputs) (text : List ℕ) (exit : Exit) where
   else_left meaning [] some = absurd (some refl)
   else_left meaning (t ∷ told) some = refl
 
+  -- where each stale entry fails, and none does, none is stale
+  none_stale : (a b : Dictionary) (list : List PlainEntry) (told apart : List PlainTold) (stale : List PlainEntry) → failing asked.stale stale ≡ [] → AreAllTold asked a b told apart
+      → AreStale asked a b list told apart stale → NoneIsStale asked a b list
+  none_stale a b list told apart stale none all are fails =
+      (told, apart, all, subst (AreStale asked a b list told apart) (ap (λ s. failing s stale) (sym fails) ∙ none) are)
+
   -- a yes says that nothing breaks, or nothing else
   pub yes_is_safe : IsBreakingOutcome asked inputs text exit → exit ≡ Yes → IsSafeUpgrade asked inputs text
-  yes_is_safe (ended a b is_a is_b (is, nothing list apart can breaks differs is_text is_exit)) is_yes = safe a b list (read a b list is_a is_b can.list_is can.can_ask) breaks differs is_text
-  yes_is_safe (ended a b is_a is_b (is, nothing_else list told apart can left some breaks is_text is_exit)) is_yes =
-      accepted a b list (read a b list is_a is_b can.list_is can.can_ask) breaks (is_text ∙ ap (said asked.form) (else_left asked.meaning told some))
-  yes_is_safe (ended a b is_a is_b (is, lines list told apart can left is_text is_exit)) is_yes = absurd (let e : No ≡ Yes = sym is_exit ∙ is_yes in cc)
+  yes_is_safe (ended a b is_a is_b (is, nothing list apart stale can breaks differs none is_text is_exit)) is_yes = safe a b list (read a b list is_a is_b can.list_is can.can_ask) breaks differs (none_stale a b list [] apart stale none can.all_told can.are_stale) is_text
+  yes_is_safe (ended a b is_a is_b (is, nothing_else list told apart stale can left some breaks none is_text is_exit)) is_yes =
+      accepted a b list (read a b list is_a is_b can.list_is can.can_ask) breaks (none_stale a b list told apart stale none can.all_told can.are_stale) (is_text ∙ ap (said asked.form) (else_left asked.meaning told some))
+  yes_is_safe (ended a b is_a is_b (is, lines list told apart stale can left is_text is_exit)) is_yes = absurd (let e : No ≡ Yes = sym is_exit ∙ is_yes in cc)
   yes_is_safe (ended a b is_a is_b (is, bad_list bad none refuses what)) is_yes = absurd (let e : Bad ≡ Yes = sym refuses.1 ∙ is_yes in cc)
   yes_is_safe (ended a b is_a is_b (is, no_commands list is_list none refuses what)) is_yes = absurd (let e : Bad ≡ Yes = sym refuses.1 ∙ is_yes in cc)
   yes_is_safe (ended a b is_a is_b (is, no_command list name is_list some first refuses what)) is_yes = absurd (let e : Bad ≡ Yes = sym refuses.1 ∙ is_yes in cc)
@@ -133,9 +141,9 @@ module _ (asked : Asked) (inputs : Inputs) (text : List ℕ) (exit : Exit) where
 
   -- a no says which lines are left
   pub no_is_unsafe : IsBreakingOutcome asked inputs text exit → exit ≡ No → IsUnsafeUpgrade asked inputs text
-  no_is_unsafe (ended a b is_a is_b (is, lines list told apart can left is_text is_exit)) is_no = (a, b, list, told, apart, read a b list is_a is_b can.list_is can.can_ask, can.all_told, left, is_text)
-  no_is_unsafe (ended a b is_a is_b (is, nothing list apart can breaks differs is_text is_exit)) is_no = absurd (let e : Yes ≡ No = sym is_exit ∙ is_no in cc)
-  no_is_unsafe (ended a b is_a is_b (is, nothing_else list told apart can left some breaks is_text is_exit)) is_no = absurd (let e : Yes ≡ No = sym is_exit ∙ is_no in cc)
+  no_is_unsafe (ended a b is_a is_b (is, lines list told apart stale can left is_text is_exit)) is_no = (a, b, list, told, apart, stale, read a b list is_a is_b can.list_is can.can_ask, can.all_told, can.are_stale, left, is_text)
+  no_is_unsafe (ended a b is_a is_b (is, nothing list apart stale can breaks differs none is_text is_exit)) is_no = absurd (let e : Yes ≡ No = sym is_exit ∙ is_no in cc)
+  no_is_unsafe (ended a b is_a is_b (is, nothing_else list told apart stale can left some breaks none is_text is_exit)) is_no = absurd (let e : Yes ≡ No = sym is_exit ∙ is_no in cc)
   no_is_unsafe (ended a b is_a is_b (is, bad_list bad none refuses what)) is_no = absurd (let e : Bad ≡ No = sym refuses.1 ∙ is_no in cc)
   no_is_unsafe (ended a b is_a is_b (is, no_commands list is_list none refuses what)) is_no = absurd (let e : Bad ≡ No = sym refuses.1 ∙ is_no in cc)
   no_is_unsafe (ended a b is_a is_b (is, no_command list name is_list some first refuses what)) is_no = absurd (let e : Bad ≡ No = sym refuses.1 ∙ is_no in cc)
@@ -156,9 +164,9 @@ module _ (asked : Asked) (inputs : Inputs) (text : List ℕ) (exit : Exit) where
   first_unknown a names name first = contains_in names name (in_at names first.place name first.is_name)
 
   refused : IsBreakingOutcome asked inputs text exit → exit ≡ Bad → AreRefused asked inputs
-  refused (ended a b is_a is_b (is, nothing list apart can breaks differs is_text is_exit)) is_bad = absurd (let e : Yes ≡ Bad = sym is_exit ∙ is_bad in cc)
-  refused (ended a b is_a is_b (is, nothing_else list told apart can left some breaks is_text is_exit)) is_bad = absurd (let e : Yes ≡ Bad = sym is_exit ∙ is_bad in cc)
-  refused (ended a b is_a is_b (is, lines list told apart can left is_text is_exit)) is_bad = absurd (let e : No ≡ Bad = sym is_exit ∙ is_bad in cc)
+  refused (ended a b is_a is_b (is, nothing list apart stale can breaks differs none is_text is_exit)) is_bad = absurd (let e : Yes ≡ Bad = sym is_exit ∙ is_bad in cc)
+  refused (ended a b is_a is_b (is, nothing_else list told apart stale can left some breaks none is_text is_exit)) is_bad = absurd (let e : Yes ≡ Bad = sym is_exit ∙ is_bad in cc)
+  refused (ended a b is_a is_b (is, lines list told apart stale can left is_text is_exit)) is_bad = absurd (let e : No ≡ Bad = sym is_exit ∙ is_bad in cc)
   refused (ended a b is_a is_b (is, bad_list bad none refuses what)) is_bad = bad_accepted bad none
   refused (ended a b is_a is_b (is, no_commands list is_list none refuses what)) is_bad = none_there a is_a none
   refused (ended a b is_a is_b (is, no_command list name is_list some first refuses what)) is_bad = bad_name a name is_a (first_unknown a (names_of asked) name first) first.unknown
@@ -166,10 +174,10 @@ module _ (asked : Asked) (inputs : Inputs) (text : List ℕ) (exit : Exit) where
   refused (no_second a why is_a none refuses) is_bad = bad_second why none
 
   bad_exit : IsBreakingOutcome asked inputs text exit → AreRefused asked inputs → exit ≡ Bad
-  bad_exit (ended a b is_a is_b (is, nothing list apart can breaks differs is_text is_exit)) none_read = absurd (read_or_refused a b list (read a b list is_a is_b can.list_is can.can_ask) none_read)
-  bad_exit (ended a b is_a is_b (is, nothing_else list told apart can left some breaks is_text is_exit)) none_read =
+  bad_exit (ended a b is_a is_b (is, nothing list apart stale can breaks differs none is_text is_exit)) none_read = absurd (read_or_refused a b list (read a b list is_a is_b can.list_is can.can_ask) none_read)
+  bad_exit (ended a b is_a is_b (is, nothing_else list told apart stale can left some breaks none is_text is_exit)) none_read =
       absurd (read_or_refused a b list (read a b list is_a is_b can.list_is can.can_ask) none_read)
-  bad_exit (ended a b is_a is_b (is, lines list told apart can left is_text is_exit)) none_read = absurd (read_or_refused a b list (read a b list is_a is_b can.list_is can.can_ask) none_read)
+  bad_exit (ended a b is_a is_b (is, lines list told apart stale can left is_text is_exit)) none_read = absurd (read_or_refused a b list (read a b list is_a is_b can.list_is can.can_ask) none_read)
   bad_exit (ended a b is_a is_b (is, bad_list bad none refuses what)) none_read = refuses.1
   bad_exit (ended a b is_a is_b (is, no_commands list is_list none refuses what)) none_read = refuses.1
   bad_exit (ended a b is_a is_b (is, no_command list name is_list some first refuses what)) none_read = refuses.1

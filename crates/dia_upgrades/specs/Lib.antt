@@ -5,5 +5,6 @@ pub mod Lists
 pub mod Outcome
 pub mod Places
 pub mod Report
+pub mod Stale
 pub mod Told
 pub mod UnderWay

@@ -1,5 +1,5 @@
 -- What `breaking` writes for its inputs, and how it ends.
-use Rattle.std.specs.Prelude.{◌≡◌, ◌≢◌, ⊤, ℕ, Bool, true, false, if◌then◌else◌, List, [], ◌∷◌, ◌++◌, Some, Contains, filter, length, map, min, slice_get, codes}
+use Rattle.std.specs.Prelude.{◌≡◌, ◌≢◌, ◌⊎◌, ⊤, ℕ, Bool, true, false, if◌then◌else◌, List, [], ◌∷◌, ◌++◌, Some, Contains, filter, length, map, min, slice_get, codes}
 use Rattle.std.specs.Global.{Vec}
 use Rattle.std.specs.List.{AllByRecursion, list_any}
 use Rattle.dia_book.specs.Dictionary.{Dictionary, PlainDefinition, definitions}
@@ -12,8 +12,9 @@ use Rattle.dia_io.specs.declared.Exit.{Exit}
 use Rattle.dia_io.specs.declared.Exit.TheVariants.{Yes, No, Bad}
 use Rattle.dia_run.specs.Texts.{IsDictionaryText, IsNoDictionaryText}
 use Rattle.dia_run.specs.Outcome.{IsPairOutcome}
-use Rattle.dia_accepted.specs.Accepted.{PlainEntry, PlainTold, accepts, is_accepted, kept, left_of, plain_told, stale_lines}
+use Rattle.dia_accepted.specs.Accepted.{PlainEntry, PlainTold, accepts, is_accepted, kept, left_of, plain_entry, plain_told, unused_of}
 use Rattle.dia_accepted.specs.Causes.{once_of}
+use Rattle.dia_accepted.specs.declared.Entry.{Entry}
 use Rattle.dia_accepted.specs.declared.Told.{Told}
 use Rattle.dia_breaking.specs.declared.line.Line.{Line}
 use Rattle.dia_breaking.specs.declared.line.Site.{Site}
@@ -23,6 +24,7 @@ use Rattle.dia_breaking.specs.TheLines.{HasTheLines}
 use Rattle.dia_breaking.specs.TheMeanings.{AreMeaningsOf, AreMeant, AreTheMeanings, HoldsOfLevels, IsReadAsSent}
 use Rattle.dia_upgrades.specs.declared.asked.Asked.{Asked}
 use Rattle.dia_upgrades.specs.declared.asked.Form.{Form}
+use Rattle.dia_upgrades.specs.declared.asked.Stale.TheVariants.{Fails}
 use Rattle.dia_upgrades.specs.declared.list.BadList.{BadList}
 use Rattle.dia_upgrades.specs.declared.reporting.Found.{Found}
 use Rattle.dia_upgrades.specs.declared.reporting.Found.TheVariants as found
@@ -30,6 +32,7 @@ use Rattle.dia_upgrades.specs.Asking.{names_of, IsAskedFor, AreCommands}
 use Rattle.dia_upgrades.specs.Forms.{said}
 use Rattle.dia_upgrades.specs.Lists.{IsListText, IsNoListText, list_line}
 use Rattle.dia_upgrades.specs.Places.{asked_places}
+use Rattle.dia_upgrades.specs.Stale.{AreStale, failing, stale_text}
 use Rattle.dia_upgrades.specs.Told.{AreShortest, AreTold, words_at, written}
 
 -- ---- what is claimed
@@ -136,36 +139,40 @@ counted n = min n 18446744073709551615
 abbrev pub accepted_of : List PlainEntry → List PlainTold → List PlainTold
 accepted_of list told = filter (is_accepted list) told
 
--- what was found tells which lines of the list accept none of these, how many of the first are left and how many accepted, their causes, with their messages
--- where each cause is told once, and the causes of the meanings that aren't asked for and that the list doesn't accept
-pub record TellsFound (is_once : Bool) (list : List PlainEntry) (told apart : List PlainTold) (is : Found) : Type 0 where
-  pub stale : Vec ℕ
+-- what was found tells which entries of the list accept none of these, and which of them are stale, how many of the first are left and how many accepted, their causes,
+-- with their messages where each cause is told once, and the causes of the meanings that aren't asked for and that the list doesn't accept
+pub record TellsFound (is_once : Bool) (list : List PlainEntry) (told apart : List PlainTold) (stale : List PlainEntry) (is : Found) : Type 0 where
+  pub unused : Vec Entry
+  pub stale_ones : Vec Entry
   pub lines : ℕ
   pub accepted : ℕ
   pub causes : Vec Told
   pub meanings : Vec Told
-  pub is_listed : is ≡ found.Listed stale lines accepted causes meanings
-  pub stale_are : stale.items ≡ stale_lines list (told ++ apart)
+  pub is_listed : is ≡ found.Listed unused stale_ones lines accepted causes meanings
+  pub unused_are : map plain_entry unused.items ≡ unused_of list (told ++ apart)
+  pub stale_are : map plain_entry stale_ones.items ≡ stale
   pub lines_are : lines ≡ counted (length (left_of list told))
   pub accepted_are : accepted ≡ counted (length (accepted_of list told))
   pub causes_are : map plain_told causes.items ≡ once_of (map (kept is_once) (left_of list told))
   pub meanings_are : map plain_told meanings.items ≡ once_of (left_of list apart)
 
--- the inputs can be asked for, and the list and the lines are these
-pub record IsAnswerable (asked : Asked) (input : Input) (a b : Dictionary) (list : List PlainEntry) (told apart : List PlainTold) (is : Found) : Type 0 where
+-- the inputs can be asked for, and the list, the lines and the stale entries are these
+pub record IsAnswerable (asked : Asked) (input : Input) (a b : Dictionary) (list : List PlainEntry) (told apart : List PlainTold) (stale : List PlainEntry) (is : Found) : Type 0 where
   pub list_is : IsListText input list
   pub can_ask : CanAsk asked a
   pub all_told : AreAllTold asked a b told apart
-  pub tells : TellsFound asked.once list told apart is
+  pub are_stale : AreStale asked a b list told apart stale
+  pub tells : TellsFound asked.once list told apart stale is
 
 -- `breaking` of two dictionaries and a list: what is written, how it ends, and what was found
 pub data IsListed (asked : Asked) (input : Input) (a b : Dictionary) (text : List ℕ) (exit : Exit) (is : Found) : Type 0 where
-  nothing : (list : List PlainEntry) (apart : List PlainTold) → IsAnswerable asked input a b list [] apart is → NothingBreaks asked a b → NothingDiffers asked a b
-      → text ≡ said asked.form (nothing_left asked.meaning []) → exit ≡ Yes → IsListed asked input a b text exit is
-  nothing_else : (list : List PlainEntry) (told apart : List PlainTold) → IsAnswerable asked input a b list told apart is → left_of list told ≡ [] → told ≢ []
-      → NothingElseBreaks asked list a b → text ≡ said asked.form (nothing_left asked.meaning told) → exit ≡ Yes → IsListed asked input a b text exit is
-  lines : (list : List PlainEntry) (told apart : List PlainTold) → IsAnswerable asked input a b list told apart is → left_of list told ≢ []
-      → text ≡ written asked (shown asked.once (left_of list told)) → exit ≡ No → IsListed asked input a b text exit is
+  nothing : (list : List PlainEntry) (apart : List PlainTold) (stale : List PlainEntry) → IsAnswerable asked input a b list [] apart stale is → NothingBreaks asked a b → NothingDiffers asked a b
+      → failing asked.stale stale ≡ [] → text ≡ said asked.form (nothing_left asked.meaning []) → exit ≡ Yes → IsListed asked input a b text exit is
+  nothing_else : (list : List PlainEntry) (told apart : List PlainTold) (stale : List PlainEntry) → IsAnswerable asked input a b list told apart stale is → left_of list told ≡ [] → told ≢ []
+      → NothingElseBreaks asked list a b → failing asked.stale stale ≡ [] → text ≡ said asked.form (nothing_left asked.meaning told) → exit ≡ Yes → IsListed asked input a b text exit is
+  lines : (list : List PlainEntry) (told apart : List PlainTold) (stale : List PlainEntry) → IsAnswerable asked input a b list told apart stale is
+      → (left_of list told ≢ []) ⊎ (failing asked.stale stale ≢ [])
+      → text ≡ written asked (shown asked.once (left_of list told)) ++ stale_text asked.form (failing asked.stale stale) → exit ≡ No → IsListed asked input a b text exit is
   bad_list : (bad : BadList) → IsNoListText input bad → Tells asked.form (list_line bad) text exit → is ≡ found.NoList bad → IsListed asked input a b text exit is
   no_commands : (list : List PlainEntry) → IsListText input list → a.commands ≡ [] → Tells asked.form no_commands_line text exit → is ≡ found.NoCommands
       → IsListed asked input a b text exit is
@@ -178,11 +185,11 @@ IsAnyListed asked input a b text exit = (is : Found) × IsListed asked input a b
 
 -- what was found has so many lines
 abbrev pub HasLines : Found → ℕ → Type 0
-HasLines is n = (stale : Vec ℕ) × (accepted : ℕ) × (causes : Vec Told) × (meanings : Vec Told) × (is ≡ found.Listed stale n accepted causes meanings)
+HasLines is n = (unused : Vec Entry) × (stale : Vec Entry) × (accepted : ℕ) × (causes : Vec Told) × (meanings : Vec Told) × (is ≡ found.Listed unused stale n accepted causes meanings)
 
 -- what was found has no lines
 abbrev pub HasNoLines : Found → Type 0
-HasNoLines (found.Listed stale n accepted causes meanings) = ⊥
+HasNoLines (found.Listed unused stale n accepted causes meanings) = ⊥
 HasNoLines (found.NoList bad) = ⊤
 HasNoLines found.NoCommands = ⊤
 HasNoLines found.NoCommand = ⊤
@@ -209,17 +216,22 @@ pub record AreRead (asked : Asked) (inputs : Inputs) (a b : Dictionary) (list : 
   pub list_is : IsListText inputs.table list
   pub can_ask : CanAsk asked a
 
--- what a no says: this is the text of the lines that the list doesn't accept, or of their causes, and there is one
+-- what a no says: this is the text of the lines that the list doesn't accept, or of their causes, and of its stale entries, for which the answer is no; and there is one
 abbrev pub IsUnsafeUpgrade : Asked → Inputs → List ℕ → Type 0
-IsUnsafeUpgrade asked inputs text = (a : Dictionary) × (b : Dictionary) × (list : List PlainEntry) × (told : List PlainTold) × (apart : List PlainTold) × AreRead asked inputs a b list
-    × AreAllTold asked a b told apart × (left_of list told ≢ []) × (text ≡ written asked (shown asked.once (left_of list told)))
+IsUnsafeUpgrade asked inputs text = (a : Dictionary) × (b : Dictionary) × (list : List PlainEntry) × (told : List PlainTold) × (apart : List PlainTold) × (stale : List PlainEntry) × AreRead asked inputs a b list
+    × AreAllTold asked a b told apart × AreStale asked a b list told apart stale × ((left_of list told ≢ []) ⊎ (failing asked.stale stale ≢ []))
+    × (text ≡ written asked (shown asked.once (left_of list told)) ++ stale_text asked.form (failing asked.stale stale))
+
+-- no entry is stale, where the answer is no for one
+abbrev pub NoneIsStale : Asked → Dictionary → Dictionary → List PlainEntry → Type 0
+NoneIsStale asked a b list = asked.stale ≡ Fails → (told : List PlainTold) × (apart : List PlainTold) × AreAllTold asked a b told apart × AreStale asked a b list told apart []
 
 -- what a yes says: nothing breaks, or nothing but what the list accepts; with `--meaning` nothing is read as another format, either, or
--- nothing but what the list accepts; and what is written says which
+-- nothing but what the list accepts; no entry of the list is stale; and what is written says which
 pub data IsSafeUpgrade (asked : Asked) (inputs : Inputs) (text : List ℕ) : Type 0 where
-  safe : (a b : Dictionary) (list : List PlainEntry) → AreRead asked inputs a b list → NothingBreaks asked a b → NothingDiffers asked a b
+  safe : (a b : Dictionary) (list : List PlainEntry) → AreRead asked inputs a b list → NothingBreaks asked a b → NothingDiffers asked a b → NoneIsStale asked a b list
       → text ≡ said asked.form (if asked.meaning then nothing_differs else nothing_breaks) → IsSafeUpgrade asked inputs text
-  accepted : (a b : Dictionary) (list : List PlainEntry) → AreRead asked inputs a b list → NothingElseBreaks asked list a b
+  accepted : (a b : Dictionary) (list : List PlainEntry) → AreRead asked inputs a b list → NothingElseBreaks asked list a b → NoneIsStale asked a b list
       → text ≡ said asked.form (if asked.meaning then nothing_else_differs else nothing_else_breaks) → IsSafeUpgrade asked inputs text
 
 -- the inputs are refused: one is no dictionary's text, or no list's; or the first has no commands, or none of a name that is given

@@ -1,5 +1,5 @@
 -- Lines that are found one after another: what is known of them, and what is written.
-use Rattle.std.specs.Prelude.{◌≡◌, ℕ, ◌⊎◌, ◌+◌, ◌<◌, ◌^◌, ◌==◌, Bool, true, false, if◌then◌else◌, List, [], ◌∷◌, ◌++◌, length, map, codes, string_bytes, Option, Some, None, Result, Ok, Err}
+use Rattle.std.specs.Prelude.{◌≡◌, ℕ, ◌⊎◌, ◌+◌, ◌<◌, ◌^◌, ◌==◌, ◌&&◌, Bool, true, false, if◌then◌else◌, List, [], ◌∷◌, ◌++◌, length, map, codes, string_bytes, Option, Some, None, Result, Ok, Err}
 use Rattle.std.specs.Global.{Global, Vec}
 use Rattle.std.specs.declared.string.String.{String}
 use Rattle.std.specs.List.{list_any}
@@ -15,7 +15,8 @@ use Rattle.dia_io.specs.declared.RunFault.TheVariants.{Device, NoMemory}
 use Rattle.dia_io.specs.Writing.{AppendsFront}
 use Rattle.dia_dict.specs.declared.IndexedBook.{IndexedBook}
 use Rattle.dia_run.specs.Texts.{line}
-use Rattle.dia_accepted.specs.Accepted.{PlainEntry, PlainTold, kept, left_of, plain_told, stale_lines}
+use Rattle.dia_accepted.specs.Accepted.{PlainEntry, PlainTold, kept, left_of, plain_entry, plain_told}
+use Rattle.dia_accepted.specs.declared.list.Entry.{Entry}
 use Rattle.dia_accepted.specs.declared.told.Told.{Told}
 use Rattle.dia_accepted.specs.declared.counting.Causes.{Causes}
 use Rattle.dia_accepted.specs.Causes.{has_cause, once_of}
@@ -29,6 +30,7 @@ use Rattle.dia_breaking.specs.Sides.{Sides}
 use Rattle.dia_breaking.specs.Upgrades.{other_length_of, sides_of, stock_of}
 use Rattle.dia_breaking.specs.Words.{words_of}
 use Rattle.dia_upgrades.specs.declared.asked.Asked.{Asked}
+use Rattle.dia_upgrades.specs.declared.asked.Form.{Form}
 use Rattle.dia_upgrades.specs.declared.pending.Pending.{Pending}
 use Rattle.dia_upgrades.specs.declared.reporting.Found.{Found}
 use Rattle.dia_upgrades.specs.declared.reporting.Found.TheVariants as found
@@ -41,6 +43,7 @@ use Rattle.dia_upgrades.specs.Begun.{IsBegun, IsBegunOrWhole, IsOutcomeBegun, Is
 use Rattle.dia_upgrades.specs.Forms.{said}
 use Rattle.dia_upgrades.specs.Outcome.{IsBreakingOutcome, IsListed, accepted_of, counted, nothing_for}
 use Rattle.dia_upgrades.specs.Report.{IsReport}
+use Rattle.dia_upgrades.specs.Stale.{failing, stale_text}
 use Rattle.dia_upgrades.specs.Told.{AreParts, AreTold, IsBehind, IsLineTold, IsToldOf, written}
 
 -- ---- what is put
@@ -196,29 +199,40 @@ pub record AreAllPut (s : Sides) (asked : Asked) (list : List PlainEntry) (place
   pub are_seen : AreSeen asked forgets list place visits seen told apart
   pub is_put : Appends begun put (text_shown asked (left_of list told))
 
--- what is written behind all lines
-abbrev pub end_text : Asked → ℕ → Bool → List PlainTold → List ℕ
-end_text asked lines is_some causes = if lines == 0 then said asked.form (nothing_for asked.meaning is_some) else (if asked.once then written asked causes else [])
+-- what is said where no line is left: nothing, if so many entries fail
+abbrev pub nothing_said : Form → Bool → Bool → ℕ → List ℕ
+nothing_said form meaning is_some failing = if failing == 0 then said form (nothing_for meaning is_some) else []
 
-abbrev pub exit_of : ℕ → Exit
-exit_of lines = if lines == 0 then Yes else No
+-- what is written behind all lines of what is left of them
+abbrev pub lines_end : Asked → ℕ → Bool → List PlainTold → ℕ → List ℕ
+lines_end asked lines is_some causes failing =
+    if lines == 0 then nothing_said asked.form asked.meaning is_some failing else (if asked.once then written asked causes else [])
 
--- what was found of the lines that are known
-pub record Finds (seen : Seen) (is : Found) : Type 0 where
-  pub stale : Vec ℕ
+-- what is written behind all lines, where these entries fail
+abbrev pub end_text : Asked → ℕ → Bool → List PlainTold → List PlainEntry → List ℕ
+end_text asked lines is_some causes fails = lines_end asked lines is_some causes (length fails) ++ stale_text asked.form fails
+
+abbrev pub exit_of : ℕ → ℕ → Exit
+exit_of lines failing = if lines == 0 && failing == 0 then Yes else No
+
+abbrev pub fails_of : Asked → Vec Entry → List PlainEntry
+fails_of asked stale = failing asked.stale (map plain_entry stale.items)
+
+-- what was found of the lines that are known, with these entries of the list
+pub record Finds (seen : Seen) (unused stale : Vec Entry) (is : Found) : Type 0 where
   pub causes : Vec Told
   pub meanings : Vec Told
-  pub found_is : is ≡ found.Listed stale seen.lines seen.accepted causes meanings
-  pub stale_are : (list : List PlainEntry) (told : List PlainTold) → HasSeen seen.accepting list told → stale.items ≡ stale_lines list told
+  pub found_is : is ≡ found.Listed unused stale seen.lines seen.accepted causes meanings
   pub causes_are : (forgets : Bool) (told : List PlainTold) (command visits : ℕ) → AreCauses forgets seen.causes told command visits → map plain_told causes.items ≡ once_of told
   pub meanings_are : (forgets : Bool) (told : List PlainTold) (command visits : ℕ) → AreCauses forgets seen.meanings told command visits → map plain_told meanings.items ≡ once_of told
 
 -- what was found, how it ends, and what was written behind all lines; or why not
-abbrev pub Ends : Asked → Seen → Option (List ℕ) → Option (List ℕ) → Result Listed RunFault → Type 0
-Ends asked seen old new (Ok listed) = (finds : Finds seen listed.found) × (listed.exit ≡ exit_of seen.lines)
-    × Appends old new (end_text asked seen.lines seen.is_some (map plain_told finds.causes.items))
-Ends asked seen old new (Err Device) = (is : Found) × (finds : Finds seen is) × AppendsFront old new (end_text asked seen.lines seen.is_some (map plain_told finds.causes.items))
-Ends asked seen old new (Err NoMemory) = new ≡ old
+abbrev pub Ends : Asked → Seen → Vec Entry → Vec Entry → Option (List ℕ) → Option (List ℕ) → Result Listed RunFault → Type 0
+Ends asked seen unused stale old new (Ok listed) = (finds : Finds seen unused stale listed.found) × (listed.exit ≡ exit_of seen.lines (length (fails_of asked stale)))
+    × Appends old new (end_text asked seen.lines seen.is_some (map plain_told finds.causes.items) (fails_of asked stale))
+Ends asked seen unused stale old new (Err Device) = (is : Found) × (finds : Finds seen unused stale is)
+    × AppendsFront old new (end_text asked seen.lines seen.is_some (map plain_told finds.causes.items) (fails_of asked stale))
+Ends asked seen unused stale old new (Err NoMemory) = new ≡ old
 
 -- ---- what is answered
 

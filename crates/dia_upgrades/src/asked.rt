@@ -12,6 +12,17 @@ pub enum Form<'a> {
     Json(&'a Names),
 }
 
+/// What is done about stale entries of the list of accepted lines.
+#[derive(Clone, Copy)]
+pub enum Stale {
+    /// They are written behind all lines, and where there is one the answer is no.
+    Fails,
+    /// They are found, and don't change the answer.
+    Allowed,
+    /// They aren't looked for.
+    Ignored,
+}
+
 /// What `breaking` is to list.
 #[derive(Clone, Copy)]
 pub struct Asked<'a> {
@@ -25,6 +36,7 @@ pub struct Asked<'a> {
     pub once: bool,
     /// Whether AVPs that are read as another format are lines, too.
     pub meaning: bool,
+    pub stale: Stale,
     pub form: Form<'a>,
     /// The commands of the first dictionary that are listed: all where none is named.
     pub names: &'a [String],

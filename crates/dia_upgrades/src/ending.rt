@@ -1,22 +1,23 @@
 //! What is written behind all lines, and of inputs that are refused.
 
-ghost use Rattle.std.specs.Prelude.{◌≡◌, ◌↔◌, IfErr, IfOk, IsErr, IsTrue, List, ℕ, Option, Err, OnOk, ◌++◌, map, string_bytes, true};
+ghost use Rattle.std.specs.Prelude.{◌≡◌, ◌↔◌, IfErr, IfOk, IsErr, IsTrue, List, ℕ, Option, Err, OnOk, ◌++◌, length, map, string_bytes, true};
 ghost use Rattle.std.specs.List.{flat_map};
 ghost use Rattle.std.specs.Io.KnownBytes.{Appends};
 ghost use Rattle.dia_io.specs.declared.RunFault.TheVariants.{Device, NoMemory};
 ghost use Rattle.dia_io.specs.Writing.{AppendsFront};
 ghost use Rattle.dia_run.specs.Texts.{line};
-ghost use Rattle.dia_accepted.specs.Accepted.{plain_told};
+ghost use Rattle.dia_accepted.specs.Accepted.{plain_entry, plain_told};
 ghost use Rattle.dia_upgrades.specs.Outcome.{nothing_for};
+ghost use Rattle.dia_upgrades.specs.Stale.{failing, stale_line, stale_text};
 ghost use Rattle.dia_upgrades.specs.Forms.{object_in, said};
 ghost use Rattle.dia_upgrades.specs.Told.{told_text, written};
-ghost use Rattle.dia_upgrades.specs.UnderWay.{Ends, IsPut, end_text, exit_of};
+ghost use Rattle.dia_upgrades.specs.UnderWay.{Ends, IsPut, end_text, exit_of, lines_end, nothing_said};
 
-use crate::asked::{Asked, Form};
+use crate::asked::{Asked, Form, Stale};
 use crate::pending::Pending;
 use crate::reporting::{Found, Listed};
 use crate::seen::Seen;
-use dia_accepted::Told;
+use dia_accepted::{Entry, Told};
 use dia_breaking_json::{Names, line_json};
 use dia_io::{Exit, Failed, RunFault, Sink, put_all};
 use std::alloc::{AllocError, Global};
@@ -26,20 +27,30 @@ pub(crate) fn ended<S: Sink>(
     alloc: Global,
     asked: Asked<'_>,
     seen: &Seen<'_>,
+    unused: Vec<Entry>,
+    stale: Vec<Entry>,
     sink: &mut S,
 ) -> Result<Listed, RunFault>
     requires { ¬ IsTrue (S.has_failed sink.old) }
-    ensures ends { Ends asked.entry seen.now (S.written sink.old) (S.written sink.new) result }
+    ensures ends { Ends asked.entry seen.now unused stale (S.written sink.old) (S.written sink.new) result }
     ensures device { (result ≡ Err Device) ↔ IsTrue (S.has_failed sink.new) }
 {
-    let stale = seen.accepting.stale(alloc)?;
     let causes = seen.causes.lines(alloc)?;
     let meanings = seen.meanings.lines(alloc)?;
     let lines = seen.lines;
     let accepted = seen.accepted;
-    put_end(alloc, asked, lines, seen.is_some, causes.as_slice(), sink)?;
-    let exit = exit_of(lines);
+    put_ending(
+        alloc,
+        asked,
+        lines,
+        seen.is_some,
+        causes.as_slice(),
+        stale.as_slice(),
+        sink,
+    )?;
+    let exit = exit_of(lines, failing_count(asked.stale, stale.as_slice()));
     let found = Found::Listed {
+        unused,
         stale,
         lines,
         accepted,
@@ -49,31 +60,107 @@ pub(crate) fn ended<S: Sink>(
     Ok(Listed { exit, found })
 }
 
-fn exit_of(lines: usize) -> Exit
-    ensures { result ≡ exit_of lines }
+fn exit_of(lines: usize, failing: usize) -> Exit
+    ensures { result ≡ exit_of lines failing }
 {
-    if lines == 0 { Exit::Yes } else { Exit::No }
+    if lines == 0 && failing == 0 {
+        Exit::Yes
+    } else {
+        Exit::No
+    }
 }
 
-/// Writes that no line is left, or the causes where each is told once. Where memory is refused, nothing is written.
+/// The stale entries for which the answer is no.
+fn failing(stale: Stale, entries: &[Entry]) -> &[Entry]
+    ensures { map plain_entry result.now ≡ failing stale (map plain_entry entries.now) }
+{
+    match stale {
+        Stale::Fails => entries,
+        Stale::Allowed => &[],
+        Stale::Ignored => &[],
+    }
+}
+
+fn failing_count(stale: Stale, entries: &[Entry]) -> usize
+    ensures { result ≡ length (failing stale (map plain_entry entries.now)) }
+{
+    failing(stale, entries).len()
+}
+
+/// Writes what stands behind all lines, and then the stale entries that fail. Where memory is refused, nothing is written.
+fn put_ending<S: Sink>(
+    alloc: Global,
+    asked: Asked<'_>,
+    lines: usize,
+    is_some: bool,
+    causes: &[Told],
+    stale: &[Entry],
+    sink: &mut S,
+) -> Result<(), RunFault>
+    requires { ¬ IsTrue (S.has_failed sink.old) }
+    ensures put { OnOk result (Appends (S.written sink.old) (S.written sink.new)
+        (end_text asked.entry lines is_some (map plain_told causes.now) (failing asked.entry.stale (map plain_entry stale.now)))) }
+    ensures front { result ≡ Err Device → AppendsFront (S.written sink.old) (S.written sink.new)
+        (end_text asked.entry lines is_some (map plain_told causes.now) (failing asked.entry.stale (map plain_entry stale.now))) }
+    ensures device { (result ≡ Err Device) ↔ IsTrue (S.has_failed sink.new) }
+    ensures no_memory { result ≡ Err NoMemory → S.written sink.new ≡ S.written sink.old }
+{
+    let text = stale_text(alloc, asked.form, failing(asked.stale, stale))?;
+    let count = failing_count(asked.stale, stale);
+    put_end(alloc, asked, lines, is_some, causes, count, sink)?;
+    put_all(sink, text.as_bytes())?;
+    Ok(())
+}
+
+/// What is written of the entries that fail.
+fn stale_text(alloc: Global, form: Form<'_>, fails: &[Entry]) -> Result<String, AllocError>
+    ensures { IfOk result (λ text. string_bytes text ≡ stale_text form.entry (map plain_entry fails.now)) }
+{
+    match form {
+        Form::Text => stale_lines(alloc, fails),
+        Form::Json(_) => Ok(String::new(alloc)),
+    }
+}
+
+/// A line for each of these entries.
+fn stale_lines(alloc: Global, entries: &[Entry]) -> Result<String, AllocError>
+    ensures { IfOk result (λ text. string_bytes text ≡ flat_map stale_line (map plain_entry entries.now)) }
+{
+    let mut text = String::new(alloc);
+    for entry in entries {
+        push_stale(&mut text, entry)?;
+    }
+    Ok(text)
+}
+
+fn push_stale(text: &mut String, entry: &Entry) -> Result<(), AllocError>
+    ensures { OnOk result (string_bytes text.new ≡ string_bytes text.old ++ stale_line (plain_entry entry.now)) }
+{
+    let words = entry.words.as_str();
+    write!(text, "stale: {words}\n")
+}
+
+/// Writes that no line is left, unless entries fail; or the causes, where each is told once. Where memory is refused, nothing is
+/// written.
 fn put_end<S: Sink>(
     alloc: Global,
     asked: Asked<'_>,
     lines: usize,
     is_some: bool,
     causes: &[Told],
+    failing: usize,
     sink: &mut S,
 ) -> Result<(), RunFault>
     requires { ¬ IsTrue (S.has_failed sink.old) }
     ensures put { OnOk result (Appends (S.written sink.old) (S.written sink.new)
-        (end_text asked.entry lines is_some (map plain_told causes.now))) }
+        (lines_end asked.entry lines is_some (map plain_told causes.now) failing)) }
     ensures front { result ≡ Err Device → AppendsFront (S.written sink.old) (S.written sink.new)
-        (end_text asked.entry lines is_some (map plain_told causes.now)) }
+        (lines_end asked.entry lines is_some (map plain_told causes.now) failing) }
     ensures device { (result ≡ Err Device) ↔ IsTrue (S.has_failed sink.new) }
     ensures no_memory { result ≡ Err NoMemory → S.written sink.new ≡ S.written sink.old }
 {
     if lines == 0 {
-        let text = nothing_text(asked.form, is_some, asked.meaning);
+        let text = nothing_said(asked.form, asked.meaning, is_some, failing);
         put_all(sink, text.as_bytes())?;
         return Ok(());
     }
@@ -137,6 +224,16 @@ fn push_cause(
         told.message.as_str(),
     )?;
     write!(text, "{object}\n")
+}
+
+fn nothing_said(form: Form<'_>, meaning: bool, is_some: bool, failing: usize) -> &'static str
+    ensures { result.now ≡ nothing_said form.entry meaning is_some failing }
+{
+    if failing == 0 {
+        nothing_text(form, is_some, meaning)
+    } else {
+        ""
+    }
 }
 
 fn nothing_text(form: Form<'_>, is_some: bool, meaning: bool) -> &'static str

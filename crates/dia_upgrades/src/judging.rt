@@ -6,7 +6,6 @@ ghost use Rattle.dia_io.specs.declared.Input.{Input as AnyInput};
 ghost use Rattle.dia_io.specs.declared.RunFault.TheVariants.{Device, NoMemory};
 ghost use Rattle.dia_io.specs.Writing.{AppendsFront};
 ghost use Rattle.dia_accepted.specs.Accepted.{plain_entry};
-ghost use Rattle.dia_book.specs.Dictionary.{Dictionary, IsDictionary};
 ghost use Rattle.dia_breaking.specs.Sides.{sides};
 ghost use Rattle.dia_breaking.specs.Upgrades.{sides_of};
 ghost use Rattle.dia_upgrades.specs.Forms.{said};
@@ -23,6 +22,7 @@ use crate::lines::put_lines;
 use crate::list::{BadList, read_accepted};
 use crate::naming::named;
 use crate::reporting::{Found, Listed};
+use crate::stale::stale_of;
 use dia_accepted::Entry;
 use dia_breaking::Upgrade;
 use dia_dict::Book;
@@ -129,7 +129,7 @@ fn compared<A: Book, B: Book, S: Sink>(
     ensures device { (result ≡ Err Device) ↔ IsTrue (S.has_failed sink.new) }
 {
     let upgrade = Upgrade::new(alloc, a, b, asked.sends, asked.unknown)?;
-    compared_by(alloc, asked, list, &upgrade, commands, sink)
+    compared_by(alloc, asked, list, a, b, &upgrade, commands, sink)
 }
 
 /// The same, by what is known of both.
@@ -137,21 +137,24 @@ fn compared_by<A: Book, B: Book, S: Sink>(
     alloc: Global,
     asked: Asked<'_>,
     list: &[Entry],
+    a: &A,
+    b: &B,
     upgrade: &Upgrade<'_, A, B>,
     commands: &[usize],
     sink: &mut S,
 ) -> Result<Listed, RunFault>
     requires sound { ¬ IsTrue (S.has_failed sink.old) }
-    requires places { All (λ place. place < length (sides_of upgrade.now).sender.commands) commands.now }
-    ensures answers { (input : AnyInput) (da db : Dictionary) → IsDictionary da
-        → sides_of upgrade.now ≡ sides da db asked.entry.sends asked.entry.unknown
-        → IsListText input (map plain_entry list.now) → CanAsk asked.entry da
-        → commands.now ≡ asked_places da (names_of asked.entry)
-        → Answers asked.entry input da db (S.written sink.old) (S.written sink.new) result }
+    requires places { All (λ place. place < length (A.meaning a.now).commands) commands.now }
+    requires between { sides_of upgrade.now ≡ sides (A.meaning a.now) (B.meaning b.now) asked.sends asked.unknown }
+    ensures answers { (input : AnyInput) → IsListText input (map plain_entry list.now) → CanAsk asked.entry (A.meaning a.now)
+        → commands.now ≡ asked_places (A.meaning a.now) (names_of asked.entry)
+        → Answers asked.entry input (A.meaning a.now) (B.meaning b.now) (S.written sink.old) (S.written sink.new) result }
     ensures device { (result ≡ Err Device) ↔ IsTrue (S.has_failed sink.new) }
 {
     let listing = put_lines(alloc, sink, upgrade, commands, asked, list)?;
-    ended(alloc, asked, &listing.seen, sink)
+    let unused = listing.seen.accepting.unused(alloc)?;
+    let stale = stale_of(alloc, asked, a, b, commands, unused.as_slice())?;
+    ended(alloc, asked, &listing.seen, unused, stale, sink)
 }
 
 fn no_list_text(alloc: Global, form: Form<'_>, bad: BadList) -> Result<String, AllocError>

@@ -16,11 +16,12 @@ mod reporting;
 mod seen;
 mod showing;
 mod shown;
+mod stale;
 
-pub use asked::{Asked, Form};
+pub use asked::{Asked, Form, Stale};
 pub use command::breaking;
 pub use counting::lines_left;
-pub use dia_accepted::{MAX_LINES, MAX_LIST, Told};
+pub use dia_accepted::{Entry, MAX_LINES, MAX_LIST, Told};
 pub use dia_breaking_json::{Keys, Names};
 pub use judging::breaking_of;
 pub use laws::{confirmed_texts_break, message_texts_are_one};

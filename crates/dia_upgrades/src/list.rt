@@ -16,7 +16,8 @@ pub enum BadList {
     TooLong,
     /// Bytes that are no UTF-8, from this place on.
     NotText { at: usize },
-    Syntax { line: u32 },
+    /// The column, from 1, is that from which on the entry of the line has no form.
+    Syntax { line: u32, column: usize },
     Limit { line: u32 },
 }
 
@@ -30,7 +31,7 @@ impl fmt::Display for BadList {
         match self {
             BadList::TooLong => write!(f, "too long"),
             BadList::NotText { .. } => write!(f, "not text"),
-            BadList::Syntax { line } => write!(f, "syntax at line {line}"),
+            BadList::Syntax { line, .. } => write!(f, "syntax at line {line}"),
             BadList::Limit { line } => write!(f, "limit at line {line}"),
         }
     }
@@ -56,7 +57,7 @@ pub(crate) fn read_accepted(
     };
     match read_list(alloc, text) {
         Ok(list) => Ok(Ok(list)),
-        Err(ListFault::Syntax { line }) => Ok(Err(BadList::Syntax { line })),
+        Err(ListFault::Syntax { line, column }) => Ok(Err(BadList::Syntax { line, column })),
         Err(ListFault::Limit { line }) => Ok(Err(BadList::Limit { line })),
         Err(ListFault::NoMemory) => Err(AllocError),
     }

@@ -1,7 +1,7 @@
 //! What is answered: how it ends, and what was read and found.
 
 use crate::list::BadList;
-use dia_accepted::Told;
+use dia_accepted::{Entry, Told};
 use dia_io::Exit;
 use dia_report::{BadInput, BothBooks};
 
@@ -10,8 +10,10 @@ use dia_report::{BadInput, BothBooks};
 pub enum Found {
     /// What breaks was listed.
     Listed {
-        /// The lines of the list of accepted ones that accept nothing of it, by their numbers from 1.
-        stale: Vec<u32>,
+        /// The entries of the list of accepted lines that accept nothing of it.
+        unused: Vec<Entry>,
+        /// Those of them that are stale.
+        stale: Vec<Entry>,
         /// How many lines the list leaves; where there are more than can be counted, the greatest number.
         lines: usize,
         /// How many the list accepts, counted in the same way.

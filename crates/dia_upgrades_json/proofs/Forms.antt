@@ -1,24 +1,41 @@
 -- What is asked, whatever the form.
-use Rattle.std.proofs.Common.{ℕ, List, refl}
+use Rattle.std.proofs.Common.{ℕ, List, [], ◌++◌, refl}
+use Rattle.std.specs.Prelude.{filter}
 use Rattle.std.specs.Borrow.{Bor}
-use Rattle.dia_accepted.specs.Accepted.{PlainEntry}
+use Rattle.dia_accepted.specs.Accepted.{PlainEntry, PlainTold, is_about, unused_of}
 use Rattle.dia_book.specs.Dictionary.{Dictionary}
 use Rattle.dia_breaking_json.specs.declared.Names.{Names}
 use Rattle.dia_io.specs.declared.Inputs.{Inputs}
 use Rattle.dia_upgrades.specs.declared.asked.Asked.{Asked}
-use Rattle.dia_upgrades.specs.Outcome.{AreRead, AreRefused, IsSafeUpgrade, IsUnsafeUpgrade, accepted, bad_accepted, bad_first, bad_name, bad_second, none_there, safe}
+use Rattle.dia_upgrades.specs.declared.asked.Stale.{Stale}
+use Rattle.dia_upgrades.specs.declared.asked.Stale.TheVariants.{Fails, Allowed, Ignored}
+use Rattle.dia_upgrades.specs.Asking.{names_of}
+use Rattle.dia_upgrades.specs.Stale.{AreLookedFor, AreStale}
+use Rattle.dia_upgrades.specs.Outcome.{AreRead, AreRefused, IsSafeUpgrade, IsUnsafeUpgrade, NoneIsStale, accepted, bad_accepted, bad_first, bad_name, bad_second, none_there, safe}
 use Rattle.dia_upgrades_json.specs.Objects.{as_json}
 
 module _ (asked : Asked) (names : Bor Names) (inputs : Inputs) where
   are_read : (a b : Dictionary) (list : List PlainEntry) → AreRead (as_json asked names) inputs a b list → AreRead asked inputs a b list
   are_read a b list is = record { first = is.first; second = is.second; list_is = is.list_is; can_ask = record { some = is.can_ask.some; known = is.can_ask.known } }
 
+  looked_in_words : (s : Stale) (a b : Dictionary) (list stale : List PlainEntry) → AreLookedFor s (as_json asked names) a b list stale → AreLookedFor s asked a b list stale
+  looked_in_words Fails a b list stale are = are
+  looked_in_words Allowed a b list stale are = are
+  looked_in_words Ignored a b list stale are = are
+
+  stale_in_words : (a b : Dictionary) (list : List PlainEntry) (told apart : List PlainTold) (stale : List PlainEntry) → AreStale (as_json asked names) a b list told apart stale
+      → AreStale asked a b list told apart stale
+  stale_in_words a b list told apart stale are = looked_in_words asked.stale a b (filter (is_about (names_of asked)) (unused_of list (told ++ apart))) stale are
+
+  none_in_words : (a b : Dictionary) (list : List PlainEntry) → NoneIsStale (as_json asked names) a b list → NoneIsStale asked a b list
+  none_in_words a b list none fails = let (told, apart, all, are) = none fails in (told, apart, all, stale_in_words a b list told apart [] are)
+
   pub safe_in_words : (text : List ℕ) → IsSafeUpgrade (as_json asked names) inputs text → (words : List ℕ) × IsSafeUpgrade asked inputs words
-  safe_in_words text (safe a b list is breaks differs is_text) = (_, safe a b list (are_read a b list is) breaks differs refl)
-  safe_in_words text (accepted a b list is breaks is_text) = (_, accepted a b list (are_read a b list is) breaks refl)
+  safe_in_words text (safe a b list is breaks differs none is_text) = (_, safe a b list (are_read a b list is) breaks differs (none_in_words a b list none) refl)
+  safe_in_words text (accepted a b list is breaks none is_text) = (_, accepted a b list (are_read a b list is) breaks (none_in_words a b list none) refl)
 
   pub unsafe_in_words : (text : List ℕ) → IsUnsafeUpgrade (as_json asked names) inputs text → (words : List ℕ) × IsUnsafeUpgrade asked inputs words
-  unsafe_in_words text (a, b, list, told, apart, is, all, left, is_text) = (_, (a, b, list, told, apart, are_read a b list is, all, left, refl))
+  unsafe_in_words text (a, b, list, told, apart, stale, is, all, are, left, is_text) = (_, (a, b, list, told, apart, stale, are_read a b list is, all, stale_in_words a b list told apart stale are, left, refl))
 
   pub refused_in_words : AreRefused (as_json asked names) inputs → AreRefused asked inputs
   refused_in_words (bad_first why none) = bad_first why none

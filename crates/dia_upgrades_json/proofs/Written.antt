@@ -30,12 +30,12 @@ use Rattle.dia_upgrades_json.specs.UnderWay.{Answers, Ends}
 -- where a name is that of no command, not all are
 pub name_unknown : (asked : Asked) (input : Input) (a b : Dictionary) (text : List ℕ) (exit : Exit) (is : Found) → IsListed asked input a b text exit is → is ≡ founds.NoCommand
     → AreCommands a (names_of asked) → ⊥
-name_unknown asked input a b text exit is (nothing list apart can breaks differs is_text is_exit) e known =
-    let f = can.tells in absurd (let z : founds.Listed f.stale f.lines f.accepted f.causes f.meanings ≡ founds.NoCommand = sym f.is_listed ∙ e in cc)
-name_unknown asked input a b text exit is (nothing_else list told apart can left some breaks is_text is_exit) e known =
-    let f = can.tells in absurd (let z : founds.Listed f.stale f.lines f.accepted f.causes f.meanings ≡ founds.NoCommand = sym f.is_listed ∙ e in cc)
-name_unknown asked input a b text exit is (lines list told apart can left is_text is_exit) e known =
-    let f = can.tells in absurd (let z : founds.Listed f.stale f.lines f.accepted f.causes f.meanings ≡ founds.NoCommand = sym f.is_listed ∙ e in cc)
+name_unknown asked input a b text exit is (nothing list apart stale can breaks differs none is_text is_exit) e known =
+    let f = can.tells in absurd (let z : founds.Listed f.unused f.stale_ones f.lines f.accepted f.causes f.meanings ≡ founds.NoCommand = sym f.is_listed ∙ e in cc)
+name_unknown asked input a b text exit is (nothing_else list told apart stale can left some breaks none is_text is_exit) e known =
+    let f = can.tells in absurd (let z : founds.Listed f.unused f.stale_ones f.lines f.accepted f.causes f.meanings ≡ founds.NoCommand = sym f.is_listed ∙ e in cc)
+name_unknown asked input a b text exit is (lines list told apart stale can left is_text is_exit) e known =
+    let f = can.tells in absurd (let z : founds.Listed f.unused f.stale_ones f.lines f.accepted f.causes f.meanings ≡ founds.NoCommand = sym f.is_listed ∙ e in cc)
 name_unknown asked input a b text exit is (bad_list bad none refuses what) e known = absurd (let z : founds.NoList bad ≡ founds.NoCommand = sym what ∙ e in cc)
 name_unknown asked input a b text exit is (no_commands list is_list none refuses what) e known = absurd (let z : founds.NoCommands ≡ founds.NoCommand = sym what ∙ e in cc)
 name_unknown asked input a b text exit is (no_command list name is_list some first refuses what) e known =
@@ -55,7 +55,7 @@ module _ (asked : Asked) (input : Input) (a b : Dictionary) where
     some_answered NoMemory front none = let (text, is, put) = none refl in (text, some_objects names are_names (inl is), put)
 
     module _ (mid : Option (List ℕ)) (listed : Listed) (text : List ℕ) (is : IsListed (as_json asked names) input a b text listed.exit listed.found) (put : Appends old mid text) where
-      whole : (ending : List ℕ) → IsEnding (names_of asked) input a listed.found ending → IsListedJson asked input a b (text ++ ending) listed.exit listed.found
+      whole : (ending : List ℕ) → IsEnding asked.stale (names_of asked) input a listed.found ending → IsListedJson asked input a b (text ++ ending) listed.exit listed.found
       whole ending is_ending = record {
         names = names;
         objects = text;
@@ -67,7 +67,7 @@ module _ (asked : Asked) (input : Input) (a b : Dictionary) where
       }
 
       -- all were written, and it is known what stands behind them
-      pub all_answered : (r : Result Listed RunFault) → Ends (names_of asked) input a listed mid new r → Answers asked input a b old new r
+      pub all_answered : (r : Result Listed RunFault) → Ends asked.stale (names_of asked) input a listed mid new r → Answers asked input a b old new r
       all_answered (Ok ended) (same, ending, is_ending, more) = (
         text ++ ending,
         subst (λ (l : Listed). IsListedJson asked input a b (text ++ ending) l.exit l.found) (sym same) (whole ending is_ending),

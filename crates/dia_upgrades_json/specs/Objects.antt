@@ -1,9 +1,9 @@
 -- The objects of `breaking` as JSON: those of lines, and the one behind them.
-use Rattle.std.specs.Prelude.{◌≡◌, ℕ, Bool, List, [], ◌++◌, codes, length}
+use Rattle.std.specs.Prelude.{◌≡◌, ℕ, Bool, List, [], ◌++◌, codes, length, map}
 use Rattle.std.specs.Borrow.{Bor}
 use Rattle.std.specs.List.{flat_map}
 use Rattle.serde_json.specs.Written.{compact_text}
-use Rattle.dia_accepted.specs.Accepted.{PlainTold}
+use Rattle.dia_accepted.specs.Accepted.{PlainEntry, PlainTold, plain_entry}
 use Rattle.dia_book.specs.Dictionary.{Dictionary}
 use Rattle.dia_breaking_json.specs.declared.Names.{Names}
 use Rattle.dia_breaking_json.specs.Fields.{Field, object_of, text_field}
@@ -16,10 +16,12 @@ use Rattle.dia_refused_json.specs.Refusals.{text_of}
 use Rattle.dia_run.specs.Texts.{line}
 use Rattle.dia_upgrades.specs.declared.asked.Asked.{Asked}
 use Rattle.dia_upgrades.specs.declared.asked.Form.TheVariants.{Json}
+use Rattle.dia_upgrades.specs.declared.asked.Stale.{Stale}
 use Rattle.dia_upgrades.specs.declared.list.BadList.{BadList}
 use Rattle.dia_upgrades.specs.declared.list.BadList.TheVariants.{TooLong, NotText, Syntax, Limit}
 use Rattle.dia_upgrades.specs.declared.reporting.Found.{Found}
 use Rattle.dia_upgrades.specs.declared.reporting.Found.TheVariants as found
+use Rattle.dia_upgrades.specs.Stale.{failing}
 
 -- ---- lines
 
@@ -36,6 +38,7 @@ as_json asked names = record {
   messages = asked.messages;
   once = asked.once;
   meaning = asked.meaning;
+  stale = asked.stale;
   form = Json names;
   names = asked.names;
 }
@@ -53,10 +56,17 @@ objects_over a b once told = flat_map (object_over a b once) told
 abbrev pub object_line : List Field → List ℕ
 object_line fields = line (compact_text (object_of fields))
 
--- how many lines are left, of how many causes, and how many lines are accepted
-abbrev pub counts_fields : (lines causes accepted : ℕ) → List Field
-counts_fields lines causes accepted =
-    unsigned_field (codes "lines") lines ++ unsigned_field (codes "causes") causes ++ unsigned_field (codes "accepted") accepted
+-- how many lines are left, of how many causes, how many lines are accepted, and how many entries of the list are stale
+abbrev pub counts_fields : (lines causes accepted stale : ℕ) → List Field
+counts_fields lines causes accepted stale = unsigned_field (codes "lines") lines ++ unsigned_field (codes "causes") causes
+    ++ unsigned_field (codes "accepted") accepted ++ unsigned_field (codes "stale") stale
+
+-- a stale entry, and the number of its line
+abbrev pub stale_fields : PlainEntry → List Field
+stale_fields e = text_field (codes "stale") e.words ++ unsigned_field (codes "line") e.line
+
+abbrev pub stale_objects : List PlainEntry → List ℕ
+stale_objects stale = flat_map (λ e. object_line (stale_fields e)) stale
 
 -- an input that is refused, and the kind of what is wrong
 abbrev pub refused_fields : (input kind : List ℕ) → List Field
@@ -65,7 +75,7 @@ refused_fields input kind = text_field (codes "error") input ++ text_field (code
 abbrev pub list_kind : BadList → List ℕ
 list_kind TooLong = codes "too long"
 list_kind (NotText at) = codes "not text"
-list_kind (Syntax n) = codes "syntax"
+list_kind (Syntax n column) = codes "syntax"
 list_kind (Limit n) = codes "limit"
 
 -- a place of a text: its line and its column
@@ -76,7 +86,7 @@ place_fields text at = unsigned_field (codes "line") (line_at text at) ++ unsign
 abbrev pub where_fields : List ℕ → BadList → List Field
 where_fields text TooLong = []
 where_fields text (NotText at) = place_fields text at
-where_fields text (Syntax n) = unsigned_field (codes "line") n
+where_fields text (Syntax n column) = unsigned_field (codes "line") n ++ unsigned_field (codes "column") column
 where_fields text (Limit n) = unsigned_field (codes "line") n
 
 -- a list that is refused
@@ -91,9 +101,10 @@ no_commands_fields = refused_fields (codes "breaking") (codes "no command")
 abbrev pub no_command_fields : List ℕ → List Field
 no_command_fields name = no_commands_fields ++ text_field (codes "name") name
 
--- the text of the object behind those of lines, for what was found
-abbrev pub IsEnding : List (List ℕ) → Input → Dictionary → Found → List ℕ → Type 0
-IsEnding names input a (found.Listed stale lines accepted causes meanings) text = text ≡ object_line (counts_fields lines (length causes.items) accepted)
-IsEnding names input a (found.NoList bad) text = text ≡ object_line (list_fields (text_of input) bad)
-IsEnding names input a found.NoCommands text = text ≡ object_line no_commands_fields
-IsEnding names input a found.NoCommand text = (name : List ℕ) × IsFirstUnknown a names name × (text ≡ object_line (no_command_fields name))
+-- the text of the objects behind those of lines, for what was found: those of the stale entries that fail, and a last one
+abbrev pub IsEnding : Stale → List (List ℕ) → Input → Dictionary → Found → List ℕ → Type 0
+IsEnding about names input a (found.Listed unused stale lines accepted causes meanings) text =
+    text ≡ stale_objects (failing about (map plain_entry stale.items)) ++ object_line (counts_fields lines (length causes.items) accepted (length stale.items))
+IsEnding about names input a (found.NoList bad) text = text ≡ object_line (list_fields (text_of input) bad)
+IsEnding about names input a found.NoCommands text = text ≡ object_line no_commands_fields
+IsEnding about names input a found.NoCommand text = (name : List ℕ) × IsFirstUnknown a names name × (text ≡ object_line (no_command_fields name))

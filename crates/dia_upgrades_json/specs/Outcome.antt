@@ -26,7 +26,7 @@ pub record IsListedJson (asked : Asked) (input : Input) (a b : Dictionary) (text
   pub ending : List ℕ
   pub are_names : AreNamesOf a b names.now
   pub listed : IsListed (as_json asked names) input a b objects exit is
-  pub is_ending : IsEnding (names_of asked) input a is ending
+  pub is_ending : IsEnding asked.stale (names_of asked) input a is ending
   pub text_is : text ≡ objects ++ ending
 
 -- the same, whatever was found

@@ -14,6 +14,7 @@ use Rattle.dia_report.specs.declared.bad_input.BadInput.{BadInput}
 use Rattle.dia_report.specs.declared.refusing.Refused.{Refused}
 use Rattle.dia_report.specs.declared.refusing.Refused.TheVariants as refused
 use Rattle.dia_upgrades.specs.declared.asked.Asked.{Asked}
+use Rattle.dia_upgrades.specs.declared.asked.Stale.{Stale}
 use Rattle.dia_upgrades.specs.declared.reporting.Listed.{Listed}
 use Rattle.dia_upgrades.specs.declared.reporting.Reported.{Reported}
 use Rattle.dia_upgrades.specs.declared.reporting.Report.TheVariants as report
@@ -22,10 +23,10 @@ use Rattle.dia_upgrades_json.specs.Objects.{IsEnding}
 use Rattle.dia_upgrades_json.specs.Outcome.{IsBreakingJson, IsJsonReport, IsListedJson}
 
 -- the object behind those of lines is written, for what was found; or why not
-abbrev pub Ends : List (List ℕ) → Input → Dictionary → Listed → Option (List ℕ) → Option (List ℕ) → Result Listed RunFault → Type 0
-Ends names input a listed old new (Ok ended) = (ended ≡ listed) × (text : List ℕ) × IsEnding names input a listed.found text × Appends old new text
-Ends names input a listed old new (Err Device) = (text : List ℕ) × IsEnding names input a listed.found text × AppendsFront old new text
-Ends names input a listed old new (Err NoMemory) = new ≡ old
+abbrev pub Ends : Stale → List (List ℕ) → Input → Dictionary → Listed → Option (List ℕ) → Option (List ℕ) → Result Listed RunFault → Type 0
+Ends about names input a listed old new (Ok ended) = (ended ≡ listed) × (text : List ℕ) × IsEnding about names input a listed.found text × Appends old new text
+Ends about names input a listed old new (Err Device) = (text : List ℕ) × IsEnding about names input a listed.found text × AppendsFront old new text
+Ends about names input a listed old new (Err NoMemory) = new ≡ old
 
 -- a call over two dictionaries and a list
 abbrev pub Answers : Asked → Input → Dictionary → Dictionary → Option (List ℕ) → Option (List ℕ) → Result Listed RunFault → Type 0

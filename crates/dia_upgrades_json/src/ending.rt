@@ -1,10 +1,14 @@
-//! The object behind those of lines: how many there are; or why nothing was compared.
+//! The objects behind those of lines: the stale entries, and how many there are of all; or why nothing was compared.
 
-ghost use Rattle.std.specs.Prelude.{◌≡◌, IfOk, List, OnOk, map, string_bytes, ℕ};
+ghost use Rattle.std.specs.Prelude.{◌≡◌, ◌++◌, IfOk, List, OnOk, codes, map, string_bytes, ℕ};
 ghost use Rattle.dia_breaking_json.specs.Fields.{Adds, Field, fields_text};
+ghost use Rattle.dia_breaking_json.specs.Lines.{unsigned_field};
 ghost use Rattle.dia_inclusion.specs.Proposed.{IsFirstUnknown};
 ghost use Rattle.dia_upgrades.specs.Asking.{AreCommands};
+ghost use Rattle.dia_accepted.specs.Accepted.{plain_entry};
+ghost use Rattle.dia_upgrades.specs.Stale.{failing};
 ghost use Rattle.dia_upgrades_json.specs.Objects.{IsEnding, counts_fields, list_fields, list_kind, no_command_fields};
+ghost use Rattle.dia_upgrades_json.specs.Objects.{stale_fields, stale_objects};
 ghost use Rattle.dia_upgrades_json.specs.Objects.{no_commands_fields, object_line, place_fields, refused_fields, where_fields};
 
 use dia_breaking_json::{object_text, push_text, push_unsigned};
@@ -12,32 +16,95 @@ use dia_dict::Book;
 use dia_explain_places::place_of;
 use dia_io::Input;
 use dia_refused_json::text_of;
-use dia_upgrades::{BadList, Found, named};
+use dia_upgrades::{BadList, Entry, Found, Stale, named};
 use std::alloc::{AllocError, Global};
 
-/// The object for what was found.
+/// The objects for what was found.
 pub(crate) fn ending<A: Book>(
     alloc: Global,
+    fails: Stale,
     names: &[String],
     list: &Input,
     a: &A,
     found: &Found,
 ) -> Result<String, AllocError>
     requires { found.now ≡ Found.NoCommand → ¬ AreCommands (A.meaning a.now) (map (λ name. string_bytes name) names.now) }
-    ensures { IfOk result (λ text. IsEnding (map (λ name. string_bytes name) names.now) list.now (A.meaning a.now) found.now
+    ensures { IfOk result (λ text. IsEnding fails (map (λ name. string_bytes name) names.now) list.now (A.meaning a.now) found.now
         (string_bytes text)) }
 {
     match found {
         Found::Listed {
+            stale,
             lines,
             accepted,
             causes,
             ..
-        } => counts_line(alloc, *lines, causes.len(), *accepted),
+        } => {
+            let fails = failing(fails, stale.as_slice());
+            counted(alloc, fails, *lines, causes.len(), *accepted, stale.len())
+        }
         Found::NoList(bad) => bad_list_line(alloc, text_of(list), *bad),
         Found::NoCommands => no_commands_line(alloc),
         Found::NoCommand => unknown_line(alloc, names, a),
     }
+}
+
+/// The stale entries for which the answer is no.
+fn failing(fails: Stale, stale: &[Entry]) -> &[Entry]
+    ensures { map plain_entry result.now ≡ failing fails (map plain_entry stale.now) }
+{
+    match fails {
+        Stale::Fails => stale,
+        Stale::Allowed => &[],
+        Stale::Ignored => &[],
+    }
+}
+
+/// The objects of the entries that fail, and the one with the counts.
+fn counted(
+    alloc: Global,
+    fails: &[Entry],
+    lines: usize,
+    causes: usize,
+    accepted: usize,
+    stale: usize,
+) -> Result<String, AllocError>
+    ensures { IfOk result (λ text. string_bytes text
+        ≡ stale_objects (map plain_entry fails.now) ++ object_line (counts_fields lines causes accepted stale)) }
+{
+    let mut text = stale_objects(alloc, fails)?;
+    let counts = counts_line(alloc, lines, causes, accepted, stale)?;
+    text.push_str(counts.as_str())?;
+    Ok(text)
+}
+
+/// The objects of stale entries.
+fn stale_objects(alloc: Global, entries: &[Entry]) -> Result<String, AllocError>
+    ensures { IfOk result (λ text. string_bytes text ≡ stale_objects (map plain_entry entries.now)) }
+{
+    let mut text = String::new(alloc);
+    for entry in entries {
+        push_stale(alloc, &mut text, entry)?;
+    }
+    Ok(text)
+}
+
+/// Adds the object of a stale entry.
+fn push_stale(alloc: Global, text: &mut String, entry: &Entry) -> Result<(), AllocError>
+    ensures { OnOk result (string_bytes text.new ≡ string_bytes text.old ++ object_line (stale_fields (plain_entry entry.now))) }
+{
+    let object = stale_line(alloc, entry)?;
+    text.push_str(object.as_str())?;
+    Ok(())
+}
+
+fn stale_line(alloc: Global, entry: &Entry) -> Result<String, AllocError>
+    ensures { IfOk result (λ text. string_bytes text ≡ object_line (stale_fields (plain_entry entry.now))) }
+{
+    let mut fields = String::new(alloc);
+    push_text(alloc, &mut fields, "stale", entry.words.as_str())?;
+    push_unsigned(alloc, &mut fields, "line", entry.line as u64)?;
+    object_line(alloc, fields.as_str())
 }
 
 fn counts_line(
@@ -45,13 +112,15 @@ fn counts_line(
     lines: usize,
     causes: usize,
     accepted: usize,
+    stale: usize,
 ) -> Result<String, AllocError>
-    ensures { IfOk result (λ text. string_bytes text ≡ object_line (counts_fields lines causes accepted)) }
+    ensures { IfOk result (λ text. string_bytes text ≡ object_line (counts_fields lines causes accepted stale)) }
 {
     let mut fields = String::new(alloc);
     push_unsigned(alloc, &mut fields, "lines", lines as u64)?;
     push_unsigned(alloc, &mut fields, "causes", causes as u64)?;
     push_unsigned(alloc, &mut fields, "accepted", accepted as u64)?;
+    push_unsigned(alloc, &mut fields, "stale", stale as u64)?;
     object_line(alloc, fields.as_str())
 }
 
@@ -83,7 +152,12 @@ fn push_where(alloc: Global, out: &mut String, list: &[u8], bad: BadList) -> Res
     match bad {
         BadList::TooLong => Ok(()),
         BadList::NotText { at } => push_place(alloc, out, list, at),
-        BadList::Syntax { line } => push_unsigned(alloc, out, "line", u64::from(line)),
+        BadList::Syntax { line, column } => push_line_and_column(
+            alloc,
+            out,
+            u64::from(line),
+            column as u64,
+        ),
         BadList::Limit { line } => push_unsigned(alloc, out, "line", u64::from(line)),
     }
 }
@@ -93,8 +167,19 @@ fn push_place(alloc: Global, out: &mut String, text: &[u8], at: usize) -> Result
     ensures { OnOk result (Adds out.old out.new (place_fields text.now at)) }
 {
     let place = place_of(text, at);
-    push_unsigned(alloc, out, "line", place.line as u64)?;
-    push_unsigned(alloc, out, "column", place.column as u64)
+    push_line_and_column(alloc, out, place.line as u64, place.column as u64)
+}
+
+fn push_line_and_column(
+    alloc: Global,
+    out: &mut String,
+    line: u64,
+    column: u64,
+) -> Result<(), AllocError>
+    ensures { OnOk result (Adds out.old out.new (unsigned_field (codes "line") line ++ unsigned_field (codes "column") column)) }
+{
+    push_unsigned(alloc, out, "line", line)?;
+    push_unsigned(alloc, out, "column", column)
 }
 
 /// The object of a dictionary without commands.

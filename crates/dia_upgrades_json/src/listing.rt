@@ -90,11 +90,11 @@ fn put_ending<A: Book, S: Sink>(
 ) -> Result<Listed, RunFault>
     requires sound { ¬ IsTrue (S.has_failed sink.old) }
     requires unknown { listed.found ≡ Found.NoCommand → ¬ AreCommands (A.meaning a.now) (names_of asked) }
-    ensures ends { Ends (names_of asked.entry) list.now (A.meaning a.now) listed
+    ensures ends { Ends asked.entry.stale (names_of asked.entry) list.now (A.meaning a.now) listed
         (S.written sink.old) (S.written sink.new) result }
     ensures device { (result ≡ Err Device) ↔ IsTrue (S.has_failed sink.new) }
 {
-    let text = ending(alloc, asked.names, list, a, &listed.found)?;
+    let text = ending(alloc, asked.stale, asked.names, list, a, &listed.found)?;
     put_all(sink, text.as_bytes())?;
     Ok(listed)
 }

@@ -10,10 +10,17 @@ use Rattle.dia_cli.specs.declared.ending.Ending.TheVariants as ending
 use Rattle.dia_cli.specs.declared.task.Breaking.{Breaking}
 use Rattle.dia_upgrades.specs.declared.asked.Asked.{Asked}
 use Rattle.dia_upgrades.specs.declared.asked.Form.TheVariants.{Text}
+use Rattle.dia_upgrades.specs.declared.asked.Stale.{Stale}
+use Rattle.dia_upgrades.specs.declared.asked.Stale.TheVariants.{Fails, Allowed}
 use Rattle.dia_upgrades.specs.Outcome.{IsBreakingOutcome}
 use Rattle.dia_upgrades.specs.Begun.{IsOutcomeBegun, IsOutcomeBegunOrWhole}
 use Rattle.dia_upgrades_json.specs.Outcome.{IsBreakingJson}
 use Rattle.dia_upgrades_json.specs.Begun.{IsJsonBegun, IsJsonBegunOrWhole}
+
+-- a stale entry of the list fails, unless that is allowed
+abbrev pub stale_in : Bool → Stale
+stale_in true = Allowed
+stale_in false = Fails
 
 -- the same is asked for
 pub record AsksFor (breaking : Breaking) (asked : Asked) : Type 0 where
@@ -22,6 +29,7 @@ pub record AsksFor (breaking : Breaking) (asked : Asked) : Type 0 where
   pub messages : asked.messages ≡ breaking.messages
   pub once : asked.once ≡ breaking.once
   pub meaning : asked.meaning ≡ breaking.meaning
+  pub stale : asked.stale ≡ stale_in breaking.stale_allowed
   pub form : asked.form ≡ Text
   pub names : asked.names.now ≡ breaking.names.items
 

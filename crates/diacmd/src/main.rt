@@ -10,7 +10,7 @@ ghost use Rattle.std.specs.Io.KnownBytes.{Appends};
 ghost use Rattle.dia_io.specs.Writing.{AppendsFront};
 ghost use Rattle.dia_cli.specs.Ending.{stream};
 ghost use Rattle.dia_tasks.specs.Tasks.{world};
-ghost use Rattle.diacmd.specs.Breaking.{AsksFor, IsBegun, IsBegunOrWhole, IsListed, Lists};
+ghost use Rattle.diacmd.specs.Breaking.{AsksFor, IsBegun, IsBegunOrWhole, IsListed, Lists, stale_in};
 ghost use Rattle.diacmd.specs.Program.{IsProgramOutcome, RequestEnds, TaskEnds};
 
 mod advice;
@@ -19,17 +19,17 @@ mod built;
 use advice::{is_unread, means_base};
 use built::version;
 use dia_cli::{
-    BASE_DICTIONARY, Breaking, Ending, OfProcess, Opener, Origins, Request, advised, finish, open_inputs,
-    parse_words,
+    BASE_DICTIONARY, Breaking, Ending, OfProcess, Opener, Origins, Request, advised, finish,
+    open_inputs, parse_words,
 };
 use dia_explain_places::InputTexts;
 use dia_explain_upgrades::explain_upgrade;
 use dia_io::{Exit, Inputs, RunFault, Sink, ToWriter};
 use dia_tasks::{Manner, Outcome, run_task, texts_of};
-use dia_upgrades::{Asked, Form, Report, Reported, breaking};
-use std::process::ExitCode;
+use dia_upgrades::{Asked, Form, Report, Reported, Stale, breaking};
 use std::alloc::Global;
 use std::io::Write;
+use std::process::ExitCode;
 use std::rt::Env;
 use std::{env, io};
 
@@ -42,7 +42,13 @@ fn main(rt: HostRuntime) -> ExitCode {
     let mut err = ToWriter::new(io::writer(&stderr));
     let status = match read_words(&rt) {
         Ok((version, words)) => {
-            let ended = perform(&rt, &OfProcess::new(&rt), &version, words.as_slice(), &mut out);
+            let ended = perform(
+                &rt,
+                &OfProcess::new(&rt),
+                &version,
+                words.as_slice(),
+                &mut out,
+            );
             if is_unread(&ended) {
                 return ExitCode::from(FAILED);
             }
@@ -154,8 +160,20 @@ fn asked_of(breaking: &Breaking) -> Asked<'_>
         messages: breaking.messages,
         once: breaking.once,
         meaning: breaking.meaning,
+        stale: stale_in(breaking.stale_allowed),
         form: Form::Text,
         names: breaking.names.as_slice(),
+    }
+}
+
+/// What is done about stale entries of the list.
+fn stale_in(is_allowed: bool) -> Stale
+    ensures { result ≡ stale_in is_allowed }
+{
+    if is_allowed {
+        Stale::Allowed
+    } else {
+        Stale::Fails
     }
 }
 

@@ -56,8 +56,8 @@ module _ (policies senders : Bor (List (Bor Text))) (two : texts policies.now �
       row_fits policies senders two three propose_row _ _ refl (refl, tt, (refl, policy_passes policies senders two three unknown, (refl, tt, tt)))
       (record { by_index = refl; by_id = refl; next = refl }, (record { by_index = refl; by_id = refl; next = refl }, (true, record { by_index = refl; by_id = refl; next = refl })))
       refl refl refl refl
-  form_fits quiet (breaking json sends unknown messages once meaning accepted first second names) =
-      row_fits policies senders two three breaking_row _ _ refl (refl, tt, (refl, policy_passes policies senders two three unknown, (refl, sender_passes policies senders two three sends, (refl, tt, (refl, tt, (refl, tt, (refl, tt, (refl, tt, tt))))))))
+  form_fits quiet (breaking json sends unknown messages once meaning allowed accepted first second names) =
+      row_fits policies senders two three breaking_row _ _ refl (refl, tt, (refl, policy_passes policies senders two three unknown, (refl, sender_passes policies senders two three sends, (refl, tt, (refl, tt, (refl, tt, (refl, tt, (refl, tt, (refl, tt, tt)))))))))
       (record { by_index = refl; by_id = refl; next = refl }, (record { by_index = refl; by_id = refl; next = refl }, (false, record { by_index = refl; by_id = refl; next = refl })))
       refl refl refl refl
 
@@ -71,7 +71,7 @@ module _ (policies senders : Bor (List (Bor Text))) (two : texts policies.now �
   form_named (compare json unknown first second table) = (record { stops = refl; fine = refl; finds = refl; rest = refl }, refl)
   form_named (refute many json unknown levels first second message) = (record { stops = refl; fine = refl; finds = refl; rest = refl }, refl)
   form_named (propose json unknown first second name names) = (record { stops = refl; fine = refl; finds = refl; rest = refl }, refl)
-  form_named (breaking json sends unknown messages once meaning accepted first second names) = (record { stops = refl; fine = refl; finds = refl; rest = refl }, refl)
+  form_named (breaking json sends unknown messages once meaning allowed accepted first second names) = (record { stops = refl; fine = refl; finds = refl; rest = refl }, refl)
 
 abbrev SaysPair : Unknown → Text → Text → List Row → Type 0
 SaysPair unknown first second rows = (first_of (codes "unknown") rows ≡ Some (policy_word unknown)) × (first_of (codes "A") rows ≡ Some first)
@@ -94,10 +94,11 @@ SaysForm (refute many json unknown levels first second message) rows =
     SaysPair unknown first second rows × (first_of (codes "lines") rows ≡ Some (flag_word many)) × (first_of (codes "levels") rows ≡ levels)
     × (first_of (codes "MESSAGE") rows ≡ Some message)
 SaysForm (propose json unknown first second name names) rows = SaysPair unknown first second rows × (all_of (codes "COMMAND") rows ≡ Some (name ∷ names))
-SaysForm (breaking json sends unknown messages once meaning accepted first second names) rows =
+SaysForm (breaking json sends unknown messages once meaning allowed accepted first second names) rows =
     SaysPair unknown first second rows × (first_of (codes "sends") rows ≡ Some (sends_word sends)) × (first_of (codes "messages") rows ≡ Some (flag_word messages))
     × (all_of (codes "COMMAND") rows ≡ some_names names) × (first_of (codes "accepted") rows ≡ Some (unwrap_or accepted (codes "@none")))
     × (first_of (codes "once") rows ≡ Some (flag_word once)) × (first_of (codes "meaning") rows ≡ Some (flag_word meaning))
+    × (first_of (codes "stale-allowed") rows ≡ Some (flag_word allowed))
 
 abbrev pub Says : Bool → Form → List Row → Type 0
 Says quiet form rows = (first_of (codes "quiet") rows ≡ Some (flag_word quiet)) × SaysForm form rows
@@ -156,7 +157,7 @@ module _ (policies senders : Bor (List (Bor Text))) (quiet : Bool) (rows : List 
     ((first (codes "unknown") ∙ policy_found unknown, first (codes "A"), first (codes "B")), all (codes "COMMAND")),
     flag_given json (first (codes "json") ∙ flag_found json),
   )
-  form_says (breaking json sends unknown messages once meaning accepted one two names) first all = (
+  form_says (breaking json sends unknown messages once meaning allowed accepted one two names) first all = (
     first (codes "quiet") ∙ flag_found quiet,
     (
       (first (codes "unknown") ∙ policy_found unknown, first (codes "A"), first (codes "B")),
@@ -166,6 +167,7 @@ module _ (policies senders : Bor (List (Bor Text))) (quiet : Bool) (rows : List 
       first (codes "accepted") ∙ text_found accepted (codes "@none"),
       first (codes "once") ∙ flag_found once,
       first (codes "meaning") ∙ flag_found meaning,
+      first (codes "stale-allowed") ∙ flag_found allowed,
     ),
     flag_given json (first (codes "json") ∙ flag_found json),
   )
@@ -191,10 +193,10 @@ form_has (refute many json unknown levels first second third) rows plain says =
     (also (pair_passes first second rows says.0.1 says.0.2) (also (has_flag _ many says.1) (has_some _ third says.3)))
 form_has (propose json unknown first second name names) rows plain says =
     also (has_policy _ unknown says.0.0) (also (pair_passes first second rows says.0.1 says.0.2) (has_some _ (name ∷ names) says.1))
-form_has (breaking json sends unknown messages once meaning accepted first second names) rows plain says =
+form_has (breaking json sends unknown messages once meaning allowed accepted first second names) rows plain says =
     also (has_policy _ unknown says.0.0) (also (pair_passes first second rows says.0.1 says.0.2)
     (also (has_sender _ sends says.1)
-    (also (also (has_flag _ messages says.2) (also (has_flag _ once says.5) (has_flag _ meaning says.6))) (has_some _ (unwrap_or accepted (codes "@none")) says.4))))
+    (also (also (has_flag _ messages says.2) (also (has_flag _ once says.5) (also (has_flag _ meaning says.6) (has_flag _ allowed says.7)))) (has_some _ (unwrap_or accepted (codes "@none")) says.4))))
 
 -- what the words of a form ask for
 abbrev IsAskedOf : Form → Task → Origins → Type 0
@@ -253,17 +255,18 @@ asked_is (refute false json unknown levels first second third) rows (RefuteLines
 asked_is (refute true json unknown levels first second third) rows (Whole (command.Refute policy limit)) origins says named is found = other_flag _ false true is.0 says.1 not_true
 asked_is (propose json unknown first second name names) rows (Whole (command.Propose policy commands)) origins says named is found =
     ((same_policy _ _ _ is.0 says.0.0, sym (same_value _ _ _ says.1 is.1)), pair_named origins rows first second says.0.1 says.0.2 found)
-asked_is (breaking json sends unknown messages once meaning accepted first second names) rows (Breaking asked) origins says named is found = (
+asked_is (breaking json sends unknown messages once meaning allowed accepted first second names) rows (Breaking asked) origins says named is found = (
   (
     same_sender _ _ _ is.1 says.1,
     same_policy _ _ _ is.0 says.0.0,
     same_flag _ _ _ is.2 says.2,
     same_flag _ _ _ is.3 says.5,
     same_flag _ _ _ is.4 says.6,
-    same_names _ _ names says.3 is.5,
+    same_flag _ _ _ is.5 says.7,
+    same_names _ _ names says.3 is.6,
   ),
   table_named origins rows first second says.0.1 says.0.2 (codes "accepted") (unwrap_or accepted (codes "@none")) says.4 found,
 )
-asked_is (breaking json sends unknown messages once meaning accepted first second names) rows (Whole command.Show) origins says named is found = unlike (codes "breaking") (codes "show") refl named
+asked_is (breaking json sends unknown messages once meaning allowed accepted first second names) rows (Whole command.Show) origins says named is found = unlike (codes "breaking") (codes "show") refl named
 asked_is (make dictionary written) rows (Whole command.Show) origins says named is found = unlike (codes "make") (codes "show") refl named
 asked_is form rows task origins says named is found = unlike (form_name form) (task_name task) refl named

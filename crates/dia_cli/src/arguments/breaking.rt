@@ -36,6 +36,7 @@ pub(super) fn breaking_of<'a>(alloc: Global, found: &ArgMatches<'a>) -> Result<A
             messages,
             once,
             meaning,
+            stale_allowed,
         },
     ) = shown_of(found)
     else {
@@ -52,6 +53,7 @@ pub(super) fn breaking_of<'a>(alloc: Global, found: &ArgMatches<'a>) -> Result<A
             messages,
             once,
             meaning,
+            stale_allowed,
             names,
         }),
         origins: Origins { table, ..origins },

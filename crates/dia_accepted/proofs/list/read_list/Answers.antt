@@ -13,8 +13,8 @@ loop-words-preserved c =
     let k = length c.loop-words.yielded in
     let turn = YieldsList-turn (YieldsList-from_lines c.args.text.now cc) c.loop-words.yielded _ c.loop-words.yielded_by _ _ c.in-Some.words c.in-Some.is c.next.ensures.steps in
     let at = line_at ts k c.in-Some.words.now turn.0 turn.1 in
-    let added = rw c.as_bytes.ensures.value at c.in-Ok.ensures.added in
-    let form = rw c.as_bytes.ensures.value at c.in-Ok.ensures.form in
+    let added = c.in-Ok.ensures.added in
+    let form = c.in-Ok.ensures.form in
     let more = length_push c.loop-words.yielded c.in-Some.words in
     read_more ts k _ c.loop-words.line _ c.in-Some.words.now (map plain_entry c.loop-words.list.items) (map plain_entry c.add_line.new.list.items) (omega (arith, more)) refl at c.loop-words.invariant added form
 
@@ -24,7 +24,7 @@ returns-in-Err-clause-fault c = λ other.
     let k = length c.loop-words.yielded in
     let turn = YieldsList-turn (YieldsList-from_lines c.args.text.now cc) c.loop-words.yielded _ c.loop-words.yielded_by _ _ c.in-Some.words c.in-Some.is c.next.ensures.steps in
     let at = line_at ts k c.in-Some.words.now turn.0 turn.1 in
-    let fault = rw c.as_bytes.ensures.value at c.in-Err.ensures.fault other in
+    let fault = c.in-Err.ensures.fault other in
     read_fault ts k c.loop-words.line _ c.in-Some.words.now (map plain_entry c.loop-words.list.items) c.in-Err.fault refl at c.loop-words.invariant fault
 
 pub returns-clause-entries : goal.returns-clause-entries

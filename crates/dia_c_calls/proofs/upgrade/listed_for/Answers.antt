@@ -8,7 +8,7 @@ line_of_unknown-requires g c = unnamed _ _ _ _ _ _ _ c.in-NoCommand.is c.in_ok-t
 
 pub returns-in_ok-answer_bytes-in-Listed-clause-done : goal.returns-in_ok-answer_bytes-in-Listed-clause-done
 returns-in_ok-answer_bytes-in-Listed-clause-done g c =
-    told _ _ _ _ _ _ _ c.in-Listed.stale c.in-Listed.lines c.in-Listed.accepted c.in-Listed.causes c.in-Listed.meanings c.in-Listed.is _ _ c.in_ok-answer_bytes-in-Listed.ensures.text
+    told _ _ _ _ _ _ _ c.in-Listed.unused c.in-Listed.stale c.in-Listed.lines c.in-Listed.accepted c.in-Listed.causes c.in-Listed.meanings c.in-Listed.is _ _ c.in_ok-answer_bytes-in-Listed.ensures.text
     c.in_ok-answer_bytes-in-Listed.ensures.holds c.in_ok-text.ensures
 
 pub returns-in-NoList-clause-problem : goal.returns-in-NoList-clause-problem

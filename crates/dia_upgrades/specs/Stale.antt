@@ -1,0 +1,71 @@
+-- Which entries of the list of accepted lines are stale, and what is done about them.
+use Rattle.std.specs.Prelude.{◌≡◌, ◌⊎◌, false, List, [], ◌++◌, ℕ, codes, filter}
+use Rattle.std.specs.List.{flat_map}
+use Rattle.dia_accepted.specs.Accepted.{PlainEntry, PlainTold, is_about, unused_of}
+use Rattle.dia_book.specs.Dictionary.{Dictionary}
+use Rattle.dia_breaking.specs.Sides.{sides}
+use Rattle.dia_policy.specs.declared.Sends.{Sends}
+use Rattle.dia_policy.specs.declared.Sends.TheVariants as sent
+use Rattle.dia_policy.specs.declared.Unknown.{Unknown}
+use Rattle.dia_policy.specs.declared.Unknown.TheVariants as unknowns
+use Rattle.dia_run.specs.Texts.{line}
+use Rattle.dia_upgrades.specs.declared.asked.Asked.{Asked}
+use Rattle.dia_upgrades.specs.declared.asked.Form.{Form}
+use Rattle.dia_upgrades.specs.declared.asked.Form.TheVariants.{Text, Json}
+use Rattle.dia_upgrades.specs.declared.asked.Stale.{Stale}
+use Rattle.dia_upgrades.specs.declared.asked.Stale.TheVariants.{Fails, Allowed, Ignored}
+use Rattle.dia_upgrades.specs.Asking.{names_of}
+use Rattle.dia_upgrades.specs.Places.{asked_places}
+use Rattle.dia_upgrades.specs.Told.{AreTold}
+
+-- ---- which they are
+
+-- what is told of the commands that are asked for, with these policies
+abbrev pub AreToldWith : Asked → Dictionary → Dictionary → Sends → Unknown → List PlainTold → List PlainTold → Type 0
+AreToldWith asked a b sends unknown told apart = AreTold (sides a b sends unknown) false asked.meaning (asked_places a (names_of asked)) told apart
+
+-- of entries that accept no line of the answer, those that accept none with these policies, either. They are all, if these are the policies
+-- that are asked for
+abbrev pub AreUnusedWith : Asked → Dictionary → Dictionary → Sends → Unknown → List PlainEntry → List PlainEntry → Type 0
+AreUnusedWith asked a b sends unknown list left =
+    ((list ≡ []) × (left ≡ []))
+    ⊎ (((sends ≡ asked.sends) × (unknown ≡ asked.unknown) × (left ≡ list))
+    ⊎ ((told : List PlainTold) × (apart : List PlainTold) × AreToldWith asked a b sends unknown told apart × (left ≡ unused_of list (told ++ apart))))
+
+-- with either `--unknown`
+abbrev pub AreUnusedBy : Asked → Dictionary → Dictionary → Sends → List PlainEntry → List PlainEntry → Type 0
+AreUnusedBy asked a b sends list left =
+    (mid : List PlainEntry) × AreUnusedWith asked a b sends unknowns.Kept list mid × AreUnusedWith asked a b sends unknowns.Refused mid left
+
+-- and any `--sends`
+abbrev pub AreUnused : Asked → Dictionary → Dictionary → List PlainEntry → List PlainEntry → Type 0
+AreUnused asked a b list left = (first : List PlainEntry) × (second : List PlainEntry) × AreUnusedBy asked a b sent.Any list first
+    × AreUnusedBy asked a b sent.Known first second × AreUnusedBy asked a b sent.Listed second left
+
+-- they are looked for, unless they are ignored
+abbrev pub AreLookedFor : Stale → Asked → Dictionary → Dictionary → List PlainEntry → List PlainEntry → Type 0
+AreLookedFor Fails asked a b list stale = AreUnused asked a b list stale
+AreLookedFor Allowed asked a b list stale = AreUnused asked a b list stale
+AreLookedFor Ignored asked a b list stale = stale ≡ []
+
+-- an entry is stale if it is about a command that is asked for, and accepts none of these lines, which are told, and no line that is told with
+-- any `--sends` and either `--unknown`
+abbrev pub AreStale : Asked → Dictionary → Dictionary → List PlainEntry → List PlainTold → List PlainTold → List PlainEntry → Type 0
+AreStale asked a b list told apart stale =
+    AreLookedFor asked.stale asked a b (filter (is_about (names_of asked)) (unused_of list (told ++ apart))) stale
+
+-- ---- what is done
+
+-- those for which the answer is no
+abbrev pub failing : Stale → List PlainEntry → List PlainEntry
+failing Fails stale = stale
+failing Allowed stale = []
+failing Ignored stale = []
+
+abbrev pub stale_line : PlainEntry → List ℕ
+stale_line e = line (codes "stale: " ++ e.words)
+
+-- what is written of them behind all lines: nothing as JSON
+abbrev pub stale_text : Form → List PlainEntry → List ℕ
+stale_text Text stale = flat_map stale_line stale
+stale_text (Json names) stale = []
