@@ -30,7 +30,7 @@ found_in : (input : Input) (bad : BadInput) → HasFinding input (Bad bad) → I
 found_in input (bads.Dictionary n (dictionary.NoSource misfit)) h = h
 found_in input (bads.Dictionary n (dictionary.Wrong found)) h = (plain_source found.source.value, h, found.first)
 found_in input (bads.Dictionary n dictionary.TooLong) h = tt
-found_in input (bads.Dictionary n (dictionary.NotText at)) h = tt
+found_in input (bads.Dictionary n (dictionary.NotText at)) h = h
 found_in input (bads.Table why) h = tt
 found_in input (bads.Message why) h = tt
 

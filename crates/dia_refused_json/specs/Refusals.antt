@@ -28,7 +28,7 @@ use Rattle.dia_ccf.specs.Limits.{max_text}
 use Rattle.dia_ccf.specs.Plain.{PlainSource}
 use Rattle.dia_ccf.specs.Refusals.{IsRefused}
 use Rattle.dia_dict.specs.Resolution.{first_wrong, wrong}
-use Rattle.dia_run.specs.Texts.{IsSourceText}
+use Rattle.dia_run.specs.Texts.{IsNoText, IsSourceText}
 use Rattle.std.specs.Char.{is_ascii_hexdigit}
 use Rattle.dia_refused_json.specs.Members.{json_line, refused_members}
 
@@ -121,4 +121,5 @@ abbrev pub IsFoundIn : Input → BadInput → Type 0
 IsFoundIn input (Dictionary n (dictionary.NoSource misfit)) = (text : List ℕ) × Holds input max_text text × IsRefused text (At misfit)
 IsFoundIn input (Dictionary n (dictionary.Wrong found)) = (source : PlainSource) × IsSourceText input source
     × (first_wrong source ≡ Some (wrong found.kind (string_bytes found.name) (string_bytes found.slot)))
+IsFoundIn input (Dictionary n (dictionary.NotText at)) = IsNoText input max_text at
 IsFoundIn input bad = ⊤
