@@ -2,7 +2,7 @@
 
 ghost use Rattle.std.specs.Prelude.{◌≡◌, ◌≢◌, ◌↔◌, ◌≤◌, ◌⊎◌, [], length, List, ℕ};
 ghost use Rattle.std.specs.Prelude.{Err, IfOk, IfSome, IsErr, IsTrue, None, string_bytes};
-ghost use Rattle.std.specs.Io.KnownBytes.{Appends};
+ghost use Rattle.std.specs.Io.KnownBytes.{Appends, IsAtEnd};
 ghost use Rattle.dia_io.specs.Writing.{AppendsFront};
 ghost use Rattle.dia_lines.specs.declared.fault.LinesFault.TheVariants.{NoMemory, Device, Endless};
 ghost use Rattle.dia_lines.specs.FeedToSink.{most_pieces};
@@ -37,6 +37,8 @@ pub fn check_lines<F: Feed, S: Sink>(
     ensures told { IfOk result (λ captured. ChecksLines unknown levels inputs.now
         (F.remaining feed.old) (F.remaining feed.new) (S.written sink.old) (S.written sink.new)
         captured.reported.exit) }
+    ensures all { IfOk result
+        (λ captured. captured.reported.exit ≢ Exit.Bad → IsAtEnd (F.remaining feed.new)) }
     ensures unread { IfOk result (λ captured. captured.reported.exit ≡ Exit.Bad → feed.new ≡ feed.old) }
     ensures summary { IfOk result (λ captured. IfSome captured.summary
         (λ text. ChecksSummary unknown levels inputs.now (F.remaining feed.old) (F.remaining feed.new)
@@ -87,6 +89,8 @@ pub fn refute_lines<F: Feed, S: Sink>(
     ensures told { IfOk result (λ captured. RefutesLines unknown levels inputs.now
         (F.remaining feed.old) (F.remaining feed.new) (S.written sink.old) (S.written sink.new)
         captured.reported.exit) }
+    ensures all { IfOk result
+        (λ captured. captured.reported.exit ≢ Exit.Bad → IsAtEnd (F.remaining feed.new)) }
     ensures unread { IfOk result (λ captured. captured.reported.exit ≡ Exit.Bad → feed.new ≡ feed.old) }
     ensures summary { IfOk result (λ captured. IfSome captured.summary
         (λ text. RefutesSummary unknown levels inputs.now (F.remaining feed.old) (F.remaining feed.new)
