@@ -1,7 +1,8 @@
 -- The reasons that were met, with one more.
 use Rattle.std.proofs.Common.{◌≡◌, ℕ, ◌+◌, ◌<◌, ◌≤◌, ◌||◌, ◌&&◌, ◌==◌, Bool, true, false, List, [], ◌∷◌, ◌++◌, length, map, take, drop, set, get_or, Result, Ok, Err, refl, sym}
 use Rattle.std.proofs.Common.{ap, ap₂, subst, ◌∙◌, arith}
-use Rattle.std.specs.Prelude.{is_err, is_ok, if◌then◌else◌}
+use Rattle.std.specs.Prelude.{OnOk, Option, None, if◌then◌else◌}
+use Rattle.std.specs.Result.{result_err}
 use Rattle.std.specs.List.{list_any}
 use Rattle.std.proofs.lemmas.Bool.{and_parts, eq-eqb, eqb-true, false≢true}
 use Rattle.std.proofs.lemmas.List.{append-nil, drop-drop, drop-set-lt, drop_all, get_or-drop, length-map, length-set, map_push, take_all}
@@ -202,21 +203,21 @@ module _ (mets : List (ℕ × Flaw)) (place : ℕ) (r : Flaw) where
 
 -- ---- the reasons of a run, with one more
 
-module _ (old new : Reasons) (mets : List (ℕ × Flaw)) (place : ℕ) (r : Flaw) (lost : new.lost ≡ old.lost) (h : AreCounted old mets) where
+module _ (old new : Reasons) (mets : List (ℕ × Flaw)) (place : ℕ) (r : Flaw) (same : new.refused ≡ old.refused) (h : AreCounted old mets) where
   abbrev is_kept : List Met → Bool
   is_kept kept = list_any (λ met. is_same met.flaw r) kept
 
   -- one that is kept
   pub counted_known : new.others ≡ old.others → new.kept.items ≡ map (again_if r) old.kept.items → is_kept old.kept.items ≡ true → AreCounted new (mets ++ (place, r) ∷ [])
   counted_known others kept known live =
-      let (is, rest) = h (sym lost ∙ live) in
+      let (is, rest) = h (sym same ∙ live) in
       let among_told : is_kept (told_mets mets) ≡ true = sym (ap is_kept is) ∙ known in
       (kept ∙ ap (map (again_if r)) is ∙ known_kept mets place r among_told, others ∙ rest ∙ known_others mets place r among_told)
 
   -- one of which there is none yet: the others stay
   pub counted_same : new.others ≡ old.others → new.kept.items ≡ map (again_if r) old.kept.items → is_kept old.kept.items ≡ false → AreCounted new mets
   counted_same others kept none live =
-      let (is, rest) = h (sym lost ∙ live) in (kept ∙ not_again r old.kept.items none ∙ is, others ∙ rest)
+      let (is, rest) = h (sym same ∙ live) in (kept ∙ not_again r old.kept.items none ∙ is, others ∙ rest)
 
   pub still_none : new.kept.items ≡ map (again_if r) old.kept.items → is_kept old.kept.items ≡ false → is_kept new.kept.items ≡ false
   still_none kept none = ap is_kept (kept ∙ not_again r old.kept.items none) ∙ none
@@ -225,23 +226,22 @@ module _ (old new : Reasons) (mets : List (ℕ × Flaw)) (place : ℕ) (r : Flaw
   pub counted_full : is_kept old.kept.items ≡ false → most_reasons ≤ length old.kept.items → new.others ≡ seen_more place old.others → new.kept.items ≡ old.kept.items
       → AreCounted new (mets ++ (place, r) ∷ [])
   counted_full none full others kept live =
-      let (is, rest) = h (sym lost ∙ live) in
+      let (is, rest) = h (sym same ∙ live) in
       let not_told : is_kept (told_mets mets) ≡ false = sym (ap is_kept is) ∙ none in
       let no_room : most_reasons ≤ length (told_mets mets) = subst (λ (ms : List Met). most_reasons ≤ length ms) is full in
       (kept ∙ is ∙ full_kept mets place r not_told no_room, others ∙ ap (seen_more place) rest ∙ full_others mets place r not_told no_room)
 
 -- a new one
-pub counted_new : (old new : Reasons) (mets : List (ℕ × Flaw)) (place : ℕ) (r : Flaw) → old.lost ≡ false → AreCounted old mets
+pub counted_new : (old new : Reasons) (mets : List (ℕ × Flaw)) (place : ℕ) (r : Flaw) → old.refused ≡ None → AreCounted old mets
     → list_any (λ met. is_same met.flaw r) old.kept.items ≡ false → length old.kept.items < most_reasons → new.others ≡ old.others
-    → (new.lost ≡ false → new.kept.items ≡ old.kept.items ++ (record { flaw = r; seen = once place }) ∷ []) → AreCounted new (mets ++ (place, r) ∷ [])
+    → (new.refused ≡ None → new.kept.items ≡ old.kept.items ++ (record { flaw = r; seen = once place }) ∷ []) → AreCounted new (mets ++ (place, r) ∷ [])
 counted_new old new mets place r was_live h none room others kept live =
     let (is, rest) = h was_live in
     let not_told : list_any (λ met. is_same met.flaw r) (told_mets mets) ≡ false = sym (ap (list_any (λ met. is_same met.flaw r)) is) ∙ none in
     let has_room : length (told_mets mets) < most_reasons = subst (λ (ms : List Met). length ms < most_reasons) is room in
     (kept live ∙ ap (λ (ms : List Met). ms ++ (record { flaw = r; seen = once place }) ∷ []) is ∙ new_kept mets place r not_told has_room, others ∙ rest ∙ new_others mets place r not_told has_room)
 
--- what was pushed is there, unless memory was refused
-pub pushed : {V E : Type 0} (r : Result V E) (lost : Bool) (old new : List Met) (met : Met) → lost ≡ is_err r → new ≡ (if is_ok r then old ++ met ∷ [] else old)
-    → lost ≡ false → new ≡ old ++ met ∷ []
-pushed (Ok v) lost old new met is items live = items
-pushed (Err e) lost old new met is items live = absurd (false≢true (sym live ∙ is))
+-- what was added is there, unless memory was refused
+pub pushed : {V E P : Type 0} (r : Result V E) (refused : Option E) → refused ≡ result_err r → OnOk r P → refused ≡ None → P
+pushed (Ok v) refused is added live = added
+pushed (Err e) refused is added live = absurd cc

@@ -1,12 +1,15 @@
 -- The summary of a run is that of the verdicts that were shown.
-use Rattle.std.proofs.Common.{◌≡◌, ℕ, List, [], ◌++◌, false, Option, None, Some, Result, Ok, Err, sym, ap, ap₂, subst, ◌∙◌}
-use Rattle.std.specs.Prelude.{IfOk, IfSome}
+use Rattle.std.proofs.Common.{◌≡◌, ℕ, List, [], ◌++◌, Option, None, Some, Result, Ok, Err, sym, ap, ap₂, subst, ◌∙◌}
+use Rattle.std.specs.Prelude.{IfOk, ◌≢◌}
+use Rattle.std.specs.declared.alloc.AllocError.{AllocError}
 use Rattle.std.specs.List.{flat_map}
 use Rattle.dia_dict.specs.Dictionary.{Dictionary}
 use Rattle.dia_policy.specs.declared.Unknown.{Unknown}
 use Rattle.dia_policy.specs.declared.Levels.{Levels}
 use Rattle.dia_io.specs.declared.Input.{Input}
 use Rattle.dia_io.specs.declared.Inputs.{Inputs}
+use Rattle.dia_io.specs.declared.Exit.{Exit}
+use Rattle.dia_io.specs.declared.Exit.TheVariants.{Bad}
 use Rattle.dia_lines.specs.FeedToSink.{AllAnswered}
 use Rattle.dia_lines.specs.Lines.{told_lines}
 use Rattle.dia_lines.proofs.LineNumbers.{without_numbers}
@@ -20,24 +23,25 @@ use Rattle.dia_captures.specs.declared.summaries.Lines.TheVariants as lines
 use Rattle.dia_captures.specs.declared.reasons.Met.{Met}
 use Rattle.dia_captures.specs.declared.tally.Tally.{Tally}
 use Rattle.dia_captures.specs.Counts.{HasCounted, Item, checked_items, placed_items, refuted_items}
-use Rattle.dia_captures.specs.Summaries.{AreInOrder, AreLinesSummed, IsCheckSummary, IsRefuteSummary, IsStreamSummary, IsSummary, first_line, met_line, others_line}
+use Rattle.dia_captures.specs.Summaries.{AreInOrder, AreLinesSummed, IsCheckSummary, IsMade, IsRefuteSummary, IsStreamSummary, IsSummary, first_line, met_line, others_line}
 use Rattle.dia_captures.specs.Verdicts.{IsLineChecked, IsLineRefuted, IsPieceChecked, checked_line, placed_line, refuted_line}
 
 -- ---- none
 
-pub unsummed : {C E T : Type 0} (sum : C → Option T) (r : Result C E) (P : T → Type 0) → IfOk r (λ x. sum x ≡ None) → IfOk r (λ x. IfSome (sum x) P)
-unsummed sum (Ok x) P none = subst (λ s. IfSome s P) (sym none) tt
-unsummed sum (Err e) P none = tt
+pub unsummed : {C E T : Type 0} (sum : C → Option (Result T AllocError)) (exit_of : C → Exit) (r : Result C E) (P : T → Type 0) → IfOk r (λ x. exit_of x ≡ Bad)
+    → IfOk r (λ x. exit_of x ≢ Bad → IsMade (sum x) P)
+unsummed sum exit_of (Ok x) P bad = λ other. absurd (other bad)
+unsummed sum exit_of (Err e) P bad = tt
 
 -- ---- one
 
 module _ {T : Type 0} (text_of : T → List ℕ) (fed_old fed put_old put : Option (List ℕ)) where
   lines_summed : {V W : Type 0} (P : Input → V → Type 0) (told : List V → List ℕ) (items_of : List V → List Item) (d : Dictionary) (l : Lines) (saw : W → List V → Type 0) (w x : W)
-      → AllAnswered P told saw fed_old fed put_old put w x → saw w [] → (sum : Option T)
-      → ((verdicts : List V) → saw x verdicts → IfSome sum (λ text. IsSummary d l (items_of verdicts) (text_of text)))
-      → IfSome sum (λ text. AreLinesSummed P told items_of d l fed_old fed put_old put (text_of text))
-  lines_summed P told items_of d l saw w x h nothing None is = tt
-  lines_summed P told items_of d l saw w x h nothing (Some text) is = record {
+      → AllAnswered P told saw fed_old fed put_old put w x → saw w [] → (sum : Result T AllocError)
+      → ((verdicts : List V) → saw x verdicts → IfOk sum (λ text. IsSummary d l (items_of verdicts) (text_of text)))
+      → IfOk sum (λ text. AreLinesSummed P told items_of d l fed_old fed put_old put (text_of text))
+  lines_summed P told items_of d l saw w x h nothing (Err refused) is = tt
+  lines_summed P told items_of d l saw w x h nothing (Ok text) is = record {
     bytes = h.bytes;
     verdicts = h.verdicts;
     consumed = h.consumed;
@@ -46,17 +50,17 @@ module _ {T : Type 0} (text_of : T → List ℕ) (fed_old fed put_old put : Opti
     summary = is h.verdicts (h.seen [] nothing);
   }
 
-  with_first : (P Q : T → Type 0) (sum : Option T) → ((text : T) → P text → Q text) → IfSome sum P → IfSome sum Q
-  with_first P Q None f h = tt
-  with_first P Q (Some text) f h = f text h
+  with_first : (P Q : T → Type 0) (sum : Result T AllocError) → ((text : T) → P text → Q text) → IfOk sum P → IfOk sum Q
+  with_first P Q (Err refused) f h = tt
+  with_first P Q (Ok text) f h = f text h
 
   module _ (u : Unknown) (most : Levels) (inputs : Inputs) (a : Dictionary) (is_a : IsDictionaryText inputs.first a) where
     pub check_summed : {W : Type 0} (saw : W → List Checked → Type 0) (w x : W)
-        → AllAnswered (IsLineChecked u most a) (told_lines (λ number verdict. checked_line a verdict)) saw fed_old fed put_old put w x → saw w [] → (sum now : Option T) → now ≡ sum
-        → ((verdicts : List Checked) → saw x verdicts → IfSome sum (λ text. IsSummary a lines.Checked (checked_items verdicts) (text_of text)))
-        → IfSome now (λ text. IsCheckSummary u most inputs fed_old fed put_old put (text_of text))
+        → AllAnswered (IsLineChecked u most a) (told_lines (λ number verdict. checked_line a verdict)) saw fed_old fed put_old put w x → saw w [] → (sum : Result T AllocError) (now : Option (Result T AllocError)) → now ≡ Some sum
+        → ((verdicts : List Checked) → saw x verdicts → IfOk sum (λ text. IsSummary a lines.Checked (checked_items verdicts) (text_of text)))
+        → IsMade now (λ text. IsCheckSummary u most inputs fed_old fed put_old put (text_of text))
     check_summed saw w x h nothing sum now same is =
-        subst (λ (s : Option T). IfSome s (λ text. IsCheckSummary u most inputs fed_old fed put_old put (text_of text))) (sym same)
+        subst (λ (s : Option (Result T AllocError)). IsMade s (λ text. IsCheckSummary u most inputs fed_old fed put_old put (text_of text))) (sym same)
         (with_first (λ text. AreLinesSummed (IsLineChecked u most a) (flat_map (checked_line a)) checked_items a lines.Checked fed_old fed put_old put (text_of text))
         (λ text. IsCheckSummary u most inputs fed_old fed put_old put (text_of text)) sum (λ text s. (a, is_a, s))
         (lines_summed (IsLineChecked u most a) (flat_map (checked_line a)) checked_items a lines.Checked saw w x
@@ -64,11 +68,11 @@ module _ {T : Type 0} (text_of : T → List ℕ) (fed_old fed put_old put : Opti
         (without_numbers (checked_line a) 1) h) nothing sum is))
 
     pub refute_summed : (b : Dictionary) → IsDictionaryText inputs.second b → {W : Type 0} (saw : W → List Refuted → Type 0) (w x : W)
-        → AllAnswered (IsLineRefuted u most a b) (told_lines (λ number verdict. refuted_line verdict)) saw fed_old fed put_old put w x → saw w [] → (sum now : Option T) → now ≡ sum
-        → ((verdicts : List Refuted) → saw x verdicts → IfSome sum (λ text. IsSummary a lines.Refuted (refuted_items verdicts) (text_of text)))
-        → IfSome now (λ text. IsRefuteSummary u most inputs fed_old fed put_old put (text_of text))
+        → AllAnswered (IsLineRefuted u most a b) (told_lines (λ number verdict. refuted_line verdict)) saw fed_old fed put_old put w x → saw w [] → (sum : Result T AllocError) (now : Option (Result T AllocError)) → now ≡ Some sum
+        → ((verdicts : List Refuted) → saw x verdicts → IfOk sum (λ text. IsSummary a lines.Refuted (refuted_items verdicts) (text_of text)))
+        → IsMade now (λ text. IsRefuteSummary u most inputs fed_old fed put_old put (text_of text))
     refute_summed b is_b saw w x h nothing sum now same is =
-        subst (λ (s : Option T). IfSome s (λ text. IsRefuteSummary u most inputs fed_old fed put_old put (text_of text))) (sym same)
+        subst (λ (s : Option (Result T AllocError)). IsMade s (λ text. IsRefuteSummary u most inputs fed_old fed put_old put (text_of text))) (sym same)
         (with_first (λ text. AreLinesSummed (IsLineRefuted u most a b) (flat_map refuted_line) refuted_items a lines.Refuted fed_old fed put_old put (text_of text))
         (λ text. IsRefuteSummary u most inputs fed_old fed put_old put (text_of text)) sum (λ text s. (a, b, is_a, is_b, s))
         (lines_summed (IsLineRefuted u most a b) (flat_map refuted_line) refuted_items a lines.Refuted saw w x
@@ -76,16 +80,16 @@ module _ {T : Type 0} (text_of : T → List ℕ) (fed_old fed put_old put : Opti
         (without_numbers refuted_line 1) h) nothing sum is))
 
     pub stream_summed : {W : Type 0} (saw : W → List (ℕ × Checked) → Type 0) (w x : W)
-        → AllTold (IsPieceChecked u most a) (placed_line a) saw fed_old fed put_old put w x → saw w [] → (sum now : Option T) → now ≡ sum
-        → ((verdicts : List (ℕ × Checked)) → saw x verdicts → IfSome sum (λ text. IsSummary a lines.Placed (placed_items verdicts) (text_of text)))
-        → IfSome now (λ text. IsStreamSummary u most inputs fed_old fed put_old put (text_of text))
+        → AllTold (IsPieceChecked u most a) (placed_line a) saw fed_old fed put_old put w x → saw w [] → (sum : Result T AllocError) (now : Option (Result T AllocError)) → now ≡ Some sum
+        → ((verdicts : List (ℕ × Checked)) → saw x verdicts → IfOk sum (λ text. IsSummary a lines.Placed (placed_items verdicts) (text_of text)))
+        → IsMade now (λ text. IsStreamSummary u most inputs fed_old fed put_old put (text_of text))
     stream_summed saw w x h nothing sum now same is =
-        subst (λ (s : Option T). IfSome s (λ text. IsStreamSummary u most inputs fed_old fed put_old put (text_of text))) (sym same) (by sum is)
+        subst (λ (s : Option (Result T AllocError)). IsMade s (λ text. IsStreamSummary u most inputs fed_old fed put_old put (text_of text))) (sym same) (by sum is)
       where
-        by : (s : Option T) → ((verdicts : List (ℕ × Checked)) → saw x verdicts → IfSome s (λ text. IsSummary a lines.Placed (placed_items verdicts) (text_of text)))
-            → IfSome s (λ text. IsStreamSummary u most inputs fed_old fed put_old put (text_of text))
-        by None sums = tt
-        by (Some text) sums = record {
+        by : (s : Result T AllocError) → ((verdicts : List (ℕ × Checked)) → saw x verdicts → IfOk s (λ text. IsSummary a lines.Placed (placed_items verdicts) (text_of text)))
+            → IfOk s (λ text. IsStreamSummary u most inputs fed_old fed put_old put (text_of text))
+        by (Err refused) sums = tt
+        by (Ok text) sums = record {
           d = a;
           read = h.read;
           verdicts = h.verdicts;
@@ -98,7 +102,7 @@ module _ {T : Type 0} (text_of : T → List ℕ) (fed_old fed put_old put : Opti
 
 -- ---- its text
 
-pub summary_of : (d : Dictionary) (l : Lines) (tally : Tally) (items : List Item) (told : List Met) (a b c : List ℕ) → HasCounted tally items → tally.reasons.lost ≡ false
+pub summary_of : (d : Dictionary) (l : Lines) (tally : Tally) (items : List Item) (told : List Met) (a b c : List ℕ) → HasCounted tally items → tally.reasons.refused ≡ None
     → AreInOrder tally.reasons.kept.items told → a ≡ first_line l tally.yes tally.all → b ≡ a ++ flat_map (met_line d l) told
     → c ≡ b ++ others_line l tally.reasons.others → IsSummary d l items c
 summary_of d l tally items told a b c h live order is_a is_b is_c =

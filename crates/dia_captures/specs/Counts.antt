@@ -106,7 +106,7 @@ again_if r met = if is_same met.flaw r then (record { flaw = met.flaw; seen = ag
 
 -- these were met, unless memory was refused
 abbrev pub AreCounted : Reasons → List (ℕ × Flaw) → Type 0
-AreCounted reasons mets = reasons.lost ≡ false → (reasons.kept.items ≡ told_mets mets) × (reasons.others ≡ others_seen mets)
+AreCounted reasons mets = reasons.refused ≡ None → (reasons.kept.items ≡ told_mets mets) × (reasons.others ≡ others_seen mets)
 
 -- ---- verdicts
 

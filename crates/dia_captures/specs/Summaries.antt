@@ -1,10 +1,11 @@
 -- The summary of a run: how many messages are valid or refute, and the reasons of the others, how often and where first.
-use Rattle.std.specs.Prelude.{◌≡◌, ℕ, ◌-◌, List, [], ◌++◌, length, Option, None, Some, codes}
+use Rattle.std.specs.Prelude.{◌≡◌, ℕ, ◌-◌, List, [], ◌++◌, length, Option, None, Some, Result, IfOk, IsSomeAnd, codes}
 use Rattle.std.specs.List.{flat_map}
 use Rattle.std.specs.List.Sorted.{IsPermutation, IsNonDecreasingBy, IsStableByKey}
 use Rattle.std.specs.Ordering.{nat_cmp}
 use Rattle.std.specs.Fmt.{decimal}
 use Rattle.std.specs.Io.KnownBytes.{Appends, Consumes}
+use Rattle.std.specs.declared.alloc.AllocError.{AllocError}
 use Rattle.dia_dict.specs.Dictionary.{Dictionary}
 use Rattle.dia_policy.specs.declared.Unknown.{Unknown}
 use Rattle.dia_policy.specs.declared.Levels.{Levels}
@@ -25,6 +26,10 @@ use Rattle.dia_captures.specs.declared.summaries.Lines.{Lines}
 use Rattle.dia_captures.specs.declared.summaries.Lines.TheVariants as lines
 use Rattle.dia_captures.specs.Counts.{Item, checked_items, counted, mets_of, most_counted, others_seen, placed_items, refuted_items, told_mets, yes_of}
 use Rattle.dia_captures.specs.Verdicts.{IsLineChecked, IsLineRefuted, IsPieceChecked, checked_line, flaw_text, placed_line, refuted_line}
+
+-- it was made, and this holds of it, unless memory was refused to it
+abbrev pub IsMade : {T : Type 0} → Option (Result T AllocError) → (T → Type 0) → Type 0
+IsMade summary P = IsSomeAnd summary (λ made. IfOk made P)
 
 -- ---- the text
 

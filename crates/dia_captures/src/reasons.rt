@@ -1,11 +1,11 @@
 //! The reasons why messages aren't valid, counted.
 
-ghost use Rattle.std.specs.Prelude.{◌≡◌, map, Some};
+ghost use Rattle.std.specs.Prelude.{◌≡◌, ◌++◌, ◌∷◌, [], map, OnOk, Some};
 ghost use Rattle.std.specs.List.{list_any};
 ghost use Rattle.dia_captures.specs.Counts.{again_if, is_same, seen_more};
 
 use crate::verdicts::Flaw;
-use std::alloc::Global;
+use std::alloc::{AllocError, Global};
 
 /// How many reasons are told by themselves. All others are counted together.
 const MOST_REASONS: usize = 100;
@@ -31,8 +31,8 @@ pub struct Reasons {
     pub kept: Vec<Met>,
     /// All others.
     pub others: Option<Seen>,
-    /// Memory was refused, and nothing was counted since.
-    pub lost: bool,
+    /// Memory was refused to them, and nothing was counted since.
+    pub refused: Option<AllocError>,
 }
 
 impl Seen {
@@ -78,7 +78,7 @@ impl Met {
 }
 
 impl Reasons {
-    ghost use Rattle.std.specs.Prelude.{◌≡◌, ◌++◌, ◌∷◌, List, [], ℕ, Option, false};
+    ghost use Rattle.std.specs.Prelude.{◌≡◌, ◌++◌, ◌∷◌, List, [], ℕ, Option, None, false};
     ghost use Rattle.std.specs.List.{list_any};
     ghost use Rattle.dia_captures.specs.declared.verdicts.Flaw.{Flaw as AnyFlaw};
     ghost use Rattle.dia_captures.specs.Counts.{AreCounted, is_same, mets_at};
@@ -90,7 +90,7 @@ impl Reasons {
         Reasons {
             kept: Vec::new(alloc),
             others: None,
-            lost: false,
+            refused: None,
         }
     }
 
@@ -109,7 +109,7 @@ impl Reasons {
         ensures { (mets : List (ℕ × AnyFlaw)) → AreCounted self.old mets
             → AreCounted self.new (mets ++ (place, reason.now) ∷ []) }
     {
-        if self.lost {
+        if self.refused.is_some() {
             return;
         }
         if !count_again(&mut self.kept, reason) {
@@ -119,7 +119,7 @@ impl Reasons {
 
     /// Counts a reason that isn't kept.
     fn add_new(&mut self, place: u64, reason: &Flaw)
-        ensures { (mets : List (ℕ × AnyFlaw)) → self.old.lost ≡ false → AreCounted self.old mets
+        ensures { (mets : List (ℕ × AnyFlaw)) → self.old.refused ≡ None → AreCounted self.old mets
             → list_any (λ met. is_same met.flaw reason.now) self.old.kept.items ≡ false
             → AreCounted self.new (mets ++ (place, reason.now) ∷ []) }
     {
@@ -128,11 +128,19 @@ impl Reasons {
                 flaw: *reason,
                 seen: Seen::once(place),
             };
-            self.lost = self.kept.push(met).is_err();
+            self.refused = push_new(&mut self.kept, met).err();
         } else {
             self.others = Some(more(self.others, place));
         }
     }
+}
+
+/// Adds a reason that isn't kept.
+fn push_new(kept: &mut Vec<Met>, met: Met) -> Result<(), AllocError>
+    ensures { OnOk result (kept.new.items ≡ kept.old.items ++ met ∷ []) }
+{
+    kept.push(met)?;
+    Ok(())
 }
 
 /// Counts a reason among those that are kept. `false` where it is none of them.

@@ -12,7 +12,7 @@ ghost use Rattle.dia_run.specs.Texts.{line};
 ghost use Rattle.dia_report.specs.Refusals.{TellsOf};
 ghost use Rattle.dia_captures.specs.Lines.{AreLinesAnswered, IsFrontPut, OfLine, checks, refutations, text_of};
 ghost use Rattle.dia_captures.specs.Streams.{IsStreamAnswered, IsStreamFrontPut, OfMessage, placed};
-ghost use Rattle.dia_captures.specs.Summaries.{IsCheckSummary, IsRefuteSummary, IsStreamSummary};
+ghost use Rattle.dia_captures.specs.Summaries.{IsCheckSummary, IsMade, IsRefuteSummary, IsStreamSummary};
 
 use crate::judges::{CheckJudge, RefuteJudge};
 use crate::summaries::Lines;
@@ -23,29 +23,29 @@ use dia_lines::{LinesFault, answer_lines};
 use dia_report::{Answered, Refused, Report, Reported};
 use dia_run::{answer_of, read_dictionary};
 use dia_streams::answer_stream;
-use std::alloc::Global;
+use std::alloc::{AllocError, Global};
 
 /// How a command over many messages ended.
 #[derive(Drop)]
 pub struct Captured {
     pub reported: Reported,
-    /// How many messages are valid, or refute, and the reasons why others aren't valid. None where a dictionary is refused, or
-    /// where memory was refused for it.
-    pub summary: Option<String>,
+    /// How many messages are valid, or refute, and the reasons why others aren't valid, unless memory was refused to it. None
+    /// where a dictionary is refused.
+    pub summary: Option<Result<String, AllocError>>,
 }
 
 impl Captured {
     /// How a command ended whose messages were read: yes or no.
-    pub fn ended(yes: bool, summary: Option<String>) -> Self
+    pub fn ended(yes: bool, summary: Result<String, AllocError>) -> Self
         ensures exit { result.reported.exit ≡ (if yes then Exit.Yes else Exit.No) }
-        ensures summary { result.summary ≡ summary }
+        ensures summary { result.summary ≡ Some summary }
         ensures report { result.reported.report ≡ Report.Done }
     {
         let exit = if yes { Exit::Yes } else { Exit::No };
         let report = Report::Done;
         Captured {
             reported: Reported { exit, report },
-            summary,
+            summary: Some(summary),
         }
     }
 }
@@ -67,7 +67,7 @@ pub fn check_lines<F: Feed, S: Sink>(
     ensures all { IfOk result
         (λ captured. captured.reported.exit ≢ Exit.Bad → IsAtEnd (F.remaining feed.new)) }
     ensures unread { IfOk result (λ captured. captured.reported.exit ≡ Exit.Bad → feed.new ≡ feed.old) }
-    ensures summary { IfOk result (λ captured. IfSome captured.summary
+    ensures summary { IfOk result (λ captured. captured.reported.exit ≢ Exit.Bad → IsMade captured.summary
         (λ text. IsCheckSummary unknown levels inputs.now (F.remaining feed.old) (F.remaining feed.new)
         (S.written sink.old) (S.written sink.new) (string_bytes text))) }
     ensures no_summary { IfOk result
@@ -117,7 +117,7 @@ pub fn refute_lines<F: Feed, S: Sink>(
     ensures all { IfOk result
         (λ captured. captured.reported.exit ≢ Exit.Bad → IsAtEnd (F.remaining feed.new)) }
     ensures unread { IfOk result (λ captured. captured.reported.exit ≡ Exit.Bad → feed.new ≡ feed.old) }
-    ensures summary { IfOk result (λ captured. IfSome captured.summary
+    ensures summary { IfOk result (λ captured. captured.reported.exit ≢ Exit.Bad → IsMade captured.summary
         (λ text. IsRefuteSummary unknown levels inputs.now (F.remaining feed.old) (F.remaining feed.new)
         (S.written sink.old) (S.written sink.new) (string_bytes text))) }
     ensures no_summary { IfOk result
@@ -172,7 +172,7 @@ pub fn check_stream<F: Feed, S: Sink>(
         (F.remaining feed.old) (F.remaining feed.new) (S.written sink.old) (S.written sink.new)
         captured.reported.exit) }
     ensures unread { IfOk result (λ captured. captured.reported.exit ≡ Exit.Bad → feed.new ≡ feed.old) }
-    ensures summary { IfOk result (λ captured. IfSome captured.summary
+    ensures summary { IfOk result (λ captured. captured.reported.exit ≢ Exit.Bad → IsMade captured.summary
         (λ text. IsStreamSummary unknown levels inputs.now (F.remaining feed.old) (F.remaining feed.new)
         (S.written sink.old) (S.written sink.new) (string_bytes text))) }
     ensures no_summary { IfOk result

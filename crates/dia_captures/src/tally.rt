@@ -23,7 +23,7 @@ pub struct Tally {
 }
 
 impl Tally {
-    ghost use Rattle.std.specs.Prelude.{◌≡◌, ◌+◌, ◌++◌, ◌∷◌, List, [], IfOk, IfSome, length, string_bytes, false, unwrap_or};
+    ghost use Rattle.std.specs.Prelude.{◌≡◌, ◌+◌, ◌++◌, ◌∷◌, List, [], IfOk, None, length, string_bytes, unwrap_or};
     ghost use Rattle.dia_captures.specs.Counts.{HasCounted, Item, counted};
     ghost use Rattle.dia_captures.specs.Summaries.{IsSummary};
 
@@ -50,16 +50,21 @@ impl Tally {
         self.reasons.see(place.unwrap_or(self.all), flaw);
     }
 
-    /// How many of how many messages are valid, or refute, and a line for each reason, the most frequent first. `None` where
-    /// memory was refused.
-    pub fn summary<B: Book>(self, alloc: Global, book: &B, lines: Lines) -> Option<String>
+    /// How many of how many messages are valid, or refute, and a line for each reason, the most frequent first, unless memory
+    /// was refused to it.
+    pub fn summary<B: Book>(
+        self,
+        alloc: Global,
+        book: &B,
+        lines: Lines,
+    ) -> Result<String, AllocError>
         ensures { (items : List Item) → HasCounted self items
-            → IfSome result (λ text. IsSummary (B.meaning book.now) lines items (string_bytes text)) }
+            → IfOk result (λ text. IsSummary (B.meaning book.now) lines items (string_bytes text)) }
     {
-        if self.reasons.lost {
-            return None;
+        match self.reasons.refused {
+            Some(refused) => Err(refused),
+            None => self.write_summary(alloc, book, lines),
         }
-        self.write_summary(alloc, book, lines).ok()
     }
 
     fn write_summary<B: Book>(
@@ -68,7 +73,7 @@ impl Tally {
         book: &B,
         lines: Lines,
     ) -> Result<String, AllocError>
-        ensures { (items : List Item) → HasCounted self items → self.reasons.lost ≡ false
+        ensures { (items : List Item) → HasCounted self items → self.reasons.refused ≡ None
             → IfOk result (λ text. IsSummary (B.meaning book.now) lines items (string_bytes text)) }
     {
         let mut text = String::new(alloc);

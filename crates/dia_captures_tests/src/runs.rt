@@ -34,8 +34,8 @@ pub fn runs(rt: &(impl AllocGlobal + Abort), run: Run, text: &str, put: &str, su
 
 fn is_summary(captured: &Captured, wanted: &str) -> bool {
     match &captured.summary {
-        Some(summary) => summary.as_str() == wanted,
-        None => false,
+        Some(Ok(summary)) => summary.as_str() == wanted,
+        _ => false,
     }
 }
 

@@ -93,7 +93,7 @@ fn show<O: Write, E: Sink>(
 }
 
 /// Tells an ending on standard error, and answers the status.
-fn tell_error<S: Sink>(alloc: Global, ending: &Ending<'_>, err: &mut S) -> u8
+pub fn tell_error<S: Sink>(alloc: Global, ending: &Ending<'_>, err: &mut S) -> u8
     requires { ¬ IsTrue (S.has_failed err.old) }
     ensures { IsTold ending.now
         (stream (S.written err.old) (S.written err.new) (S.has_failed err.new)) result }

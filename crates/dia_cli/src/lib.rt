@@ -17,7 +17,8 @@
 //! assert!(rt; sink.writer.as_slice() == b"truncated\n".as_slice());
 //! ```
 //!
-//! An `Ending` says why there is no outcome. `finish` prints it, and answers the status of the process.
+//! An `Ending` says why there is no outcome. `finish` prints it, and answers the status of the process: help on standard output,
+//! and any other on standard error, as `tell_error` does.
 #![tactic(auto)]
 
 mod apart;
@@ -36,7 +37,7 @@ mod values;
 
 pub use apart::Apart;
 pub use arguments::parse_words;
-pub use ending::{Ending, finish};
+pub use ending::{Ending, finish, tell_error};
 pub use opened_inputs::open_inputs;
 pub use opener::{OfProcess, Opener};
 pub use origin::{BASE_DICTIONARY, Origin, Origins, STANDARD_INPUT};

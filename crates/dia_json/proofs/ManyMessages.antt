@@ -1,6 +1,7 @@
 -- Runs over many messages.
 use Rattle.std.proofs.Common.{◌≡◌, ◌≢◌, ◌⊎◌, ℕ, List, [], Option, None, Some, Result, Ok, Err, map, refl, sym, ap, subst, ◌∙◌, inl, inr}
-use Rattle.std.specs.Prelude.{IfSome, IsErr}
+use Rattle.std.specs.Prelude.{IfOk, IsErr}
+use Rattle.std.specs.declared.alloc.AllocError.{AllocError}
 use Rattle.std.specs.Io.KnownBytes.{Appends}
 use Rattle.std.proofs.KnownBytes.{Appends-nil, Consumes-nil}
 use Rattle.std.proofs.lemmas.Bool.{false≢true}
@@ -26,7 +27,7 @@ use Rattle.dia_captures.specs.declared.verdicts.Checked.{Checked}
 use Rattle.dia_captures.specs.Counts.{Item, placed_items}
 use Rattle.dia_captures.specs.Ending.{ended_of}
 use Rattle.dia_captures.specs.Lines.{checks}
-use Rattle.dia_captures.specs.Summaries.{AreLinesSummed, IsSummary}
+use Rattle.dia_captures.specs.Summaries.{AreLinesSummed, IsMade, IsSummary}
 use Rattle.dia_captures.specs.Verdicts.{IsPieceChecked, checked_exit}
 use Rattle.dia_json.specs.Runs.{AreLinesTold, IsNothing, IsRefusalFront, IsRefusalPut, IsStreamPut, StreamSummary}
 use Rattle.dia_refused_json.specs.Telling.{TellsBad}
@@ -75,14 +76,14 @@ module _ {V W : Type 0} (P : Input → V → Type 0) (told : List V → List ℕ
   }
 
   pub lines_summed : {T : Type 0} (text_of : T → List ℕ) (items_of : List V → List Item) (d : Dictionary) (l : Lines) (S : List ℕ → Type 0)
-      → ((text : List ℕ) → AreLinesSummed P told items_of d l fed_old fed put_old put text → S text) → (sum now : Option T) → now ≡ sum
-      → ((verdicts : List V) → saw x verdicts → IfSome sum (λ text. IsSummary d l (items_of verdicts) (text_of text))) → IfSome now (λ text. S (text_of text))
-  lines_summed {T} text_of items_of d l S whole sum now same is = subst (λ (s : Option T). IfSome s (λ text. S (text_of text))) (sym same) (by sum is)
+      → ((text : List ℕ) → AreLinesSummed P told items_of d l fed_old fed put_old put text → S text) → (sum : Result T AllocError) (now : Option (Result T AllocError)) → now ≡ Some sum
+      → ((verdicts : List V) → saw x verdicts → IfOk sum (λ text. IsSummary d l (items_of verdicts) (text_of text))) → IsMade now (λ text. S (text_of text))
+  lines_summed {T} text_of items_of d l S whole sum now same is = subst (λ (s : Option (Result T AllocError)). IsMade s (λ text. S (text_of text))) (sym same) (by sum is)
     where
-      by : (s : Option T) → ((verdicts : List V) → saw x verdicts → IfSome s (λ text. IsSummary d l (items_of verdicts) (text_of text)))
-          → IfSome s (λ text. S (text_of text))
-      by None sums = tt
-      by (Some text) sums = whole (text_of text) (record {
+      by : (s : Result T AllocError) → ((verdicts : List V) → saw x verdicts → IfOk s (λ text. IsSummary d l (items_of verdicts) (text_of text)))
+          → IfOk s (λ text. S (text_of text))
+      by (Err refused) sums = tt
+      by (Ok text) sums = whole (text_of text) (record {
         bytes = h.bytes;
         verdicts = h.verdicts;
         consumed = h.consumed;
@@ -107,16 +108,16 @@ module _ {W : Type 0} (u : Unknown) (most : Levels) (d : Dictionary) (saw : W �
     is_exit = is ∙ ap (checks u most).exit_of (counts h.verdicts (h.seen [] nothing_seen));
   }
 
-  pub stream_summed : {T : Type 0} (text_of : T → List ℕ) (inputs : Inputs) → IsDictionaryText inputs.first d → (sum now : Option T) → now ≡ sum
-      → ((verdicts : List (ℕ × Checked)) → saw x verdicts → IfSome sum (λ text. IsSummary d lines.Placed (placed_items verdicts) (text_of text)))
-      → IfSome now (λ text. StreamSummary u most inputs fed_old fed put_old put (text_of text))
+  pub stream_summed : {T : Type 0} (text_of : T → List ℕ) (inputs : Inputs) → IsDictionaryText inputs.first d → (sum : Result T AllocError) (now : Option (Result T AllocError)) → now ≡ Some sum
+      → ((verdicts : List (ℕ × Checked)) → saw x verdicts → IfOk sum (λ text. IsSummary d lines.Placed (placed_items verdicts) (text_of text)))
+      → IsMade now (λ text. StreamSummary u most inputs fed_old fed put_old put (text_of text))
   stream_summed {T} text_of inputs is_d sum now same is =
-      subst (λ (s : Option T). IfSome s (λ text. StreamSummary u most inputs fed_old fed put_old put (text_of text))) (sym same) (by sum is)
+      subst (λ (s : Option (Result T AllocError)). IsMade s (λ text. StreamSummary u most inputs fed_old fed put_old put (text_of text))) (sym same) (by sum is)
     where
-      by : (s : Option T) → ((verdicts : List (ℕ × Checked)) → saw x verdicts → IfSome s (λ text. IsSummary d lines.Placed (placed_items verdicts) (text_of text)))
-          → IfSome s (λ text. StreamSummary u most inputs fed_old fed put_old put (text_of text))
-      by None sums = tt
-      by (Some text) sums = record {
+      by : (s : Result T AllocError) → ((verdicts : List (ℕ × Checked)) → saw x verdicts → IfOk s (λ text. IsSummary d lines.Placed (placed_items verdicts) (text_of text)))
+          → IfOk s (λ text. StreamSummary u most inputs fed_old fed put_old put (text_of text))
+      by (Err refused) sums = tt
+      by (Ok text) sums = record {
         d = d;
         read = h.read;
         verdicts = h.verdicts;

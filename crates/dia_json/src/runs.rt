@@ -2,11 +2,12 @@
 
 ghost use Rattle.std.specs.Prelude.{◌≡◌, ◌≢◌, ◌↔◌, ◌≤◌, ◌⊎◌, [], length, List, ℕ};
 ghost use Rattle.std.specs.Prelude.{Err, IfOk, IfSome, IsErr, IsTrue, None, string_bytes};
-ghost use Rattle.std.specs.Io.KnownBytes.{Appends};
+ghost use Rattle.std.specs.Io.KnownBytes.{Appends, IsAtEnd};
 ghost use Rattle.dia_io.specs.Writing.{AppendsFront};
 ghost use Rattle.dia_lines.specs.declared.fault.LinesFault.TheVariants.{NoMemory, Device, Endless};
 ghost use Rattle.dia_lines.specs.FeedToSink.{most_pieces};
 ghost use Rattle.dia_streams.specs.Streams.{most_places};
+ghost use Rattle.dia_captures.specs.Summaries.{IsMade};
 ghost use Rattle.dia_json.specs.Runs.{ChecksFront, ChecksLines, ChecksStream, ChecksSummary, ChecksWhole};
 ghost use Rattle.dia_json.specs.Runs.{RefutesFront, RefutesLines, RefutesSummary, RefutesWhole};
 ghost use Rattle.dia_json.specs.Runs.{StreamFront, StreamSummary, StreamWhole};
@@ -37,8 +38,10 @@ pub fn check_lines<F: Feed, S: Sink>(
     ensures told { IfOk result (λ captured. ChecksLines unknown levels inputs.now
         (F.remaining feed.old) (F.remaining feed.new) (S.written sink.old) (S.written sink.new)
         captured.reported.exit) }
+    ensures all { IfOk result
+        (λ captured. captured.reported.exit ≢ Exit.Bad → IsAtEnd (F.remaining feed.new)) }
     ensures unread { IfOk result (λ captured. captured.reported.exit ≡ Exit.Bad → feed.new ≡ feed.old) }
-    ensures summary { IfOk result (λ captured. IfSome captured.summary
+    ensures summary { IfOk result (λ captured. captured.reported.exit ≢ Exit.Bad → IsMade captured.summary
         (λ text. ChecksSummary unknown levels inputs.now (F.remaining feed.old) (F.remaining feed.new)
         (S.written sink.old) (S.written sink.new) (string_bytes text))) }
     ensures no_summary { IfOk result
@@ -87,8 +90,10 @@ pub fn refute_lines<F: Feed, S: Sink>(
     ensures told { IfOk result (λ captured. RefutesLines unknown levels inputs.now
         (F.remaining feed.old) (F.remaining feed.new) (S.written sink.old) (S.written sink.new)
         captured.reported.exit) }
+    ensures all { IfOk result
+        (λ captured. captured.reported.exit ≢ Exit.Bad → IsAtEnd (F.remaining feed.new)) }
     ensures unread { IfOk result (λ captured. captured.reported.exit ≡ Exit.Bad → feed.new ≡ feed.old) }
-    ensures summary { IfOk result (λ captured. IfSome captured.summary
+    ensures summary { IfOk result (λ captured. captured.reported.exit ≢ Exit.Bad → IsMade captured.summary
         (λ text. RefutesSummary unknown levels inputs.now (F.remaining feed.old) (F.remaining feed.new)
         (S.written sink.old) (S.written sink.new) (string_bytes text))) }
     ensures no_summary { IfOk result
@@ -146,7 +151,7 @@ pub fn check_stream<F: Feed, S: Sink>(
         (F.remaining feed.old) (F.remaining feed.new) (S.written sink.old) (S.written sink.new)
         captured.reported.exit) }
     ensures unread { IfOk result (λ captured. captured.reported.exit ≡ Exit.Bad → feed.new ≡ feed.old) }
-    ensures summary { IfOk result (λ captured. IfSome captured.summary
+    ensures summary { IfOk result (λ captured. captured.reported.exit ≢ Exit.Bad → IsMade captured.summary
         (λ text. StreamSummary unknown levels inputs.now (F.remaining feed.old) (F.remaining feed.new)
         (S.written sink.old) (S.written sink.new) (string_bytes text))) }
     ensures no_summary { IfOk result

@@ -40,10 +40,12 @@ IsReadOut feed exit = exit ≢ Bad → IsAtEnd feed.new
 abbrev pub ArePut : Lines → Bool → Unknown → Levels → Inputs → Fed → Stream → Exit → Type 0
 ArePut Checked false u most inputs feed out exit =
     AreLinesAnswered (checks u most) inputs feed.old feed.new out.old out.new exit × IsReadOut feed exit
-ArePut Checked true u most inputs feed out exit = ChecksLines u most inputs feed.old feed.new out.old out.new exit
+ArePut Checked true u most inputs feed out exit =
+    ChecksLines u most inputs feed.old feed.new out.old out.new exit × IsReadOut feed exit
 ArePut Refuted false u most inputs feed out exit =
     AreLinesAnswered (refutations u most) inputs feed.old feed.new out.old out.new exit × IsReadOut feed exit
-ArePut Refuted true u most inputs feed out exit = RefutesLines u most inputs feed.old feed.new out.old out.new exit
+ArePut Refuted true u most inputs feed out exit =
+    RefutesLines u most inputs feed.old feed.new out.old out.new exit × IsReadOut feed exit
 ArePut Placed false u most inputs feed out exit = IsStreamAnswered u most inputs feed.old feed.new out.old out.new exit
 ArePut Placed true u most inputs feed out exit = ChecksStream u most inputs feed.old feed.new out.old out.new exit
 

@@ -47,11 +47,7 @@ pub fn answer_as_json<'a, W: Write>(
 }
 
 /// The answer of a command as JSON.
-fn made_as_json(
-    alloc: Global,
-    command: &Command,
-    inputs: &Inputs,
-) -> Result<Answered, AllocError>
+fn made_as_json(alloc: Global, command: &Command, inputs: &Inputs) -> Result<Answered, AllocError>
     ensures { IfOk result (λ answered. IsJson command.now inputs.now
         (string_bytes answered.text) answered.exit) }
 {

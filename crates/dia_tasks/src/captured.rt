@@ -244,7 +244,7 @@ fn tell<R: AllocGlobal + Eprint>(
     if matches!(captured.reported.exit, Exit::Bad) {
         return;
     }
-    if let Some(text) = &captured.summary {
+    if let Some(Ok(text)) = &captured.summary {
         let _ = rt.eprint(text);
     }
     tell_front(rt, name, lines, front);

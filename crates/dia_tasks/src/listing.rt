@@ -73,7 +73,16 @@ where
         },
         _ => {
             let reader = opener.standard_input();
-            list(rt, names, inputs, origins, quiet, reader, STANDARD_INPUT, out)
+            list(
+                rt,
+                names,
+                inputs,
+                origins,
+                quiet,
+                reader,
+                STANDARD_INPUT,
+                out,
+            )
         }
     }
 }

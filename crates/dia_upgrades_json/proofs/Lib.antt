@@ -1,3 +1,3 @@
-mod Forms
+pub mod Forms
 mod Reports
 mod Written

@@ -59,13 +59,13 @@ returns-clause-answered g c =
     c.new-tally.ensures (λ verdicts counted. counted.ended ∙ ap ended_of (exits_in_lines checked_exit checked_flaw 1 verdicts))
 
 pub returns-in-Err-clause-summary : goal.returns-in-Err-clause-summary
-returns-in-Err-clause-summary g c = unsummed (λ (x : Captured). x.summary) c.refuse.result _ c.refuse.ensures.summary
+returns-in-Err-clause-summary g c = unsummed (λ (x : Captured). x.summary) (λ (x : Captured). x.reported.exit) c.refuse.result _ c.refuse.ensures.exit
 
 pub returns-in-Err-clause-no_summary : goal.returns-in-Err-clause-no_summary
 returns-in-Err-clause-no_summary g c = IfOk-weaker c.refuse.result _ _ (λ captured none bad. none) c.refuse.ensures.summary
 
 pub returns-clause-summary : goal.returns-clause-summary
-returns-clause-summary g c =
+returns-clause-summary g c = λ _.
     check_summed string_bytes _ _ _ _ c.args.unknown c.args.levels c.args.inputs.now _ (rw (← c.deref.ensures) at c.in-Ok.ensures.book) _ c.new-tally.result c.answer_lines.new.watch
     c.in_ok-answer_lines.ensures.answered c.new-tally.ensures c.summary.result c.ended.result.summary c.ended.ensures.summary
     (λ verdicts counted. c.summary.ensures (checked_items verdicts) counted)

@@ -29,7 +29,7 @@ returns-in-Err-clause-no_memory g c = λ is. refusal_whole (RefusedDictionary c.
     (dictionary_refused (RefusesFirst c.args.inputs.now) c.args.inputs.now.first c.in-Err.refused c.in-Err.ensures.told c.in-Err.ensures.kept) (g.F.Feed.remaining c.args.feed.now) (g.S.Sink.written c.args.sink.now) (g.S.Sink.written c.put_refusal.new.sink) (c.put_refusal.ensures.nothing is)
 
 pub returns-in-Err-clause-summary : goal.returns-in-Err-clause-summary
-returns-in-Err-clause-summary g c = unsummed (λ (x : Captured). x.summary) c.put_refusal.result _ c.put_refusal.ensures.summary
+returns-in-Err-clause-summary g c = unsummed (λ (x : Captured). x.summary) (λ (x : Captured). x.reported.exit) c.put_refusal.result _ c.put_refusal.ensures.exit
 
 pub returns-in-Err-clause-no_summary : goal.returns-in-Err-clause-no_summary
 returns-in-Err-clause-no_summary g c = IfOk-weaker c.put_refusal.result _ _ (λ captured none bad. none) c.put_refusal.ensures.summary
@@ -57,6 +57,6 @@ returns-clause-told g c =
     )
 
 pub returns-clause-summary : goal.returns-clause-summary
-returns-clause-summary g c =
+returns-clause-summary g c = λ _.
     stream_summed c.args.unknown c.args.levels _ _ _ _ _ _ c.new-tally.result c.answer_stream.new.watch c.in_ok-answer_stream.ensures.told c.new-tally.ensures string_bytes c.args.inputs.now
     (rw (← c.deref.ensures) at c.in-Ok.ensures.book) c.summary.result c.ended.result.summary c.ended.ensures.summary (λ verdicts counted. c.summary.ensures (placed_items verdicts) counted)

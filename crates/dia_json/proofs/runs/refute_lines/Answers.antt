@@ -33,7 +33,7 @@ returns-in-Err-clause-no_memory g c = λ is. refusal_whole (RefusedDictionaries 
     (λ text exit is. inl (dictionary_refused (RefusesFirst c.args.inputs.now) c.args.inputs.now.first c.in-Err.refused c.in-Err.ensures.told c.in-Err.ensures.kept text exit is)) (g.F.Feed.remaining c.args.feed.now) (g.S.Sink.written c.args.sink.now) (g.S.Sink.written c.put_refusal.new.sink) (c.put_refusal.ensures.nothing is)
 
 pub returns-in-Err-clause-summary : goal.returns-in-Err-clause-summary
-returns-in-Err-clause-summary g c = unsummed (λ (x : Captured). x.summary) c.put_refusal.result _ c.put_refusal.ensures.summary
+returns-in-Err-clause-summary g c = unsummed (λ (x : Captured). x.summary) (λ (x : Captured). x.reported.exit) c.put_refusal.result _ c.put_refusal.ensures.exit
 
 pub returns-in-Err-clause-no_summary : goal.returns-in-Err-clause-no_summary
 returns-in-Err-clause-no_summary g c = IfOk-weaker c.put_refusal.result _ _ (λ captured none bad. none) c.put_refusal.ensures.summary
@@ -57,7 +57,7 @@ returns-in-Err-read_dictionary-clause-no_memory g c = λ is. refusal_whole (Refu
     (second_refused c.args.inputs.now _ c.in-Err-read_dictionary.refused c.in-Ok.ensures.book c.in-Err-read_dictionary.ensures.told) c.in-Err-read_dictionary.ensures.kept text exit is)) (g.F.Feed.remaining c.args.feed.now) (g.S.Sink.written c.args.sink.now) (g.S.Sink.written c.put_refusal-in-Err-read_dictionary.new.sink) (c.put_refusal-in-Err-read_dictionary.ensures.nothing is)
 
 pub returns-in-Err-read_dictionary-clause-summary : goal.returns-in-Err-read_dictionary-clause-summary
-returns-in-Err-read_dictionary-clause-summary g c = unsummed (λ (x : Captured). x.summary) c.put_refusal-in-Err-read_dictionary.result _ c.put_refusal-in-Err-read_dictionary.ensures.summary
+returns-in-Err-read_dictionary-clause-summary g c = unsummed (λ (x : Captured). x.summary) (λ (x : Captured). x.reported.exit) c.put_refusal-in-Err-read_dictionary.result _ c.put_refusal-in-Err-read_dictionary.ensures.exit
 
 pub returns-in-Err-read_dictionary-clause-no_summary : goal.returns-in-Err-read_dictionary-clause-no_summary
 returns-in-Err-read_dictionary-clause-no_summary g c = IfOk-weaker c.put_refusal-in-Err-read_dictionary.result _ _ (λ captured none bad. none) c.put_refusal-in-Err-read_dictionary.ensures.summary
@@ -87,7 +87,7 @@ returns-clause-told g c =
     )
 
 pub returns-clause-summary : goal.returns-clause-summary
-returns-clause-summary g c =
+returns-clause-summary g c = λ _.
     lines_summed _ _ _ _ _ _ _ c.new-tally.result c.answer_lines.new.watch c.in_ok-answer_lines.ensures.answered c.new-tally.ensures string_bytes refuted_items _ lines.Refuted
     (RefutesSummary c.args.unknown c.args.levels c.args.inputs.now (g.F.Feed.remaining c.args.feed.now) (g.F.Feed.remaining c.answer_lines.new.feed) (g.S.Sink.written c.args.sink.now) (g.S.Sink.written c.answer_lines.new.sink))
     (λ text summed. (_, _, (rw (← c.deref.ensures) at c.in-Ok.ensures.book), (rw (← c.deref-2.ensures) at c.in-Ok-read_dictionary.ensures.book), summed)) c.summary.result c.ended.result.summary c.ended.ensures.summary (λ verdicts counted. c.summary.ensures (refuted_items verdicts) counted)

@@ -6,13 +6,21 @@ use Rattle.dia_tasks.specs.Captures.{fed}
 use Rattle.dia_tasks.proofs.listing.list.Goals as goal
 
 pub returns-in-Ok : goal.returns-in-Ok
-returns-in-Ok g c = rw c.told_of.ensures (sound_sink_at_ok _ _ _ _ c.in-Ok.ensures.device,
-    (fed (g.D.Read.remaining c.new-feed.result.feed.reader) (g.D.Read.remaining c.show_lines.new.feed.feed.reader),
+returns-in-Ok g c = rw c.told_of.ensures (
+  sound_sink_at_ok _ _ _ _ c.in-Ok.ensures.device,
+  (
+    fed (g.D.Read.remaining c.new-feed.result.feed.reader) (g.D.Read.remaining c.show_lines.new.feed.feed.reader),
     rw c.new-feed.ensures (rw c.new.ensures.remaining (gives_itself _)),
-    (c.in-Ok.ensures.shown, c.in-Ok.ensures.all)))
+    (c.in-Ok.ensures.shown, c.in-Ok.ensures.all),
+  ),
+)
 
 pub returns : goal.returns
-returns g c = (failure_of c.in-Err.fault _ _ _ _ _ _ c.ending_of.ensures c.failure.ensures c.in-Err.is c.show_lines.ensures.device,
-    inr (fed (g.D.Read.remaining c.new-feed.result.feed.reader) (g.D.Read.remaining c.show_lines.new.feed.feed.reader),
+returns g c = (
+  failure_of c.in-Err.fault _ _ _ _ _ _ c.ending_of.ensures c.failure.ensures c.in-Err.is c.show_lines.ensures.device,
+  inr (
+    fed (g.D.Read.remaining c.new-feed.result.feed.reader) (g.D.Read.remaining c.show_lines.new.feed.feed.reader),
     rw c.new-feed.ensures (rw c.new.ensures.remaining (gives_itself _)),
-    c.in-Err.ensures.front refl))
+    c.in-Err.ensures.front refl,
+  ),
+)

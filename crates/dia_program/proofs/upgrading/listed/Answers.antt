@@ -1,6 +1,5 @@
-use Rattle.std.proofs.Common.{◌≡◌, ℕ, List}
-use Rattle.diacmd.proofs.Tasks.{ok_map}
-use Rattle.diacmd.proofs.listed.Goals as goal
+use Rattle.dia_program.proofs.Tasks.{ok_map}
+use Rattle.dia_program.proofs.upgrading.listed.Goals as goal
 
 pub returns-then-json-clause-text : goal.returns-then-json-clause-text
 returns-then-json-clause-text g c = rw c.if-json.true (ok_map c.breaking.result (λ r t. (t.0, t.1, t.3)) c.breaking.ensures.text)

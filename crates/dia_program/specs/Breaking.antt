@@ -1,5 +1,5 @@
 -- `breaking` as the command line asks for it.
-use Rattle.std.specs.Prelude.{IsTrue, ◌≡◌, ℕ, Bool, true, false, List, Option, Result, Ok, Err, codes}
+use Rattle.std.specs.Prelude.{IsTrue, ◌≡◌, ℕ, Bool, true, false, List, Result, Ok, Err, codes}
 use Rattle.std.specs.Io.KnownBytes.{Appends}
 use Rattle.dia_io.specs.Writing.{AppendsFront}
 use Rattle.dia_io.specs.declared.Exit.{Exit}

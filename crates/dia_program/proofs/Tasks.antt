@@ -1,5 +1,5 @@
 -- What is done of a task.
-use Rattle.std.proofs.Common.{◌≡◌, Bool}
+use Rattle.std.proofs.Common.{Bool}
 use Rattle.std.specs.Prelude.{Result, Ok, Err, IfOk}
 use Rattle.dia_io.specs.declared.Exit.{Exit}
 use Rattle.dia_io.specs.declared.Inputs.{Inputs}
@@ -10,8 +10,7 @@ use Rattle.dia_cli.specs.declared.task.Task.{Task}
 use Rattle.dia_cli.specs.declared.task.Task.TheVariants as task
 use Rattle.dia_tasks.specs.Tasks.{Performs, World}
 use Rattle.dia_tasks.specs.declared.running.Outcome.TheVariants as outcome
-use Rattle.diacmd.specs.Breaking.{Breaks}
-use Rattle.diacmd.specs.Program.{TaskEnds}
+use Rattle.dia_program.specs.Program.{TaskEnds}
 
 pub task_done : (t : Task) (json : Bool) (w : World) (origins : Origins) (inputs : Inputs) (out : Stream) (exit : Exit)
     → Performs t json w origins inputs out (Ok (outcome.Done exit)) → TaskEnds t json w origins inputs out (Ok exit)

@@ -1,2 +1,4 @@
+pub mod AllBytes
 pub mod Breaking
+pub mod Claims
 pub mod Program

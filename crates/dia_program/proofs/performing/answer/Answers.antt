@@ -1,6 +1,6 @@
-use Rattle.std.proofs.Common.{◌≡◌, ℕ, List, refl}
-use Rattle.diacmd.specs.Program.{RequestEnds, done, unread}
-use Rattle.diacmd.proofs.answer.Goals as goal
+use Rattle.std.proofs.Common.{refl}
+use Rattle.dia_program.specs.Program.{done, unread}
+use Rattle.dia_program.proofs.performing.answer.Goals as goal
 
 pub returns-in-Ok : goal.returns-in-Ok
 returns-in-Ok g c = done c.in-Ok.inputs c.in-Ok.ensures.ok c.answer_by.ensures

@@ -12,10 +12,9 @@ const KIT: &str = "rattle-kit-13f logic dac8208d650f15bf";
 
 /// What `--version` tells: the version, the commit, if it is known, and the kit.
 pub(crate) fn version(alloc: Global) -> Result<String, AllocError> {
-    let commit = if COMMIT.starts_with("$") {
-        "unknown"
+    if COMMIT.starts_with("$") {
+        format!(in alloc; "{VERSION} ({KIT})")
     } else {
-        COMMIT
-    };
-    format!(in alloc; "{VERSION} (commit {commit}, {KIT})")
+        format!(in alloc; "{VERSION} (commit {COMMIT}, {KIT})")
+    }
 }

@@ -1,0 +1,117 @@
+-- Why a request fails.
+use Rattle.std.proofs.Common.{◌≡◌, ℕ, Bool, true, false, IsTrue, List, arith, inl, inr, refl, subst, sym}
+use Rattle.std.specs.Prelude.{Err, ◌≢◌, ◌↔◌, codes}
+use Rattle.std.proofs.lemmas.Result.{IfErr-at_err}
+use Rattle.dia_io.specs.declared.Exit.{Exit}
+use Rattle.dia_io.specs.declared.Inputs.{Inputs}
+use Rattle.dia_upgrades.specs.declared.asked.Asked.{Asked}
+use Rattle.std.specs.IoError.{error_kind}
+use Rattle.std.specs.declared.io.Error.{Error}
+use Rattle.std.specs.declared.io.ErrorKind.{ErrorKind}
+use Rattle.std.specs.declared.io.ErrorKind.TheVariants.{OutOfMemory, InvalidData}
+use Rattle.dia_cli.specs.Ending.{EndsWith, IsDevice, IsEndingOfIo, IsShown, IsTold, ShowsHelp, Stream, device, no_memory, shown, told}
+use Rattle.dia_cli.specs.OpenedInputs.{IsFaultOf, IsUnread}
+use Rattle.dia_cli.specs.declared.ending.Ending.{Ending}
+use Rattle.dia_cli.specs.declared.ending.Ending.TheVariants as ending
+use Rattle.dia_cli.specs.declared.origin.Origin.{Origin}
+use Rattle.dia_cli.specs.declared.origin.Origin.TheVariants.{Nowhere, Base, StandardInput, File}
+use Rattle.dia_cli.specs.declared.origin.Origins.{Origins}
+use Rattle.dia_cli.specs.declared.request.Request.{Request}
+use Rattle.dia_cli.specs.declared.task.Task.{Task}
+use Rattle.dia_cli.specs.declared.task.Task.TheVariants as task
+use Rattle.dia_tasks.specs.Captures.{IsFailure}
+use Rattle.dia_tasks.specs.Endings.{Breaks}
+use Rattle.dia_tasks.specs.Tasks.{World}
+use Rattle.dia_program.specs.Breaking.{Lists}
+use Rattle.dia_program.specs.Program.{IsFailed, IsUntouched, Refuses, RequestEnds, TaskEnds, done, streams, unread}
+
+whole_failed : (P : List ℕ → Exit → Type 0) (out : Stream) (made : Ending) → Breaks P out made → IsFailed made
+whole_failed P out (ending.Device name error) b = tt
+whole_failed P out ending.NoMemory b = tt
+whole_failed P out made b = absurd b
+
+pieces_failed : (word : List ℕ) (failed : Bool) (made : Ending) → IsFailure word failed made → IsFailed made
+pieces_failed word failed (ending.Device name error) b = tt
+pieces_failed word failed ending.NoMemory b = tt
+pieces_failed word failed made b = absurd b
+
+list_failed : (json : Bool) (asked : Asked) (inputs : Inputs) (out : Stream) (made : Ending) → Lists json asked inputs out (Err made) → IsFailed made
+list_failed json asked inputs out (ending.Device name error) b = tt
+list_failed json asked inputs out ending.NoMemory b = tt
+list_failed json asked inputs out made b = absurd b
+
+task_failed : (t : Task) (json : Bool) (w : World) (origins : Origins) (inputs : Inputs) (out : Stream) (made : Ending)
+    → TaskEnds t json w origins inputs out (Err made) → IsFailed made
+task_failed (task.Breaking asked) json w origins inputs out made b = list_failed json b.0 inputs out made b.2
+task_failed (task.Whole command) json w origins inputs out made b = whole_failed _ out made b
+task_failed task.Make json w origins inputs out made b = whole_failed _ out made b
+task_failed task.ShowText json w origins inputs out made b = whole_failed _ out made b
+task_failed task.ShowNamed json w origins inputs out made b = whole_failed _ out made b
+task_failed (task.ShowLines names) json w origins inputs out made b = pieces_failed _ _ made b.0
+task_failed (task.CheckLines u most) json w origins inputs out made b = pieces_failed _ _ made b.0
+task_failed (task.RefuteLines u most) json w origins inputs out made b = pieces_failed _ _ made b.0
+task_failed (task.CheckStream u most) json w origins inputs out made b = pieces_failed _ _ made b.0
+
+fault_failed : (word : List ℕ) (made : Ending) → IsFaultOf word made → IsFailed made
+fault_failed word (ending.Device name error) b = tt
+fault_failed word ending.NoMemory b = tt
+fault_failed word made b = absurd b
+
+input_failed : (origin : Origin) (made : Ending) → IsUnread origin made → IsFailed made
+input_failed Nowhere made b = subst IsFailed (sym b) tt
+input_failed Base made b = subst IsFailed (sym b) tt
+input_failed (StandardInput limit) made b = fault_failed _ made b
+input_failed (File path limit) made b = fault_failed _ made b
+
+-- a request fails where a device does, or where memory is refused
+pub request_failed : (request : Request) (w : World) (out : Stream) (made : Ending) → RequestEnds request w out (Err made) → IsFailed made
+request_failed request w out made (done inputs read ends) = task_failed request.task request.json w request.origins inputs out made ends
+request_failed request w out made (unread other (inl b) untouched same) = IfErr-at_err IsFailed (sym same) (input_failed request.origins.first other b)
+request_failed request w out made (unread other (inr (inl b)) untouched same) = IfErr-at_err IsFailed (sym same) (input_failed request.origins.second other b)
+request_failed request w out made (unread other (inr (inr (inl b))) untouched same) = IfErr-at_err IsFailed (sym same) (input_failed request.origins.table other b)
+request_failed request w out made (unread other (inr (inr (inr b))) untouched same) = IfErr-at_err IsFailed (sym same) (input_failed request.origins.message other b)
+
+-- words that can't be read ask for no help
+device_is_no_help : (word : List ℕ) (error : Error) (made : Ending) → IsDevice word error made → ¬ ShowsHelp made
+device_is_no_help word error (ending.Device name why) is = λ help. help
+device_is_no_help word error made is = absurd is
+
+kind_is_no_help : (kind : ErrorKind) (error : Error) (made : Ending) → (kind ≡ OutOfMemory → made ≡ ending.NoMemory) → (kind ≡ InvalidData → made ≡ ending.NotText)
+    → (kind ≢ OutOfMemory → kind ≢ InvalidData → IsDevice (codes "command line") error made) → ¬ ShowsHelp made
+kind_is_no_help OutOfMemory error made memory text failing = λ help. subst ShowsHelp (memory refl) help
+kind_is_no_help InvalidData error made memory text failing = λ help. subst ShowsHelp (text refl) help
+kind_is_no_help kind error made memory text failing = device_is_no_help (codes "command line") error made (failing (λ e. cc) (λ e. cc))
+
+pub words_are_no_help : (error : Error) (made : Ending) → IsEndingOfIo error made → ¬ ShowsHelp made
+words_are_no_help error made is = kind_is_no_help (error_kind error) error made is.memory is.text is.device
+
+-- what fails ends with 3, whether it can be told or not
+ends_with_3 : (made : Ending) (status : ℕ) → IsFailed made → EndsWith made status → status ≡ 3
+ends_with_3 (ending.Device name error) status failed ends = ends
+ends_with_3 ending.NoMemory status failed ends = ends
+ends_with_3 made status failed ends = absurd failed
+
+pub failed_with_3 : (made : Ending) (err : Stream) (status : ℕ) → IsFailed made → IsTold made err status → status ≡ 3
+failed_with_3 made err status failed (told live ends text) = ends_with_3 made status failed ends
+failed_with_3 made err status failed (no_memory live foreign is text) = is
+failed_with_3 made err status failed (device broken is) = is
+
+quiet_shown : (out err : Stream) (P Q : Type 0) (status : ℕ) → (P → Q) → IsShown out err P status → IsShown out err Q status
+quiet_shown out err P Q status f (shown live quiet is) = shown live (f quiet) is
+quiet_shown out err P Q status f (no_memory live same is) = no_memory live same is
+quiet_shown out err P Q status f (device name why broken is_name is) = device name why broken is_name is
+
+-- words that ask for nothing to run
+pub refusal_of : (made : Ending) (out err : Stream) (P Q : Type 0) (status : ℕ) → (P → IsUntouched out) → (Q → IsUntouched err)
+    → (¬ ShowsHelp made → P × IsTold made err status) → (ShowsHelp made → IsShown out err Q status) → Refuses made (streams out err) status
+refusal_of made out err P Q status f h refusal help = record {
+  help = λ asked. quiet_shown out err Q (IsUntouched err) status h (help asked);
+  refusal = λ other. let (same, is) = refusal other in (f same, is);
+}
+
+-- a test that says whether P holds
+pub by_true : (b : Bool) (P : Type 0) → (IsTrue b ↔ P) → b ≡ true → P
+by_true b P same is = grind (arith, same, is)
+
+pub by_false : (b : Bool) (P : Type 0) → (IsTrue b ↔ P) → b ≡ false → P → ⊥
+by_false b P same is p = grind (arith, same, is, p)

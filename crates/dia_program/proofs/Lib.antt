@@ -1,0 +1,4 @@
+pub mod AllBytes
+pub mod Claims
+pub mod Failures
+pub mod Tasks

@@ -1,0 +1,16 @@
+-- What is written for messages whose bytes are known.
+use Rattle.std.specs.Prelude.{ℕ, List}
+use Rattle.dia_io.specs.declared.Exit.{Exit}
+use Rattle.dia_io.specs.declared.Inputs.{Inputs}
+use Rattle.dia_policy.specs.declared.Unknown.{Unknown}
+use Rattle.dia_policy.specs.declared.Levels.{Levels}
+use Rattle.dia_captures.specs.declared.summaries.Lines.{Lines}
+use Rattle.dia_captures.specs.declared.summaries.Lines.TheVariants.{Checked, Refuted, Placed}
+use Rattle.dia_captures.specs.Lines.{IsLinesOutcome, checks, refutations}
+use Rattle.dia_captures.specs.Streams.{IsStreamOutcome}
+
+-- the text for all messages of these bytes, and how it ends
+abbrev pub IsTextOfAll : Lines → Unknown → Levels → Inputs → List ℕ → List ℕ → Exit → Type 0
+IsTextOfAll Checked u most inputs bytes text exit = IsLinesOutcome (checks u most) inputs bytes text exit
+IsTextOfAll Refuted u most inputs bytes text exit = IsLinesOutcome (refutations u most) inputs bytes text exit
+IsTextOfAll Placed u most inputs bytes text exit = IsStreamOutcome u most inputs bytes text exit

@@ -1,0 +1,79 @@
+-- What the program writes for its words and inputs, and with which status it ends.
+use Rattle.std.specs.Prelude.{IsTrue, ◌≡◌, ℕ, Bool, List, Some, Result, Ok, Err, ⊤}
+use Rattle.std.specs.IoError.{error_kind}
+use Rattle.std.specs.declared.io.ErrorKind.TheVariants.{BrokenPipe}
+use Rattle.dia_io.specs.Exit.{status_of}
+use Rattle.dia_io.specs.declared.Exit.{Exit}
+use Rattle.dia_io.specs.declared.Inputs.{Inputs}
+use Rattle.dia_report.specs.declared.reporting.Reported.{Reported}
+use Rattle.dia_cli.specs.Asking.{IsAskedBy, IsRefused}
+use Rattle.dia_cli.specs.Ending.{Stream, IsAdvised, IsShown, IsTold, ShowsHelp}
+use Rattle.dia_cli.specs.OpenedInputs.{IsAnyUnread, IsReadOf}
+use Rattle.dia_cli.specs.declared.ending.Ending.{Ending}
+use Rattle.dia_cli.specs.declared.ending.Ending.TheVariants as ending
+use Rattle.dia_cli.specs.declared.origin.Origins.{Origins}
+use Rattle.dia_cli.specs.declared.request.Request.{Request}
+use Rattle.dia_cli.specs.declared.task.Task.{Task}
+use Rattle.dia_cli.specs.declared.task.Task.TheVariants as task
+use Rattle.dia_tasks.specs.Tasks.{TaskRuns, World}
+use Rattle.dia_program.specs.Breaking.{Breaks}
+
+-- a task of these inputs, whichever it is
+abbrev pub TaskEnds : Task → Bool → World → Origins → Inputs → Stream → Result Exit Ending → Type 0
+TaskEnds (task.Breaking asked) json w origins inputs out ended = Breaks json asked inputs out ended
+TaskEnds t json w origins inputs out (Ok exit) =
+    (reported : Reported) × (reported.exit ≡ exit) × TaskRuns t json w origins inputs out (Ok reported)
+TaskEnds t json w origins inputs out (Err made) = TaskRuns t json w origins inputs out (Err made)
+
+abbrev pub IsUntouched : Stream → Type 0
+IsUntouched s = (¬ IsTrue s.failed) × (s.new ≡ s.old)
+
+-- a request: its inputs are read, and its task is done for them; or an input can't be read, and nothing is written
+pub data RequestEnds (request : Request) (w : World) (out : Stream) (ended : Result Exit Ending) : Type 0 where
+  done : (inputs : Inputs) → IsReadOf w.content w.standard request.origins inputs
+      → TaskEnds request.task request.json w request.origins inputs out ended → RequestEnds request w out ended
+  unread : (made : Ending) → IsAnyUnread request.origins made → IsUntouched out → ended ≡ Err made → RequestEnds request w out ended
+
+-- standard output, and the stream on which endings are told
+pub record Streams : Type 0 where
+  pub out : Stream
+  pub err : Stream
+
+abbrev pub streams : Stream → Stream → Streams
+streams out err = record { out = out; err = err }
+
+-- a device failed, or memory was refused
+abbrev pub IsFailed : Ending → Type 0
+IsFailed (ending.Device name error) = ⊤
+IsFailed ending.NoMemory = ⊤
+IsFailed made = ⊥
+
+-- a pipe that was written to is read by nobody any more
+abbrev pub IsUnread : Ending → Type 0
+IsUnread (ending.Device name (Some error)) = error_kind error ≡ BrokenPipe
+IsUnread made = ⊥
+
+-- a request failed: 3. It is told why, but of a pipe that nobody reads
+pub record Fails (made : Ending) (err : Stream) (status : ℕ) : Type 0 where
+  pub is_3 : status ≡ 3
+  pub quiet : IsUnread made → IsUntouched err
+  pub told : ¬ IsUnread made → IsTold made err status
+
+-- there is no request: the words ask for help or the version, which is shown, or they are refused, which is told
+pub record Refuses (made : Ending) (s : Streams) (status : ℕ) : Type 0 where
+  pub help : ShowsHelp made → IsShown s.out s.err (IsUntouched s.err) status
+  pub refusal : ¬ ShowsHelp made → IsUntouched s.out × IsTold made s.err status
+
+-- the words: what they ask for was answered, with the status of its exit, or failed; or they ask for nothing
+pub data IsProgramOutcome (words : List (List ℕ)) (w : World) (s : Streams) (status : ℕ) : Type 0 where
+  answered : (request : Request) (exit : Exit) → IsAskedBy words request → RequestEnds request w s.out (Ok exit)
+      → IsUntouched s.err → status ≡ status_of exit → IsProgramOutcome words w s status
+  failed : (request : Request) (made : Ending) → IsAskedBy words request → RequestEnds request w s.out (Err made)
+      → Fails made s.err status → IsProgramOutcome words w s status
+  refused : (fault made : Ending) → IsRefused words fault → IsAdvised fault made → Refuses made s status
+      → IsProgramOutcome words w s status
+
+-- of the process: some words, or they can't be read
+pub data IsProcessOutcome (w : World) (s : Streams) (status : ℕ) : Type 0 where
+  run : (words : List (List ℕ)) → IsProgramOutcome words w s status → IsProcessOutcome w s status
+  unread : (made : Ending) → ¬ ShowsHelp made → IsUntouched s.out → IsTold made s.err status → IsProcessOutcome w s status
