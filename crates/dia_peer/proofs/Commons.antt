@@ -7,7 +7,7 @@ use Rattle.std.proofs.lemmas.Option.{same_Some, none-some}
 use Rattle.dia_peer.specs.declared.config.Kind.{Kind}
 use Rattle.dia_peer.specs.declared.config.Kind.TheVariants.{Auth, Acct}
 use Rattle.dia_peer.specs.declared.config.Manner.{Manner}
-use Rattle.dia_peer.specs.Core.{Pair, Serves, pair, pairs_of, same_pair, sorted_pairs, all, is_relay, relays, all_of, common_by}
+use Rattle.dia_peer.specs.Core.{PlainConfig, Pair, Serves, plain, pair, pair_of, pairs_of, same_pair, sorted_pairs, all, is_relay, relays, all_of, common_by, common_of}
 use Rattle.dia_peer.specs.World.{IsCommon}
 use Rattle.dia_peer.proofs.Sets.{IsIn, to_in, of_in, eq_same, in_sorted, into_sorted, in_both, into_both}
 use Rattle.dia_peer.specs.Incoming.{pick}
@@ -105,6 +105,15 @@ common_is false false ours theirs others pairs are is p =
       (λ m. (let k = in_both ours theirs p m in (of_in ours p k.0, of_in others p ((are p).0 k.1)))),
       (λ h. into_both ours theirs p (to_in ours p h.0) ((are p).1 (to_in others p h.1))),
     )
+
+and_false : (a b : Bool) → b ≡ false → (a && b) ≡ false
+and_false true b e = e
+and_false false b e = refl
+
+-- where neither list has the number of relays, each manner reads them alike
+pub same_common : (manner : Manner) (c : PlainConfig) (theirs : List Pair) → is_relay (map pair_of c.apps) ≡ false → is_relay theirs ≡ false → common_of manner c theirs ≡ common_of plain c theirs
+same_common manner c theirs ours none =
+    λ i. common_by (and_false manner.relays (is_relay (map pair_of c.apps)) ours i) (and_false manner.relays (is_relay theirs) none i) (map pair_of c.apps) theirs
 
 -- what two lists have in common doesn't depend on whose each is
 pub common_turns : (r s : Bool) (xs ys : List Pair) (p : Pair) → IsCommon r s xs ys p → IsCommon s r ys xs p

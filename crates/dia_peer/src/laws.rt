@@ -1,12 +1,13 @@
 //! What holds of every connection.
 
-ghost use Rattle.std.specs.Prelude.{◌≡◌, ℕ, List, map, All};
+ghost use Rattle.std.specs.Prelude.{◌≡◌, ℕ, List, map, All, false};
 ghost use Rattle.dia_wire.specs.Wire.{IsMessage};
 ghost use Rattle.dia_dict.specs.Base.{base};
 ghost use Rattle.dia_check.specs.declared.Unknown.TheVariants.{Kept};
 ghost use Rattle.dia_check.specs.declared.Levels.TheVariants.{Any};
 ghost use Rattle.dia_valid.specs.Valid.{IsValid};
-ghost use Rattle.dia_peer.specs.Core.{PlainConfig, PlainCore, IsConfig, Sent};
+ghost use Rattle.dia_peer.specs.Core.{PlainConfig, PlainCore, IsConfig, Pair, Sent};
+ghost use Rattle.dia_peer.specs.Core.{pair_of, is_relay, plain, common_of};
 ghost use Rattle.dia_peer.specs.Messages.{IsOurs};
 ghost use Rattle.dia_peer.specs.World.{World, Event as AnyEvent, Run, start, Agrees};
 ghost use Rattle.dia_peer.specs.Machine.{IsStep};
@@ -22,6 +23,14 @@ pub fn agreement()
     ensures { (a b : PlainConfig) (m n : AnyManner) (events : List (AnyRole × AnyEvent)) (w : World)
         → IsConfig a → IsConfig b
         → Run (start a m b n) events w → Agrees a m b n w }
+{}
+
+/// Where neither a configuration nor what the other end advertises has the number of relays, no manner changes what the two
+/// have in common, which is all that an event reads a manner for.
+pub fn without_relays()
+    ensures { (manner : AnyManner) (c : PlainConfig) (theirs : List Pair)
+        → is_relay (map pair_of c.apps) ≡ false → is_relay theirs ≡ false
+        → common_of manner c theirs ≡ common_of plain c theirs }
 {}
 
 /// Each message that a core of an accepted configuration sends is valid under the base dictionary, whatever its

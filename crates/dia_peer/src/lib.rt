@@ -47,4 +47,4 @@ mod receiving;
 pub use config::{App, Config, ConfigFault, Ip, Kind, Manner, Role};
 pub use connection::Core;
 pub use event::{Cause, Event, Output, State, Why};
-pub use laws::{agreement, one_step, our_messages_are_valid};
+pub use laws::{agreement, one_step, our_messages_are_valid, without_relays};

@@ -89,6 +89,7 @@ impl Node {
         self.manner.relays && named.has_relay()
     }
 
+    /// The same, by whether the applications of each end are those of a relay.
     fn common_by(
         &self,
         ours_relay: bool,
