@@ -1,4 +1,3 @@
 pub mod AllBytes
 pub mod Claims
 pub mod Failures
-pub mod Tasks
