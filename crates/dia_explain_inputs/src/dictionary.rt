@@ -20,6 +20,9 @@ use meaning::push_meaning;
 use scene::Scene;
 use std::alloc::{AllocError, Global};
 
+/// The name of the dictionary without lines.
+const NO_LINES: &str = "@none";
+
 const CAPTURED: &str =
     "the dictionary stands before the messages, and docs/CAPTURES.md says how to take these out of a capture";
 
@@ -96,10 +99,10 @@ fn push_line(told: &mut Note, scene: &Scene<'_>) {
 }
 
 /// Adds that a dictionary's text has neither declarations nor definitions, or that a comment takes its rest. Of an input that
-/// isn't there nothing is told.
+/// isn't there nothing is told, nor of the dictionary without lines.
 pub fn push_empty(note: &mut Note, dictionary: &NamedText<'_>) {
     let NamedText { name, text } = *dictionary;
-    if name.is_empty() {
+    if name.is_empty() || name == NO_LINES {
         return;
     }
     let is_cut = is_cut_by_comment(text);
