@@ -131,6 +131,13 @@ BODIES = [
     (BASE + avp(9999, flags=0), 68, "9999:0 may not stand in CCR: no rule names it, and there is no rule for AVP", "CCR",
      "68: code 9999 (0000270f), flags 00, length 8 (000008)", ("19:2", "CCR is defined here"),
      "add * [ AVP ] to the rules of CCR, or mend the sender", ""),
+    # an AVP of a vendor, of which the dictionary's AVP has none; and the reverse
+    (SID + HOST + avp(416, number(1), 0, 10415) + NUM, 44, "416:10415 may not stand in CCR: no rule names it, and there is no rule for AVP", "CCR",
+     "44: code 416 (000001a0), flags 80 V, length 16 (000010), vendor 10415 (000028af), data 00000001", ("19:2", "CCR is defined here"),
+     "the dictionary's AVP of this code has no vendor: compare the V flag and the Vendor-ID; or add * [ AVP ] to the rules of CCR", ""),
+    (BASE + avp(9005, b"x", 0), 68, "9005:0 may not stand in CCR: no rule names it, and there is no rule for AVP", "CCR",
+     "68: code 9005 (0000232d), flags 00, length 9 (000009), data 78", ("19:2", "CCR is defined here"),
+     "the dictionary's AVP of this code has vendor 32473: compare the V flag and the Vendor-ID; or add * [ AVP ] to the rules of CCR", ""),
     (BASE + 4 * avp(456), 92, "this is Multiple-Services-Credit-Control number 4 in CCR, and at most 3 may stand", "CCR",
      "92: code 456 (000001c8), flags 40 M, length 8 (000008)", ("24:8", "the rule is *3 [ Multiple-Services-Credit-Control ]"),
      "have the sender send fewer, or write * [ Multiple-Services-Credit-Control ] for any number", ""),
@@ -145,6 +152,10 @@ BODIES = [
      "the dictionary has no AVP of code 9005 and vendor 10415, and the M flag says that the receiver has to know it", "CCR",
      "68: code 9005 (0000232d), flags c0 V M, length 15 (00000f), vendor 10415 (000028af), data 616263", ("9:6", "Note is declared here"),
      "that AVP has this code, and vendor 32473: compare the V flag and the Vendor-ID", ""),
+    (SID + HOST + avp(416, number(1), vendor=10415) + NUM, 44,
+     "the dictionary has no AVP of code 416 and vendor 10415, and the M flag says that the receiver has to know it", "CCR",
+     "44: code 416 (000001a0), flags c0 V M, length 16 (000010), vendor 10415 (000028af), data 00000001", ("6:6", "CC-Request-Type is declared here"),
+     "that AVP has this code, and no vendor: compare the V flag and the Vendor-ID", ""),
     (BASE + avp(9999, b"abc", 0), 68, "the dictionary has no AVP of code 9999, and unknown AVPs are refused", "CCR",
      "68: code 9999 (0000270f), flags 00, length 11 (00000b), data 616263", None,
      "declare it, as %avp NAME 9999 OctetString any", "--unknown refused "),
@@ -198,6 +209,10 @@ BODIES = [
 ]
 
 ANSWERS = [
+    # the AVP that is missing stands there with another vendor
+    (avp(263, b"a;1", 0, 10415) + HOST + TYPE, 20, "Session-Id is missing in front of this AVP: 1 wanted, 0 found",
+     "20: code 263 (00000107), flags 80 V, length 15 (00000f), vendor 10415 (000028af), data 613b31", ("29:5", "the rule is < Session-Id >"),
+     "an AVP of its code stands at 20, with vendor 10415: compare the V flag and the Vendor-ID"),
     (SID + HOST, 44, "an AVP that no rule of CCA names is missing at the end of CCA: 2 wanted, 1 found", None,
      ("30:9", "the rule is 2*2 { AVP }"), "have the sender add one, or, where it may be missing, write *2 [ AVP ]"),
     (BASE, 56, "CC-Request-Number is AVP number 3 in CCA that no rule names, and at most 2 may stand",

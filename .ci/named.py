@@ -1,4 +1,4 @@
-"""Cases of `show --values`, `show --names` and `show --lines`, for .ci/cases. Flags and dates are worked out by hand from RFC 6733; the rest of the
+"""Cases of `show --values`, `show --names`, `show --lines` and `show --json` with the first two, for .ci/cases. Flags and dates are worked out by hand from RFC 6733; the rest of the
 dates is computed by Python's calendar."""
 
 import datetime
@@ -142,6 +142,38 @@ def lines(room):
     room.check("show --lines --values nofile.txt cause.hex", 3, "", err=missing("nofile.txt"))
 
 
+def objects(room):
+    """With `--json`: the members `word` and `time` behind a value, of a file of words and with `--names`."""
+    head = '{"version":1,"flags":128,"code":282,"application":0,"hop_by_hop":1,"end_to_end":2,"length":32'
+    avp = '{"at":20,"depth":0,"code":273,"vendor":null,"flags":64,"length":12,"name":"Disconnect-Cause","value":0'
+    plain = f'{head},"command":"DPR"}}\n{avp}}}'
+    worded = f'{head},"command":"DPR"}}\n{avp},"word":"REBOOTING"}}'
+    room.check("show --json cause.hex", 0, plain)
+    room.check("show --json --names cause.hex", 0, plain)
+    room.check("show --json --values words.txt cause.hex", 0, worded)
+    room.check("show --values words.txt --json --names cause.hex", 0, worded)
+    room.check("show --json --values @none cause.hex", 0, plain)
+    # a word of another AVP, and of another number
+    room.check("show --json --values - cause.hex", 0, plain, stdin="Disconnect-Causes 0 X\nDisconnect-Cause 1 BUSY")
+    # the dictionary without lines has no names, and so no words
+    room.check("show --json --values words.txt --dict @none cause.hex", 0, f'{head}}}\n' + avp[: avp.index('"name"')] + '"value":{"hex":"00000000"}}')
+    # a Time has its date with `--names` alone, behind its word
+    room.write("when.txt", "%avp When 55 Time any\n")
+    room.write("when.hex", HEAD.format("0", "80") + "000000370000000c83aa7e80\n")
+    time = '{"at":20,"depth":0,"code":55,"vendor":null,"flags":0,"length":12,"name":"When","value":2208988800'
+    room.check("show --json --dict when.txt when.hex", 0, f"{head}}}\n{time}}}")
+    room.check("show --json --names --dict when.txt when.hex", 0, f'{head}}}\n{time},"time":"1970-01-01T00:00:00Z"}}')
+    both = f'{head}}}\n{time},"word":"EPOCH","time":"1970-01-01T00:00:00Z"}}'
+    room.check("show --json --names --values - --dict when.txt when.hex", 0, both, stdin="When 2208988800 EPOCH")
+    # what is refused: the dictionary, then the words, then the message
+    refusal = {"A 0 X\nA 0": '"syntax","line":2', "A 0 X\nA 0 Y": '"duplicate","line":2', 65537 * "\n": '"limit","line":65537', "#" + 4194304 * "x": '"too long"'}
+    for text, kind in refusal.items():
+        room.check("show --json --values - empty.txt", 2, f'{{"error":"values","kind":{kind}}}', stdin=text, shown=f"show --json --values: {kind}")
+    room.check("show --json --values bytes.txt empty.txt", 2, '{"error":"values","kind":"not text"}', err="bytes.txt: byte 2 and those behind it are no UTF-8")
+    room.check("show --quiet --json --names --values twice.txt cause.hex", 2, '{"error":"values","kind":"duplicate","line":2}', err="")
+    room.check("show --json --values words.txt empty.txt", 2, '{"error":"message","kind":"short"}')
+
+
 def named(room):
     room.write("cause.hex", CAUSE + "\n")
     room.write("words.txt", WORDS + "\n")
@@ -159,5 +191,5 @@ def named(room):
     room.check("show cause.hex --names --values words.txt", 0, CAUSE_NAMED + " REBOOTING")
     room.check("show --names request.hex", 0, 'header flags R--- code 280 DWR app 0 hop 1 end 2 length 44\n20 0 264 - -M- 11 Origin-Host "a.b"\n32 0 296 - -M- 9 Origin-Realm "b"')
     room.check("show --names -", 2, "message: version", stdin="02" + REQUEST[2:])
-    for part in (times, texts, levels, refused, lines):
+    for part in (times, texts, levels, refused, lines, objects):
         part(room)

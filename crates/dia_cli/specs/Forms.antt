@@ -24,10 +24,11 @@ pub data Manner : Type 0 where
   in_lines : Manner
   in_stream : Manner
 
--- how `show` tells a message: as a text, as JSON, or as a listing, with `--lines`, `--names` and `--values` or without
+-- how `show` tells a message: as a text; as JSON, with `--names` and `--values` or without; or as a listing, with `--lines`, `--names`
+-- and `--values` or without
 pub data Telling : Type 0 where
   as_text : Telling
-  as_json : Telling
+  as_json : Bool → Option Text → Telling
   as_listing : Bool → Bool → Option Text → Telling
 
 -- a command with its options and the words of its inputs. `--levels`, `--dict`, `--values` and `--accepted` are their words; `check`, `compare`
@@ -70,14 +71,16 @@ is_text as_text = true
 is_text telling = false
 
 abbrev pub is_json : Telling → Bool
-is_json as_json = true
+is_json (as_json names values) = true
 is_json telling = false
 
 abbrev pub has_names : Telling → Bool
+has_names (as_json names values) = names
 has_names (as_listing many names values) = names
 has_names telling = false
 
 abbrev pub values_given : Telling → Option Text
+values_given (as_json names values) = values
 values_given (as_listing many names values) = values
 values_given telling = None
 
@@ -118,7 +121,8 @@ form_inputs (breaking json sends unknown messages once meaning allowed accepted 
 -- the task is the form's
 abbrev pub IsTaskOfForm : Form → Task → Type 0
 IsTaskOfForm (show as_text dictionary message) ShowText = ⊤
-IsTaskOfForm (show as_json dictionary message) (Whole command.Show) = ⊤
+IsTaskOfForm (show (as_json false values) dictionary message) (Whole command.Show) = ⊤
+IsTaskOfForm (show (as_json true values) dictionary message) ShowNamed = ⊤
 IsTaskOfForm (show (as_listing false false values) dictionary message) (Whole command.Show) = ⊤
 IsTaskOfForm (show (as_listing false true values) dictionary message) ShowNamed = ⊤
 IsTaskOfForm (show (as_listing true names values) dictionary messages) (ShowLines named) = named ≡ names

@@ -12,7 +12,7 @@ use Rattle.dia_io.specs.declared.Inputs.{Inputs}
 use Rattle.dia_cli.specs.declared.ending.Ending.{Ending}
 use Rattle.dia_cli.specs.declared.ending.Ending.TheVariants as ending
 use Rattle.dia_cli.specs.declared.origin.Origin.{Origin}
-use Rattle.dia_cli.specs.declared.origin.Origin.TheVariants.{Nowhere, Base, StandardInput, File}
+use Rattle.dia_cli.specs.declared.origin.Origin.TheVariants.{Nowhere, Base, Empty, StandardInput, File}
 use Rattle.dia_cli.specs.declared.origin.Origins.{Origins}
 use Rattle.dia_io.specs.declared.InputFault.{InputFault}
 use Rattle.dia_io.specs.declared.InputFault.TheVariants as fault
@@ -45,6 +45,7 @@ IsReadFrom known limit input = IsWithin input limit × IfSome known (IsWhole inp
 abbrev pub IsInputOf : (List ℕ → Option (List ℕ)) → Option (List ℕ) → Origin → Input → Type 0
 IsInputOf content standard Nowhere input = IsExactly [] input
 IsInputOf content standard Base input = IsExactly (canonical base_source) input
+IsInputOf content standard Empty input = IsExactly [] input
 IsInputOf content standard (StandardInput limit) input = IsReadFrom standard limit input
 IsInputOf content standard (File path limit) input = IsReadFrom (content path.now) limit input
 

@@ -7,16 +7,17 @@ use Rattle.dia_ccf.specs.Limits.{max_text}
 use Rattle.dia_policy.specs.Limits.{max_table}
 use Rattle.dia_policy.specs.Limits.{max_message_text}
 use Rattle.dia_cli.specs.declared.origin.Origin.{Origin}
-use Rattle.dia_cli.specs.declared.origin.Origin.TheVariants.{Base, File, Nowhere, StandardInput}
+use Rattle.dia_cli.specs.declared.origin.Origin.TheVariants.{Base, Empty, File, Nowhere, StandardInput}
 use Rattle.dia_cli.specs.declared.origin.Origins.{Origins}
 
 -- `-` is standard input, and any other word is the name of a file
 abbrev pub origin_within : Bor (List ℕ) → ℕ → Origin
 origin_within word limit = if bytes_eq word.now (codes "-") then StandardInput limit else File word limit
 
--- where a dictionary stands, `@base` is the base dictionary
+-- where a dictionary stands, `@base` is the base dictionary, and `@none` the one without lines
 abbrev pub dictionary_origin : Bor (List ℕ) → Origin
-dictionary_origin word = if bytes_eq word.now (codes "@base") then Base else origin_within word max_text
+dictionary_origin word = if bytes_eq word.now (codes "@base") then Base
+    else (if bytes_eq word.now (codes "@none") then Empty else origin_within word max_text)
 
 -- where a table or a list of lines stands, `@none` has no lines
 abbrev pub table_origin : Bor (List ℕ) → Origin

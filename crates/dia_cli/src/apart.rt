@@ -16,10 +16,6 @@ pub enum Apart {
     AsTextAndLines,
     /// `--as-text` and `--json`.
     AsTextAndJson,
-    /// `--json` and `--names`.
-    JsonAndNames,
-    /// `--json` and `--values`.
-    JsonAndValues,
     /// `--json` and `--lines`.
     JsonAndLines,
 }
@@ -35,7 +31,7 @@ impl Apart {
             | Apart::AsTextAndValues
             | Apart::AsTextAndLines
             | Apart::AsTextAndJson => "as-text",
-            Apart::JsonAndNames | Apart::JsonAndValues | Apart::JsonAndLines => "json",
+            Apart::JsonAndLines => "json",
         }
     }
 
@@ -45,8 +41,8 @@ impl Apart {
     {
         match self {
             Apart::LinesAndStream => "stream",
-            Apart::AsTextAndNames | Apart::JsonAndNames => "names",
-            Apart::AsTextAndValues | Apart::JsonAndValues => "values",
+            Apart::AsTextAndNames => "names",
+            Apart::AsTextAndValues => "values",
             Apart::AsTextAndLines | Apart::JsonAndLines => "lines",
             Apart::AsTextAndJson => "json",
         }
@@ -68,9 +64,7 @@ pub(crate) fn show_apart(
         (true, false, true, _, _) => Some(Apart::AsTextAndValues),
         (true, false, false, true, _) => Some(Apart::AsTextAndLines),
         (true, false, false, false, true) => Some(Apart::AsTextAndJson),
-        (false, true, _, _, true) => Some(Apart::JsonAndNames),
-        (false, false, true, _, true) => Some(Apart::JsonAndValues),
-        (false, false, false, true, true) => Some(Apart::JsonAndLines),
+        (false, _, _, true, true) => Some(Apart::JsonAndLines),
         _ => None,
     }
 }

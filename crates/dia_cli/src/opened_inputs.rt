@@ -63,6 +63,7 @@ fn open_input<'a, O: Opener>(
             let bytes = Vec::from_slice(alloc, base_text().as_bytes())?;
             Ok(Text::Bytes(bytes))
         }
+        Origin::Empty => Ok(Text::Bytes(Vec::new(alloc))),
         Origin::StandardInput { limit } => {
             read_text(alloc, opener.standard_input(), STANDARD_INPUT, limit)
         }

@@ -14,7 +14,7 @@ pub const STANDARD_INPUT: &str = "-";
 /// The word for the base dictionary, where a dictionary stands.
 pub const BASE_DICTIONARY: &str = "@base";
 
-/// The word for a text without lines, where a table or a list of lines stands.
+/// The word for a text without lines, where a dictionary, a table or a list of lines stands.
 pub const NO_TABLE: &str = "@none";
 
 /// Where the text of an input comes from. A limit is the most bytes that the text may have.
@@ -24,6 +24,8 @@ pub enum Origin<'a> {
     Nowhere,
     /// The base dictionary.
     Base,
+    /// The dictionary without lines.
+    Empty,
     StandardInput { limit: usize },
     File { path: &'a str, limit: usize },
 }
@@ -35,6 +37,8 @@ impl<'a> Origin<'a> {
     {
         if word == BASE_DICTIONARY {
             Origin::Base
+        } else if word == NO_TABLE {
+            Origin::Empty
         } else {
             Origin::within(word, MAX_TEXT)
         }

@@ -89,25 +89,25 @@ const DICT: OptionRow<'static> = OptionRow {
         name: "D",
         default: BASE_DICTIONARY,
     },
-    help: "The dictionary that names the AVPs: a file, @base, or - for standard input",
+    help: "The dictionary that names the AVPs: a file, @base, @none, or - for standard input",
 };
 
 const D: InputRow<'static> = InputRow {
     id: "D",
     count: Count::One,
-    help: "A dictionary text: a file, @base, or - for standard input",
+    help: "A dictionary text: a file, @base, @none, or - for standard input",
 };
 
 const A: InputRow<'static> = InputRow {
     id: "A",
     count: Count::One,
-    help: "The first dictionary text: a file, @base, or - for standard input",
+    help: "The first dictionary text: a file, @base, @none, or - for standard input",
 };
 
 const B: InputRow<'static> = InputRow {
     id: "B",
     count: Count::One,
-    help: "The second dictionary text: a file, @base, or - for standard input",
+    help: "The second dictionary text: a file, @base, @none, or - for standard input",
 };
 
 const SHOW: CommandRow<'static> = CommandRow {

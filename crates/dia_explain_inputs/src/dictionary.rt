@@ -11,14 +11,17 @@ mod scene;
 
 use crate::kinds::{RETURNS, is_capture, is_cut_by_comment};
 use crate::messages::push_capture;
-use crate::notes::{push_made, push_not_text, push_too_long};
+use crate::notes::{push_line_column, push_made, push_not_text, push_too_long};
 use causes::push_cause;
 use dia_ccf::{MAX_TEXT, Misfit, next_lexeme};
-use dia_explain_places::{NamedText, Note};
+use dia_explain_places::{NamedText, Note, place_of};
 use dia_report::{BadDictionary, WrongSource};
 use meaning::push_meaning;
 use scene::Scene;
 use std::alloc::{AllocError, Global};
+
+/// The name of the dictionary without lines.
+const NO_LINES: &str = "@none";
 
 const CAPTURED: &str =
     "the dictionary stands before the messages, and docs/CAPTURES.md says how to take these out of a capture";
@@ -75,17 +78,31 @@ fn push_syntax(note: &mut Note, dictionary: &NamedText<'_>, misfit: &Misfit)
 fn syntax_told(alloc: Global, scene: &Scene<'_>) -> Result<String, AllocError> {
     let mut told = Note::new(alloc);
     scene.push_fault(&mut told);
-    told.put("\n");
-    told.put_excerpt(scene.text, scene.misfit.at);
+    push_line(&mut told, scene);
     push_cause(&mut told, scene);
     told.finish()
 }
 
+/// Ends what is told of a fault, and adds its line. Where a fixed rule behind others was read as the name of a definition, and
+/// stands on a line before, its place and its line are told.
+fn push_line(told: &mut Note, scene: &Scene<'_>) {
+    let shown = match scene.late_name() {
+        Some(name) => {
+            told.put("; the name stands at ");
+            push_line_column(told, place_of(scene.text, name.at));
+            name.at
+        }
+        None => scene.misfit.at,
+    };
+    told.put("\n");
+    told.put_excerpt(scene.text, shown);
+}
+
 /// Adds that a dictionary's text has neither declarations nor definitions, or that a comment takes its rest. Of an input that
-/// isn't there nothing is told.
+/// isn't there nothing is told, nor of the dictionary without lines.
 pub fn push_empty(note: &mut Note, dictionary: &NamedText<'_>) {
     let NamedText { name, text } = *dictionary;
-    if name.is_empty() {
+    if name.is_empty() || name == NO_LINES {
         return;
     }
     let is_cut = is_cut_by_comment(text);

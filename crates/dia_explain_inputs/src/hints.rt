@@ -69,12 +69,15 @@ static HINTS: &str = "\
     # what goes before the hints on the token of a dictionary\n\
     MustNot: anything or the end => the rule mustnot is one word\n\
     Longer: anything or the end => a declaration begins with %avp and a space, as in %avp Session-Id 263 UTF8String must\n\
+    Exchanged: anything => the code stands before the format, as in %avp Session-Id 263 UTF8String must\n\
     Commented: anything or the end => a ; begins a comment, up to the end of its line: commas stand in a header\n\
-    HeadFlags HeadError HeadVendor HeadClose: {.. or [.. or <.. => a header ends with >, as < Diameter Header: 272, REQ >\n\
-    HeadFlags HeadError HeadVendor HeadClose: vendor => a group has the number of its vendor in the header, as < AVP Header: \
-     1400 10415 >\n\
-    HeadFlags HeadError HeadVendor HeadClose: REQ => REQ stands behind the Command Code, before PXY and the Application-ID\n\
-    HeadFlags HeadError HeadVendor HeadClose: ERR => the answers with an error of all commands have one definition: < \
+    HeadFlags HeadApp HeadError HeadVendor HeadClose: {.. or [.. or <.. => a header ends with >, as < Diameter Header: 272, \
+     REQ >\n\
+    HeadFlags HeadApp HeadError HeadVendor HeadClose: vendor => a group has the number of its vendor in the header, as < AVP \
+     Header: 1400 10415 >\n\
+    HeadFlags HeadApp HeadError HeadVendor HeadClose: REQ => REQ stands behind the Command Code, before PXY and the \
+     Application-ID\n\
+    HeadFlags HeadApp HeadError HeadVendor HeadClose: ERR => the answers with an error of all commands have one definition: < \
      Diameter Header: code, ERR >\n\
     # characters and runs that may stand in comments alone, wherever they stand\n\
     Token: \u{a0}.. => this is a no-break space: write a space\n\
@@ -148,7 +151,18 @@ static HINTS: &str = "\
      answer, or < AVP Header: CODE > for a group\n\
     CommandCode: a name => a command has its number in the header, as 272 for Credit-Control\n\
     GroupCode: a name => a group has the code of its AVP in the header, as 279 for Failed-AVP\n\
+    HeadFlags HeadApp: Cx or Dx => an application has its number in the header: that of Cx is 16777216\n\
+    HeadFlags HeadApp: Sh => an application has its number in the header: that of Sh is 16777217\n\
+    HeadFlags HeadApp: Rx => an application has its number in the header: that of Rx is 16777236\n\
+    HeadFlags HeadApp: Gx => an application has its number in the header: that of Gx is 16777238\n\
+    HeadFlags HeadApp: S6a or S6d => an application has its number in the header: that of S6a is 16777251\n\
+    HeadFlags HeadApp: S13 => an application has its number in the header: that of S13 is 16777252\n\
+    HeadFlags HeadApp: Ro or Gy => an application has its number in the header: that of Ro is 4\n\
+    HeadFlags HeadApp: Rf => an application has its number in the header: that of Rf is 3\n\
+    HeadFlags HeadApp: NASREQ => an application has its number in the header: that of NASREQ is 1\n\
     HeadFlags: a name => a request has REQ, and an answer has no word for it; PXY is there where the P flag is set\n\
+    HeadApp: a name => an application has its number in the header, as 16777251 for S6a; dictionaries/README.md has \
+     others\n\
     HeadError: anything => the answers with an error of all commands have one definition: < Diameter Header: code, ERR >\n\
     HeadClose: a number or , => a command has one Application-ID, and a group one vendor: define the command once for each \
      application\n\

@@ -219,7 +219,7 @@ fn push_more(note: &mut Note, message: &NamedText<'_>, count: usize, length: usi
         note.put(" bytes are here\n");
         note.put_excerpt(text, at);
         note.put_hint(if back(text, at).starts_with(b"01") {
-            "a second message seems to begin here: give one message at a time"
+            "a second message seems to begin here: give one message at a time; with --lines check, refute and show take one a line"
         } else {
             "take out what stands behind the message, or mend its Message Length, bytes 1 to 3"
         });

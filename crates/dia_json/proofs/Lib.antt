@@ -5,3 +5,4 @@ mod Objects
 mod ObjectsOfLevels
 mod Pairs
 mod Reports
+mod Shown

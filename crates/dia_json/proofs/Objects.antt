@@ -5,7 +5,7 @@ use Rattle.std.specs.Fmt.{decimal}
 use Rattle.std.proofs.lemmas.List.Concat.{flat_map-cons}
 use Rattle.std.proofs.lemmas.Option.{slice_get_cases}
 use Rattle.json.specs.Print.{quoted}
-use Rattle.serde_json.specs.Data.{Data, Members, no_members}
+use Rattle.serde_json.specs.Data.{Data, Members, member, no_members}
 use Rattle.serde_json.specs.Written.{compact_text, members_text}
 use Rattle.serde_json.proofs.OnLiterals.{serde_json_on_literals}
 use Rattle.dia_wire.specs.declared.Header.{Header}
@@ -23,9 +23,10 @@ use Rattle.dia_io.specs.declared.Exit.{Exit}
 use Rattle.dia_run.specs.Outcome.{listing_exit}
 use Rattle.dia_run.proofs.KnownAvps.{group_known}
 use Rattle.dia_captures.specs.Verdicts.{name_of}
+use Rattle.dia_show.specs.Listing.{Manner, IsDateOf, IsWordOf}
 use Rattle.dia_json.specs.Listing.{AddsAvp, AddsLevel, IsNamedLeaf}
-use Rattle.dia_json.specs.Messages.{AreShown, IsValue, TellsMessage, bad_length_members, command_member, header_members, hex_value, known_group, known_leaf, lines_of, name_member}
-use Rattle.dia_json.specs.Messages.{shown_members, stranger, value_member, vendor_value}
+use Rattle.dia_json.specs.Messages.{AreShown, IsTold, IsValue, TellsMessage, bad_length_members, command_member, header_members, hex_value, known_group, known_leaf, lines_of, name_member}
+use Rattle.dia_json.specs.Messages.{note_members, shown_members, stranger, text_member, value_member, vendor_value}
 use Rattle.dia_json.specs.Values.{about, avp_members, subject_members}
 use Rattle.dia_refused_json.specs.Members.{json_line, key_members, named_members}
 
@@ -41,19 +42,36 @@ pub group_told : (name written text : List ℕ) → written ≡ quoted name → 
 unfolding serde_json_on_literals
 group_told name written text is_name is = is ∙ ap (λ (t : List ℕ). codes ",\"name\":" ++ (t ++ codes "}")) is_name
 
-leaf_is : (name : List ℕ) (value : Data)
-    → members_text true (name_member name (value_member value)) ≡ codes ",\"name\":" ++ (quoted name ++ (codes ",\"value\":" ++ (compact_text value ++ codes "}")))
+leaf_is : (name : List ℕ) (value : Data) (notes : Members)
+    → members_text true (name_member name (member (codes "value") value notes))
+    ≡ codes ",\"name\":" ++ (quoted name ++ (codes ",\"value\":" ++ (compact_text value ++ members_text true notes)))
 unfolding serde_json_on_literals
-leaf_is name value = refl
+leaf_is name value notes = refl
 
-pub leaf_told : (name : List ℕ) (f : PlainFormat) (bytes written shown text : List ℕ) → written ≡ quoted name → (value : Data) × IsValue f bytes value × (shown ≡ compact_text value)
-    → text ≡ codes ",\"name\":" ++ (written ++ (codes ",\"value\":" ++ (shown ++ codes "}"))) → IsNamedLeaf name f bytes text
-leaf_told name f bytes written shown text is_name (value, is_value, is_shown) is = (
-  value,
-  is_value,
-  is ∙ ap (λ (t : List ℕ). codes ",\"name\":" ++ (t ++ (codes ",\"value\":" ++ (shown ++ codes "}")))) is_name
-      ∙ ap (λ (t : List ℕ). codes ",\"name\":" ++ (quoted name ++ (codes ",\"value\":" ++ (t ++ codes "}")))) is_shown ∙ sym (leaf_is name value),
+pub leaf_told : (m : Manner) (name : List ℕ) (f : PlainFormat) (bytes written shown rest text : List ℕ) (word date : Option (List ℕ)) → written ≡ quoted name
+    → (value : Data) × IsValue f bytes value × (shown ≡ compact_text value) → IsWordOf m name f bytes word → IsDateOf m.names f bytes date
+    → rest ≡ members_text true (note_members word date)
+    → text ≡ codes ",\"name\":" ++ (written ++ (codes ",\"value\":" ++ (shown ++ rest))) → IsNamedLeaf m name f bytes text
+leaf_told m name f bytes written shown rest text word date is_name (value, is_value, is_shown) is_word is_date is_rest is = (
+  member (codes "value") value (note_members word date),
+  record { value = value; word = word; date = date; is_value = is_value; is_word = is_word; is_date = is_date; parts = refl },
+  is ∙ ap (λ (t : List ℕ). codes ",\"name\":" ++ (t ++ (codes ",\"value\":" ++ (shown ++ rest)))) is_name
+      ∙ ap (λ (t : List ℕ). codes ",\"name\":" ++ (quoted name ++ (codes ",\"value\":" ++ (t ++ rest)))) is_shown
+      ∙ ap (λ (t : List ℕ). codes ",\"name\":" ++ (quoted name ++ (codes ",\"value\":" ++ (compact_text value ++ t)))) is_rest
+      ∙ sym (leaf_is name value (note_members word date)),
 )
+
+-- the date of an AVP, and its word in front of it
+pub date_told : (date written text : List ℕ) → written ≡ quoted date → text ≡ codes ",\"time\":" ++ (written ++ codes "}")
+    → text ≡ members_text true (text_member (codes "time") (Some date) no_members)
+unfolding serde_json_on_literals
+date_told date written text is_written is = is ∙ ap (λ (t : List ℕ). codes ",\"time\":" ++ (t ++ codes "}")) is_written
+
+pub word_told : (word written last text : List ℕ) (more : Members) → written ≡ quoted word → last ≡ members_text true more
+    → text ≡ codes ",\"word\":" ++ (written ++ last) → text ≡ members_text true (text_member (codes "word") (Some word) more)
+unfolding serde_json_on_literals
+word_told word written last text more is_written is_last is =
+    is ∙ ap (λ (t : List ℕ). codes ",\"word\":" ++ (t ++ last)) is_written ∙ ap (λ (t : List ℕ). codes ",\"word\":" ++ (quoted word ++ t)) is_last
 
 -- ---- objects
 
@@ -116,30 +134,31 @@ plain_format-Grouped f h = cc
 abbrev Added : ℕ → ℕ → PlainAvp → List ℕ → List ℕ → List ℕ → Type 0
 Added place depth v old new text = (members : Members) → text ≡ members_text true members → new ≡ old ++ json_line (shown_members place depth v members)
 
-pub stranger_added : (d : Dictionary) (place depth : ℕ) (v : PlainAvp) (old new text : List ℕ) → None ≡ entry_of d (key_of v)
-    → text ≡ members_text true (value_member (hex_value v.bytes)) → Added place depth v old new text → AddsAvp d place depth v old new false
-stranger_added d place depth v old new text none is_text added =
+pub stranger_added : (m : Manner) (d : Dictionary) (place depth : ℕ) (v : PlainAvp) (old new text : List ℕ) → None ≡ entry_of d (key_of v)
+    → text ≡ members_text true (value_member (hex_value v.bytes)) → Added place depth v old new text → AddsAvp m d place depth v old new false
+stranger_added m d place depth v old new text none is_text added =
     (_, stranger (ap (λ (o : Option ℕ). option_and_then (slice_get d.entries) o) (sym none)) refl refl, added (value_member (hex_value v.bytes)) is_text)
 
-pub group_added : (d : Dictionary) (place depth : ℕ) (v : PlainAvp) (i : ℕ) (f : Format) (name old new text : List ℕ) → Some i ≡ entry_of d (key_of v)
+pub group_added : (m : Manner) (d : Dictionary) (place depth : ℕ) (v : PlainAvp) (i : ℕ) (f : Format) (name old new text : List ℕ) → Some i ≡ entry_of d (key_of v)
     → IfSome (slice_get d.entries i) (λ e. name ≡ e.name) → IfSome (slice_get d.entries i) (λ e. plain_format f ≡ e.format) → f ≡ format.Grouped
-    → text ≡ members_text true (name_member name no_members) → Added place depth v old new text → AddsAvp d place depth v old new true
-group_added d place depth v i f name old new text is_i is_name is_format grouped is_text added =
+    → text ≡ members_text true (name_member name no_members) → Added place depth v old new text → AddsAvp m d place depth v old new true
+group_added m d place depth v i f name old new text is_i is_name is_format grouped is_text added =
     let (e, is_group, same) = group_known d v i f name is_i is_name is_format grouped in
     (_, known_group e is_group refl refl, added (name_member e.name no_members) (is_text ∙ ap (λ (n : List ℕ). members_text true (name_member n no_members)) same))
 
-pub leaf_added : (d : Dictionary) (place depth : ℕ) (v : PlainAvp) (i : ℕ) (f : Format) (name old new text : List ℕ) → Some i ≡ entry_of d (key_of v)
+pub leaf_added : (m : Manner) (d : Dictionary) (place depth : ℕ) (v : PlainAvp) (i : ℕ) (f : Format) (name old new text : List ℕ) → Some i ≡ entry_of d (key_of v)
     → IfSome (slice_get d.entries i) (λ e. name ≡ e.name) → IfSome (slice_get d.entries i) (λ e. plain_format f ≡ e.format) → ¬ (f ≡ format.Grouped)
-    → IsNamedLeaf name (plain_format f) v.bytes text → Added place depth v old new text → AddsAvp d place depth v old new false
-leaf_added d place depth v i f name old new text is_i is_name is_format no_group (value, is_value, is_text) added =
+    → IsNamedLeaf m name (plain_format f) v.bytes text → Added place depth v old new text → AddsAvp m d place depth v old new false
+leaf_added m d place depth v i f name old new text is_i is_name is_format no_group (told, is_told, is_text) added =
     elim (slice_get_cases d.entries i).1 [
       | inl (e, inside, is_e, here) ↦
           let same : name ≡ e.name = rw is_e at is_name in
           let format_is : plain_format f ≡ e.format = rw is_e at is_format in
           let is_known : known d (key_of v) ≡ Some e = ap (λ (o : Option ℕ). option_and_then (slice_get d.entries) o) (sym is_i) ∙ is_e in (
-            name_member e.name (value_member value),
-            known_leaf e value is_known (λ g. no_group (plain_format-Grouped f (format_is ∙ g))) (subst (λ (g : PlainFormat). IsValue g v.bytes value) format_is is_value) refl refl,
-            added (name_member e.name (value_member value)) (is_text ∙ ap (λ (n : List ℕ). members_text true (name_member n (value_member value))) same),
+            name_member e.name told,
+            known_leaf e told is_known (λ g. no_group (plain_format-Grouped f (format_is ∙ g)))
+                (subst (λ (n : List ℕ). IsTold m n e.format v.bytes told) same (subst (λ (g : PlainFormat). IsTold m name g v.bytes told) format_is is_told)) refl refl,
+            added (name_member e.name told) (is_text ∙ ap (λ (n : List ℕ). members_text true (name_member n told)) same),
           )
       | inr (past, none) ↦ absurd (omega (arith, past, position-within (λ (e : DictEntry). same_key (key_of v) e.key) d.entries i (sym is_i)))
     ]
@@ -188,11 +207,11 @@ command_told d i c written text is_def is_name is =
 
 -- ---- a whole message
 
-pub message_told : (d : Dictionary) (body begun headed all : List ℕ) (h : Header) (len : ℕ) (bad : Bool) (exit : Exit) → begun ≡ [] → headed ≡ begun ++ json_line (header_members d h len)
-    → AddsLevel d (record { depth = 0; place = 20; bytes = body }) headed all bad → exit ≡ listing_exit bad
-    → (avps : List Members) × (ends : Bool) × AreShown d (record { depth = 0; place = 20; bytes = body }) avps ends
+pub message_told : (m : Manner) (d : Dictionary) (body begun headed all : List ℕ) (h : Header) (len : ℕ) (bad : Bool) (exit : Exit) → begun ≡ [] → headed ≡ begun ++ json_line (header_members d h len)
+    → AddsLevel m d (record { depth = 0; place = 20; bytes = body }) headed all bad → exit ≡ listing_exit bad
+    → (avps : List Members) × (ends : Bool) × AreShown m d (record { depth = 0; place = 20; bytes = body }) avps ends
     × (all ≡ lines_of (header_members d h len ∷ avps)) × (exit ≡ listing_exit ends)
-message_told d body begun headed all h len bad exit none is_headed (avps, are, is_all) is_exit = (
+message_told m d body begun headed all h len bad exit none is_headed (avps, are, is_all) is_exit = (
   avps,
   bad,
   are,
@@ -201,12 +220,12 @@ message_told d body begun headed all h len bad exit none is_headed (avps, are, i
   is_exit,
 )
 
-pub message_is : (d : Dictionary) (bytes body : List ℕ) (h : Header) (len : ℕ) (text : List ℕ) (exit : Exit) → IsHead h (length bytes) (take 20 bytes)
+pub message_is : (m : Manner) (d : Dictionary) (bytes body : List ℕ) (h : Header) (len : ℕ) (text : List ℕ) (exit : Exit) → IsHead h (length bytes) (take 20 bytes)
     → IsMessageLength (length bytes) → body ≡ drop 20 bytes → len ≡ length bytes
-    → (avps : List Members) × (bad : Bool) × AreShown d (record { depth = 0; place = 20; bytes = body }) avps bad
+    → (avps : List Members) × (bad : Bool) × AreShown m d (record { depth = 0; place = 20; bytes = body }) avps bad
     × (text ≡ lines_of (header_members d h len ∷ avps)) × (exit ≡ listing_exit bad)
-    → TellsMessage d bytes text exit
-message_is d bytes body h len text exit head long is_body is_len (avps, bad, are, is_text, is_exit) = (
+    → TellsMessage m d bytes text exit
+message_is m d bytes body h len text exit head long is_body is_len (avps, bad, are, is_text, is_exit) = (
   header_members d h (length bytes) ∷ avps,
   bad,
   record {
@@ -214,7 +233,7 @@ message_is d bytes body h len text exit head long is_body is_len (avps, bad, are
     avps = avps;
     head = head;
     long = long;
-    shown = subst (λ (b : List ℕ). AreShown d (record { depth = 0; place = 20; bytes = b }) avps bad) is_body are;
+    shown = subst (λ (b : List ℕ). AreShown m d (record { depth = 0; place = 20; bytes = b }) avps bad) is_body are;
     are = refl;
   },
   is_text ∙ ap (λ (n : ℕ). lines_of (header_members d h n ∷ avps)) is_len,

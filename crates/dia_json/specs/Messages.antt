@@ -1,4 +1,5 @@
--- A message as JSON values: an object for its header, and one for each AVP, with the members of the groups that the dictionary knows.
+-- A message as JSON values: an object for its header, and one for each AVP, with the members of the groups that the dictionary knows;
+-- in a manner of `show`, which has words of values, and dates or not.
 use Rattle.std.specs.Prelude.{◌≡◌, ℕ, ◌+◌, ◌<◌, ◌==◌, if◌then◌else◌, ℤ, pos, Bool, true, false, List, [], ◌∷◌, ◌++◌, length, take, drop, Option, Some, None, codes, slice_get}
 use Rattle.std.specs.List.{flat_map}
 use Rattle.std.specs.Int.{Width, w32, w64, cast_signed}
@@ -20,6 +21,7 @@ use Rattle.dia_valid.specs.Valid.{class_of, known}
 use Rattle.dia_io.specs.declared.Exit.{Exit}
 use Rattle.dia_run.specs.Listing.{IsGroup, Level, behind, inside}
 use Rattle.dia_run.specs.Outcome.{listing_exit}
+use Rattle.dia_show.specs.Listing.{Manner, IsDateOf, IsWordOf}
 use Rattle.dia_captures.specs.Verdicts.{name_of}
 use Rattle.dia_json.specs.declared.values.ValueKind.{ValueKind}
 use Rattle.dia_json.specs.declared.values.ValueKind.TheVariants as kind
@@ -88,14 +90,32 @@ value_member value = member (codes "value") value no_members
 abbrev pub name_member : List ℕ → Members → Members
 name_member name rest = member (codes "name") (string name) rest
 
--- the name and the value of an AVP, and whether it is a group that the dictionary knows, which has no value
-pub data IsNamed (d : Dictionary) (v : PlainAvp) : Bool → Members → Type 0 where
+-- a text, if there is one
+abbrev pub text_member : List ℕ → Option (List ℕ) → Members → Members
+text_member name None rest = rest
+text_member name (Some text) rest = member name (string text) rest
+
+abbrev pub note_members : Option (List ℕ) → Option (List ℕ) → Members
+note_members word date = text_member (codes "word") word (text_member (codes "time") date no_members)
+
+-- the value of an AVP of this name, and behind it its word and its date, if it has them
+pub record IsTold (m : Manner) (name : List ℕ) (format : PlainFormat) (bytes : List ℕ) (told : Members) : Type 0 where
+  pub value : Data
+  pub word : Option (List ℕ)
+  pub date : Option (List ℕ)
+  pub is_value : IsValue format bytes value
+  pub is_word : IsWordOf m name format bytes word
+  pub is_date : IsDateOf m.names format bytes date
+  pub parts : told ≡ member (codes "value") value (note_members word date)
+
+-- the name of an AVP and what is told of its data, and whether it is a group that the dictionary knows, of which nothing is told
+pub data IsNamed (m : Manner) (d : Dictionary) (v : PlainAvp) : Bool → Members → Type 0 where
   stranger : {is_group : Bool} {named : Members} → known d (key_of v) ≡ None → is_group ≡ false → named ≡ value_member (hex_value v.bytes)
-      → IsNamed d v is_group named
-  known_leaf : {is_group : Bool} {named : Members} (e : DictEntry) (value : Data) → known d (key_of v) ≡ Some e → ¬ (e.format ≡ Grouped)
-      → IsValue e.format v.bytes value → is_group ≡ false → named ≡ name_member e.name (value_member value) → IsNamed d v is_group named
+      → IsNamed m d v is_group named
+  known_leaf : {is_group : Bool} {named : Members} (e : DictEntry) (told : Members) → known d (key_of v) ≡ Some e → ¬ (e.format ≡ Grouped)
+      → IsTold m e.name e.format v.bytes told → is_group ≡ false → named ≡ name_member e.name told → IsNamed m d v is_group named
   known_group : {is_group : Bool} {named : Members} (e : DictEntry) → IsGroup d v e → is_group ≡ true → named ≡ name_member e.name no_members
-      → IsNamed d v is_group named
+      → IsNamed m d v is_group named
 
 -- a Vendor-ID, or null where the field is absent
 abbrev pub vendor_value : Option ℕ → Data
@@ -115,21 +135,21 @@ bad_length_members place = verdict_members (codes "fault") (member (codes "code"
 
 -- the objects of a level: one for each AVP, and behind a known group's those of its members; up to the end, or to a bad length, which
 -- ends it all
-pub data AreShown (d : Dictionary) : Level → List Members → Bool → Type 0 where
-  end : {level : Level} {objects : List Members} {bad : Bool} → level.bytes ≡ [] → objects ≡ [] → bad ≡ false → AreShown d level objects bad
+pub data AreShown (m : Manner) (d : Dictionary) : Level → List Members → Bool → Type 0 where
+  end : {level : Level} {objects : List Members} {bad : Bool} → level.bytes ≡ [] → objects ≡ [] → bad ≡ false → AreShown m d level objects bad
   bad_length : {level : Level} {objects : List Members} {bad : Bool} → 0 < length level.bytes → BeginsWithNone level.bytes
-      → objects ≡ bad_length_members level.place ∷ [] → bad ≡ true → AreShown d level objects bad
+      → objects ≡ bad_length_members level.place ∷ [] → bad ≡ true → AreShown m d level objects bad
   avp : {level : Level} {objects : List Members} {bad : Bool} (v : PlainAvp) (rest : List ℕ) (named : Members) (more : List Members)
-      → BeginsWith v level.bytes rest → IsNamed d v false named
-      → AreShown d (behind level v rest) more bad → objects ≡ shown_members level.place level.depth v named ∷ more → AreShown d level objects bad
+      → BeginsWith v level.bytes rest → IsNamed m d v false named
+      → AreShown m d (behind level v rest) more bad → objects ≡ shown_members level.place level.depth v named ∷ more → AreShown m d level objects bad
   group : {level : Level} {objects : List Members} {bad : Bool} (v : PlainAvp) (rest : List ℕ) (named : Members) (members more : List Members)
-      → BeginsWith v level.bytes rest → IsNamed d v true named
-      → AreShown d (inside level v) members false → AreShown d (behind level v rest) more bad
-      → objects ≡ shown_members level.place level.depth v named ∷ (members ++ more) → AreShown d level objects bad
+      → BeginsWith v level.bytes rest → IsNamed m d v true named
+      → AreShown m d (inside level v) members false → AreShown m d (behind level v rest) more bad
+      → objects ≡ shown_members level.place level.depth v named ∷ (members ++ more) → AreShown m d level objects bad
   bad_group : {level : Level} {objects : List Members} {bad : Bool} (v : PlainAvp) (rest : List ℕ) (named : Members) (members : List Members)
-      → BeginsWith v level.bytes rest → IsNamed d v true named
-      → AreShown d (inside level v) members true → objects ≡ shown_members level.place level.depth v named ∷ members
-      → bad ≡ true → AreShown d level objects bad
+      → BeginsWith v level.bytes rest → IsNamed m d v true named
+      → AreShown m d (inside level v) members true → objects ≡ shown_members level.place level.depth v named ∷ members
+      → bad ≡ true → AreShown m d level objects bad
 
 -- ---- messages
 
@@ -146,12 +166,12 @@ header_members d h len = member (codes "version") (number (unsigned 1)) (member 
     (member (codes "length") (number (unsigned len)) (command_member d (selected d h.code (class_of h.flags) h.app))))))))
 
 -- the objects of a message
-pub record IsMessageValue (d : Dictionary) (bytes : List ℕ) (objects : List Members) (bad : Bool) : Type 0 where
+pub record IsMessageValue (m : Manner) (d : Dictionary) (bytes : List ℕ) (objects : List Members) (bad : Bool) : Type 0 where
   pub h : Header
   pub avps : List Members
   pub head : IsHead h (length bytes) (take 20 bytes)
   pub long : IsMessageLength (length bytes)
-  pub shown : AreShown d (record { depth = 0; place = 20; bytes = drop 20 bytes }) avps bad
+  pub shown : AreShown m d (record { depth = 0; place = 20; bytes = drop 20 bytes }) avps bad
   pub are : objects ≡ header_members d h (length bytes) ∷ avps
 
 -- their text: a line for each
@@ -159,6 +179,6 @@ abbrev pub lines_of : List Members → List ℕ
 lines_of objects = flat_map json_line objects
 
 -- what is written of a message, and how that ends
-abbrev pub TellsMessage : Dictionary → List ℕ → List ℕ → Exit → Type 0
-TellsMessage d bytes text exit =
-    (objects : List Members) × (bad : Bool) × IsMessageValue d bytes objects bad × (text ≡ lines_of objects) × (exit ≡ listing_exit bad)
+abbrev pub TellsMessage : Manner → Dictionary → List ℕ → List ℕ → Exit → Type 0
+TellsMessage m d bytes text exit =
+    (objects : List Members) × (bad : Bool) × IsMessageValue m d bytes objects bad × (text ≡ lines_of objects) × (exit ≡ listing_exit bad)

@@ -1,7 +1,7 @@
 -- What is written where `show` and `propose` answer as JSON, and how the program ends.
-use Rattle.std.specs.Prelude.{◌≡◌, ℕ, ◌⊎◌, List, ◌++◌, codes}
+use Rattle.std.specs.Prelude.{◌≡◌, ℕ, ◌⊎◌, Bool, List, ◌++◌, codes}
 use Rattle.std.specs.List.{flat_map}
-use Rattle.serde_json.specs.Data.{Members, member, no_members, string}
+use Rattle.serde_json.specs.Data.{Members, member, no_members, number, string, unsigned}
 use Rattle.dia_dict.specs.Dictionary.{Dictionary}
 use Rattle.dia_policy.specs.declared.Unknown.{Unknown}
 use Rattle.dia_inclusion.specs.Proposed.{IsFirstUnknown, IsProposal}
@@ -11,15 +11,44 @@ use Rattle.dia_io.specs.declared.Exit.{Exit}
 use Rattle.dia_io.specs.declared.Exit.TheVariants.{Bad, Yes}
 use Rattle.dia_run.specs.Outcome.{IsShowOutcome}
 use Rattle.dia_run.specs.Texts.{IsDictionaryText, IsMessageText}
+use Rattle.dia_show.specs.Listing.{Manner}
+use Rattle.dia_show.specs.Words.{Word, IsNoValuesText, IsValuesText}
+use Rattle.dia_show.specs.declared.reading.BadValues.{BadValues}
+use Rattle.dia_show.specs.declared.reading.BadValues.TheVariants as values
 use Rattle.dia_json.specs.Messages.{TellsMessage}
 use Rattle.dia_refused_json.specs.Telling.{IsDictionaryRefusal, IsRefusal, RefusedDictionaries, RefusesAs}
 use Rattle.dia_refused_json.specs.Members.{json_line, refused_members}
 
--- `show`: the objects of the message, or the dictionary or the message is refused
-abbrev pub IsShowJson : Inputs → List ℕ → Exit → Type 0
-IsShowJson inputs text exit =
-    ((d : Dictionary) × (bytes : List ℕ) × IsDictionaryText inputs.first d × IsMessageText inputs.message bytes × TellsMessage d bytes text exit)
-    ⊎ (IsDictionaryRefusal (RefusesAs (IsShowOutcome inputs)) inputs.first text exit ⊎ IsRefusal (RefusesAs (IsShowOutcome inputs)) inputs.message text exit)
+-- a text of words of values that is refused, and on which line
+abbrev pub on_line : ℕ → Members
+on_line n = member (codes "line") (number (unsigned n)) no_members
+
+abbrev pub values_members : BadValues → Members
+values_members values.TooLong = refused_members (codes "values") (codes "too long") no_members
+values_members (values.NotText at) = refused_members (codes "values") (codes "not text") no_members
+values_members (values.Syntax n) = refused_members (codes "values") (codes "syntax") (on_line n)
+values_members (values.Duplicate n) = refused_members (codes "values") (codes "duplicate") (on_line n)
+values_members (values.Limit n) = refused_members (codes "values") (codes "limit") (on_line n)
+
+abbrev pub TellsValues : BadValues → List ℕ → Exit → Type 0
+TellsValues bad text exit = (text ≡ json_line (values_members bad)) × (exit ≡ Bad)
+
+-- the words of values are refused, behind a dictionary
+abbrev pub RefusesValues : Inputs → List ℕ → Exit → Type 0
+RefusesValues inputs text exit =
+    (d : Dictionary) × (bad : BadValues) × IsDictionaryText inputs.first d × IsNoValuesText inputs.table bad × TellsValues bad text exit
+
+-- with a dictionary, in a manner: the objects of the message, or it is refused
+abbrev pub ShowsJson : Manner → Dictionary → Inputs → List ℕ → Exit → Type 0
+ShowsJson m d inputs text exit = ((bytes : List ℕ) × IsMessageText inputs.message bytes × TellsMessage m d bytes text exit)
+    ⊎ IsRefusal (RefusesAs (IsShowOutcome inputs)) inputs.message text exit
+
+-- `show`, with `--names` and the words of values: the objects of the message; or the dictionary, the words or the message are refused
+abbrev pub IsShowJson : Bool → Inputs → List ℕ → Exit → Type 0
+IsShowJson names inputs text exit =
+    ((d : Dictionary) × (words : List Word) × IsDictionaryText inputs.first d × IsValuesText inputs.table words
+    × ShowsJson (record { words = words; names = names }) d inputs text exit)
+    ⊎ (IsDictionaryRefusal (RefusesAs (IsShowOutcome inputs)) inputs.first text exit ⊎ RefusesValues inputs text exit)
 
 -- ---- `propose`
 

@@ -1,18 +1,20 @@
 //! The objects of the AVPs of a message.
 
-ghost use Rattle.std.specs.Prelude.{◌≡◌, ◌<◌, ◌+◌, ◌^◌, ◌++◌, length, true, IfOk, OnOk, string_bytes};
+ghost use Rattle.std.specs.Prelude.{◌≡◌, ◌<◌, ◌+◌, ◌^◌, ◌++◌, length, true, IfOk, OnOk, codes, option_map, string_bytes};
 ghost use Rattle.serde_json.specs.Data.{Members, no_members};
 ghost use Rattle.serde_json.specs.Written.{compact_text, members_text};
 ghost use Rattle.dia_wire.specs.Wire.{plain_avp};
 ghost use Rattle.dia_data.specs.Plain.{plain_format};
 ghost use Rattle.dia_refused_json.specs.Members.{json_line};
-ghost use Rattle.dia_json.specs.Messages.{bad_length_members, hex_value, name_member, shown_members};
-ghost use Rattle.dia_json.specs.Messages.{value_member, vendor_value};
+ghost use Rattle.dia_json.specs.Messages.{bad_length_members, hex_value, name_member, note_members, shown_members};
+ghost use Rattle.dia_show.specs.Manners.{plain_manner_of};
+ghost use Rattle.dia_json.specs.Messages.{text_member, value_member, vendor_value};
 ghost use Rattle.dia_json.specs.Listing.{AddsAvp, AddsLevel, IsNamedLeaf};
 
 use crate::values::{hex_text, value_text};
 use dia_dict::{Book, Format};
 use dia_refused_json::quoted;
+use dia_show::{Manner, date_of, word_of};
 use dia_wire::{Avp, AvpFault, key, next_avp};
 use std::alloc::{AllocError, Global};
 
@@ -33,12 +35,13 @@ struct Rest<'a> {
 pub fn push_level<B: Book>(
     alloc: Global,
     text: &mut String,
+    manner: &Manner<'_>,
     book: &B,
     bytes: &[u8],
     place: usize,
 ) -> Result<bool, AllocError>
     requires { place + length bytes.now < 2 ^ 63 }
-    ensures { IfOk result (AddsLevel (B.meaning book.now)
+    ensures { IfOk result (AddsLevel (plain_manner_of manner.now) (B.meaning book.now)
         (record { depth = 0; place = place; bytes = bytes.now })
         (string_bytes text.old) (string_bytes text.new)) }
 {
@@ -51,7 +54,7 @@ pub fn push_level<B: Book>(
         let place = rest.end - rest.bytes.len();
         match next_avp(rest.bytes) {
             Ok(Some((avp, behind))) => {
-                let is_group = push_avp(alloc, text, book, place, outer.len(), &avp)?;
+                let is_group = push_avp(alloc, text, manner, book, place, outer.len(), &avp)?;
                 rest.bytes = behind;
                 if is_group {
                     outer.push(rest)?;
@@ -77,12 +80,13 @@ pub fn push_level<B: Book>(
 fn push_avp<B: Book>(
     alloc: Global,
     text: &mut String,
+    manner: &Manner<'_>,
     book: &B,
     place: usize,
     depth: usize,
     avp: &Avp<'_>,
 ) -> Result<bool, AllocError>
-    ensures { IfOk result (AddsAvp (B.meaning book.now) place depth (plain_avp avp.now)
+    ensures { IfOk result (AddsAvp (plain_manner_of manner.now) (B.meaning book.now) place depth (plain_avp avp.now)
         (string_bytes text.old) (string_bytes text.new)) }
 {
     let Some(entry) = book.avp(key(avp)) else {
@@ -98,7 +102,7 @@ fn push_avp<B: Book>(
             Ok(true)
         }
         format => {
-            let named = named_leaf(alloc, name, format, avp.bytes)?;
+            let named = named_leaf(alloc, manner, name, format, avp.bytes)?;
             push_object(alloc, text, place, depth, avp, named.as_str())?;
             Ok(false)
         }
@@ -124,15 +128,49 @@ fn named_group(alloc: Global, name: &str) -> Result<String, AllocError>
 /// The last members of an AVP of this name, and the brace behind them.
 fn named_leaf(
     alloc: Global,
+    manner: &Manner<'_>,
     name: &str,
     format: &Format,
     bytes: &[u8],
 ) -> Result<String, AllocError>
-    ensures { IfOk result (λ text. IsNamedLeaf name.now (plain_format format.now) bytes.now (string_bytes text)) }
+    ensures { IfOk result (λ text. IsNamedLeaf (plain_manner_of manner.now) name.now (plain_format format.now) bytes.now
+        (string_bytes text)) }
 {
-    let name = quoted(alloc, name)?;
     let value = value_text(alloc, format, bytes)?;
-    format!(in alloc; ",\"name\":{name},\"value\":{value}}}")
+    let word = word_of(alloc, manner, name, format, bytes)?;
+    let date = date_of(alloc, manner.names, format, bytes)?;
+    let rest = noted(alloc, word, date)?;
+    let name = quoted(alloc, name)?;
+    format!(in alloc; ",\"name\":{name},\"value\":{value}{rest}")
+}
+
+/// The members of a word and a date, as far as they are there, and the brace behind them.
+fn noted(alloc: Global, word: Option<&str>, date: Option<String>) -> Result<String, AllocError>
+    ensures { IfOk result (λ text. string_bytes text ≡ members_text true
+        (note_members (option_map (λ word. word.now) word.entry) (option_map (λ date. string_bytes date) date))) }
+{
+    let last = dated(alloc, date)?;
+    match word {
+        Some(word) => {
+            let word = quoted(alloc, word)?;
+            format!(in alloc; ",\"word\":{word}{last}")
+        }
+        None => Ok(last),
+    }
+}
+
+/// The member of a date, if it is there, and the brace behind it.
+fn dated(alloc: Global, date: Option<String>) -> Result<String, AllocError>
+    ensures { IfOk result (λ text. string_bytes text ≡ members_text true
+        (text_member (codes "time") (option_map (λ date. string_bytes date) date) no_members)) }
+{
+    match date {
+        Some(date) => {
+            let date = quoted(alloc, date.as_str())?;
+            format!(in alloc; ",\"time\":{date}}}")
+        }
+        None => String::from_str(alloc, "}"),
+    }
 }
 
 /// Adds the object of an AVP whose last members are these.

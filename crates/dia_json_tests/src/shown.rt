@@ -20,18 +20,35 @@ const SHOWN: &str =
 
 #[test]
 fn shows_a_message(rt: HostRuntime) -> Result<(), Fail> {
-    let inputs = inputs(rt.alloc(), REQUEST)?;
-    let answered = show(rt.alloc(), &inputs)?;
+    let inputs = inputs(rt.alloc(), "", REQUEST)?;
+    let answered = show(rt.alloc(), false, &inputs)?;
     assert_eq!(rt; answered.exit, Exit::Yes);
     assert!(rt; answered.text.as_str() == SHOWN);
     Ok(())
 }
 
-fn inputs(alloc: Global, message: &str) -> Result<Inputs, AllocError> {
+/// A Disconnect-Peer-Request of RFC 6733 section 5.4.1, whose cause is REBOOTING (section 5.4.3).
+const CAUSE: &str = "010000208000011a000000000000000100000002000001114000000c00000000";
+
+const WORDED: &str =
+    r#"{"version":1,"flags":128,"code":282,"application":0,"hop_by_hop":1,"end_to_end":2,"length":32,"command":"DPR"}
+{"at":20,"depth":0,"code":273,"vendor":null,"flags":64,"length":12,"name":"Disconnect-Cause","value":0,"word":"REBOOTING"}
+"#;
+
+#[test]
+fn shows_a_word(rt: HostRuntime) -> Result<(), Fail> {
+    let inputs = inputs(rt.alloc(), "Disconnect-Cause 0 REBOOTING\n", CAUSE)?;
+    let answered = show(rt.alloc(), true, &inputs)?;
+    assert_eq!(rt; answered.exit, Exit::Yes);
+    assert!(rt; answered.text.as_str() == WORDED);
+    Ok(())
+}
+
+fn inputs(alloc: Global, values: &str, message: &str) -> Result<Inputs, AllocError> {
     Ok(Inputs {
         first: Input::Bytes(Vec::from_slice(alloc, base_text().as_bytes())?),
         second: Input::Bytes(Vec::new(alloc)),
-        table: Input::Bytes(Vec::new(alloc)),
+        table: Input::Bytes(Vec::from_slice(alloc, values.as_bytes())?),
         message: Input::Bytes(Vec::from_slice(alloc, message.as_bytes())?),
     })
 }

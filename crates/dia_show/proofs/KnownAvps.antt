@@ -1,5 +1,5 @@
 -- The line of an AVP, from what a book's look-ups answer.
-use Rattle.std.proofs.Common.{◌≡◌, ℕ, Bool, true, false, List, ◌++◌, length, Option, Some, None, codes, refl, sym, ap, subst, ◌∙◌, append_assoc, arith, inl, inr}
+use Rattle.std.proofs.Common.{◌≡◌, ℕ, Bool, true, false, List, [], ◌++◌, length, Option, Some, None, codes, refl, sym, ap, subst, ◌∙◌, append_assoc, arith, inl, inr}
 use Rattle.std.specs.Prelude.{slice_get, IfSome, option_and_then}
 use Rattle.std.proofs.lemmas.Option.{slice_get_cases}
 use Rattle.dia_wire.specs.Wire.{PlainAvp, key_of}
@@ -17,7 +17,7 @@ use Rattle.dia_run.specs.Listing.{IsGroup}
 use Rattle.dia_data.specs.Shown.{IsValueText}
 use Rattle.dia_show.specs.Dates.{AddsTime, IsTimeText}
 use Rattle.dia_show.specs.Words.{word_of}
-use Rattle.dia_show.specs.Listing.{Manner, unknown, leaf, date, columns, has_date, told_format, word_note, AddsAvp, AddsDateNote, AddsNameAndTold, AddsTold}
+use Rattle.dia_show.specs.Listing.{Manner, IsDateOf, unknown, leaf, date, dated, columns, has_date, told_format, word_note, AddsAvp, AddsDateNote, AddsNameAndTold, AddsTold}
 
 plain_format-Grouped : (f : Format) → plain_format f ≡ Grouped → f ≡ format.Grouped
 plain_format-Grouped format.Grouped h = refl
@@ -106,6 +106,12 @@ pub four_bytes : (names : Bool) (format : PlainFormat) (bytes : List ℕ) → ha
 four_bytes false format bytes h = absurd cc
 four_bytes true (FourBytes Time) bytes h = eqb-true (length bytes) 4 h
 four_bytes true format bytes h = absurd cc
+
+-- a date alone
+pub date_found : (names : Bool) (format : PlainFormat) (bytes one new : List ℕ) (n : ℕ) → has_date names format bytes ≡ true → one ≡ [] → n ≡ number bytes
+    → AddsTime n one new → IsDateOf names format bytes (Some new)
+date_found names format bytes one new n has none is_number (text, is_text, is_new) =
+    dated text has (subst (λ (k : ℕ). IsTimeText k text) is_number is_text) (ap Some (is_new ∙ ap (λ (t : List ℕ). t ++ text) none))
 
 -- a date behind a blank
 pub date_noted : (names : Bool) (format : PlainFormat) (bytes old one new : List ℕ) (n : ℕ) → has_date names format bytes ≡ true → one ≡ old ++ codes " " → n ≡ number bytes

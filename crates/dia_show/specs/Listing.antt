@@ -125,6 +125,18 @@ pub data IsDateNote (names : Bool) (format : PlainFormat) (bytes note : List ℕ
   date : (text : List ℕ) → has_date names format bytes ≡ true → IsTimeText (number bytes) text → note ≡ codes " " ++ text
       → IsDateNote names format bytes note
 
+-- the word of the data of an AVP of this name, if it has one
+pub record IsWordOf (m : Manner) (name : List ℕ) (format : PlainFormat) (bytes : List ℕ) (word : Option (List ℕ)) : Type 0 where
+  pub value : List ℕ
+  pub is_value : IsValueText (told_format m.names format bytes) bytes value
+  pub is_word : word ≡ word_of m.words name value
+
+-- the date of the data, if it has one
+pub data IsDateOf (names : Bool) (format : PlainFormat) (bytes : List ℕ) (date : Option (List ℕ)) : Type 0 where
+  undated : has_date names format bytes ≡ false → date ≡ None → IsDateOf names format bytes date
+  dated : (text : List ℕ) → has_date names format bytes ≡ true → IsTimeText (number bytes) text → date ≡ Some text
+      → IsDateOf names format bytes date
+
 -- the data of an AVP of this name: its value as `show` prints it, its word, and its date
 pub record IsTold (m : Manner) (name : List ℕ) (format : PlainFormat) (bytes told : List ℕ) : Type 0 where
   pub value : List ℕ

@@ -40,7 +40,7 @@ impl fmt::Display for BadValues {
 }
 
 /// How a message is shown, with the words that an input's text has; or why it has none.
-pub(crate) fn read_manner<'t>(
+pub fn read_manner<'t>(
     alloc: Global,
     names: bool,
     input: &'t Input,

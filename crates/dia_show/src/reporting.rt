@@ -21,7 +21,7 @@ pub struct Reported {
 
 /// What is written, how it ends, and the report.
 #[derive(Drop)]
-pub(crate) struct Answered {
+pub struct Answered {
     pub text: String,
     pub exit: Exit,
     pub report: Report,

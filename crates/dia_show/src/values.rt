@@ -1,9 +1,9 @@
 //! The data of an AVP: its value, its word and its date.
 
-ghost use Rattle.std.specs.Prelude.{◌≡◌, ◌++◌, IfOk, OnOk, string_bytes};
+ghost use Rattle.std.specs.Prelude.{◌≡◌, ◌++◌, IfOk, OnOk, option_map, string_bytes};
 ghost use Rattle.dia_data.specs.Plain.{plain_format};
 ghost use Rattle.dia_data.specs.Shown.{IsValueText};
-ghost use Rattle.dia_show.specs.Listing.{AddsDateNote, AddsTold, has_date, is_printable, is_text};
+ghost use Rattle.dia_show.specs.Listing.{AddsDateNote, AddsTold, IsDateOf, IsWordOf, has_date, is_printable, is_text};
 ghost use Rattle.dia_show.specs.Listing.{told_format, word_note};
 ghost use Rattle.dia_show.specs.Manners.{plain_manner_of};
 ghost use Rattle.dia_show.specs.Words.{plain_words, word_of};
@@ -36,6 +36,40 @@ pub(crate) fn push_told(
     text.push_str(value.as_str())?;
     push_word(text, &manner.words, name, value.as_str())?;
     push_date(text, manner.names, format, bytes)
+}
+
+/// The word of the data of an AVP of this name, if it has one.
+pub fn word_of<'t>(
+    alloc: Global,
+    manner: &Manner<'t>,
+    name: &str,
+    format: &Format,
+    bytes: &[u8],
+) -> Result<Option<&'t str>, AllocError>
+    ensures { IfOk result (λ word. IsWordOf (plain_manner_of manner.now) name.now (plain_format format.now) bytes.now
+        (option_map (λ text. text.now) word)) }
+{
+    let value = value_of(alloc, manner.names, format, bytes)?;
+    Ok(manner.words.get(name, value.as_str()))
+}
+
+/// The date of the data, with names and of a Time.
+pub fn date_of(
+    alloc: Global,
+    names: bool,
+    format: &Format,
+    bytes: &[u8],
+) -> Result<Option<String>, AllocError>
+    ensures { IfOk result (λ date. IsDateOf names (plain_format format.now) bytes.now
+        (option_map (λ text. string_bytes text) date)) }
+{
+    if has_date(names, format, bytes) {
+        let mut date = String::new(alloc);
+        push_time(&mut date, BigEndian::read_u32(bytes))?;
+        Ok(Some(date))
+    } else {
+        Ok(None)
+    }
 }
 
 /// The value of the data, as `show` prints it, or as a text.

@@ -8,7 +8,7 @@ use Rattle.dia_cli.specs.declared.origin.Origin.{Origin}
 use Rattle.dia_run.specs.Outcome.{IsOutcome}
 use Rattle.dia_tasks.specs.Endings.{Runs}
 use Rattle.dia_tasks.specs.Answers.{IsText, IsShow}
-use Rattle.dia_cli.specs.declared.origin.Origin.TheVariants.{Nowhere, Base, StandardInput, File}
+use Rattle.dia_cli.specs.declared.origin.Origin.TheVariants.{Nowhere, Base, Empty, StandardInput, File}
 use Rattle.dia_show.specs.Outcome.{IsNamedOutcome}
 use Rattle.dia_cli.specs.Ending.{Stream}
 use Rattle.std.specs.Prelude.{Result, false}
@@ -30,5 +30,6 @@ abbrev pub show_with_words : (table : Origin) (inputs : Inputs) (out : Stream) (
     → Runs (IsNamedOutcome false inputs) out ended → Runs (IsShow table inputs) out ended
 show_with_words Nowhere inputs out ended other runs = absurd (other refl)
 show_with_words Base inputs out ended other runs = runs
+show_with_words Empty inputs out ended other runs = runs
 show_with_words (StandardInput limit) inputs out ended other runs = runs
 show_with_words (File path limit) inputs out ended other runs = runs

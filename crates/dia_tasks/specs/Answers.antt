@@ -14,7 +14,7 @@ use Rattle.dia_compared_json.specs.Compared.{IsCompareJson}
 
 -- as JSON, which `render` doesn't have
 abbrev pub IsJson : Command → Inputs → List ℕ → Exit → Type 0
-IsJson Show inputs text exit = IsShowJson inputs text exit
+IsJson Show inputs text exit = IsShowJson false inputs text exit
 IsJson Render inputs text exit = IsRenderOutcome inputs text exit
 IsJson (Check u most) inputs text exit = IsCheckJson u most inputs text exit
 IsJson (Compare u) inputs text exit = IsCompareJson u inputs text exit
@@ -25,6 +25,11 @@ IsJson (Propose u names) inputs text exit = IsProposeJson u (map (λ name. strin
 abbrev pub IsShow : Origin → Inputs → List ℕ → Exit → Type 0
 IsShow Nowhere inputs text exit = IsOutcome Show inputs text exit
 IsShow table inputs text exit = IsNamedOutcome false inputs text exit
+
+-- `show` with words of values, with `--names` or without: as JSON, if that is asked for
+abbrev pub IsNamed : Bool → Bool → Inputs → List ℕ → Exit → Type 0
+IsNamed true names inputs text exit = IsShowJson names inputs text exit
+IsNamed false names inputs text exit = IsNamedOutcome names inputs text exit
 
 -- as text
 abbrev pub IsText : Origin → Command → Inputs → List ℕ → Exit → Type 0

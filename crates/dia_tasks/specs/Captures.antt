@@ -21,7 +21,7 @@ use Rattle.dia_cli.specs.OpenedInputs.{Gives}
 use Rattle.dia_cli.specs.declared.ending.Ending.{Ending}
 use Rattle.dia_cli.specs.declared.ending.Ending.TheVariants as ending
 use Rattle.dia_cli.specs.declared.origin.Origin.{Origin}
-use Rattle.dia_cli.specs.declared.origin.Origin.TheVariants.{Nowhere, Base, File, StandardInput}
+use Rattle.dia_cli.specs.declared.origin.Origin.TheVariants.{Nowhere, Base, Empty, File, StandardInput}
 use Rattle.dia_tasks.specs.declared.captured.Capture.{Capture}
 
 -- what a feed still gave before, and what it gives now
@@ -86,6 +86,7 @@ IsFailure word failed made = ⊥
 abbrev pub word_of : Origin → List ℕ
 word_of Nowhere = codes ""
 word_of Base = codes "@base"
+word_of Empty = codes "@none"
 word_of (StandardInput limit) = codes "-"
 word_of (File path limit) = path.now
 

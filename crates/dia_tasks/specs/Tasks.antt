@@ -4,14 +4,13 @@ use Rattle.dia_io.specs.declared.Inputs.{Inputs}
 use Rattle.dia_captures.specs.declared.summaries.Lines.TheVariants.{Checked, Refuted, Placed}
 use Rattle.dia_make.specs.Outcome.{IsMakeOutcome}
 use Rattle.dia_make.specs.Shown.{IsShowTextOutcome}
-use Rattle.dia_show.specs.Outcome.{IsNamedOutcome}
 use Rattle.dia_report.specs.declared.reporting.Reported.{Reported}
 use Rattle.dia_cli.specs.Ending.{Stream}
 use Rattle.dia_cli.specs.declared.ending.Ending.{Ending}
 use Rattle.dia_cli.specs.declared.origin.Origins.{Origins}
 use Rattle.dia_cli.specs.declared.task.Task.{Task}
 use Rattle.dia_cli.specs.declared.task.Task.TheVariants as task
-use Rattle.dia_tasks.specs.Answers.{IsAnswer}
+use Rattle.dia_tasks.specs.Answers.{IsAnswer, IsNamed}
 use Rattle.dia_tasks.specs.Captures.{Captures, Lists, known_of, messages_word}
 use Rattle.dia_tasks.specs.Endings.{Runs}
 use Rattle.dia_tasks.specs.declared.running.Attempt.{Attempt}
@@ -35,7 +34,7 @@ abbrev pub TaskRuns : Task → Bool → World → Origins → Inputs → Stream 
 TaskRuns (task.Whole command) json w origins inputs out ended = Runs (IsAnswer json origins.table command inputs) out ended
 TaskRuns task.Make json w origins inputs out ended = Runs (IsMakeOutcome inputs) out ended
 TaskRuns task.ShowText json w origins inputs out ended = Runs (IsShowTextOutcome inputs) out ended
-TaskRuns task.ShowNamed json w origins inputs out ended = Runs (IsNamedOutcome true inputs) out ended
+TaskRuns task.ShowNamed json w origins inputs out ended = Runs (IsNamed json true inputs) out ended
 TaskRuns (task.ShowLines names) json w origins inputs out ended =
     Lists names inputs (messages_of w origins) (messages_word origins.messages) out ended
 TaskRuns (task.Breaking asked) json w origins inputs out ended = ⊥

@@ -1,6 +1,6 @@
 //! Commands whose inputs are read whole.
 
-ghost use Rattle.std.specs.Prelude.{IfOk, IsTrue, string_bytes};
+ghost use Rattle.std.specs.Prelude.{◌≢◌, IfOk, IsTrue, string_bytes};
 ghost use Rattle.dia_cli.specs.Ending.{stream};
 ghost use Rattle.dia_run.specs.Outcome.{IsOutcome};
 ghost use Rattle.dia_tasks.specs.Answers.{IsJson};
@@ -31,14 +31,15 @@ pub fn answer<'a, W: Write>(
     }
 }
 
-/// Runs a command whose inputs were read whole, and answers as JSON. `render` has no such answer.
+/// Runs a command other than `show`, whose inputs were read whole, and answers as JSON. `render` has no such answer.
 pub fn answer_as_json<'a, W: Write>(
     alloc: Global,
     command: &Command,
     inputs: &Inputs,
     out: &mut ToWriter<W>,
 ) -> Result<Reported, Ending<'a>>
-    requires { ¬ IsTrue (⟦<ToWriter<W> as Sink>⟧.has_failed out.old) }
+    requires sound { ¬ IsTrue (⟦<ToWriter<W> as Sink>⟧.has_failed out.old) }
+    requires other { command.now ≢ Command.Show }
     ensures { Runs (IsJson command.now inputs.now)
         (stream (⟦<ToWriter<W> as Sink>⟧.written out.old) (⟦<ToWriter<W> as Sink>⟧.written out.new)
         (⟦<ToWriter<W> as Sink>⟧.has_failed out.new)) result }
@@ -46,13 +47,14 @@ pub fn answer_as_json<'a, W: Write>(
     put_answer(made_as_json(alloc, command, inputs), out)
 }
 
-/// The answer of a command as JSON.
+/// The answer of a command other than `show` as JSON.
 fn made_as_json(alloc: Global, command: &Command, inputs: &Inputs) -> Result<Answered, AllocError>
+    requires { command.now ≢ Command.Show }
     ensures { IfOk result (λ answered. IsJson command.now inputs.now
         (string_bytes answered.text) answered.exit) }
 {
     match command {
-        Command::Show => dia_json::show(alloc, inputs),
+        Command::Show => unreachable!(),
         Command::Check { unknown, levels } => dia_json::check(alloc, *unknown, *levels, inputs),
         Command::Refute { unknown, levels } => dia_json::refute(alloc, *unknown, *levels, inputs),
         Command::Propose { unknown, names } => {

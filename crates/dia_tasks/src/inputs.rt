@@ -7,6 +7,9 @@ use dia_cli::{BASE_DICTIONARY, Origin, Origins, STANDARD_INPUT};
 use dia_explain_places::{InputTexts, NamedText};
 use dia_io::{Input, Inputs};
 
+/// The dictionary without lines, as it is named.
+const NO_LINES: &str = "@none";
+
 /// The texts of the inputs, with the words that name them.
 pub fn texts_of<'a>(origins: &Origins<'a>, inputs: &'a Inputs) -> InputTexts<'a> {
     InputTexts {
@@ -36,6 +39,7 @@ pub fn word_of(origin: Origin<'_>) -> &str
     match origin {
         Origin::Nowhere => "",
         Origin::Base => BASE_DICTIONARY,
+        Origin::Empty => NO_LINES,
         Origin::StandardInput { .. } => STANDARD_INPUT,
         Origin::File { path, .. } => path,
     }

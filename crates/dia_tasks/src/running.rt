@@ -2,7 +2,7 @@
 
 ghost use Rattle.std.specs.Prelude.{IsTrue};
 ghost use Rattle.dia_cli.specs.Ending.{stream};
-ghost use Rattle.dia_tasks.specs.Answers.{IsAnswer, IsShow};
+ghost use Rattle.dia_tasks.specs.Answers.{IsAnswer, IsJson, IsShow};
 ghost use Rattle.dia_tasks.specs.Endings.{Runs};
 ghost use Rattle.dia_tasks.specs.Tasks.{Attempts, Performs, world};
 
@@ -12,7 +12,7 @@ use crate::inputs::texts_of;
 use crate::listing::list_lines;
 use crate::manner::Manner;
 use crate::notes::{note, note_unnamed};
-use crate::showing::show_named;
+use crate::showing::{show_json, show_named, show_words};
 use crate::text::{made, shown};
 use dia_captures::Lines;
 use dia_cli::{Breaking, Ending, Opener, Origin, Origins, Task};
@@ -93,7 +93,7 @@ where
         Task::Whole(command) => {
             Attempt::Ended(run_whole(rt, command, inputs, origins, manner, out))
         }
-        Task::ShowNamed => Attempt::Ended(show_named(rt, true, inputs, origins, quiet, out)),
+        Task::ShowNamed => Attempt::Ended(show_named(rt, true, inputs, origins, manner, out)),
         Task::ShowLines { names } => {
             Attempt::Ended(list_lines(rt, opener, *names, inputs, origins, quiet, out))
         }
@@ -132,7 +132,7 @@ where
         (⟦<ToWriter<W> as Sink>⟧.has_failed out.new)) result }
 {
     if manner.json {
-        return answer_as_json(rt.alloc(), command, inputs, out);
+        return run_json(rt, command, inputs, origins, manner.quiet, out);
     }
     match command {
         Command::Show => show_plainly(rt, inputs, origins, manner.quiet, out),
@@ -140,7 +140,30 @@ where
     }
 }
 
-/// Shows a message, with words of values where a table of them is named.
+/// Runs a command whose inputs were read whole, and answers as JSON.
+fn run_json<'a, R, W>(
+    rt: &R,
+    command: &Command,
+    inputs: &Inputs,
+    origins: &Origins<'a>,
+    quiet: bool,
+    out: &mut ToWriter<W>,
+) -> Result<Reported, Ending<'a>>
+where
+    R: AllocGlobal + Eprint,
+    W: Write,
+    requires { ¬ IsTrue (⟦<ToWriter<W> as Sink>⟧.has_failed out.old) }
+    ensures { Runs (IsJson command.now inputs.now)
+        (stream (⟦<ToWriter<W> as Sink>⟧.written out.old) (⟦<ToWriter<W> as Sink>⟧.written out.new)
+        (⟦<ToWriter<W> as Sink>⟧.has_failed out.new)) result }
+{
+    match command {
+        Command::Show => show_json(rt, false, inputs, origins, quiet, out),
+        _ => answer_as_json(rt.alloc(), command, inputs, out),
+    }
+}
+
+/// Shows a message as text, with words of values where a table of them is named.
 fn show_plainly<'a, R, W>(
     rt: &R,
     inputs: &Inputs,
@@ -158,7 +181,7 @@ where
 {
     match origins.table {
         Origin::Nowhere => answer(rt.alloc(), &Command::Show, inputs, out),
-        _ => show_named(rt, false, inputs, origins, quiet, out),
+        _ => show_words(rt, false, inputs, origins, quiet, out),
     }
 }
 

@@ -1,15 +1,18 @@
-//! `show` with `--values` or `--names`.
+//! `show` with `--values` or `--names`, and as JSON.
 
 ghost use Rattle.std.specs.Prelude.{◌≡◌, IsTrue};
 ghost use Rattle.dia_cli.specs.Ending.{stream};
 ghost use Rattle.dia_show.specs.Outcome.{IsNamedOutcome};
+ghost use Rattle.dia_json.specs.Whole.{IsShowJson};
+ghost use Rattle.dia_tasks.specs.Answers.{IsNamed};
 ghost use Rattle.dia_tasks.specs.Endings.{Runs};
 
 use crate::inputs::word_of;
+use crate::manner::Manner;
 use dia_cli::{Ending, Origins};
-use dia_io::{Inputs, Sink, ToWriter};
+use dia_io::{Inputs, RunFault, Sink, ToWriter, put_all};
 use dia_report::Reported;
-use dia_show::{BadValues, MAX_LINES, MAX_VALUES, Report, show};
+use dia_show::{Answered, BadValues, MAX_LINES, MAX_VALUES, Report, show};
 use std::io::Write;
 
 /// What a line of a text of words is.
@@ -20,9 +23,65 @@ const FORM: &str =
 /// What is wrong with a line that says again what a line before it says.
 const DUPLICATE: &str = "a line before has the same AVP and number";
 
+/// Writes a message with words of values, with names or without: as JSON, if that is asked for.
+pub fn show_named<'a, R, W>(
+    rt: &R,
+    names: bool,
+    inputs: &Inputs,
+    origins: &Origins<'a>,
+    manner: Manner,
+    out: &mut ToWriter<W>,
+) -> Result<Reported, Ending<'a>>
+where
+    R: AllocGlobal + Eprint,
+    W: Write,
+    requires { ¬ IsTrue (⟦<ToWriter<W> as Sink>⟧.has_failed out.old) }
+    ensures { Runs (IsNamed manner.json names inputs.now)
+        (stream (⟦<ToWriter<W> as Sink>⟧.written out.old) (⟦<ToWriter<W> as Sink>⟧.written out.new)
+        (⟦<ToWriter<W> as Sink>⟧.has_failed out.new)) result }
+{
+    if manner.json {
+        show_json(rt, names, inputs, origins, manner.quiet, out)
+    } else {
+        show_words(rt, names, inputs, origins, manner.quiet, out)
+    }
+}
+
+/// Writes the objects of a message with words of values, with dates or without, and explains why the words are refused, unless
+/// it is to be quiet.
+pub fn show_json<'a, R, W>(
+    rt: &R,
+    names: bool,
+    inputs: &Inputs,
+    origins: &Origins<'a>,
+    quiet: bool,
+    out: &mut ToWriter<W>,
+) -> Result<Reported, Ending<'a>>
+where
+    R: AllocGlobal + Eprint,
+    W: Write,
+    requires { ¬ IsTrue (⟦<ToWriter<W> as Sink>⟧.has_failed out.old) }
+    ensures { Runs (IsShowJson names inputs.now)
+        (stream (⟦<ToWriter<W> as Sink>⟧.written out.old) (⟦<ToWriter<W> as Sink>⟧.written out.new)
+        (⟦<ToWriter<W> as Sink>⟧.has_failed out.new)) result }
+{
+    let Answered { text, exit, report } = dia_json::show(rt.alloc(), names, inputs)?;
+    match put_all(out, text.as_bytes()) {
+        Ok(()) => {
+            let reported = dia_show::Reported { exit, report };
+            Ok(told_of(rt, reported, origins, quiet))
+        }
+        Err(failed) => Err(Ending::of_run(
+            RunFault::from(failed),
+            "standard output",
+            out.failure(),
+        )),
+    }
+}
+
 /// Writes the lines of a message with words of values, with names or without, and explains why the words are refused, unless
 /// it is to be quiet. What else is reported is explained with the reports of other commands.
-pub fn show_named<'a, R, W>(
+pub fn show_words<'a, R, W>(
     rt: &R,
     names: bool,
     inputs: &Inputs,

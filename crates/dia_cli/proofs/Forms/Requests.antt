@@ -10,7 +10,7 @@ use Rattle.dia_cli.specs.Asking.{HasLinesAndStream, IsApart, IsRequestOf, is_ask
 use Rattle.dia_cli.specs.Forms.{Form, IsOfForm, Telling, alone, as_json, as_listing, as_text, check, form_inputs, form_json, form_name, form_row, has_lines, has_names, in_lines, in_stream, is_json, is_plain_form, is_text, show, values_given, words_of}
 use Rattle.dia_cli.specs.Words.{apart_in, flag_word, is_file, is_given, policy_word, sends_word}
 use Rattle.dia_cli.specs.declared.apart.Apart.{Apart}
-use Rattle.dia_cli.specs.declared.apart.Apart.TheVariants.{LinesAndStream, AsTextAndNames, AsTextAndValues, AsTextAndLines, AsTextAndJson, JsonAndNames, JsonAndValues, JsonAndLines}
+use Rattle.dia_cli.specs.declared.apart.Apart.TheVariants.{LinesAndStream, AsTextAndNames, AsTextAndValues, AsTextAndLines, AsTextAndJson, JsonAndLines}
 use Rattle.dia_cli.specs.declared.request.Request.{Request}
 use Rattle.dia_cli.proofs.Forms.Commands.{Says, all_options, asked_is, form_fits, form_has, form_named, form_says}
 use Rattle.dia_cli.proofs.Forms.Ends.{Finds, row_taken}
@@ -48,7 +48,7 @@ form_reads_one_way quiet form rows says bad = unlike (form_name form) (codes "ch
 module _ (rows : List Row) where
   told_together : (telling : Telling) → show_apart (is_text telling) (has_names telling) (is_file (Some (unwrap_or (values_given telling) (codes "@none")))) (has_lines telling) (is_json telling) ≡ None
   told_together as_text = refl
-  told_together as_json = refl
+  told_together (as_json names values) = refl
   told_together (as_listing many names values) = refl
 
   shown_together : (telling : Telling) → first_of (codes "as-text") rows ≡ Some (flag_word (is_text telling)) → first_of (codes "names") rows ≡ Some (flag_word (has_names telling))
@@ -72,8 +72,6 @@ form_goes_together quiet form rows says AsTextAndNames bad = show_goes_together 
 form_goes_together quiet form rows says AsTextAndValues bad = show_goes_together rows quiet form AsTextAndValues says bad
 form_goes_together quiet form rows says AsTextAndLines bad = show_goes_together rows quiet form AsTextAndLines says bad
 form_goes_together quiet form rows says AsTextAndJson bad = show_goes_together rows quiet form AsTextAndJson says bad
-form_goes_together quiet form rows says JsonAndNames bad = show_goes_together rows quiet form JsonAndNames says bad
-form_goes_together quiet form rows says JsonAndValues bad = show_goes_together rows quiet form JsonAndValues says bad
 form_goes_together quiet form rows says JsonAndLines bad = show_goes_together rows quiet form JsonAndLines says bad
 
 pub request_is : (quiet : Bool) (form : Form) (rows : List Row) (request : Request) → Says quiet form rows → IsRequestOf request (form_name form, rows)

@@ -8,7 +8,7 @@ use crate::faults::avp_bytes::{part, push_avp};
 use crate::faults::lengths::push_length_word;
 use crate::faults::level::Counting;
 use crate::faults::reasons::{Topic, text_in_body, topic_of};
-use crate::faults::rules::push_rule_word;
+use crate::faults::rules::{push_other_word, push_rule_word};
 use crate::faults::walk::{Group, walk_to};
 use crate::sides::Side;
 use crate::texts::{Scene, Word, push_hint, push_text};
@@ -171,6 +171,7 @@ impl Scene for InBody<'_> {
             | Word::Bytes
             | Word::Fits
             | Word::Value => { push_avp_word(note, self, word) }
+            Word::At | Word::Sent => push_other_word(note, self, word),
             _ => push_rule_word(note, self, word),
         }
     }

@@ -1,6 +1,6 @@
 //! The level of a fault, and the rule that counts its AVP there.
 
-use crate::books::{Level, definition, rule_at, slot, wildcard_of};
+use crate::books::{Level, avp_of, definition, rule_at, slot, wildcard_of};
 use crate::faults::avp_bytes::{head_of, part};
 use crate::faults::in_body::InBody;
 use dia_book::{DRule, Definition, Key, Slot};
@@ -118,6 +118,23 @@ pub fn find_key(avps: &[u8], keys: &[Key]) -> Option<(usize, Key)> {
         let found = key(&avp);
         if keys.contains(&found) {
             return Some((avps.len().saturating_sub(rest.len()), found));
+        }
+        rest = next;
+    }
+    None
+}
+
+/// How many bytes stand in front of the first AVP that the dictionary doesn't have, of the code of a key and another vendor; and
+/// this vendor.
+pub fn find_other_vendor(book: &IndexedBook, avps: &[u8], wanted: Key) -> Option<(usize, u32)> {
+    let mut rest = avps;
+    for _ in avps {
+        let Ok(Some((avp, next))) = next_avp(rest) else {
+            return None;
+        };
+        let found = key(&avp);
+        if found.code == wanted.code && avp_of(book, found).is_none() {
+            return Some((avps.len().saturating_sub(rest.len()), found.vendor));
         }
         rest = next;
     }

@@ -5,7 +5,7 @@ use crate::faults::avp::{data_of, same_code, text_of_value};
 use crate::faults::avp_bytes::{head_of, length_of};
 use crate::faults::in_body::InBody;
 use crate::faults::level::Counting;
-use crate::faults::rules::place_behind;
+use crate::faults::rules::{other_vendor, place_behind};
 use dia_book::{Class, Definition};
 use dia_check::{Reason, Unknown, class_of};
 use dia_wire::{AVP_HEAD_LENGTH, Header};
@@ -102,6 +102,10 @@ fn text_of_rule(scene: &InBody<'_>) -> &'static str {
             Some(_) =>
                 "{subject} may not stand in {level}: no rule names it, and there is no rule for AVP\n\
                  add [ {subject} ] or * [ AVP ] to the rules of {level}, or mend the sender",
+            None if same_code(scene).is_some() =>
+                "{subject} may not stand in {level}: no rule names it, and there is no rule for AVP\n\
+                 the dictionary's AVP of this code has {vendor}: compare the V flag and the Vendor-ID; \
+                 or add * [ AVP ] to the rules of {level}",
             None =>
                 "{subject} may not stand in {level}: no rule names it, and there is no rule for AVP\n\
                  add * [ AVP ] to the rules of {level}, or mend the sender",
@@ -111,6 +115,12 @@ fn text_of_rule(scene: &InBody<'_>) -> &'static str {
         Reason::Missing if rule.key.is_none() =>
             "an AVP that no rule of {level} names is missing at the end of {level}: {wanted} wanted, {found} found\n\
              have the sender add one, or, where it may be missing, write {optional}",
+        Reason::Missing if other_vendor(scene).is_some() => match scene.own() {
+            [] => "{subject} is missing at the end of {level}: {wanted} wanted, {found} found\n\
+                   an AVP of its code stands at {at}, with {sent}: compare the V flag and the Vendor-ID",
+            _ => "{subject} is missing in front of this AVP: {wanted} wanted, {found} found\n\
+                  an AVP of its code stands at {at}, with {sent}: compare the V flag and the Vendor-ID",
+        },
         Reason::Missing if scene.own().is_empty() =>
             "{subject} is missing at the end of {level}: {wanted} wanted, {found} found\n\
              have the sender add {subject}, or, where it may be missing, write {optional}",

@@ -1,8 +1,8 @@
 //! What is told where AVPs don't stand as the rules of a definition say.
 
 use crate::faults::in_body::InBody;
-use crate::faults::level::{Counting, find_key};
-use crate::rule_text::{push_loose, push_rule};
+use crate::faults::level::{Counting, find_key, find_other_vendor};
+use crate::rule_text::{push_loose, push_rule, push_vendor};
 use crate::texts::Word;
 use dia_book::{DRule, RuleKind};
 use dia_explain_places::Note;
@@ -12,6 +12,25 @@ pub fn place_behind(scene: &InBody<'_>) -> Option<usize> {
     let key = scene.key()?;
     let (behind, _) = find_key(scene.own(), &[key])?;
     Some((scene.fault.place as usize).saturating_add(behind))
+}
+
+/// The place of an AVP in the level that the dictionary doesn't have, of the code of the one that is missing and another vendor; and
+/// this vendor.
+pub fn other_vendor(scene: &InBody<'_>) -> Option<(usize, u32)> {
+    let (begin, bytes) = scene.bytes();
+    let (at, vendor) = find_other_vendor(scene.side.book, bytes, scene.key()?)?;
+    Some((begin.saturating_add(at), vendor))
+}
+
+/// Adds what a word about the AVP of that code stands for.
+pub fn push_other_word(note: &mut Note, scene: &InBody<'_>, word: Word) {
+    let Some((at, vendor)) = other_vendor(scene) else {
+        return;
+    };
+    match word {
+        Word::At => note.put_number(at as u64),
+        _ => push_vendor(note, vendor),
+    }
 }
 
 /// Adds what a word about the rule that counts the AVP of a fault stands for.

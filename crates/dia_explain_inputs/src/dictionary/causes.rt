@@ -4,7 +4,7 @@ use crate::dictionary::scene::Scene;
 use crate::hints::hint_of;
 use crate::kinds::{RETURNS, first_line, hint_of_text, is_cut_by_comment};
 use crate::notes::push_line_column;
-use dia_ccf::CcfFault;
+use dia_ccf::{CcfFault, Kind, Lexeme};
 use dia_explain_places::{Note, nearest_name, place_of};
 use dia_terms::format_words;
 
@@ -49,7 +49,7 @@ fn hint_at(scene: &Scene<'_>) -> Option<&'static str> {
 }
 
 /// Which hints go before those of the place: a comment stands before it in a header, a longer word than %avp before a name where
-/// the code is wanted, or the words must and not.
+/// the code is wanted, a format before the code, or the words must and not.
 fn before(scene: &Scene<'_>) -> &'static str {
     let (Some(earlier), Some(last)) = (scene.earlier, scene.last) else {
         return "";
@@ -59,10 +59,37 @@ fn before(scene: &Scene<'_>) -> &'static str {
         "Commented"
     } else if scene.place == "Code" && earlier.end == last.at {
         "Longer"
+    } else if scene.place == "Code" && is_format_first(scene) {
+        "Exchanged"
     } else if scene.text.get(earlier.at..last.end) == Some(b"must not".as_slice()) {
         "MustNot"
     } else {
         ""
+    }
+}
+
+/// Whether a format stands at the place, and behind it a number that no format follows.
+fn is_format_first(scene: &Scene<'_>) -> bool {
+    let number = scene.behind(scene.token);
+    is_format(scene, scene.token)
+        && number.is_some_and(|token| token.kind == Kind::Number)
+        && !is_format(scene, behind_code(scene, number))
+}
+
+/// The token behind a code, and behind a vendor, if one is told.
+fn behind_code(scene: &Scene<'_>, code: Option<Lexeme>) -> Option<Lexeme> {
+    let next = scene.behind(code);
+    if scene.word(next) == b"vendor".as_slice() {
+        scene.behind(scene.behind(next))
+    } else {
+        next
+    }
+}
+
+fn is_format(scene: &Scene<'_>, token: Option<Lexeme>) -> bool {
+    match str::from_utf8(scene.word(token)) {
+        Ok(word) => format_words().contains(&word),
+        Err(_) => false,
     }
 }
 

@@ -79,6 +79,7 @@ fn place_of_declaration(place: InDeclaration) -> &'static str {
 fn place_of_head(place: InHead) -> &'static str {
     match place {
         InHead::CommandCode => "CommandCode",
+        InHead::Flags { pxy: true, .. } => "HeadApp",
         InHead::Flags { .. } => "HeadFlags",
         InHead::ErrorWord { .. } => "HeadError",
         InHead::GroupCode => "GroupCode",

@@ -4,8 +4,8 @@ use crate::dictionary::expecting::{number_at, place_of, push_expected};
 use crate::hints::Sight;
 use crate::kinds::kind_of_byte;
 use crate::notes::push_quoted;
-use dia_ccf::{CcfFault, Kind, Lexeme, Misfit, next_lexeme};
-use dia_explain_places::{Note, back};
+use dia_ccf::{CcfFault, InRules, Kind, Lexeme, Misfit, Wanted, next_lexeme};
+use dia_explain_places::{Note, back, place_of as place_in};
 
 /// How many bytes of a token are told.
 const SHOWN: usize = 60;
@@ -48,6 +48,23 @@ impl<'a> Scene<'a> {
             None => None,
         };
         bytes.unwrap_or(b"".as_slice())
+    }
+
+    /// The token behind another.
+    pub fn behind(&self, token: Option<Lexeme>) -> Option<Lexeme> {
+        next_lexeme(str::from_utf8(self.text).ok()?, token?.end)
+    }
+
+    /// The name in angle brackets that was read as that of a definition, where `::=` is wanted behind it on a later line.
+    pub fn late_name(&self) -> Option<Lexeme> {
+        let name = self.earlier?;
+        match self.misfit.wanted {
+            Wanted::Rules(InRules::Angled { only_fixed: false })
+                if place_in(self.text, name.at).line < place_in(self.text, self.misfit.at).line => {
+                Some(name)
+            }
+            _ => None,
+        }
     }
 
     /// The token, as signs of hints speak of it.

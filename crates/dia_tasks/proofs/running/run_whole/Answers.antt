@@ -3,7 +3,7 @@ use Rattle.dia_tasks.proofs.Commands.{text_is_outcome}
 use Rattle.dia_tasks.proofs.running.run_whole.Goals as goal
 
 pub returns-then-manner : goal.returns-then-manner
-returns-then-manner g c = rw c.if-manner.true c.answer_as_json.ensures
+returns-then-manner g c = rw c.if-manner.true c.run_json.ensures
 
 pub returns-in-Show : goal.returns-in-Show
 returns-in-Show g c = rw c.if-manner.false (rw c.in-Show.is c.show_plainly.ensures)

@@ -1,7 +1,8 @@
 use Rattle.std.proofs.Common.{rules, ◌≡◌, IsTrue, ℕ, List}
-use Rattle.dia_tasks.proofs.Results.{sound_at_ok}
 use Rattle.dia_tasks.proofs.showing.show_named.Goals as goal
 
-pub returns-in-Ok : goal.returns-in-Ok
-returns-in-Ok g c = let t = c.in-Ok.ensures.text in
-    rw c.told_of.ensures (sound_at_ok _ _ _ c.in-Ok.ensures.device, (t.0, t.1, t.3))
+pub returns-then-manner : goal.returns-then-manner
+returns-then-manner g c = rw c.if-manner.true c.show_json.ensures
+
+pub returns-else-manner : goal.returns-else-manner
+returns-else-manner g c = rw c.if-manner.false c.show_words.ensures
