@@ -24,7 +24,7 @@ _diacmd() {
             compare:-*) words='--quiet --unknown --json -h --help' ;;
             refute:-*) words='--quiet --unknown --levels --lines --json -h --help' ;;
             propose:-*) words='--quiet --unknown --json -h --help' ;;
-            breaking:-*) words='--quiet --unknown --sends --messages --once --meaning --accepted --json -h --help' ;;
+            breaking:-*) words='--quiet --unknown --sends --messages --once --meaning --accepted --stale-allowed --json -h --help' ;;
         esac ;;
     esac
     if [ -n "$words" ]; then

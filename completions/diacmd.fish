@@ -14,7 +14,7 @@ complete -c diacmd -n __fish_use_subcommand -s h -l help -d 'Print help'
 complete -c diacmd -n __fish_use_subcommand -s V -l version -d 'Print version'
 complete -c diacmd -n '__fish_seen_subcommand_from show' -F
 complete -c diacmd -n '__fish_seen_subcommand_from show' -l quiet -d 'Prints no notes on standard error'
-complete -c diacmd -n '__fish_seen_subcommand_from show' -l dict -r -F -d 'The dictionary that names the AVPs: a file, @base, or - for standard input'
+complete -c diacmd -n '__fish_seen_subcommand_from show' -l dict -r -F -d 'The dictionary that names the AVPs: a file, @base, @none, or - for standard input'
 complete -c diacmd -n '__fish_seen_subcommand_from show' -l as-text -d 'Prints the message as a text that make reads'
 complete -c diacmd -n '__fish_seen_subcommand_from show' -l names -d 'Prints flags as letters, the name of the command, dates, and texts as texts, with levels indented'
 complete -c diacmd -n '__fish_seen_subcommand_from show' -l values -x -d 'The words of numbers, as lines AVP-NAME NUMBER WORD: a file, @none, or - for standard input'
@@ -23,7 +23,7 @@ complete -c diacmd -n '__fish_seen_subcommand_from show' -l json -d 'Prints each
 complete -c diacmd -n '__fish_seen_subcommand_from show' -s h -l help -d 'Print help'
 complete -c diacmd -n '__fish_seen_subcommand_from make' -F
 complete -c diacmd -n '__fish_seen_subcommand_from make' -l quiet -d 'Prints no notes on standard error'
-complete -c diacmd -n '__fish_seen_subcommand_from make' -l dict -r -F -d 'The dictionary that names the AVPs: a file, @base, or - for standard input'
+complete -c diacmd -n '__fish_seen_subcommand_from make' -l dict -r -F -d 'The dictionary that names the AVPs: a file, @base, @none, or - for standard input'
 complete -c diacmd -n '__fish_seen_subcommand_from make' -s h -l help -d 'Print help'
 complete -c diacmd -n '__fish_seen_subcommand_from check' -F
 complete -c diacmd -n '__fish_seen_subcommand_from check' -a @base -d 'The built-in base dictionary'
@@ -67,6 +67,7 @@ complete -c diacmd -n '__fish_seen_subcommand_from breaking' -l messages -d 'Pri
 complete -c diacmd -n '__fish_seen_subcommand_from breaking' -l once -d 'Prints one line a cause, with the number of commands that have it, and the first place'
 complete -c diacmd -n '__fish_seen_subcommand_from breaking' -l meaning -d 'Prints too which AVPs are read as another format'
 complete -c diacmd -n '__fish_seen_subcommand_from breaking' -l accepted -x -d 'Lines that are known, as this command prints them, which aren\'t printed: a file, @none, or - for standard input'
+complete -c diacmd -n '__fish_seen_subcommand_from breaking' -l stale-allowed -d 'Doesn\'t fail where a line of --accepted accepts nothing any more'
 complete -c diacmd -n '__fish_seen_subcommand_from breaking' -l json -d 'Prints each answer as a JSON object, a line each'
 complete -c diacmd -n '__fish_seen_subcommand_from breaking' -s h -l help -d 'Print help'
 complete -c diacmd -n '__fish_seen_subcommand_from help' -a 'show make check render compare refute propose breaking help'
