@@ -1,5 +1,5 @@
 -- What a report tells, from its parts.
-use Rattle.std.proofs.Common.{◌≡◌, Result, Ok, Err, refl}
+use Rattle.std.proofs.Common.{◌≡◌, ℕ, Result, Ok, Err, refl}
 use Rattle.std.specs.Prelude.{IfOk, string_bytes}
 use Rattle.dia_dict.specs.Dictionary.{Dictionary}
 use Rattle.dia_dict.specs.declared.IndexedBook.{IndexedBook}
@@ -15,7 +15,9 @@ use Rattle.dia_report.specs.declared.reporting.Report.TheVariants as reports
 use Rattle.dia_run.specs.Report.{AreReadFrom}
 use Rattle.dia_refused_json.specs.Telling.{HasReport, TellsBad}
 use Rattle.dia_refused_json.proofs.Telling.{refusal_reported, with_report}
-use Rattle.dia_json.specs.Reports.{IsNothing, IsProposeReport, IsShowReport}
+use Rattle.dia_show.specs.declared.reporting.Answered.{Answered as Shown}
+use Rattle.dia_show.specs.declared.reporting.Report.TheVariants.{OfShow}
+use Rattle.dia_json.specs.Reports.{HasShownReport, IsNothing, IsProposeReport, IsShowReport}
 
 pub nothing_reported : {E : Type 0} (r : Result Answered E) → IfOk r (λ a. a.report ≡ reports.Done) → IfOk r (HasReport IsNothing)
 nothing_reported (Ok a) is = with_report IsNothing a reports.Done is refl
@@ -35,6 +37,13 @@ pub show_refused : {E : Type 0} (meaning : IndexedBook → Dictionary) (inputs :
     → IfOk r (λ a. TellsBad input why (string_bytes a.text) a.exit) → ((bad : BadInput) → why ≡ refused.Bad bad → IfOk r (λ a. a.report ≡ reports.Refused bad))
     → IfOk r (HasReport (IsShowReport meaning inputs))
 show_refused meaning inputs input why r told report = refusal_reported (IsShowReport meaning inputs) input why r told report
+
+-- the same as a report of `show` with words
+pub shown_refused : (meaning : IndexedBook → Dictionary) (inputs : Inputs) (input : Input) (why : Refused) (a : Answered) (s : Shown)
+    → s.report ≡ OfShow a.report → s.text ≡ a.text → s.exit ≡ a.exit → TellsBad input why (string_bytes a.text) a.exit
+    → ((bad : BadInput) → why ≡ refused.Bad bad → a.report ≡ reports.Refused bad) → HasShownReport meaning inputs s
+shown_refused meaning inputs input why a s report text exit told reported =
+    rw (report, text, exit) (refusal_reported {E = ℕ} (IsShowReport meaning inputs) input why (Ok a) told reported)
 
 pub propose_refused : {E : Type 0} (meaning : IndexedBook → Dictionary) (inputs : Inputs) (input : Input) (why : Refused) (r : Result Answered E)
     → IfOk r (λ a. TellsBad input why (string_bytes a.text) a.exit) → ((bad : BadInput) → why ≡ refused.Bad bad → IfOk r (λ a. a.report ≡ reports.Refused bad))
