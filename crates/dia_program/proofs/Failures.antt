@@ -14,7 +14,7 @@ use Rattle.dia_cli.specs.OpenedInputs.{IsFaultOf, IsUnread}
 use Rattle.dia_cli.specs.declared.ending.Ending.{Ending}
 use Rattle.dia_cli.specs.declared.ending.Ending.TheVariants as ending
 use Rattle.dia_cli.specs.declared.origin.Origin.{Origin}
-use Rattle.dia_cli.specs.declared.origin.Origin.TheVariants.{Nowhere, Base, StandardInput, File}
+use Rattle.dia_cli.specs.declared.origin.Origin.TheVariants.{Nowhere, Base, Empty, StandardInput, File}
 use Rattle.dia_cli.specs.declared.origin.Origins.{Origins}
 use Rattle.dia_cli.specs.declared.request.Request.{Request}
 use Rattle.dia_cli.specs.declared.task.Task.{Task}
@@ -60,6 +60,7 @@ fault_failed word made b = absurd b
 input_failed : (origin : Origin) (made : Ending) → IsUnread origin made → IsFailed made
 input_failed Nowhere made b = subst IsFailed (sym b) tt
 input_failed Base made b = subst IsFailed (sym b) tt
+input_failed Empty made b = subst IsFailed (sym b) tt
 input_failed (StandardInput limit) made b = fault_failed _ made b
 input_failed (File path limit) made b = fault_failed _ made b
 
