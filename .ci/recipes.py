@@ -52,7 +52,7 @@ ACCEPTED = """
 <T> ::= < Diameter Header: 302, REQ > < D > { A } *2 [ B ] [ G ] [ H ] [ I ] [ J ] [ K ] [ L ] * [ AVP ]
 <U> ::= < Diameter Header: 303, REQ, 6 > { A }
 """
-"""Two dictionaries between which everything breaks that FORMATS.md knows."""
+"""Two dictionaries between which everything breaks that FAULTS.md knows."""
 
 
 def commands_of(text):
@@ -154,11 +154,11 @@ def cases_of(lines):
 
 
 def reasons(command, room, tell):
-    """The JUnit file of lines of all reasons that FORMATS.md knows says what the lines say."""
+    """The JUnit file of lines of all reasons that FAULTS.md knows says what the lines say."""
     (room / "ours.txt").write_text(SENT)
     (room / "theirs.txt").write_text(ACCEPTED)
-    formats = (room / "docs" / "FORMATS.md").read_text()
-    known = {cell.split()[0] for row in rows(formats, "Line | What breaks") for cell in code(row[0]) if ":" in cell and "other way" not in cell}
+    faults = (room / "docs" / "FAULTS.md").read_text()
+    known = {cell.split()[0] for row in rows(faults, "Line | What breaks") for cell in code(row[0]) if ":" in cell and "other way" not in cell}
     seen = set()
     options = (["--sends listed"], ["--sends known", "--unknown refused"], ["--sends any", "--once"])
     for words in options:
