@@ -1,7 +1,7 @@
-"""What `breaking` has to say of two small dictionaries, by the rules of docs/FORMATS.md alone.
+"""What `breaking` has to say of two small dictionaries, by the rules of docs/FORMATS.md and docs/FAULTS.md alone.
 
 A level is a count for each key, so its least length under a condition is a sum of least lengths, with the cheapest AVPs for
-what a wildcard asks. Counts are small here, and definitions begin a line each. Messages are told by their lengths."""
+what a wildcard asks. Counts are small here, and definitions begin a line each. Messages are told apart by their lengths."""
 
 import heapq
 import itertools

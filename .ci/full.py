@@ -9,8 +9,8 @@ TO_FULL = 'exec "$0" "$@" > /dev/full'
 # each command in each of its forms; `+` where it also takes --json
 COMMANDS = """
 + show request.hex
-  show --names request.hex
-  show --values words.txt request.hex
++ show --names request.hex
++ show --values words.txt request.hex
   show --as-text request.hex
   show --lines request.hex
   show --lines --names --values words.txt request.hex
