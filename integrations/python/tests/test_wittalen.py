@@ -1,0 +1,218 @@
+"""Tests of the package, for `python3 -m unittest`. Messages and offsets are counted by hand."""
+
+import gc
+import os
+import pathlib
+import re
+import threading
+import unittest
+
+import wittalen
+from wittalen import Application, Dictionary, Outcome, Peer, Role, Sends, State, Why, dictionaries
+
+# a request of the command 280 without its AVPs, of which Origin-Host is the first (RFC 6733 section 5.5.1)
+BARE = bytes.fromhex("0100001480000118000000000000000100000002")
+USAGE = "%avp Usage 9002 Unsigned32 any\n<Report> ::= < Diameter Header: 302, REQ > 1*2 { Usage }"
+NARROW = USAGE.replace("1*2 ", "")
+HEADER = pathlib.Path(__file__).resolve().parents[3] / "c/dia.h"
+
+
+def report(*values: int) -> bytes:
+    """A Report with these values of Usage, of 12 bytes each."""
+    body = b"".join((9002).to_bytes(4, "big") + b"\0\0\0\x0c" + value.to_bytes(4, "big") for value in values)
+    return b"\1" + (20 + len(body)).to_bytes(3, "big") + b"\x80" + (302).to_bytes(3, "big") + bytes(12) + body
+
+
+class Checks(unittest.TestCase):
+    def test_missing(self):
+        verdict = Dictionary().check(BARE)
+        self.assertFalse(verdict)
+        self.assertEqual((verdict.code, verdict.offset, verdict.reason, verdict.avp), (5005, 20, "missing", "Origin-Host"))
+        self.assertEqual(str(verdict), "fault 5005 at 20 missing Origin-Host")
+
+    def test_counts(self):
+        book = Dictionary(USAGE)
+        self.assertEqual(str(book.check(report(1, 2))), "valid Report")
+        self.assertEqual(str(book.check(report(1, 2, 3))), "fault 5009 at 44 too-many Usage")
+        self.assertEqual(book.check_json(report(1, 2, 3))["avp"], {"name": "Usage", "code": 9002, "vendor": 0})
+
+    def test_bytes_that_are_no_message(self):
+        book = Dictionary(USAGE)
+        self.assertIs(book.check(b"").outcome, Outcome.TRUNCATED)
+        self.assertIs(book.check(report(1)[:-1]).outcome, Outcome.TRUNCATED)
+        self.assertIs(book.check(report(1) + b"\0").outcome, Outcome.TRAILING)
+        with self.assertRaises(ValueError):
+            book.show(b"\2" + report(7)[1:])
+
+    def test_options(self):
+        book = Dictionary(USAGE + " [ AVP ]")
+        unknown = report(1) + bytes.fromhex("0000232a0000000800000000")[:8]
+        unknown = unknown[:1] + len(unknown).to_bytes(3, "big") + unknown[4:]
+        unknown = unknown[:32] + (9999).to_bytes(4, "big") + unknown[36:]
+        self.assertTrue(book.check(unknown))
+        self.assertEqual(str(book.check(unknown, refuse_unknown=True)), "fault 5001 at 32 unknown 9999:0")
+        self.assertTrue(book.check(report(1), levels=0))
+        with self.assertRaises(ValueError):
+            book.check(report(1), levels=1 << 32)
+
+    def test_shown(self):
+        self.assertIn("Usage 7", Dictionary(USAGE).show(report(7)))
+
+    def test_stream(self):
+        book, found = Dictionary(USAGE), []
+        both = report(1) + report(1, 2, 3)
+        stream = book.stream()
+        for start in range(0, len(both), 7):
+            piece = both[start : start + 7]
+            while piece:
+                piece = stream.feed(piece)
+                if stream.done:
+                    found.append(str(stream.finish()))
+                    stream = book.stream()
+        self.assertEqual(found, ["valid Report", "fault 5009 at 44 too-many Usage"])
+
+    def test_split(self):
+        self.assertEqual([len(message) for message in wittalen.split(report(1) + report(1, 2, 3) + b"\1\0")], [32, 56, 2])
+
+    def test_threads(self):
+        book, wrong = Dictionary(USAGE), []
+
+        def run() -> None:
+            for number in range(2000):
+                count = number % 4
+                if bool(book.check(report(*range(count)))) != (count in (1, 2)):
+                    wrong.append(number)
+
+        threads = [threading.Thread(target=run) for _ in range(4)]
+        for thread in threads:
+            thread.start()
+        for thread in threads:
+            thread.join()
+        self.assertEqual(wrong, [])
+
+
+class Dictionaries(unittest.TestCase):
+    def test_refused(self):
+        with self.assertRaises(wittalen.DictionaryError) as caught:
+            Dictionary("; \u00e4\nG ::= < AVP Header: 3 > { X }\n")
+        # 26 characters of the second line come before X
+        self.assertEqual([str(fault) for fault in caught.exception.faults], ["2:27: undefined name G X"])
+        self.assertEqual(wittalen.faults(USAGE), [])
+        # no character of UTF-8 begins with this byte
+        self.assertEqual([str(fault) for fault in wittalen.faults(b"; \xff")], ["1:3: not text"])
+
+    def test_rendered(self):
+        self.assertEqual(wittalen.render("%avp   A 1\n Time any ; a comment"), "%avp A 1 Time any\n")
+
+    def test_closed(self):
+        with Dictionary() as book:
+            stream = book.stream()
+        book.close()
+        with self.assertRaises(ValueError):
+            book.check(BARE)
+        # a stream keeps its dictionary alive
+        self.assertEqual(stream.feed(BARE[:7]), b"")
+        del stream
+        gc.collect()
+
+    def test_files(self):
+        folder = HEADER.parent.parent / "dictionaries"
+        names = ("rfc6733", "rfc7155-avps", "rfc5777", "rfc8506-avps", "rfc8506-commands")
+        book = Dictionary.open(*(folder / f"{name}.txt" for name in names))
+        message = bytes.fromhex((folder / "examples/ccr.hex").read_text())
+        self.assertEqual(str(book.check(message)), "valid Credit-Control-Request")
+
+
+class Upgrades(unittest.TestCase):
+    def test_breaking(self):
+        wide, narrow = Dictionary(USAGE), Dictionary(NARROW)
+        found = wittalen.breaking(wide, narrow)
+        self.assertFalse(found)
+        self.assertEqual(found.text, "Report: too-many Usage: 1..2 sent, 1 accepted\n")
+        self.assertTrue(wittalen.breaking(wide, narrow, accepted=found.text))
+        self.assertEqual(wittalen.breaking(narrow, wide).text, "nothing breaks\n")
+        with self.assertRaises(wittalen.InputError) as caught:
+            wittalen.breaking(wide, narrow, commands=["Report", "Retort"])
+        self.assertEqual((caught.exception.kind, caught.exception.line), ("no command", 2))
+
+    def test_compared(self):
+        wide, narrow = Dictionary(USAGE), Dictionary(NARROW)
+        table = "command Report = Report\navp Usage = Usage"
+        self.assertEqual(wittalen.compare(narrow, wide, table).line, "yes")
+        self.assertFalse(wittalen.compare(wide, narrow, table))
+        with self.assertRaises(wittalen.InputError) as caught:
+            wittalen.compare(wide, narrow, "\ncommand Report")
+        self.assertEqual((caught.exception.kind, caught.exception.line), ("syntax", 2))
+        # one dictionary against itself
+        self.assertTrue(wittalen.compare(wide, wide, table))
+
+
+class Peers(unittest.TestCase):
+    def ends(self, **more):
+        first = Peer(Role.INITIATOR, "a.example.com", "example.com", [Application(4)], **more)
+        second = Peer(Role.RESPONDER, "b.example.com", "example.com", [Application(1), Application(3, accounting=True), Application(4)])
+        return first, second
+
+    def test_connection(self):
+        first, second = self.ends(addresses=["127.0.0.1", "::1"], identifiers=(7, 9))
+        self.assertEqual(second.start(), [])
+        (cer,) = first.start()
+        self.assertEqual((cer[12:16], cer[16:20]), (bytes([0, 0, 0, 7]), bytes([0, 0, 0, 9])))
+        (cea,) = second.receive(cer)
+        self.assertEqual(first.receive(cea), [])
+        self.assertEqual((first.state, second.state), (State.OPEN, State.OPEN))
+        self.assertEqual((first.common, second.common), ([Application(4)], [Application(4)]))
+        self.assertTrue(first.serves(4) and not first.serves(1))
+        (dwr,) = first.tick()
+        (dwa,) = second.receive(dwr)
+        self.assertTrue(Dictionary().check(dwa))
+        self.assertEqual(first.receive(dwa), [])
+        (dpr,) = first.stop()
+        dpa, why = second.receive(dpr)
+        self.assertIs(why, Why.PEER_STOPPED)
+        self.assertEqual(first.receive(dpa), [Why.STOPPED])
+
+    def test_relays(self):
+        relay = Peer(Role.INITIATOR, "a.example.com", "example.com", [Application(wittalen.RELAY)], relays=True)
+        other = Peer(Role.RESPONDER, "b.example.com", "example.com", [Application(4)], relays=True)
+        other.start()
+        (cer,) = relay.start()
+        (cea,) = other.receive(cer)
+        relay.receive(cea)
+        self.assertEqual((relay.state, relay.common), (State.OPEN, [Application(4)]))
+
+    def test_refused(self):
+        for title, words in (("host", ("", "example.com", [Application(4)])), ("applications", ("a", "b", []))):
+            with self.assertRaisesRegex(ValueError, title):
+                Peer(Role.INITIATOR, *words)
+        with self.assertRaises(ValueError):
+            Peer(Role.INITIATOR, "a", "b", [Application(1 << 32)])
+
+
+class Numbers(unittest.TestCase):
+    """The numbers are those of dia.h."""
+
+    def numbers(self, first: str) -> dict:
+        """The numbers of the enum of dia.h with this constant, by what its names have after their common beginning."""
+        (body,) = [body for body in re.findall(r"enum \{([^}]*)\}", HEADER.read_text()) if f" {first} =" in body]
+        found = {word: int(number) for word, number in re.findall(r"\b(DIA_\w+) = (\d+)", body)}
+        common = os.path.commonprefix(list(found))
+        return {word[common.rindex("_") + 1 :]: number for word, number in found.items()}
+
+    def test_words(self):
+        reasons = {word.upper().replace("-", "_"): number for number, word in enumerate(dictionaries.REASONS)}
+        self.assertEqual(reasons, self.numbers("DIA_R_VERSION"))
+        kinds = {word.upper().replace(" ", "_"): number for number, word in dictionaries.KINDS.items()}
+        self.assertEqual(kinds, self.numbers("DIA_NOT_TEXT"))
+
+    def test_enums(self):
+        firsts = {
+            Outcome: "DIA_VALID", Sends: "DIA_SENDS_ANY", Role: "DIA_INITIATOR", State: "DIA_STATE_IDLE", Why: "DIA_WHY_INVALID",
+        }  # fmt: skip
+        for enum, first in firsts.items():
+            self.assertEqual({member.name: member.value for member in enum}, self.numbers(first))
+        self.assertEqual([cause.value for cause in wittalen.Cause], [0, 1, 2])
+
+
+if __name__ == "__main__":
+    unittest.main()

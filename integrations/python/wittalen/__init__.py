@@ -1,0 +1,18 @@
+"""Dictionaries of Diameter (RFC 6733), checks of messages, what breaks between two dictionaries, and connections, over libdia.
+
+    import wittalen
+    book = wittalen.Dictionary.open("credit-control.txt")
+    verdict = book.check(message)
+    if not verdict:
+        print(verdict)  # fault 5009 at 80 too-many Usage-Report
+
+Several threads may use one object where Python has its global lock; of a Peer, one at a time."""
+
+from .dictionaries import Dictionary, DictionaryError, Fault, Outcome, Stream, Verdict, faults, render, split
+from .peers import RELAY, Application, Cause, Output, Peer, Role, State, Why
+from .upgrades import Comparison, InputError, Sends, Upgrade, breaking, compare
+
+__all__ = [
+    "RELAY", "Application", "Cause", "Comparison", "Dictionary", "DictionaryError", "Fault", "InputError", "Outcome", "Output",
+    "Peer", "Role", "Sends", "State", "Stream", "Upgrade", "Verdict", "Why", "breaking", "compare", "faults", "render", "split",
+]  # fmt: skip

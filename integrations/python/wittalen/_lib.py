@@ -1,0 +1,178 @@
+"""The structs and calls of dia.h, by ctypes.
+
+The calls hold Python's global lock, so one handle never has two at a time. Those of libdia-breaking don't: they may take long."""
+
+from __future__ import annotations
+
+import ctypes as c
+import os
+import pathlib
+from typing import Any, Optional, TypeVar
+
+ABI_VERSION = 1
+OK, REFUSED, NONE, NO_MEMORY, NO_ROOM, IS_OPEN, IS_CLOSED, BAD_ARGUMENT, OUTPUTS_LEFT, SPENT = range(10)
+MAX_NAME = 128
+ANY_LEVELS = 0xFFFFFFFF
+
+
+class Handle(c.Structure):
+    _fields_ = [("private", c.c_void_p), ("state", c.c_uint32)]
+
+
+class Problem(c.Structure):
+    _fields_ = [(name, c.c_uint32) for name in ("kind", "line", "token")]
+
+
+class RawFault(c.Structure):
+    _fields_ = (
+        [(name, c.c_size_t) for name in ("at", "name_count", "slot_count")]
+        + [(name, c.c_uint32) for name in ("kind", "token", "has_place")]
+        + [(name, c.c_uint8 * MAX_NAME) for name in ("name", "slot")]
+    )
+
+
+class RawVerdict(c.Structure):
+    _fields_ = [
+        (name, c.c_uint32)
+        for name in ("outcome", "command", "code", "place", "reason", "subject", "avp_code", "avp_vendor")
+    ]
+
+
+class Fed(c.Structure):
+    _fields_ = [("taken", c.c_size_t), ("done", c.c_uint32)]
+
+
+class Ip(c.Structure):
+    _fields_ = [("is_v6", c.c_uint32), ("bytes", c.c_uint8 * 16)]
+
+
+class App(c.Structure):
+    _fields_ = [(name, c.c_uint32) for name in ("is_acct", "id", "has_vendor", "vendor")]
+
+
+class Numbers(c.Structure):
+    _fields_ = [(name, c.c_uint32) for name in ("vendor", "has_state_id", "state_id", "hop", "e2e")]
+
+
+H, U, S, B = c.POINTER(Handle), c.c_uint32, c.c_size_t, c.c_char_p
+NUMBER, SIZE, PROBLEM, VERDICT = c.POINTER(U), c.POINTER(S), c.POINTER(Problem), c.POINTER(RawVerdict)
+CALLS: dict[str, tuple[Any, ...]] = {
+    "abi_version": (),
+    "dict_open": (B, S, H, PROBLEM),
+    "dict_open_base": (H,),
+    "dict_share": (H, H),
+    "dict_close": (H,),
+    "faults_open": (B, S, H, SIZE),
+    "faults_get": (H, S, c.POINTER(RawFault)),
+    "faults_close": (H,),
+    "line_column": (B, S, S, SIZE, SIZE),
+    "command_name": (H, U, B, S, SIZE),
+    "avp_name": (H, U, U, B, S, SIZE),
+    "check": (H, U, U, B, S, VERDICT),
+    "check_json": (H, U, U, B, S, H),
+    "message_length": (B, S, NUMBER, VERDICT),
+    "stream_open": (H, U, U, H),
+    "stream_feed": (H, B, S, c.POINTER(Fed)),
+    "stream_finish": (H, VERDICT),
+    "stream_close": (H,),
+    "render": (B, S, H, PROBLEM),
+    "show": (H, B, S, H, NUMBER, VERDICT),
+    "text_read": (H, S, B, S, SIZE),
+    "text_length": (H, SIZE),
+    "text_close": (H,),
+    "compare": (H, H, U, B, S, H, NUMBER, PROBLEM),
+    "peer_open_as": (U, U, B, S, B, S, B, S, c.POINTER(Ip), S, c.POINTER(App), S, c.POINTER(Numbers), H, NUMBER),
+    "peer_event": (H, U, B, S, U),
+    "peer_output": (H, NUMBER, B, S, SIZE, NUMBER),
+    "peer_state": (H, NUMBER),
+    "peer_common": (H, S, c.POINTER(App)),
+    "peer_serves": (H, U, NUMBER),
+    "peer_close": (H,),
+}
+CALLS_OF_BREAKING: dict[str, tuple[Any, ...]] = {"breaking": (H, H, U, U, U, B, S, B, S, H, NUMBER, PROBLEM)}
+
+
+def path_of(name: str) -> str:
+    """In the folder that WITTALEN_LIBRARY names, or beside this file, or where the system looks for libraries."""
+    folder = os.environ.get("WITTALEN_LIBRARY")
+    beside = pathlib.Path(__file__).with_name(name)
+    return str(pathlib.Path(folder) / name) if folder else str(beside) if beside.exists() else name
+
+
+def declare(library: c.CDLL, calls: dict[str, tuple[Any, ...]]) -> c.CDLL:
+    for name, types in calls.items():
+        call = getattr(library, f"dia_{name}")
+        call.argtypes = types
+        call.restype = None if name.endswith("_close") or name == "line_column" else U
+    return library
+
+
+lib = declare(c.PyDLL(path_of("libdia.so.1")), CALLS)
+if lib.dia_abi_version() != ABI_VERSION:
+    raise ImportError(f"libdia has the ABI version {lib.dia_abi_version()}, and not {ABI_VERSION}")
+_breaking: Optional[c.CDLL] = None
+
+
+def lib_breaking() -> c.CDLL:
+    """libdia-breaking, which is loaded when it is first used."""
+    global _breaking
+    if _breaking is None:
+        _breaking = declare(c.CDLL(path_of("libdia-breaking.so.1")), CALLS_OF_BREAKING)
+    return _breaking
+
+
+def require(status: int) -> None:
+    """Raises the exception of a status other than DIA_OK."""
+    if status == NO_MEMORY:
+        raise MemoryError
+    if status == SPENT:
+        raise MemoryError("memory was refused to this stream before")
+    if status == IS_CLOSED:
+        raise ValueError("it is closed")
+    if status != OK:
+        raise RuntimeError(f"libdia: status {status}")
+
+
+def u32(number: int, what: str) -> int:
+    """The number, which C would cut to 32 bits without a word."""
+    if not 0 <= number <= 0xFFFFFFFF:
+        raise ValueError(f"{what}: {number} isn't a number of 32 bits")
+    return number
+
+
+Owned = TypeVar("Owned", bound="Owner")
+
+
+class Owner:
+    """Owns a handle, and closes it. In a `with` statement, or by `close`; else when nothing refers to the object."""
+
+    _closing = ""
+
+    def __init__(self) -> None:
+        self._handle = Handle()
+
+    def close(self) -> None:
+        getattr(lib, self._closing)(self._handle)
+
+    def __enter__(self: Owned) -> Owned:
+        return self
+
+    def __exit__(self, *_: object) -> None:
+        self.close()
+
+    def __del__(self) -> None:
+        if hasattr(self, "_handle"):
+            self.close()
+
+
+class Text(Owner):
+    """A text of the library."""
+
+    _closing = "dia_text_close"
+
+    def read(self) -> str:
+        count = c.c_size_t()
+        require(lib.dia_text_length(self._handle, count))
+        room = c.create_string_buffer(count.value + 1)
+        require(lib.dia_text_read(self._handle, 0, room, count.value, count))
+        return room.raw[: count.value].decode()

@@ -1,0 +1,160 @@
+"""One end of a connection (RFC 6733 section 5; docs/CONNECTION.md), without socket and clock."""
+
+from __future__ import annotations
+
+import ctypes as c
+import ipaddress
+import random
+import time
+from dataclasses import dataclass
+from enum import IntEnum
+from typing import Iterable, Optional, Union
+
+from . import _lib
+from ._lib import App, Ip, Numbers, Owner, lib, require, u32
+
+RELAY = 0xFFFFFFFF
+"""The Application-ID of relays (RFC 6733 section 2.4)."""
+MOST_ROOM = 35_408
+"""The most bytes of a message of a peer."""
+
+
+class Role(IntEnum):
+    """INITIATOR opened the transport connection, RESPONDER accepted it."""
+
+    INITIATOR, RESPONDER = range(2)
+
+
+class State(IntEnum):
+    IDLE, WAIT_CEA, WAIT_CER, OPEN, WAIT_DPA, CLOSED = range(6)
+
+
+class Cause(IntEnum):
+    """The values of Disconnect-Cause (RFC 6733 section 5.4.3)."""
+
+    REBOOTING, BUSY, DO_NOT_WANT_TO_TALK_TO_YOU = range(3)
+
+
+class Why(IntEnum):
+    """Why a peer closes the connection."""
+
+    INVALID, NO_COMMON, REFUSED, WATCHDOG, TIMEOUT, PEER_STOPPED, STOPPED = range(7)
+
+
+@dataclass(frozen=True)
+class Application:
+    """An application that is advertised: of an Acct-Application-Id or an Auth-Application-Id, alone or with its vendor's number in
+    a Vendor-Specific-Application-Id."""
+
+    id: int
+    accounting: bool = False
+    vendor: Optional[int] = None
+
+
+Output = Union[bytes, Why]
+"""A message to be sent; or why the connection is to be closed, after what was to be sent."""
+
+
+class Peer(Owner):
+    """An end of a connection. Each event returns what is to be done, in order.
+
+    With `relays` the application RELAY stands for all. The Hop-by-Hop and End-to-End Identifiers begin at random (RFC 6733
+    section 3), or at those of `identifiers`. Raises ValueError where a field is refused, and MemoryError."""
+
+    _closing = "dia_peer_close"
+
+    def __init__(
+        self,
+        role: Role,
+        host: str,
+        realm: str,
+        applications: Iterable[Application],
+        *,
+        addresses: Iterable[str] = ("127.0.0.1",),
+        product: str = "Wittalen",
+        vendor: int = 0,
+        state_id: Optional[int] = None,
+        relays: bool = False,
+        identifiers: Optional[tuple[int, int]] = None,
+    ):
+        super().__init__()
+        words = [word.encode() for word in (host, realm, product)]
+        ips, apps = [_ip(address) for address in addresses], [_app(application) for application in applications]
+        hop, e2e = identifiers or _identifiers()
+        ids = [u32(it, "identifiers") for it in (hop, e2e)]
+        numbers = Numbers(u32(vendor, "vendor"), state_id is not None, u32(state_id or 0, "state_id"), *ids)
+        names = [part for word in words for part in (word, len(word))]
+        lists = ((Ip * max(1, len(ips)))(*ips), len(ips), (App * max(1, len(apps)))(*apps), len(apps))
+        fault = c.c_uint32()
+        status = lib.dia_peer_open_as(role, relays, *names, *lists, numbers, self._handle, fault)
+        if status == _lib.REFUSED:
+            fields = ("", "host", "realm", "product", "addresses", "applications")
+            raise ValueError(f"{fields[fault.value]}: refused")
+        require(status)
+
+    def start(self) -> list[Output]:
+        """The transport connection is there."""
+        return self._event(0)
+
+    def receive(self, message: bytes) -> list[Output]:
+        """One whole message came; `split` finds these in bytes."""
+        return self._event(1, message)
+
+    def tick(self) -> list[Output]:
+        """A time has passed without an answer, or without any message."""
+        return self._event(2)
+
+    def stop(self, cause: Cause = Cause.REBOOTING) -> list[Output]:
+        """The connection is to be given up."""
+        return self._event(3, cause=cause)
+
+    def lost(self) -> list[Output]:
+        """The transport connection is gone."""
+        return self._event(4)
+
+    @property
+    def state(self) -> State:
+        state = c.c_uint32()
+        require(lib.dia_peer_state(self._handle, state))
+        return State(state.value)
+
+    @property
+    def common(self) -> list[Application]:
+        """The applications that both ends have, once the connection was open: those for authentication first, by number."""
+        app = App()
+        found: list[Application] = []
+        while lib.dia_peer_common(self._handle, len(found), app) == _lib.OK:
+            found.append(Application(app.id, bool(app.is_acct)))
+        return found
+
+    def serves(self, application: int) -> bool:
+        """Whether messages of an application may go over this connection."""
+        serves = c.c_uint32()
+        require(lib.dia_peer_serves(self._handle, u32(application, "application"), serves))
+        return bool(serves.value)
+
+    def _event(self, event: int, message: bytes = b"", cause: int = 0) -> list[Output]:
+        require(lib.dia_peer_event(self._handle, event, message, len(message), cause))
+        output, count, why = c.c_uint32(), c.c_size_t(), c.c_uint32()
+        room = c.create_string_buffer(MOST_ROOM)
+        done: list[Output] = []
+        while (status := lib.dia_peer_output(self._handle, output, room, MOST_ROOM, count, why)) == _lib.OK:
+            done.append(Why(why.value) if output.value else room.raw[: count.value])
+        if status != _lib.NONE:
+            require(status)
+        return done
+
+
+def _ip(address: str) -> Ip:
+    parsed = ipaddress.ip_address(address)
+    return Ip(parsed.version == 6, (c.c_uint8 * 16)(*parsed.packed))
+
+
+def _app(application: Application) -> App:
+    vendor = application.vendor
+    return App(application.accounting, u32(application.id, "applications"), vendor is not None, u32(vendor or 0, "vendor"))
+
+
+def _identifiers() -> tuple[int, int]:
+    """At random; the End-to-End Identifier begins with the time (RFC 6733 section 3)."""
+    return random.getrandbits(32), (int(time.time()) & 0xFFF) << 20 | random.getrandbits(20)

@@ -1,0 +1,102 @@
+"""What becomes of messages between two dictionaries."""
+
+from __future__ import annotations
+
+import ctypes as c
+from dataclasses import dataclass
+from enum import IntEnum
+from typing import Iterable
+
+from . import _lib
+from ._lib import Problem, Text, lib, lib_breaking, require
+from .dictionaries import Dictionary, kind_of
+
+
+class Sends(IntEnum):
+    """Which messages a side sends that follows its dictionary: with AVPs that it doesn't know, where a rule accepts any; with those
+    that it knows; or with those that a rule of their level lists."""
+
+    ANY, KNOWN, LISTED = range(3)
+
+
+@dataclass(frozen=True)
+class Upgrade:
+    """What breaks; true where nothing does, or nothing but what the list accepts."""
+
+    safe: bool
+    text: str
+    """What `diacmd breaking` writes."""
+
+    def __bool__(self) -> bool:
+        return self.safe
+
+
+@dataclass(frozen=True)
+class Comparison:
+    """Whether each message of a listed command stays valid; true where it does."""
+
+    holds: bool
+    line: str
+    """The line of `diacmd compare`: yes, or the first pair that fails with its test."""
+
+    def __bool__(self) -> bool:
+        return self.holds
+
+
+class InputError(ValueError):
+    """A table, a list or a name is refused: its kind (docs/FAULTS.md), and its line, from 1; 0 where it is no line's."""
+
+    def __init__(self, kind: str, line: int):
+        self.kind, self.line = kind, line
+        super().__init__(f"line {line}: {kind}" if line else kind)
+
+
+def breaking(
+    a: Dictionary,
+    b: Dictionary,
+    *,
+    sends: Sends = Sends.ANY,
+    refuse_unknown: bool = False,
+    commands: Iterable[str] = (),
+    accepted: str = "",
+    messages: bool = False,
+    once: bool = False,
+    meaning: bool = False,
+) -> Upgrade:
+    """What breaks where the side of `a` sends and the side of `b` reads, as `diacmd breaking` lists it (docs/UPGRADING.md).
+
+    `commands` are the names that are asked for, none for all; `accepted` is the text of a list of accepted lines. `messages` adds a
+    message to each line, `once` leaves one line for each cause, and `meaning` adds the AVPs that are read in another format.
+    Raises InputError, and MemoryError. Other threads go on meanwhile."""
+    text, safe, problem = Text(), c.c_uint32(), Problem()
+    options = 1 * messages + 2 * once + 4 * meaning
+    names, known = "".join(f"{name}\n" for name in commands).encode(), accepted.encode()
+    with _share(a) as first, _share(b) as second:
+        handles = (first._handle, second._handle, sends, refuse_unknown, options)
+        status = lib_breaking().dia_breaking(*handles, names, len(names), known, len(known), text._handle, safe, problem)
+    _require_input(status, problem)
+    return Upgrade(bool(safe.value), text.read())
+
+
+def compare(a: Dictionary, b: Dictionary, table: str, *, refuse_unknown: bool = False) -> Comparison:
+    """Compares two dictionaries by the text of a table of pairs, as `diacmd compare` does. Raises InputError, and MemoryError."""
+    line, holds, problem, data = Text(), c.c_uint32(), Problem(), table.encode()
+    with _share(a) as first, _share(b) as second:
+        words = (first._handle, second._handle, refuse_unknown, data, len(data))
+        status = lib.dia_compare(*words, line._handle, holds, problem)
+    _require_input(status, problem)
+    return Comparison(bool(holds.value), line.read().rstrip("\n"))
+
+
+def _share(dictionary: Dictionary) -> Dictionary:
+    """The same dictionary with a handle of its own."""
+    other = Dictionary.__new__(Dictionary)
+    other._handle, other._names = _lib.Handle(), dictionary._names
+    require(lib.dia_dict_share(dictionary._handle, other._handle))
+    return other
+
+
+def _require_input(status: int, problem: Problem) -> None:
+    if status == _lib.REFUSED:
+        raise InputError(kind_of(problem.kind), problem.line)
+    require(status)
