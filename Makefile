@@ -1,10 +1,11 @@
-# bin/build proves and builds the program; this also tests it, and installs it with its man page, completions and dictionaries.
+# bin/build proves and builds the program; this also tests it, installs it with its man page, completions and dictionaries, and
+# makes packages of Debian.
 PREFIX = /usr/local
 BUILD = bin/build --release
 PROGRAM = crates/diacmd/out/diacmd-release
 ROOT = $(DESTDIR)$(PREFIX)
 SHARE = $(ROOT)/share
-.PHONY: all check install uninstall
+.PHONY: all check install uninstall deb
 all:
 	$(BUILD)
 check:
@@ -23,3 +24,7 @@ install: all
 uninstall:
 	cd "$(SHARE)" && rm -f man/man1/diacmd.1 bash-completion/completions/diacmd zsh/site-functions/_diacmd
 	rm -f "$(ROOT)/bin/diacmd" "$(SHARE)/fish/vendor_completions.d/diacmd.fish" && rm -rf "$(SHARE)/diacmd"
+deb:
+	$(BUILD)
+	bin/build dia_c
+	integrations/deb/make-deb
