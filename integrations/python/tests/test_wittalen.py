@@ -74,6 +74,12 @@ class Checks(unittest.TestCase):
     def test_split(self):
         self.assertEqual([len(message) for message in wittalen.split(report(1) + report(1, 2, 3) + b"\1\0")], [32, 56, 2])
 
+    def test_lengths(self):
+        self.assertEqual(wittalen.message_length(report(1, 2)[:20]), 44)
+        # another version, a length of less than 20, and too few bytes
+        for header in (b"\2" + BARE[1:], b"\1\0\0\x10" + BARE[4:], BARE[:19]):
+            self.assertIsNone(wittalen.message_length(header))
+
     def test_threads(self):
         book, wrong = Dictionary(USAGE), []
 

@@ -208,13 +208,20 @@ def render(text: Union[str, bytes]) -> str:
     return rendered.read()
 
 
+def message_length(header: bytes) -> Optional[int]:
+    """How many bytes the message has that begins with these, at least 20 (RFC 6733 section 3); None where no message begins so."""
+    length = c.c_uint32()
+    status = lib.dia_message_length(header, len(header), length, RawVerdict())
+    return length.value if status == _lib.OK else None
+
+
 def split(data: bytes) -> Iterator[bytes]:
-    """The messages that follow one another in the bytes, by their Message Length. Bytes that begin no whole message are the last."""
-    length, at = c.c_uint32(), 0
+    """The messages that follow one another in the bytes, by their Message Length. Bytes that begin none are the last, as is a
+    message that is cut."""
+    at = 0
     while at < len(data):
-        header = data[at : at + 20]
-        is_message = lib.dia_message_length(header, len(header), length, RawVerdict()) == _lib.OK
-        end = at + length.value if is_message else len(data)
+        length = message_length(data[at : at + 20])
+        end = len(data) if length is None else at + length
         yield data[at:end]
         at = end
 

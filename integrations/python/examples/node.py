@@ -1,0 +1,160 @@
+#!/usr/bin/env python3
+"""A node that has Diameter connections over TCP, and checks every message that comes.
+
+    node.py [--listen PORT] [--connect ADDRESS:PORT] [--host HOST] [--realm REALM] [--application ID].. [--relays]
+            [--watchdog SECONDS] [DICTIONARY..]
+
+It opens connections, keeps them alive by watchdogs, and gives them up on SIGTERM or SIGINT (RFC 6733 section 5, RFC 3539). What it
+sends and receives, with the verdict under the dictionaries (by itself those of RFC 6733), is a line each. Requests of applications
+are checked and not answered."""
+
+import argparse
+import asyncio
+import random
+import signal
+
+from wittalen import Application, Dictionary, Peer, Role, State, Why, message_length
+
+LONGEST = 1 << 20
+"""The most bytes of a message that is read."""
+ANSWER_SECONDS = 10
+"""How long an answer to a CER or a DPR may take."""
+CONNECTION_COMMANDS = (257, 280, 282)
+
+
+class Connection:
+    """A connection: its peer, the streams of its socket, and its timer."""
+
+    def __init__(self, node, role, reader, writer):
+        self.node, self.reader, self.writer = node, reader, writer
+        self.peer = Peer(role, node.host, node.realm, node.applications, relays=node.relays, product="node.py")
+        self.state, self.timer, self.is_over = State.IDLE, None, False
+
+    async def run(self):
+        """Until either side gives the connection up."""
+        self.do(self.peer.start())
+        try:
+            while not self.is_over:
+                message, is_whole = await self.next_message()
+                self.note("<-", message)
+                # the header's Command Code (RFC 6733 section 3)
+                is_for_peer = int.from_bytes(message[5:8], "big") in CONNECTION_COMMANDS
+                if is_for_peer or not is_whole or self.state is not State.OPEN:
+                    self.do(self.peer.receive(message))
+                else:
+                    self.set_timer()
+        except (asyncio.IncompleteReadError, ConnectionError, asyncio.CancelledError):
+            self.do(self.peer.lost())
+        finally:
+            self.stop_timer()
+            self.writer.close()
+
+    async def next_message(self):
+        """The next message; or only its header, and False, where that has a bad version or length."""
+        header = await self.reader.readexactly(20)
+        length = message_length(header)
+        if length is None or length > LONGEST:
+            return header, False
+        return header + await self.reader.readexactly(length - 20), True
+
+    def do(self, outputs):
+        """Sends what the peer wants sent, and closes where it wants that."""
+        for output in outputs:
+            if isinstance(output, Why):
+                self.node.say(f"closes: {output.name}")
+                self.end()
+            else:
+                self.note("->", output)
+                self.writer.write(output)
+        if self.peer.state is not self.state:
+            self.state = self.peer.state
+            self.node.say(f"{self.state.name} {' '.join(str(it.id) for it in self.peer.common)}".rstrip())
+        self.set_timer()
+
+    def end(self):
+        """Ends the connection after what was written."""
+        self.is_over = True
+        if self.writer.can_write_eof():
+            self.writer.write_eof()
+        self.reader.feed_eof()
+
+    def set_timer(self):
+        """Tw with its jitter of two seconds, less for a short one (RFC 3539 section 3.4.1); a fixed time for an answer."""
+        self.stop_timer()
+        if self.state not in (State.IDLE, State.CLOSED):
+            jitter = min(2, self.node.watchdog / 3)
+            watchdog = self.node.watchdog + random.uniform(-jitter, jitter)
+            seconds = watchdog if self.state is State.OPEN else ANSWER_SECONDS
+            self.timer = asyncio.get_running_loop().call_later(seconds, lambda: self.do(self.peer.tick()))
+
+    def stop_timer(self):
+        if self.timer:
+            self.timer.cancel()
+
+    def note(self, way, message):
+        self.node.say(f"{way} {len(message)} bytes: {self.node.dictionary.check(message)}")
+
+
+class Node:
+    """What all connections of this node have in common."""
+
+    def __init__(self, words):
+        self.host, self.realm, self.relays, self.watchdog = words.host, words.realm, words.relays, words.watchdog
+        self.applications = [Application(number) for number in words.application or [4]]
+        self.dictionary = Dictionary.open(*words.dictionary) if words.dictionary else Dictionary()
+        self.connections = set()
+
+    def say(self, line):
+        print(f"{self.host}: {line}", flush=True)
+
+    async def serve(self, role, reader, writer):
+        connection = Connection(self, role, reader, writer)
+        self.connections.add(connection)
+        await connection.run()
+        self.connections.discard(connection)
+
+    def stop(self):
+        for connection in self.connections:
+            connection.do(connection.peer.stop())
+
+
+async def run(words):
+    node, over = Node(words), asyncio.Event()
+
+    def stop():
+        node.stop()
+        over.set()
+
+    for number in (signal.SIGTERM, signal.SIGINT):
+        asyncio.get_running_loop().add_signal_handler(number, stop)
+    if words.listen is not None:
+        accept = lambda reader, writer: node.serve(Role.RESPONDER, reader, writer)
+        server = await asyncio.start_server(accept, "127.0.0.1", words.listen)
+        node.say(f"listens on {server.sockets[0].getsockname()[1]}")
+    if words.connect:
+        address, _, port = words.connect.rpartition(":")
+        await node.serve(Role.INITIATOR, *await asyncio.open_connection(address, int(port)))
+    if words.listen is not None:
+        await over.wait()
+        server.close()
+        while node.connections:
+            await asyncio.sleep(0.05)
+
+
+def main():
+    parser = argparse.ArgumentParser(description=__doc__.splitlines()[0])
+    parser.add_argument("--listen", type=int, metavar="PORT", help="accept connections on loopback; 0 takes any port")
+    parser.add_argument("--connect", metavar="ADDRESS:PORT", help="open a connection")
+    parser.add_argument("--host", default="node.example.com", help="Origin-Host")
+    parser.add_argument("--realm", default="example.com", help="Origin-Realm")
+    parser.add_argument("--application", type=int, action="append", metavar="ID", help="an Auth-Application-Id; 4 where none is given")
+    parser.add_argument("--relays", action="store_true", help="4294967295 stands for all applications")
+    parser.add_argument("--watchdog", type=float, default=30, metavar="SECONDS", help="Tw, 30 by itself")
+    parser.add_argument("dictionary", nargs="*", help="texts of one dictionary")
+    words = parser.parse_args()
+    if words.listen is None and not words.connect:
+        parser.error("--listen or --connect is wanted")
+    asyncio.run(run(words))
+
+
+main()
