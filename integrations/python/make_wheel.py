@@ -47,6 +47,9 @@ def record_of(files, name):
 
 
 def main():
+    if {"-h", "--help"} & set(sys.argv):
+        print(__doc__)
+        return
     if not 2 <= len(sys.argv) <= 3:
         sys.exit(__doc__)
     about, files = contents(pathlib.Path(sys.argv[1]))

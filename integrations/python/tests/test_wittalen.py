@@ -3,7 +3,9 @@
 import gc
 import os
 import pathlib
+import pickle
 import re
+import tempfile
 import threading
 import unittest
 
@@ -54,6 +56,13 @@ class Checks(unittest.TestCase):
         self.assertTrue(book.check(report(1), levels=0))
         with self.assertRaises(ValueError):
             book.check(report(1), levels=1 << 32)
+
+    def test_types(self):
+        book = Dictionary(USAGE)
+        self.assertTrue(book.check(bytearray(report(1))) and book.check(memoryview(report(1))))
+        for wrong in (report(1).hex(), None, 20, [1]):
+            with self.assertRaises(TypeError):
+                book.check(wrong)
 
     def test_shown(self):
         self.assertIn("Usage 7", Dictionary(USAGE).show(report(7)))
@@ -116,10 +125,30 @@ class Dictionaries(unittest.TestCase):
         book.close()
         with self.assertRaises(ValueError):
             book.check(BARE)
-        # a stream keeps its dictionary alive
+        # a stream keeps its dictionary
         self.assertEqual(stream.feed(BARE[:7]), b"")
+        self.assertEqual(stream.feed(BARE[7:]), b"")
+        self.assertEqual(str(stream.finish()), "fault 5005 at 20 missing Origin-Host")
         del stream
         gc.collect()
+
+    def test_open(self):
+        with tempfile.TemporaryDirectory() as folder:
+            first, second = pathlib.Path(folder, "first"), pathlib.Path(folder, "second")
+            first.write_text("%avp Usage 9002 Unsigned32 any ; a comment")
+            second.write_text("<Report> ::= < Diameter Header: 302, REQ > { Usage }")
+            self.assertTrue(Dictionary.open(first, second).check(report(1)))
+
+    def test_many_faults(self):
+        faults = wittalen.faults("".join(f"%avp A {number} Time any ; \u00e4\n" for number in range(16_000)))
+        self.assertEqual([str(faults[0]), str(faults[-1])], ["2:6: duplicate name A", "16000:6: duplicate name A"])
+
+    def test_pickled(self):
+        (fault,) = wittalen.faults(NARROW + " [ X ]")
+        again = pickle.loads(pickle.dumps(wittalen.DictionaryError([fault])))
+        self.assertEqual((again.faults, str(again)), ([fault], "2:56: undefined name Report X"))
+        again = pickle.loads(pickle.dumps(wittalen.InputError("syntax", 2)))
+        self.assertEqual((again.kind, again.line), ("syntax", 2))
 
     def test_files(self):
         folder = HEADER.parent.parent / "dictionaries"
@@ -139,6 +168,7 @@ class Upgrades(unittest.TestCase):
         self.assertEqual(wittalen.breaking(narrow, wide).text, "nothing breaks\n")
         with self.assertRaises(wittalen.InputError) as caught:
             wittalen.breaking(wide, narrow, commands=["Report", "Retort"])
+        self.assertFalse(wittalen.breaking(wide, narrow, commands="Report"))
         self.assertEqual((caught.exception.kind, caught.exception.line), ("no command", 2))
 
     def test_compared(self):
@@ -193,6 +223,15 @@ class Peers(unittest.TestCase):
                 Peer(Role.INITIATOR, *words)
         with self.assertRaises(ValueError):
             Peer(Role.INITIATOR, "a", "b", [Application(1 << 32)])
+        with self.assertRaises(ValueError):
+            Peer((1 << 32) + 1, "a", "b", [Application(1)])
+
+    def test_closed(self):
+        peer = Peer(Role.RESPONDER, "a", "b", [Application(1)])
+        peer.close()
+        for ask in (peer.start, lambda: peer.state, lambda: peer.common, lambda: peer.serves(1)):
+            with self.assertRaises(ValueError):
+                ask()
 
 
 class Numbers(unittest.TestCase):

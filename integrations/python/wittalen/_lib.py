@@ -133,6 +133,18 @@ def require(status: int) -> None:
         raise RuntimeError(f"libdia: status {status}")
 
 
+def octets(data: Any) -> bytes:
+    """The bytes of a bytes-like object. A pointer to anything else is never handed over."""
+    if not isinstance(data, (bytes, bytearray, memoryview)):
+        raise TypeError(f"bytes are wanted, and not {type(data).__name__}")
+    return bytes(data)
+
+
+def text_octets(text: Any) -> bytes:
+    """The bytes of a text, or of bytes."""
+    return text.encode() if isinstance(text, str) else octets(text)
+
+
 def u32(number: int, what: str) -> int:
     """The number, which C would cut to 32 bits without a word."""
     if not 0 <= number <= 0xFFFFFFFF:

@@ -7,10 +7,10 @@ import json
 import os
 from dataclasses import dataclass
 from enum import IntEnum
-from typing import Any, Iterator, Optional, Union
+from typing import Any, Iterable, Iterator, Optional, Union
 
 from . import _lib
-from ._lib import Owner, RawVerdict, Text, lib, require, u32
+from ._lib import Owner, RawVerdict, Text, lib, octets, require, text_octets, u32
 
 REASONS = (
     "version", "length", "bits", "command", "application", "proxiable", "avp-length", "unknown", "m-bit", "missing",
@@ -33,19 +33,18 @@ class Outcome(IntEnum):
 
 @dataclass(frozen=True)
 class Verdict:
-    """The verdict on a message; true where it is valid. As text it is the line of `diacmd check`."""
+    """The verdict on a message; true where it is valid. As text it is the line of `diacmd check --lines`.
+
+    A valid message has `command`, the command's name. A fault has `code`, its Result-Code (RFC 6733 section 7.1); `offset`, in bytes
+    from the message's first; `reason` (docs/FAULTS.md); and `avp`, the name of its AVP, CODE:VENDOR where the dictionary has none,
+    or AVP for those that no rule lists. Other fields are None or 0."""
 
     outcome: Outcome
     command: Optional[str] = None
-    """The name of the command of a valid message."""
     code: int = 0
-    """The Result-Code of a fault (RFC 6733 section 7.1), else 0."""
     offset: int = 0
-    """Where the fault is, in bytes from the message's first."""
     reason: Optional[str] = None
-    """The reason of a fault (docs/FAULTS.md)."""
     avp: Optional[str] = None
-    """The AVP of a fault: its name, or CODE:VENDOR where the dictionary has none; AVP for those that no rule lists."""
 
     def __bool__(self) -> bool:
         return self.outcome is Outcome.VALID
@@ -79,6 +78,9 @@ class DictionaryError(ValueError):
         more = f"; and {len(faults) - 3} more" if len(faults) > 3 else ""
         super().__init__("; ".join(map(str, faults[:3])) + more)
 
+    def __reduce__(self) -> Any:
+        return type(self), (self.faults,)
+
 
 class Dictionary(Owner):
     """A dictionary: of a text (docs/FORMATS.md), or the built-in one of RFC 6733.
@@ -93,40 +95,47 @@ class Dictionary(Owner):
         if text is None:
             require(lib.dia_dict_open_base(self._handle))
             return
-        data = text.encode() if isinstance(text, str) else text
+        data = text_octets(text)
         status = lib.dia_dict_open(data, len(data), self._handle, _lib.Problem())
         if status == _lib.REFUSED:
             raise DictionaryError(faults(data))
         require(status)
 
     @classmethod
-    def open(cls, *paths: Union[str, os.PathLike[str]]) -> Dictionary:
-        """The dictionary of the texts of these files, one after the other."""
+    def open(cls, path: Union[str, os.PathLike[str]], *more: Union[str, os.PathLike[str]]) -> Dictionary:
+        """The dictionary of the texts of these files, one after the other. Lines of its faults count through all of them."""
         texts = []
-        for path in paths:
-            with open(path, "rb") as file:
+        for each in (path, *more):
+            with open(each, "rb") as file:
                 texts.append(file.read())
-        return cls(b"".join(texts))
+        return cls(b"".join(text if text.endswith(b"\n") or not text else text + b"\n" for text in texts))
+
+    def share(self) -> Dictionary:
+        """The same dictionary with a handle of its own, which takes no time. It stays open when this one is closed."""
+        other = Dictionary.__new__(Dictionary)
+        other._handle, other._names = _lib.Handle(), self._names
+        require(lib.dia_dict_share(self._handle, other._handle))
+        return other
 
     def check(self, message: bytes, *, refuse_unknown: bool = False, levels: Optional[int] = None) -> Verdict:
         """Checks one message. With `refuse_unknown` an AVP that the dictionary doesn't have is a fault, also with the M bit
         clear; `levels` is how many grouped AVPs may be open in one another (None: any number)."""
-        raw = RawVerdict()
-        require(lib.dia_check(self._handle, refuse_unknown, levels_of(levels), message, len(message), raw))
+        raw, data = RawVerdict(), octets(message)
+        require(lib.dia_check(self._handle, bool(refuse_unknown), levels_of(levels), data, len(data), raw))
         return self._verdict(raw)
 
     def check_json(self, message: bytes, *, refuse_unknown: bool = False, levels: Optional[int] = None) -> dict[str, Any]:
         """The object that `diacmd check --json` writes (docs/JSON.md)."""
-        line = Text()
-        require(lib.dia_check_json(self._handle, refuse_unknown, levels_of(levels), message, len(message), line._handle))
+        line, data = Text(), octets(message)
+        require(lib.dia_check_json(self._handle, bool(refuse_unknown), levels_of(levels), data, len(data), line._handle))
         found: dict[str, Any] = json.loads(line.read())
         return found
 
     def show(self, message: bytes) -> str:
         """The lines that `diacmd show` writes, with the dictionary's names. Raises ValueError where the bytes have no message's
         header and length."""
-        text, whole, raw = Text(), c.c_uint32(), RawVerdict()
-        status = lib.dia_show(self._handle, message, len(message), text._handle, whole, raw)
+        text, whole, raw, data = Text(), c.c_uint32(), RawVerdict(), octets(message)
+        status = lib.dia_show(self._handle, data, len(data), text._handle, whole, raw)
         if status == _lib.REFUSED:
             raise ValueError(str(self._verdict(raw)))
         require(status)
@@ -151,29 +160,30 @@ class Dictionary(Owner):
         name = self._names.get(key)
         if name is None:
             room, count = c.create_string_buffer(_lib.MAX_NAME), c.c_size_t()
-            found = look_up(self._handle, *key, room, _lib.MAX_NAME, count) == _lib.OK
-            name = self._names[key] = room.raw[: count.value].decode() if found else ":".join(map(str, key))
+            status = look_up(self._handle, *key, room, _lib.MAX_NAME, count)
+            if status == _lib.NONE:
+                return ":".join(map(str, key))
+            require(status)
+            name = self._names[key] = room.raw[: count.value].decode()
         return name
 
 
 class Stream(Owner):
-    """One message that comes in pieces."""
+    """One message that comes in pieces. `done` is whether it takes no more bytes. The dictionary may be closed meanwhile."""
 
     _closing = "dia_stream_close"
 
     def __init__(self, dictionary: Dictionary, refuse_unknown: bool = False, levels: Optional[int] = None):
         super().__init__()
-        self._dictionary = dictionary
-        self.done = False
-        """Whether the message takes no more bytes."""
-        require(lib.dia_stream_open(dictionary._handle, refuse_unknown, levels_of(levels), self._handle))
+        self._dictionary, self.done = dictionary.share(), False
+        require(lib.dia_stream_open(dictionary._handle, bool(refuse_unknown), levels_of(levels), self._handle))
 
     def feed(self, piece: bytes) -> bytes:
         """Takes the bytes that belong to the message, and returns those after them."""
-        fed = _lib.Fed()
-        require(lib.dia_stream_feed(self._handle, piece, len(piece), fed))
+        fed, data = _lib.Fed(), octets(piece)
+        require(lib.dia_stream_feed(self._handle, data, len(data), fed))
         self.done = bool(fed.done)
-        return piece[fed.taken :]
+        return data[fed.taken :]
 
     def finish(self) -> Verdict:
         """The verdict on all bytes that came. It closes the stream."""
@@ -184,14 +194,15 @@ class Stream(Owner):
 
 def faults(text: Union[str, bytes]) -> list[Fault]:
     """All that is wrong with a dictionary's text; nothing where it is a dictionary."""
-    data = text.encode() if isinstance(text, str) else text
-    owner, count = _Faults(), c.c_size_t()
-    found: list[Fault] = []
+    data, owner, count = text_octets(text), _Faults(), c.c_size_t()
     require(lib.dia_faults_open(data, len(data), owner._handle, count))
-    for index in range(count.value):
-        raw = _lib.RawFault()
+    raws = [_lib.RawFault() for _ in range(count.value)]
+    for index, raw in enumerate(raws):
         require(lib.dia_faults_get(owner._handle, index, raw))
-        line, column = line_column(data, raw.at) if raw.has_place else (None, None)
+    positions = lines_columns(data, {raw.at for raw in raws})
+    found = []
+    for raw in raws:
+        line, column = positions[raw.at] if raw.has_place else (None, None)
         names = (bytes(raw.name[: raw.name_count]).decode(), bytes(raw.slot[: raw.slot_count]).decode())
         found.append(Fault(kind_of(raw.kind), line, column, *names))
     return found
@@ -199,8 +210,7 @@ def faults(text: Union[str, bytes]) -> list[Fault]:
 
 def render(text: Union[str, bytes]) -> str:
     """The text in canonical form, as `diacmd render` writes it. Raises DictionaryError where the grammar doesn't derive it."""
-    data = text.encode() if isinstance(text, str) else text
-    rendered = Text()
+    data, rendered = text_octets(text), Text()
     status = lib.dia_render(data, len(data), rendered._handle, _lib.Problem())
     if status == _lib.REFUSED:
         raise DictionaryError(faults(data))
@@ -210,15 +220,15 @@ def render(text: Union[str, bytes]) -> str:
 
 def message_length(header: bytes) -> Optional[int]:
     """How many bytes the message has that begins with these, at least 20 (RFC 6733 section 3); None where no message begins so."""
-    length = c.c_uint32()
-    status = lib.dia_message_length(header, len(header), length, RawVerdict())
+    length, data = c.c_uint32(), octets(header)
+    status = lib.dia_message_length(data, len(data), length, RawVerdict())
     return length.value if status == _lib.OK else None
 
 
 def split(data: bytes) -> Iterator[bytes]:
     """The messages that follow one another in the bytes, by their Message Length. Bytes that begin none are the last, as is a
     message that is cut."""
-    at = 0
+    data, at = octets(data), 0
     while at < len(data):
         length = message_length(data[at : at + 20])
         end = len(data) if length is None else at + length
@@ -238,7 +248,14 @@ def levels_of(levels: Optional[int]) -> int:
     return _lib.ANY_LEVELS if levels is None else u32(levels, "levels")
 
 
-def line_column(text: bytes, offset: int) -> tuple[int, int]:
-    line, column = c.c_size_t(), c.c_size_t()
-    lib.dia_line_column(text, len(text), offset, line, column)
-    return line.value, column.value
+def lines_columns(text: bytes, offsets: Iterable[int]) -> dict[int, tuple[int, int]]:
+    """The line and the column of each offset, both from 1, in one pass over the text."""
+    found, before, line, column = {}, 0, 1, 1
+    more, right = c.c_size_t(), c.c_size_t()
+    for offset in sorted(offsets):
+        part = text[before:offset]
+        lib.dia_line_column(part, len(part), len(part), more, right)
+        column = right.value if more.value > 1 else column + right.value - 1
+        line += more.value - 1
+        found[offset], before = (line, column), offset
+    return found

@@ -11,7 +11,7 @@ from enum import IntEnum
 from typing import Iterable, Optional, Union
 
 from . import _lib
-from ._lib import App, Ip, Numbers, Owner, lib, require, u32
+from ._lib import App, Ip, Numbers, Owner, lib, octets, require, u32
 
 RELAY = 0xFFFFFFFF
 """The Application-ID of relays (RFC 6733 section 2.4)."""
@@ -78,6 +78,7 @@ class Peer(Owner):
         identifiers: Optional[tuple[int, int]] = None,
     ):
         super().__init__()
+        self._waiting: list[Output] = []
         words = [word.encode() for word in (host, realm, product)]
         ips, apps = [_ip(address) for address in addresses], [_app(application) for application in applications]
         hop, e2e = identifiers or _identifiers()
@@ -86,7 +87,7 @@ class Peer(Owner):
         names = [part for word in words for part in (word, len(word))]
         lists = ((Ip * max(1, len(ips)))(*ips), len(ips), (App * max(1, len(apps)))(*apps), len(apps))
         fault = c.c_uint32()
-        status = lib.dia_peer_open_as(role, relays, *names, *lists, numbers, self._handle, fault)
+        status = lib.dia_peer_open_as(Role(role), bool(relays), *names, *lists, numbers, self._handle, fault)
         if status == _lib.REFUSED:
             fields = ("", "host", "realm", "product", "addresses", "applications")
             raise ValueError(f"{fields[fault.value]}: refused")
@@ -106,7 +107,7 @@ class Peer(Owner):
 
     def stop(self, cause: Cause = Cause.REBOOTING) -> list[Output]:
         """The connection is to be given up."""
-        return self._event(3, cause=cause)
+        return self._event(3, cause=Cause(cause))
 
     def lost(self) -> list[Output]:
         """The transport connection is gone."""
@@ -123,8 +124,10 @@ class Peer(Owner):
         """The applications that both ends have, once the connection was open: those for authentication first, by number."""
         app = App()
         found: list[Application] = []
-        while lib.dia_peer_common(self._handle, len(found), app) == _lib.OK:
+        while (status := lib.dia_peer_common(self._handle, len(found), app)) == _lib.OK:
             found.append(Application(app.id, bool(app.is_acct)))
+        if status != _lib.NONE:
+            require(status)
         return found
 
     def serves(self, application: int) -> bool:
@@ -134,15 +137,21 @@ class Peer(Owner):
         return bool(serves.value)
 
     def _event(self, event: int, message: bytes = b"", cause: int = 0) -> list[Output]:
-        require(lib.dia_peer_event(self._handle, event, message, len(message), cause))
+        data = octets(message)
+        # what an event left whose call was interrupted
+        self._take_outputs()
+        require(lib.dia_peer_event(self._handle, event, data, len(data), cause))
+        self._take_outputs()
+        done, self._waiting = self._waiting, []
+        return done
+
+    def _take_outputs(self) -> None:
         output, count, why = c.c_uint32(), c.c_size_t(), c.c_uint32()
         room = c.create_string_buffer(MOST_ROOM)
-        done: list[Output] = []
         while (status := lib.dia_peer_output(self._handle, output, room, MOST_ROOM, count, why)) == _lib.OK:
-            done.append(Why(why.value) if output.value else room.raw[: count.value])
+            self._waiting.append(Why(why.value) if output.value else room.raw[: count.value])
         if status != _lib.NONE:
             require(status)
-        return done
 
 
 def _ip(address: str) -> Ip:
@@ -152,7 +161,8 @@ def _ip(address: str) -> Ip:
 
 def _app(application: Application) -> App:
     vendor = application.vendor
-    return App(application.accounting, u32(application.id, "applications"), vendor is not None, u32(vendor or 0, "vendor"))
+    number = u32(application.id, "applications")
+    return App(bool(application.accounting), number, vendor is not None, u32(vendor or 0, "vendor"))
 
 
 def _identifiers() -> tuple[int, int]:

@@ -5,10 +5,10 @@ from __future__ import annotations
 import ctypes as c
 from dataclasses import dataclass
 from enum import IntEnum
-from typing import Iterable
+from typing import Any, Iterable, Union
 
 from . import _lib
-from ._lib import Problem, Text, lib, lib_breaking, require
+from ._lib import Problem, Text, lib, lib_breaking, require, text_octets
 from .dictionaries import Dictionary, kind_of
 
 
@@ -44,11 +44,15 @@ class Comparison:
 
 
 class InputError(ValueError):
-    """A table, a list or a name is refused: its kind (docs/FAULTS.md), and its line, from 1; 0 where it is no line's."""
+    """A table, a list or a name is refused: its kind (docs/FAULTS.md), and its line, from 1; 0 where it is no line's. Of
+    names of commands, the line counts the names."""
 
     def __init__(self, kind: str, line: int):
         self.kind, self.line = kind, line
         super().__init__(f"line {line}: {kind}" if line else kind)
+
+    def __reduce__(self) -> Any:
+        return type(self), (self.kind, self.line)
 
 
 def breaking(
@@ -57,7 +61,7 @@ def breaking(
     *,
     sends: Sends = Sends.ANY,
     refuse_unknown: bool = False,
-    commands: Iterable[str] = (),
+    commands: Union[str, Iterable[str]] = (),
     accepted: str = "",
     messages: bool = False,
     once: bool = False,
@@ -65,14 +69,15 @@ def breaking(
 ) -> Upgrade:
     """What breaks where the side of `a` sends and the side of `b` reads, as `diacmd breaking` lists it (docs/UPGRADING.md).
 
-    `commands` are the names that are asked for, none for all; `accepted` is the text of a list of accepted lines. `messages` adds a
+    `commands` are the names that are asked for, one or several, none for all; `accepted` is the text of a list of accepted lines. `messages` adds a
     message to each line, `once` leaves one line for each cause, and `meaning` adds the AVPs that are read in another format.
     Raises InputError, and MemoryError. Other threads go on meanwhile."""
     text, safe, problem = Text(), c.c_uint32(), Problem()
-    options = 1 * messages + 2 * once + 4 * meaning
-    names, known = "".join(f"{name}\n" for name in commands).encode(), accepted.encode()
-    with _share(a) as first, _share(b) as second:
-        handles = (first._handle, second._handle, sends, refuse_unknown, options)
+    options = 1 * bool(messages) + 2 * bool(once) + 4 * bool(meaning)
+    asked = [commands] if isinstance(commands, str) else commands
+    names, known = "".join(f"{name}\n" for name in asked).encode(), text_octets(accepted)
+    with a.share() as first, b.share() as second:
+        handles = (first._handle, second._handle, Sends(sends), bool(refuse_unknown), options)
         status = lib_breaking().dia_breaking(*handles, names, len(names), known, len(known), text._handle, safe, problem)
     _require_input(status, problem)
     return Upgrade(bool(safe.value), text.read())
@@ -80,20 +85,12 @@ def breaking(
 
 def compare(a: Dictionary, b: Dictionary, table: str, *, refuse_unknown: bool = False) -> Comparison:
     """Compares two dictionaries by the text of a table of pairs, as `diacmd compare` does. Raises InputError, and MemoryError."""
-    line, holds, problem, data = Text(), c.c_uint32(), Problem(), table.encode()
-    with _share(a) as first, _share(b) as second:
-        words = (first._handle, second._handle, refuse_unknown, data, len(data))
+    line, holds, problem, data = Text(), c.c_uint32(), Problem(), text_octets(table)
+    with a.share() as first, b.share() as second:
+        words = (first._handle, second._handle, bool(refuse_unknown), data, len(data))
         status = lib.dia_compare(*words, line._handle, holds, problem)
     _require_input(status, problem)
     return Comparison(bool(holds.value), line.read().rstrip("\n"))
-
-
-def _share(dictionary: Dictionary) -> Dictionary:
-    """The same dictionary with a handle of its own."""
-    other = Dictionary.__new__(Dictionary)
-    other._handle, other._names = _lib.Handle(), dictionary._names
-    require(lib.dia_dict_share(dictionary._handle, other._handle))
-    return other
 
 
 def _require_input(status: int, problem: Problem) -> None:
