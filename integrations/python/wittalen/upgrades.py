@@ -44,8 +44,8 @@ class Comparison:
 
 
 class InputError(ValueError):
-    """A table, a list or a name is refused: its kind (docs/FAULTS.md), and its line, from 1; 0 where it is no line's. Of
-    names of commands, the line counts the names."""
+    """A table, a list or a name is refused: its kind (docs/FAULTS.md), and its line, from 1; 0 where it is no line's. Of names of
+    commands it is the number of the name."""
 
     def __init__(self, kind: str, line: int):
         self.kind, self.line = kind, line
@@ -69,9 +69,9 @@ def breaking(
 ) -> Upgrade:
     """What breaks where the side of `a` sends and the side of `b` reads, as `diacmd breaking` lists it (docs/UPGRADING.md).
 
-    `commands` are the names that are asked for, one or several, none for all; `accepted` is the text of a list of accepted lines. `messages` adds a
-    message to each line, `once` leaves one line for each cause, and `meaning` adds the AVPs that are read in another format.
-    Raises InputError, and MemoryError. Other threads go on meanwhile."""
+    `commands` are the names that are asked for, one or several, none for all; `accepted` is the text of a list of accepted lines.
+    `messages` adds a message to each line, `once` leaves one line for each cause, and `meaning` adds the AVPs that are read in
+    another format. Raises InputError, and MemoryError. Other threads go on meanwhile."""
     text, safe, problem = Text(), c.c_uint32(), Problem()
     options = 1 * bool(messages) + 2 * bool(once) + 4 * bool(meaning)
     asked = [commands] if isinstance(commands, str) else commands
