@@ -41,6 +41,14 @@ class Running:
 
 
 class Nodes(unittest.TestCase):
+    @classmethod
+    def setUpClass(cls):
+        try:
+            with socket.create_server(("127.0.0.1", 0)) as server:
+                socket.create_connection(server.getsockname(), 20).close()
+        except OSError as error:
+            raise unittest.SkipTest(f"there is no loopback: {error}") from error
+
     def node(self, *words: str) -> Running:
         found = Running(*words)
         self.addCleanup(found.kill)
@@ -58,7 +66,7 @@ class Nodes(unittest.TestCase):
 
     def test_two_nodes(self):
         listening, port = self.listening("--host", "b.example.com")
-        connecting = self.node("--connect", f"127.0.0.1:{port}", "--host", "a.example.com", "--watchdog", "0.3")
+        connecting = self.node("--connect", f"127.0.0.1:{port}", "--host", "a.example.com", "--watchdog", "1")
         connecting.wait_for("OPEN 4")
         connecting.wait_for("<- .* valid DWA")
         connecting.process.send_signal(signal.SIGTERM)
