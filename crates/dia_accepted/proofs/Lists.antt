@@ -1,4 +1,4 @@
--- The lines of a list, one behind another.
+-- The lines of a list, one after another.
 use Rattle.std.proofs.Common.{◌≡◌, ℕ, zero, suc, ◌+◌, ◌<◌, ◌≤◌, Bool, true, false, cond, List, [], ◌∷◌, ◌++◌, length, map, take, get_or, Option, Some, None, refl, sym, ap, ◌∙◌, append_assoc, arith}
 use Rattle.std.specs.Prelude.{nat_lt, slice_get, string_bytes}
 use Rattle.std.specs.Option.{option_or}

@@ -1,4 +1,4 @@
--- Look-ups of texts, and what they tell of the lines of a list.
+-- Look-ups of texts, and what they say of the lines of a list.
 use Rattle.std.proofs.Common.{◌≡◌, ℕ, suc, ◌+◌, ◌<◌, Bool, true, false, cond, List, [], ◌∷◌, ◌++◌, map, take, get_or, length, String, refl, sym, ap, subst, ◌∙◌, append_assoc, arith}
 use Rattle.std.specs.Global.{Global, Vec}
 use Rattle.std.specs.Prelude.{◌==◌, ◌||◌, ◌&&◌, Option, Some, None, filter, is_some, not, string_bytes, unwrap_or}
@@ -258,7 +258,7 @@ about_by names all known is are list = by names all is are list
 
 -- ---- the order in which lines come
 
--- lines may come behind those of the first list
+-- lines may follow those of the first list
 pub seen_between : (accepting : Accepting) (list : List PlainEntry) (told others : List PlainTold) (t : PlainTold) → HasSeen accepting list ((told ++ others) ++ t ∷ [])
     → HasSeen accepting list ((told ++ t ∷ []) ++ others)
 seen_between accepting list told others t seen =
@@ -278,7 +278,7 @@ seen_between accepting list told others t seen =
         ∙ moved (list_any test told) (list_any test others) (list_any test (t ∷ []))
         ∙ sym (list_any-append test (told ++ t ∷ []) others ∙ ap (λ (b : Bool). b || list_any test others) (list_any-append test told (t ∷ [])))
 
--- and behind all
+-- and all
 pub seen_behind : (accepting : Accepting) (list : List PlainEntry) (told others : List PlainTold) (t : PlainTold) → HasSeen accepting list ((told ++ others) ++ t ∷ [])
     → HasSeen accepting list (told ++ (others ++ t ∷ []))
 seen_behind accepting list told others t seen = subst (HasSeen accepting list) (append_assoc told others (t ∷ [])) seen

@@ -1,4 +1,4 @@
--- Lines of which each cause is kept once, and how often causes were counted.
+-- Lines of which each cause is recorded once, and how often causes were counted.
 use Rattle.std.proofs.Common.{◌≡◌, ℕ, ◌+◌, ◌^◌, ◌<◌, ◌≤◌, Bool, true, false, cond, List, [], ◌∷◌, ◌++◌, map, take, get_or, length, string_bytes, Bor, Result, Ok, Err, refl, sym, ap, subst, ◌∙◌, append_assoc, arith, inl, inr}
 use Rattle.std.specs.declared.string.String.{String}
 use Rattle.std.specs.Prelude.{◌≢◌, ◌==◌, ◌⊎◌, ◌&&◌, ◌||◌, IfOk, drop, filter, is_some, nat_eq, not, Some, None, Option, unwrap_or}
@@ -320,7 +320,7 @@ forgotten old new told before command visits none firsts counts no_own are =
       others = none;
     }
 
--- ---- the lines that are told
+-- ---- the lines that are reported
 
 -- the line of a cause, by what was counted
 abbrev pub line_by : List (Vec ℕ × ℕ) → PlainTold → PlainTold

@@ -8,7 +8,7 @@ use Rattle.dia_accepted.specs.declared.list.Entry.{Entry}
 use Rattle.dia_accepted.specs.declared.list.ListFault.{ListFault}
 use Rattle.dia_accepted.specs.declared.list.ListFault.TheVariants.{Syntax, Limit}
 use Rattle.dia_accepted.specs.declared.told.Told.{Told}
-use Rattle.dia_accepted.specs.Words.{anywhere, command_in, counted, entry_text, entry_words, fault_column, has_form, has_once_form, is_skipped}
+use Rattle.dia_accepted.specs.Words.{anywhere, command_in, counted, entry_text, entry_words, fault_offset, has_form, has_once_form, is_skipped}
 
 -- ---- the text of the list
 
@@ -40,7 +40,7 @@ entries_from n (words ∷ rest) = entries_by n words ++ entries_from (n + 1) res
 
 -- what is wrong with the words of an entry
 abbrev pub form_fault : ℕ → List ℕ → Option ListFault
-form_fault n words = if has_form words || has_once_form words then None else Some (Syntax n (fault_column words))
+form_fault n words = if has_form words || has_once_form words then None else Some (Syntax n (fault_offset words))
 
 -- what is wrong with the line of this number
 abbrev pub line_fault : ℕ → List ℕ → Option ListFault
@@ -62,7 +62,7 @@ plain_entry e = record { line = e.line; words = string_bytes e.words; counted = 
 
 -- ---- the lines of an answer
 
--- a line with the place of its command among those of A, and with its message behind it, if it has one
+-- a line with the place of its command among those of A, and with its message, if it has one
 pub record PlainTold : Type 0 where
   pub command : ℕ
   pub words : List ℕ
@@ -75,7 +75,7 @@ plain_told t = record { command = t.command; words = string_bytes t.words; messa
 abbrev pub bare : PlainTold → PlainTold
 bare t = record { command = t.command; words = t.words; message = [] }
 
--- what is kept of a line for its cause: its message only where each cause is told once
+-- what is recorded of a line for its cause: its message only for `--once`
 abbrev pub kept : Bool → PlainTold → PlainTold
 kept is_once t = if is_once then t else bare t
 

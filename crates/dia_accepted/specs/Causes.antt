@@ -1,4 +1,4 @@
--- The causes of lines: reason, subject and detail; and what is told of lines where each cause is told once.
+-- The causes of lines: reason, subject and detail; and the lines of `--once`, one for each cause.
 use Rattle.std.specs.Prelude.{ℕ, nat_eq, ◌==◌, ◌&&◌, Bool, not, if◌then◌else◌, List, [], ◌∷◌, ◌++◌, map, filter, codes}
 use Rattle.std.specs.Fmt.{decimal}
 use Rattle.std.specs.List.{count_by}
@@ -6,7 +6,7 @@ use Rattle.std.specs.Str.{bytes_eq}
 use Rattle.dia_accepted.specs.Accepted.{PlainTold}
 use Rattle.dia_accepted.specs.Words.{cause_text, path_of}
 
--- each member once, where it stands first
+-- each member once, where it occurs first
 abbrev pub each_once : {X : Type 0} → (X → X → Bool) → List X → List X
 each_once same [] = []
 each_once same (x ∷ xs) = x ∷ filter (λ y. not (same x y)) (each_once same xs)

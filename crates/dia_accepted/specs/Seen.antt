@@ -1,4 +1,4 @@
--- Lines of an answer that come one by one, and what is kept of them: which lines of a list accept one of them, and their causes.
+-- Lines of an answer that come one by one, and what is recorded of them: which lines of a list accept one of them, and their causes.
 use Rattle.std.specs.Prelude.{◌≡◌, ℕ, nat_eq, ◌+◌, ◌-◌, ◌^◌, ◌≤◌, min, ◌&&◌, Bool, false, if◌then◌else◌, List, [], ◌++◌, filter, map, not, Option, Some, None, unwrap_or}
 use Rattle.std.specs.Global.{Vec}
 use Rattle.std.specs.List.{count_by, list_any}
@@ -50,7 +50,7 @@ IsKeyOf key t = (key.0 ≡ t.command) × (bytes_of key.1 ≡ cause_text t.words)
 abbrev pub next_count : Bool → ℕ → ℕ
 next_count one_more n = if one_more then min (n + 1) (2 ^ 64 - 1) else n
 
--- the lines have come, those of the second list since the causes were told to forget commands, the last ones of this command; they are of
+-- the lines have come, those of the second list since the causes forgot commands, the last ones of this command; they are of
 -- no more than so many commands before it
 pub record HaveCome (causes : Causes) (done own : List PlainTold) (command visits : ℕ) : Type 0 where
   pub firsts_are : map plain_told causes.firsts.items ≡ causes_of (done ++ own)

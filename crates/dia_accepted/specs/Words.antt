@@ -25,7 +25,7 @@ behind_space (c ∷ cs) = if c == 32 then cs else c ∷ cs
 abbrev pub cause_text : List ℕ → List ℕ
 cause_text words = behind_space (after_first (λ c. c == 58) words)
 
--- no `/` (47), and no `[` (91), behind which the path says for which application B has the command
+-- no `/` (47), and no `[` (91), after which the path says for which application B has the command
 abbrev pub is_of_command : ℕ → Bool
 is_of_command c = not (c == 47 || c == 91)
 
@@ -43,7 +43,7 @@ last_of path = drop (length path - prefix_len is_of_name (reverse path)) path
 abbrev pub begins : List ℕ → List ℕ → Bool
 begins words front = starts_with nat_eq words front
 
--- the reason is one of a level: how often AVPs stand in it, or in which order
+-- the reason is one of a level: how often AVPs occur in it, or in which order
 abbrev pub has_level_reason : List ℕ → Bool
 has_level_reason cause =
     begins cause (codes ": missing ") || (begins cause (codes ": too-many ") || (begins cause (codes ": not-allowed ") || begins cause (codes ": order ")))
@@ -73,7 +73,7 @@ counted words = scoped (path_of words) (cause_of words)
 abbrev pub anywhere : List ℕ → List ℕ
 anywhere words = scoped (codes "*") (cause_of words)
 
--- ---- a line of the list: its entry, and what may stand behind it
+-- ---- a line of the list: its entry, and what may follow it
 
 -- no `#` (35)
 abbrev pub is_no_hash : ℕ → Bool
@@ -86,7 +86,7 @@ before_hash line = take (prefix_len is_no_hash line) line
 abbrev pub ends_blank : List ℕ → Bool
 ends_blank text = nat_lt (length (trim_end text)) (length text) || length text == 0
 
--- the entry: no comment, which begins with the first `#` of the line if nothing but white space stands directly before it, and no white space at its end
+-- the entry: no comment, which begins with the first `#` of the line if white space or nothing precedes it, and no white space at its end
 abbrev pub entry_text : List ℕ → List ℕ
 entry_text line = if ends_blank (before_hash line) then trim_end (before_hash line) else trim_end line
 
@@ -104,21 +104,21 @@ is_name_byte c = is_ascii_alphanumeric c || c == 45
 abbrev pub is_path_byte : ℕ → Bool
 is_path_byte c = is_name_byte c || (c == 47 || (c == 91 || (c == 93 || c == 32)))
 
--- names, with `/` between and `[application N]` behind
+-- names, with `/` between them and `[application N]` after them
 abbrev pub is_path : List ℕ → Bool
 is_path text = nat_lt 0 (prefix_len is_name_byte text) && prefix_len is_path_byte text == length text
 
 abbrev pub has_path : List ℕ → Bool
 has_path words = bytes_eq (path_of words) (codes "*") || is_path (path_of words)
 
--- no space and no colon
+-- no space (32)
 abbrev pub is_of_word : ℕ → Bool
-is_of_word c = not (c == 32 || c == 58)
+is_of_word c = not (c == 32)
 
 abbrev pub first_word : List ℕ → List ℕ
 first_word text = take (prefix_len is_of_word text) text
 
--- what stands behind the first word and a space
+-- what follows the first word and a space
 abbrev pub behind_word : List ℕ → List ℕ
 behind_word text = drop 1 (drop (prefix_len is_of_word text) text)
 
@@ -158,7 +158,7 @@ has_form words = has_path words && has_cause_behind (cause_of words)
 abbrev pub is_of_part : ℕ → Bool
 is_of_part c = not (c == 44)
 
--- what stands behind the last comma, and what stands before it
+-- what follows the last comma, and what precedes it
 abbrev pub last_part : List ℕ → List ℕ
 last_part words = drop (length words - prefix_len is_of_part (reverse words)) words
 
@@ -180,7 +180,7 @@ is_counting part = begins part (codes " in ") && is_count (drop 4 part)
 abbrev pub is_placing : List ℕ → Bool
 is_placing part = begins part (codes " first in ") && is_path (drop 10 part)
 
--- the cause that a line of `--once` tells
+-- the cause in a line of `--once`
 abbrev pub told_once : List ℕ → List ℕ
 told_once words = before_last (before_last words)
 
@@ -192,7 +192,7 @@ has_once_form words = is_placing (last_part words) && (is_counting (last_part (b
 abbrev pub entry_words : List ℕ → List ℕ
 entry_words words = if has_form words then words else codes "*: " ++ told_once words
 
--- ---- where an entry has no form: what stands from the fault on
+-- ---- where an entry has no form: the entry from the fault on
 
 abbrev pub detail_fault : List ℕ → List ℕ
 detail_fault rest = if begins rest (codes ": ") then drop 2 rest else rest
@@ -214,7 +214,7 @@ abbrev pub path_fault : List ℕ → List ℕ
 path_fault words = if begins words (codes "*") then drop 1 words
     else (if nat_lt 0 (prefix_len is_name_byte words) then drop (prefix_len is_path_byte words) words else words)
 
--- a line that begins with a reason has no path: its cause, or else what `--once` writes behind it, isn't whole
+-- a line that begins with a reason has no path: its cause, or else what `--once` writes after it, isn't whole
 abbrev pub once_fault : List ℕ → List ℕ
 once_fault words = if has_cause words then [] else cause_fault words
 
@@ -227,9 +227,9 @@ answer_fault words = if has_path words then colon_fault (cause_of words) else pa
 abbrev pub form_fault : List ℕ → List ℕ
 form_fault words = if begins_once words then once_fault words else answer_fault words
 
--- the column of the fault, from 1
-abbrev pub fault_column : List ℕ → ℕ
-fault_column words = length words - length (form_fault words) + 1
+-- the bytes before the fault
+abbrev pub fault_offset : List ℕ → ℕ
+fault_offset words = length words - length (form_fault words)
 
 -- ---- of which command an entry is
 

@@ -71,7 +71,7 @@ impl Causes {
         self.counts.contains_key(cause_of(words).as_bytes())
     }
 
-    /// A line of the command comes. Where its cause is known already, its message isn't kept.
+    /// A line of the command comes. Where its cause is known already, its message isn't recorded.
     pub fn add(
         &mut self,
         alloc: Global,

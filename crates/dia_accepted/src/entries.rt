@@ -1,4 +1,4 @@
-//! The entries of a list: their forms, and what may stand behind them.
+//! The entries of a list: their forms, and what may follow them.
 ghost use Rattle.std.specs.Prelude.{◌≡◌, ◌≤◌, IfOk, drop, length, reverse};
 ghost use Rattle.std.specs.Char.{is_ascii_digit};
 ghost use Rattle.std.specs.List.{prefix_len};
@@ -11,7 +11,7 @@ ghost use Rattle.dia_accepted.specs.Words.{is_undecided, last_part, told_once};
 use crate::words::{begins, behind, cause_of, counted, path_of};
 use std::alloc::{AllocError, Global};
 
-/// The entry of a line: what stands before a comment, without the white space at its end.
+/// The entry of a line: what precedes a comment, without the white space at its end.
 pub(crate) fn entry_text(line: &str) -> &str
     ensures { result.now ≡ entry_text line.now }
 {
@@ -138,7 +138,7 @@ pub(crate) fn first_word(text: &[u8]) -> &[u8]
     word
 }
 
-/// What stands behind the first word and a space.
+/// What follows the first word and a space.
 pub(crate) fn behind_word(text: &[u8]) -> &[u8]
     ensures { result.now ≡ behind_word text.now }
 {
@@ -151,7 +151,7 @@ fn behind_one(text: &[u8]) -> &[u8]
     if text.is_empty() { text } else { &text[1..] }
 }
 
-/// The cause that an entry of `--once` tells.
+/// The cause in an entry of `--once`.
 fn told_once(words: &[u8]) -> &[u8]
     ensures { result.now ≡ told_once words.now }
 {
@@ -183,14 +183,14 @@ fn is_noun(text: &[u8]) -> bool
     text == b" command".as_slice() || text == b" commands".as_slice()
 }
 
-/// What stands behind the last comma.
+/// What follows the last comma.
 fn last_part(words: &[u8]) -> &[u8]
     ensures { result.now ≡ last_part words.now }
 {
     behind(words, words.len() - last_part_len(words))
 }
 
-/// What stands before the last comma.
+/// What precedes the last comma.
 fn before_last(words: &[u8]) -> &[u8]
     ensures { result.now ≡ before_last words.now }
 {
@@ -250,7 +250,7 @@ fn is_path_byte(byte: u8) -> bool
 fn is_of_word(byte: u8) -> bool
     ensures { result ≡ is_of_word byte }
 {
-    !(byte == b' ' || byte == b':')
+    byte != b' '
 }
 
 fn is_of_part(byte: u8) -> bool

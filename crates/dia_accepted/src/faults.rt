@@ -1,6 +1,6 @@
 //! Where an entry has no form of a line that `breaking` writes.
 ghost use Rattle.std.specs.Prelude.{◌≡◌};
-ghost use Rattle.dia_accepted.specs.Words.{answer_fault, begins_once, cause_fault, colon_fault, detail_fault, fault_column};
+ghost use Rattle.dia_accepted.specs.Words.{answer_fault, begins_once, cause_fault, colon_fault, detail_fault, fault_offset};
 ghost use Rattle.dia_accepted.specs.Words.{form_fault, once_fault, path_fault, subject_fault, undecided_fault};
 
 use crate::entries::{
@@ -8,14 +8,14 @@ use crate::entries::{
 };
 use crate::words::{begins, behind, cause_of};
 
-/// The column of the fault of an entry, from 1.
-pub(crate) fn fault_column(words: &[u8]) -> usize
-    ensures { result ≡ fault_column words.now }
+/// The bytes before the fault of an entry.
+pub(crate) fn fault_offset(words: &[u8]) -> usize
+    ensures { result ≡ fault_offset words.now }
 {
-    words.len().saturating_sub(form_fault(words).len()) + 1
+    words.len().saturating_sub(form_fault(words).len())
 }
 
-/// What stands from the fault on.
+/// The entry from the fault on.
 fn form_fault(words: &[u8]) -> &[u8]
     ensures { result.now ≡ form_fault words.now }
 {

@@ -1,5 +1,5 @@
 //! Lists of accepted lines: which lines of an answer of `breaking` are known already, and which entries of the list are of no use
-//! any more. And the causes of lines, each told once.
+//! any more. And the causes of lines, each once.
 #![tactic(auto)]
 
 mod accepting;

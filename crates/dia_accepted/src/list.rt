@@ -5,7 +5,7 @@ ghost use Rattle.dia_accepted.specs.Accepted.{entries_by, entries_of, entry, for
 ghost use Rattle.dia_accepted.specs.Words.{entry_text, is_skipped};
 
 use crate::entries::{counted_of_entry, entry_text, has_form, has_once_form};
-use crate::faults::fault_column;
+use crate::faults::fault_offset;
 use std::alloc::{AllocError, Global};
 
 /// The most bytes of a list's text (our profile).
@@ -46,8 +46,8 @@ impl Entry {
 /// Why a text is no list. Lines count from 1.
 #[derive(Clone, Copy, PartialEq, Eq)]
 pub enum ListFault {
-    /// The entry of the line has neither form of the lines that `breaking` writes, and this is the column, from 1, where it has not.
-    Syntax { line: u32, column: usize },
+    /// The entry of the line has neither form of the lines that `breaking` writes; `at` bytes of the line precede the fault.
+    Syntax { line: u32, at: usize },
     /// The line is one more than [`MAX_LINES`].
     Limit { line: u32 },
     /// Memory was refused.
@@ -66,8 +66,8 @@ impl From<AllocError> for ListFault {
 }
 
 /// Reads the text of a list (our profile). A line has an entry of one of the two forms that `breaking` writes: that of an answer,
-/// or that of an answer with `--once`. White space may stand behind an entry, and behind white space a comment, which begins with
-/// `#`. A line may do without an entry. It ends with a line feed, or with a carriage return and a line feed; the last line may do
+/// or that of an answer with `--once`. White space may follow an entry, and after white space a comment, which begins with
+/// `#`. A line may have no entry. It ends with a line feed, or with a carriage return and a line feed; the last line may do
 /// without. The fault is that of the first line that has one. `NoMemory` comes only where memory was refused.
 pub fn read_list(alloc: Global, text: &str) -> Result<Vec<Entry>, ListFault>
     ensures entries { IfOk result (λ list. map plain_entry list.items ≡ entries_of text.now) }
@@ -131,8 +131,8 @@ fn form_fault(line: u32, words: &[u8]) -> Option<ListFault>
     if has_form(words) || has_once_form(words) {
         None
     } else {
-        let column = fault_column(words);
-        Some(ListFault::Syntax { line, column })
+        let at = fault_offset(words);
+        Some(ListFault::Syntax { line, at })
     }
 }
 

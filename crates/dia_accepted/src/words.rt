@@ -108,7 +108,7 @@ pub(crate) fn begins(words: &[u8], front: &[u8]) -> bool
     words.starts_with(front)
 }
 
-/// What stands behind so many bytes.
+/// What follows so many bytes.
 pub(crate) fn behind(bytes: &[u8], count: usize) -> &[u8]
     ensures { result.now ≡ drop count bytes.now }
 {

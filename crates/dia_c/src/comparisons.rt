@@ -45,8 +45,8 @@ pub extern "C" fn dia_compare(
     dia_c_calls::compare(alloc, a, b, unknown, table, line, holds, problem)
 }
 
-/// The place in the text of a table where it is refused, by the kind and the line of the problem that `dia_compare` told: that of
-/// the first word that can't stand there, or of the name that is too long. Other kinds have no place.
+/// The offset in the text of a table where it is refused, by the kind and the line of the problem that `dia_compare` delivered: that of
+/// the first word that can't occur there, or of the name that is too long. Other kinds have no offset.
 #[unsafe(no_mangle)]
 pub extern "C" fn dia_table_place(table: &[u8], kind: u32, line: u32) -> usize
     ensures place { result ≡ table_place table.now kind line }

@@ -72,7 +72,7 @@ pub extern "C" fn dia_dict_share(
     dia_c_calls::dict_share(alloc, handle, other)
 }
 
-/// The name of the command that a verdict's number stands for.
+/// The name of the command that a verdict's number denotes.
 #[unsafe(no_mangle)]
 pub extern "C" fn dia_command_name(
     alloc: Global,

@@ -29,7 +29,7 @@ pub extern "C" fn dia_faults_open(
     dia_c_calls::faults_open(alloc, text, handle, count)
 }
 
-/// Tells a fault by its place in the list, from 0.
+/// Delivers a fault by its index in the list, from 0.
 #[unsafe(no_mangle)]
 pub extern "C" fn dia_faults_get(
     alloc: Global,

@@ -1,6 +1,6 @@
-//! One end of a connection: opened, told what happens, asked what is to be done, closed.
+//! One end of a connection: it is opened, takes events, gives outputs, and is closed.
 
-ghost use Rattle.std.specs.Prelude.{◌⊎◌, ◌≡◌, ◌≢◌, ◌<◌, ◌≤◌, [], length, slice_get, take, IfSome, IsSome, None};
+ghost use Rattle.std.specs.Prelude.{◌⊎◌, ◌≡◌, ◌≢◌, ◌<◌, ◌≤◌, [], drop, length, slice_get, take, IfSome, IsSome, None};
 ghost use Rattle.dia_peer.specs.Outputs.{PlainOutput};
 ghost use Rattle.dia_c_calls.specs.Held.{Takes, peer_in};
 ghost use Rattle.dia_c_calls.specs.Peers.{HasFault, IsBegun, IsManner, IsRole, ServesAs, config_of, told_pair};
@@ -77,7 +77,7 @@ pub extern "C" fn dia_peer_open_as(
     )
 }
 
-/// Tells what happened at an end.
+/// Delivers an event to an end.
 #[unsafe(no_mangle)]
 pub extern "C" fn dia_peer_event(
     alloc: Global,
@@ -124,13 +124,15 @@ pub extern "C" fn dia_peer_output(
     ensures wanted { result ≡ NO_ROOM → IfSome (peer_in handle.old.slot.seal.held) (WantsRoom count.new) }
     ensures only { result ≢ DONE → (output.new ≡ output.old) × (why.new ≡ why.old) }
     ensures only_count { (result ≡ NONE) ⊎ (result ≡ IS_CLOSED) → count.new ≡ count.old }
+    ensures rest { result ≡ DONE → drop count.new out.new ≡ drop count.new out.old }
+    ensures untouched { result ≢ DONE → out.new ≡ out.old }
     ensures closed { result ≡ IS_CLOSED → handle.old.slot.seal.held ≡ None }
     ensures was_open { result ≢ IS_CLOSED → IsSome (peer_in handle.old.slot.seal.held) }
 {
     dia_c_calls::peer_output(alloc, handle, output, out, count, why)
 }
 
-/// Where the connection stands.
+/// The state of the connection.
 #[unsafe(no_mangle)]
 pub extern "C" fn dia_peer_state(alloc: Global, handle: &mut PeerHandle, state: &mut u32) -> u32
     ensures ends { (result ≡ DONE) ⊎ (result ≡ IS_CLOSED) }
@@ -144,7 +146,7 @@ pub extern "C" fn dia_peer_state(alloc: Global, handle: &mut PeerHandle, state: 
     dia_c_calls::peer_state(alloc, handle, state)
 }
 
-/// Tells an application that both ends advertise by its place, from 0: none before the connection is open.
+/// Delivers an application that both ends have in common by its index, from 0: none before the connection is open.
 #[unsafe(no_mangle)]
 pub extern "C" fn dia_peer_common(
     alloc: Global,
@@ -165,7 +167,7 @@ pub extern "C" fn dia_peer_common(
     dia_c_calls::peer_common(alloc, handle, index, app)
 }
 
-/// Tells whether messages of an application are for this connection: 1, or 0 where they aren't.
+/// Delivers whether messages of an application are for this connection: 1, or 0 where they aren't.
 #[unsafe(no_mangle)]
 pub extern "C" fn dia_peer_serves(
     alloc: Global,

@@ -1,4 +1,4 @@
--- What stands at a place of a list.
+-- The entry at an index of a list.
 use Rattle.std.proofs.Common.{◌≡◌, ℕ, List, map, Some, ap, ◌∙◌}
 use Rattle.std.specs.Prelude.{slice_get}
 use Rattle.std.specs.Option.{option_map}

@@ -35,7 +35,7 @@ module _ {A : Type 0} (r : Result A MessageFault) (bytes : List ℕ) (is_short :
   never_bad true e = cc
   never_bad false e = cc
 
-  -- where none is found, the lines are told
+  -- where none is found, the lines are reported
   pub never_refused : (x : A) (d : Dictionary) (text : List ℕ) → r ≡ Ok x → IsMessageShown d bytes text Bad → ⊥
   never_refused x d text ok (listing h lines bad is_head long lists same ends) = never_bad bad ends
   never_refused x d text ok (short less refuses) = no_error x _ ok (is_short.1 less)

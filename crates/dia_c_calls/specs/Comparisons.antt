@@ -44,6 +44,6 @@ pub data IsNoTable (text : List ℕ) (p : Problem) : Type 0 where
   too_long : IsUtf8 text → max_table < length text → p ≡ problem 3 0 0 → IsNoTable text p
   fault : (f : TableFault) → IsUtf8 text → length text ≤ max_table → IsTableFault text f → f ≢ table.NoMemory → p ≡ table_problem f → IsNoTable text p
 
--- where the text of a table is refused, by the kind and the line that are told: 1 is of its syntax, 3 of a limit
+-- where the text of a table is refused, by the kind and the line that are delivered: 1 is of its syntax, 3 of a limit
 abbrev pub table_place : List ℕ → ℕ → ℕ → ℕ
 table_place text kind n = if kind == 1 then syntax_place text n else (if kind == 3 then limit_place text n else 0)

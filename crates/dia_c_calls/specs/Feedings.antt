@@ -1,4 +1,4 @@
--- What a message that comes in pieces stands for.
+-- What a message that comes in pieces denotes.
 use Rattle.std.specs.Prelude.{◌≡◌, ℕ, List}
 use Rattle.dia_book.specs.Dictionary.{Dictionary}
 use Rattle.dia_dict.specs.contracts.indexed_book.IndexedBookBook.TheImpl.{ghosts}

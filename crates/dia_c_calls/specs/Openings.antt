@@ -1,4 +1,4 @@
--- What is told of the text of a dictionary.
+-- The problems of the text of a dictionary.
 use Rattle.std.specs.Prelude.{◌≡◌, ◌≢◌, ◌<◌, ℕ, List, length, Some, None}
 use Rattle.std.specs.Str.{IsUtf8}
 use Rattle.dia_ccf.specs.declared.fault.CcfFault.{CcfFault}

@@ -1,4 +1,4 @@
--- What happens at one end of a connection, and what it wants done, as programs in C tell and take it.
+-- The events and outputs of one end of a connection, by the numbers of dia.h.
 use Rattle.std.specs.Prelude.{◌≡◌, ℕ, ◌<◌, List, [], ◌∷◌, length, map, drop, All}
 use Rattle.dia_peer.specs.declared.event.State.{State}
 use Rattle.dia_peer.specs.declared.event.State.TheVariants as state
@@ -13,6 +13,8 @@ use Rattle.dia_peer.specs.Core.{PlainCore}
 use Rattle.dia_peer.specs.Machine.{IsStep, IsSound}
 use Rattle.dia_peer.specs.Outputs.{PlainOutput, SentBytes, ClosedFor, plain_output}
 use Rattle.dia_c_calls.specs.declared.peer.Peer.{Peer}
+use Rattle.dia_c_calls.specs.declared.peer.Given.{Given}
+use Rattle.dia_c_calls.specs.declared.peer.Given.TheVariants as given
 
 -- an end, and what it wants done that was not taken yet
 pub record PlainEnd : Type 0 where
@@ -77,3 +79,10 @@ IsTaken old new output = old ≡ record { core = new.core; left = output ∷ new
 -- the next output is a message of so many bytes
 pub data WantsRoom (count : ℕ) (peer : PlainEnd) : Type 0 where
   message : (bytes : List ℕ) (rest : List PlainOutput) → peer.left ≡ SentBytes bytes ∷ rest → count ≡ length bytes → WantsRoom count peer
+
+-- of the room for a message only its bytes change; without a message nothing does
+abbrev pub LeavesRest : Given → (old new : List ℕ) → Type 0
+LeavesRest (given.Sent count) old new = drop count new ≡ drop count old
+LeavesRest (given.Closed why) old new = new ≡ old
+LeavesRest (given.NoRoom count) old new = new ≡ old
+LeavesRest given.Nothing old new = new ≡ old

@@ -3,7 +3,7 @@ use Rattle.std.specs.Prelude.{◌≡◌, ℕ, List, [], length, take, min, Optio
 use Rattle.dia_c_calls.specs.declared.findings.TextFault.{TextFault}
 use Rattle.dia_c_calls.specs.declared.told_fault.ToldFault.{ToldFault}
 
--- a fault: the number of its kind, its token, the place in bytes where it stands, and the names of a definition or an AVP and of the AVP of a rule
+-- a fault: the number of its kind, its token, its offset in bytes, and the names of a definition or an AVP and of the AVP of a rule
 pub record PlainFault : Type 0 where
   pub kind : ℕ
   pub token : ℕ

@@ -1,4 +1,4 @@
--- What is told of a message that comes in pieces.
+-- The verdict of a message that comes in pieces.
 use Rattle.std.specs.Prelude.{◌≡◌, ℕ, ◌++◌, List, drop, length, take, if◌then◌else◌, Option, None, Some, Result}
 use Rattle.dia_book.specs.Dictionary.{Dictionary}
 use Rattle.dia_policy.specs.declared.Unknown.{Unknown}
@@ -40,7 +40,7 @@ HasFinished held verdict = OfMessage held (λ d u most bytes. (answer : Result S
 abbrev pub HasLevels : Option Held → ℕ → Type 0
 HasLevels held n = OfMessage held (λ d u most bytes. CountsLevels d u most bytes n)
 
--- it stands for what it stood for
+-- it denotes what it denoted
 abbrev pub IsKept : Option Held → Option Held → Type 0
 IsKept old new = OfMessage old (λ d u most bytes. StandsFor new d u most bytes)
 
@@ -54,6 +54,6 @@ IsSpent (Some (Peer peer)) = ⊥
 IsSpent (Some (Stream feeding)) = WasSpent feeding.paused
 IsSpent (Some Nothing) = ⊥
 
--- it stands for no message
+-- it denotes no message
 abbrev pub StandsForNone : Option Held → Type 0
 StandsForNone held = (d : Dictionary) (u : Unknown) (most : Levels) (bytes : List ℕ) → ¬ StandsFor held d u most bytes

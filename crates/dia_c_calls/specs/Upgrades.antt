@@ -70,7 +70,7 @@ abbrev pub IsSafe : Asked → Input → Dictionary → Dictionary → Type 0
 IsSafe asked input a b = (NothingBreaks asked a b × NothingDiffers asked a b)
     ⊎ ((list : List PlainEntry) × IsListText input list × NothingElseBreaks asked list a b)
 
--- it writes this text, which tells what breaks, or that nothing does: then it is safe
+-- it writes this text, which says what breaks, or that nothing does: then it is safe
 pub record IsToldOf (asked : Asked) (input : Input) (a b : Dictionary) (text : List ℕ) (safe : ℕ) : Type 0 where
   pub exit : Exit
   pub listed : IsAnyListed asked input a b text exit
@@ -93,14 +93,14 @@ pub record HasListed (a b : Dictionary) (wanted : Wanted) (commands accepted tex
 abbrev pub list_problem : BadList → Problem
 list_problem list.TooLong = problem 3 0 0
 list_problem (list.NotText at) = problem 0 0 0
-list_problem (list.Syntax n column) = problem 1 n 0
+list_problem (list.Syntax n at) = problem 1 n 0
 list_problem (list.Limit n) = problem 3 n 0
 
 -- the number of a line by its place, as far as 32 bits have one
 abbrev pub line_number : ℕ → ℕ
 line_number place = min (suc place) 4294967295
 
--- the first name that no command has stands on this line
+-- the first name that no command has is on this line
 abbrev pub IsLineOfUnknown : Dictionary → List (List ℕ) → ℕ → Type 0
 IsLineOfUnknown d names line = (name : List ℕ) × (first : IsFirstUnknown d names name) × (line ≡ line_number first.place)
 

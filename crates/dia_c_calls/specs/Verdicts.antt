@@ -23,7 +23,7 @@ use Rattle.dia_c_calls.specs.declared.verdict.Verdict.{Verdict}
 abbrev pub IsUnknownPolicy : ℕ → Type 0
 IsUnknownPolicy n = (n ≡ 0) ⊎ (n ≡ 1)
 
--- 1 is refused, and any other number kept
+-- 1 is refused, and any other number accepted
 abbrev pub policy_of : ℕ → Unknown
 policy_of n = if nat_eq n 1 then unknown.Refused else unknown.Kept
 

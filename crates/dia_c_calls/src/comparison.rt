@@ -52,7 +52,7 @@ fn outcome_of<A: Book, B: Book>(
     }
 }
 
-/// What is told of a fault of a table's text.
+/// The problem of a fault of a table's text.
 fn refusal_of(fault: TableFault) -> Refused
     ensures { (p : Problem) → result ≡ Refused.Bad p → (fault ≢ TableFault.NoMemory) × (p ≡ table_problem fault) }
 {

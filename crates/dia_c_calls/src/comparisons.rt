@@ -82,8 +82,8 @@ pub fn compare(
     }
 }
 
-/// The place in the text of a table where it is refused, by the kind and the line of the problem that `compare` told: that of
-/// the first word that can't stand there, or of the name that is too long. Other kinds have no place.
+/// The offset in the text of a table where it is refused, by the kind and the line of the problem that `compare` delivered: that of
+/// the first word that can't occur there, or of the name that is too long. Other kinds have no offset.
 pub fn table_place(table: &[u8], kind: u32, line: u32) -> usize
     ensures place { result ≡ table_place table.now kind line }
 {

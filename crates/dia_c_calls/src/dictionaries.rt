@@ -111,7 +111,7 @@ fn owner_of(alloc: Global, owner: &Arc<IndexedBook>) -> Result<Box<Held>, AllocE
     Ok(Box::new(alloc, Held::Dict(other, Room::new(alloc)))?)
 }
 
-/// The name of the command that a verdict's number stands for.
+/// The name of the command that a verdict's number denotes.
 pub fn command_name(
     alloc: Global,
     handle: &mut DictHandle,

@@ -47,7 +47,7 @@ fn found(alloc: Global, text: &[u8]) -> Result<Box<Held>, AllocError>
     Ok(Box::new(alloc, Held::Faults(faults))?)
 }
 
-/// Tells a fault by its place in the list, from 0.
+/// Delivers a fault by its index in the list, from 0.
 pub fn faults_get(
     alloc: Global,
     handle: &mut FaultsHandle,

@@ -29,7 +29,7 @@ pub struct TextFault {
     pub slot: String,
 }
 
-/// All faults of a text, in the order in which they are told.
+/// All faults of a text, in the order of their reports.
 pub fn faults_of(alloc: Global, text: &[u8]) -> Result<Vec<TextFault>, AllocError>
     ensures { IfOk result (λ faults. AreFaultsOf text.now (map plain_fault faults.items)) }
 {

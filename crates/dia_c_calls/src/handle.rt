@@ -1,4 +1,4 @@
-//! What C keeps of a dictionary, of a text, of its faults, of a connection or of a stream.
+//! What C holds of a dictionary, of a text, of its faults, of a connection or of a stream.
 
 mod dict;
 mod end;

@@ -68,7 +68,7 @@ pub fn opened(alloc: Global, text: &[u8]) -> Result<Box<Held>, Refused>
     }
 }
 
-/// What is told of a fault of a text.
+/// The problem of a fault of a text.
 fn problem_of(fault: CcfFault) -> Refused
     ensures { (p : Problem) → result ≡ Refused.Bad p → (fault ≢ CcfFault.NoMemory) × (p ≡ problem_of fault) }
 {
@@ -92,7 +92,7 @@ fn problem_of(fault: CcfFault) -> Refused
     }
 }
 
-/// The kind and the token that are told of a fault of a text.
+/// The kind and the token of a fault of a text.
 pub fn misfit_numbers(fault: CcfFault) -> (u32, u32)
     ensures kind { result.0 ≡ (problem_of fault).kind }
     ensures token { result.1 ≡ (problem_of fault).token }

@@ -1,4 +1,4 @@
-//! One end of a connection behind a handle.
+//! One end of a connection in a handle.
 
 ghost use Rattle.std.specs.Prelude.{◌⊎◌, ◌≡◌, ◌≢◌, ℕ, [], ◌<◌, ◌≤◌, length, take, IfErr, IfOk};
 ghost use Rattle.dia_peer.specs.Core.{IsAccepted, plain_config};
@@ -6,7 +6,7 @@ ghost use Rattle.dia_peer.specs.Machine.{IsRefusedAs};
 ghost use Rattle.dia_peer.specs.Outputs.{SentBytes, ClosedFor};
 ghost use Rattle.dia_peer.specs.World.{idle};
 ghost use Rattle.dia_peer.specs.declared.event.Why.{Why as AnyWhy};
-ghost use Rattle.dia_c_calls.specs.PeerSteps.{HasStepped, IsTaken, WantsRoom, plain_end};
+ghost use Rattle.dia_c_calls.specs.PeerSteps.{HasStepped, IsTaken, LeavesRest, WantsRoom, plain_end};
 
 use crate::names::copied_whole;
 use crate::status::{DONE, NO_MEMORY, OUTPUTS_LEFT};
@@ -56,7 +56,7 @@ impl Peer {
         })
     }
 
-    /// Tells what happened, where nothing is left to be taken.
+    /// Takes an event, where no output is left to be taken.
     pub fn tell(&mut self, event: Event<'_>) -> u32
         ensures ends { (result ≡ DONE) ⊎ (result ≡ NO_MEMORY) ⊎ (result ≡ OUTPUTS_LEFT) }
         ensures done { result ≡ DONE → HasStepped self.old.core event.entry (plain_end self.new) }
@@ -88,6 +88,7 @@ impl Peer {
         ensures wanted { (count : ℕ) → result ≡ Given.NoRoom count → WantsRoom count (plain_end self.old) }
         ensures kept { (count : ℕ) → result ≡ Given.NoRoom count → self.new ≡ self.old }
         ensures nothing { result ≡ Given.Nothing → (self.new ≡ self.old) × ((plain_end self.old).left ≡ []) }
+        ensures rest { LeavesRest result out.old out.new }
     {
         match self.outputs.get(self.taken) {
             None => Given::Nothing,

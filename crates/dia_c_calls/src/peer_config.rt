@@ -24,7 +24,7 @@ pub struct PeerApp {
     pub is_acct: u32,
     /// The Application-ID.
     pub id: u32,
-    /// 0: the application stands alone. Else: in a Vendor-Specific-Application-Id with this Vendor-Id.
+    /// 0: the application is in an AVP of its own. Else: in a Vendor-Specific-Application-Id with this Vendor-Id.
     pub has_vendor: u32,
     pub vendor: u32,
 }

@@ -1,6 +1,6 @@
-//! One end of a connection: opened, told what happens, asked what is to be done, closed.
+//! One end of a connection: it is opened, takes events, gives outputs, and is closed.
 
-ghost use Rattle.std.specs.Prelude.{◌⊎◌, ◌≡◌, ◌≢◌, ◌<◌, ◌≤◌, [], length, slice_get, take};
+ghost use Rattle.std.specs.Prelude.{◌⊎◌, ◌≡◌, ◌≢◌, ◌<◌, ◌≤◌, [], drop, length, slice_get, take};
 ghost use Rattle.std.specs.Prelude.{IfErr, IfOk, IfSome, IsSome, None, Some};
 ghost use Rattle.dia_peer.specs.Core.{plain_config};
 ghost use Rattle.dia_peer.specs.Machine.{IsRefusedAs};
@@ -170,7 +170,7 @@ fn boxed(alloc: Global, peer: Peer) -> Result<Box<Held>, AllocError>
     Ok(Box::new(alloc, Held::Peer(peer))?)
 }
 
-/// Tells what happened at an end.
+/// Delivers an event to an end.
 pub fn peer_event(
     alloc: Global,
     handle: &mut PeerHandle,
@@ -223,6 +223,8 @@ pub fn peer_output(
     ensures wanted { result ≡ NO_ROOM → IfSome (peer_in handle.old.slot.seal.held) (WantsRoom count.new) }
     ensures only { result ≢ DONE → (output.new ≡ output.old) × (why.new ≡ why.old) }
     ensures only_count { (result ≡ NONE) ⊎ (result ≡ IS_CLOSED) → count.new ≡ count.old }
+    ensures rest { result ≡ DONE → drop count.new out.new ≡ drop count.new out.old }
+    ensures untouched { result ≢ DONE → out.new ≡ out.old }
     ensures closed { result ≡ IS_CLOSED → handle.old.slot.seal.held ≡ None }
     ensures was_open { result ≢ IS_CLOSED → IsSome (peer_in handle.old.slot.seal.held) }
 {
@@ -252,7 +254,7 @@ pub fn peer_output(
     }
 }
 
-/// Where the connection stands.
+/// The state of the connection.
 pub fn peer_state(alloc: Global, handle: &mut PeerHandle, state: &mut u32) -> u32
     ensures ends { (result ≡ DONE) ⊎ (result ≡ IS_CLOSED) }
     ensures kept { handle.new.slot.seal.held ≡ handle.old.slot.seal.held }
@@ -270,7 +272,7 @@ pub fn peer_state(alloc: Global, handle: &mut PeerHandle, state: &mut u32) -> u3
     DONE
 }
 
-/// Tells an application that both ends advertise by its place, from 0: none before the connection is open.
+/// Delivers an application that both ends have in common by its index, from 0: none before the connection is open.
 pub fn peer_common(alloc: Global, handle: &mut PeerHandle, index: usize, app: &mut PeerApp) -> u32
     ensures ends { (result ≡ DONE) ⊎ (result ≡ NONE) ⊎ (result ≡ IS_CLOSED) }
     ensures kept { handle.new.slot.seal.held ≡ handle.old.slot.seal.held }
@@ -296,7 +298,7 @@ pub fn peer_common(alloc: Global, handle: &mut PeerHandle, index: usize, app: &m
     }
 }
 
-/// Tells whether messages of an application are for this connection: 1, or 0 where they aren't.
+/// Delivers whether messages of an application are for this connection: 1, or 0 where they aren't.
 pub fn peer_serves(alloc: Global, handle: &mut PeerHandle, id: u32, serves: &mut u32) -> u32
     ensures ends { (result ≡ DONE) ⊎ (result ≡ IS_CLOSED) }
     ensures kept { handle.new.slot.seal.held ≡ handle.old.slot.seal.held }

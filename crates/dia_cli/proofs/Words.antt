@@ -19,7 +19,7 @@ use Rattle.dia_cli.specs.declared.ending.Ending.{Ending}
 use Rattle.dia_cli.specs.declared.ending.Ending.TheVariants.{NoMemory, ReadTwice, Told}
 use Rattle.dia_cli.specs.declared.request.Request.{Request}
 
--- where a name and rows are told of one subcommand, what holds of the two holds of it
+-- where a name and rows are those of one subcommand, what holds of the two holds of it
 pub found_at : {X : Type 0} (s : Option X) (f : X → Text) (g : X → List Row) (name : Text) (rows : List Row) (P : Text × List Row → Type 0)
     → Some name ≡ option_map f s → Some rows ≡ option_map (λ (p : Text × List Row). p.1) (option_map (λ b. (f b, g b)) s)
     → P (name, rows) → IsSomeAnd (option_map (λ b. (f b, g b)) s) P

@@ -43,9 +43,10 @@ pub record IsProgram (line : App) : Type 0 where
   pub three : texts senders.now ≡ sends_word sent.Any ∷ sends_word sent.Known ∷ sends_word sent.Listed ∷ []
   pub shape : line ≡ line_shape policies senders
 
--- the request that clap's specification gives for the words
+-- the request that clap's specification gives for words without a fault
 abbrev pub IsAskedBy : List Text → Request → Type 0
-IsAskedBy words request = (line : App) × IsProgram line × IsSomeAnd (subcommand_of line words) (IsRequestOf request)
+IsAskedBy words request =
+    (line : App) × IsProgram line × (fault_of line words ≡ []) × IsSomeAnd (subcommand_of line words) (IsRequestOf request)
 
 -- what was found is a subcommand with its arguments
 abbrev pub is_asked : Option (Text × List Row) → Bool
@@ -82,12 +83,12 @@ IsUnrun found (ending.Apart apart) = IsSomeAnd found (IsApart apart)
 IsUnrun found ending.NoMemory = ⊤
 IsUnrun found made = ⊥
 
--- clap tells a fault of these kinds, of which help and the version are two
+-- clap reports a fault of these kinds, of which help and the version are two
 abbrev pub IsAtFault : Kinds → Ending → Type 0
 IsAtFault kinds (ending.Told error) = IsAmong (kind_of error) kinds
 IsAtFault kinds made = ⊥
 
--- why words are refused. Where clap finds no fault in them, and they are a subcommand with its arguments, nothing is told of
+-- why words are refused. Where clap finds no fault in them, and they are a subcommand with its arguments, nothing is reported of
 -- them: they are run, unless they name standard input twice, have two options that don't go together, or memory is refused
 abbrev pub IsRefused : List Text → Ending → Type 0
 IsRefused words made =

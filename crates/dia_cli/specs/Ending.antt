@@ -30,7 +30,7 @@ abbrev pub ending_of_run : RunFault → Bor (List ℕ) → Option Error → Endi
 ending_of_run fault.Device name error = ending.Device name error
 ending_of_run fault.NoMemory name error = ending.NoMemory
 
--- what the reader of the words tells is what was asked for: help, or the version
+-- the words ask for help, or for the version
 abbrev pub IsHelp : WordsError → Type 0
 IsHelp error = (kind_of error ≡ DisplayHelp) ⊎ (kind_of error ≡ DisplayVersion)
 
@@ -47,7 +47,7 @@ EndsWith (ending.Apart apart) status = status ≡ 2
 EndsWith (ending.Device name error) status = status ≡ 3
 EndsWith ending.NoMemory status = status ≡ 3
 
--- words that are refused may be told in better ones, of the same kind and so with the same status; other endings stay
+-- a refusal may be written in better words, of the same kind and so with the same status; other endings stay
 abbrev pub IsAdvised : Ending → Ending → Type 0
 IsAdvised (ending.Told fault) told = (better : WordsError) × (told ≡ ending.Told better) × (kind_of better ≡ kind_of fault)
 IsAdvised made told = told ≡ made
@@ -70,7 +70,7 @@ IsDeviceText name text = (said : List ℕ) × (text ≡ device_failed ++ name ++
 abbrev pub apart_text : List ℕ → List ℕ → List ℕ
 apart_text first second = codes "error: the argument '--" ++ first ++ codes "' cannot be used with '--" ++ second ++ (codes "'" ++ try_help)
 
--- what is told. The words of clap and of the system are any
+-- the text of an ending. The words of clap and of the system are any
 abbrev pub IsTextOf : Ending → List ℕ → Type 0
 IsTextOf (ending.Told error) text = ⊤
 IsTextOf ending.NotText text = text ≡ codes "error: a word of the command line isn't UTF-8" ++ try_help
@@ -91,7 +91,7 @@ HasForeignText made = ⊥
 abbrev pub AppendsTextOf : Ending → Option (List ℕ) → Option (List ℕ) → Type 0
 AppendsTextOf made old new = (text : List ℕ) × IsTextOf made text × Appends old new text
 
--- a stream that took something: what it had and has taken, where it tells its bytes, and whether it has failed
+-- a stream that was written to: its bytes before and after, where it shows them, and whether it has failed
 pub record Stream : Type 0 where
   pub old : Option (List ℕ)
   pub new : Option (List ℕ)
@@ -100,14 +100,14 @@ pub record Stream : Type 0 where
 abbrev pub stream : Option (List ℕ) → Option (List ℕ) → Bool → Stream
 stream old new failed = record { old = old; new = new; failed = failed }
 
--- the ending is told on a stream, with this status: the ending's own, or 3 where the stream failed, or where memory was
--- refused and that was told
+-- the ending is written to a stream, with this status: the ending's own, or 3 where the stream failed, or where memory was
+-- refused and that was written
 pub data IsTold (made : Ending) (s : Stream) (status : ℕ) : Type 0 where
   told : s.failed ≡ false → EndsWith made status → AppendsTextOf made s.old s.new → IsTold made s status
   no_memory : s.failed ≡ false → HasForeignText made → status ≡ 3 → Appends s.old s.new no_memory_text → IsTold made s status
   device : s.failed ≡ true → status ≡ 3 → IsTold made s status
 
--- help is shown on standard output, and standard error stays as it was; or standard error is told why not
+-- help is shown on standard output, and standard error stays as it was; or standard error says why not
 pub data IsShown (out err : Stream) (is_quiet : Type 0) (status : ℕ) : Type 0 where
   shown : out.failed ≡ false → is_quiet → status ≡ 0 → IsShown out err is_quiet status
   no_memory : out.failed ≡ false → out.new ≡ out.old → IsTold ending.NoMemory err status → IsShown out err is_quiet status

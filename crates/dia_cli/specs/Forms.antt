@@ -24,7 +24,7 @@ pub data Manner : Type 0 where
   in_lines : Manner
   in_stream : Manner
 
--- how `show` tells a message: as a text; as JSON, with `--names` and `--values` or without; or as a listing, with `--lines`, `--names`
+-- how `show` writes a message: as a text; as JSON, with `--names` and `--values` or without; or as a listing, with `--lines`, `--names`
 -- and `--values` or without
 pub data Telling : Type 0 where
   as_text : Telling
@@ -296,7 +296,7 @@ has_arguments name rows =
 
 -- ---- what the words of a form ask for
 
--- the words behind the command's name, with `--quiet` or without it
+-- the words after the command's name, with `--quiet` or without it
 abbrev pub words_of : Bool → Form → List Text
 words_of quiet form = words_of_slots (flag (codes "quiet") quiet ∷ form_options form ++ form_inputs form)
 

@@ -14,12 +14,12 @@ use Rattle.dia_cli.specs.declared.origin.Origins.{Origins}
 abbrev pub origin_within : Bor (List ℕ) → ℕ → Origin
 origin_within word limit = if bytes_eq word.now (codes "-") then StandardInput limit else File word limit
 
--- where a dictionary stands, `@base` is the base dictionary, and `@none` the one without lines
+-- `@base` names the base dictionary, and `@none` the dictionary without lines
 abbrev pub dictionary_origin : Bor (List ℕ) → Origin
 dictionary_origin word = if bytes_eq word.now (codes "@base") then Base
     else (if bytes_eq word.now (codes "@none") then Empty else origin_within word max_text)
 
--- where a table or a list of lines stands, `@none` has no lines
+-- as a table or a list, `@none` has no lines
 abbrev pub table_origin : Bor (List ℕ) → Origin
 table_origin word = if bytes_eq word.now (codes "@none") then Nowhere else origin_within word max_table
 

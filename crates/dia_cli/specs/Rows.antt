@@ -1,4 +1,4 @@
--- The rows of the commands: of each its name, its options and its inputs, and what clap is told of them.
+-- The rows of the commands: of each its name, its options and its inputs, and its declaration for clap.
 use Rattle.std.specs.Prelude.{ℕ, Bool, true, false, List, [], ◌∷◌, map, fold, Option, Some, None, codes}
 use Rattle.std.specs.Borrow.{Bor}
 use Rattle.clap.specs.Lexer.{usize_max}
@@ -10,8 +10,8 @@ use Rattle.clap.specs.declared.builder.range.ValueRange.{ValueRange}
 use Rattle.clap.specs.declared.builder.value_parser.ValueParser.{ValueParser}
 use Rattle.clap.specs.declared.builder.value_parser.ValueParser.TheVariants.{Names, Unsigned}
 
--- the value that an option takes: none; a policy, which is `kept` without the option; what the side of A sends, which is `any`
--- without it; any word, and the one that stands without it; or a number of 32 bits
+-- the value of an option: none; a policy, by default `kept`; what the side of A sends, by default `any`;
+-- any word, with its default; or a number of 32 bits
 pub data Value : Type 0 where
   no_value : Value
   policy : Value
@@ -115,7 +115,7 @@ breaking_row = record {
 abbrev pub command_rows : List CommandRow
 command_rows = show_row ∷ make_row ∷ check_row ∷ render_row ∷ compare_row ∷ refute_row ∷ propose_row ∷ breaking_row ∷ []
 
--- ---- what clap is told of a row
+-- ---- the declaration of a row for clap
 
 abbrev pub value_action : Value → Option ArgAction
 value_action no_value = Some SetTrue

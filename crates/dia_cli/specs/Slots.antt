@@ -33,7 +33,7 @@ slot_id (number id given) = id
 slot_id (word id given) = id
 slot_id (words id given) = id
 
--- the name of an option as a word, behind two hyphens (45)
+-- the name of an option as a word, after two hyphens (45)
 abbrev pub long_word : Text → Text
 long_word id = 45 ∷ 45 ∷ id
 

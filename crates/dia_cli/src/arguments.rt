@@ -48,7 +48,7 @@ static POLICIES: [&str; 2] = ["kept", "refused"];
 /// The values of `--sends`, the senders.
 static SENDERS: [&str; 3] = ["any", "known", "listed"];
 
-/// Reads the words, the program's own name first. For `--version` this version is told.
+/// Reads the words, the program's own name first. `--version` shows this version.
 pub fn parse_words<'a, S: AsStr>(
     alloc: Global,
     version: &'a str,

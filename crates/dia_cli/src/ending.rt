@@ -16,7 +16,7 @@ use std::io::Write;
 /// Why the program ends without an outcome.
 #[derive(Drop)]
 pub enum Ending<'a> {
-    /// What clap tells: help or the version, with status 0, or a fault of the command line, with status 2.
+    /// What clap shows: help or the version, with status 0, or a fault of the command line, with status 2.
     Told(clap::Error),
     /// A word of the command line isn't UTF-8: status 2.
     NotText,
@@ -35,8 +35,8 @@ pub enum Ending<'a> {
     NoMemory,
 }
 
-/// The status of the process. An ending is told first: help on standard output, and any other on standard error. Where
-/// standard output fails, that is told on standard error.
+/// The status of the process. An ending is written first: help to standard output, and any other to standard error. Where
+/// standard output fails, standard error says so.
 pub fn finish<O: Write, E: Write>(
     alloc: Global,
     ended: Result<Exit, Ending<'_>>,
@@ -67,7 +67,7 @@ pub fn finish<O: Write, E: Write>(
     }
 }
 
-/// Tells help, or on standard error why it couldn't be told.
+/// Shows help, or writes to standard error why it couldn't be shown.
 fn show<O: Write, E: Sink>(
     alloc: Global,
     help: &Ending<'_>,
@@ -86,13 +86,13 @@ fn show<O: Write, E: Sink>(
     match help.tell(alloc, out) {
         Ok(status) => status,
         Err(fault) => {
-            let ending = Ending::of_run(fault, "standard output", out.failure());
+            let ending = Ending::of_run(fault, STANDARD_OUTPUT, out.failure());
             tell_error(alloc, &ending, err)
         }
     }
 }
 
-/// Tells an ending on standard error, and answers the status.
+/// Writes an ending to standard error, and returns the status.
 pub fn tell_error<S: Sink>(alloc: Global, ending: &Ending<'_>, err: &mut S) -> u8
     requires { ¬ IsTrue (S.has_failed err.old) }
     ensures { IsTold ending.now
@@ -105,7 +105,7 @@ pub fn tell_error<S: Sink>(alloc: Global, ending: &Ending<'_>, err: &mut S) -> u
     }
 }
 
-/// Tells that memory was refused, and answers the status.
+/// Writes that memory was refused, and returns the status.
 fn tell_no_memory<S: Sink>(err: &mut S) -> u8
     requires { ¬ IsTrue (S.has_failed err.old) }
     ensures status { result ≡ 3 }
@@ -118,6 +118,9 @@ fn tell_no_memory<S: Sink>(err: &mut S) -> u8
 
 /// The status where a device failed or memory was refused.
 const FAILED: u8 = 3;
+
+/// The name of standard output in an ending.
+pub const STANDARD_OUTPUT: &str = "standard output";
 
 impl<'a> Ending<'a> {
     ghost use Rattle.std.specs.Prelude.{◌≡◌, ◌↔◌, Err, IfOk, IsErr, IsTrue};
@@ -148,7 +151,7 @@ impl<'a> Ending<'a> {
         }
     }
 
-    /// Tells the ending, and answers its status. Memory is needed only for the words of clap and of the system.
+    /// Writes the ending, and returns its status. Memory is needed only for the words of clap and of the system.
     pub fn tell<S: Sink>(&self, alloc: Global, sink: &mut S) -> Result<u8, RunFault>
         requires { ¬ IsTrue (S.has_failed sink.old) }
         ensures status { IfOk result (EndsWith self.now) }
@@ -162,7 +165,7 @@ impl<'a> Ending<'a> {
         Ok(self.status())
     }
 
-    /// The status that the process ends with once this is told.
+    /// The exit status of this ending.
     fn status(&self) -> u8
         ensures { EndsWith self.now result }
     {
@@ -174,7 +177,7 @@ impl<'a> Ending<'a> {
         }
     }
 
-    /// Whether this is help or the version, which are told on standard output.
+    /// Whether this is help or the version, which go to standard output.
     pub fn is_help(&self) -> bool
         ensures { IsTrue result ↔ ShowsHelp self.now }
     {

@@ -1,7 +1,7 @@
 //! The command line of `diacmd` as functions over values: what its words ask for, where the inputs come from, and how the
 //! program ends.
 //!
-//! `parse_words` reads the words, the program's own name first, and tells the version that it is given for `--version`.
+//! `parse_words` reads the words, the program's own name first, and shows the version that it is given for `--version`.
 //! `open_inputs` reads what the words name. `run` of dia_run does the rest:
 //!
 //! ```text
@@ -37,10 +37,10 @@ mod values;
 
 pub use apart::Apart;
 pub use arguments::parse_words;
-pub use ending::{Ending, finish, tell_error};
+pub use ending::{Ending, STANDARD_OUTPUT, finish, tell_error};
 pub use opened_inputs::open_inputs;
 pub use opener::{OfProcess, Opener};
-pub use origin::{BASE_DICTIONARY, Origin, Origins, STANDARD_INPUT};
+pub use origin::{BASE_DICTIONARY, NO_TABLE, Origin, Origins, STANDARD_INPUT};
 pub use request::Request;
 pub use task::{Breaking, Task};
 pub use tips::advised;

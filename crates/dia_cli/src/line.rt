@@ -11,7 +11,7 @@ use clap::builder::ValueParser;
 use clap::{Arg, ArgAction};
 use std::alloc::{AllocError, Global};
 
-/// The words that options take, and the version that is told.
+/// The values of options, and the version.
 #[derive(Clone, Copy)]
 pub(crate) struct Words<'a> {
     pub version: &'a str,

@@ -14,7 +14,7 @@ use std::alloc::Global;
 use std::io;
 use std::io::Read;
 
-/// Reads the inputs whole: first the dictionaries, then the table, then the message, wherever they stand among the words.
+/// Reads the inputs whole: first the dictionaries, then the table, then the message, in any order of the words.
 pub fn open_inputs<'a, O: Opener>(
     alloc: Global,
     opener: &O,

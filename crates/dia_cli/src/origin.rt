@@ -11,10 +11,10 @@ use dia_policy::{MAX_MESSAGE_TEXT, MAX_TABLE};
 /// The word for standard input.
 pub const STANDARD_INPUT: &str = "-";
 
-/// The word for the base dictionary, where a dictionary stands.
+/// The word that names the base dictionary.
 pub const BASE_DICTIONARY: &str = "@base";
 
-/// The word for a text without lines, where a dictionary, a table or a list of lines stands.
+/// The word that names a dictionary, a table or a list without lines.
 pub const NO_TABLE: &str = "@none";
 
 /// Where the text of an input comes from. A limit is the most bytes that the text may have.

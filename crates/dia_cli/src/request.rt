@@ -8,8 +8,8 @@ use crate::task::Task;
 pub struct Request<'a> {
     pub task: Task,
     pub origins: Origins<'a>,
-    /// Nothing is to be told on standard error of a run that ended with an outcome.
+    /// Standard error stays empty where a run ends with an outcome.
     pub quiet: bool,
-    /// The answer is told as JSON.
+    /// The answer is JSON.
     pub json: bool,
 }

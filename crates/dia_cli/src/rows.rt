@@ -8,7 +8,7 @@ ghost use Rattle.dia_cli.specs.Rows.{propose_row, refute_row, render_row, show_r
 
 use crate::origin::{BASE_DICTIONARY, NO_TABLE};
 
-/// A command: its options and its inputs, in the order in which help tells them.
+/// A command: its options and its inputs, in the order of its help.
 #[derive(Clone, Copy)]
 pub(crate) struct CommandRow<'a> {
     pub name: &'a str,
@@ -29,11 +29,11 @@ pub(crate) struct OptionRow<'a> {
 #[derive(Clone, Copy)]
 pub(crate) enum Value<'a> {
     Nothing,
-    /// A policy for AVPs that the dictionary doesn't know, which is `kept` without the option.
+    /// A policy for AVPs that the dictionary doesn't know: `kept` is the default.
     Policy,
     /// What the side of A sends, which is `any` without the option.
     Sender,
-    /// A word of this name, and the one that stands without the option.
+    /// A word of this name, and its default.
     Word { name: &'a str, default: &'a str },
     /// A number of 32 bits.
     Number,

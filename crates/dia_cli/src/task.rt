@@ -12,15 +12,15 @@ pub enum Task {
     ShowText,
     /// Prints a message, an AVP a line, with names of flags, commands and dates.
     ShowNamed,
-    /// Prints the message of each line behind the line's number, with names or without.
+    /// Prints the message of each line after the line's number, with names or without.
     ShowLines { names: bool },
     /// Prints each way in which messages that A's side sends break under B.
     Breaking(Breaking),
-    /// Tells of each line, a message, whether it is valid.
+    /// Reports of each line, a message, whether it is valid.
     CheckLines { unknown: Unknown, levels: Levels },
-    /// Tells of each line, a message, whether it is valid under the first dictionary and not under the second.
+    /// Reports of each line, a message, whether it is valid under the first dictionary and not under the second.
     RefuteLines { unknown: Unknown, levels: Levels },
-    /// Tells of each message of a stream of bytes whether it is valid.
+    /// Reports of each message of a stream of bytes whether it is valid.
     CheckStream { unknown: Unknown, levels: Levels },
 }
 

@@ -36,7 +36,7 @@ fn better_fault(alloc: Global, words: &[String], fault: &clap::Error) -> Option<
     }
 }
 
-/// What is told of an argument that isn't expected.
+/// The diagnostic of an argument that isn't expected.
 fn unexpected(alloc: Global, rows: &[CommandRow<'_>], words: &[String]) -> Option<clap::Error>
     ensures { IfSome result (λ fault. kind_of fault ≡ UnknownArgument) }
 {
@@ -133,7 +133,7 @@ fn is_given_option(words: &[String]) -> bool {
     false
 }
 
-/// What is told of `show D MESSAGE`, and of `make D TEXT`.
+/// The diagnostic of `show D MESSAGE`, and of `make D TEXT`.
 fn given(alloc: Global, row: &CommandRow<'_>, rest: &[String]) -> Option<clap::Error>
     ensures { IfSome result (λ fault. kind_of fault ≡ UnknownArgument) }
 {
@@ -151,7 +151,7 @@ fn given(alloc: Global, row: &CommandRow<'_>, rest: &[String]) -> Option<clap::E
     fault(alloc, row, told)
 }
 
-/// What is told of `--dict` for a command whose dictionaries are words.
+/// The diagnostic of `--dict` for a command whose dictionaries are words.
 fn worded(alloc: Global, rows: &[CommandRow<'_>], row: &CommandRow<'_>) -> Option<clap::Error>
     ensures { IfSome result (λ fault. kind_of fault ≡ UnknownArgument) }
 {

@@ -1,4 +1,4 @@
--- The pairs of a table, and what is told of them.
+-- The pairs of a table, and their report.
 use Rattle.std.proofs.Common.{◌≡◌, ◌∙◌, ℕ, ◌<◌, List, [], Result, Ok, Err, Some, refl, sym, ap, ap₂, subst, codes, arith, get_or, length, map}
 use Rattle.std.specs.Prelude.{◌≢◌, ◌↔◌, IfOk, String, option_map, slice_get, string_bytes}
 use Rattle.std.specs.Global.{Global}

@@ -1,4 +1,4 @@
--- What a report tells of an input that is refused.
+-- The report of an input that is refused.
 use Rattle.std.proofs.Common.{◌≡◌, Result}
 use Rattle.std.specs.Prelude.{IfOk, string_bytes}
 use Rattle.dia_dict.specs.Dictionary.{Dictionary}

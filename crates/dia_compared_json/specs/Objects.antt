@@ -1,4 +1,4 @@
--- Parts of dictionaries as JSON values (RFC 8259), whose members stand in this order.
+-- Parts of dictionaries as JSON values (RFC 8259), with their members in this order.
 use Rattle.std.specs.Prelude.{ℕ, Bool, false, List, [], ◌∷◌, map, Option, None, Some, codes, option_and_then}
 use Rattle.std.specs.Borrow.{Bor}
 use Rattle.std.specs.Option.{option_map, option_map_or}

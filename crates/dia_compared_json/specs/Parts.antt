@@ -17,7 +17,7 @@ use Rattle.dia_compared_json.specs.Objects.{avp_value, command_value, declared_v
 
 -- ---- a side of a pair
 
--- a dictionary, and what a name of the pair stands for in it: the definition of a command or of a Grouped AVP, and the AVP
+-- a dictionary, and what a name of the pair denotes in it: the definition of a command or of a Grouped AVP, and the AVP
 pub record Side : Type 0 where
   pub dictionary : Dictionary
   pub definition : Option PlainDefinition
@@ -56,7 +56,7 @@ part_value s part.Own = declared_value s.dictionary s.avp
 part_value s part.Command = command_value s.definition
 part_value s (part.Other place) = command_value (slice_get s.dictionary.commands place)
 
--- ---- what is told of a failing
+-- ---- the report of a failing
 
 -- what fails, in a word
 abbrev pub why_word : Failing → List ℕ

@@ -33,7 +33,7 @@ fn command_text(alloc: Global, command: &Definition) -> Result<String, AllocErro
     format!(in alloc; "{{\"command\":{name}{selects}")
 }
 
-/// The members of a header, with the brace behind them.
+/// The members of a header, with the closing brace.
 fn head_text(alloc: Global, head: DefHead) -> Result<String, AllocError>
     ensures { IfOk result (λ text. string_bytes text ≡ members_text true (head_members head)) }
 {

@@ -65,7 +65,7 @@ fn entry_text<B: Book>(alloc: Global, book: &B, entry: Entry) -> Result<String, 
     format!(in alloc; "{{\"name\":{name},\"code\":{code},\"vendor\":{vendor}{taken}")
 }
 
-/// The members of what an AVP of this format and M rule may be, with the brace behind them.
+/// The members of what an AVP of this format and M rule may be, with the closing brace.
 fn taken_text(alloc: Global, format: &Format, rule: MRule) -> Result<String, AllocError>
     ensures { IfOk result (λ text. string_bytes text ≡ members_text true (taken_members (plain_format format.now) rule)) }
 {
@@ -75,7 +75,7 @@ fn taken_text(alloc: Global, format: &Format, rule: MRule) -> Result<String, All
     format!(in alloc; ",\"format\":\"{word}\",\"m\":\"{m}\"{values}")
 }
 
-/// The member of a list of values, if the format may have one, and the brace behind it.
+/// The member of a list of values, if the format may have one, and the closing brace.
 fn values_text(alloc: Global, format: &Format) -> Result<String, AllocError>
     ensures { IfOk result (λ text. string_bytes text ≡ members_text true (values_members (plain_format format.now))) }
 {

@@ -79,7 +79,7 @@ fn failing_text<A: Book, B: Book>(
     format!(in alloc; "{{\"why\":\"{why}\",\"sent\":{sent},\"accepted\":{accepted}{more}")
 }
 
-/// What else there is of a failing, with the brace behind it.
+/// The other members of a failing, with the closing brace.
 fn more_text<A: Book, B: Book>(
     alloc: Global,
     a: &Side<'_, A>,
@@ -98,7 +98,7 @@ fn more_text<A: Book, B: Book>(
     }
 }
 
-/// One more member, with the brace behind it.
+/// One more member, with the closing brace.
 fn more_of<B: Book>(
     alloc: Global,
     name: &str,

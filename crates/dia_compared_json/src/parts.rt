@@ -13,7 +13,7 @@ use crate::sides::Side;
 use dia_book::{Book, DRule, Key};
 use std::alloc::{AllocError, Global};
 
-/// A part of a dictionary that a failing shows. Rules and commands are told by their places, from 0.
+/// A part of a dictionary that a failing shows. Rules and commands are numbered from 0.
 #[derive(Clone, Copy, PartialEq, Eq)]
 pub enum Part {
     Nothing,

@@ -1,4 +1,4 @@
-//! A dictionary, and what a name of a pair stands for in it.
+//! A dictionary, and what a name of a pair denotes in it.
 
 ghost use Rattle.std.specs.Prelude.{◌≡◌, ◌<◌, length, option_and_then, slice_get};
 ghost use Rattle.std.specs.Str.{bytes_eq};
@@ -10,7 +10,7 @@ use dia_book::{Book, DRule, Definition, Entry, Key};
 use dia_inclusion::PairKind;
 use std::marker::Model;
 
-/// A dictionary, and what a name of a pair stands for in it.
+/// A dictionary, and what a name of a pair denotes in it.
 #[derive(Drop)]
 pub(crate) struct Side<'a, B: Book> {
     book: &'a B,
@@ -39,7 +39,7 @@ impl<'a, B: Book> Side<'a, B> {
     ghost use Rattle.dia_compared_json.specs.Objects.{plain_found};
     ghost use Rattle.dia_compared_json.specs.Parts.{avp_side, key_at, rules_of, side_of};
 
-    /// What a name stands for.
+    /// What a name denotes.
     pub fn of(book: &'a B, kind: PairKind, name: &str) -> Self
         ensures { result ≡ side_of (B.meaning book.now) kind name.now }
     {

@@ -55,8 +55,8 @@ pub fn push_bad_list(note: &mut Note, list: &NamedText<'_>, bad: &BadList) {
             push_told(note, list, at, "these bytes aren't UTF-8\n");
             note.put("hint: save the file as UTF-8\n")
         }
-        BadList::Syntax { line, column } => {
-            let at = start_of_line(text, line).saturating_add(column.saturating_sub(1));
+        BadList::Syntax { line, at } => {
+            let at = start_of_line(text, line).saturating_add(at);
             push_told(note, list, at, NO_LINE);
             if let Some(reason) = nearest_reason(text, at) {
                 note.put_all(&["hint: did you mean ", reason, "?\n"])

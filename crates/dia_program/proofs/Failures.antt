@@ -86,7 +86,7 @@ kind_is_no_help kind error made memory text failing = device_is_no_help (codes "
 pub words_are_no_help : (error : Error) (made : Ending) → IsEndingOfIo error made → ¬ ShowsHelp made
 words_are_no_help error made is = kind_is_no_help (error_kind error) error made is.memory is.text is.device
 
--- what fails ends with 3, whether it can be told or not
+-- what fails ends with 3, whether that can be written or not
 ends_with_3 : (made : Ending) (status : ℕ) → IsFailed made → EndsWith made status → status ≡ 3
 ends_with_3 (ending.Device name error) status failed ends = ends
 ends_with_3 ending.NoMemory status failed ends = ends

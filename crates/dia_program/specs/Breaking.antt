@@ -38,7 +38,7 @@ abbrev pub IsListed : Bool → Asked → Inputs → List ℕ → Exit → Type 0
 IsListed true asked inputs text exit = IsBreakingJson asked inputs text exit
 IsListed false asked inputs text exit = IsBreakingOutcome asked inputs text exit
 
--- a beginning of it: lines that were found
+-- a prefix of it: lines that were found
 abbrev pub IsBegun : Bool → Asked → Inputs → List ℕ → Type 0
 IsBegun true asked inputs text = IsJsonBegun asked inputs text
 IsBegun false asked inputs text = IsOutcomeBegun asked inputs text
@@ -47,12 +47,12 @@ abbrev pub IsBegunOrWhole : Bool → Asked → Inputs → List ℕ → Type 0
 IsBegunOrWhole true asked inputs text = IsJsonBegunOrWhole asked inputs text
 IsBegunOrWhole false asked inputs text = IsOutcomeBegunOrWhole asked inputs text
 
--- where standard output failed, it has a front of that
+-- where standard output failed, it has a prefix of that
 abbrev pub Lists : Bool → Asked → Inputs → Stream → Result Exit Ending → Type 0
 Lists json asked inputs out (Ok exit) = (¬ IsTrue out.failed) × ((text : List ℕ) × IsListed json asked inputs text exit × Appends out.old out.new text)
-Lists json asked inputs out (Err (ending.Device name error)) = (name.now ≡ codes "standard output")
+Lists json asked inputs out (Err (ending.Device name error)) = IsTrue out.failed × (name.now ≡ codes "standard output")
     × ((text : List ℕ) × IsBegunOrWhole json asked inputs text × AppendsFront out.old out.new text)
-Lists json asked inputs out (Err ending.NoMemory) = (text : List ℕ) × IsBegun json asked inputs text × Appends out.old out.new text
+Lists json asked inputs out (Err ending.NoMemory) = (¬ IsTrue out.failed) × ((text : List ℕ) × IsBegun json asked inputs text × Appends out.old out.new text)
 Lists json asked inputs out (Err made) = ⊥
 
 -- of what the command line asks for

@@ -1,5 +1,5 @@
 -- What the program writes for its words and inputs, and with which status it ends.
-use Rattle.std.specs.Prelude.{IsTrue, ◌≡◌, ℕ, Bool, List, Some, Result, Ok, Err, ⊤}
+use Rattle.std.specs.Prelude.{IsTrue, ◌≡◌, ℕ, Bool, false, List, Some, Result, Ok, Err, ⊤, codes}
 use Rattle.std.specs.IoError.{error_kind}
 use Rattle.std.specs.declared.io.ErrorKind.TheVariants.{BrokenPipe}
 use Rattle.dia_io.specs.Exit.{status_of}
@@ -9,6 +9,7 @@ use Rattle.dia_report.specs.declared.reporting.Reported.{Reported}
 use Rattle.dia_cli.specs.Asking.{IsAskedBy, IsRefused}
 use Rattle.dia_cli.specs.Ending.{Stream, IsAdvised, IsShown, IsTold, ShowsHelp}
 use Rattle.dia_cli.specs.OpenedInputs.{IsAnyUnread, IsReadOf}
+use Rattle.dia_cli.specs.Origins.{reads_twice}
 use Rattle.dia_cli.specs.declared.ending.Ending.{Ending}
 use Rattle.dia_cli.specs.declared.ending.Ending.TheVariants as ending
 use Rattle.dia_cli.specs.declared.origin.Origins.{Origins}
@@ -34,7 +35,7 @@ pub data RequestEnds (request : Request) (w : World) (out : Stream) (ended : Res
       → TaskEnds request.task request.json w request.origins inputs out ended → RequestEnds request w out ended
   unread : (made : Ending) → IsAnyUnread request.origins made → IsUntouched out → ended ≡ Err made → RequestEnds request w out ended
 
--- standard output, and the stream on which endings are told
+-- standard output, and the stream for endings
 pub record Streams : Type 0 where
   pub out : Stream
   pub err : Stream
@@ -48,27 +49,27 @@ IsFailed (ending.Device name error) = ⊤
 IsFailed ending.NoMemory = ⊤
 IsFailed made = ⊥
 
--- a pipe that was written to is read by nobody any more
+-- standard output is a pipe that nobody reads any more
 abbrev pub IsUnread : Ending → Type 0
-IsUnread (ending.Device name (Some error)) = error_kind error ≡ BrokenPipe
+IsUnread (ending.Device name (Some error)) = (name.now ≡ codes "standard output") × (error_kind error ≡ BrokenPipe)
 IsUnread made = ⊥
 
--- a request failed: 3. It is told why, but of a pipe that nobody reads
+-- a request failed: status 3, and the reason on standard error, but silently where standard output is a pipe that nobody reads
 pub record Fails (made : Ending) (err : Stream) (status : ℕ) : Type 0 where
   pub is_3 : status ≡ 3
   pub quiet : IsUnread made → IsUntouched err
   pub told : ¬ IsUnread made → IsTold made err status
 
--- there is no request: the words ask for help or the version, which is shown, or they are refused, which is told
+-- there is no request: the words ask for help or the version, which is shown, or they are refused, and standard error says why
 pub record Refuses (made : Ending) (s : Streams) (status : ℕ) : Type 0 where
   pub help : ShowsHelp made → IsShown s.out s.err (IsUntouched s.err) status
   pub refusal : ¬ ShowsHelp made → IsUntouched s.out × IsTold made s.err status
 
 -- the words: what they ask for was answered, with the status of its exit, or failed; or they ask for nothing
 pub data IsProgramOutcome (words : List (List ℕ)) (w : World) (s : Streams) (status : ℕ) : Type 0 where
-  answered : (request : Request) (exit : Exit) → IsAskedBy words request → RequestEnds request w s.out (Ok exit)
+  answered : (request : Request) (exit : Exit) → IsAskedBy words request → reads_twice request.origins ≡ false → RequestEnds request w s.out (Ok exit)
       → IsUntouched s.err → status ≡ status_of exit → IsProgramOutcome words w s status
-  failed : (request : Request) (made : Ending) → IsAskedBy words request → RequestEnds request w s.out (Err made)
+  failed : (request : Request) (made : Ending) → IsAskedBy words request → reads_twice request.origins ≡ false → RequestEnds request w s.out (Err made)
       → Fails made s.err status → IsProgramOutcome words w s status
   refused : (fault made : Ending) → IsRefused words fault → IsAdvised fault made → Refuses made s status
       → IsProgramOutcome words w s status

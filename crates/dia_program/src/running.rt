@@ -81,14 +81,14 @@ where
     match parse_words(rt.alloc(), version, words) {
         Ok(request) => match answer(rt, opener, &request, out) {
             Ok(exit) => exit.status(),
-            Err(ending) => tell_failure(rt, words, &ending, err),
+            Err(ending) => tell_failure(rt, request.quiet, &ending, err),
         },
         Err(ending) => tell_refusal(rt.alloc(), advised(rt.alloc(), words, ending), out, err),
     }
 }
 
-/// Tells why a request has no answer, unless a pipe is read by nobody any more, and answers the status.
-fn tell_failure<R, E>(rt: &R, words: &[String], ending: &Ending<'_>, err: &mut ToWriter<E>) -> u8
+/// Reports why a request has no answer, but silently where standard output is a pipe that nobody reads, and answers the status.
+fn tell_failure<R, E>(rt: &R, quiet: bool, ending: &Ending<'_>, err: &mut ToWriter<E>) -> u8
 where
     R: AllocGlobal + Eprint,
     E: Write,
@@ -102,13 +102,13 @@ where
         return FAILED;
     }
     let status = tell_error(rt.alloc(), ending, err);
-    if means_base(words, ending) {
+    if !quiet && means_base(ending) {
         let _ = eprint!(rt; "hint: did you mean {BASE_DICTIONARY}?\n");
     }
     status
 }
 
-/// Tells help or the version, or why the words are refused, and answers the status.
+/// Shows help or the version, or reports why the words are refused, and answers the status.
 fn tell_refusal<W: Write, E: Write>(
     alloc: Global,
     ending: Ending<'_>,

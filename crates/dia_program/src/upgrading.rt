@@ -6,7 +6,7 @@ ghost use Rattle.dia_io.specs.Writing.{AppendsFront};
 ghost use Rattle.dia_cli.specs.Ending.{stream};
 ghost use Rattle.dia_program.specs.Breaking.{AsksFor, IsBegun, IsBegunOrWhole, IsListed, Lists, stale_in};
 
-use dia_cli::{Breaking, Ending, Origins};
+use dia_cli::{Breaking, Ending, Origins, STANDARD_OUTPUT};
 use dia_explain_places::InputTexts;
 use dia_explain_upgrades::explain_upgrade;
 use dia_io::{Exit, Inputs, RunFault, Sink, ToWriter};
@@ -67,7 +67,7 @@ where
             }
             Ok(listed.exit)
         }
-        Err(fault) => Err(Ending::of_run(fault, "standard output", out.failure())),
+        Err(fault) => Err(Ending::of_run(fault, STANDARD_OUTPUT, out.failure())),
     }
 }
 

@@ -49,7 +49,7 @@ ArePut Refuted true u most inputs feed out exit =
 ArePut Placed false u most inputs feed out exit = IsStreamAnswered u most inputs feed.old feed.new out.old out.new exit
 ArePut Placed true u most inputs feed out exit = ChecksStream u most inputs feed.old feed.new out.old out.new exit
 
--- a beginning of it was put
+-- a prefix of it was put
 abbrev pub IsBegun : Lines → Bool → Unknown → Levels → Inputs → Fed → Stream → Type 0
 IsBegun Checked false u most inputs feed out = IsFrontPut (checks u most) inputs feed.old feed.new out.old out.new
 IsBegun Checked true u most inputs feed out = ChecksFront u most inputs feed.old feed.new out.old out.new

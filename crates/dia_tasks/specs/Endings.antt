@@ -14,7 +14,7 @@ use Rattle.dia_cli.specs.declared.ending.Ending.TheVariants as ending
 abbrev pub Writes : (List ℕ → Exit → Type 0) → Stream → Exit → Type 0
 Writes P out exit = (text : List ℕ) × P text exit × Appends out.old out.new text
 
--- where standard output failed, it has a beginning of such a text; where memory was refused, nothing was written
+-- where standard output failed, it has a prefix of such a text; where memory was refused, nothing was written
 abbrev pub Breaks : (List ℕ → Exit → Type 0) → Stream → Ending → Type 0
 Breaks P out (ending.Device name error) = (name.now ≡ codes "standard output") × (out.failed ≡ true)
     × ((text : List ℕ) × (exit : Exit) × P text exit × AppendsFront out.old out.new text)

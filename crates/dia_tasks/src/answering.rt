@@ -6,7 +6,7 @@ ghost use Rattle.dia_run.specs.Outcome.{IsOutcome};
 ghost use Rattle.dia_tasks.specs.Answers.{IsJson};
 ghost use Rattle.dia_tasks.specs.Endings.{Puts, Runs};
 
-use dia_cli::Ending;
+use dia_cli::{Ending, STANDARD_OUTPUT};
 use dia_io::{Command, Inputs, RunFault, Sink, ToWriter, put_all};
 use dia_report::{Answered, Reported};
 use dia_run::run_reporting;
@@ -27,7 +27,7 @@ pub fn answer<'a, W: Write>(
 {
     match run_reporting(alloc, command, inputs, out) {
         Ok(reported) => Ok(reported),
-        Err(fault) => Err(Ending::of_run(fault, "standard output", out.failure())),
+        Err(fault) => Err(Ending::of_run(fault, STANDARD_OUTPUT, out.failure())),
     }
 }
 
@@ -78,10 +78,6 @@ fn put_answer<'a, W: Write>(
     let Answered { text, exit, report } = made?;
     match put_all(out, text.as_bytes()) {
         Ok(()) => Ok(Reported { exit, report }),
-        Err(failed) => Err(Ending::of_run(
-            RunFault::from(failed),
-            "standard output",
-            out.failure(),
-        )),
+        Err(failed) => Err(Ending::of_run(RunFault::from(failed), STANDARD_OUTPUT, out.failure())),
     }
 }

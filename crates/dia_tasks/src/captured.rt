@@ -10,7 +10,7 @@ use crate::inputs::word_of;
 use crate::manner::Manner;
 use crate::telling::tell_made;
 use dia_captures::{Captured, Lines, check_lines, check_stream, refute_lines};
-use dia_cli::{Ending, Opener, Origin, Origins, STANDARD_INPUT};
+use dia_cli::{Ending, Opener, Origin, Origins, STANDARD_INPUT, STANDARD_OUTPUT};
 use dia_explain_answers::{Asked, push_check_alone, push_refute_alone};
 use dia_explain_inputs::push_front;
 use dia_explain_places::Note;
@@ -21,9 +21,6 @@ use dia_report::Reported;
 use std::alloc::Global;
 use std::io;
 use std::io::{Read, Write};
-
-/// Standard output, as it is named where it fails.
-const OUTPUT: &str = "standard output";
 
 /// A command whose messages are read a piece at a time: the lines that it puts, and how messages are checked.
 #[derive(Clone, Copy)]
@@ -136,7 +133,7 @@ impl Capture {
     }
 }
 
-/// Runs a command that reads its messages a piece at a time, and tells on standard error what came of them, unless it is to be
+/// Runs a command that reads its messages a piece at a time, and sums them up on standard error, unless it is to be
 /// quiet.
 pub fn captured<'a, R, O, W>(
     rt: &R,
@@ -199,7 +196,7 @@ where
     }
 }
 
-/// Writes what a command says of the messages that a reader gives, and tells what came of them, unless it is to be quiet. `name`
+/// Writes what a command says of the messages that a reader gives, and sums them up, unless it is to be quiet. `name`
 /// is the word that names the reader.
 fn answer<'a, R, D, W>(
     rt: &R,
@@ -233,7 +230,7 @@ where
     }
 }
 
-/// Tells how many lines are as they should be, and what the others say, unless an input is refused or the device fails.
+/// Writes how many lines are as they should be, and what the others say, unless an input is refused or the device fails.
 fn tell<R: AllocGlobal + Eprint>(
     rt: &R,
     lines: Lines,
@@ -264,7 +261,7 @@ pub fn ending_of(
         LinesFault::NoMemory => Ending::NoMemory,
         LinesFault::Device | LinesFault::Endless => match output {
             Some(error) => Ending::Device {
-                name: OUTPUT,
+                name: STANDARD_OUTPUT,
                 error: Some(error),
             },
             None => Ending::Device { name, error: input },
@@ -272,7 +269,7 @@ pub fn ending_of(
     }
 }
 
-/// Tells how one message is explained by itself. Where memory or the device fails, nothing is told.
+/// Writes how one message is explained by itself. Where memory or the device fails, nothing is written.
 fn advise<R: AllocGlobal + Eprint>(rt: &R, capture: Capture, origins: &Origins<'_>) {
     let mut note = Note::new(rt.alloc());
     let messages = word_of(origins.messages);
@@ -287,7 +284,7 @@ fn advise<R: AllocGlobal + Eprint>(rt: &R, capture: Capture, origins: &Origins<'
     tell_made(rt, note.finish());
 }
 
-/// Tells what a text is whose front shows that it has no messages, or not one a line.
+/// Writes what a text is whose prefix shows that it has no messages, or not one a line.
 pub fn tell_front<R: AllocGlobal + Eprint>(rt: &R, name: &str, lines: Lines, front: &[u8]) {
     if !is_telling(front) {
         return;

@@ -1,4 +1,4 @@
-//! A feed whose first bytes are kept.
+//! A feed whose first bytes are recorded.
 
 ghost use Rattle.std.specs.Prelude.{◌≡◌};
 
@@ -6,10 +6,10 @@ use dia_io::{Failed, Feed};
 use dia_terms::is_white;
 use std::alloc::Global;
 
-/// How many bytes are kept.
+/// How many bytes are recorded.
 const MOST: usize = 1024;
 
-/// Hands on what a feed gives, and keeps its first bytes.
+/// Passes on what a feed gives, and records its first bytes.
 #[derive(Drop)]
 pub struct Front<F> {
     pub feed: F,
@@ -28,12 +28,12 @@ impl<F: Feed> Front<F> {
     }
 }
 
-/// Whether what is kept shows how the text begins: it is all of the text, or more than blanks.
+/// Whether the record shows how the text begins: it is all of the text, or more than blanks.
 pub fn is_telling(kept: &[u8]) -> bool {
     kept.len() < MOST || kept.iter().any(|byte| !is_white(*byte))
 }
 
-/// Keeps bytes up to the limit. Where memory is refused, none of them.
+/// Records bytes up to the limit. Where memory is refused, none of them.
 fn keep(kept: &mut Vec<u8>, bytes: &[u8]) {
     let room = MOST.saturating_sub(kept.len());
     let front = bytes.get(..room).unwrap_or(bytes);

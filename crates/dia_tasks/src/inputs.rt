@@ -3,12 +3,9 @@
 ghost use Rattle.std.specs.Prelude.{◌≡◌};
 ghost use Rattle.dia_tasks.specs.Captures.{word_of};
 
-use dia_cli::{BASE_DICTIONARY, Origin, Origins, STANDARD_INPUT};
+use dia_cli::{BASE_DICTIONARY, NO_TABLE, Origin, Origins, STANDARD_INPUT};
 use dia_explain_places::{InputTexts, NamedText};
 use dia_io::{Input, Inputs};
-
-/// The dictionary without lines, as it is named.
-const NO_LINES: &str = "@none";
 
 /// The texts of the inputs, with the words that name them.
 pub fn texts_of<'a>(origins: &Origins<'a>, inputs: &'a Inputs) -> InputTexts<'a> {
@@ -39,7 +36,7 @@ pub fn word_of(origin: Origin<'_>) -> &str
     match origin {
         Origin::Nowhere => "",
         Origin::Base => BASE_DICTIONARY,
-        Origin::Empty => NO_LINES,
+        Origin::Empty => NO_TABLE,
         Origin::StandardInput { .. } => STANDARD_INPUT,
         Origin::File { path, .. } => path,
     }

@@ -1,5 +1,5 @@
-//! What the program does for a task, over the devices of the process, and what it tells of it on standard error: each task but
-//! `breaking`, which stands on more crates than these.
+//! What the program does for a task, over the devices of the process, and its diagnostics on standard error: each task but
+//! `breaking`, which depends on more crates than these.
 #![tactic(auto)]
 
 mod answering;

@@ -15,7 +15,7 @@ use dia_report::Reported;
 use dia_show::show_lines;
 use std::io::{Read, Write};
 
-/// Shows the message of each line, with names or without, and tells on standard error what came of them, unless it is to be
+/// Shows the message of each line, with names or without, and sums them up on standard error, unless it is to be
 /// quiet.
 pub fn list_lines<'a, R, O, W>(
     rt: &R,
@@ -120,7 +120,7 @@ where
     }
 }
 
-/// Tells how one line is explained by itself. Where the device fails, nothing is told.
+/// Writes how one line is explained by itself. Where the device fails, nothing is written.
 fn advise<R: Eprint>(rt: &R, messages: &str, dictionary: &str) {
     let (dict, dictionary) = if dictionary == BASE_DICTIONARY {
         ("", "")

@@ -1,10 +1,10 @@
-//! How an answer is told.
+//! How an answer is written.
 
-/// How the answer is told.
+/// How the answer is written.
 #[derive(Clone, Copy)]
 pub struct Manner {
     /// Nothing is explained.
     pub quiet: bool,
-    /// It is told as JSON.
+    /// It is JSON.
     pub json: bool,
 }

@@ -1,4 +1,4 @@
-//! The note of a report: what is told on standard error of an input that is refused, and of an answer that isn't yes.
+//! The diagnostics of a report: why an input is refused, and why an answer isn't yes.
 
 use crate::telling::tell_made;
 use dia_explain_answers::{push_answer, push_unnamed};
@@ -38,8 +38,8 @@ pub fn note<R: AllocGlobal + Eprint>(
     tell_made(rt, note.finish());
 }
 
-/// Tells how AVPs are named that the base dictionary doesn't have. `sign` is what stands for a name in what was shown. Where
-/// memory or the device fails, nothing is told.
+/// Writes how AVPs get names that the base dictionary doesn't have. `sign` is what was shown in place of a name. Where
+/// memory or the device fails, nothing is written.
 pub fn note_unnamed<R: AllocGlobal + Eprint>(rt: &R, report: &Report, sign: &str) {
     let mut note = Note::new(rt.alloc());
     match report {

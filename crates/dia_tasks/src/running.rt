@@ -23,7 +23,7 @@ use std::io::Write;
 /// What comes of a task.
 #[derive(Clone, Copy)]
 pub enum Outcome<'t> {
-    /// It is done, and told of.
+    /// It is done and reported.
     Done(Exit),
     /// It is `breaking`, which is done elsewhere.
     Breaking(&'t Breaking),
@@ -207,7 +207,7 @@ fn names_of(task: &Task) -> &[String] {
     }
 }
 
-/// Tells how AVPs are named that the base dictionary doesn't have, where a message was shown.
+/// Writes how AVPs get names that the base dictionary doesn't have, where a message was shown.
 fn tell_unnamed<R: AllocGlobal + Eprint>(rt: &R, task: &Task, report: &Report) {
     match task {
         Task::Whole(Command::Show) | Task::ShowNamed => note_unnamed(rt, report, "?"),

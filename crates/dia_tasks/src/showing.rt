@@ -9,7 +9,7 @@ ghost use Rattle.dia_tasks.specs.Endings.{Runs};
 
 use crate::inputs::word_of;
 use crate::manner::Manner;
-use dia_cli::{Ending, Origins};
+use dia_cli::{Ending, Origins, STANDARD_OUTPUT};
 use dia_io::{Inputs, RunFault, Sink, ToWriter, put_all};
 use dia_report::Reported;
 use dia_show::{Answered, BadValues, MAX_LINES, MAX_VALUES, Report, show};
@@ -71,11 +71,7 @@ where
             let reported = dia_show::Reported { exit, report };
             Ok(told_of(rt, reported, origins, quiet))
         }
-        Err(failed) => Err(Ending::of_run(
-            RunFault::from(failed),
-            "standard output",
-            out.failure(),
-        )),
+        Err(failed) => Err(Ending::of_run(RunFault::from(failed), STANDARD_OUTPUT, out.failure())),
     }
 }
 
@@ -99,7 +95,7 @@ where
 {
     match show(rt.alloc(), names, inputs, out) {
         Ok(reported) => Ok(told_of(rt, reported, origins, quiet)),
-        Err(fault) => Err(Ending::of_run(fault, "standard output", out.failure())),
+        Err(fault) => Err(Ending::of_run(fault, STANDARD_OUTPUT, out.failure())),
     }
 }
 
@@ -125,7 +121,7 @@ pub fn told_of<R: Eprint>(
     Reported { exit, report }
 }
 
-/// Tells on standard error why words of values are refused. Where the device fails, nothing is told.
+/// Writes to standard error why words of values are refused. Where the device fails, nothing is written.
 fn tell<R: Eprint>(rt: &R, name: &str, bad: BadValues) {
     match bad {
         BadValues::TooLong => {
@@ -142,7 +138,7 @@ fn tell<R: Eprint>(rt: &R, name: &str, bad: BadValues) {
     }
 }
 
-/// Tells on standard error what is wrong with a line.
+/// Writes to standard error what is wrong with a line.
 fn tell_line<R: Eprint>(rt: &R, name: &str, line: u32, wrong: &str) {
     let _ = eprint!(rt; "{name}:{line}: {wrong}\n");
 }

@@ -8,7 +8,7 @@ ghost use Rattle.dia_tasks.specs.Endings.{Breaks, Runs, Writes};
 
 use crate::inputs::word_of;
 use crate::telling::tell_made;
-use dia_cli::{Ending, Origin};
+use dia_cli::{Ending, Origin, STANDARD_OUTPUT};
 use dia_io::{Inputs, Sink, ToWriter};
 use dia_make::{make, note, show_text};
 use dia_report::{Report, Reported};
@@ -33,7 +33,7 @@ where
 {
     match make(rt.alloc(), inputs, out) {
         Ok(made) => Ok(explained(rt, made, inputs, text, quiet)),
-        Err(fault) => Err(Ending::of_run(fault, "standard output", out.failure())),
+        Err(fault) => Err(Ending::of_run(fault, STANDARD_OUTPUT, out.failure())),
     }
 }
 
@@ -81,7 +81,7 @@ fn put_shown<'a, W: Write>(
 {
     match show_text(alloc, inputs, bytes, out) {
         Ok(shown) => Ok(shown),
-        Err(fault) => Err(Ending::of_run(fault, "standard output", out.failure())),
+        Err(fault) => Err(Ending::of_run(fault, STANDARD_OUTPUT, out.failure())),
     }
 }
 

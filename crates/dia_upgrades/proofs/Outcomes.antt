@@ -50,7 +50,7 @@ no_fault text other fault same none some = let e : None ≡ Some fault = sym non
 list_or_not : (input : Input) (list : List PlainEntry) (bad : BadList) → IsListText input list → IsNoListText input bad → ⊥
 list_or_not input list lists.TooLong (text, holds, utf8, none, is) over = held_or_over input max_list text holds over
 list_or_not input list (lists.NotText at) (text, holds, utf8, none, is) (other, held, not_utf8, there) = not_utf8 (subst IsUtf8 (same_held input max_list text other holds held) utf8)
-list_or_not input list (lists.Syntax n column) (text, holds, utf8, none, is) (other, held, also, fault) = no_fault text other _ (same_held input max_list text other holds held) none fault
+list_or_not input list (lists.Syntax n at) (text, holds, utf8, none, is) (other, held, also, fault) = no_fault text other _ (same_held input max_list text other holds held) none fault
 list_or_not input list (lists.Limit n) (text, holds, utf8, none, is) (other, held, also, fault) = no_fault text other _ (same_held input max_list text other holds held) none fault
 
 -- ---- how much is left

@@ -23,13 +23,13 @@ HasFault input fault = (text : List ℕ) × Holds input max_list text × IsUtf8 
 abbrev pub IsNoListText : Input → BadList → Type 0
 IsNoListText input TooLong = IsOver input max_list
 IsNoListText input (NotText at) = (text : List ℕ) × Holds input max_list text × (¬ IsUtf8 text) × (at ≡ utf8_valid_len text)
-IsNoListText input (Syntax n column) = HasFault input (faults.Syntax n column)
+IsNoListText input (Syntax n at) = HasFault input (faults.Syntax n at)
 IsNoListText input (Limit n) = HasFault input (faults.Limit n)
 
 abbrev pub bad_list_text : BadList → List ℕ
 bad_list_text TooLong = codes "too long"
 bad_list_text (NotText at) = codes "not text"
-bad_list_text (Syntax n column) = fault_at (codes "syntax") n
+bad_list_text (Syntax n at) = fault_at (codes "syntax") n
 bad_list_text (Limit n) = fault_at (codes "limit") n
 
 -- what is told of it

@@ -14,10 +14,10 @@ use std::fmt;
 pub enum BadList {
     /// More bytes than the text of a list may have.
     TooLong,
-    /// Bytes that are no UTF-8, from this place on.
+    /// Bytes that are no UTF-8, from this offset on.
     NotText { at: usize },
-    /// The column, from 1, is that from which on the entry of the line has no form.
-    Syntax { line: u32, column: usize },
+    /// The entry of the line has no form; `at` bytes of the line precede the fault.
+    Syntax { line: u32, at: usize },
     Limit { line: u32 },
 }
 
@@ -57,7 +57,7 @@ pub(crate) fn read_accepted(
     };
     match read_list(alloc, text) {
         Ok(list) => Ok(Ok(list)),
-        Err(ListFault::Syntax { line, column }) => Ok(Err(BadList::Syntax { line, column })),
+        Err(ListFault::Syntax { line, at }) => Ok(Err(BadList::Syntax { line, at })),
         Err(ListFault::Limit { line }) => Ok(Err(BadList::Limit { line })),
         Err(ListFault::NoMemory) => Err(AllocError),
     }

@@ -11,6 +11,7 @@ use Rattle.dia_breaking_json.specs.Keys.{key_in, key_named}
 use Rattle.dia_breaking_json.specs.Lines.{line_json, unsigned_field}
 use Rattle.dia_inclusion.specs.Proposed.{IsFirstUnknown}
 use Rattle.dia_explain_places.specs.Places.{column_at, line_at}
+use Rattle.dia_explain_places.specs.Tables.{line_from, start_of_line}
 use Rattle.dia_io.specs.declared.Input.{Input}
 use Rattle.dia_refused_json.specs.Refusals.{text_of}
 use Rattle.dia_run.specs.Texts.{line}
@@ -75,18 +76,22 @@ refused_fields input kind = text_field (codes "error") input ++ text_field (code
 abbrev pub list_kind : BadList → List ℕ
 list_kind TooLong = codes "too long"
 list_kind (NotText at) = codes "not text"
-list_kind (Syntax n column) = codes "syntax"
+list_kind (Syntax n at) = codes "syntax"
 list_kind (Limit n) = codes "limit"
 
 -- a place of a text: its line and its column
 abbrev pub place_fields : List ℕ → ℕ → List Field
 place_fields text at = unsigned_field (codes "line") (line_at text at) ++ unsigned_field (codes "column") (column_at text at)
 
+-- an offset in a line: the number of the line, and the column
+abbrev pub line_fields : List ℕ → (n at : ℕ) → List Field
+line_fields text n at = unsigned_field (codes "line") n ++ unsigned_field (codes "column") (column_at (line_from text (start_of_line text n)) at)
+
 -- where the text of a list is refused
 abbrev pub where_fields : List ℕ → BadList → List Field
 where_fields text TooLong = []
 where_fields text (NotText at) = place_fields text at
-where_fields text (Syntax n column) = unsigned_field (codes "line") n ++ unsigned_field (codes "column") column
+where_fields text (Syntax n at) = line_fields text n at
 where_fields text (Limit n) = unsigned_field (codes "line") n
 
 -- a list that is refused

@@ -7,13 +7,13 @@ ghost use Rattle.dia_inclusion.specs.Proposed.{IsFirstUnknown};
 ghost use Rattle.dia_upgrades.specs.Asking.{AreCommands};
 ghost use Rattle.dia_accepted.specs.Accepted.{plain_entry};
 ghost use Rattle.dia_upgrades.specs.Stale.{failing};
-ghost use Rattle.dia_upgrades_json.specs.Objects.{IsEnding, counts_fields, list_fields, list_kind, no_command_fields};
+ghost use Rattle.dia_upgrades_json.specs.Objects.{IsEnding, counts_fields, line_fields, list_fields, list_kind, no_command_fields};
 ghost use Rattle.dia_upgrades_json.specs.Objects.{stale_fields, stale_objects};
 ghost use Rattle.dia_upgrades_json.specs.Objects.{no_commands_fields, object_line, place_fields, refused_fields, where_fields};
 
 use dia_breaking_json::{object_text, push_text, push_unsigned};
 use dia_dict::Book;
-use dia_explain_places::place_of;
+use dia_explain_places::{line_from, place_of, start_of_line};
 use dia_io::Input;
 use dia_refused_json::text_of;
 use dia_upgrades::{BadList, Entry, Found, Stale, named};
@@ -152,12 +152,7 @@ fn push_where(alloc: Global, out: &mut String, list: &[u8], bad: BadList) -> Res
     match bad {
         BadList::TooLong => Ok(()),
         BadList::NotText { at } => push_place(alloc, out, list, at),
-        BadList::Syntax { line, column } => push_line_and_column(
-            alloc,
-            out,
-            u64::from(line),
-            column as u64,
-        ),
+        BadList::Syntax { line, at } => push_in_line(alloc, out, list, line, at),
         BadList::Limit { line } => push_unsigned(alloc, out, "line", u64::from(line)),
     }
 }
@@ -168,6 +163,20 @@ fn push_place(alloc: Global, out: &mut String, text: &[u8], at: usize) -> Result
 {
     let place = place_of(text, at);
     push_line_and_column(alloc, out, place.line as u64, place.column as u64)
+}
+
+/// Adds the line and the column of an offset in a line.
+fn push_in_line(
+    alloc: Global,
+    out: &mut String,
+    text: &[u8],
+    line: u32,
+    at: usize,
+) -> Result<(), AllocError>
+    ensures { OnOk result (Adds out.old out.new (line_fields text.now line at)) }
+{
+    let place = place_of(line_from(text, start_of_line(text, line)), at);
+    push_line_and_column(alloc, out, u64::from(line), place.column as u64)
 }
 
 fn push_line_and_column(

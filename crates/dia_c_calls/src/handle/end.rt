@@ -1,10 +1,10 @@
-//! What is asked of the end of a connection in a handle, and what it is told.
+//! The events and outputs of the end of a connection in a handle.
 
 ghost use Rattle.std.specs.Prelude.{◌⊎◌, ◌≡◌, ◌≢◌, ◌<◌, ◌≤◌, ℕ, [], length, take, IfSome, IsSome, Some};
 ghost use Rattle.dia_peer.specs.declared.event.Why.{Why as AnyWhy};
 ghost use Rattle.dia_peer.specs.Outputs.{SentBytes, ClosedFor};
 ghost use Rattle.dia_c_calls.specs.Held.{MayBePeer, Takes, peer_in};
-ghost use Rattle.dia_c_calls.specs.PeerSteps.{HasStepped, WantsRoom, plain_end};
+ghost use Rattle.dia_c_calls.specs.PeerSteps.{HasStepped, LeavesRest, WantsRoom, plain_end};
 
 use crate::held::Held;
 use crate::peer::{Given, Peer};
@@ -26,7 +26,7 @@ pub fn peer_in(held: &Held) -> &Peer
     }
 }
 
-/// Tells the end in a handle what happened.
+/// Delivers an event to the end in a handle.
 pub fn tell_in(held: &mut Held, event: Event<'_>) -> u32
     requires { ∥ MayBePeer (Some held.old) ∥₁ }
     ensures ends { (result ≡ DONE) ⊎ (result ≡ NO_MEMORY) ⊎ (result ≡ OUTPUTS_LEFT) }
@@ -61,6 +61,7 @@ pub fn give_in(held: &mut Held, out: &mut [u8]) -> Given
     ensures kept { (count : ℕ) → result ≡ Given.NoRoom count → held.new ≡ held.old }
     ensures nothing { result ≡ Given.Nothing → (held.new ≡ held.old)
         × IfSome (peer_in (Some held.old)) (λ old. old.left ≡ []) }
+    ensures rest { LeavesRest result out.old out.new }
     ensures was_peer { IsSome (peer_in (Some held.old)) }
     ensures is_peer { IsSome (peer_in (Some held.new)) }
     ensures only { ∥ MayBePeer (Some held.new) ∥₁ }

@@ -9,7 +9,7 @@ use crate::held::Held;
 use std::alloc::Global;
 use std::marker::Model;
 
-/// What a handle holds, behind one pointer; or null, and nothing. A drop frees nothing: `into_box` takes out what is freed.
+/// What a handle holds, by one pointer; or null, and nothing. A drop frees nothing: `into_box` takes out what is freed.
 #[repr(C)]
 #[derive(Drop)]
 pub struct Seal {

@@ -37,7 +37,7 @@ module _ (policies senders : Bor (List (Bor Text))) (quiet : Bool) (rows : List 
 pub form_is_asked : (quiet : Bool) (form : Form) (rows : List Row) → is_plain_form form ≡ true → Says quiet form rows → is_asked (Some (form_name form, rows)) ≡ true
 form_is_asked quiet form rows plain says = also (has_flag _ quiet says.0) (form_has form rows plain says.1)
 
--- `--lines` and `--stream` stand together in no form
+-- `--lines` and `--stream` occur together in no form
 form_reads_one_way : (quiet : Bool) (form : Form) (rows : List Row) → Says quiet form rows → (form_name form ≡ codes "check") × HasLinesAndStream rows → ⊥
 form_reads_one_way quiet (check alone json unknown levels first second) rows says bad = let lines = sym says.1.0 ∙ bad.1.0 in absurd cc
 form_reads_one_way quiet (check in_lines json unknown levels first second) rows says bad = let stream = sym says.1.1 ∙ bad.1.1 in absurd cc

@@ -53,7 +53,7 @@ met_value word id c h n plain = rw (plain.dashes, plain.long, plain.short) refl
 no_value_fault : (word id : Text) (s : Shape) (h : Held) → IsNoOption word → word_fault s [] false (option id) word h ≡ []
 no_value_fault word id s h plain = rw (plain.dashes, plain.long, plain.short) refl
 
--- how words are walked, from a place on: where the walk stands then, without a fault
+-- how words are walked, from a place on: where the walk is then, without a fault
 pub record Walks (s : Shape) (from : Walk) (words : List Text) (to : Walk) : Type 0 where
   pub ends : fold (walked s.rules []) from words ≡ to
   pub fine : walk_fault s [] from words ≡ []
@@ -108,7 +108,7 @@ pub leaf_level : (s : Shape) (words : List Text) (w : Walk) → walk s.rules [] 
 leaf_level s words w walked_is no_fault rest =
     ap₂ (λ (f : Kinds) (v : Walk). or_else f (rest_fault s v.held false)) no_fault walked_is ∙ rest
 
--- a name was met, behind which no word is read
+-- a name was met, after which no word is read
 met_then : (c : List Rule) (names : Names) (w : Walk) (name : Text) (before words : List Text)
     → fold (walked c names) (record w { stopped = Some (name, before) }) words ≡ record w { stopped = Some (name, before ++ words) }
 unfolding walked
@@ -140,7 +140,7 @@ module _ (a : App) (name : Text) (s : Shape) (words : List Text) (at : Names_at 
   found : entered a (Some (name, words)) ≡ Some (rows_at s words)
   found = ap (option_map (λ s. rows_at s words)) at.finds
 
-  -- what the parse finds is what it finds in the words behind the name
+  -- what the parse finds is what it finds in the words after the name
   pub line_finds : entered a (stop_after a.top.rules (names_of a) (name ∷ words)) ≡ Some (rows_at s words)
   line_finds = ap (λ (w : Walk). entered a w.stopped) walks ∙ found
 
@@ -152,7 +152,7 @@ module _ (a : App) (name : Text) (s : Shape) (words : List Text) (at : Names_at 
       ∙ ap₂ (λ (has : Bool) (k : Kinds). or_else k (rest_fault a.top nothing_held has)) (ap (λ (o : Option (Text × List Row)). is_some o) found) below
       ∙ at.rest
 
--- words behind the name of a subcommand, that are walked to an end that has no fault
+-- words after the name of a subcommand that are walked to an end without a fault
 pub record Ends (s : Shape) (words : List Text) (to : Walk) : Type 0 where
   pub walks : Walks s (walk_from nothing_held) words to
   pub rest : rest_fault s to.held false ≡ []

@@ -73,7 +73,7 @@ abbrev pub are_apart : List Slot → List Slot → Bool
 are_apart [] before = true
 are_apart (slot ∷ rest) before = not (has_slot (slot_id slot) before) && are_apart rest (slot ∷ before)
 
--- the slots, and behind them those before, from the last to the first
+-- the slots, followed by those before, from the last to the first
 abbrev pub behind : List Slot → List Slot → List Slot
 behind [] before = before
 behind (slot ∷ rest) before = behind rest (slot ∷ before)

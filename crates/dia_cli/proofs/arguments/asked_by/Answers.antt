@@ -9,7 +9,7 @@ use Rattle.dia_cli.proofs.arguments.asked_by.Goals as goal
 pub returns-clause-words : goal.returns-clause-words
 returns-clause-words g c = λ program.
     let found = (c.in_ok-matches.ensures.ok.2 (ap is_simple program.shape)).1 in
-    IfOk-weaker c.requested.result _ _ (λ request asked. (app_of c.args.line.now, program, subst (λ sub. IsSomeAnd sub (IsRequestOf request)) found asked))
+    IfOk-weaker c.requested.result _ _ (λ request asked. (app_of c.args.line.now, program, c.in_ok-matches.ensures.kinds (ap is_simple_and_free program.shape), subst (λ sub. IsSomeAnd sub (IsRequestOf request)) found asked))
     c.requested.ensures.words
 
 pub returns-clause-refused : goal.returns-clause-refused

@@ -7,10 +7,10 @@ pub tell_failure-requires-clause-failed : goal.tell_failure-requires-clause-fail
 tell_failure-requires-clause-failed g c = request_failed c.in-Ok.request _ _ c.in-Err-answer.ending c.in-Err-answer.ensures
 
 pub returns-in-Ok-answer : goal.returns-in-Ok-answer
-returns-in-Ok-answer g c = answered c.in-Ok.request c.in-Ok-answer.exit c.in-Ok.ensures.words c.in-Ok-answer.ensures (c.requires.err, refl) c.status.ensures
+returns-in-Ok-answer g c = answered c.in-Ok.request c.in-Ok-answer.exit c.in-Ok.ensures.words c.in-Ok.ensures.once c.in-Ok-answer.ensures (c.requires.err, refl) c.status.ensures
 
 pub returns-in-Ok : goal.returns-in-Ok
-returns-in-Ok g c = failed c.in-Ok.request c.in-Err-answer.ending c.in-Ok.ensures.words c.in-Err-answer.ensures c.tell_failure.ensures
+returns-in-Ok g c = failed c.in-Ok.request c.in-Err-answer.ending c.in-Ok.ensures.words c.in-Ok.ensures.once c.in-Err-answer.ensures c.tell_failure.ensures
 
 pub returns : goal.returns
 returns g c = refused c.in-Err.ending c.advised.result c.in-Err.ensures.refused c.advised.ensures c.tell_refusal.ensures
