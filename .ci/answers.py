@@ -93,9 +93,9 @@ def nest(depth, inner):
 
 
 CUT = "hint: its end may be in the next packet, or the capture has cut the packet: docs/CAPTURES.md says how to take whole messages out\n"
-LENGTHS = "mend the sender; either this AVP's Length is wrong, or the padding or the Length of the AVP in front of it, or that of the group"
+LENGTHS = "fix the sender; either this AVP's Length is wrong, or the padding or the Length of the AVP before it, or that of the group"
 ANSWER = "hint: {} at {} is for answers, and the R flag says that this is a request: if it is an answer, the sender has to clear R\n"
-OCTETS = "mend the sender, or declare OctetString, which accepts any data"
+OCTETS = "fix the sender, or declare OctetString, which accepts any data"
 
 # Body; byte; what is wrong; groups; the AVP at hand; place in D and what stands there; hint; options.
 BODIES = [
@@ -115,33 +115,33 @@ BODIES = [
      "CCR, Multiple-Services-Credit-Control at 56, Requested-Service-Unit at 64",
      "64: code 437 (000001b5), flags 40 M, length 8 (000008)", ("11:5", "the rule is { CC-Time }"),
      "have the sender add CC-Time, or, where it may be missing, write [ CC-Time ]", ""),
-    (HOST + SID + TYPE + NUM, 20, "Session-Id is missing in front of this AVP: 1 wanted, 0 found", "CCR",
+    (HOST + SID + TYPE + NUM, 20, "Session-Id is missing before this AVP: 1 wanted, 0 found", "CCR",
      "20: code 264 (00000108), flags 40 M, length 11 (00000b), data 612e62", ("20:5", "the rule is < Session-Id >"),
-     "it stands at 32, and a fixed rule wants it at the front: mend the sender, or write { Session-Id } for < Session-Id >", ""),
-    (HOST + TYPE + NUM, 20, "Session-Id is missing in front of this AVP: 1 wanted, 0 found", "CCR",
+     "it is at 32, and a fixed rule wants it at the front: fix the sender, or write { Session-Id } for < Session-Id >", ""),
+    (HOST + TYPE + NUM, 20, "Session-Id is missing before this AVP: 1 wanted, 0 found", "CCR",
      "20: code 264 (00000108), flags 40 M, length 11 (00000b), data 612e62", ("20:5", "the rule is < Session-Id >"),
-     "a fixed rule wants its AVP at the front: have the sender put it here; or, where it may stand elsewhere, write { Session-Id } for < Session-Id >", ""),
+     "a fixed rule wants its AVP at the front: have the sender put it here; or, if it may occur elsewhere, write { Session-Id } for < Session-Id >", ""),
     (unit(avp(420, number(1)), NUM), 96,
-     "CC-Request-Number may not stand in Requested-Service-Unit: no rule names it, and there is no rule for AVP", RSU,
+     "CC-Request-Number isn't allowed in Requested-Service-Unit: no rule names it, and there is no rule for AVP", RSU,
      "96: code 415 (0000019f), flags 40 M, length 12 (00000c), data 00000000", ("10:2", "Requested-Service-Unit is defined here"),
-     "add [ CC-Request-Number ] or * [ AVP ] to the rules of Requested-Service-Unit, or mend the sender", ""),
-    (BASE + SID, 68, "Session-Id may stand only at the front of CCR, in the order of the fixed rules", "CCR",
+     "add [ CC-Request-Number ] or * [ AVP ] to the rules of Requested-Service-Unit, or fix the sender", ""),
+    (BASE + SID, 68, "Session-Id may occur only at the front of CCR, in the order of the fixed rules", "CCR",
      "68: code 263 (00000107), flags 40 M, length 11 (00000b), data 613b31", ("20:5", "the rule is < Session-Id >"),
      "have the sender put it at the front, or write { Session-Id } for < Session-Id >", ""),
-    (BASE + avp(9999, flags=0), 68, "9999:0 may not stand in CCR: no rule names it, and there is no rule for AVP", "CCR",
+    (BASE + avp(9999, flags=0), 68, "9999:0 isn't allowed in CCR: no rule names it, and there is no rule for AVP", "CCR",
      "68: code 9999 (0000270f), flags 00, length 8 (000008)", ("19:2", "CCR is defined here"),
-     "add * [ AVP ] to the rules of CCR, or mend the sender", ""),
+     "add * [ AVP ] to the rules of CCR, or fix the sender", ""),
     # an AVP of a vendor, of which the dictionary's AVP has none; and the reverse
-    (SID + HOST + avp(416, number(1), 0, 10415) + NUM, 44, "416:10415 may not stand in CCR: no rule names it, and there is no rule for AVP", "CCR",
+    (SID + HOST + avp(416, number(1), 0, 10415) + NUM, 44, "416:10415 isn't allowed in CCR: no rule names it, and there is no rule for AVP", "CCR",
      "44: code 416 (000001a0), flags 80 V, length 16 (000010), vendor 10415 (000028af), data 00000001", ("19:2", "CCR is defined here"),
      "the dictionary's AVP of this code has no vendor: compare the V flag and the Vendor-ID; or add * [ AVP ] to the rules of CCR", ""),
-    (BASE + avp(9005, b"x", 0), 68, "9005:0 may not stand in CCR: no rule names it, and there is no rule for AVP", "CCR",
+    (BASE + avp(9005, b"x", 0), 68, "9005:0 isn't allowed in CCR: no rule names it, and there is no rule for AVP", "CCR",
      "68: code 9005 (0000232d), flags 00, length 9 (000009), data 78", ("19:2", "CCR is defined here"),
      "the dictionary's AVP of this code has vendor 32473: compare the V flag and the Vendor-ID; or add * [ AVP ] to the rules of CCR", ""),
-    (BASE + 4 * avp(456), 92, "this is Multiple-Services-Credit-Control number 4 in CCR, and at most 3 may stand", "CCR",
+    (BASE + 4 * avp(456), 92, "this is Multiple-Services-Credit-Control number 4 in CCR, and at most 3 may occur", "CCR",
      "92: code 456 (000001c8), flags 40 M, length 8 (000008)", ("24:8", "the rule is *3 [ Multiple-Services-Credit-Control ]"),
      "have the sender send fewer, or write * [ Multiple-Services-Credit-Control ] for any number", ""),
-    (BASE + avp(456, 3 * avp(9005, b"x", 0, 32473)), 108, "this is Note number 3 in Multiple-Services-Credit-Control, and at most 2 may stand", MSCC,
+    (BASE + avp(456, 3 * avp(9005, b"x", 0, 32473)), 108, "this is Note number 3 in Multiple-Services-Credit-Control, and at most 2 may occur", MSCC,
      "108: code 9005 (0000232d), flags 80 V, length 13 (00000d), vendor 32473 (00007ed9), data 78", ("15:8", "the rule is *2 [ Note ]"),
      "have the sender send fewer, or write * [ Note ] for any number", ""),
     # flags, and AVPs that aren't known
@@ -161,20 +161,20 @@ BODIES = [
      "declare it, as %avp NAME 9999 OctetString any", "--unknown refused "),
     (SID + avp(264, b"a.b", 0) + TYPE + NUM, 32, "the M flag of Origin-Host is clear, and its rule is must", "CCR",
      "32: code 264 (00000108), flags 00, length 11 (00000b), data 612e62", ("3:6", "Origin-Host is declared here"),
-     "write any as the rule in the declaration, or mend the sender", ""),
+     "write any as the rule in the declaration, or fix the sender", ""),
     (BASE + avp(9005, b"x", vendor=32473), 68, "the M flag of Note is set, and its rule is mustnot", "CCR",
      "68: code 9005 (0000232d), flags c0 V M, length 13 (00000d), vendor 32473 (00007ed9), data 78", ("9:6", "Note is declared here"),
-     "write any as the rule in the declaration, or mend the sender", ""),
+     "write any as the rule in the declaration, or fix the sender", ""),
     # data
     (unit(avp(420, bytes(8))), 84, "CC-Time has 8 bytes of data, and Unsigned32 has 4", RSU,
      "84: code 420 (000001a4), flags 40 M, length 16 (000010), data 0000000000000000", ("4:6", "CC-Time is declared here"),
-     "mend the sender, or declare a format with such data: Integer64, Unsigned64, Float64 or OctetString", ""),
+     "fix the sender, or declare a format with such data: Integer64, Unsigned64, Float64 or OctetString", ""),
     (SID + HOST + avp(416, number(5)) + NUM, 44, "CC-Request-Type has the value 5, which isn't in its list", "CCR",
      "44: code 416 (000001a0), flags 40 M, length 12 (00000c), data 00000005", ("6:6", "CC-Request-Type is declared here"),
-     "add the number to the list of the declaration, or mend the sender", ""),
+     "add the number to the list of the declaration, or fix the sender", ""),
     (SID + HOST + avp(416, number(2**32 - 1)) + NUM, 44, "CC-Request-Type has the value -1, which isn't in its list", "CCR",
      "44: code 416 (000001a0), flags 40 M, length 12 (00000c), data ffffffff", ("6:6", "CC-Request-Type is declared here"),
-     "add the number to the list of the declaration, or mend the sender", ""),
+     "add the number to the list of the declaration, or fix the sender", ""),
     (avp(263, b"ab\xff\xfe") + HOST + TYPE + NUM, 20, "Session-Id has data that isn't UTF-8: from byte 2 of the data on, fffe", "CCR",
      "20: code 263 (00000107), flags 40 M, length 12 (00000c), data 6162fffe", ("2:6", "Session-Id is declared here"), OCTETS, ""),
     (SID + avp(264) + TYPE + NUM, 32, "Origin-Host has no data, and a DiameterIdentity has at least one byte", "CCR",
@@ -183,7 +183,7 @@ BODIES = [
      "Origin-Host has data that is no DiameterIdentity: byte 1 of the data is 20, and each has to be from 21 to 7e", "CCR",
      "32: code 264 (00000108), flags 40 M, length 11 (00000b), data 612062", ("3:6", "Origin-Host is declared here"), OCTETS, ""),
     (BASE + avp(435, b"http://long.example.net"), 68,
-     "Redirect-Server-Address has data that is no DiameterURI: aaa:// or aaas://, and behind it characters of ASCII without spaces", "CCR",
+     "Redirect-Server-Address has data that is no DiameterURI: aaa:// or aaas://, and after it characters of ASCII without spaces", "CCR",
      "68: code 435 (000001b3), flags 40 M, length 31 (00001f), data 687474703a2f2f6c6f6e672e6578616d..",
      ("8:6", "Redirect-Server-Address is declared here"), OCTETS, ""),
     # depth, and the way through many groups
@@ -192,7 +192,7 @@ BODIES = [
     (BASE + nest(20, avp(420, bytes(2))), 228, "CC-Time has 2 bytes of data, and Unsigned32 has 4",
      "CCR, Nest at 68, Nest at 76, Nest at 84, Nest at 92, .. 12 groups .., Nest at 196, Nest at 204, Nest at 212, Nest at 220",
      "228: code 420 (000001a4), flags 40 M, length 10 (00000a), data 0000", ("4:6", "CC-Time is declared here"),
-     "mend the sender, or declare a format with such data, such as OctetString", ""),
+     "fix the sender, or declare a format with such data, such as OctetString", ""),
     # lengths
     (BASE + avp(420, length=7), 68, "no AVP begins here: the AVP Length is 7, and the head alone has 8 bytes", "CCR",
      "68: code 420 (000001a4), flags 40 M, length 7 (000007)", None, LENGTHS, ""),
@@ -205,32 +205,32 @@ BODIES = [
     (BASE + avp(456, avp(9005, b"x", 0, 32473, pad=False)), 76,
      "no AVP begins here: the AVP Length is 13, and with 13 bytes left of Multiple-Services-Credit-Control it may be at most 12, since the padding to a multiple of four has to be there",
      MSCC, "76: code 9005 (0000232d), flags 80 V, length 13 (00000d), vendor 32473 (00007ed9), data 78", None,
-     "the last AVP of a group is padded as well, and the group's AVP Length counts that padding: mend the sender", ""),
+     "the last AVP of a group is padded as well, and the group's AVP Length counts that padding: fix the sender", ""),
 ]
 
 ANSWERS = [
     # the AVP that is missing stands there with another vendor
-    (avp(263, b"a;1", 0, 10415) + HOST + TYPE, 20, "Session-Id is missing in front of this AVP: 1 wanted, 0 found",
+    (avp(263, b"a;1", 0, 10415) + HOST + TYPE, 20, "Session-Id is missing before this AVP: 1 wanted, 0 found",
      "20: code 263 (00000107), flags 80 V, length 15 (00000f), vendor 10415 (000028af), data 613b31", ("29:5", "the rule is < Session-Id >"),
-     "an AVP of its code stands at 20, with vendor 10415: compare the V flag and the Vendor-ID"),
+     "an AVP of its code is at 20, with vendor 10415: compare the V flag and the Vendor-ID"),
     (SID + HOST, 44, "an AVP that no rule of CCA names is missing at the end of CCA: 2 wanted, 1 found", None,
      ("30:9", "the rule is 2*2 { AVP }"), "have the sender add one, or, where it may be missing, write *2 [ AVP ]"),
-    (BASE, 56, "CC-Request-Number is AVP number 3 in CCA that no rule names, and at most 2 may stand",
+    (BASE, 56, "CC-Request-Number is AVP number 3 in CCA that no rule names, and at most 2 may occur",
      "56: code 415 (0000019f), flags 40 M, length 12 (00000c), data 00000000", ("30:9", "the rule is 2*2 { AVP }"),
      "have the sender send fewer, or write 2* { AVP } for any number"),
 ]
 
 # Command Flags, Command Code, application; byte; what is wrong; the flags; places in D and what stands there; hint.
 HEADERS = [
-    (0xE0, 272, 4, 4, "a request has the E flag", "e0 R P E", None, "mend the sender: only an answer may have E, and only a request R"),
-    (0x50, 272, 4, 4, "a message that is no request has the T flag", "50 P T", None, "mend the sender: only a request is sent again with T"),
+    (0xE0, 272, 4, 4, "a request has the E flag", "e0 R P E", None, "fix the sender: only an answer may have E, and only a request R"),
+    (0x50, 272, 4, 4, "a message that is no request has the T flag", "50 P T", None, "fix the sender: only a request is sent again with T"),
     (0xC0, 303, 4, 5, "the dictionary has no request with Command Code 303", "c0 R P", None, "add the definition, < Diameter Header: 303, REQ, PXY >"),
     (0x60, 272, 4, 5, "the dictionary has no definition for answers with the E flag", "60 P E", None,
      "add one with the header < Diameter Header: code, ERR >; it serves the errors of all commands"),
     (0xC0, 272, 9, 8, "the dictionary has no request with Command Code 272 for application 9", "c0 R P", ("19:2", "CCR is for application 4"),
      "add a definition for application 9, or leave the Application-ID out of the header of one: it then serves all"),
     (0x80, 272, 4, 4, "the P flag is clear, and the header of CCR has PXY", "80 R", ("19:2", "CCR is defined here"),
-     "take PXY out of the header, or mend the sender"),
+     "take PXY out of the header, or fix the sender"),
 ]
 
 
@@ -269,7 +269,7 @@ def checks():
     spelt = message(avp(263, b"a;1", pad=False) + HOST + TYPE + NUM + avp(9999, b"x", 0, pad=False))
     wanted = note_of_fault(spelt, 32, "no AVP begins here: the AVP Length is 2913, and with 44 bytes left of CCR it may be at most 44", "CCR",
                            f"32: code 67648 (00010840), flags 00, length 2913 (000b61), data {spelt[40:56].hex()}..", None,
-                           "Session-Id at 20 has the AVP Length 11, and what follows stands right behind it, without its padding: mend the sender")
+                           "Session-Id at 20 has the AVP Length 11, and the next bytes follow directly, without its padding: fix the sender")
     yield "check d.txt m.hex", {"d.txt": D, "m.hex": digits(spelt)}, 1, wanted
     requests = D[: D.index("<CCA>")]
     wanted = "m.hex:1:11: byte 5: the dictionary has no answer with Command Code 272\n  header: flags 40 P, code 272, application 4\n"
@@ -329,7 +329,7 @@ def refutes():
     note = note_of_fault(spelt, 84, "CC-Time is missing at the end of Requested-Service-Unit: 1 wanted, 0 found", RSU,
                          "76: code 437 (000001b5), flags 40 M, length 8 (000008)", ("11:5", "the rule is { CC-Time }"),
                          missing.format("CC-Time"), "a.txt")
-    swapped = "hint: it is valid under b.txt: the dictionary of the side that sends the message stands first\n"
+    swapped = "hint: it is valid under b.txt: the dictionary of the message's sender comes first\n"
     yield row(spelt, 1, first + "fault 5005 at 84\n" + note + swapped)
     yield row(message(BASE)[:-4], 1, first + f"truncated\nm.hex: 64 bytes; the Message Length is 68, so the message is cut off\n{CUT}")
     files = {"a.txt": narrow, "b.txt": wide, "l.txt": message(BASE).hex() + "\n"}
@@ -352,7 +352,7 @@ FIXED, COUNTS, UNLISTED = "N1, of the fixed AVPs", "N2, of the counts of AVPs th
 PAIRS, OWN = "N4, of the AVPs that need a pair of their own", "N5, of the AVPs that only the second lists"
 WILD, MOST, LEAST = "N6, of the wildcard AVP", "N7, of the greatest count of the wildcard AVP", "N8, of the least count of the wildcard AVP"
 LETS_IN, HEADS, DECLARED = "N9, of what the wildcard AVP lets in", "N10, of the headers of commands", "N10, of the declarations of AVPs"
-KEEP = "; or have the sender keep to the counts of b.txt, and say so in a.txt"
+KEEP = "; or have the sender respect the counts of b.txt, and say so in a.txt"
 PROPOSE = "the first name of a pair is one of the first dictionary, the second one of the second; `diacmd propose` writes a table"
 ANY = "T sends 0..* of what no rule names, by * [ AVP ]"
 NONE = "T has no rule for AVP"

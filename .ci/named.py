@@ -101,7 +101,7 @@ def refused(room):
     for text, why in cases.items():
         room.check("show --values - cause.hex", 2, f"values: {why}", stdin=text, shown=f"show --values: {why}")
     (room.files / "bytes.txt").write_bytes(b"# \xff\n")
-    room.check("show --names --values bytes.txt cause.hex", 2, "values: not text", err="bytes.txt: byte 2 and those behind it are no UTF-8")
+    room.check("show --names --values bytes.txt cause.hex", 2, "values: not text", err="bytes.txt: byte 2 and those after it are no UTF-8")
     room.write("twice.txt", "A 0 X\nA 0 X\n")
     room.check("show --values twice.txt cause.hex", 2, "values: duplicate at line 2", err="twice.txt:2: a line before has the same AVP and number")
     room.check("show --values bytes.txt --dict wrong.txt cause.hex", 2, "dictionary 1: syntax at line 1")
@@ -169,7 +169,7 @@ def objects(room):
     refusal = {"A 0 X\nA 0": '"syntax","line":2', "A 0 X\nA 0 Y": '"duplicate","line":2', 65537 * "\n": '"limit","line":65537', "#" + 4194304 * "x": '"too long"'}
     for text, kind in refusal.items():
         room.check("show --json --values - empty.txt", 2, f'{{"error":"values","kind":{kind}}}', stdin=text, shown=f"show --json --values: {kind}")
-    room.check("show --json --values bytes.txt empty.txt", 2, '{"error":"values","kind":"not text"}', err="bytes.txt: byte 2 and those behind it are no UTF-8")
+    room.check("show --json --values bytes.txt empty.txt", 2, '{"error":"values","kind":"not text"}', err="bytes.txt: byte 2 and those after it are no UTF-8")
     room.check("show --quiet --json --names --values twice.txt cause.hex", 2, '{"error":"values","kind":"duplicate","line":2}', err="")
     room.check("show --json --values words.txt empty.txt", 2, '{"error":"message","kind":"short"}')
 

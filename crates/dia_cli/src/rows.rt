@@ -65,13 +65,13 @@ const QUIET: OptionRow<'static> = OptionRow {
 const UNKNOWN: OptionRow<'static> = OptionRow {
     id: "unknown",
     value: Value::Policy,
-    help: "Whether an AVP that isn't in the dictionary, with its M flag clear, is kept or refused",
+    help: "Whether an AVP that isn't in the dictionary, with its M flag clear, is accepted or refused",
 };
 
 const LEVELS: OptionRow<'static> = OptionRow {
     id: "levels",
     value: Value::Number,
-    help: "How many levels of Grouped AVPs may stand in one another; without it, any number",
+    help: "How many levels of Grouped AVPs may be nested; without it, any number",
 };
 
 const JSON: OptionRow<'static> = OptionRow {
@@ -137,7 +137,7 @@ const SHOW: CommandRow<'static> = CommandRow {
         OptionRow {
             id: "lines",
             value: Value::Nothing,
-            help: "Prints the message of each line, behind the number of the line",
+            help: "Prints the message of each line, after the number of the line",
         },
         JSON,
     ],
@@ -264,7 +264,7 @@ const BREAKING: CommandRow<'static> = CommandRow {
         OptionRow {
             id: "messages",
             value: Value::Nothing,
-            help: "Prints behind each line a message that shows it, as hexadecimal text",
+            help: "Prints after each line a message that shows it, as hexadecimal text",
         },
         OptionRow {
             id: "once",

@@ -69,7 +69,7 @@ fn push_list(note: &mut Note, dictionary: &str, commands: &[Def]) {
 
 /// Adds the first command of the second dictionary that is among the names, and is none of the first.
 fn push_found(note: &mut Note, names: &[String], known: &Vocabulary<'_>, second: &NamedSource<'_>) {
-    let behind = "; the dictionary of the side that sends stands first\n";
+    let behind = "; the sender's dictionary comes first\n";
     for command in &second.source.commands {
         let name = command.name.as_str();
         if !known.has(Named::Command, name) && has_name(names, name) {

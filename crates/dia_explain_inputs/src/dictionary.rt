@@ -24,7 +24,7 @@ use std::alloc::{AllocError, Global};
 const NO_LINES: &str = "@none";
 
 const CAPTURED: &str =
-    "the dictionary stands before the messages, and docs/CAPTURES.md says how to take these out of a capture";
+    "the dictionary comes before the messages, and docs/CAPTURES.md says how to take these out of a capture";
 
 /// Adds the note of a dictionary that is refused for this.
 pub fn push_dictionary(note: &mut Note, dictionary: &NamedText<'_>, why: &BadDictionary)
@@ -62,7 +62,7 @@ fn push_long(note: &mut Note, name: &str) {
     note.put_hint(
         "leave out what the comparison doesn't need; render writes a dictionary without its comments",
     );
-    note.put_hint("if this is a message or a capture: the dictionary stands before it");
+    note.put_hint("if this is a message or a capture: the dictionary comes before it");
 }
 
 /// Adds the note of a text that the grammar doesn't derive: the token, what was expected, its line, and a hint.
@@ -88,7 +88,7 @@ fn syntax_told(alloc: Global, scene: &Scene<'_>) -> Result<String, AllocError> {
 fn push_line(told: &mut Note, scene: &Scene<'_>) {
     let shown = match scene.late_name() {
         Some(name) => {
-            told.put("; the name stands at ");
+            told.put("; the name is at ");
             push_line_column(told, place_of(scene.text, name.at));
             name.at
         }
@@ -113,7 +113,7 @@ pub fn push_empty(note: &mut Note, dictionary: &NamedText<'_>) {
     let told = if is_empty {
         ": the dictionary is empty: it has no declaration and no definition\n"
     } else if is_cut {
-        ": what stands behind the first ; of the dictionary is a comment\n"
+        ": all that follows the first ; of the dictionary is a comment\n"
     } else {
         return;
     };

@@ -41,7 +41,7 @@ fn push_digits(note: &mut Note, input: &NamedText<'_>, line: &[u8], in_lines: bo
             Ok(true) => push_whole(
                 note,
                 input,
-                "the first line ends in the middle of its message, and with --lines each message stands on one line",
+                "the first line ends in the middle of its message, and with --lines each message is on one line",
                 "without --lines a message may have several lines, as `xxd -p` writes it; --stream takes many such messages",
             ),
             Ok(false) => {}

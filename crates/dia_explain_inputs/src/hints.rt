@@ -29,15 +29,15 @@ static HINTS: &str = "\
     dictionary: dictionary 1: .. => this isn't a dictionary, but what render wrote where it refused one: run it again, and \
      read what it says\n\
     dictionary: a table => this looks like a table of pairs: the order of the words is A B TABLE\n\
-    dictionary: a message => this looks like a message in hexadecimal: the dictionary stands before the message\n\
-    message: a dictionary => this looks like a dictionary: the dictionary stands before the message\n\
-    message: @base.. => a message stands here, and @base names a dictionary\n\
+    dictionary: a message => this looks like a message in hexadecimal: the dictionary comes before the message\n\
+    message: a dictionary => this looks like a dictionary: the dictionary comes before the message\n\
+    message: @base.. => a message is wanted here, and @base names a dictionary\n\
     message: a table => this looks like a table of pairs, and a message is wanted here\n\
-    message: header flags .. => this is what `show` wrote, and it isn't read back: keep the digits of the message\n\
+    message: header flags .. => this is what `show` wrote, and it isn't read back: save the digits of the message\n\
     message: <.. or {\".. or [.. => this looks like XML or JSON: docs/CAPTURES.md says how to take the messages out of a \
      capture\n\
     message: base64 => this looks like base64: `base64 -d FILE | xxd -p` writes the digits\n\
-    # what stands for a digit of a message\n\
+    # what occurs in place of a digit of a message\n\
     digit: x.. or X.. or \\.. => write the digits without 0x or \\x\n\
     digit: ;.. or #.. => the text of a message has no comments\n\
     digit: :.. or ,.. or -.. or {.. or [.. or \".. or '.. => write the digits with nothing but white space between them\n\
@@ -50,17 +50,17 @@ static HINTS: &str = "\
     pair: \u{feff}.. => the text begins with a byte order mark: save it as UTF-8 without one\n\
     pair: propose: or dictionary => this isn't a table, but what propose wrote where it was refused: run it again, and read \
      what it says\n\
-    pair: @base => a table stands here, and @base names a dictionary\n\
+    pair: @base => a table is wanted here, and @base names a dictionary\n\
     pair: command or avp => command and avp are written in small letters\n\
     pair: commands or avps => a line has one pair: command A = B, or avp A = B\n\
     pair: %avp or <.. => this looks like a dictionary: the order of the words is A B TABLE\n\
-    pair: %.. => command and avp stand without %\n\
-    pair: ..,.. => spaces stand between the words, and no commas: a line is command A = B\n\
+    pair: %.. => write command and avp without %\n\
+    pair: ..,.. => write spaces between the words, and no commas: a line is command A = B\n\
     pair: a message => this looks like a message in hexadecimal, and a table is wanted here\n\
     name: ..=.. => write a space on each side of =, as in command A = B\n\
     name: .._.. => a name has letters, digits and dashes: write - for _\n\
     name: ..,.. => a line has one pair\n\
-    name: \".. or <.. => names stand without quotes and brackets\n\
+    name: \".. or <.. => write names without quotes and brackets\n\
     name: a number => a pair has the names of the two dictionaries, and no codes\n\
     name: anything or the end => a line is command A = B, or avp A = B\n\
     sign: the end => a line is command A = B, or avp A = B\n\
@@ -69,26 +69,26 @@ static HINTS: &str = "\
     # what goes before the hints on the token of a dictionary\n\
     MustNot: anything or the end => the rule mustnot is one word\n\
     Longer: anything or the end => a declaration begins with %avp and a space, as in %avp Session-Id 263 UTF8String must\n\
-    Exchanged: anything => the code stands before the format, as in %avp Session-Id 263 UTF8String must\n\
-    Commented: anything or the end => a ; begins a comment, up to the end of its line: commas stand in a header\n\
+    Exchanged: anything => the code comes before the format, as in %avp Session-Id 263 UTF8String must\n\
+    Commented: anything or the end => a ; begins a comment, up to the end of its line: a header has commas\n\
     HeadFlags HeadApp HeadError HeadVendor HeadClose: {.. or [.. or <.. => a header ends with >, as < Diameter Header: 272, \
      REQ >\n\
     HeadFlags HeadApp HeadError HeadVendor HeadClose: vendor => a group has the number of its vendor in the header, as < AVP \
      Header: 1400 10415 >\n\
-    HeadFlags HeadApp HeadError HeadVendor HeadClose: REQ => REQ stands behind the Command Code, before PXY and the \
+    HeadFlags HeadApp HeadError HeadVendor HeadClose: REQ => REQ follows the Command Code, before PXY and the \
      Application-ID\n\
     HeadFlags HeadApp HeadError HeadVendor HeadClose: ERR => the answers with an error of all commands have one definition: < \
      Diameter Header: code, ERR >\n\
-    # characters and runs that may stand in comments alone, wherever they stand\n\
+    # characters and runs for comments alone\n\
     Token: \u{a0}.. => this is a no-break space: write a space\n\
     Token: \u{ad}.. => this is a soft hyphen, which isn't always shown: take it out, or write -\n\
     Token: \u{200b}.. or \u{feff}.. => this is a character without width: take it out\n\
     Token: \u{2010}.. or \u{2011}.. or \u{2012}.. or \u{2013}.. or \u{2014}.. or \u{2015}.. or \u{2212}.. => this is a dash \
      that isn't ASCII: write -\n\
     Token: \u{2018}.. or \u{2019}.. or \u{201a}.. or \u{201b}.. or \u{201c}.. or \u{201d}.. or \u{201e}.. or \u{201f}.. or \
-     \".. or '.. => names stand without quotes\n\
+     \".. or '.. => write names without quotes\n\
     Token: \u{2026}.. => these dots are one character: write two dots, as 0..3\n\
-    Token: not ASCII => this character isn't ASCII, and such characters may stand in comments alone\n\
+    Token: not ASCII => this character isn't ASCII, and such characters are for comments alone\n\
     Token: _.. => a name has letters, digits and dashes: write - for _\n\
     Token: \x0c.. => this is a form feed, as at the end of a page of an RFC: take out the page breaks with their headers and \
      footers\n\
@@ -101,15 +101,15 @@ static HINTS: &str = "\
     Token: %AVP.. or %Avp.. => a declaration begins with %avp, in small letters\n\
     Token: % => the only word with % is %avp; `cat` makes one dictionary of several files\n\
     # declarations\n\
-    Name Code VendorOrFormat Vendor Format MRule: , => the words of a declaration stand without commas\n\
-    Name: a number => a declaration is %avp NAME CODE [vendor N] FORMAT RULE: the name stands before the code\n\
+    Name Code VendorOrFormat Vendor Format MRule: , => the words of a declaration have no commas between them\n\
+    Name: a number => a declaration is %avp NAME CODE [vendor N] FORMAT RULE: the name comes before the code\n\
     Name: AVP => AVP in a rule is the wildcard, and no AVP may have this name\n\
     Code CommandCode GroupCode: 0x.. or 0X.. => codes are decimal\n\
     Code: AVP or Code => the code is its number alone, as in %avp Session-Id 263 UTF8String must\n\
-    Code: vendor => the vendor stands behind the code, as %avp NAME CODE vendor 10415 FORMAT RULE\n\
-    Code: a name => a name has no spaces: join its words by a dash; the code stands behind it\n\
+    Code: vendor => the vendor follows the code, as %avp NAME CODE vendor 10415 FORMAT RULE\n\
+    Code: a name => a name has no spaces: join its words by a dash; the code follows it\n\
     Code: . => a name has letters, digits and dashes\n\
-    Vendor: a name => the vendor is told by its number, as vendor 10415 for 3GPP\n\
+    Vendor: a name => the vendor is given by its number, as vendor 10415 for 3GPP\n\
     VendorOrFormat Format: String or Text => did you mean UTF8String?\n\
     VendorOrFormat Format: Octets or Bytes or Binary => did you mean OctetString?\n\
     VendorOrFormat Format: DiamIdent => did you mean DiameterIdentity?\n\
@@ -121,19 +121,19 @@ static HINTS: &str = "\
     VendorOrFormat Format: Int64 => did you mean Integer64?\n\
     VendorOrFormat Format: Date => did you mean Time?\n\
     VendorOrFormat: a number => write vendor before the number of the vendor\n\
-    VendorOrFormat Vendor: ( => a vendor stands without brackets, as vendor 10415\n\
-    VendorOrFormat Vendor: : or = or / => a vendor is written behind the code, as vendor 10415\n\
+    VendorOrFormat Vendor: ( => write a vendor without brackets, as vendor 10415\n\
+    VendorOrFormat Vendor: : or = or / => a vendor is written after the code, as vendor 10415\n\
     VendorOrFormat: vendor => vendor is written in small letters\n\
-    VendorOrFormat: must or mustnot or any => the data format stands before the rule of the M flag\n\
+    VendorOrFormat: must or mustnot or any => the data format comes before the rule of the M flag\n\
     MRule: must or mustnot or any => the rules of the M flag are written in small letters: must, mustnot, any\n\
     MRule: may or should => where an RFC says that M may or should be set, the rule is any\n\
-    MRule: ( => a list of values stands behind the rule of an Enumerated AVP, as Enumerated any ( 0 1 )\n\
+    MRule: ( => a list of values follows the rule of an Enumerated AVP, as Enumerated any ( 0 1 )\n\
     MRule: a name => where an RFC's table has M under MUST, the rule is must; where it has it under MUST NOT, mustnot; else \
      any\n\
     Name Code VendorOrFormat Vendor Format MRule: anything or the end => a declaration is %avp NAME CODE [vendor N] FORMAT \
      RULE, as %avp Session-Id 263 UTF8String must\n\
-    Values: a number or { or [ or : => a list of values stands in round brackets, as Enumerated any ( 0 1 4..7 )\n\
-    Value: , => the values of a list stand without commas, as in ( 0 1 4..7 )\n\
+    Values: a number or { or [ or : => a list of values has round brackets, as Enumerated any ( 0 1 4..7 )\n\
+    Value: , => the values of a list have no commas between them, as in ( 0 1 4..7 )\n\
     Value: ) => a list has one value at least: where there is none, leave out the brackets\n\
     Value High: a name or = or | or / => a list has the numbers of the values, without their names\n\
     High: a number => a range is LOW..HIGH\n\
@@ -141,13 +141,13 @@ static HINTS: &str = "\
      a value\n\
     Value High: ..-.. => a range of values is written with two dots, as 0..3\n\
     # definitions\n\
-    Item: ( => only an Enumerated AVP has a list of values, and it stands behind the rule of the M flag\n\
+    Item: ( => only an Enumerated AVP has a list of values, and it follows the rule of the M flag\n\
     Item: AVP => an AVP is declared as %avp NAME CODE [vendor N] FORMAT RULE, and a table of an RFC isn't read\n\
-    Item: , => declarations and definitions stand without commas between them: take it out\n\
+    Item: , => declarations and definitions have no commas between them: take it out\n\
     Item: a number => this looks like the number of a line or of a section: take such numbers out, and put ; before prose\n\
     Assign: :=.. or ::.. or : =.. => the sign of a definition is ::=\n\
     Assign: after avp => a declaration begins with %avp\n\
-    Beginning: anything => behind ::= stands a header: < Diameter Header: CODE, REQ > for a request, without REQ for an \
+    Beginning: anything => after ::= comes a header: < Diameter Header: CODE, REQ > for a request, without REQ for an \
      answer, or < AVP Header: CODE > for a group\n\
     CommandCode: a name => a command has its number in the header, as 272 for Credit-Control\n\
     GroupCode: a name => a group has the code of its AVP in the header, as 279 for Failed-AVP\n\
@@ -166,16 +166,16 @@ static HINTS: &str = "\
     HeadError: anything => the answers with an error of all commands have one definition: < Diameter Header: code, ERR >\n\
     HeadClose: a number or , => a command has one Application-ID, and a group one vendor: define the command once for each \
      application\n\
-    Late: anything or the end => a fixed rule < X > stands before all rules { X } and [ X ]\n\
-    Rule: ( => a rule has no round brackets, and its counts stand before it, as 1*3 { X }\n\
+    Late: anything or the end => a fixed rule < X > comes before all rules { X } and [ X ]\n\
+    Rule: ( => a rule has no round brackets, and its counts come before it, as 1*3 { X }\n\
     Rule: +.. => one or more of X is 1* { X }, and any number * [ X ]\n\
     Rule: ..-.. => the counts of a rule are LEAST*GREATEST, as 0*1 { X }\n\
     Star: anything => counts are LEAST*GREATEST: from 1 to 3 is 1*3, and just 2 is 2*2\n\
-    Counted: the end => the counts of a rule stand before it, as * [ X ] or 1*3 { X }\n\
+    Counted: the end => the counts of a rule come before it, as * [ X ] or 1*3 { X }\n\
     Counted: anything => a rule is [LEAST]*[GREATEST] and then < X >, { X } or [ X ], as 1*3 { X }\n\
     Fixed: AVP => AVP in a rule is the wildcard, and can't be fixed: write { AVP } or [ AVP ]\n\
     Close: a name => a name has no spaces: join its words by a dash\n\
-    # what goes behind the hints on the token of a dictionary\n\
+    # what follows the hints on the token of a dictionary\n\
     Assign Token: =.. => a definition is <NAME> ::= < Diameter Header: .. >, and its sign is ::=\n\
     Table: anything => this looks like prose or a table of an RFC: an AVP is declared as %avp NAME CODE [vendor N] FORMAT \
      RULE\n\

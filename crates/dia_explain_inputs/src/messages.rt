@@ -182,7 +182,7 @@ fn push_count(note: &mut Note, name: &str, count: usize) {
 /// Adds that a Message Length is none, and the first AVP that seems to have no padding, if there is one.
 fn push_odd_length(note: &mut Note, message: &NamedText<'_>, bytes: &[u8]) {
     let told = "the Message Length, bytes 1 to 3, is under 20 or no multiple of four";
-    let hint = "mend the sender: it counts the header, and the AVPs with their padding";
+    let hint = "fix the sender: it counts the header, and the AVPs with their padding";
     push_whole(note, message, told, hint);
     if let Some(Unpadded { at, code, length }) = find_unpadded(back(bytes, HEADER_LENGTH)) {
         note.put("hint: the AVP at ");
@@ -191,7 +191,7 @@ fn push_odd_length(note: &mut Note, message: &NamedText<'_>, bytes: &[u8]) {
         note.put_number(u64::from(code));
         note.put(", has the AVP Length ");
         note.put_number(length as u64);
-        note.put(", and what follows stands right behind it, without its padding\n");
+        note.put(", and the next bytes follow directly, without its padding\n");
     }
 }
 
@@ -221,7 +221,7 @@ fn push_more(note: &mut Note, message: &NamedText<'_>, count: usize, length: usi
         note.put_hint(if back(text, at).starts_with(b"01") {
             "a second message seems to begin here: give one message at a time; with --lines check, refute and show take one a line"
         } else {
-            "take out what stands behind the message, or mend its Message Length, bytes 1 to 3"
+            "take out what follows the message, or fix its Message Length, bytes 1 to 3"
         });
     }
 }

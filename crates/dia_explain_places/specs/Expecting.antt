@@ -29,8 +29,8 @@ expected_in_declaration declaration.NextValue = codes "the next value, below 2^3
 
 abbrev pub expected_in_definition : InDefinition → List (List ℕ)
 expected_in_definition definition.Name = codes "the name of a definition" ∷ []
-expected_in_definition definition.Close = codes "> behind the name" ∷ []
-expected_in_definition definition.Assign = codes "::= behind the name of a definition" ∷ []
+expected_in_definition definition.Close = codes "> after the name" ∷ []
+expected_in_definition definition.Assign = codes "::= after the name of a definition" ∷ []
 expected_in_definition definition.Head = codes "< Diameter Header: .. >" ∷ codes "< AVP Header: .. >" ∷ []
 
 -- behind the Command Code and some flags: REQ was read, PXY was, and a comma
@@ -45,10 +45,10 @@ flags_at false false true = codes "REQ" ∷ codes "PXY" ∷ codes "the Applicati
 abbrev pub expected_in_head : InHead → List (List ℕ)
 expected_in_head head.Word = codes "Diameter Header for a command" ∷ codes "AVP Header for a group" ∷ []
 expected_in_head (head.Header is_group) = codes "Header" ∷ []
-expected_in_head (head.Colon is_group) = codes ": behind Header" ∷ []
+expected_in_head (head.Colon is_group) = codes ": after Header" ∷ []
 expected_in_head head.CommandCode = codes "the Command Code, a number below 2^24" ∷ codes "code" ∷ []
 expected_in_head (head.Flags request pxy comma) = flags_at request pxy comma
-expected_in_head (head.ErrorWord comma) = codes "ERR behind code" ∷ []
+expected_in_head (head.ErrorWord comma) = codes "ERR after code" ∷ []
 expected_in_head (head.ErrorProxy false) = codes "PXY" ∷ codes "[, PXY]" ∷ codes ">" ∷ []
 expected_in_head (head.ErrorProxy true) = codes "PXY" ∷ []
 expected_in_head (head.ErrorEither comma) = codes "PXY" ∷ []
@@ -64,8 +64,8 @@ rule_or_end = codes "a rule, as { X }, [ X ] or *3 [ X ]" ∷ codes "the next de
 abbrev pub expected_in_rules : InRules → List (List ℕ)
 expected_in_rules (rules.Rule only_fixed) = rule_or_end
 expected_in_rules (rules.Angled true) = rule_or_end
-expected_in_rules (rules.Angled false) = codes "::=, since behind { X } and [ X ] a name in angle brackets begins a definition" ∷ []
-expected_in_rules (rules.Star only_fixed) = codes "* behind the least count, as in 1*3 { X }" ∷ []
+expected_in_rules (rules.Angled false) = codes "::=, since after { X } and [ X ] a name in angle brackets begins a definition" ∷ []
+expected_in_rules (rules.Star only_fixed) = codes "* after the least count, as in 1*3 { X }" ∷ []
 expected_in_rules (rules.Greatest true) = codes "a greatest count" ∷ codes "<" ∷ codes "{" ∷ codes "[" ∷ []
 expected_in_rules (rules.Greatest false) = codes "a greatest count" ∷ codes "{" ∷ codes "[" ∷ []
 expected_in_rules (rules.Bracket true) = codes "<" ∷ codes "{" ∷ codes "[" ∷ []
@@ -73,11 +73,11 @@ expected_in_rules (rules.Bracket false) = codes "{" ∷ codes "[" ∷ []
 expected_in_rules rules.FixedName = codes "the name of an AVP" ∷ []
 expected_in_rules (rules.AngledName true) = codes "the name of an AVP" ∷ []
 expected_in_rules (rules.AngledName false) = codes "the name of a definition" ∷ []
-expected_in_rules rules.FixedClose = codes "> behind the name" ∷ []
-expected_in_rules (rules.AngledClose only_fixed) = codes "> behind the name" ∷ []
+expected_in_rules rules.FixedClose = codes "> after the name" ∷ []
+expected_in_rules (rules.AngledClose only_fixed) = codes "> after the name" ∷ []
 expected_in_rules (rules.LooseName kind) = codes "the name of an AVP" ∷ codes "AVP for any other" ∷ []
-expected_in_rules (rules.LooseClose Optional) = codes "] behind the name" ∷ []
-expected_in_rules (rules.LooseClose kind) = codes "} behind the name" ∷ []
+expected_in_rules (rules.LooseClose Optional) = codes "] after the name" ∷ []
+expected_in_rules (rules.LooseClose kind) = codes "} after the name" ∷ []
 
 -- what can stand at a place
 abbrev pub expected : Wanted → List (List ℕ)

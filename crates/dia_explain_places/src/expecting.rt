@@ -50,8 +50,8 @@ fn expected_in_definition(place: InDefinition) -> &'static [&'static str]
 {
     match place {
         InDefinition::Name => &["the name of a definition"],
-        InDefinition::Close => &["> behind the name"],
-        InDefinition::Assign => &["::= behind the name of a definition"],
+        InDefinition::Close => &["> after the name"],
+        InDefinition::Assign => &["::= after the name of a definition"],
         InDefinition::Head => &["< Diameter Header: .. >", "< AVP Header: .. >"],
     }
 }
@@ -62,14 +62,14 @@ fn expected_in_head(place: InHead) -> &'static [&'static str]
     match place {
         InHead::Word => &["Diameter Header for a command", "AVP Header for a group"],
         InHead::Header { .. } => &["Header"],
-        InHead::Colon { .. } => &[": behind Header"],
+        InHead::Colon { .. } => &[": after Header"],
         InHead::CommandCode => &["the Command Code, a number below 2^24", "code"],
         InHead::Flags {
             request,
             pxy,
             comma,
         } => flags_at(request, pxy, comma),
-        InHead::ErrorWord { .. } => &["ERR behind code"],
+        InHead::ErrorWord { .. } => &["ERR after code"],
         InHead::ErrorProxy { comma: false } => &["PXY", "[, PXY]", ">"],
         InHead::ErrorProxy { comma: true } | InHead::ErrorEither { .. } => &["PXY"],
         InHead::EitherClose => &["]"],
@@ -105,20 +105,20 @@ fn expected_in_rules(place: InRules) -> &'static [&'static str]
             "the end of the text",
         ],
         InRules::Angled { only_fixed: false } => {
-            &["::=, since behind { X } and [ X ] a name in angle brackets begins a definition"]
+            &["::=, since after { X } and [ X ] a name in angle brackets begins a definition"]
         }
-        InRules::Star { .. } => &["* behind the least count, as in 1*3 { X }"],
+        InRules::Star { .. } => &["* after the least count, as in 1*3 { X }"],
         InRules::Greatest { only_fixed: true } => &["a greatest count", "<", "{", "["],
         InRules::Greatest { only_fixed: false } => &["a greatest count", "{", "["],
         InRules::Bracket { only_fixed: true } => &["<", "{", "["],
         InRules::Bracket { only_fixed: false } => &["{", "["],
         InRules::FixedName | InRules::AngledName { only_fixed: true } => &["the name of an AVP"],
         InRules::AngledName { only_fixed: false } => &["the name of a definition"],
-        InRules::FixedClose | InRules::AngledClose { .. } => &["> behind the name"],
+        InRules::FixedClose | InRules::AngledClose { .. } => &["> after the name"],
         InRules::LooseName { .. } => &["the name of an AVP", "AVP for any other"],
         InRules::LooseClose {
             kind: RuleKind::Optional,
-        } => &["] behind the name"],
-        InRules::LooseClose { .. } => &["} behind the name"],
+        } => &["] after the name"],
+        InRules::LooseClose { .. } => &["} after the name"],
     }
 }

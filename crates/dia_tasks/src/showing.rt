@@ -128,7 +128,7 @@ fn tell<R: Eprint>(rt: &R, name: &str, bad: BadValues) {
             let _ = eprint!(rt; "{name}: the text has more than {MAX_VALUES} bytes\n");
         }
         BadValues::NotText { at } => {
-            let _ = eprint!(rt; "{name}: byte {at} and those behind it are no UTF-8\n");
+            let _ = eprint!(rt; "{name}: byte {at} and those after it are no UTF-8\n");
         }
         BadValues::Syntax { line } => tell_line(rt, name, line, FORM),
         BadValues::Duplicate { line } => tell_line(rt, name, line, DUPLICATE),

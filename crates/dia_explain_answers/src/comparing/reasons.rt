@@ -28,7 +28,7 @@ pub fn lines_of(failing: Failing) -> &'static str {
              unsent: {name} has no rule for it",
         Failing::Counts { .. } => "sent: {name} sends {counts} of {counted}, by {rule}\n\
              taken: {name} accepts {counts} of {counted}, by {rule}\n\
-             hint: in {b} write {wide}; or have the sender keep to the counts of {b}, and say so in {a}",
+             hint: in {b} write {wide}; or have the sender respect the counts of {b}, and say so in {a}",
         Failing::Unlisted { .. } => "sent: {name} sends {counts} of {counted}, by {rule}\n\
              y: {name} has no rule for it, nor for AVP\n\
              hint: in {b} add [ {sent} ] or * [ AVP ]",
@@ -125,7 +125,7 @@ fn hint_of_fixed(pair: &Pair<'_>, first: Option<usize>, second: usize) -> &'stat
     match pair.first_rule() {
         Some(rule) if rule.kind == RuleKind::Fixed => {
             if first == Some(second) {
-                "hint: in {b} write {wide}; or have the sender keep to the counts of {b}, and say so in {a}"
+                "hint: in {b} write {wide}; or have the sender respect the counts of {b}, and say so in {a}"
             } else {
                 "hint: it is fixed rule number {own} in {a}, and number {place} in {b}: use one order"
             }

@@ -15,22 +15,22 @@ use dia_wire::{AVP_MANDATORY, next_avp};
 pub fn text_of_value(format: &Format, data: &[u8]) -> &'static str {
     match format {
         Format::Enumerated(_) => "{subject} has the value {value}, which isn't in its list\n\
-             add the number to the list of the declaration, or mend the sender",
+             add the number to the list of the declaration, or fix the sender",
         Format::Utf8String =>
             "{subject} has data that isn't UTF-8: from byte {bad} of the data on, {rest}\n\
-             mend the sender, or declare OctetString, which accepts any data",
+             fix the sender, or declare OctetString, which accepts any data",
         Format::DiameterIdentity if data.is_empty() =>
             "{subject} has no data, and a DiameterIdentity has at least one byte\n\
-             mend the sender, or declare OctetString, which accepts any data",
+             fix the sender, or declare OctetString, which accepts any data",
         Format::DiameterIdentity =>
             "{subject} has data that is no DiameterIdentity: byte {bad} of the data is {byte}, \
              and each has to be from 21 to 7e\n\
-             mend the sender, or declare OctetString, which accepts any data",
+             fix the sender, or declare OctetString, which accepts any data",
         Format::DiameterUri => "{subject} has data that is no DiameterURI: aaa:// or aaas://, \
-             and behind it characters of ASCII without spaces\n\
-             mend the sender, or declare OctetString, which accepts any data",
+             and after it characters of ASCII without spaces\n\
+             fix the sender, or declare OctetString, which accepts any data",
         _ => "{subject} has data that isn't of its format\n\
-             mend the sender, or declare OctetString, which accepts any data",
+             fix the sender, or declare OctetString, which accepts any data",
     }
 }
 

@@ -18,8 +18,8 @@ pub fn push_length_word(note: &mut Note, scene: &InBody<'_>, word: Word) {
         _ => match find_unpadded(scene.bytes().1) {
             Some(found) => push_unpadded(note, scene, &found),
             None => note.put(
-                "mend the sender; either this AVP's Length is wrong, \
-                 or the padding or the Length of the AVP in front of it, or that of the group",
+                "fix the sender; either this AVP's Length is wrong, \
+                 or the padding or the Length of the AVP before it, or that of the group",
             ),
         },
     }
@@ -36,5 +36,5 @@ fn push_unpadded(note: &mut Note, scene: &InBody<'_>, found: &Unpadded) {
     note.put_number(place as u64);
     note.put(" has the AVP Length ");
     note.put_number(length as u64);
-    note.put(", and what follows stands right behind it, without its padding: mend the sender");
+    note.put(", and the next bytes follow directly, without its padding: fix the sender");
 }

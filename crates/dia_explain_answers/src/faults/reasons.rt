@@ -47,9 +47,9 @@ pub fn text_of_header(
 ) -> &'static str {
     match (reason, class_of(header), command) {
         (Reason::Bits, Class::Request, _) => "a request has the E flag\n\
-             mend the sender: only an answer may have E, and only a request R",
+             fix the sender: only an answer may have E, and only a request R",
         (Reason::Bits, _, _) => "a message that is no request has the T flag\n\
-             mend the sender: only a request is sent again with T",
+             fix the sender: only a request is sent again with T",
         (Reason::Command, Class::Error, _) =>
             "the dictionary has no definition for answers with the E flag\n\
              add one with the header < Diameter Header: code, ERR >; it serves the errors of all commands",
@@ -62,9 +62,9 @@ pub fn text_of_header(
              add a definition for application {app}, or leave the Application-ID out of the header of one: \
              it then serves all",
         _ if header.is_proxiable() => "the P flag is set, and the header of {name} has no PXY\n\
-             add PXY to the header, or mend the sender",
+             add PXY to the header, or fix the sender",
         _ => "the P flag is clear, and the header of {name} has PXY\n\
-             take PXY out of the header, or mend the sender",
+             take PXY out of the header, or fix the sender",
     }
 }
 
@@ -91,7 +91,7 @@ fn text_of_length(scene: &InBody<'_>) -> &'static str {
     } else {
         "no AVP begins here: the AVP Length is {length}, and with {left} bytes left of {level} it may be at most {longest}, \
          since the padding to a multiple of four has to be there\n\
-         the last AVP of a group is padded as well, and the group's AVP Length counts that padding: mend the sender"
+         the last AVP of a group is padded as well, and the group's AVP Length counts that padding: fix the sender"
     }
 }
 
@@ -100,15 +100,15 @@ fn text_of_rule(scene: &InBody<'_>) -> &'static str {
     let Some(Counting { rule, .. }) = scene.counting else {
         return match scene.avp() {
             Some(_) =>
-                "{subject} may not stand in {level}: no rule names it, and there is no rule for AVP\n\
-                 add [ {subject} ] or * [ AVP ] to the rules of {level}, or mend the sender",
+                "{subject} isn't allowed in {level}: no rule names it, and there is no rule for AVP\n\
+                 add [ {subject} ] or * [ AVP ] to the rules of {level}, or fix the sender",
             None if same_code(scene).is_some() =>
-                "{subject} may not stand in {level}: no rule names it, and there is no rule for AVP\n\
+                "{subject} isn't allowed in {level}: no rule names it, and there is no rule for AVP\n\
                  the dictionary's AVP of this code has {vendor}: compare the V flag and the Vendor-ID; \
                  or add * [ AVP ] to the rules of {level}",
             None =>
-                "{subject} may not stand in {level}: no rule names it, and there is no rule for AVP\n\
-                 add * [ AVP ] to the rules of {level}, or mend the sender",
+                "{subject} isn't allowed in {level}: no rule names it, and there is no rule for AVP\n\
+                 add * [ AVP ] to the rules of {level}, or fix the sender",
         };
     };
     match scene.fault.reason {
@@ -117,26 +117,26 @@ fn text_of_rule(scene: &InBody<'_>) -> &'static str {
              have the sender add one, or, where it may be missing, write {optional}",
         Reason::Missing if other_vendor(scene).is_some() => match scene.own() {
             [] => "{subject} is missing at the end of {level}: {wanted} wanted, {found} found\n\
-                   an AVP of its code stands at {at}, with {sent}: compare the V flag and the Vendor-ID",
-            _ => "{subject} is missing in front of this AVP: {wanted} wanted, {found} found\n\
-                  an AVP of its code stands at {at}, with {sent}: compare the V flag and the Vendor-ID",
+                   an AVP of its code is at {at}, with {sent}: compare the V flag and the Vendor-ID",
+            _ => "{subject} is missing before this AVP: {wanted} wanted, {found} found\n\
+                  an AVP of its code is at {at}, with {sent}: compare the V flag and the Vendor-ID",
         },
         Reason::Missing if scene.own().is_empty() =>
             "{subject} is missing at the end of {level}: {wanted} wanted, {found} found\n\
              have the sender add {subject}, or, where it may be missing, write {optional}",
         Reason::Missing => match place_behind(scene) {
-            Some(_) => "{subject} is missing in front of this AVP: {wanted} wanted, {found} found\n\
-                 it stands at {behind}, and a fixed rule wants it at the front: mend the sender, or write {loose}",
-            None => "{subject} is missing in front of this AVP: {wanted} wanted, {found} found\n\
+            Some(_) => "{subject} is missing before this AVP: {wanted} wanted, {found} found\n\
+                 it is at {behind}, and a fixed rule wants it at the front: fix the sender, or write {loose}",
+            None => "{subject} is missing before this AVP: {wanted} wanted, {found} found\n\
                  a fixed rule wants its AVP at the front: have the sender put it here; \
-                 or, where it may stand elsewhere, write {loose}",
+                 or, if it may occur elsewhere, write {loose}",
         },
         Reason::TooMany if rule.key.is_none() =>
-            "{subject} is AVP number {count} in {level} that no rule names, and {most} may stand\n\
+            "{subject} is AVP number {count} in {level} that no rule names, and {most} may occur\n\
              have the sender send fewer, or write {unbounded} for any number",
-        Reason::TooMany => "this is {subject} number {count} in {level}, and {most} may stand\n\
+        Reason::TooMany => "this is {subject} number {count} in {level}, and {most} may occur\n\
              have the sender send fewer, or write {unbounded} for any number",
-        _ => "{subject} may stand only at the front of {level}, in the order of the fixed rules\n\
+        _ => "{subject} may occur only at the front of {level}, in the order of the fixed rules\n\
              have the sender put it at the front, or write {loose}",
     }
 }
@@ -146,9 +146,9 @@ fn text_of_avp(scene: &InBody<'_>) -> &'static str {
     match scene.fault.reason {
         Reason::Unknown => text_of_unknown(scene),
         Reason::MBit => "the M flag of {subject} is {flag}, and its rule is {m}\n\
-             write any as the rule in the declaration, or mend the sender",
+             write any as the rule in the declaration, or fix the sender",
         Reason::LeafLength => "{subject} has {bytes} bytes of data, and {format} has {lengths}\n\
-             mend the sender, or declare a format with such data{fits}",
+             fix the sender, or declare a format with such data{fits}",
         Reason::LeafValue => match scene.avp() {
             Some(avp) => text_of_value(avp.format, data_of(scene)),
             None => "",

@@ -118,9 +118,9 @@ fn push_last(note: &mut Note, scene: &Scene<'_>) {
         return;
     }
     let told = if scene.token.is_none() {
-        "hint: its last word stands at "
+        "hint: its last word is at "
     } else if scene.place == "Close" {
-        "hint: the name before it stands at "
+        "hint: the name before it is at "
     } else {
         return;
     };

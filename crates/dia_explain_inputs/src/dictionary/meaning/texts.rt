@@ -24,10 +24,10 @@ pub fn text_of(parts: &Parts<'_>, fault: &ToldFault<'_>) -> &'static str {
                  drop one, or rename it: a request and its answer have a name each, as CCR and CCA",
         },
         DictKind::NoGroupFormat => "$name$ is declared as Grouped, and there is no group <$name$>\n\
-             define it: <$name$> ::= < AVP Header: $header$ > and its rules, or * [ AVP ] where any AVP may stand in it",
+             define it: <$name$> ::= < AVP Header: $header$ > and its rules, or * [ AVP ] if it may hold any AVP",
         DictKind::HeaderMismatch => text_of_group(parts.decl(fault.other)),
         DictKind::DuplicateKey => "$name$ has $key$, as $first$ has\n\
-             correct the code or the vendor of one: an AVP of a vendor is declared with vendor N behind its code",
+             correct the code or the vendor of one: an AVP of a vendor is declared with vendor N after its code",
         DictKind::DuplicateCommand => text_of_head(parts.head(part)),
         DictKind::UndefinedName =>
             "$name$ ($place$) has a rule for $slot$, which is neither declared nor a group$more$\n\
@@ -60,7 +60,7 @@ fn text_of_group(declaration: Option<&Decl>) -> &'static str {
 fn text_of_head(head: Option<Head>) -> &'static str {
     match head {
         Some(Head::Command { request: false, .. }) => "$name$ is for $messages$, as is $first$\n\
-             if one is the request, write REQ behind its code; else give each its Application-ID, or drop one",
+             if one is the request, write REQ after its code; else give each its Application-ID, or drop one",
         Some(Head::Command { request: true, .. }) => "$name$ is for $messages$, as is $first$\n\
              if one is the answer, leave out REQ; else give each its Application-ID, or drop one",
         _ => "$name$ is for errors, as is $first$\n\
