@@ -1,4 +1,4 @@
--- What is told of a text that is refused: why, at which place, and what could stand there.
+-- What is reported of a text that is refused: why, at which place, and what would fit there.
 use Rattle.std.specs.Prelude.{◌≡◌, ℕ, zero, suc, ◌-◌, ◌≤◌, ◌<◌, ◌↔◌, List, [], ◌∷◌, ◌++◌, length, take, Option, None, slice_get, IsTrue, ⊤}
 use Rattle.std.specs.Option.{option_map}
 use Rattle.dia_ccf.specs.declared.fault.CcfFault.{CcfFault}
