@@ -114,7 +114,7 @@ may_open (AtMost m) n h = by (nat_lt n m) refl
     by true e = ltb-true n m e
     by false e = let le = ltb-false n m e in absurd (h (λ lt. omega (arith, lt, le)))
 
--- ---- where a key may stand
+-- ---- where a key may be
 
 may_be : (rules : List DRule) (k : Key) (fixed loose listed wild : Bool) → is_listed (fixed_rules rules) k ≡ fixed → is_listed (loose_rules rules) k ≡ loose → is_listed rules k ≡ listed
     → has_wildcard rules ≡ wild

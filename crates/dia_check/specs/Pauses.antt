@@ -1,4 +1,4 @@
--- A stream apart from its dictionary, and what it stands for.
+-- A stream apart from its dictionary, and what it means.
 use Rattle.std.specs.Prelude.{◌≡◌, ◌≢◌, ℕ, List, Option, Some, None, MatchOption, ⊤}
 use Rattle.dia_wire.specs.declared.Key.{Key}
 use Rattle.dia_data.specs.Plain.{Grouped}

@@ -22,9 +22,9 @@ use dia_policy::{Levels, Unknown};
 use dia_wire::Key;
 use std::alloc::Global;
 
-/// What a stream keeps, apart from its dictionary: it goes on where it stopped, with the same one.
+/// What a stream retains, apart from its dictionary: it goes on where it stopped, with the same one.
 ///
-/// It borrows nothing, so that a caller can keep it beside the dictionary that it belongs to.
+/// It borrows nothing, so that a caller can hold it next to the dictionary that it belongs to.
 #[derive(Drop)]
 pub struct Paused {
     alloc: Global,
