@@ -71,7 +71,7 @@ pub record BeginsLevel (d : Dictionary) (most : Levels) (bytes : List ℕ) (from
   pub within : level.start ≤ to
 
 module _ (d : Dictionary) (u : Unknown) (most : Levels) (bytes : List ℕ) (good : HasGoodHeader d bytes) where
-  -- the first bytes of the AVP at a place are retained, up to where the message was read; they may become a whole head, and are none
+  -- the first bytes of the AVP at a place are retained, up to where the message was read; they are no whole head yet
   pub record IsInHead (open_levels : OpenLevels) (part : HeadPart) (n : ℕ) : Type 0 where
     pub under_way : IsUnderWay d u most bytes good open_levels part.at
     pub kept : front_bytes part.front ≡ between bytes part.at n
