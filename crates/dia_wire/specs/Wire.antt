@@ -32,7 +32,7 @@ HasM flags = IsBitSet flags 6
 abbrev pub Agrees : PlainAvp → Type 0
 Agrees v = HasVendorFlag v.flags ↔ IsSome v.vendor
 
--- the bytes in front of the data
+-- the bytes before the data
 abbrev pub head_length : Option ℕ → ℕ
 head_length None = avp_head_length
 head_length (Some vendor) = vendor_avp_head_length
