@@ -31,7 +31,7 @@ pub enum Format {
     Utf8String,
     /// One or more graphic bytes of ASCII (our profile).
     DiameterIdentity,
-    /// `aaa://` or `aaas://` in either letter case, and one or more bytes behind it, all of them graphic ASCII (our
+    /// `aaa://` or `aaas://` in either letter case, and one or more bytes after it, all of them graphic ASCII (our
     /// profile).
     DiameterUri,
     /// A number of 4 bytes that is one of these.
