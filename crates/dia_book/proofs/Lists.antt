@@ -1,4 +1,4 @@
--- Lists: places, filters and what stands first.
+-- Lists: places, filters and first members.
 use Rattle.std.proofs.Common.{◌≡◌, ℕ, zero, suc, ◌<◌, ◌≤◌, Bool, true, false, List, [], ◌∷◌, length, map, Option, Some, None, refl, sym, ap, ◌∙◌, arith}
 use Rattle.std.specs.Prelude.{slice_get, position, not, ◌||◌, ◌&&◌}
 use Rattle.std.specs.List.{filter_map, cons_option, list_any, prefix_len, list_all}

@@ -1,4 +1,4 @@
--- What the rules of a definition say of each of its levels (RFC 6733 section 3.2). Rules are told by their places.
+-- What the rules of a definition say of each of its levels (RFC 6733 section 3.2). Rules are given by their places.
 use Rattle.std.specs.Prelude.{◌≡◌, ℕ, ◌<◌, ◌≤◌, List, length, filter, not, is_some, Some, slice_get, slice_index, position}
 use Rattle.dia_book.specs.declared.definition.DRule.{DRule}
 use Rattle.dia_book.specs.declared.shape.Shape.{Shape}

@@ -18,7 +18,7 @@ impl Model for Entry {
     ghost inverse = { λ n. record { index = n } };
 }
 
-/// A definition of a dictionary, by its place among the groups, in the order of their entries, and the commands behind them.
+/// A definition of a dictionary, by its place among the groups, in the order of their entries, and then the commands.
 #[derive(Clone, Copy, PartialEq, Eq)]
 pub struct DefId {
     index: u32,
