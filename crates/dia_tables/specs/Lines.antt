@@ -14,7 +14,7 @@ shown (lines.Avp a b) = Avp a.now b.now
 abbrev pub HasRoom : PlainTable → List ℕ × List ℕ → Type 0
 HasRoom t p = (length t.commands + length t.avps < most_pairs) × HasShortNames p
 
--- the line's pair, if it has one, is within the limits and stands behind those before
+-- the line's pair, if it has one, is within the limits and follows those before
 pub record Adds (line : List ℕ) (old new : PlainTable) : Type 0 where
   pub said : Line
   pub is_line : IsLine said line
