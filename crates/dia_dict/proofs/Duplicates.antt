@@ -1,4 +1,4 @@
--- Names, keys and selectors that stand twice.
+-- Names, keys and selectors that occur twice.
 use Rattle.std.proofs.Common.{◌≡◌, ℕ, Bool, true, List, [], ◌∷◌, ◌++◌, map, find, cond, Option, Some, refl, sym, ap, ◌∙◌, Bor}
 use Rattle.std.specs.Prelude.{not}
 use Rattle.std.specs.List.{list_all}

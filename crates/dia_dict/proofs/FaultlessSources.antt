@@ -49,7 +49,7 @@ placed_group_name g = (g.0, (g.1.name, group_key g.1.head))
 abbrev pub avp_names : PlainSource → List (List ℕ × Key)
 avp_names s = map (λ d. (d.name, key_of_decl d)) s.avps ++ map (λ g. (g.name, group_key g.head)) (bare_groups s)
 
--- what a source keeps by its types: names, which headers stand where, fixed rules first, and no fixed wildcard
+-- what holds of a source by its types: names, which headers are where, fixed rules first, and no fixed wildcard
 pub record IsFormed (s : PlainSource) : Type 0 where
   pub declared_names : (i : ℕ) (d : PlainDecl) → slice_get s.avps i ≡ Some d → IsTrue (is_name d.name)
   pub defined_names : (i : ℕ) (d : PlainDef) → slice_get (all_defs s) i ≡ Some d → IsTrue (is_name d.name)

@@ -37,7 +37,7 @@ use Rattle.dia_dict.proofs.SoundRules.{grouped_format, fixed_kind, fixed_rest, b
 use Rattle.dia_dict.proofs.SoundRules.{decl_name, bare_name}
 
 module _ (s : PlainSource) (formed : IsFormed s) (clean : IsClean s) where
-  -- names of AVPs stand for the keys of entries
+  -- names of AVPs mean the keys of entries
   named_key : (text : List ℕ) (key : Key) → key_of_name s text ≡ Some key → (k : ℕ) × (slice_get (avp_names s) k ≡ Some (text, key))
   named_key text key e = by (find (names_decl text) s.avps) refl e
     where

@@ -58,7 +58,7 @@ is_bare s g = not (list_any (names_decl g.name) s.avps)
 abbrev pub bare_groups : PlainSource → List PlainDef
 bare_groups s = filter (is_bare s) s.groups
 
--- the key that a name stands for
+-- the key that a name means
 abbrev pub key_of_name : PlainSource → List ℕ → Option Key
 key_of_name s text = option_or (option_map key_of_decl (find (names_decl text) s.avps)) (option_map (λ g. group_key g.head) (find (names_def text) s.groups))
 
@@ -111,9 +111,9 @@ resolved s = record {
   commands = map (definition_of s) s.commands;
 }
 
--- ---- what is wrong, and where. Each kind has the list of its faults, of declarations, groups and commands, each in the order of the text; the first fault of the first kind is told
+-- ---- what is wrong, and where: by kind, faults of declarations, groups and commands, each in text order. The first is reported
 
--- what is told of a fault
+-- what is reported of a fault
 pub record Wrong : Type 0 where
   pub kind : DictKind
   pub name : List ℕ
@@ -310,7 +310,7 @@ abbrev pub wrong_rules : PlainSource → List PlainFinding
 wrong_rules s = bad_rules kind.UndefinedName s (placed_defs s) ++ repeated_slots (placed_defs s) ++ bad_rules kind.MinOverMax s (placed_defs s)
     ++ bad_rules kind.RequiredMin s (placed_defs s) ++ bad_rules kind.OptionalMin s (placed_defs s)
 
--- all that is wrong, in the order in which it is told. A part with the name of an earlier one is told for its name, and compared with no other part
+-- all that is wrong, in the order of reports. A part with an earlier one's name is reported for its name, and not compared further
 abbrev pub all_findings : PlainSource → List PlainFinding
 all_findings s = wrong_limits s ++ wrong_names s ++ wrong_entries s ++ wrong_rules s
 
@@ -320,7 +320,7 @@ all_wrong s = map (λ f. f.wrong) (all_findings s)
 abbrev pub first_wrong : PlainSource → Option Wrong
 first_wrong s = slice_get (all_wrong s) 0
 
--- the fault that is told is the first
+-- the fault that is reported is the first
 abbrev pub IsToldOf : PlainSource → DictFault → Type 0
 IsToldOf s (fault.Stands kind name slot) = first_wrong s ≡ Some (wrong kind (string_bytes name) (string_bytes slot))
 IsToldOf s fault.NoMemory = ⊤

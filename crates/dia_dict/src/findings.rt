@@ -48,7 +48,7 @@ impl Part {
     }
 }
 
-/// What is told of a fault: the names are those of `DictFault`, and parts of the source.
+/// What is reported of a fault: the names are those of `DictFault`, and parts of the source.
 #[derive(Debug, Clone, Copy)]
 pub struct Told<'a> {
     pub kind: DictKind,

@@ -1,4 +1,4 @@
-//! All that is wrong with a source, in the order in which it is told.
+//! All that is wrong with a source, in the order in which it is reported.
 ghost use Rattle.std.specs.Prelude.{◌≡◌, ◌++◌, ◌∷◌, [], OnOk, IfOk, map};
 ghost use Rattle.std.specs.Prelude.{if◌then◌else◌};
 ghost use Rattle.dia_ccf.specs.Plain.{plain_source};
@@ -37,7 +37,7 @@ fn push_finding<'a>(findings: &mut Vec<Finding<'a>>, finding: Finding<'a>) -> Re
     Ok(())
 }
 
-/// Adds a finding where it stands.
+/// Adds a finding where it applies.
 fn push_if<'a>(
     findings: &mut Vec<Finding<'a>>,
     stands: bool,
