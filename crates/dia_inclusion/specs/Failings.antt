@@ -74,7 +74,7 @@ fails_own_key s a wildcard p key =
 abbrev pub fails_own : Sides → List DRule → Option Placed → Placed → Option Failing
 fails_own s a wildcard p = option_and_then (fails_own_key s a wildcard p) p.1.key
 
--- N7, where the second's wildcard stands at the place and has this greatest count
+-- N7, where the second's wildcard is at the place and has this greatest count
 abbrev pub fails_most : List DRule → List DRule → ℕ → Option ℕ → List Failing
 fails_most a b place None = []
 fails_most a b place (Some max) = among (λ p. unless (listed_rule b p.1) (failing.CountsAsOther p.0 place)) a
@@ -121,7 +121,7 @@ is_tenth t = false
 abbrev pub name_failings : Test → Bool → Bool → List Failing
 name_failings t first second = if is_tenth t then option_to_list (unless first failing.FirstName) ++ option_to_list (unless second failing.SecondName) else []
 
--- that no definition of B serves all messages of a command of A, and the definitions that may be selected for them and don't stand beside it in the table
+-- that no definition of B serves all messages of a command of A, and which may be selected for them, but are in no pair with it
 abbrev pub selection_failings : Compared → PlainDefinition → List Failing
 selection_failings c x =
     option_to_list (unless (list_any (λ d. serves x.head d.head) c.sides.second.commands) failing.Unserved)

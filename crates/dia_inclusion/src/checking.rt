@@ -53,7 +53,7 @@ pub struct Verdict {
 
 /// Whether every pair of the table passes every test, or else which pair is the first that doesn't. Where each does, each message
 /// that is valid under the first dictionary, of a command that the table lists, is valid under the second, as a message of a
-/// command beside it.
+/// command paired with it.
 pub fn check_table<A: Book, B: Book>(
     alloc: Global,
     a: &A,

@@ -34,10 +34,10 @@ pub enum ProposeFault {
 
 /// The least table for the named commands of the first dictionary, as `compare` asks for it under this policy.
 ///
-/// Each named command stands in it at its first mention, with the definitions of the second dictionary that may be
+/// Each named command is in it at its first mention, with the definitions of the second dictionary that may be
 /// selected for its messages, in that dictionary's order, or with its own name where there is none. An AVP
 /// has a pair where both dictionaries know it, and a named command, or a group that has a pair, lets it in and asks for the
-/// pair. These stand in the first dictionary's order. So where no table that lists the commands passes, neither does this
+/// pair. These are in the first dictionary's order. So where no table that lists the commands passes, neither does this
 /// one.
 ///
 /// It takes time in proportion to the names, to both dictionaries and to the definitions that it comes to, up to a
@@ -77,7 +77,7 @@ pub fn propose<A: Book, B: Book>(
     Ok(Table { commands, avps })
 }
 
-/// The commands of these names, with what stands beside them and the AVPs that they let in.
+/// The commands of these names, with what is paired with them and the AVPs that they let in.
 fn named_commands<A: Book, B: Book>(
     alloc: Global,
     sides: &Sides<'_, A, B>,

@@ -7,7 +7,7 @@ use dia_book::Key;
 #[derive(Clone, Copy)]
 pub enum Failing {
     /// N1: at the place of a fixed rule of the second, the first has no fixed rule of the same AVP with counts within. `first` is
-    /// its rule of that AVP, wherever it stands.
+    /// its rule of that AVP, wherever it is.
     Fixed { first: Option<usize>, second: usize },
     /// N2: the counts of two rules of one AVP: those of the first don't lie within those of the second.
     Counts { first: usize, second: usize },

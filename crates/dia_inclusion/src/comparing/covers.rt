@@ -1,4 +1,4 @@
-//! Keys of pairs, and what may stand without a pair.
+//! Keys of pairs, and what needs no pair.
 ghost use Rattle.std.specs.Prelude.{◌≡◌, ◌<◌, ◌||◌, not, IfOk, IfSome, OnOk, map, filter, length, slice_get, false};
 ghost use Rattle.std.specs.List.{list_all, list_any};
 ghost use Rattle.std.specs.Option.{option_map_or};
@@ -188,7 +188,7 @@ fn pair_key<A: Book, B: Book>(
     }
 }
 
-/// Whether each AVP of this key that is valid in the first is one of the unknown ones that are kept in the second.
+/// Whether each AVP of this key that is valid in the first is one of the unknown ones that are accepted in the second.
 fn is_alone<A: Book, B: Book>(sides: &Sides<'_, A, B>, key: Key) -> bool
     ensures { result ≡ is_alone sides.now key }
 {

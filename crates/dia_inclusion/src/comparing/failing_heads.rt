@@ -93,7 +93,7 @@ pub(super) fn declaration_failings<A: Book, B: Book>(
     Ok(all)
 }
 
-/// Where two commands can't stand for each other.
+/// Where two commands can't correspond to each other.
 pub(super) fn head_failings<A: Book, B: Book>(
     alloc: Global,
     cover: &Cover<'_, A, B>,
@@ -142,7 +142,7 @@ fn is_served<B: Book>(book: &B, head: &DefHead) -> bool
     false
 }
 
-/// The commands of the second that may be selected for messages of a command and don't stand beside it in the table.
+/// The commands of the second that may be selected for messages of a command and aren't paired with it in the table.
 fn commands_apart<A: Book, B: Book>(
     alloc: Global,
     cover: &Cover<'_, A, B>,
