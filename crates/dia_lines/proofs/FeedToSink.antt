@@ -137,7 +137,7 @@ module _ {V W : Type 0} (P : Input → V → Type 0) (told : ℕ → V → List 
           counted = omega arith;
         }
 
-    -- the sink failed behind it
+    -- the sink failed after it
     pub sink_failed : AppendsFront p p' (string_bytes now.text) → FrontAnswered P (told_lines told) fed f' put p'
     sink_failed is_put =
         let u = reads.reads a.read a.verdicts a.under_way in record {
@@ -170,7 +170,7 @@ module _ {V W : Type 0} (P : Input → V → Type 0) (told : ℕ → V → List 
       seen = Sees-both saw w x y a.verdicts more a.seen ends.seen;
     }
 
-    -- the sink failed behind it
+    -- the sink failed after it
     pub sink_failed_at_end : IsAtEnd f' → AppendsFront p p' (string_bytes now.text) → FrontAnswered P (told_lines told) fed f' put p'
     sink_failed_at_end at_end is_put = record {
       front = a.read;

@@ -9,7 +9,7 @@ use Rattle.dia_lines.specs.Lines.{AreAnswered, IsAnswered}
 abbrev pub most_pieces : ℕ
 most_pieces = 18446744073709551615
 
--- what watches saw these verdicts behind those before
+-- what watches saw these verdicts after those before
 abbrev pub Sees : {W V : Type 0} → (W → List V → Type 0) → (old now : W) → List V → Type 0
 Sees {W} {V} saw old now verdicts = (before : List V) → saw old before → saw now (before ++ verdicts)
 

@@ -16,7 +16,7 @@ pub trait Judge {
     ghost told: { Self → ℕ → Self.Verdict → List ℕ };
 
     /// The verdict on the line of this number. Its text is added to another. What the space holds means nothing: it is memory that
-    /// is kept from line to line.
+    /// is used again for the next line.
     fn judge(
         &self,
         alloc: Global,
