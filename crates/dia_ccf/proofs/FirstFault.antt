@@ -89,7 +89,7 @@ stopped : (ts : List Token) (start : State) (k : Refusal) (rest : List Token) �
 stopped [] start k rest h e = stopped_end start (whole start) k rest refl h e
 stopped (t ∷ ts) start k rest h e = stopped_step start t ts k rest (next start t) refl h e (λ q sound_q f. stopped ts q k rest sound_q f)
 
--- ---- what some number or name would do
+-- ---- what some number or name would fit
 
 read_next : (q : State) (t : Token) (us : List Token) (s : PlainSource) → outcome q (t ∷ us) ≡ Reads s → is_some (next q t) ≡ true
 read_next q t us s h = by_next (next q t) h
@@ -160,7 +160,7 @@ begun : (front : List Token) (q : State) (t : Token) → ((more : List Token) �
 begun front q t goes (rest, s, derived) =
     read_next q t rest s (sym (goes (t ∷ rest)) ∙ ap (outcome (nothing_read, Between)) (sym (append_assoc front (t ∷ []) rest)) ∙ complete ((front ++ t ∷ []) ++ rest) s derived)
 
--- a token that is taken can be gone on with
+-- a token that is taken can be followed by more
 fitting : (front : List Token) (q : State) (t : Token) (o : Option State) → ((more : List Token) → outcome (nothing_read, Between) (front ++ more) ≡ outcome q more)
     → is_sound q.1 ≡ true → next q t ≡ o → is_some o ≡ true → CanBegin (front ++ t ∷ [])
 fitting front q t None goes h e s = absurd cc

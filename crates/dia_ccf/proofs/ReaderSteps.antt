@@ -28,7 +28,7 @@ pub passes_one : (p q : State) (t : Token) (old new : Reader) → Passes old (t 
 passes_one p q t old new (ahead, same, taken) h =
     course_at old.text.now new.text.now (outcome p (left old)) (outcome q (left new)) same (ap (outcome p) ahead ∙ take_one p t q (left new) h)
 
--- nothing was passed, and two states do the same with what is ahead
+-- nothing was passed, and two states treat what is ahead alike
 pub stays : (p q : State) (old new : Reader) → new ≡ old → outcome p (left old) ≡ outcome q (left old) → course p old ≡ course q new
 stays p q old new same h = subst (λ (r : Reader). course p old ≡ course q r) (sym same) (ap (λ (o : Outcome). (old.text.now, o)) h)
 

@@ -1,5 +1,5 @@
 -- The grammar as a machine over tokens: what has been read, and what may come next. The private functions of
--- the reader speak of it; what it has to do with the grammar is proved in proofs/.
+-- the reader are specified by it; that it reads the grammar is proved in proofs/.
 use Rattle.std.specs.Prelude.{ℕ, nat_le, nat_lt, Bool, true, false, not, ◌&&◌, ◌||◌, cond, List, [], ◌∷◌, ◌++◌, length, map, Option, Some, None, is_some, codes}
 use Rattle.std.specs.List.{find, list_all}
 use Rattle.std.specs.Option.{option_map}

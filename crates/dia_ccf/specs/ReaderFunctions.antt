@@ -54,7 +54,7 @@ abbrev pub why_ahead : Bool → Bool → List Token → Refusal
 why_ahead numbers names [] = refusal.Syntax
 why_ahead numbers names (token ∷ tokens) = why numbers names token
 
--- what is read of the one token ahead, where `numbers` and `names` are whether some number or name would do
+-- what is read of the one token ahead, `numbers` and `names` are whether some number or name would fit
 abbrev pub AcceptsUnless : Bool → Bool → {Y : Type 0} → (Token → Option Y) → Reader → Refusal → Reader → Type 0
 AcceptsUnless numbers names read old refusal.NoMemory new = Unit {0}
 AcceptsUnless numbers names read old error new = (new ≡ old) × (begins_with (λ token. is_some (read token)) (left old) ≡ false) × (error ≡ why_ahead numbers names (left old))
@@ -80,7 +80,7 @@ abbrev pub Leads : {X : Type 0} → Course → (X → State) → Result X Refusa
 Leads from to (Ok x) new = from ≡ course (to x) new
 Leads from to (Err error) new = StopsAt from error new
 
--- what the machine does with the token ahead, and whether some number or name would do in its place
+-- what the machine does with the token ahead, and whether some number or name would fit in its place
 abbrev pub Wants : Bool → Bool → (Token → Option State) → State → List Token → Type 0
 Wants numbers names to state [] = whole state ≡ None
 Wants numbers names to state (token ∷ tokens) = (next state token ≡ to token) × (refused state token ≡ why numbers names token)
@@ -91,7 +91,7 @@ pub record Reads_by {Y : Type 0} (numbers names : Bool) (read : Token → Option
   pub refused_is : (token : Token) → refused state token ≡ why numbers names token
   pub unfinished : whole state ≡ None
 
--- the place after a definition and the head of the next one, if it was read
+-- the place after a definition and the name of the next one, if it was read
 abbrev pub behind : Option Opening → Place
 behind None = Between
 behind (Some opening) = Def_assign (string_bytes opening.name)
@@ -165,7 +165,7 @@ in_brackets pxy = λ ts. ⊥
 abbrev pub From : ℕ → Tokens → Reader → Type 0
 From at class reader = (k : ℕ) × Spans reader.text.now k class reader.taken × (place_of reader.text.now k ≡ at)
 
--- what follows some rules was passed: a rule, or the head of the next definition
+-- what follows some rules was passed: a rule, or the name of the next definition
 abbrev pub Passed_behind : Behind → Reader → Reader → Type 0
 Passed_behind (behinds.Rule rule) old new = Derived (rule_tokens (plain_rule rule)) old new
 Passed_behind (behinds.Definition opening) old new = Derived (opened (string_bytes opening.name)) old new

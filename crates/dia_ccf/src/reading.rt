@@ -318,7 +318,6 @@ fn line_of(text: &str, at: usize) -> u32
     line
 }
 
-/// Adds a declaration.
 fn keep_declaration(source: &mut Source, decl: Decl) -> Result<(), Refusal>
     ensures kept { OnOk result
         (plain_source source.new ≡ add_decl (plain_source source.old) (plain_decl decl)) }

@@ -8,7 +8,7 @@ use crate::lexer::{Sign, Token};
 use crate::source::{Def, Qual, Rule};
 use dia_terms::RuleKind;
 
-/// The head of a definition so far: its place and its name.
+/// The opening of a definition: its place and its name.
 #[derive(Drop)]
 pub(super) struct Opening {
     pub(super) at: usize,
