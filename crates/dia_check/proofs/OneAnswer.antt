@@ -293,7 +293,7 @@ module _ (d : Dictionary) (sound : IsDictionary d) (u : Unknown) (most : Levels)
   one_of_bytes a b (inr x) (inl y) = absurd (omega (arith, x.0, y.0))
   one_of_bytes a b (inr x) (inr y) = one_version a b x.1 y.1
 
--- bytes have one answer, but for want of memory
+-- bytes have one answer, unless memory was refused
 pub one_answer : (d : Dictionary) (u : Unknown) (most : Levels) (bytes : List ℕ) (a b : Result Selected Refusal) → IsDictionary d → IsAnswer d u most bytes a → IsAnswer d u most bytes b
     → a ≢ Err refusal.NoMemory → b ≢ Err refusal.NoMemory → a ≡ b
 one_answer d u most bytes a b sound x y no_memory no_memory' =

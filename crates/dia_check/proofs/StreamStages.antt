@@ -58,7 +58,7 @@ has_taken d u most taken all (InBody body) live h = h
 has_taken d u most taken all (Over answer) live h = h
 has_taken d u most taken all NoMemory live h = absurd (live tt)
 
--- a fact of one dictionary and policy is one of the same ones
+-- a fact about one dictionary and policy holds of equal ones
 pub moved : (P : Dictionary → Unknown → Levels → Type 0) (d e : Dictionary) (u v : Unknown) (m n : Levels) → d ≡ e → u ≡ v → m ≡ n → P d u m → P e v n
 moved P d e u v m n is_d is_u is_m h = subst (λ (x : Dictionary). P x v n) is_d (subst (λ (x : Unknown). P d x n) is_u (subst (λ (x : Levels). P d u x) is_m h))
 

@@ -113,7 +113,7 @@ module _ (d : Dictionary) (u : Unknown) (most : Levels) (bytes : List ℕ) (good
   abbrev pub IsNext : OpenLevels → Option Part → ℕ → Type 0
   IsNext open_levels next n = MatchOption next (Walks d u most (whole good.command.rules bytes) None × (n ≡ length bytes)) (λ part. IsInPart open_levels part n)
 
-  -- the body has a fault, or memory was refused where something is so
+  -- the body has a fault, or memory was refused where this type holds
   abbrev pub IsStop : Type 0 → Refusal → Type 0
   IsStop Memory (refusal.Fault f) = (h : Found) × Walks d u most (whole good.command.rules bytes) (Some h) × (f ≡ fault_of h)
   IsStop Memory refusal.NoMemory = Memory

@@ -104,7 +104,7 @@ HasRead d u most bytes (InBody body) = (20 ≤ length bytes) × IsTrue (is_sound
 HasRead d u most bytes (Over answer) = (20 ≤ length bytes) × IsWholeAnswer (length bytes) (wanted bytes) answer × HoweverItEnds bytes (λ all. IsAnswer d u most all answer)
 HasRead d u most bytes NoMemory = ⊥
 
--- these bytes were read, or memory was refused where something is so
+-- these bytes were read, or memory was refused where this type holds
 abbrev pub HasReadUnless : Type 0 → Dictionary → Unknown → Levels → List ℕ → Stage → Type 0
 HasReadUnless Memory d u most bytes (Header front) = HasRead d u most bytes (Header front)
 HasReadUnless Memory d u most bytes (InBody body) = HasRead d u most bytes (InBody body)

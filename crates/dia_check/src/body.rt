@@ -47,7 +47,7 @@ pub(crate) fn read_piece<B: Book>(
 /// members of a group before what follows it. `None` where the body ends with the piece, and else the place at which the
 /// AVP begins that goes on after the piece, or where the piece ends.
 ///
-/// The levels that are open wait in a list, so the depth of a message costs memory and no stack.
+/// Levels that are open wait in a list, so the depth of a message costs memory and no stack.
 #[inline(never)]
 pub(crate) fn read_avps<B: Book>(
     basis: &Basis<'_, B>,

@@ -42,7 +42,7 @@ pub enum Reason {
     LeafLength,
     /// 5004: the format does not accept the data.
     LeafValue,
-    /// 5012: a group in as many groups as may be opened.
+    /// 5012: a group in as many groups as may be nested.
     Depth,
 }
 

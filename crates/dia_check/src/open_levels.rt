@@ -26,7 +26,7 @@ use std::alloc::{AllocError, Global};
 /// How many rules of a body its tally records from the start: all that a definition may have.
 const LAID_OUT_OF_BODY: usize = 1024;
 
-/// How many rules of a group do. Groups in one another take 8 bytes for each.
+/// The same for a group. Nested groups take 8 bytes for each.
 const LAID_OUT_OF_GROUP: usize = 8;
 
 /// How many more rules the first list of tallies has room for than the body's, so that the groups of most messages take no
@@ -36,13 +36,12 @@ const ROOM_FOR_GROUPS: usize = 32;
 /// For how many levels memory is retained after a message: 40 KB at most.
 const MOST_LEVELS_KEPT: usize = 1024;
 
-/// How many rules in tallies are: 40 KB at most, enough for as many levels of groups of four rules.
+/// For how many rules of tallies it is: 40 KB at most, enough for as many levels of groups of four rules.
 const MOST_RULES_KEPT: usize = 5120;
 
 /// An open level.
 #[derive(Clone, Copy)]
 pub(crate) struct OpenLevel {
-    /// Its definition.
     pub(crate) def: DefId,
     /// The place after its last byte.
     pub(crate) end: usize,

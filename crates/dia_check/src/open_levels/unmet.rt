@@ -64,7 +64,7 @@ pub(super) fn first_unmet(
     }
 }
 
-/// So it is, out of the loop over AVPs, which seldom asks for it.
+/// The same, out of line: the loop over AVPs seldom asks for it.
 #[inline(never)]
 fn unmet_apart(
     rules: &[DRule],
