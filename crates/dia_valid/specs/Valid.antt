@@ -101,7 +101,7 @@ abbrev pub FitsBy : Dictionary → Unknown → (List DRule → List ℕ → Type
 FitsBy d u Inner v = MatchOption (known d (key_of v)) (IsAccepted u v.flags)
     (λ e. MHolds e.rule v.flags × MatchOption e.group (IsLeaf e.format v.bytes) (λ group. Inner group.rules v.bytes))
 
--- the AVP fits, with at most n levels of groups in one another (RFC 6733 section 4.4)
+-- the AVP fits, with at most n levels of nested groups (RFC 6733 section 4.4)
 abbrev pub Fits : Dictionary → Unknown → ℕ → PlainAvp → Type 0
 Fits d u zero v = FitsBy d u (λ rules bytes. ⊥) v
 Fits d u (suc n) v = FitsBy d u (IsLevel (Fits d u n)) v
