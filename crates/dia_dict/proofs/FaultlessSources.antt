@@ -134,7 +134,7 @@ module _ {X : Type 0} (items : List (Part × X)) (xs : List X) (are : map (λ (x
       ap (map (λ (x : Part × X). x.1)) (firsts-all (λ (a b : Part × X). same a.1 b.1) [] items
       (map-none (λ (p : (Part × X) × (Part × X)). finding (bad p.0.1) p.0.0 (Some p.1.0)) (repeats (λ a b. same a.1 b.1) [] items) none)) ∙ are
 
--- names that differ, apart from their parts
+-- names that differ, without their parts
 distinct_names : {X : Type 0} (name : X → List ℕ) (xs : List X) → repeats (λ a b. same_bytes (name a) (name b)) [] xs ≡ [] → repeats same_bytes [] (map name xs) ≡ []
 distinct_names name xs none = repeats-map name same_bytes [] xs ∙ ap (map (both name)) none
 
@@ -168,7 +168,7 @@ module _ (s : PlainSource) where
       ∙ sym (map-map name_and_group_key (λ (d : Part × PlainDef). d.1) (filter (λ g. is_bare s g.1) (first_defs (placed_groups s))))
       ∙ ap (map name_and_group_key) (sym (filter-map (λ (d : Part × PlainDef). d.1) (is_bare s) (first_defs (placed_groups s))) ∙ ap (filter (is_bare s)) groups)
 
-  -- the names with their keys, apart from their places
+  -- the names with their keys, without their places
   members_names : map (λ (d : Part × PlainDecl). d.1) (first_decls (placed_avps s)) ≡ s.avps → map (λ (d : Part × PlainDef). d.1) (first_defs (placed_groups s)) ≡ s.groups
       → map (λ (n : Part × (List ℕ × Key)). n.1) (placed_names s) ≡ avp_names s
   members_names avps groups =

@@ -147,7 +147,7 @@ module _ (s : PlainSource) (formed : IsFormed s) (clean : IsClean s) where
       let same : r.0 ≡ i = decls_apart r.0 i found.0 d r.1 at (sym (same_bytes-true d.name found.0.name r.2)) in
       found.1 ∙ sym r.1 ∙ ap (slice_get s.avps) same ∙ at
 
-  -- a declaration and the group of its name agree
+  -- a declaration and the group of its name have one key
   agreed : (i : ℕ) (d : PlainDecl) (g : PlainDef) → slice_get s.avps i ≡ Some d → find (names_def d.name) s.groups ≡ Some g → (agrees_with g d ≡ true) × (g.name ≡ d.name) × (is_group g.head ≡ true)
   agreed i d g at here =
       let r = at_find (names_def d.name) s.groups g here in

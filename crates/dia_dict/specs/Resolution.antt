@@ -122,7 +122,7 @@ pub record Wrong : Type 0 where
 abbrev pub wrong : DictKind → List ℕ → List ℕ → Wrong
 wrong kind name slot = record { kind = kind; name = name; slot = slot }
 
--- a fault, the part or the rule that has it, and the other one that it does not go with: the first of those that are alike, or a group's declaration
+-- a fault, the part or rule that has it, and what it conflicts with: the first of those that are alike, or a group's declaration
 pub record PlainFinding : Type 0 where
   pub wrong : Wrong
   pub part : Option Part
@@ -310,7 +310,7 @@ abbrev pub wrong_rules : PlainSource → List PlainFinding
 wrong_rules s = bad_rules kind.UndefinedName s (placed_defs s) ++ repeated_slots (placed_defs s) ++ bad_rules kind.MinOverMax s (placed_defs s)
     ++ bad_rules kind.RequiredMin s (placed_defs s) ++ bad_rules kind.OptionalMin s (placed_defs s)
 
--- all that is wrong, in the order of reports. A part with an earlier one's name is reported for its name, and not compared further
+-- all that is wrong, as it is reported. A part with an earlier one's name is reported for its name, and not compared further
 abbrev pub all_findings : PlainSource → List PlainFinding
 all_findings s = wrong_limits s ++ wrong_names s ++ wrong_entries s ++ wrong_rules s
 

@@ -28,7 +28,6 @@ pub(super) fn found<'a>(alloc: Global, names: &Names<'a>) -> Result<Vec<Finding<
     Ok(findings)
 }
 
-/// Adds a finding.
 fn push_finding<'a>(findings: &mut Vec<Finding<'a>>, finding: Finding<'a>) -> Result<(), AllocError>
     ensures { OnOk result (map plain_finding findings.new.items
         ≡ map plain_finding findings.old.items ++ plain_finding finding.entry ∷ []) }
