@@ -16,7 +16,6 @@ use byteorder::{BigEndian, ByteOrder};
 pub(crate) struct Opening {
     pub(crate) code: u32,
     pub(crate) flags: u8,
-    /// The AVP Length.
     pub(crate) length: u32,
     /// How many bytes precede the data.
     pub(crate) start: usize,
