@@ -68,7 +68,7 @@ AreApart-front rs r apart = (
       omega (arith, ap (λ (x : ℕ × ℕ). x.1) a, ap (λ (x : ℕ × ℕ). x.0) b, apart.1 i j d before (omega (arith, length-append rs (r ∷ []))))),
 )
 
--- the last of ranges that are apart, and those before it
+-- the last of ranges that neither overlap nor touch, and those before it
 AreApart-last : (rs : List (ℕ × ℕ)) (r : ℕ × ℕ) → AreApart (rs ++ r ∷ []) → r.0 ≤ r.1
 AreApart-last rs r apart = subst (λ (x : ℕ × ℕ). x.0 ≤ x.1) (get_or-append_seam rs r [] r) (apart.0 (length rs) r (omega (arith, length-append rs (r ∷ []))))
 

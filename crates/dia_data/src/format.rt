@@ -103,7 +103,6 @@ impl Format {
     ghost use Rattle.std.specs.Prelude.{◌≡◌, ◌≢◌, MatchOption};
     ghost use Rattle.dia_data.specs.Plain.{Enumerated, format_of, kind_of, name_of, plain_format, ranges_of, word_of};
 
-    /// Its name.
     pub fn name(&self) -> FormatName
         ensures { result ≡ name_of (plain_format self.now) }
     {
@@ -134,7 +133,6 @@ impl Format {
         self.name().word()
     }
 
-    /// Its kind.
     pub fn kind(&self) -> FormatKind
         ensures { result ≡ kind_of (plain_format self.now) }
     {

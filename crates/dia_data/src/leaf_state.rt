@@ -12,7 +12,6 @@ const FRONT_LENGTH: usize = 20;
 /// What is recorded of all bytes, for the formats whose front alone does not decide.
 #[derive(Clone, Copy)]
 enum Seen {
-    /// Nothing.
     Nothing,
     /// Whether all of them are graphic.
     Graphic(bool),
