@@ -11,7 +11,7 @@ pub record IsFirstWanted (rules : List DRule) (from place : ℕ) : Type 0 where
   pub none_before : (i : ℕ) (rule : DRule) → from ≤ i → i < place → slice_get rules i ≡ Some rule → rule.min ≡ 0
   pub wanted : (rule : DRule) → slice_get rules place ≡ Some rule → 1 ≤ rule.min
 
--- so for each place
+-- the same for each place
 pub record AreFirstWanted (rules : List DRule) (wanted : List ℕ) : Type 0 where
   pub many : length wanted ≡ length rules
   pub each : (from : ℕ) → from < length rules → IsFirstWanted rules from (slice_index wanted from)

@@ -45,7 +45,6 @@ impl Entry {
         }
     }
 
-    /// The place.
     pub fn index(self) -> usize
         ensures { result ≡ self }
     {
@@ -64,7 +63,6 @@ impl DefId {
         }
     }
 
-    /// The place.
     pub fn index(self) -> usize
         ensures { result ≡ self }
     {

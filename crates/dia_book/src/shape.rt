@@ -13,7 +13,7 @@ use std::alloc::{AllocError, Global};
 pub struct Shape {
     /// How many rules are fixed.
     pub fixed: usize,
-    /// The wildcard.
+    /// The wildcard's place.
     pub wildcard: Option<usize>,
     /// For each place the first rule from there on that has a least count, and the number of rules where none has.
     wanted: Vec<usize>,
