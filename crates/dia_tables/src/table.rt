@@ -15,7 +15,7 @@ use thiserror::Error;
 /// The most pairs of a table that is read (our profile).
 pub const MAX_PAIRS: usize = 65_536;
 
-/// Pairs of names, each of the first dictionary and of the second: what corresponds to what. Both lists are in order, and
+/// Pairs of names, each of the first dictionary and of the second, which correspond. Both lists are in order, and
 /// may have a pair more than once.
 #[derive(Drop, PartialEq, Eq)]
 pub struct Table {
