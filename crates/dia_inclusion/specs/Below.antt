@@ -25,7 +25,7 @@ Within a b = (b.min ≤ a.min) × MaxWithin a.max b.max
 abbrev pub IsAboveZero : Option ℕ → Type 0
 IsAboveZero max = IfSome max (λ n. 0 < n)
 
--- an unknown AVP of this key is accepted, and so may the dictionary's be
+-- an AVP of this key that fits in a has its M flag clear, and b accepts it as an unknown one
 abbrev pub IsCoveredAlone : Dictionary → Dictionary → Unknown → Key → Type 0
 IsCoveredAlone a b u key = (u ≡ Kept) × (known b key ≡ None) × (e : DictEntry) × (known a key ≡ Some e) × (e.rule ≡ MustNot)
 

@@ -40,7 +40,7 @@ pub enum ProposeFault {
 /// pair. These are in the first dictionary's order. So where no table that lists the commands passes, neither does this
 /// one.
 ///
-/// It takes time in proportion to the names, to both dictionaries and to the definitions that it comes to, up to a
+/// It takes time in proportion to the names, to both dictionaries and to the definitions that it reaches, up to a
 /// logarithm: a command of the first dictionary is compared only with those of its code in the second. `UnknownCommand` has
 /// the first name of which the first dictionary has no command. `NoMemory` comes only where memory was refused.
 pub fn propose<A: Book, B: Book>(
@@ -134,7 +134,7 @@ impl From<AllocError> for ProposeFault {
     }
 }
 
-/// The pairs of the AVPs that it has come to, by their names, in the first's order.
+/// The pairs of the AVPs that were reached, by their names, in the first's order.
 fn shared_pairs<A: Book, B: Book>(
     alloc: Global,
     sides: &Sides<'_, A, B>,
@@ -151,7 +151,7 @@ fn shared_pairs<A: Book, B: Book>(
     Ok(pairs)
 }
 
-/// Adds the pair of an AVP of the first, if it has come to it and the second knows it.
+/// Adds the pair of an AVP of the first, if it was reached and the second knows it.
 fn push_if_shared<A: Book, B: Book>(
     alloc: Global,
     sides: &Sides<'_, A, B>,

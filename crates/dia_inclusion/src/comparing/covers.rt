@@ -30,7 +30,7 @@ pub(super) struct Cover<'a, A: Book, B: Book> {
     table: &'a Table,
     /// The keys of the table's pairs of AVPs.
     paired: Box<IndexSet<Key>>,
-    /// The keys that the first dictionary knows and that are neither those of pairs nor need none.
+    /// The keys that the first dictionary knows and that are not covered.
     uncovered: Vec<Key>,
     /// Whether the AVPs that the second dictionary alone knows do no harm.
     harmless: bool,
@@ -108,7 +108,7 @@ impl<'a, A: Book, B: Book> Cover<'a, A, B> {
     }
 }
 
-/// The keys that the first knows and that are neither among those of pairs nor need none, in its order.
+/// The keys that the first knows and that are not covered, in its order.
 fn uncovered_keys<A: Book, B: Book>(
     alloc: Global,
     sides: &Sides<'_, A, B>,

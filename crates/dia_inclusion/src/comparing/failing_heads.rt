@@ -42,7 +42,6 @@ pub(super) fn push_unless(
     Ok(())
 }
 
-/// Adds what fails, if something does.
 pub(super) fn push_found(all: &mut Vec<Failing>, found: Option<Failing>) -> Result<(), AllocError>
     ensures { OnOk result (all.new.items ≡ all.old.items ++ option_to_list found) }
 {
