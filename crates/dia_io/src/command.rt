@@ -84,7 +84,7 @@ pub enum Exit {
 /// Why a command didn't end.
 #[derive(Clone, Copy, Debug, PartialEq, Eq, Error)]
 pub enum RunFault {
-    /// The sink failed. What it has taken is a beginning of the text.
+    /// The sink failed. What it has taken is a prefix of the text.
     #[error("device failed")]
     Device,
     /// Nothing was written.
