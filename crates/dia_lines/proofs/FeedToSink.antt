@@ -21,7 +21,7 @@ long_feed (Some xs) None n read h long = absurd h
 long_feed (Some xs) (Some ys) n read h long =
     let all : length xs ≡ length read + length ys = ap (λ (t : List ℕ). length t) h ∙ length-append read ys in omega arith
 
--- a beginning that follows what was put
+-- a prefix that follows what was put
 front_behind : (a b c : Option (List ℕ)) (x y : List ℕ) → Appends a b x → AppendsFront b c y → AppendsFront a c (x ++ y)
 front_behind a b c x y h (front, rest, parts, k) =
     (x ++ front, rest, ap (λ (t : List ℕ). x ++ t) parts ∙ sym (append_assoc x front rest), Appends-trans a b c x front h k)
