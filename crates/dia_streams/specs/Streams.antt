@@ -28,7 +28,7 @@ BeginsNoPair [] = ⊤
 BeginsNoPair (high ∷ []) = ⊤
 BeginsNoPair (high ∷ low ∷ rest) = (byte : ℕ) → ¬ IsPair high low byte
 
--- the pairs of digits at the front of the text spell these bytes; this is left of it without white space, and begins with no pair
+-- the pairs of digits at the front of the text spell these bytes; the rest, without white space, begins with no pair
 pub record Spells (text bytes left : List ℕ) : Type 0 where
   pub digits : List ℕ
   pub parts : digits_of text ≡ digits ++ left
@@ -49,7 +49,7 @@ IsPart bytes = (length bytes < 20) ⊎ ((n : ℕ) × BeginsMessage bytes n × (l
 abbrev pub IsEndless : List ℕ → Type 0
 IsEndless bytes = (20 ≤ length bytes) × ((n : ℕ) → ¬ BeginsMessage bytes n)
 
--- ---- verdicts. P says which verdict the bytes of a message have, and what isn't hexadecimal, which has none. A verdict follows
+-- ---- verdicts. P says which verdict the bytes of a message have, or a message that isn't hexadecimal. Each verdict follows
 -- the place where its message begins
 
 -- the verdicts on whole messages, the first of them at a place
@@ -120,7 +120,7 @@ pub record WholeTold {V : Type 0} (P : Option (List ℕ) → V → Type 0) (text
   pub told : IsFrontTold P read verdicts
   pub is_put : Appends put_old put (flat_map text verdicts)
 
--- what was put is a beginning of the lines: of whole messages at the front of what was read, or of all
+-- what was put is a prefix of the lines: of whole messages at the front of what was read, or of all
 pub record SomeTold {V : Type 0} (P : Option (List ℕ) → V → Type 0) (text : ℕ × V → List ℕ) (fed_old fed put_old put : Option (List ℕ)) : Type 0 where
   pub read : List ℕ
   pub verdicts : List (ℕ × V)

@@ -72,7 +72,7 @@ impl Digits {
         self.take_each(last)
     }
 
-    /// How many characters of a line belong to a pair whose first digit came before it, if no white space is among them.
+    /// How many characters of a line complete a pair whose first digit came before it, if no white space is among them.
     fn lacking(&self, line: &[u8]) -> usize
         ensures { result ≤ length line.now }
     {

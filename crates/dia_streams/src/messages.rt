@@ -1,4 +1,4 @@
-//! Where messages end that follow each other back to back.
+//! Where messages end that are back to back.
 
 ghost use Rattle.std.specs.Prelude.{◌≡◌, ◌++◌, ◌↔◌, take, IfSome, IsNone, IsTrue};
 ghost use Rattle.dia_streams.specs.Streams.{IsEndless, IsMessage};

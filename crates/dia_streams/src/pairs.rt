@@ -1,4 +1,4 @@
-//! The bytes that hexadecimal digits spell that are all there.
+//! The bytes that hexadecimal digits spell, when all digits are there.
 
 ghost use Rattle.std.specs.Prelude.{◌≡◌, ◌≤◌, ◌*◌, length, take, Ok, IfOk, IfSome, IsNone, IsOk, IsTrue};
 ghost use Rattle.hex.specs.Hex.{decode_of};
