@@ -1,4 +1,4 @@
--- Bytes have one answer. Any bytes have a walk, but for a double negation, since no format is decided; what two answers are is decided, so that is enough.
+-- Bytes have one answer. Bytes have a walk only up to double negation, as formats aren't decided; but answers are.
 use Rattle.std.proofs.Common.{◌≡◌, ◌≢◌, ℕ, zero, suc, ◌+◌, ◌%◌, ◌<◌, ◌≤◌, Bool, true, false, List, [], ◌∷◌, length, take, drop, Option, Some, None, refl, sym, ap, subst, ◌∙◌, arith, inl, inr}
 use Rattle.std.specs.Prelude.{nat_lt, ◌⊎◌, slice_index, Result, Ok, Err}
 use Rattle.std.proofs.lemmas.Bool.{ltb-false, ltb-true}

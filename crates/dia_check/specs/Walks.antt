@@ -43,7 +43,7 @@ inside s v group = record {
   bytes = v.bytes;
 }
 
--- nothing is wrong with an AVP; and its data is a leaf of its format or a level, which doesn't follow from that without a decision
+-- nothing is wrong with an AVP; and its data is a leaf of its format or a level, which follows only by a decision
 pub record IsFine (d : Dictionary) (u : Unknown) (most : Levels) (s : Rest) (v : PlainAvp) : Type 0 where
   pub none_wrong : (r : Reason) (t : Subject) → ¬ IsWrong d u most s.level s.earlier v r t
   pub leaf : (e : DictEntry) → known d (key_of v) ≡ Some e → IsLeaf e.format v.bytes ⊎ (e.format ≡ Grouped)
