@@ -5,7 +5,7 @@ use Rattle.dia_policy.specs.declared.Unknown.{Unknown}
 use Rattle.dia_policy.specs.declared.Levels.{Levels}
 use Rattle.dia_valid.specs.Valid.{IsValidOf}
 
--- a table without where it lies in memory
+-- a table as a plain value
 pub record PlainTable : Type 0 where
   pub commands : List (List ℕ × List ℕ)
   pub avps : List (List ℕ × List ℕ)
