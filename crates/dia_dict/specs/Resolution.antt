@@ -62,7 +62,7 @@ bare_groups s = filter (is_bare s) s.groups
 abbrev pub key_of_name : PlainSource → List ℕ → Option Key
 key_of_name s text = option_or (option_map key_of_decl (find (names_decl text) s.avps)) (option_map (λ g. group_key g.head) (find (names_def text) s.groups))
 
--- the bounds of a rule (RFC 6733 section 3.2). Without a qualifier: exactly 1, or 0 or 1; an absent min is 1 for a required rule and 0 for others
+-- a rule's bounds (RFC 6733 section 3.2): without a qualifier exactly 1, or 0 or 1; an absent min is 1 if required, else 0
 abbrev pub least : RuleKind → Option Qual → ℕ
 least Optional None = 0
 least kind None = 1
