@@ -10,7 +10,7 @@ use Rattle.dia_wire.specs.Lengths.{header_length, avp_head_length, vendor_avp_he
 
 -- ---- AVPs (RFC 6733 section 4.1)
 
--- an AVP without where its data lies in memory
+-- an AVP as a plain value
 pub record PlainAvp : Type 0 where
   pub code : ℕ
   pub flags : ℕ
