@@ -21,7 +21,7 @@ use Rattle.dia_book.specs.declared.definition.Definition.{Definition}
 use Rattle.dia_book.specs.declared.definition.Slot.{Slot}
 use Rattle.dia_book.specs.declared.definition.Slot.TheVariants as slot
 
--- a definition without where it lies in memory
+-- a definition as a plain value
 pub record PlainDefinition : Type 0 where
   pub name : List ℕ
   pub head : DefHead
