@@ -4,7 +4,7 @@ use Rattle.dia_tables.specs.declared.line.Line.{Line as ReadLine}
 use Rattle.dia_tables.specs.declared.line.Line.TheVariants as lines
 use Rattle.dia_tables.specs.TableText.{PlainTable, Line, Blank, Command, Avp, with_line, IsLine, HasShortNames, IsWithinLimits, most_pairs}
 
--- a line that was read, without where its names lie in memory
+-- a line that was read, as a plain value
 abbrev pub shown : ReadLine → Line
 shown lines.Blank = Blank
 shown (lines.Command a b) = Command a.now b.now
