@@ -89,7 +89,7 @@ pub fn judge_table<A: Book, B: Book>(
     ensures inclusion { IfOk result
         (λ verdict. verdict.answer ≡ Answer.Yes
         → IsIncluded (A.meaning a.now) (B.meaning b.now) unknown (plain_table table.now)) }
-    // What the test says all of, and what of it fails.
+    // What the test is about, and what of it fails.
     ensures failings { IfOk result (λ verdict. AreFailingsFor (A.meaning a.now) (B.meaning b.now)
         unknown (plain_table table.now) verdict.answer verdict.failings.items) }
     // There are some exactly where a pair fails a test.

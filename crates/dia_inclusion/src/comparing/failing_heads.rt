@@ -68,7 +68,7 @@ pub(super) fn name_failings(
     Ok(all)
 }
 
-/// Where the declaration of the second doesn't take what that of the first sends.
+/// Where the declaration of the second doesn't accept what that of the first sends.
 pub(super) fn declaration_failings<A: Book, B: Book>(
     alloc: Global,
     a: &A,

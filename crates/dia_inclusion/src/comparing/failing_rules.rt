@@ -184,7 +184,7 @@ fn fails_own_key<A: Book, B: Book>(
     }
 }
 
-/// Whether a wildcard that may bring a key brings more than the rule of the key takes.
+/// Whether a wildcard that may bring a key brings more than the rule of the key allows.
 fn fails_crowded(
     comes: bool,
     wildcard: Option<(usize, DRule)>,
