@@ -1,4 +1,4 @@
--- Lists: places, filters and what stands first.
+-- Lists: places, filters and first members.
 use Rattle.std.proofs.Common.{◌≡◌, ℕ, zero, suc, ◌<◌, ◌≤◌, Bool, true, false, List, [], ◌∷◌, length, map, Option, Some, None, refl, sym, ap, ◌∙◌, arith}
 use Rattle.std.specs.Prelude.{slice_get, position, not, ◌||◌, ◌&&◌}
 use Rattle.std.specs.List.{filter_map, cons_option, list_any, prefix_len, list_all}
@@ -43,14 +43,14 @@ position-either p q xs i e = by (position p xs) (position q xs) (position-within
     by None b f g h = g i (sym h)
     by (Some a) b f g h = f i (sym h)
 
--- two functions that agree at each member
+-- two functions that are equal at each member
 pub map-agree : {X Y : Type 0} (f g : X → Y) (xs : List X) → ((i : ℕ) (x : X) → slice_get xs i ≡ Some x → f x ≡ g x) → map f xs ≡ map g xs
 map-agree f g [] h = refl
 map-agree {X} {Y} f g (x ∷ xs) h =
     let first : f x ≡ g x = h zero x refl in
     ap (λ y. y ∷ map f xs) first ∙ ap (λ ys. g x ∷ ys) (map-agree f g xs (λ i y e. h (suc i) y e))
 
--- two tests that agree at all members
+-- two tests that are equal at all members
 pub list_any-agree : {X : Type 0} (p q r : X → Bool) → ((x : X) → p x ≡ true → q x ≡ r x) → (xs : List X) → list_all p xs ≡ true → list_any q xs ≡ list_any r xs
 list_any-agree p q r agree [] all = refl
 list_any-agree p q r agree (x ∷ xs) all =

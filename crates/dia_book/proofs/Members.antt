@@ -52,7 +52,7 @@ filter_later p y xs false here i x at rest = let r = rest i at in (suc r.0, r.1,
 filter_later p y xs true here zero x at rest = (zero, at, ap p (sym (same_Some y x at)) ∙ here)
 filter_later p y xs true here (suc i) x at rest = let r = rest i at in (suc r.0, r.1, r.2)
 
--- a kept member was a member, and passed
+-- a filtered member was a member, and passed
 pub at_filter : {X : Type 0} (p : X → Bool) (xs : List X) (i : ℕ) (x : X) → slice_get (filter p xs) i ≡ Some x → (j : ℕ) × (slice_get xs j ≡ Some x) × (p x ≡ true)
 at_filter p [] i x at = absurd (none-some x at)
 at_filter p (y ∷ xs) i x at = filter_later p y xs (p y) refl i x at (λ k e. at_filter p xs k x e)
@@ -77,7 +77,7 @@ into_right xs ys i x at = slice_get-append_right xs ys i ∙ at
 pub into_map : {X Y : Type 0} (f : X → Y) (xs : List X) (i : ℕ) (x : X) → slice_get xs i ≡ Some x → slice_get (map f xs) i ≡ Some (f x)
 into_map f xs i x at = slice_get-map f xs i ∙ ap (option_map f) at
 
--- ---- members that are told apart by what a function gives of them
+-- ---- members that are distinguished by what a function gives of them
 
 abbrev pub AreApart : {X Y : Type 0} → (X → Y) → List X → Type 0
 AreApart {X} f xs = (i j : ℕ) (x y : X) → slice_get xs i ≡ Some x → slice_get xs j ≡ Some y → f x ≡ f y → i ≡ j
@@ -93,7 +93,7 @@ apart_kept f p z zs apart rest (suc i) zero x y at at' same =
     let r = at_filter p zs i x at in absurd (let e : suc r.0 ≡ 0 = apart (suc r.0) 0 x y r.1 at' same in omega arith)
 apart_kept f p z zs apart rest (suc i) (suc j) x y at at' same = ap suc (rest i j x y at at' same)
 
--- so are those that a test keeps
+-- so are those that pass a test
 pub AreApart-filter : {X Y : Type 0} (f : X → Y) (p : X → Bool) (xs : List X) → AreApart f xs → AreApart f (filter p xs)
 AreApart-filter f p [] apart = apart
 AreApart-filter {X} f p (z ∷ zs) apart = by (p z) (AreApart-filter f p zs (AreApart-tail f z zs apart))

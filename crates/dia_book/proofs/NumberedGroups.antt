@@ -55,7 +55,7 @@ number_later number y ys start n i k (Some j) here counted rest =
     let later = rest (start + 1) r.0 r.3 in
     rw here (omega (arith, later.0), omega (arith, later.1, r.1))
 
--- the number at a place: as many stand before it
+-- the number at a place: as many precede it
 pub number_at : {X : Type 0} (number : X → Option ℕ) (xs : List X) (start n i k : ℕ) (x : X) → filter_map number xs ≡ range_with_len start n → slice_get xs i ≡ Some x → number x ≡ Some k
     → (k ≡ start + length (filter_map number (take i xs))) × (k < start + n)
 number_at number [] start n i k x counted at named = absurd (none-some x at)

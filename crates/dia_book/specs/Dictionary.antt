@@ -21,7 +21,7 @@ use Rattle.dia_book.specs.declared.definition.Definition.{Definition}
 use Rattle.dia_book.specs.declared.definition.Slot.{Slot}
 use Rattle.dia_book.specs.declared.definition.Slot.TheVariants as slot
 
--- a definition without where it lies in memory
+-- a definition as a plain value
 pub record PlainDefinition : Type 0 where
   pub name : List ℕ
   pub head : DefHead
@@ -56,7 +56,7 @@ lists_key key rule = option_map_or (same_key key) rule.key false
 abbrev pub slot_at : List DRule → ℕ → Slot
 slot_at rules i = option_map_or (λ rule. if is_fixed rule then slot.Fixed i else slot.Loose i) (slice_get rules i) slot.Unlisted
 
--- where a key stands in a definition
+-- where a key belongs in a definition
 abbrev pub slot_of : List DRule → Key → Slot
 slot_of rules key = option_map_or (slot_at rules) (position (lists_key key) rules) slot.Unlisted
 
@@ -73,7 +73,7 @@ groups d = filter_map (λ e. e.group) d.entries
 abbrev pub definitions : Dictionary → List PlainDefinition
 definitions d = groups d ++ d.commands
 
--- the number of a Grouped entry's definition: as many groups stand before it
+-- the number of a Grouped entry's definition: as many groups precede it
 abbrev pub group_place : Dictionary → ℕ → Option ℕ
 group_place d e = option_and_then (λ x. option_map (λ _. length (filter_map (λ y. y.group) (take e d.entries))) x.group) (slice_get d.entries e)
 
@@ -96,7 +96,7 @@ selected d code class app =
 abbrev pub has_command : Dictionary → ℕ → Class → Bool
 has_command d code class = list_any (λ c. has_class code class c.head) d.commands
 
--- ---- what every book keeps
+-- ---- what holds of every book
 
 -- a least count that a rule of this kind may have: a required rule wants an AVP, an optional one none
 abbrev pub IsLeast : RuleKind → ℕ → Type 0

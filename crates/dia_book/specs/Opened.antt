@@ -40,7 +40,7 @@ list_all-front p (x ∷ xs) = by (p x) refl (list_all-front p xs)
     by true here e = rw here e
     by false here e = refl
 
--- where some members that pass stand first and no others pass
+-- where some members that pass come first and no others pass
 pub list_any-rest : {X : Type 0} (p : X → Bool) (xs ys : List X) → list_all p xs ≡ true → list_any p ys ≡ false → list_any p (rest p (xs ++ ys)) ≡ false
 list_any-rest p [] [] all none = refl
 list_any-rest p [] (y ∷ ys) all none = rw ((or_parts (p y) (list_any p ys) none).0) none

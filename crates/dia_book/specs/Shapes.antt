@@ -1,4 +1,4 @@
--- What the rules of a definition say of each of its levels (RFC 6733 section 3.2). Rules are told by their places.
+-- What the rules of a definition say of each of its levels (RFC 6733 section 3.2). Rules are given by their places.
 use Rattle.std.specs.Prelude.{◌≡◌, ℕ, ◌<◌, ◌≤◌, List, length, filter, not, is_some, Some, slice_get, slice_index, position}
 use Rattle.dia_book.specs.declared.definition.DRule.{DRule}
 use Rattle.dia_book.specs.declared.shape.Shape.{Shape}
@@ -11,7 +11,7 @@ pub record IsFirstWanted (rules : List DRule) (from place : ℕ) : Type 0 where
   pub none_before : (i : ℕ) (rule : DRule) → from ≤ i → i < place → slice_get rules i ≡ Some rule → rule.min ≡ 0
   pub wanted : (rule : DRule) → slice_get rules place ≡ Some rule → 1 ≤ rule.min
 
--- so for each place
+-- the same for each place
 pub record AreFirstWanted (rules : List DRule) (wanted : List ℕ) : Type 0 where
   pub many : length wanted ≡ length rules
   pub each : (from : ℕ) → from < length rules → IsFirstWanted rules from (slice_index wanted from)

@@ -10,7 +10,7 @@ use dia_data::Format;
 use dia_terms::MRule;
 use dia_wire::Key;
 
-/// A dictionary, however it is kept: a finite map of keys to AVPs, of Grouped AVPs to their definitions, and of
+/// A dictionary, however it is stored: a finite map of keys to AVPs, of Grouped AVPs to their definitions, and of
 /// codes, classes and applications to the definitions of commands.
 ///
 /// Entries are the AVPs in the dictionary's order. Keys, names of AVPs, names of commands and what commands are for are
@@ -67,7 +67,7 @@ pub trait Book {
         ensures { slice_get (definitions (meaning self.now)) def
             ≡ Some (plain_definition result.now) };
 
-    /// Where the key stands among the rules of a definition. Rules count from 0.
+    /// Where the key belongs among the rules of a definition. Rules count from 0.
     fn slot(&self, def: DefId, key: Key) -> Slot
         requires { def < length (definitions (meaning self.now)) }
         ensures { IfSome (slice_get (definitions (meaning self.now)) def)

@@ -35,7 +35,7 @@ pub enum DefHead {
     },
 }
 
-/// A rule of a definition (RFC 6733 section 3.2): how often an AVP may stand there, with no greatest count where `max` is
+/// A rule of a definition (RFC 6733 section 3.2): how often an AVP may occur there, with no greatest count where `max` is
 /// none, and never where it is 0. One without a key is the wildcard, for all AVPs that the definition does not list; its
 /// counts are of them all together (our profile).
 #[derive(Clone, Copy, PartialEq, Eq)]
@@ -57,7 +57,7 @@ pub struct Definition {
     ghost shaped: { IsShape rules.items shape } by { Prim.hlevel props },
 }
 
-/// Where a key stands in a definition, by its rule's place from 0.
+/// Where a key belongs in a definition, by its rule's place from 0.
 #[derive(Debug, Clone, Copy, PartialEq, Eq)]
 pub enum Slot {
     /// Among the fixed rules, whose AVPs come first and in order.

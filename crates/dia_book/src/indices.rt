@@ -18,7 +18,7 @@ impl Model for Entry {
     ghost inverse = { λ n. record { index = n } };
 }
 
-/// A definition of a dictionary, by its place among the groups, in the order of their entries, and the commands behind them.
+/// A definition of a dictionary, by its place among the groups, in the order of their entries, and then the commands.
 #[derive(Clone, Copy, PartialEq, Eq)]
 pub struct DefId {
     index: u32,
@@ -45,7 +45,6 @@ impl Entry {
         }
     }
 
-    /// The place.
     pub fn index(self) -> usize
         ensures { result ≡ self }
     {
@@ -64,7 +63,6 @@ impl DefId {
         }
     }
 
-    /// The place.
     pub fn index(self) -> usize
         ensures { result ≡ self }
     {

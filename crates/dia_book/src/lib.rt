@@ -1,4 +1,4 @@
-//! Dictionaries of AVPs, groups and commands (RFC 6733 sections 3.2 and 4), however they are kept.
+//! Dictionaries of AVPs, groups and commands (RFC 6733 sections 3.2 and 4), however they are stored.
 //!
 //! Everything that reads a dictionary goes through the trait `Book`.
 #![tactic(auto)]

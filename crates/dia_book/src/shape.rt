@@ -8,12 +8,12 @@ use crate::definition::DRule;
 use dia_terms::RuleKind;
 use std::alloc::{AllocError, Global};
 
-/// What the rules of a definition say of each of its levels. Rules are told by their places.
+/// What the rules of a definition say of each of its levels. Rules are given by their places.
 #[derive(Drop)]
 pub struct Shape {
     /// How many rules are fixed.
     pub fixed: usize,
-    /// The wildcard.
+    /// The wildcard's place.
     pub wildcard: Option<usize>,
     /// For each place the first rule from there on that has a least count, and the number of rules where none has.
     wanted: Vec<usize>,
@@ -93,7 +93,7 @@ fn wanted_places(alloc: Global, rules: &[DRule]) -> Result<Vec<usize>, AllocErro
     Ok(wanted)
 }
 
-/// The first from a place on; or the one that is known, if it stands there.
+/// The first from a place on; or the one that is known, if it is there.
 fn wanted_from(rules: &[DRule], from: usize, before: usize) -> usize
     requires within { from ≤ length rules.now }
     requires before { from ≤ before → IsFirstWanted rules.now from before }

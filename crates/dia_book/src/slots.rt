@@ -1,4 +1,4 @@
-//! What definitions are for, and where keys stand among their rules.
+//! What definitions are for, and where keys belong among their rules.
 ghost use Rattle.std.specs.Prelude.{◌≡◌, ◌<◌, IfOk, length, position, string_bytes};
 ghost use Rattle.dia_book.specs.Dictionary.{lists_key, plain_definition};
 
@@ -91,7 +91,7 @@ impl Definition {
         })
     }
 
-    /// Where a key stands among the rules.
+    /// Where a key belongs among the rules.
     pub fn slot(&self, key: Key) -> Slot
         ensures { result ≡ slot_of self.now.rules.items key }
     {

@@ -1,4 +1,4 @@
--- From each place where the machine can stand, some tokens complete a text.
+-- In each state of the machine, some tokens complete a text.
 use Rattle.std.proofs.Common.{◌≡◌, ℕ, Bool, true, false, cond, List, [], ◌∷◌, ◌++◌, Option, Some, None, refl, sym, ap, subst, ◌∙◌, arith}
 use Rattle.std.specs.Prelude.{codes, ◌&&◌, not, nat_le, ⊤}
 use Rattle.std.specs.Option.{option_map}
@@ -21,7 +21,7 @@ use Rattle.dia_ccf.proofs.TokenTests.{number_at-is}
 use Rattle.dia_ccf.proofs.MachineRuns.{take_one, number_at-some}
 use Rattle.dia_ccf.proofs.DeclarationCompleteness.{and_false}
 
--- ---- the places where the machine can stand
+-- ---- the states of the machine
 
 abbrev pub is_sound : Place → Bool
 is_sound (After_value d ranges n) = nat_le n max_value

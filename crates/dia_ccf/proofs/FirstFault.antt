@@ -1,4 +1,4 @@
--- Where the machine stops stands the first fault.
+-- The token at which the machine stops is the first fault.
 use Rattle.std.proofs.Common.{◌≡◌, ℕ, ◌≤◌, ◌<◌, ◌+◌, Bool, true, false, cond, List, [], ◌∷◌, ◌++◌, length, take, Option, Some, None, refl, sym, ap, subst, ◌∙◌, append_assoc, arith, length-append}
 use Rattle.std.specs.Prelude.{codes, ◌&&◌, not, is_some, nat_lt, slice_get}
 use Rattle.std.specs.Option.{option_map}
@@ -89,7 +89,7 @@ stopped : (ts : List Token) (start : State) (k : Refusal) (rest : List Token) �
 stopped [] start k rest h e = stopped_end start (whole start) k rest refl h e
 stopped (t ∷ ts) start k rest h e = stopped_step start t ts k rest (next start t) refl h e (λ q sound_q f. stopped ts q k rest sound_q f)
 
--- ---- what some number or name would do
+-- ---- what some number or name would fit
 
 read_next : (q : State) (t : Token) (us : List Token) (s : PlainSource) → outcome q (t ∷ us) ≡ Reads s → is_some (next q t) ≡ true
 read_next q t us s h = by_next (next q t) h
@@ -124,7 +124,7 @@ low_number : (low m : ℕ) (o : Option ℕ) (to : ℕ → State) → number_at l
 low_number low m None to e h = absurd cc
 low_number low m (Some n) to e h = let k = number_at-is low max_value (Number m) n e in omega (arith, k.1, k.2)
 
--- where some number may stand, the least one may
+-- where some number may follow, the least one may
 number_witness : (done : PlainSource) (p : Place) (m : ℕ) → is_some (step done p (Number m)) ≡ true → is_some (step done p (Number (least_at p))) ≡ true
 number_witness done (Decl_code n) m h = refl
 number_witness done (Decl_number n c) m h = refl
@@ -160,7 +160,7 @@ begun : (front : List Token) (q : State) (t : Token) → ((more : List Token) �
 begun front q t goes (rest, s, derived) =
     read_next q t rest s (sym (goes (t ∷ rest)) ∙ ap (outcome (nothing_read, Between)) (sym (append_assoc front (t ∷ []) rest)) ∙ complete ((front ++ t ∷ []) ++ rest) s derived)
 
--- a token that is taken can be gone on with
+-- a token that is taken can be followed by more
 fitting : (front : List Token) (q : State) (t : Token) (o : Option State) → ((more : List Token) → outcome (nothing_read, Between) (front ++ more) ≡ outcome q more)
     → is_sound q.1 ≡ true → next q t ≡ o → is_some o ≡ true → CanBegin (front ++ t ∷ [])
 fitting front q t None goes h e s = absurd cc
@@ -200,7 +200,7 @@ module _ (front : List Token) (q : State) (k : Refusal) (goes : (more : List Tok
   fits_then : (rest : List Token) (t : Token) → Fits (front ++ rest) (length front) t → is_some (next q t) ≡ true
   fits_then rest t fits = begun front q t goes (subst (λ (f : List Token). CanBegin (f ++ t ∷ [])) (front_of rest) fits)
 
-  -- what can stand in the state is what can stand behind the front
+  -- a token fits the state exactly where it can follow the prefix
   wanted_here : (w : Wanted) → wanted_at q.1 ≡ w → IsWanted front w
   wanted_here w is = record {
     fitting = λ t. (
@@ -224,7 +224,7 @@ module _ (front : List Token) (q : State) (k : Refusal) (goes : (more : List Tok
   at_front : (rest : List Token) → slice_get (front ++ rest) (length front) ≡ slice_get rest 0
   at_front rest = get_seam front rest
 
-  -- a number is told
+  -- a number is reported
   number_told : (rest : List Token) → Stands q k rest → k ≡ refusal.Number → IsNumberFault (front ++ rest) (length front)
   number_told [] stands e = absurd (let f = stands.1 in cc)
   number_told (Number n ∷ us) (refuses, is) e = (n, at_front (Number n ∷ us), least_at q.1, fits_here (Number n ∷ us) (Number (least_at q.1)) (by_some (is_some (next q (Number (least_at q.1)))) refl))
@@ -239,7 +239,7 @@ module _ (front : List Token) (q : State) (k : Refusal) (goes : (more : List Tok
       by_long false f = absurd cc
   number_told (t ∷ us) (refuses, is) e = absurd (let f = sym is ∙ e in cc)
 
-  -- a long name is told
+  -- a long name is reported
   limit_told : (rest : List Token) → Stands q k rest → k ≡ refusal.Limit → IsLimitFault (front ++ rest) (length front)
   limit_told [] stands e = absurd (let f = stands.1 in cc)
   limit_told (Name text ∷ us) (refuses, is) e =
@@ -257,7 +257,7 @@ module _ (front : List Token) (q : State) (k : Refusal) (goes : (more : List Tok
       by_some false f = absurd cc
   limit_told (t ∷ us) (refuses, is) e = absurd (let f = sym is ∙ e in cc)
 
-  -- neither is told
+  -- neither is reported
   number_untold : (rest : List Token) → Stands q k rest → k ≡ refusal.Syntax → IsNumberFault (front ++ rest) (length front) → ⊥
   number_untold [] stands e (n, is, other, fits) = absurd (let f : ◌≡◌ {A = Option Token} None (Some (Number n)) = sym (at_front []) ∙ is in cc)
   number_untold (t ∷ us) (refuses, why_is) e (n, is, other, fits) =
@@ -275,7 +275,7 @@ module _ (front : List Token) (q : State) (k : Refusal) (goes : (more : List Tok
       absurd (let f : refused q (Name text) ≡ refusal.Limit = ap (λ (b : Bool). cond b refusal.Limit refusal.Syntax) both_are in
       let g : k ≡ refusal.Limit = why_is ∙ ap (refused q) same ∙ f in cc)
 
--- what is told of the token at a place
+-- what is reported of the token at a place
 pub record Is_told (ts : List Token) (n : ℕ) (k : Refusal) : Type 0 where
   pub first : IsFirstFault ts n
   pub number : k ≡ refusal.Number → IsNumberFault ts n
@@ -284,7 +284,7 @@ pub record Is_told (ts : List Token) (n : ℕ) (k : Refusal) : Type 0 where
   pub no_limit : k ≡ refusal.Syntax → IsLimitFault ts n → ⊥
   pub wanted : IsWanted (take n ts) (behind_all Item (take n ts))
 
--- where the machine stops with the tokens from n on left, the first fault stands at n
+-- where the machine stops with the tokens from n on left, the first fault is at n
 pub told : (ts : List Token) (n : ℕ) (k : Refusal) (rest : List Token) → outcome (nothing_read, Between) ts ≡ Stops k rest → length ts ≡ n + length rest → Is_told ts n k
 told ts n k rest h long =
     let r = stopped ts (nothing_read, Between) k rest refl h in

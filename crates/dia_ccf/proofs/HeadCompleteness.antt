@@ -86,7 +86,7 @@ proxiable_taken done text c r true =
     (taken_keyword (codes "pxy") (done, In_head text (Flags c r false false)) (done, In_head text (Flags c r true false)) (λ w e. rw e refl))
     (taken_keyword (codes "pxy") (done, In_head text (Flags c r false true)) (done, In_head text (Flags c r true false)) (λ w e. rw e refl))
 
--- a number that ends a head, behind a comma or none
+-- a number that ends a head, after a comma or none
 ending_number : (done : PlainSource) (text : List ℕ) (at behind_comma : HeadPlace) (n : ℕ) (h : Head) → next (done, In_head text at) Comma ≡ Some (done, In_head text behind_comma)
     → (n ≤ max_number → next (done, In_head text at) (Number n) ≡ Some (done, In_head text (Head_end h)))
     → (n ≤ max_number → next (done, In_head text behind_comma) (Number n) ≡ Some (done, In_head text (Head_end h)))
@@ -169,7 +169,7 @@ error_ended done text Either =
 pub taken_left : (a b c : Tokens) (p q : State) → Taken (a then (b then c)) p q → Taken ((a then b) then c) p q
 taken_left a b c p q go front us (xs, ys, parts, (x1, x2, inner, h, k), l) = go front us (x1, x2 ++ ys, parts ∙ ap (λ (f : List Token). f ++ ys) inner ∙ append_assoc x1 x2 ys, h, (x2, ys, refl, k, l))
 
--- behind the `>` of a head
+-- after the `>` of a head
 abbrev pub headed : PlainSource → List ℕ → Head → State
 headed done text h = (done, Rules (record { name = text; head = h; rules = [] }))
 

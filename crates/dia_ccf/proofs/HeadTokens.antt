@@ -83,7 +83,7 @@ no_comma : (b c : Bool) → (b || c) ≡ false → b ≡ false
 no_comma true c h = h
 no_comma false c h = refl
 
--- a number that may stand behind a comma, or none
+-- a number that may follow a comma, or none
 pub none_pending : (before : Tokens) (b c : Bool) (old new : Reader) → (b || c) ≡ false → Derived (before then pending b) old new → Derived (before then nothing) old new
 none_pending before b c old new h d = subst (λ (x : Bool). Derived (before then pending x) old new) (no_comma b c h) d
 

@@ -45,7 +45,7 @@ order_fixed : (xs ys : List PlainRule) (r : PlainRule) → in_order (xs ++ r ∷
 order_fixed [] ys r h k = refl
 order_fixed (x ∷ xs) ys r h k = order_step x r xs ys (is_fixed x.kind) h k (λ e. order_fixed xs ys r e k)
 
--- what is done behind `< name >` where no definition begins
+-- what is done after `< name >` where no definition begins
 pub angle_settled : (done : PlainSource) (d : PlainDef) (n : List ℕ) (us : List Token) → all_fixed d.rules ≡ true → begins_with (same_sign Assign) us ≡ false
     → outcome (done, After_angle d n) us ≡ outcome (done, Rules (with_rule d (fixed_rule n None))) us
 angle_settled done d n us fixed h =
@@ -90,7 +90,7 @@ loose_taken done d kind qual text opener p h =
     closes Required = refl
     closes Optional = refl
 
--- `< name >` behind a qualifier
+-- `< name >` after a qualifier
 fixed_taken : (done : PlainSource) (d : PlainDef) (qual : Qual) (text : List ℕ) → all_fixed d.rules ≡ true
     → Taken (one Less then name text then one Greater) (done, Qual_done d qual) (done, Rules (with_rule d (fixed_rule text (Some qual))))
 fixed_taken done d qual text fixed =
@@ -108,7 +108,7 @@ angle_taken done d text =
     (taken_name text (done, Angle_name d) (done, Angle_close d text) (λ named. rw named refl))
     (taken_one Greater (done, Angle_close d text) (done, After_angle d text) refl))
 
--- behind a qualifier
+-- after a qualifier
 bracket_taken : (done : PlainSource) (d : PlainDef) (kind : RuleKind) (qual : Qual) (text : Option (List ℕ)) → (kind ≡ Fixed → all_fixed d.rules ≡ true)
     → Taken (bracketed kind text) (done, Qual_done d qual) (done, Rules (with_rule d (record { kind = kind; name = text; qual = Some qual })))
 bracket_taken done d Fixed qual (Some text) fixed = fixed_taken done d qual text (fixed refl)
@@ -116,7 +116,7 @@ bracket_taken done d Fixed qual None fixed = λ front us h. absurd h
 bracket_taken done d Required qual text fixed = loose_taken done d Required (Some qual) text Open_brace (done, Qual_done d qual) (rw (and_false (all_fixed d.rules)) refl)
 bracket_taken done d Optional qual text fixed = loose_taken done d Optional (Some qual) text Open_bracket (done, Qual_done d qual) (rw (and_false (all_fixed d.rules)) refl)
 
--- a bracket behind the star alone
+-- a bracket after the star alone
 star_settled : (done : PlainSource) (d : PlainDef) (min : Option ℕ) (kind : RuleKind) (text : Option (List ℕ)) (front us : List Token) → bracketed kind text front
     → outcome (done, Qual_star d min) (front ++ us) ≡ outcome (done, Qual_done d (record { min = min; max = None })) (front ++ us)
 star_settled done d min Fixed (Some text) front us (xs, ys, parts, first, k) = rw (parts, first) refl
@@ -242,7 +242,7 @@ named_taken done text front us h =
     (taken_one Greater (done, Def_close text) (done, Def_assign text) refl)) front us k)
     (λ k. taken_name text (done, Between) (done, Def_assign text) (λ named. rw named refl) front us k) h
 
--- behind a definition an item begins as it does between items
+-- after a definition an item begins as it does between items
 behind_bare : (done : PlainSource) (d : PlainDef) (text : List ℕ) (us : List Token) → outcome (done, Rules d) (Name text ∷ us) ≡ outcome (add_def done d, Between) (Name text ∷ us)
 behind_bare done d text us = refl
 

@@ -14,7 +14,7 @@ take_one state t to ts h = ap (λ (o : Option State). gone_on o (Stops (refused 
 pub stop_at : (state : State) (t : Token) (ts : List Token) → next state t ≡ None → outcome state (t ∷ ts) ≡ Stops (refused state t) (t ∷ ts)
 stop_at state t ts h = ap (λ (o : Option State). gone_on o (Stops (refused state t) (t ∷ ts)) (λ q. outcome q ts)) h
 
--- two states that do the same with what is ahead
+-- two states that treat what is ahead alike
 pub outcome_same : (p q : State) (ts : List Token) → ((t : Token) (us : List Token) → ts ≡ t ∷ us → (next p t ≡ next q t) × (refused p t ≡ refused q t))
     → (ts ≡ [] → whole p ≡ whole q) → outcome p ts ≡ outcome q ts
 outcome_same p q [] ahead end = ap ended (end refl)

@@ -1,4 +1,4 @@
--- What the reader keeps when it goes on to the next token.
+-- What stays as it was when the reader goes on to the next token.
 use Rattle.std.proofs.Common.{◌≡◌, ℕ, zero, suc, ◌+◌, ◌-◌, ◌<◌, ◌≤◌, List, [], ◌∷◌, ◌++◌, length, map, take, drop, drop-drop, length-drop, Option, Some, None, refl, sym, ap, ◌∙◌, arith}
 use Rattle.std.specs.Prelude.{slice_get, IsSome}
 use Rattle.std.specs.Option.{option_map}
@@ -40,7 +40,7 @@ module _ (text : List ℕ) (taken at : ℕ) (token : Token) (rest : List Token) 
       sym (first_place text (tokens_from text at) token rest at begins lies) ∙ ap (λ (ps : List Placed). option_map (λ p. p.at) (slice_get ps 0)) (sym counted)
       ∙ ap (option_map (λ (p : Placed). p.at)) (get_dropped taken (placed_tokens text)) ∙ ap (place_before text) (sym more)
 
--- what is wanted behind the token ahead, and its place
+-- what is wanted after the token ahead, and its place
 pub wants_next : (text : List ℕ) (taken at end : ℕ) (token : Option LexerToken) (w : Wanted) → IsSome token → drop taken (placed_tokens text) ≡ tokens_from text at
     → left_from text at ≡ sees token (left_from text end) → w ≡ behind_all Item (take taken (left_from text 0)) → behind_all w (ahead token) ≡ behind_all Item (take (taken + 1) (left_from text 0))
 wants_next text taken at end None w some counted begins h = absurd cc

@@ -105,6 +105,6 @@ module _ (reader end : Reader) (text : List ℕ) (same : reader.text.now ≡ tex
       told_text f refused o.0 told (misfit refusal.Limit f refl o.1 (limit_told end.text.now end.taken end.at end.counted end.reached end.placed o.1))
   is_refused refusal.NoMemory refused h told = subst (IsRefused text) (sym told) tt
 
--- memory alone is told as memory
+-- only an allocation failure is reported as `NoMemory`
 pub only_no_memory : (refused : Refused) → refused ≡ refuseds.NoMemory → fault_of refused ≡ faults.NoMemory
 only_no_memory refused h = ap fault_of h

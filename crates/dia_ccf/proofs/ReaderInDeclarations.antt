@@ -28,7 +28,7 @@ use Rattle.dia_ccf.proofs.DeclarationCompleteness.{and_false}
 use Rattle.dia_ccf.proofs.ReaderSteps.{accepted, wants_all, passes_one, takes_sign, stays, leads_along}
 use Rattle.dia_ccf.proofs.ReaderInRules.{and_true}
 
--- ---- one token each
+-- ---- single tokens
 
 pub name_leads : (done : PlainSource) (old new : Reader) (result : Result (String Global) Refusal) → Accepts false true name_at (λ s. string_bytes s) old result new
     → Leads (course (done, Decl_name) old) (λ s. (done, Decl_code (string_bytes s))) result new

@@ -58,7 +58,7 @@ flags_at done name code request pxy comma = (done, In_head name (Flags code requ
 abbrev pub command_at : PlainSource → List ℕ → ℕ → Bool → Bool → Option ℕ → State
 command_at done name code request pxy app = (done, In_head name (Head_end (Command code request pxy app)))
 
--- what is not ahead behind the flags
+-- what is not ahead after the flags
 pub record Settled (request pxy comma : Bool) (ts : List Token) : Type 0 where
   pub comma_free : comma ≡ false → no_comma ts
   pub request_free : request ≡ false → pxy ≡ false → begins_with (is_keyword (codes "req")) ts ≡ false
@@ -99,7 +99,7 @@ proxy_step done name code request comma old new (false, b) (mid, (none, same), (
       },
     )
 
--- the comma and the two flags behind a command's code
+-- the comma and the two flags after a command's code
 pub flags_read : (done : PlainSource) (name : List ℕ) (code : ℕ) (first second third last : Reader) (comma : Bool) (asked proxied : Bool × Bool)
     → Takes (same_sign Comma) first comma second → Flags_read (codes "req") comma second asked third → Flags_read (codes "pxy") asked.1 third proxied last
     → (course (flags_at done name code false false false) first ≡ course (flags_at done name code asked.0 proxied.0 proxied.1) last) × Settled asked.0 proxied.0 proxied.1 (left last)
@@ -130,7 +130,7 @@ no_flag code true false w a b = one_none (is_keyword (codes "req") (Name w)) (is
     one_none false y e = rw e refl
 no_flag code false false w a b = rw (a refl refl, b refl) refl
 
--- behind a comma a number has to come, where no flag does
+-- after a comma a number has to follow, where no flag does
 pub number_wanted : (done : PlainSource) (name : List ℕ) (code : ℕ) (request pxy comma : Bool) (ts : List Token) → Settled request pxy comma ts → (comma || begins_with is_number ts) ≡ true
     → Wants true false (λ t. option_map (λ n. command_at done name code request pxy (Some n)) (number_at 0 max_number t)) (flags_at done name code request pxy comma) ts
 number_wanted done name code request pxy comma [] s h = refl
@@ -213,7 +213,7 @@ group_begun done name code start first second comma n a =
     let s = comma_step (group_at done name code) first second comma a refl in
     (k ∙ s.0, s.1)
 
--- behind a comma a number has to come
+-- after a comma a number has to follow
 pub vendor_wanted : (done : PlainSource) (name : List ℕ) (code : ℕ) (comma : Bool) (ts : List Token) → (comma || begins_with is_number ts) ≡ true
     → Wants true false (λ t. option_map (group_end done name code) (number_at 0 max_number t)) (group_at done name code comma) ts
 vendor_wanted done name code comma [] h = refl
@@ -234,7 +234,7 @@ group_ends done name code false ts s h = outcome_same (group_at done name code f
     at_token Comma us k free = absurd cc
     at_token t us k free = (refl, refl)
 
--- ---- a keyword behind a comma or none, where the keyword is refused
+-- ---- a keyword after a comma or none, where the keyword is refused
 
 abbrev Expects : State → State → List ℕ → Token → Type 0
 Expects state to text t = (next state t ≡ option_map (λ u. to) (keyword_at text t)) × (refused state t ≡ why false false t)

@@ -21,7 +21,7 @@ use Rattle.dia_ccf.proofs.DeclarationCompleteness.{and_false}
 use Rattle.dia_ccf.proofs.TokenTests.{same_sign-is}
 use Rattle.dia_ccf.proofs.ReaderSteps.{takes_sign, passes_one, accepted, wants_all, leads_along}
 
--- ---- behind a qualifier
+-- ---- after a qualifier
 
 pub fixed_opened : (done : PlainSource) (d : PlainDef) (qual : Qual) (fixed : Bool) (old new : Reader) → all_fixed d.rules ≡ fixed → fixed ≡ true
     → Takes (same_sign Less) old true new → course (done, Qual_done d qual) old ≡ course (done, Fixed_name d qual) new
@@ -201,7 +201,7 @@ order_more items more r fixed grown e h k =
     by_kind true f before = let is = fixed_kind r.kind f in still_fixed (map plain_rule items) (plain_rule r) (e ∙ k is) is
     by_kind false f before = still_loose (map plain_rule items) (plain_rule r) f before
 
--- a fixed rule comes only behind fixed ones
+-- a fixed rule follows only fixed ones
 pub kind_told : (kind : RuleKind) (fixed : Bool) → (kind ≡ Fixed → fixed ≡ true) → (fixed && is_fixed kind) ≡ is_fixed kind
 kind_told Fixed fixed h = ap (λ (x : Bool). x && true) (h refl)
 kind_told Required fixed h = and_false fixed

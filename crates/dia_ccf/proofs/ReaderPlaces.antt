@@ -140,7 +140,7 @@ place_now old new same = ap (λ (text : List ℕ). place_of text old.taken) (sym
 pub from_place : (class : Tokens) (at : ℕ) (old new : Reader) → at ≡ old.at → Derived class old new → From at class new
 from_place class at old new e h = (old.taken, spans class old new h, place_now old new h.3 ∙ sym e)
 
--- the reader stands farther on where it has passed more tokens
+-- a reader that has passed more tokens is at a later place
 pub goes_on : (old new : Reader) → old.text.now ≡ new.text.now → old.taken < new.taken → old.at < new.at
 goes_on old new same less =
     let rise = places_rise new.text.now old.taken new.taken less new.reached in
@@ -158,7 +158,7 @@ opened_long : (text : List ℕ) (front : List Token) → opened text front → 0
 opened_long text front (inl (x, y, e, f, g)) = omega (arith, ap length e, ap length f, length-append x y)
 opened_long text front (inr (h, e)) = omega (arith, ap length e)
 
--- what is passed from a place on has a token at least, so the token ahead is behind the place
+-- what is passed from a place on has a token at least, so the token ahead follows the place
 pub opened_before : (text : List ℕ) (at : ℕ) (reader : Reader) → From at (opened text) reader → at < reader.at
 opened_before text at reader (k, (front, e, h), place) =
     let all = reader.text.now in
@@ -300,7 +300,7 @@ decl_stands d old mid new e took h =
 pub began : (old mid new : Reader) (x : String Global) → mid ≡ old → Derived (opened (string_bytes x)) mid new → From old.at (opened (string_bytes x)) new
 began old mid new x same h = from_place (opened (string_bytes x)) old.at old new refl (subst (λ (r : Reader). Derived (opened (string_bytes x)) r new) same h)
 
--- a definition that is kept as a command
+-- a definition that is recorded as a command
 pub command_kept : (source : Source) (def : Def) (more : List Def)
     → ((code : ℕ) × (request : Bool) × (pxy : Bool) × (app : Option ℕ) × (def.head ≡ Command code request pxy app)) ⊎ ((pxy : Pxy) × (def.head ≡ Error pxy)) → more ≡ source.commands.items ++ def ∷ []
     → ◌≡◌ {A = PlainSource} (record { avps = map plain_decl source.avps.items; groups = map plain_def source.groups.items; commands = map plain_def more }) (add_def (plain_source source) (plain_def def))
@@ -352,7 +352,7 @@ def_stands text at name h rules end old mid (k, (front, e, a), place) (back, f, 
       stand,
     )
 
--- what comes behind a definition begins behind its name
+-- what follows a definition begins after its name
 pub definition_before : (at : ℕ) (name : List ℕ) (next : Option Opening) (old mid new : Reader) → From at (opened name) old → old.text.now ≡ mid.text.now → old.taken ≤ mid.taken
     → mid.text.now ≡ new.text.now → mid.taken ≤ new.taken → IfSome next (λ o. mid.at ≤ o.at) → at < unread next new
 definition_before at name None old mid new begun same first still second later =

@@ -28,7 +28,7 @@ pub passes_one : (p q : State) (t : Token) (old new : Reader) → Passes old (t 
 passes_one p q t old new (ahead, same, taken) h =
     course_at old.text.now new.text.now (outcome p (left old)) (outcome q (left new)) same (ap (outcome p) ahead ∙ take_one p t q (left new) h)
 
--- nothing was passed, and two states do the same with what is ahead
+-- nothing was passed, and two states treat what is ahead alike
 pub stays : (p q : State) (old new : Reader) → new ≡ old → outcome p (left old) ≡ outcome q (left old) → course p old ≡ course q new
 stays p q old new same h = subst (λ (r : Reader). course p old ≡ course q r) (sym same) (ap (λ (o : Outcome). (old.text.now, o)) h)
 
@@ -112,7 +112,7 @@ pub exits : {X : Type 0} (from : Course) (to : X → State) (k : Refusal) (resul
 exits from to k (Ok x) new is h = absurd is
 exits from to k (Err e) new is h = subst (λ (r : Refusal). StopsAt from r new) (sym is) h
 
--- the same behind steps that were made
+-- the same after steps that were made
 pub exits_along : {X : Type 0} (from mid : Course) (to : X → State) (k : Refusal) (result : Result X Refusal) (new : Reader) → from ≡ mid → IsErrAnd result (λ e. e ≡ k) → StopsAt mid k new
     → Leads from to result new
 exits_along from mid to k result new e is h = leads_along from mid to result new e (exits mid to k result new is h)
@@ -134,7 +134,7 @@ counted_some t n h =
     let e = number_at-is 0 max_number t k.0 k.1 in
     (k.0, e.0, sym k.2, ap (number_at 0 max_number) (sym e.0) ∙ k.1)
 
--- a count and the star behind it
+-- a count and the star after it
 pub min_read : (done : PlainSource) (d : PlainDef) (old mid new : Reader) (min : Option ℕ) → Counted old min mid
     → (t : Token) × (sign_at Star t ≡ Some tt) × Passes mid (t ∷ []) new → course (done, Rules d) old ≡ course (done, Qual_star d min) new
 min_read done d old mid new min counted (t, star, passes) = by_number (begins_with is_number (left old)) counted
@@ -158,7 +158,7 @@ no_number : (b : Bool) (t : Token) → is_number t ≡ false → why true b t �
 no_number b (Number n) h = absurd cc
 no_number b t h = refl
 
--- the count behind the star
+-- the count after the star
 pub max_read : (done : PlainSource) (d : PlainDef) (old new : Reader) (min max : Option ℕ) → Counted old max new
     → course (done, Qual_star d min) old ≡ course (done, Qual_done d (record { min = min; max = max })) new
 max_read done d old new min max counted = by_number (begins_with is_number (left old)) refl counted
@@ -241,7 +241,7 @@ star_stops done d old mid new min k begins counted told = by_number (begins_with
         wanted (Star ∷ us) f g = (refl, refl)
         wanted (t ∷ us) f g = absurd cc
 
--- the count behind the star
+-- the count after the star
 pub max_stops : (done : PlainSource) (d : PlainDef) (old new : Reader) (min : Option ℕ) (k : Refusal) → Uncounted old k new → StopsAt (course (done, Qual_star d min) old) k new
 max_stops done d old new min k h = count_stops (done, Qual_star d min) (λ n. (done, Qual_done d (record { min = min; max = Some n }))) old new k (λ n. (refl, refl)) h
 

@@ -45,7 +45,7 @@ none_there [] k e = omega arith
 none_there (x ∷ xs) zero e = absurd cc
 none_there (x ∷ xs) (suc k) e = let r = none_there xs k e in omega (arith, r)
 
--- behind the last token the place is the end of the text
+-- after the last token the place is the end of the text
 pub places_rise : (text : List ℕ) (k m : ℕ) → k < m → m ≤ length (placed_tokens text) → place_of text k < place_of text m
 places_rise text k m less most = by_tokens (slice_get (placed_tokens text) k) (slice_get (placed_tokens text) m) refl refl
   where

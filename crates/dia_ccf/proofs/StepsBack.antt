@@ -54,7 +54,7 @@ pub record Name_follows (done s : PlainSource) (ts : List Token) : Type 0 where
   pub named : is_name text ≡ true
   pub closes : Close_follows done s text rest
 
--- a definition behind the tokens of its name
+-- a definition after the tokens of its name
 abbrev named_by : List ℕ → Tokens
 named_by text = either (one Less then name text then one Greater) (name text)
 

@@ -33,7 +33,7 @@ reads_then {a = a} {b = b} p q follows = record {
       ∙ sym (append_assoc p.tokens q.tokens (lexed 0 rest));
 }
 
--- white space in front or behind
+-- white space before or after
 pub reads_after_space : {May : List ℕ → Type 0} {class : Tokens} {a : List ℕ} → Reads May class a → Reads May class (32 ∷ a)
 reads_after_space p = record { tokens = p.tokens; derived = p.derived; read = p.read }
 

@@ -29,7 +29,7 @@ tokens_after-front (c ∷ rest) at k token there =
     let more : (at + 1) + k ≡ at + suc k = omega arith in
     rw (is, less) (ap (λ ts. placed at token ts) (tokens_after-skip k (at + 1) rest ∙ ap (λ n. tokens_after 0 n (drop k rest)) more))
 
--- the tokens behind the piece at a place
+-- the tokens after the piece at a place
 pub tokens_from-front : (text : List ℕ) (at len : ℕ) (token : Option Token) → front (drop at text) ≡ Some (record { token = token; len = len })
     → 0 < len → tokens_from text at ≡ placed at token (tokens_from text (at + len))
 tokens_from-front text at zero token there long = absurd (omega arith)
@@ -62,7 +62,7 @@ run_front-run (c ∷ rest) some =
 run_byte_is_ascii : (c : ℕ) → is_run_byte c ≡ true → c < 128
 run_byte_is_ascii c run = grind (arith, nat_tests)
 
--- a text may be cut behind a run
+-- a text may be cut after a run
 pub IsCharBoundary-after_run : (text : List ℕ) (at : ℕ) → IsUtf8 text → 0 < prefix_len is_run_byte (drop at text)
     → at + prefix_len is_run_byte (drop at text) ≤ length text → IsCharBoundary text (at + prefix_len is_run_byte (drop at text))
 IsCharBoundary-after_run text at utf8 some within =
@@ -84,7 +84,7 @@ capped-shown_sign s = refl
 pub rest_of_bytes : (text bytes : List ℕ) (at : ℕ) → bytes ≡ text → take (length bytes - at) (drop at bytes) ≡ drop at text
 rest_of_bytes text bytes at same = take_rest bytes at ∙ ap (drop at) same
 
--- where no sign stands at a place, the run there is the token
+-- where no sign is at a place, the run there is the token
 pub front-run : (text bytes : List ℕ) (at len : ℕ) → bytes ≡ text → front (take (length bytes - at) (drop at bytes)) ≡ run_front (take (length bytes - at) (drop at bytes))
     → len ≡ prefix_len is_run_byte (take (length bytes - at) (drop at bytes)) → 0 < len → front (drop at text) ≡ Some (sign (run_token (slice_range text at (at + len))) len)
 front-run text bytes at len same none is some =

@@ -1,4 +1,4 @@
--- What is wanted behind a token that the machine takes.
+-- What is wanted after a token that the machine takes.
 use Rattle.std.proofs.Common.{◌≡◌, ℕ, Bool, true, false, cond, List, [], ◌∷◌, ◌++◌, map, Option, Some, None, refl, sym, ap, subst, ◌∙◌, arith, lit<}
 use Rattle.std.specs.Prelude.{codes, ◌&&◌, ◌||◌, not, ⊤}
 use Rattle.std.specs.Option.{option_map}

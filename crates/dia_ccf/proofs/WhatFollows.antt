@@ -158,7 +158,7 @@ in_order rules = fixed_first (map (λ r. r.kind) rules)
 abbrev pub with_rules : PlainDef → List PlainRule → PlainDef
 with_rules d rules = record d { rules = rules }
 
--- behind a definition
+-- after a definition
 abbrev pub Rules_follow : PlainSource → PlainSource → PlainDef → Tokens
 Rules_follow done s d ts = in_order d.rules ≡ true → (more : List PlainRule) × (in_order (d.rules ++ more) ≡ true) × (each rule more then Ends (add_def done (with_rules d (d.rules ++ more))) s) ts
 

@@ -14,13 +14,13 @@ use Rattle.dia_ccf.specs.Machine.{HeadPlace, Head_word, Diameter_word, Avp_word,
 use Rattle.dia_ccf.specs.Machine.{Error_either, Error_close, Head_end, next_in_head, next_flag, on_comma, head_at, same_sign, is_keyword, keyword_at, sign_at, number_at}
 use Rattle.dia_ccf.proofs.TokenTests.{chosen, mapped, some_is, same_sign-is, sign_at-is, keyword-is, keyword_at-is, number_at-is}
 
--- behind the flags of a command
+-- after the flags of a command
 abbrev flags_rest : Bool → Bool → Bool → Bool → Option ℕ → Tokens
 flags_rest false false r p app = flag r (codes "req") then flag p (codes "pxy") then application app
 flags_rest true false r p app = λ ts. (r ≡ true) × (flag p (codes "pxy") then application app) ts
 flags_rest request true r p app = λ ts. (r ≡ request) × (p ≡ true) × application app ts
 
--- behind a head's colon
+-- after a head's colon
 abbrev diameter_rest : Head → Tokens
 diameter_rest (Group code n) = λ ts. ⊥
 diameter_rest (Command code request pxy app) = number max_command_code code then flags_rest false false request pxy app
@@ -92,7 +92,7 @@ head_ends (Error_flags false) h e = subst (λ (k : Head). of_error error_proxy k
 head_ends (Head_end k) h e = (some_is k h e, refl)
 head_ends at h e = absurd cc
 
--- ---- classes one behind the other
+-- ---- classes one after the other
 
 pub then_left : (a b c : Tokens) (ts : List Token) → (a then (b then c)) ts → ((a then b) then c) ts
 then_left a b c ts (front, rest, parts, first, (middle, last, more, second, third)) =
@@ -122,7 +122,7 @@ comma_read : (class : Tokens) (b : Bool) (t : Token) (ts : List Token) → b ≡
 comma_read class true t ts e k h = absurd cc
 comma_read class false t ts e k h = subst (λ (u : Token). class (u ∷ ts)) (sym k) h
 
--- a word behind a comma or none
+-- a word after a comma or none
 behind_then : (text w : List ℕ) (c : Tokens) (ts : List Token) (b : Bool) → map to_ascii_lowercase w ≡ text → c ts → behind_comma b (comma then keyword text then c) (Name w ∷ ts)
 behind_then text w c ts true e h = (Comma ∷ [], Name w ∷ ts, refl, inr refl, (Name w ∷ [], ts, refl, spelled text w e, h))
 behind_then text w c ts false e h = ([], Name w ∷ ts, refl, inl refl, (Name w ∷ [], ts, refl, spelled text w e, h))

@@ -1,4 +1,4 @@
--- What can stand in a state of the machine.
+-- What fits in a state of the machine.
 use Rattle.std.proofs.Common.{◌≡◌, ℕ, Bool, true, false, cond, List, [], ◌∷◌, ◌++◌, Option, Some, None, refl, sym, ap, subst, ◌∙◌}
 use Rattle.std.specs.Prelude.{codes, ◌&&◌, ◌||◌, not, is_some}
 use Rattle.std.specs.Option.{option_map}
@@ -26,7 +26,7 @@ use Rattle.dia_ccf.proofs.TokenTests.{same_sign-is, keyword-is}
 use Rattle.dia_ccf.proofs.DeclarationCompleteness.{and_false}
 use Rattle.dia_ccf.proofs.WantedBehind.{none_grown}
 
--- ---- what can stand
+-- ---- what fits
 
 some_map : {X Y : Type 0} (f : X → Y) (o : Option X) → is_some (option_map f o) ≡ is_some o
 some_map f None = refl
@@ -242,7 +242,7 @@ step_some done (After_angle d n) t = some_cond (same_sign Assign t) (add_def don
 step_some done (Loose_name d kind qual) t = some_map (λ n. (done, Loose_close d (record { kind = kind; name = n; qual = qual }))) (slot_at t)
 step_some done (Loose_close d r) t = some_sign (closing_sign r.kind) t (λ u. (done, Rules (with_rule d r)))
 
--- a token can stand exactly where the machine takes it
+-- a token fits exactly where the machine takes it
 pub next_some : (q : State) (t : Token) → is_some (next q t) ≡ fits (wanted_at q.1) t
 next_some q t = step_some q.0 q.1 t
 

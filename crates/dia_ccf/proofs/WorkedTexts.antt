@@ -33,7 +33,7 @@ signs = refl
 runs : tokens (codes "300REQ 3GPP-IMSI 1-2 -a") ≡ Name (codes "300REQ") ∷ Name (codes "3GPP-IMSI") ∷ Other ∷ Other ∷ []
 runs = refl
 
--- A character of no token: each of its bytes stands alone.
+-- A character of no token: each of its bytes is a token `Other`.
 bytes : tokens (codes "a" ++ 195 ∷ 169 ∷ codes "b") ≡ Name (codes "a") ∷ Other ∷ Other ∷ Name (codes "b") ∷ []
 bytes = refl
 

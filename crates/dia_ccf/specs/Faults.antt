@@ -1,4 +1,4 @@
--- What is told of a text that is no dictionary: the first token with which no text can begin.
+-- What is reported of a text that is no dictionary: the first token with which no text can begin.
 use Rattle.std.specs.Prelude.{◌≡◌, ℕ, suc, ◌+◌, ◌<◌, ◌≤◌, List, [], ◌∷◌, ◌++◌, length, take, Option, Some, None, slice_get, codes, ⊤}
 use Rattle.dia_ccf.specs.declared.fault.CcfFault.{CcfFault}
 use Rattle.dia_ccf.specs.declared.fault.CcfFault.TheVariants as fault
@@ -22,15 +22,15 @@ pub record IsFirstFault (ts : List Token) (k : ℕ) : Type 0 where
 abbrev pub Fits : List Token → ℕ → Token → Type 0
 Fits ts k other = CanBegin (take k ts ++ other ∷ [])
 
--- a number stands at place k, and some other number fits there
+-- token k is a number, and some other number fits there
 abbrev pub IsNumberFault : List Token → ℕ → Type 0
 IsNumberFault ts k = (n : ℕ) × (slice_get ts k ≡ Some (Number n)) × (other : ℕ) × Fits ts k (Number other)
 
--- a name above the limit stands at place k, and a short one fits there
+-- token k is a name above the limit, and a short one fits there
 abbrev pub IsLimitFault : List Token → ℕ → Type 0
 IsLimitFault ts k = (name : List ℕ) × (slice_get ts k ≡ Some (Name name)) × (max_name < length name) × Fits ts k (Name (codes "a"))
 
--- the place of token k, and behind the last token the end of the text
+-- the place of token k, and after the last token the end of the text
 abbrev pub token_place : List ℕ → Option Placed → ℕ
 token_place text None = length text
 token_place text (Some token) = token.at
@@ -41,7 +41,7 @@ place_of text k = token_place text (slice_get (placed_tokens text) k)
 abbrev pub line_of : List ℕ → ℕ → ℕ
 line_of text k = line_at text (place_of text k)
 
--- what is told of a text within the limit. Tokens count from 1
+-- what is reported of a text within the limit. Tokens count from 1
 abbrev pub IsFault : List ℕ → CcfFault → Type 0
 IsFault text (fault.Syntax token line) = (k : ℕ) × (token ≡ suc k) × (line ≡ line_of text k) × IsFirstFault (tokens text) k × (¬ IsNumberFault (tokens text) k) × (¬ IsLimitFault (tokens text) k)
 IsFault text (fault.Number line) = (k : ℕ) × (line ≡ line_of text k) × IsFirstFault (tokens text) k × IsNumberFault (tokens text) k

@@ -9,7 +9,7 @@ abbrev pub front : List ℕ → Option Piece
 front [] = None
 front (c ∷ rest) = Some (piece c rest)
 
--- white space or a comment stands at the front
+-- the bytes begin with white space or a comment
 abbrev pub begins_blank : List ℕ → Bool
 begins_blank [] = false
 begins_blank (c ∷ rest) = is_white c || c == 59
@@ -17,11 +17,11 @@ begins_blank (c ∷ rest) = is_white c || c == 59
 abbrev pub blank : ℕ → Piece
 blank len = record { token = None; len = len }
 
--- the piece where no sign stands
+-- the piece where no sign is
 abbrev pub run_piece : ℕ → List ℕ → Piece
 run_piece c rest = if is_run_byte c then sign (run_token (c ∷ take_while is_run_byte rest)) (1 + length (take_while is_run_byte rest)) else sign Other 1
 
--- the piece where no sign of several bytes stands
+-- the piece where no sign of several bytes is
 abbrev pub byte_piece : ℕ → List ℕ → Piece
 byte_piece c rest =
     if c == 58 then sign Colon 1

@@ -1,4 +1,4 @@
--- What the lexer's tokens stand for in the text.
+-- Which tokens of the text the lexer's tokens are.
 use Rattle.std.specs.Prelude.{◌≡◌, ℕ, ◌+◌, ◌<◌, ◌≤◌, min, List, [], ◌∷◌, length, drop, map, Option, Some, None}
 use Rattle.dia_ccf.specs.Limits.{max_number}
 use Rattle.dia_ccf.specs.declared.lexer.Token.{Token as LexerToken}
@@ -30,7 +30,7 @@ shown_sign signs.Assign = Assign
 shown_sign signs.Colon = Colon
 shown_sign signs.Declares = Declares
 
--- the token that one of the lexer stands for
+-- the token that one of the lexer is
 abbrev pub shown : LexerToken → Token
 shown (lexer.Sign sign) = shown_sign sign
 shown (lexer.Number n) = Number n
@@ -60,7 +60,7 @@ abbrev pub ahead : Option LexerToken → List Token
 ahead None = []
 ahead (Some token) = shown token ∷ []
 
--- the token ahead and what is left behind it; at the end of the text nothing is
+-- the token ahead and the rest; at the end of the text nothing is ahead
 abbrev pub sees : Option LexerToken → List Token → List Token
 sees None rest = []
 sees (Some token) rest = shown token ∷ rest

@@ -1,5 +1,5 @@
 -- The grammar as a machine over tokens: what has been read, and what may come next. The private functions of
--- the reader speak of it; what it has to do with the grammar is proved in proofs/.
+-- the reader are specified by it; that it reads the grammar is proved in proofs/.
 use Rattle.std.specs.Prelude.{ℕ, nat_le, nat_lt, Bool, true, false, not, ◌&&◌, ◌||◌, cond, List, [], ◌∷◌, ◌++◌, length, map, Option, Some, None, is_some, codes}
 use Rattle.std.specs.List.{find, list_all}
 use Rattle.std.specs.Option.{option_map}
@@ -25,7 +25,7 @@ use Rattle.dia_ccf.specs.Limits.{max_name, max_number, max_command_code, max_val
 
 -- ---- places
 
--- in a head, behind its `<`
+-- in a head, after its `<`
 pub data HeadPlace : Type 0 where
   Head_word : HeadPlace
   Diameter_word : HeadPlace
@@ -34,10 +34,10 @@ pub data HeadPlace : Type 0 where
   Avp_colon : HeadPlace
   Command_code : HeadPlace
   Group_code : HeadPlace
-  -- behind a command's code and the flags so far, and whether a comma follows them
+  -- after a command's code and the flags so far, and whether a comma follows them
   Flags : (code : ℕ) (request pxy comma : Bool) → HeadPlace
   Group_vendor : (code : ℕ) (comma : Bool) → HeadPlace
-  -- behind `code`, `ERR` and `[`, and whether a comma follows
+  -- after `code`, `ERR` and `[`, and whether a comma follows
   Error_word : (comma : Bool) → HeadPlace
   Error_flags : (comma : Bool) → HeadPlace
   Error_either : (comma : Bool) → HeadPlace
@@ -63,7 +63,7 @@ pub data Place : Type 0 where
   Def_assign : (name : List ℕ) → Place
   Head_open : (name : List ℕ) → Place
   In_head : (name : List ℕ) (at : HeadPlace) → Place
-  -- behind a definition, whose rules may go on
+  -- after a definition, whose rules may go on
   Rules : (def : PlainDef) → Place
   Qual_min : (def : PlainDef) (min : ℕ) → Place
   Qual_star : (def : PlainDef) (min : Option ℕ) → Place
@@ -77,7 +77,7 @@ pub data Place : Type 0 where
   Loose_name : (def : PlainDef) (kind : RuleKind) (qual : Option Qual) → Place
   Loose_close : (def : PlainDef) (rule : PlainRule) → Place
 
--- what has been read whole, and where the machine stands
+-- what has been read whole, and the machine's place
 abbrev pub State : Type 0
 State = PlainSource × Place
 
@@ -159,7 +159,7 @@ next_flag code request pxy token =
     (cond (is_keyword (codes "pxy") token) (cond pxy None (Some (Flags code request true false)))
     (option_map (λ n. Head_end (Command code request pxy (Some n))) (number_at 0 max_number token)))
 
--- a comma, where none stands yet, or what else may come
+-- a comma, where none was read yet, or what else may come
 abbrev pub on_comma : Bool → HeadPlace → Option HeadPlace → Token → Option HeadPlace
 on_comma comma to other token = cond (same_sign Comma token) (cond comma None (Some to)) other
 
@@ -213,7 +213,7 @@ abbrev pub is_none : {X : Type 0} → List X → Bool
 is_none [] = true
 is_none (x ∷ xs) = false
 
--- the bracket behind the name of a rule
+-- the bracket after the name of a rule
 abbrev pub closing_sign : RuleKind → Token
 closing_sign Fixed = Greater
 closing_sign Required = Close_brace
@@ -259,7 +259,7 @@ on_qualifier done d token =
 abbrev pub begins_loose : Token → Bool
 begins_loose token = same_sign Open_brace token || same_sign Open_bracket token
 
--- a rule, or the item behind the definition
+-- a rule, or the item after the definition
 abbrev pub on_rules : PlainSource → PlainDef → Token → Option State
 on_rules done d token =
     cond (same_sign Less token) (Some (done, Angle_name d))
@@ -316,12 +316,12 @@ whole state = whole_at state.0 state.1
 
 -- ---- whole runs
 
--- the least number that may stand at a place where one may
+-- the least number that may be at a place where one may
 abbrev pub least_at : Place → ℕ
 least_at (After_dots d ranges low) = low
 least_at place = 0
 
--- why a token is refused where a number, and where a name might stand
+-- why a token is refused, by whether a number, and whether a name, would fit
 abbrev pub why : Bool → Bool → Token → Refusal
 why numbers names (Number n) = cond numbers refusal.Number refusal.Syntax
 why numbers names (Name text) = cond (nat_lt max_name (length text) && names) refusal.Limit refusal.Syntax
@@ -330,7 +330,7 @@ why numbers names token = refusal.Syntax
 abbrev pub refused : State → Token → Refusal
 refused state token = why (is_some (next state (Number (least_at state.1)))) (is_some (next state (Name (codes "a")))) token
 
--- the whole source, or why the token ahead is refused, and what is left from it on
+-- the whole source, or why the token ahead is refused, and the rest from it on
 pub data Outcome : Type 0 where
   Reads : (source : PlainSource) → Outcome
   Stops : (refusal : Refusal) (left : List Token) → Outcome

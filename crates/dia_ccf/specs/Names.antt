@@ -1,4 +1,4 @@
--- Names, and the other facts that each value of a source keeps.
+-- Names, and what else holds of each value of a source.
 use Rattle.std.specs.Prelude.{ℕ, ◌+◌, nat_lt, nat_le, Bool, true, false, not, ◌&&◌, if◌then◌else◌, List, [], ◌∷◌, length, Option, Some, None, String, string_bytes}
 use Rattle.std.specs.List.{list_all}
 use Rattle.std.specs.Global.{Vec, Global}
@@ -32,7 +32,7 @@ is_qualifier (Some q) = is_number_or_none q.min && is_number_or_none q.max
 abbrev pub is_range : ℕ × ℕ → Bool
 is_range range = nat_le range.0 range.1 && nat_lt range.1 (max_value + 1)
 
--- a list stands only behind Enumerated, and is not empty
+-- a list follows only Enumerated, and is not empty
 abbrev pub fits_values : FormatName → Option (Vec (ℕ × ℕ)) → Bool
 fits_values format None = true
 fits_values Enumerated (Some ranges) = nat_lt 0 (length ranges.items) && list_all is_range ranges.items

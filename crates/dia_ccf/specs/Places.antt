@@ -1,4 +1,4 @@
--- Where the parts of a source stand in the text.
+-- Where the parts of a source are in the text.
 use Rattle.std.specs.Prelude.{◌≡◌, ℕ, ◌<◌, List, [], ◌∷◌, ◌++◌, drop}
 use Rattle.std.specs.List.{All, AllPairs}
 use Rattle.dia_ccf.specs.declared.source.Decl.{Decl}
@@ -25,7 +25,7 @@ heading d = opened d.name then one Assign then one Less then head d.head then on
 abbrev pub DeclStands : List ℕ → Decl → Type 0
 DeclStands text d = (k : ℕ) × (m : ℕ) × Spans text k (declaration (plain_decl d)) m × (place_of text k ≡ d.at)
 
--- the rules stand one behind the other from token k up to token m
+-- the rules follow each other from token k up to token m
 abbrev pub RulesStand : List ℕ → ℕ → List Rule → ℕ → Type 0
 RulesStand text k [] m = k ≡ m
 RulesStand text k (r ∷ rules) m = (next : ℕ) × Spans text k (rule (plain_rule r)) next × (place_of text k ≡ r.at) × RulesStand text next rules m
@@ -33,7 +33,7 @@ RulesStand text k (r ∷ rules) m = (next : ℕ) × Spans text k (rule (plain_ru
 abbrev pub DefStands : List ℕ → Def → Type 0
 DefStands text d = (k : ℕ) × (m : ℕ) × (end : ℕ) × Spans text k (heading (plain_def d)) m × (place_of text k ≡ d.at) × RulesStand text m d.rules.items end
 
--- each part stands at its place, and each list is in the order of the text
+-- each part is at its place, and each list is in the order of the text
 pub record IsPlaced (text : List ℕ) (source : Source) : Type 0 where
   pub avps : All (DeclStands text) source.avps.items
   pub groups : All (DefStands text) source.groups.items
@@ -42,7 +42,7 @@ pub record IsPlaced (text : List ℕ) (source : Source) : Type 0 where
   pub groups_rise : AllPairs (λ a b. a.at < b.at) source.groups.items
   pub commands_rise : AllPairs (λ a b. a.at < b.at) source.commands.items
 
--- each part stands at its place, before another one
+-- each part is at its place, before another one
 pub record IsPlacedBefore (text : List ℕ) (at : ℕ) (source : Source) : Type 0 where
   pub placed : IsPlaced text source
   pub avps : All (λ d. d.at < at) source.avps.items

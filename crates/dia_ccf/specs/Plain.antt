@@ -1,4 +1,4 @@
--- Sources without where they lie in memory.
+-- Sources as plain values.
 use Rattle.std.specs.Prelude.{ℕ, List, map, Option, string_bytes}
 use Rattle.std.specs.Option.{option_map}
 use Rattle.dia_terms.specs.declared.FormatName.{FormatName}

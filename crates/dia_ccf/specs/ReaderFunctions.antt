@@ -46,7 +46,7 @@ abbrev pub Takes : (Token → Bool) → Reader → Bool → Reader → Type 0
 Takes test old true new = (token : Token) × (test token ≡ true) × Passes old (token ∷ []) new
 Takes test old false new = (begins_with test (left old) ≡ false) × (new ≡ old)
 
--- a flag was taken, with a comma behind it or none; or none is ahead, and whether a comma was read stays as it was
+-- a flag was taken, and a comma after it or none; or none is ahead, and whether a comma was read stays as it was
 abbrev pub Flags_read : List ℕ → Bool → Reader → Bool × Bool → Reader → Type 0
 Flags_read text comma old found new = (mid : Reader) × Takes (is_keyword text) old found.0 mid × MatchBool found.0 (Takes (same_sign Comma) mid found.1 new) ((found.1 ≡ comma) × (new ≡ mid))
 
@@ -54,7 +54,7 @@ abbrev pub why_ahead : Bool → Bool → List Token → Refusal
 why_ahead numbers names [] = refusal.Syntax
 why_ahead numbers names (token ∷ tokens) = why numbers names token
 
--- what is read of the one token ahead, where numbers and names tells whether some number or name would do
+-- what is read of the one token ahead, `numbers` and `names` are whether some number or name would fit
 abbrev pub AcceptsUnless : Bool → Bool → {Y : Type 0} → (Token → Option Y) → Reader → Refusal → Reader → Type 0
 AcceptsUnless numbers names read old refusal.NoMemory new = Unit {0}
 AcceptsUnless numbers names read old error new = (new ≡ old) × (begins_with (λ token. is_some (read token)) (left old) ≡ false) × (error ≡ why_ahead numbers names (left old))
@@ -70,7 +70,7 @@ Course = List ℕ × Outcome
 abbrev pub course : State → Reader → Course
 course state reader = (reader.text.now, outcome state (left reader))
 
--- the reader stands where the machine stops
+-- the reader is where the machine stops
 abbrev pub StopsAt : Course → Refusal → Reader → Type 0
 StopsAt from refusal.NoMemory new = Unit {0}
 StopsAt from error new = from ≡ (new.text.now, Stops error (left new))
@@ -80,7 +80,7 @@ abbrev pub Leads : {X : Type 0} → Course → (X → State) → Result X Refusa
 Leads from to (Ok x) new = from ≡ course (to x) new
 Leads from to (Err error) new = StopsAt from error new
 
--- what the machine does with the token ahead, and whether some number or name would do in its place
+-- what the machine does with the token ahead, and whether some number or name would fit in its place
 abbrev pub Wants : Bool → Bool → (Token → Option State) → State → List Token → Type 0
 Wants numbers names to state [] = whole state ≡ None
 Wants numbers names to state (token ∷ tokens) = (next state token ≡ to token) × (refused state token ≡ why numbers names token)
@@ -91,18 +91,18 @@ pub record Reads_by {Y : Type 0} (numbers names : Bool) (read : Token → Option
   pub refused_is : (token : Token) → refused state token ≡ why numbers names token
   pub unfinished : whole state ≡ None
 
--- the place behind a definition and the beginning of the next one, if it was read
+-- the place after a definition and the name of the next one, if it was read
 abbrev pub behind : Option Opening → Place
 behind None = Between
 behind (Some opening) = Def_assign (string_bytes opening.name)
 
--- the state behind some rules of a definition and what stands behind them
+-- the state after some rules of a definition and what follows them
 abbrev pub after_rules : PlainSource → PlainDef → Behind → State
 after_rules done d (behinds.Rule rule) = (done, Rules (with_rule d (plain_rule rule)))
 after_rules done d (behinds.Definition opening) = (add_def done d, Def_assign (string_bytes opening.name))
 after_rules done d behinds.Nothing = (add_def done d, Between)
 
--- a fixed rule comes only behind fixed ones
+-- a fixed rule follows only fixed ones
 abbrev pub KeepsOrder : Behind → Bool → Type 0
 KeepsOrder (behinds.Rule rule) fixed = rule.kind ≡ Fixed → fixed ≡ true
 KeepsOrder found fixed = Unit {0}
@@ -129,7 +129,7 @@ still reader = drop reader.taken (tokens reader.text.now)
 abbrev pub Derived : Tokens → Reader → Reader → Type 0
 Derived class old new = (front : List Token) × (still old ≡ front ++ still new) × class front × (old.text.now ≡ new.text.now)
 
--- a declaration behind its `%avp`
+-- a declaration after its `%avp`
 abbrev pub declaring : PlainDecl → Tokens
 declaring d = name d.name then number max_number d.code then vendor d.vendor then word (format_word d.format) then word (rule_word d.rule) then values d.format d.values
 
@@ -143,7 +143,7 @@ abbrev pub header_words : Bool → Tokens
 header_words true = either (keyword (codes "avp") then keyword (codes "header")) (keyword (codes "avp-header"))
 header_words false = either (keyword (codes "diameter") then keyword (codes "header")) (keyword (codes "diameter-header"))
 
--- a head of each kind, behind its colon and, with errors, its `code`
+-- a head of each kind, after its colon and, with errors, its `code`
 abbrev pub group_of : Head → Tokens
 group_of (Group code n) = number max_number code then group_vendor n
 group_of head = λ ts. ⊥
@@ -156,7 +156,7 @@ abbrev pub error_of : Head → Tokens
 error_of (Error pxy) = comma then keyword (codes "err") then error_proxy pxy
 error_of head = λ ts. ⊥
 
--- a proxiable flag behind its `[`
+-- a proxiable flag after its `[`
 abbrev pub in_brackets : Pxy → Tokens
 in_brackets Either = comma then keyword (codes "pxy") then one Close_bracket
 in_brackets pxy = λ ts. ⊥
@@ -165,7 +165,7 @@ in_brackets pxy = λ ts. ⊥
 abbrev pub From : ℕ → Tokens → Reader → Type 0
 From at class reader = (k : ℕ) × Spans reader.text.now k class reader.taken × (place_of reader.text.now k ≡ at)
 
--- what stands behind some rules was passed: a rule, or the beginning of the next definition
+-- what follows some rules was passed: a rule, or the name of the next definition
 abbrev pub Passed_behind : Behind → Reader → Reader → Type 0
 Passed_behind (behinds.Rule rule) old new = Derived (rule_tokens (plain_rule rule)) old new
 Passed_behind (behinds.Definition opening) old new = Derived (opened (string_bytes opening.name)) old new
@@ -186,7 +186,7 @@ unread (Some opening) reader = opening.at
 abbrev pub nothing_read : PlainSource
 nothing_read = record { avps = []; groups = []; commands = [] }
 
--- what is told where the reader stands
+-- what is reported where the reader is
 abbrev pub told_at : Reader → CcfFault → Refused
 told_at reader fault = refuseds.At (record { fault = fault; at = reader.at; wanted = reader.wanted; last = reader.last; earlier = reader.earlier })
 

@@ -1,4 +1,4 @@
--- What is told of a text that is refused: why, at which place, and what could stand there.
+-- What is reported of a text that is refused: why, at which place, and what would fit there.
 use Rattle.std.specs.Prelude.{◌≡◌, ℕ, zero, suc, ◌-◌, ◌≤◌, ◌<◌, ◌↔◌, List, [], ◌∷◌, ◌++◌, length, take, Option, None, slice_get, IsTrue, ⊤}
 use Rattle.std.specs.Option.{option_map}
 use Rattle.dia_ccf.specs.declared.fault.CcfFault.{CcfFault}
@@ -19,7 +19,7 @@ fault_of refused.TooLong = fault.Limit 0
 fault_of refused.NoMemory = fault.NoMemory
 fault_of (refused.At misfit) = misfit.fault
 
--- exactly these tokens go on with a text of the grammar, and the end of the text is wanted where it is one
+-- exactly these tokens can follow the front in a text of the grammar, and the end is wanted where the front is a whole text
 pub record IsWanted (front : List Token) (wanted : Wanted) : Type 0 where
   pub fitting : (token : Token) → IsTrue (fits wanted token) ↔ CanBegin (front ++ token ∷ [])
   pub ending : IsTrue (may_end wanted) ↔ ((source : PlainSource) × Derives front source)

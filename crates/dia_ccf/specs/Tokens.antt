@@ -25,12 +25,12 @@ pub data Token : Type 0 where
   Name : (text : List ℕ) → Token
   Other : Token
 
--- a token and how many bytes stand before it
+-- a token and how many bytes precede it
 pub record Placed : Type 0 where
   pub token : Token
   pub at : ℕ
 
--- what stands at the front of bytes that are not empty: the token, if it is one, and its length
+-- the first piece of bytes that are not empty: the token, if it is one, and its length
 pub record Piece : Type 0 where
   pub token : Option Token
   pub len : ℕ

@@ -1,4 +1,4 @@
--- What can stand in a state of the machine.
+-- What fits in a state of the machine.
 use Rattle.std.specs.Prelude.{ℕ, Bool, true, false, not, ◌&&◌, ◌||◌, cond, List, [], ◌∷◌, Option, Some, None, is_some, codes}
 use Rattle.dia_terms.specs.declared.RuleKind.TheVariants.{Required, Optional}
 use Rattle.dia_ccf.specs.declared.wanted.Wanted.{Wanted}
@@ -96,7 +96,7 @@ fits_rules (rules.Angled only_fixed) token = same_sign Assign token || (only_fix
 fits_rules (rules.LooseName kind) token = is_some (slot_at token)
 fits_rules (rules.LooseClose kind) token = same_sign (closing_sign kind) token
 
--- the token can stand there
+-- the token fits there
 abbrev pub fits : Wanted → Token → Bool
 fits wants.Item token = begins_item token
 fits (wants.Declaration place) token = fits_declaration place token
@@ -159,7 +159,7 @@ wanted_at (After_angle d name) = wants.Rules (rules.Angled (all_fixed d.rules))
 wanted_at (Loose_name d kind qual) = wants.Rules (rules.LooseName kind)
 wanted_at (Loose_close d rule) = wants.Rules (rules.LooseClose rule.kind)
 
--- ---- what can stand behind a token that fits
+-- ---- what fits after a token that fits
 
 -- a number of the limit's size, and 0 for any other token
 abbrev pub small_value : Option ℕ → ℕ
@@ -258,7 +258,7 @@ behind (wants.Definition place) token = behind_in_definition place
 behind (wants.Head place) token = behind_in_head place token
 behind (wants.Rules place) token = behind_in_rules place token
 
--- behind these tokens, from a place on
+-- after these tokens, from a place on
 abbrev pub behind_all : Wanted → List Token → Wanted
 behind_all place [] = place
 behind_all place (token ∷ tokens) = behind_all (behind place token) tokens

@@ -10,11 +10,11 @@ pub enum CcfFault {
     /// the token after the last, on the line on which the text ends.
     #[error("line {line}: token {token} is not expected here")]
     Syntax { token: u32, line: u32 },
-    /// A number stands where one may stand, and is not in the range that is wanted there.
+    /// A number is out of the range that is wanted there.
     #[error("line {line}: the number is out of range")]
     Number { line: u32 },
-    /// A name longer than [`MAX_NAME`](crate::MAX_NAME) bytes stands where a name that is free to choose may
-    /// stand; or, on line 0, the text is longer than [`MAX_TEXT`](crate::MAX_TEXT).
+    /// A name that is free to choose is longer than [`MAX_NAME`](crate::MAX_NAME) bytes;
+    /// or, on line 0, the text is longer than [`MAX_TEXT`](crate::MAX_TEXT).
     #[error(fmt = tell_limit)]
     Limit { line: u32 },
     /// Memory was refused.
@@ -22,7 +22,7 @@ pub enum CcfFault {
     NoMemory,
 }
 
-/// Tells which limit is passed.
+/// Writes which limit is passed.
 fn tell_limit<W: fmt::Write>(line: &u32, f: &mut fmt::Formatter<W>) -> fmt::Result {
     if *line == 0 {
         write!(f, "the text is too long")

@@ -15,7 +15,7 @@ pub enum Kind {
     Number,
     /// A run that begins with a letter or a digit and holds a letter, of any length.
     Name,
-    /// A character or a run that may stand in comments alone.
+    /// A character or a run that may occur in comments alone.
     Other,
 }
 

@@ -154,7 +154,7 @@ fn blank_len(bytes: &[u8]) -> Option<usize>
     }
 }
 
-/// How many bytes stand before the next line feed.
+/// How many bytes precede the next line feed.
 fn comment_len(bytes: &[u8]) -> usize
     ensures len { result ≡ prefix_len (λ b. not (b == 10)) bytes.now }
     ensures within { result ≤ length bytes.now }
@@ -232,7 +232,7 @@ fn sign_of(b: u8) -> Option<Sign>
     Some(sign)
 }
 
-/// How many letters, digits and dashes stand at the front.
+/// How many letters, digits and dashes are at the front.
 fn run_len(bytes: &[u8]) -> usize
     ensures len { result ≡ prefix_len is_run_byte bytes.now }
     ensures within { result ≤ length bytes.now }

@@ -26,7 +26,7 @@ use std::alloc::Global;
 pub fn parse(alloc: Global, text: &str) -> Result<Source, CcfFault>
     // What is read is derived from the text's tokens.
     ensures found { IfOk result (λ source. Derives (tokens text.now) (plain_source source)) }
-    // Each part of it stands at its place.
+    // Each part of it is at its place.
     ensures placed { IfOk result (IsPlaced text.now) }
     // No other source is, and one that is derived is read, unless memory runs out.
     ensures only { (source : PlainSource) → length text.now ≤ max_text
@@ -42,7 +42,7 @@ pub fn parse(alloc: Global, text: &str) -> Result<Source, CcfFault>
     }
 }
 
-/// Reads a text as [`parse`] does. Of a text that is refused it tells the place, and what could stand there.
+/// Reads a text as [`parse`] does. Of a text that is refused it reports the place, and what would fit there.
 pub fn read(alloc: Global, text: &str) -> Result<Source, Refused>
     ensures found { IfOk result (λ source. Derives (tokens text.now) (plain_source source)) }
     ensures placed { IfOk result (IsPlaced text.now) }
@@ -62,7 +62,7 @@ pub fn read(alloc: Global, text: &str) -> Result<Source, Refused>
     }
 }
 
-/// A text has one fault at most, so that `parse` can tell no other.
+/// A text has one fault at most, so that `parse` can report no other.
 pub fn one_fault()
     ensures { (text : List ℕ) (a b : AnyFault) → IsFault text a → IsFault text b
         → ¬ (a ≡ CcfFault.NoMemory) → ¬ (b ≡ CcfFault.NoMemory) → a ≡ b }

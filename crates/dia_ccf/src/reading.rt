@@ -38,9 +38,9 @@ pub(crate) struct Reader<'a> {
     /// The place in bytes where the token ahead begins, and the one where it ends.
     at: usize,
     end: usize,
-    /// How many tokens stand before it.
+    /// How many tokens precede it.
     taken: u32,
-    /// What can stand in its place.
+    /// What would fit in its place.
     wanted: Wanted,
     /// The places of the token before it, and of the one before that.
     last: Option<usize>,
@@ -68,7 +68,7 @@ impl<'a> Reader<'a> {
     ghost use Rattle.dia_ccf.specs.ReaderFunctions.{left, Passes, Takes, Accepts, Finishes};
     ghost use Rattle.dia_ccf.specs.ReaderFunctions.{IsToldAt, told_at, course, begins_with, nothing_read};
 
-    /// A reader that stands at the first token.
+    /// A reader at the first token.
     pub(crate) fn new(alloc: Global, text: &'a str) -> Self
         requires { length text.now ≤ max_text }
         ensures { (result.text.now ≡ text.now) × (result.taken ≡ 0) }
@@ -102,7 +102,7 @@ impl<'a> Reader<'a> {
         self.taken += 1;
     }
 
-    /// What can stand behind the token ahead.
+    /// What fits after the token ahead.
     fn wanted_behind(&self) -> Wanted
         ensures { result ≡ behind_all self.now.wanted (ahead self.now.token) }
     {
@@ -112,7 +112,7 @@ impl<'a> Reader<'a> {
         }
     }
 
-    /// Whether the sign stands ahead.
+    /// Whether the sign is ahead.
     fn is_at(&self, sign: Sign) -> bool
         ensures { result ≡ begins_with (same_sign (shown_sign sign)) (left self.now) }
     {
@@ -122,14 +122,14 @@ impl<'a> Reader<'a> {
         }
     }
 
-    /// Whether a number stands ahead.
+    /// Whether a number is ahead.
     fn is_at_number(&self) -> bool
         ensures { result ≡ begins_with is_number (left self.now) }
     {
         matches!(self.token, Some(Token::Number(_) | Token::TooGreat))
     }
 
-    /// Goes past the sign, if it stands ahead.
+    /// Goes past the sign, if it is ahead.
     fn takes(&mut self, sign: Sign) -> bool
         ensures { Takes (same_sign (shown_sign sign)) self.old result self.new }
     {
@@ -152,7 +152,7 @@ impl<'a> Reader<'a> {
         }
     }
 
-    /// Goes past the word, if it stands ahead.
+    /// Goes past the word, if it is ahead.
     fn takes_word(&mut self, word: &str) -> bool
         ensures { Takes (is_word word.now) self.old result self.new }
     {
@@ -166,7 +166,7 @@ impl<'a> Reader<'a> {
         }
     }
 
-    /// Goes past the word in either letter case, if it stands ahead.
+    /// Goes past the word in either letter case, if it is ahead.
     fn takes_keyword(&mut self, word: &str) -> bool
         ensures { Takes (is_keyword (map to_ascii_lowercase word.now)) self.old result self.new }
     {
@@ -255,7 +255,7 @@ impl<'a> Reader<'a> {
         }
     }
 
-    /// What is told of a refusal at the token ahead.
+    /// What is reported of a refusal at the token ahead.
     pub(crate) fn refused(&self, refusal: Refusal) -> Refused
         ensures { IsToldAt refusal self.now result }
     {
@@ -318,7 +318,6 @@ fn line_of(text: &str, at: usize) -> u32
     line
 }
 
-/// Adds a declaration.
 fn keep_declaration(source: &mut Source, decl: Decl) -> Result<(), Refusal>
     ensures kept { OnOk result
         (plain_source source.new ≡ add_decl (plain_source source.old) (plain_decl decl)) }

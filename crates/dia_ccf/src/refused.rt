@@ -1,4 +1,4 @@
-//! Where a text is refused, and what could stand there.
+//! Where a text is refused, and what would fit there.
 ghost use Rattle.std.specs.Prelude.{◌≡◌};
 ghost use Rattle.dia_ccf.specs.Refusals.{fault_of};
 
@@ -12,7 +12,7 @@ pub enum Refused {
     TooLong,
     /// Memory was refused.
     NoMemory,
-    /// A token can't stand where it stands, or the text can't end where it ends.
+    /// A token doesn't fit where it is, or the text can't end where it ends.
     At(Misfit),
 }
 
@@ -22,7 +22,7 @@ pub struct Misfit {
     pub fault: CcfFault,
     /// The place in bytes where the token begins, or the length of the text.
     pub at: usize,
-    /// What could stand there.
+    /// What would fit there.
     pub wanted: Wanted,
     /// The places of the token before it, and of the one before that.
     pub last: Option<usize>,

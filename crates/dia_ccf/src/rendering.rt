@@ -234,7 +234,7 @@ fn put_qualifier(text: &mut String, qual: Option<Qual>) -> Result<(), AllocError
     put_count(text, qual.max, " ")
 }
 
-/// A count, and what stands behind it.
+/// A count, and what follows it.
 fn put_count(text: &mut String, count: Option<u32>, behind: &str) -> Result<(), AllocError>
     ensures { OnOk result (string_bytes text.new
         ≡ string_bytes text.old ++ (count_text count ++ behind.now)) }

@@ -48,7 +48,7 @@ pub enum Head {
     },
 }
 
-/// How often the AVP of a rule stands (RFC 6733 section 3.2).
+/// How often the AVP of a rule occurs (RFC 6733 section 3.2).
 #[derive(Clone, Copy)]
 pub struct Qual {
     /// The least count. `None` is 1 in braces and 0 elsewhere.
@@ -63,9 +63,9 @@ pub struct Rule {
     /// The place in bytes of its first token, a count, a `*` or a bracket.
     pub at: usize,
     pub kind: RuleKind,
-    /// `None` is the wildcard, which stands for all AVPs that no rule of the definition names.
+    /// `None` is the wildcard: all AVPs that no rule of the definition names.
     pub name: Option<String>,
-    /// Without a qualifier the AVP stands exactly once, in brackets at most once.
+    /// Without a qualifier the AVP occurs exactly once, in brackets at most once.
     pub qual: Option<Qual>,
     pub ghost named: { IsTrue (is_rule_name kind name) },
     pub ghost counted: { IsTrue (is_qualifier qual) },

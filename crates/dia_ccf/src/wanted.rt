@@ -1,50 +1,50 @@
-//! What can stand at a place of a text.
+//! What fits at a place of a text.
 
 mod behind;
 
 use dia_terms::RuleKind;
 
-/// What can stand at a place, by what has been read before it.
+/// What fits at a place, by what has been read before it.
 #[derive(Clone, Copy)]
 pub enum Wanted {
     /// A declaration or a definition, or the end of the text.
     Item,
     Declaration(InDeclaration),
     Definition(InDefinition),
-    /// A part of a head, or the `>` behind it.
+    /// A part of a head, or the `>` after it.
     Head(InHead),
     Rules(InRules),
 }
 
-/// What can stand in a declaration, behind its `%avp`.
+/// What fits in a declaration, after its `%avp`.
 #[derive(Clone, Copy)]
 pub enum InDeclaration {
     Name,
     Code,
     /// `vendor`, or a format.
     VendorOrFormat,
-    /// The number behind `vendor`.
+    /// The number after `vendor`.
     Vendor,
     Format,
     MRule { is_enumerated: bool },
-    /// The list of values of an Enumerated AVP, or what stands behind the declaration.
+    /// The list of values of an Enumerated AVP, or what follows the declaration.
     ValuesOrItem,
     /// The first value of a list.
     FirstValue,
-    /// `..`, the next value or `)`, behind this value.
+    /// `..`, the next value or `)`, after this value.
     DotsOrValue { low: u32 },
     /// The end of the range that begins with this value.
     High { low: u32 },
-    /// The next value or `)`, behind a range.
+    /// The next value or `)`, after a range.
     NextValue,
 }
 
-/// What can stand at the beginning of a definition.
+/// What fits where a definition begins.
 #[derive(Clone, Copy)]
 pub enum InDefinition {
-    /// The name behind `<`.
+    /// The name after `<`.
     Name,
-    /// The `>` behind the name.
+    /// The `>` after the name.
     Close,
     /// `::=`
     Assign,
@@ -52,12 +52,12 @@ pub enum InDefinition {
     Head,
 }
 
-/// What can stand in a head. `comma` tells that a comma was read, behind which the head can't end.
+/// What fits in a head. `comma` is whether a comma was read, after which the head can't end.
 #[derive(Clone, Copy)]
 pub enum InHead {
     /// `Diameter` or `AVP`, alone or joined to `Header`.
     Word,
-    /// `Header`, behind `AVP` or `Diameter`.
+    /// `Header`, after `AVP` or `Diameter`.
     Header {
         is_group: bool,
     },
@@ -81,31 +81,31 @@ pub enum InHead {
     ErrorWord {
         comma: bool,
     },
-    /// The proxiable flag behind `ERR`, or its `[`.
+    /// The proxiable flag after `ERR`, or its `[`.
     ErrorProxy {
         comma: bool,
     },
-    /// The proxiable flag behind its `[`.
+    /// The proxiable flag after its `[`.
     ErrorEither {
         comma: bool,
     },
-    /// The `]` behind the proxiable flag.
+    /// The `]` after the proxiable flag.
     EitherClose,
     /// Only the `>` of the head.
     Close,
 }
 
-/// What can stand in the rules of a definition. `only_fixed` tells that all rules before the place are fixed, so that one more
+/// What fits in the rules of a definition. `only_fixed` is whether all rules before the place are fixed, so that one more
 /// may be.
 #[derive(Clone, Copy)]
 pub enum InRules {
-    /// A rule, or what stands behind the definition.
+    /// A rule, or what follows the definition.
     Rule { only_fixed: bool },
-    /// The `*` behind a least count.
+    /// The `*` after a least count.
     Star { only_fixed: bool },
     /// A greatest count, or the bracket of the rule.
     Greatest { only_fixed: bool },
-    /// The bracket behind the counts.
+    /// The bracket after the counts.
     Bracket { only_fixed: bool },
     /// The name of a fixed rule with counts.
     FixedName,
@@ -113,7 +113,7 @@ pub enum InRules {
     /// A name in angle brackets: of a fixed rule, or of the next definition.
     AngledName { only_fixed: bool },
     AngledClose { only_fixed: bool },
-    /// `::=` behind such a name, or what stands behind a fixed rule.
+    /// `::=` after such a name, or what follows a fixed rule.
     Angled { only_fixed: bool },
     /// The name in `{ }` or `[ ]`, or `AVP`.
     LooseName { kind: RuleKind },

@@ -31,7 +31,7 @@ use Rattle.dia_check.proofs.PartsOfPieces.{lies_later}
 pub sound_levels : (b : PlainBasis) (o : OpenLevels) (from at : ℕ) (piece : List ℕ) → ∥ ReadsOn b o from at piece ∥₁ → ∥ AreSound b.dictionary o at ∥₁
 sound_levels b o from at piece h = ∥∥₁_map h (λ x. let (bytes, good, few, w, lies) = x in (b.unknown, b.levels, bytes, good, few, w))
 
--- what is left of a piece stands at the place that is reached
+-- the rest of a piece is at the place that is reached
 lies_ahead : (bytes piece : List ℕ) (from at : ℕ) → from ≤ at → at ≤ from + length piece → LiesAt bytes from piece → LiesAt bytes at (drop (at - from) piece)
 lies_ahead bytes piece from at le within lies =
     let here : from + (at - from) ≡ at = omega (arith, le) in
@@ -82,7 +82,7 @@ module _ (d : Dictionary) (sound : IsDictionary d) (u : Unknown) (most : Levels)
   part : between piece (at - from) (until - from) ≡ between bytes at until
   part = piece_part bytes piece from at until lies le bounds.0 bounds.2
 
-  -- where the level goes on behind the piece, so does what follows an AVP
+  -- where the level goes on after the piece, so does what follows an AVP
   pub begins : (v : PlainAvp) (rest : List ℕ) → BeginsWith v (between piece (at - from) (until - from)) rest → BeginsWith v w.s.bytes (rest ++ between bytes until kept.end)
   begins v rest (front, spells, parts) =
       let more = between bytes until kept.end in (
@@ -92,7 +92,7 @@ module _ (d : Dictionary) (sound : IsDictionary d) (u : Unknown) (most : Levels)
             ∙ ap (λ (t : List ℕ). t ++ more) (sym part ∙ parts) ∙ append_assoc front rest more,
       )
 
-  -- where it doesn't, the piece holds what is left of the level
+  -- where it doesn't, the piece holds the rest of the level
   pub all_here : kept.end ≤ from + length piece → between piece (at - from) (until - from) ≡ w.s.bytes
   all_here up =
       let end : until ≡ kept.end = is ∙ min-eq_left up in

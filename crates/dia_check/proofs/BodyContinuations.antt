@@ -54,7 +54,7 @@ module _ (d : Dictionary) (sound : IsDictionary d) (u : Unknown) (most : Levels)
       by [] e = refl
       by (x ∷ xs) e = absurd (omega (arith, e))
 
-  -- behind the outermost level nothing of the message is left
+  -- after the outermost level nothing of the message is left
   pub all_reached : w.s.bytes ≡ [] → map so_far w.rests ≡ [] → at ≡ length bytes
   all_reached none alone =
       let l = (last d sound u most bytes good o at w).1.lies in

@@ -109,7 +109,7 @@ pub stop_ahead : (d : Dictionary) (u : Unknown) (most : Levels) (bytes : List �
 stop_ahead d u most bytes good o Less Memory (Ok next) more h = h
 stop_ahead d u most bytes good o Less Memory (Err e) more h = stop_for d u most bytes good Less Memory more e h
 
--- where the next part stands, and what memory is taken for
+-- where the next part is, and what memory is taken for
 pub next_is_here : (d : Dictionary) (u : Unknown) (most : Levels) (bytes : List ℕ) (good : HasGoodHeader d bytes) (o : OpenLevels) (Memory : Type 0) (r : Result (Option Part) Refusal)
     (Less : Type 0) (at : ℕ) {n : ℕ} → (Less → Memory) → at ≡ n
     → MatchResult r (λ next. IsNext d u most bytes good o next at) (IsStop d u most bytes good Less) → MatchResult r (λ next. IsNext d u most bytes good o next n) (IsStop d u most bytes good Memory)
@@ -132,7 +132,7 @@ module _ (d : Dictionary) (sound : IsDictionary d) (u : Unknown) (most : Levels)
       by None is = refl
       by (Some e) is = let l = leaf e is in record { leaf = inl l.1; opens = λ g. absurd (l.0 g); definition = no_definition d sound (key_of v) e is l.0 }
 
-  -- ---- behind the data
+  -- ---- after the data
 
   module _ (o : OpenLevels) (part : DataPart) (n : ℕ) (h : IsInData d u most bytes good o part n) (over : part.next ≤ n) where
     all_seen : take (n - (part.at + head_length h.avp.vendor)) h.avp.bytes ≡ h.avp.bytes
@@ -155,7 +155,7 @@ module _ (d : Dictionary) (sound : IsDictionary d) (u : Unknown) (most : Levels)
     pub place_few : part.at ≤ length bytes
     place_few = let p = place d sound u most bytes good h.before part.at h.under_way in omega (arith, p.0, p.1)
 
-  -- ---- behind the head
+  -- ---- after the head
 
   module _ (o : OpenLevels) (at : ℕ) (head : AvpHead) (h : IsAtAvp d u most bytes good o at head) where
     pub same_key : (vendor : ℕ) → vendor ≡ unwrap_or head.vendor 0 → record { code = head.code; vendor = vendor } ≡ key_of h.avp

@@ -67,7 +67,7 @@ pub front_le : (rules : List DRule) (p q : List Key) (j : ℕ) → slice_index (
 front_le [] p q j = omega arith
 front_le (r ∷ rules) p q j = front_at r rules p q j (λ i. front_le rules (drop (prefix_len (is_of r) p) p) q i) (inside_or_all r p)
 
--- ---- what is behind the runs of a front is the first of what is behind those of the whole
+-- ---- what follows the runs of a front begins what follows those of the whole
 
 abbrev behind_runs : List DRule → List Key → List Key
 behind_runs rules keys = drop (sum (runs rules keys)) keys
@@ -151,7 +151,7 @@ listed_of q rules k h =
     let (j, here, kept) = at_filter q rules i a at in
     at_any (lists_key k) rules j a here lists
 
--- a key that may stand behind the runs is no fixed rule's, and listed or a wildcard's
+-- a key that may follow the runs is no fixed rule's, and listed or a wildcard's
 pub may_be_allowed : (rules : List DRule) (k : Key) → AreRules rules → MayBeLoose rules k → ¬ (IsTrue (is_listed (fixed_rules rules) k) ⊎ ((is_listed rules k ≡ false) × (has_wildcard rules ≡ false)))
 may_be_allowed rules k are (inl l) (inl f) = one_kind rules k are f l
 may_be_allowed rules k are (inl l) (inr n) = both_ways (is_listed rules k) n.0 (listed_of (λ (r : DRule). not (is_fixed r)) rules k l)

@@ -51,7 +51,7 @@ pub record Counted (rules : List DRule) (keys : List Key) : Type 0 where
 abbrev pub PassesNone : List DRule → List Key → Key → Type 0
 PassesNone rules keys k = (i : ℕ) (rule : DRule) (max : ℕ) → slice_get rules i ≡ Some rule → rule.max ≡ Some max → met rules keys i rule ≡ max → met rules (keys ++ k ∷ []) i rule ≢ suc max
 
--- and it may stand where it comes, if that is behind the runs
+-- and it may be where it comes, if that is after the runs
 abbrev pub MayStand : List DRule → List Key → Key → Type 0
 MayStand rules keys k = loose_start rules (keys ++ k ∷ []) ≤ length keys → MayBeLoose rules k
 
@@ -72,7 +72,7 @@ one_of : (b : Bool) → cond b 1 0 ≤ 1
 one_of true = omega arith
 one_of false = omega arith
 
--- a key behind the runs counts for each rule at most once
+-- a key after the runs counts for each rule at most once
 grows_loose : (rules : List DRule) (keys : List Key) (k : Key) (i m : ℕ) (rule : DRule) → IsAt (fixed_rules rules) m keys → NoneFrom (fixed_rules rules) m k
     → (met rules keys i rule ≤ met rules (keys ++ k ∷ []) i rule) × (met rules (keys ++ k ∷ []) i rule ≤ suc (met rules keys i rule))
 grows_loose rules keys k i m rule at none = by (is_fixed rule) (met_more rules m keys k i rule at none)

@@ -34,7 +34,7 @@ use Rattle.dia_check.proofs.FaultlessKeys.{Counted, counted_more, counted_placed
 use Rattle.dia_check.specs.Walks.{Found, Rest, behind, inside, IsFine, Walks, ended, missing, broken, wrong, leaf, group, bad_group}
 use Rattle.dia_valid.specs.Valid.{group_at}
 
--- so many levels are enough for a level of these bytes at a depth
+-- a level of these bytes at a depth needs no more than so many levels
 abbrev pub AreEnough : Levels → ℕ → ℕ → List ℕ → Type 0
 AreEnough Any n deep bytes = length bytes ≤ n
 AreEnough (AtMost most) n deep bytes = deep + n ≡ most
@@ -114,7 +114,7 @@ may_open (AtMost m) n h = by (nat_lt n m) refl
     by true e = ltb-true n m e
     by false e = let le = ltb-false n m e in absurd (h (λ lt. omega (arith, lt, le)))
 
--- ---- where a key may stand
+-- ---- where a key may be
 
 may_be : (rules : List DRule) (k : Key) (fixed loose listed wild : Bool) → is_listed (fixed_rules rules) k ≡ fixed → is_listed (loose_rules rules) k ≡ loose → is_listed rules k ≡ listed
     → has_wildcard rules ≡ wild

@@ -1,4 +1,4 @@
--- A valid message has a walk that finds nothing, and so nothing stands in it; and where a walk finds nothing the message is valid.
+-- A valid message has a walk that finds nothing, so no fault occurs in it; and where a walk finds nothing the message is valid.
 use Rattle.std.proofs.Common.{◌≡◌, ℕ, zero, suc, ◌+◌, ◌≤◌, List, [], ◌∷◌, ◌++◌, length, map, take, drop, Option, Some, None, refl, sym, ap, subst, ◌∙◌, arith, inl, inr, ⊎_elim, append_assoc}
 use Rattle.std.specs.Prelude.{◌⊎◌, slice_get, IsSome, MatchOption}
 use Rattle.std.specs.List.{AllByRecursion}
@@ -40,7 +40,7 @@ left_open Any k deep h = (tt, tt)
 left_open (AtMost m) k deep h = (omega (arith, h), omega (arith, h))
 
 module _ (d : Dictionary) (sound : IsDictionary d) (u : Unknown) (most : Levels) where
-  -- ---- an AVP that fits where it stands
+  -- ---- an AVP that fits where it is
 
   fits_none : (Inner : List DRule → List ℕ → Type 0) (v : PlainAvp) → FitsBy d u Inner v → known d (key_of v) ≡ None → IsAccepted u v.flags
   fits_none Inner v fits h =
@@ -182,7 +182,7 @@ module _ (d : Dictionary) (sound : IsDictionary d) (u : Unknown) (most : Levels)
       let body : drop 20 bytes ≡ m.body = ap (drop 20) m.parts ∙ drop_at m.head m.body 20 (head_size v.header (length bytes) m.head m.is_head) in
       level_walk d sound u most n v.command 20 (length bytes) 0 (drop 20 bytes) (command_rules c v.command v.is_command) left (v.avps, subst (SpellsAll v.avps) (sym body) m.is_body, v.placed, fits)
 
-  -- in a valid message nothing stands
+  -- in a valid message no fault occurs
   pub valid_stands : (c : ℕ) → IsValidOf d u most bytes c → (other : Spot) (r : Reason) (t : Subject) → ¬ Stands d u most bytes other r t
   valid_stands c v other r t stands = none_stands d u most bytes (valid_good c v) (valid_walk c v) other r t stands
 

@@ -1,4 +1,4 @@
--- What stands in a message is what a walk finds first, or stands behind it.
+-- A fault of a message is what a walk finds first, or follows it.
 use Rattle.std.proofs.Common.{◌≡◌, ℕ, suc, ◌+◌, ◌-◌, ◌<◌, ◌≤◌, true, List, [], ◌∷◌, ◌++◌, length, map, take, drop, Option, Some, None, refl, sym, ap, subst, ◌∙◌, arith, inl, inr, ⊎_elim, append_assoc}
 use Rattle.std.specs.Prelude.{◌⊎◌, slice_get}
 use Rattle.std.proofs.lemmas.Bool.{both_ways}
@@ -29,7 +29,7 @@ use Rattle.dia_check.proofs.FoundFaultsStand.{walks_stands, lies_behind, lies_in
 use Rattle.dia_check.proofs.Uniqueness.{le_split, one_reason, missing_unique, one_subject, begins_some, found_at, Goes, goes, UpTo}
 use Rattle.dia_check.proofs.Uniqueness.{up_more, up_later, up_row, up_end, before_both, selected_command, stops, passes, finds}
 
--- what stands is what is found, or stands behind it
+-- the fault is what is found, or follows it
 abbrev pub StandsBehind : Option Found → Spot → Reason → Subject → Type 0
 StandsBehind f other r t = (h : Found) × (f ≡ Some h) × (IsBefore h.spot other ⊎ (record { spot = other; reason = r; subject = t } ≡ h))
 
@@ -206,7 +206,7 @@ module _ (d : Dictionary) (u : Unknown) (most : Levels) where
         (λ p. inr (p.0, p.1, up_later p.0 (suc level.depth) (suc (suc level.depth)) at0 at p.2 (omega (arith, from, at_least_8 v.vendor))))
         (comes f walk level is_open earlier0 at0 member.inside room' member.before)
 
-    -- ---- what stands there
+    -- ---- what occurs there
 
     broken_at : (s : Rest) (g : Option Found) → Walks d u most s g → 0 < length s.bytes → BeginsWithNone s.bytes → g ≡ Some (found_at s.at reason.AvpLength Nothing)
     broken_at s g (ended done none is) some no_avp = absurd (omega (arith, some, ap length done))
@@ -283,7 +283,7 @@ module _ (d : Dictionary) (u : Unknown) (most : Levels) where
         (λ p. (p.0, p.1, inl (up_end p.0 level.depth level.end p.2)))
         (comes f walk level looks.open_level avps level.end bounds.0 (omega arith) spells)
 
--- nothing stands before what is found
+-- no fault occurs before what is found
 pub walks_first : (d : Dictionary) (u : Unknown) (most : Levels) (bytes : List ℕ) (good : HasGoodHeader d bytes) (f : Found) → Walks d u most (whole good.command.rules bytes) (Some f)
     → (other : Spot) (r : Reason) (t : Subject) → Stands d u most bytes other r t → ¬ IsBefore other f.spot
 walks_first d u most bytes good f walk other r t stands = by (least d u most bytes good (Some f) walk other r t stands)
@@ -295,7 +295,7 @@ walks_first d u most bytes good f walk other r t stands = by (least d u most byt
         let self : IsBefore f.spot f.spot = subst (λ (x : Spot). IsBefore x f.spot) e before in
         before_both f.spot f.spot self self
 
--- where nothing is found, nothing stands
+-- where nothing is found, no fault occurs
 pub none_stands : (d : Dictionary) (u : Unknown) (most : Levels) (bytes : List ℕ) (good : HasGoodHeader d bytes) → Walks d u most (whole good.command.rules bytes) None
     → (other : Spot) (r : Reason) (t : Subject) → ¬ Stands d u most bytes other r t
 none_stands d u most bytes good walk other r t stands = let p = least d u most bytes good None walk other r t stands in none-some p.0 p.1

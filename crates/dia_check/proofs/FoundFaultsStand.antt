@@ -1,4 +1,4 @@
--- What a walk finds stands.
+-- What a walk finds is a fault of the message.
 use Rattle.std.proofs.Common.{◌≡◌, ℕ, ◌+◌, ◌-◌, ◌≤◌, List, [], ◌∷◌, ◌++◌, length, take, drop, Option, Some, None, refl, sym, ap, subst, ◌∙◌, arith, append_assoc}
 use Rattle.std.proofs.Math.Seq.{take-add}
 use Rattle.std.proofs.lemmas.List.{length-take, length-drop, length-append, take_all, take_at, drop_at, drop-drop, append-nil}
@@ -112,7 +112,7 @@ module _ (d : Dictionary) (u : Unknown) (most : Levels) (bytes : List ℕ) (good
         within = omega (arith, last, l.within);
       }
 
-  -- ---- what is found stands
+  -- ---- what is found occurs
 
   at_some : (P : Found → Type 0) (f : Option Found) (g h : Found) → f ≡ Some h → f ≡ Some g → P h → P g
   at_some P f g h is same p = subst P (same_Some h g (sym is ∙ same)) p

@@ -65,7 +65,7 @@ not_bad xs long fine = by (is_bad xs) refl
     by false e = refl
     by true e = absurd (all (or_true (nat_lt (length xs) 8 || nat_lt (len_of xs) (head_length (vendor_of xs))) (nat_lt (length xs) (rounded (len_of xs))) e))
 
--- what the first bytes say of an AVP that stands there
+-- what the first bytes say of an AVP that is there
 pub first_says : (xs : List ℕ) (v : PlainAvp) (rest : List ℕ) → 8 ≤ length xs → BeginsWith v xs rest → (slice_index xs 4 ≡ v.flags) × (number (take 3 (drop 5 xs)) ≡ avp_length v)
 first_says xs v rest long (front, spells, parts) =
     let o = opened v front rest spells in (
@@ -271,7 +271,7 @@ module _ (d : Dictionary) (sound : IsDictionary d) (u : Unknown) (most : Levels)
       whole_size : length front ≡ length (front_bytes part.front) + length piece
       whole_size = let e = ap length is_front in omega (arith, e, short, length-take limit (front_bytes part.front ++ piece), length-append (front_bytes part.front) piece)
 
--- ---- a head that stands at the start of a piece
+-- ---- a head at the start of a piece
 
 abbrev nothing_kept : Front
 nothing_kept = record { count = 0; bytes = []; within = omega arith }

@@ -1,4 +1,4 @@
--- The levels that are kept, where one is opened, met further, or ended.
+-- The levels that are recorded, where one is opened, met further, or ended.
 use Rattle.std.proofs.Common.{◌≡◌, ◌≢◌, Bool, true, false, nat_lt, ℕ, suc, ◌+◌, ◌-◌, ◌<◌, ◌≤◌, List, [], ◌∷◌, ◌++◌, length, take, drop, Some, refl, sym, ap, subst, ◌∙◌, append_assoc, arith}
 use Rattle.std.specs.Prelude.{slice_get, ◌==◌, vec_capacity}
 use Rattle.std.proofs.lemmas.Bool.{both_ways, eq-eqb, eqb-true, ltb-true, ltb-false}
@@ -231,7 +231,7 @@ kept_many defs base [] tallies (l ∷ ls) h = absurd h
 kept_many defs base (k ∷ ks) tallies [] h = absurd h
 kept_many defs base (k ∷ ks) tallies (l ∷ ls) (mine, rest, parts, at, kept, more) = ap (λ (n : ℕ). suc n) (kept_many defs (base + length mine) ks rest ls more)
 
--- a rule more is told of the innermost level, and it was not met
+-- one more rule of the innermost level is recorded, and it was not met
 pub told_further : (defs : List PlainDefinition) (old new : OpenLevels) (outer : List SoFar) (level : SoFar) (rules : List DRule) (rule place : ℕ) (now : AreOpen defs old outer level) → level.rules ≡ rules
     → IsTold old.tallies.items new.tallies.items old.innermost.base (length rules) rule place → new.innermost ≡ old.innermost → new.outer.items ≡ old.outer.items
     → vec_capacity old.tallies ≤ vec_capacity new.tallies → AreOpen defs new outer level

@@ -3,7 +3,7 @@ use Rattle.dia_check.specs.declared.fault.Fault.{Fault}
 use Rattle.dia_check.specs.declared.fault.Refusal.{Refusal}
 use Rattle.dia_check.specs.declared.fault.Refusal.TheVariants as refusal
 
--- these are no want of memory
+-- these refusals are not `NoMemory`
 pub no_want_fault : (r : Refusal) (f : Fault) → r ≡ refusal.Fault f → r ≡ refusal.NoMemory → ⊥
 no_want_fault r f h e = let k : refusal.Fault f ≡ refusal.NoMemory = sym h ∙ e in absurd cc
 

@@ -1,4 +1,4 @@
--- What a tally tells once all the rules of its level are laid out, and how they are laid out from the back.
+-- What a tally records once all the rules of its level are laid out, and how they are laid out from the back.
 use Rattle.std.proofs.Common.{◌≡◌, ◌≢◌, ℕ, zero, suc, ◌+◌, ◌-◌, ◌<◌, ◌≤◌, Bool, true, false, List, [], ◌∷◌, ◌++◌, length, take, drop, set, Some, refl, sym, ap, subst, ◌∙◌, length-append, arith}
 use Rattle.std.specs.Prelude.{◌==◌, if◌then◌else◌, slice_get}
 use Rattle.std.proofs.Math.ListN.{length-set}
@@ -12,7 +12,7 @@ use Rattle.dia_check.specs.Tallies.{count_in, unmet, AreRising, AreBelow, HasPla
 use Rattle.dia_check.specs.LaidOutTallies.{laid_out}
 use Rattle.dia_check.proofs.Tallies.{count_here, count_other, count_before, no_count, place_here, rising_size, set_from, written_front, written_part}
 
--- ---- what it tells
+-- ---- what it records
 
 laid_rising : (tally : List Met) (from many : ℕ) → AreRising from (laid_out tally from many)
 laid_rising tally from zero = tt
@@ -55,7 +55,7 @@ laid_counts tally many rule below = by (ltb rule many) refl
         let le = ltb-false rule many e in
         count_beyond (laid_out tally 0 many) many rule (laid_below tally 0 many many (omega arith)) le ∙ sym (count_beyond tally many rule below le)
 
--- each rule is told at its own place
+-- each rule is recorded at its own place
 pub all_told : (old new : List Met) (capacity base many rule : ℕ) → HasPlaceFor old capacity base many rule → take base new ≡ take base old
     → drop base new ≡ laid_out (drop base old) 0 many → IsTold old new base many rule (base + rule)
 all_told old new capacity base many rule h front is =
@@ -78,7 +78,7 @@ all_told old new capacity base many rule h front is =
 
 -- ---- from the back
 
--- the rules from one on are laid out, and the first ones stand where the tally told them
+-- the rules from one on are laid out, and the first ones are where the tally recorded them
 pub record AreLaidOutFrom (tally now : List Met) (many from left : ℕ) : Type 0 where
   pub size : length now ≡ many
   pub place : IsPlaceOf tally from left
@@ -171,7 +171,7 @@ one_laid_out tally now many from left before count rising h lt place is = record
 pub all_laid_out : (tally now : List Met) (many left : ℕ) → AreLaidOutFrom tally now many 0 left → now ≡ laid_out tally 0 many
 all_laid_out tally now many left h = h.behind ∙ ap (λ (n : ℕ). laid_out tally 0 n) (let e : many - 0 ≡ many = omega arith in e)
 
--- ---- the last rule that is told
+-- ---- the last rule that is recorded
 
 below_at : (to i : ℕ) (tally : List Met) (m : Met) → AreBelow to tally → slice_get tally i ≡ Some m → m.rule < to
 below_at to i [] m below at = absurd (none-some m at)

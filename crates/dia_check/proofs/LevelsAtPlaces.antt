@@ -41,7 +41,7 @@ contains_at [] i x at = absurd (none-some x at)
 contains_at (y ∷ xs) zero x at = (0, omega arith, same_Some y x at)
 contains_at (y ∷ xs) (suc i) x at = let r = contains_at xs i x at in (suc r.0, omega (arith, r.1), r.2)
 
--- ---- AVPs one behind the other
+-- ---- AVPs one after the other
 
 module _ (bytes : List ℕ) where
   begins_at : (v : PlainAvp) (p a end : ℕ) (front rest : List ℕ) → p ≤ a → a ≤ end → end ≤ length bytes → Spells v front → between bytes p a ≡ front ++ rest
@@ -59,7 +59,7 @@ module _ (bytes : List ℕ) where
   same_place : (p a : ℕ) → p ≤ a → a ≤ length bytes → between bytes p a ≡ [] → p ≡ a
   same_place p a le within none = let size = length-between bytes p a le within in let e = ap length none in omega (arith, size, e, le)
 
-  -- at a place in front of another, both behind AVPs of one level, stands one that ends in front of the other
+  -- of two places after AVPs of one level, an AVP begins at the earlier one and ends at or before the later one
   stands_at : (e f : List PlainAvp) (p a b end : ℕ) → p ≤ a → a < b → b ≤ end → end ≤ length bytes → SpellsAll e (between bytes p a) → SpellsAll f (between bytes p b)
       → (w : PlainAvp) × (rest : List ℕ) × BeginsWith w (between bytes a end) rest × (a + padded_length w ≤ b)
   stands_at e [] p a b end le less le' within se sf =
@@ -98,7 +98,7 @@ module _ (bytes : List ℕ) where
 abbrev inner : ℕ → PlainAvp → ℕ → PlainDefinition → Level
 inner depth v at g = record { rules = g.rules; start = at + head_length v.vendor; end = at + avp_length v; depth = suc depth }
 
--- one of two levels ends in front of the other
+-- one of two levels ends before the other begins
 abbrev AreApart : Level → Level → Type 0
 AreApart a b = (a.end ≤ b.start) ⊎ (b.end ≤ a.start)
 
@@ -252,7 +252,7 @@ module _ (d : Dictionary) (most : Levels) (bytes : List ℕ) where
         let (a', b', depth') = chain_at u n l op holds j x at' in
         omega (arith, depth, depth')
 
--- ---- the level in which a part stands
+-- ---- the level of a part
 
 module _ (d : Dictionary) (sound : IsDictionary d) (u : Unknown) (most : Levels) (bytes : List ℕ) (good : HasGoodHeader d bytes) (o : OpenLevels) where
   -- the place lies in a level in which no group holds it

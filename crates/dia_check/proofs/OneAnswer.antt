@@ -1,4 +1,4 @@
--- Bytes have one answer. Any bytes have a walk, but for a double negation, since no format is decided; what two answers are is decided, so that is enough.
+-- Bytes have one answer. Bytes have a walk only up to double negation, as formats aren't decided; but answers are.
 use Rattle.std.proofs.Common.{◌≡◌, ◌≢◌, ℕ, zero, suc, ◌+◌, ◌%◌, ◌<◌, ◌≤◌, Bool, true, false, List, [], ◌∷◌, length, take, drop, Option, Some, None, refl, sym, ap, subst, ◌∙◌, arith, inl, inr}
 use Rattle.std.specs.Prelude.{nat_lt, ◌⊎◌, slice_index, Result, Ok, Err}
 use Rattle.std.proofs.lemmas.Bool.{ltb-false, ltb-true}
@@ -293,7 +293,7 @@ module _ (d : Dictionary) (sound : IsDictionary d) (u : Unknown) (most : Levels)
   one_of_bytes a b (inr x) (inl y) = absurd (omega (arith, x.0, y.0))
   one_of_bytes a b (inr x) (inr y) = one_version a b x.1 y.1
 
--- bytes have one answer, but for want of memory
+-- bytes have one answer, unless memory was refused
 pub one_answer : (d : Dictionary) (u : Unknown) (most : Levels) (bytes : List ℕ) (a b : Result Selected Refusal) → IsDictionary d → IsAnswer d u most bytes a → IsAnswer d u most bytes b
     → a ≢ Err refusal.NoMemory → b ≢ Err refusal.NoMemory → a ≡ b
 one_answer d u most bytes a b sound x y no_memory no_memory' =

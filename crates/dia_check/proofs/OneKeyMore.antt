@@ -230,7 +230,7 @@ module _ (rules : List DRule) (are : AreRules rules) (keys : List Key) (key : Ke
         met_now,
       )
 
-  -- what counts a key behind the runs
+  -- what counts a key after the runs
   abbrev CountsBehind : ℕ → Type 0
   CountsBehind i = (i < length rules) × (¬ (IsTrue (is_listed (fixed_rules rules) key) ⊎ ((is_listed rules key ≡ false) × (has_wildcard rules ≡ false))))
       × ((j : ℕ) (other : DRule) → slice_get rules j ≡ Some other → (if is_fixed other then false else counts_key rules other key) ≡ (j == i))

@@ -3,7 +3,7 @@ use Rattle.std.proofs.Common.{◌≡◌, ℕ, ◌+◌, ◌-◌, ◌≤◌, List,
 use Rattle.std.proofs.lemmas.List.{drop-take, drop-drop, length-drop, take_all}
 use Rattle.dia_check.specs.Reading.{LiesAt}
 
--- what is left of a piece stands behind what was read of it
+-- the rest of a piece follows what was read of it
 pub lies_later : (bytes piece : List ℕ) (from k : ℕ) → k ≤ length piece → LiesAt bytes from piece → LiesAt bytes (from + k) (drop k piece)
 lies_later bytes piece from k le (is, within) =
     let more = length-drop k piece in
@@ -20,7 +20,7 @@ lies_on bytes piece from taken k le lies =
     let e : (from + taken) + k ≡ from + (taken + k) = omega arith in
     subst (λ (n : ℕ). LiesAt bytes n (drop (taken + k) piece)) e (subst (LiesAt bytes ((from + taken) + k)) (drop-drop k taken piece) (lies_later bytes (drop taken piece) (from + taken) k le lies))
 
--- the rest of a message lies behind any of its fronts
+-- the rest of a message follows any of its fronts
 pub lies_whole : (bytes : List ℕ) (k : ℕ) → k ≤ length bytes → LiesAt bytes k (drop k bytes)
 lies_whole bytes k le =
     let more = length-drop k bytes in

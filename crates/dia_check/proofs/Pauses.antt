@@ -105,7 +105,7 @@ not_spent d u most bytes (stage.Header x) read spent = absurd spent
 not_spent d u most bytes (stage.Over x) read spent = absurd spent
 not_spent d u most bytes (stage.InBody x) read spent = absurd spent
 
--- a stream is spent while it is put aside exactly where it was, and is afterwards where it was meanwhile
+-- a stream is spent while it is paused exactly where it was spent before, and then so is the resumed one
 pub pause_spent : (d : Dictionary) (x : Stage) (p : PausedStage) → IsPauseOf d x p → IsSpentPaused p ↔ IsSpentStage x
 pause_spent d (stage.Header x) p is = subst (λ q. IsSpentPaused q ↔ IsSpentStage (stage.Header x)) (sym is) (λ h. h, λ h. h)
 pause_spent d (stage.Over x) p is = subst (λ q. IsSpentPaused q ↔ IsSpentStage (stage.Over x)) (sym is) (λ h. h, λ h. h)

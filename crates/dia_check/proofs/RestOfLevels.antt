@@ -1,4 +1,4 @@
--- What is owed of the levels that are open: the innermost first, and then what is left of those round it. And what an AVP that was checked says of it.
+-- What is owed of the levels that are open: first the innermost, then the rest of those round it. What a checked AVP says of it.
 use Rattle.std.proofs.Common.{◌≡◌, ◌≢◌, ℕ, ◌≤◌, List, [], ◌∷◌, ◌++◌, map, Option, Some, None, refl, sym, ap, subst, ◌∙◌, arith, inl, inr, ⊎_elim}
 use Rattle.std.specs.Prelude.{slice_get, option_and_then, MatchOption, ◌⊎◌}
 use Rattle.std.proofs.lemmas.List.{length-map}
@@ -57,7 +57,7 @@ module _ (d : Dictionary) (u : Unknown) (most : Levels) where
   Owes-found [] s h w = w
   Owes-found (r ∷ rs) s h w = inr (h, Owes-found rs s h w, refl)
 
-  -- ---- an AVP of what is left of a level, by what a checker knows of it
+  -- ---- an AVP of the rest of a level, by what a checker knows of it
 
   refused_wrong : (s : Rest) (v : PlainAvp) (r : Reason) (t : Subject) → IsRefused d u s.level.rules (map key_of s.earlier) (key_of v) v.flags r t → IsWrong d u most s.level s.earlier v r t
   refused_wrong s v r t (unknown none bad) = faults.unknown none bad

@@ -108,7 +108,7 @@ however_on P a b long h more size =
 pub sized_end : (a more : List ℕ) → 20 ≤ length a → IsTrue (is_sound a) → length (a ++ more) ≡ wanted a → HasLength (a ++ more) (length (a ++ more))
 sized_end a more long is size = subst (HasLength (a ++ more)) (sym size) (length_on a more (wanted a) (sound_length a long is))
 
--- ---- a part that isn't read wholly ends behind what was read
+-- ---- a part that isn't read wholly ends after what was read
 
 short_head : (k len flags room : ℕ) (whole : Type 0) → ((8 ≤ k) × (HasVendorFlag flags → 12 ≤ k) → whole) → ¬ whole → (8 ≤ k → ¬ IsBadLength flags len room) → 8 ≤ room → k < room
 short_head k len flags room whole is none may room_8 = ⊎_elim (λ less. less) (λ le. absurd (by le)) (cases_lt k room)
@@ -137,7 +137,7 @@ module _ (d : Dictionary) (sound : IsDictionary d) (u : Unknown) (most : Levels)
       let next = next_place d sound u most bytes good h.before part.at h.under_way h.before.innermost refl h.avp h.rest h.begins in
       let is = h.is_next in omega (arith, from, to, next, is, less)
 
--- ---- behind a header
+-- ---- after a header
 
 pub whole_refusal : (d : Dictionary) (u : Unknown) (most : Levels) (all : List ℕ) (k m : ℕ) (e : Refusal)
     → e ≢ refusal.NoMemory → HasLength all (length all) → IsAnswer d u most all (Err e) → IsWholeAnswer k m (Err e)

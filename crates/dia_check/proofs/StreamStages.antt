@@ -1,4 +1,4 @@
--- What a stream stands for, as it takes bytes of the header and behind it.
+-- What a stream means, as it takes bytes of the header and after it.
 use Rattle.std.proofs.Common.{◌≡◌, ◌≢◌, ℕ, ◌+◌, ◌-◌, ◌<◌, ◌≤◌, Bool, true, false, List, ◌++◌, length, take, drop, refl, sym, ap, subst, ◌∙◌, arith, inl, inr, ⊎_elim}
 use Rattle.std.specs.Prelude.{◌⊎◌, ◌↔◌, ◌^◌, IsTrue, replicate, Result, Ok, Err, ⊤}
 use Rattle.std.proofs.Math.Seq.{take-append_seam, drop-append_seam, take-append-add}
@@ -58,7 +58,7 @@ has_taken d u most taken all (InBody body) live h = h
 has_taken d u most taken all (Over answer) live h = h
 has_taken d u most taken all NoMemory live h = absurd (live tt)
 
--- a fact of one dictionary and policy is one of the same ones
+-- a fact about one dictionary and policy holds of equal ones
 pub moved : (P : Dictionary → Unknown → Levels → Type 0) (d e : Dictionary) (u v : Unknown) (m n : Levels) → d ≡ e → u ≡ v → m ≡ n → P d u m → P e v n
 moved P d e u v m n is_d is_u is_m h = subst (λ (x : Dictionary). P x v n) is_d (subst (λ (x : Unknown). P d x n) is_u (subst (λ (x : Levels). P d u x) is_m h))
 
@@ -77,7 +77,7 @@ take_plus n m xs =
     ap (λ (t : List ℕ). t ++ take m (drop n xs)) (sym (take-take n (n + m) xs (omega arith)))
     ∙ ap (λ (t : List ℕ). take n (take (n + m) xs) ++ t) (sym (drop-take n m xs)) ∙ take-append-drop n (take (n + m) xs)
 
--- the rest of a piece behind what was taken of it
+-- the rest of a piece after what was taken of it
 pub rest_of : (bytes piece : List ℕ) (n : ℕ) → (bytes ++ take n piece) ++ drop n piece ≡ bytes ++ piece
 rest_of bytes piece n = append_assoc bytes (take n piece) (drop n piece) ∙ ap (λ (t : List ℕ). bytes ++ t) (take-append-drop n piece)
 
@@ -125,7 +125,7 @@ taken_begins a b long within =
 
 -- ---- levels that begin
 
--- the body of a good header begins behind it
+-- the body of a good header begins after it
 body_begins : (d : Dictionary) (most : Levels) (bytes more : List ℕ) → length bytes < 20 → 20 ≤ length (bytes ++ more) → HasGoodHeader d (filled (bytes ++ more)) → OpensLevel d most bytes more
 body_begins d most bytes more short long good = record {
   header = good;
@@ -179,7 +179,7 @@ module _ (d : Dictionary) (most : Levels) (bytes piece : List ℕ) (k : ℕ) whe
         (body_begins d most bytes (take k piece ++ behind) short (let s = whole_size in let e = ap length parts in omega (arith, long, s, e))
         (subst (λ (t : List ℕ). HasGoodHeader d (filled t)) parts whole_good))
 
--- a level that begins behind more bytes begins behind fewer
+-- a level that begins after more bytes begins after fewer
 module _ (d : Dictionary) (most : Levels) (a b rest : List ℕ) where
   abbrev new : List ℕ
   new = drop (length (a ++ b)) (taken_of ((a ++ b) ++ rest))
@@ -268,7 +268,7 @@ module _ (front after : Front) (piece : List ℕ) (more : front_bytes after ≡ 
       subst (λ (n : ℕ). HasTaken d u most n wants stage (bytes ++ take k piece)) (sym is_now)
       (subst (λ (n : ℕ). HasTaken d u most (length (front_bytes after)) wants stage (bytes ++ take n piece)) (sym is_k) (header_taken d u most taken all bytes h wants stage wanting reads live))
 
--- ---- bytes behind the header
+-- ---- bytes after the header
 
 pub behind_header : (d : Dictionary) (u : Unknown) (most : Levels) (taken all : ℕ) (stage : Stage) (bytes : List ℕ) → ((front : Front) → stage ≢ Header front) → ¬ IsSpentStage stage
     → HasTaken d u most taken all stage bytes → 20 ≤ taken

@@ -1,4 +1,4 @@
--- What a tally tells, and what it tells once a rule is counted anew.
+-- What a tally records, before and after a rule is counted anew.
 use Rattle.std.proofs.Common.{◌≡◌, ◌≢◌, ℕ, zero, suc, ◌+◌, ◌-◌, ◌<◌, ◌≤◌, Bool, true, false, List, [], ◌∷◌, ◌++◌, length, take, drop, set, get_or, Some, refl, sym, ap, subst, ◌∙◌, arith}
 use Rattle.std.proofs.Math.Bridge.{le_prop}
 use Rattle.std.specs.Prelude.{◌==◌, if◌then◌else◌, insert, slice_get}
@@ -24,13 +24,13 @@ count_other m tally rule other = by (m.rule == rule) refl
     by true e = absurd (other (eqb-true m.rule rule e))
     by false e = refl
 
--- a rule in front of all that are told
+-- a rule before all that are recorded
 pub count_before : (rule from : ℕ) (tally : List Met) → AreRising from tally → rule < from → count_in tally rule ≡ 0
 count_before rule from [] rising lt = refl
 count_before rule from (m ∷ tally) (le, rising) lt =
     count_other m tally rule (λ e. omega (arith, e, le, lt)) ∙ count_before rule (m.rule + 1) tally rising (omega (arith, le, lt))
 
--- a rule behind the first ones
+-- a rule after the first ones
 pub count_behind : (front tally : List Met) (to rule : ℕ) → AreBelow to front → to ≤ rule → count_in (front ++ tally) rule ≡ count_in tally rule
 count_behind [] tally to rule below le = refl
 count_behind (m ∷ front) tally to rule (lt, below) le =
@@ -65,7 +65,7 @@ pub below_prop : (to : ℕ) (tally : List Met) → IsProp (AreBelow to tally)
 below_prop to [] = λ a b. refl
 below_prop to (m ∷ tally) = hlevel (le_prop, below_prop to tally)
 
--- as many are told as there are rules, at most
+-- at most as many are recorded as there are rules
 pub rising_size : (from to : ℕ) (tally : List Met) → AreRising from tally → AreBelow to tally → from ≤ to → from + length tally ≤ to
 rising_size from to [] rising below le = omega (arith, le)
 rising_size from to (m ∷ tally) (above, rising) (lt, below) le = let rest = rising_size (m.rule + 1) to tally rising below (omega (arith, lt)) in omega (arith, rest, above)
@@ -163,7 +163,7 @@ no_count tally rule i place behind =
     ap (λ (t : List Met). count_in t rule) (sym (take-append-drop i tally)) ∙ count_behind (take i tally) (drop i tally) rule rule place.before (omega arith)
     ∙ count_before rule (rule + 1) (drop i tally) behind (omega arith)
 
--- where the rule isn't told at its place, only later ones stand behind it
+-- where the rule isn't recorded at its place, only later ones follow
 pub behind_more : (tally : List Met) (place rule : ℕ) → AreRising rule (drop place tally) → ((m : Met) → slice_get tally place ≡ Some m → m.rule ≢ rule) → AreRising (rule + 1) (drop place tally)
 behind_more [] zero rule rising other = tt
 behind_more [] (suc place) rule rising other = tt
@@ -264,7 +264,7 @@ place_parted tally rule i rising le point = record {
   behind = rising_parted tally i rule 0 rising (λ d lt. ltb-false (get_or tally i d).rule rule (point.1 i d (omega arith) lt));
 }
 
--- what is told from a rule on
+-- what is recorded from a rule on
 pub same_from : (tally : List Met) (rule place i : ℕ) → IsPlaceOf tally rule place → rule ≤ i → count_in (take (length tally - place) (drop place tally)) i ≡ count_in tally i
 same_from tally rule place i is le =
     let size = length-drop place tally in
@@ -276,7 +276,7 @@ rising_from tally place rising =
     let size = length-drop place tally in
     subst (AreRising 0) (sym (take_all (length tally - place) (drop place tally) (omega (arith, size)))) (rising_drop place tally rising)
 
--- ---- one behind the other
+-- ---- one after the other
 
 module _ (tally : List Met) (index : ℕ) (m : Met) (at : slice_get tally index ≡ Some m) where
   next : drop (suc index) tally ≡ drop (index + 1) tally
@@ -319,7 +319,7 @@ get_from tallies zero i = ap (λ (n : ℕ). slice_get tallies n) (let e : i ≡ 
 get_from [] (suc base) i = refl
 get_from (q ∷ tallies) (suc base) i = get_from tallies base i ∙ ap (λ (n : ℕ). slice_get (q ∷ tallies) n) (let e : suc (base + i) ≡ suc base + i = omega arith in e)
 
--- what stands in front of a part that is written, and the part
+-- what precedes a part that is written, and the part
 pub written_front : (tallies tally : List Met) (base : ℕ) → base ≤ length tallies → take base (take base tallies ++ tally) ≡ take base tallies
 written_front tallies tally base le = ap (λ (n : ℕ). take n (take base tallies ++ tally)) (sym (length-take-le base tallies le)) ∙ take-append_seam (take base tallies) tally
 
@@ -331,7 +331,7 @@ pub slice_from : (all tallies : List Met) (base : ℕ) → all ≡ tallies → t
 slice_from all tallies base e =
     let size = length-drop base all in take_all (length all - base) (drop base all) (omega (arith, size)) ∙ ap (λ (t : List Met). drop base t) e
 
--- ---- a rule that is told
+-- ---- a rule that is recorded
 
 none_more : (b : Bool) (n : ℕ) → n + (if b then 0 else 0) ≡ n
 none_more true n = omega arith

@@ -1,4 +1,4 @@
--- How the check of a body goes from step to step, over the levels that lie in one another.
+-- How the check of a body goes from step to step, over nested levels.
 use Rattle.std.proofs.Common.{◌≡◌, ℕ, suc, ◌+◌, ◌-◌, ◌*◌, ◌/◌, ◌%◌, ◌<◌, ◌≤◌, List, [], ◌∷◌, ◌++◌, length, map, Option, Some, None, refl, sym, ap, subst, ◌∙◌, arith}
 use Rattle.std.specs.Prelude.{slice_get}
 use Rattle.std.proofs.lemmas.List.{length-append, length-map, map-append}
@@ -34,7 +34,7 @@ use Rattle.dia_check.proofs.FoundFaultsStand.{lies_behind, lies_inside, body_lie
 use Rattle.dia_check.proofs.KeptLevels.{kept_many}
 use Rattle.dia_check.proofs.RestOfLevels.{Owes-passed, Owes-entered, Owes-done, Owes-found, is_fine, group_is, no_group, first_wrong}
 
--- ---- the levels in one another
+-- ---- nested levels
 
 same_head : (a b : SoFar) (xs ys : List SoFar) → a ∷ xs ≡ b ∷ ys → (a ≡ b) × (xs ≡ ys)
 same_head a b xs ys e = (cc, cc)

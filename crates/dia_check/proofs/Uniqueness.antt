@@ -104,7 +104,7 @@ begins_some v level rest (front, s, p) =
 abbrev pub found_at : ℕ → Reason → Subject → Found
 found_at at r t = record { spot = spot at r; reason = r; subject = t }
 
--- how a walk goes on at an AVP: it stops there, or goes behind it, or finds something in it
+-- how a walk goes on at an AVP: it stops there, or goes past it, or finds something in it
 pub data Goes (d : Dictionary) (u : Unknown) (most : Levels) (s : Rest) (v : PlainAvp) (rest : List ℕ) (f : Option Found) : Type 0 where
   stops : (r : Reason) (t : Subject) → IsFirstWrong d u most s v r t → f ≡ Some (found_at s.at r t) → Goes d u most s v rest f
   passes : IsFine d u most s v → ((g : PlainDefinition) → group_at d v ≡ Some g → Walks d u most (inside s v g) None) → Walks d u most (behind s v rest) f → Goes d u most s v rest f

@@ -1,4 +1,4 @@
--- A message is valid exactly where no fault stands.
+-- A message is valid exactly where no fault occurs.
 use Rattle.std.proofs.Common.{◌≡◌, ℕ, zero, suc, ◌+◌, ◌<◌, ◌≤◌, Bool, true, false, List, [], ◌∷◌, ◌++◌, length, take, drop, get_or, Option, Some, None, refl, sym, ap, subst, ◌∙◌, arith, inl, inr}
 use Rattle.std.specs.Prelude.{◌⊎◌, ◌↔◌, slice_get, slice_index, position}
 use Rattle.std.specs.Option.{option_or, option_map}
@@ -117,7 +117,7 @@ front_or_none xs = by (is_bad xs) refl
     by true e = inr (bad_none xs e)
     by false e = inl (avp_of xs, drop (rounded (len_of xs)) xs, good_begins xs e)
 
--- ---- where nothing stands
+-- ---- where no fault occurs
 
 module _ (d : Dictionary) (sound : IsDictionary d) (u : Unknown) (most : Levels) (bytes : List ℕ) (none : (other : Spot) (r : Reason) (t : Subject) → ¬ Stands d u most bytes other r t) where
   -- the header is good

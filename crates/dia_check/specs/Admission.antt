@@ -27,7 +27,7 @@ IsWrongFlags d u key flags wrong =
     (wrong.subject ≡ Avp key)
     × MatchOption (known d key) ((¬ IsAccepted u flags) × (wrong.reason ≡ reason.Unknown)) (λ e. (¬ MHolds e.rule flags) × (wrong.reason ≡ reason.MBit))
 
--- an AVP of this key and these flags, behind these keys in a level of these rules, isn't admitted
+-- an AVP of this key and these flags, after these keys in a level of these rules, isn't admitted
 pub data IsRefused (d : Dictionary) (u : Unknown) (rules : List DRule) (keys : List Key) (key : Key) (flags : ℕ) : Reason → Subject → Type 0 where
   unknown : known d key ≡ None → ¬ IsAccepted u flags → IsRefused d u rules keys key flags reason.Unknown (Avp key)
   m_bit : (e : DictEntry) → known d key ≡ Some e → ¬ MHolds e.rule flags → IsRefused d u rules keys key flags reason.MBit (Avp key)

@@ -1,4 +1,4 @@
--- What is wrong with a message, and which of it is told (RFC 6733 section 7.1; places and order are this project's).
+-- What is wrong with a message, and which fault is reported (RFC 6733 section 7.1; places and order are this project's).
 use Rattle.std.specs.Prelude.{◌≡◌, ◌≢◌, ℕ, suc, ◌<◌, ◌≤◌, ◌⊎◌, true, false, List, [], ◌∷◌, ◌++◌, length, map, take, drop}
 use Rattle.std.specs.Prelude.{Option, Some, None, Result, Ok, Err, slice_get, slice_index, IsTrue, ⊤}
 use Rattle.dia_wire.specs.declared.Header.{Header}
@@ -24,7 +24,7 @@ use Rattle.dia_valid.specs.LongestRuns.{runs, run_end, loose_start, met}
 use Rattle.dia_check.specs.Reasons.{code_of, row_of}
 use Rattle.dia_check.specs.Levels.{Level, between, IsMember, IsOpen, MayOpen}
 
--- ---- where faults stand, and their order
+-- ---- where faults are, and their order
 
 -- at one place the ends of levels come first, the deeper before the outer, and then the rows of an AVP
 pub data Row : Type 0 where
@@ -102,14 +102,14 @@ pub record PassesMax (rules : List DRule) (earlier : List PlainAvp) (v : PlainAv
   pub before : met rules (map key_of earlier) i rule ≡ max
   pub now : met rules (keys_to earlier v) i rule ≡ suc max
 
--- what is wrong with an AVP of a level behind these, by its entry and by the rules of the level
+-- what is wrong with an AVP of a level after these, by its entry and by the rules of the level
 pub data IsWrong (d : Dictionary) (u : Unknown) (most : Levels) (level : Level) (earlier : List PlainAvp) (v : PlainAvp) : Reason → Subject → Type 0 where
   unknown : known d (key_of v) ≡ None → ¬ IsAccepted u v.flags → IsWrong d u most level earlier v reason.Unknown (Avp (key_of v))
   m_bit : (e : DictEntry) → known d (key_of v) ≡ Some e → ¬ MHolds e.rule v.flags → IsWrong d u most level earlier v reason.MBit (Avp (key_of v))
   -- it follows the run of the first rule whose run is too short
   missing : (i : ℕ) (rule : DRule) → IsFirstShort level.rules (keys_to earlier v) i rule → run_end level.rules i (keys_to earlier v) ≡ length earlier
       → IsWrong d u most level earlier v reason.Missing (subject_of rule.key)
-  -- in the loose part stands a fixed key, or an unlisted one where there is no wildcard
+  -- the loose part has a fixed key, or an unlisted one where there is no wildcard
   not_allowed : loose_start level.rules (keys_to earlier v) ≤ length earlier
       → IsTrue (is_listed (fixed_rules level.rules) (key_of v)) ⊎ ((is_listed level.rules (key_of v) ≡ false) × (has_wildcard level.rules ≡ false))
       → IsWrong d u most level earlier v reason.NotAllowed (Avp (key_of v))
@@ -119,7 +119,7 @@ pub data IsWrong (d : Dictionary) (u : Unknown) (most : Levels) (level : Level) 
       → IsWrong d u most level earlier v reason.LeafValue (Avp (key_of v))
   depth : (e : DictEntry) → known d (key_of v) ≡ Some e → e.format ≡ Grouped → ¬ MayOpen most level.depth → IsWrong d u most level earlier v reason.Depth (Avp (key_of v))
 
--- a fault and where it stands
+-- a fault and where it is
 pub data Stands (d : Dictionary) (u : Unknown) (most : Levels) (bytes : List ℕ) : Spot → Reason → Subject → Type 0 where
   bits : (h : Header) → HasHeader bytes h → (HasR h.flags × HasE h.flags) ⊎ (HasT h.flags × (¬ HasR h.flags))
       → Stands d u most bytes (spot 4 reason.Bits) reason.Bits Nothing
@@ -129,7 +129,7 @@ pub data Stands (d : Dictionary) (u : Unknown) (most : Levels) (bytes : List ℕ
       → Stands d u most bytes (spot 8 reason.Application) reason.Application Nothing
   proxiable : (h : Header) (c : ℕ) (command : PlainDefinition) → HasHeader bytes h → selected d h.code (class_of h.flags) h.app ≡ Some c → slice_get (definitions d) c ≡ Some command
       → ¬ AllowsP command.head h.flags → Stands d u most bytes (spot 4 reason.Proxiable) reason.Proxiable Nothing
-  -- behind the AVPs of a level stand bytes with which no AVP begins
+  -- the AVPs of a level are followed by bytes with which no AVP begins
   avp_length : (level : Level) (earlier : List PlainAvp) (at : ℕ) → Looks d most bytes level → level.start ≤ at → at < level.end → SpellsAll earlier (between bytes level.start at)
       → BeginsWithNone (between bytes at level.end) → Stands d u most bytes (spot at reason.AvpLength) reason.AvpLength Nothing
   -- something is wrong with an AVP
@@ -139,7 +139,7 @@ pub data Stands (d : Dictionary) (u : Unknown) (most : Levels) (bytes : List ℕ
   missing_at_end : (level : Level) (avps : List PlainAvp) (i : ℕ) (rule : DRule) → Looks d most bytes level → SpellsAll avps (between bytes level.start level.end)
       → IsFirstMissing level.rules (map key_of avps) i rule → Stands d u most bytes (record { place = level.end; row = End level.depth }) reason.Missing (subject_of rule.key)
 
--- the fault stands, and none before it stands
+-- the fault occurs, and none before it
 pub record IsFirst (d : Dictionary) (u : Unknown) (most : Levels) (bytes : List ℕ) (f : Fault) : Type 0 where
   pub row : Row
   pub stands : Stands d u most bytes (record { place = f.place; row = row }) f.reason f.subject

@@ -20,7 +20,7 @@ pub record Level : Type 0 where
 abbrev pub between : List ℕ → ℕ → ℕ → List ℕ
 between bytes from to = take (to - from) (drop from bytes)
 
--- an AVP of the level at a place, behind these AVPs
+-- an AVP of the level at a place, after these AVPs
 pub record IsMember (bytes : List ℕ) (level : Level) (earlier : List PlainAvp) (v : PlainAvp) (at : ℕ) : Type 0 where
   pub inside : level.start ≤ at
   pub before : SpellsAll earlier (between bytes level.start at)

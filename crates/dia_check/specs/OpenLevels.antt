@@ -1,4 +1,4 @@
--- What a checker keeps of the levels that are open: the run that each is in, and its tally.
+-- What a checker records of the levels that are open: the run that each is in, and its tally.
 use Rattle.std.specs.Prelude.{◌≡◌, ◌≢◌, ℕ, suc, ◌+◌, ◌<◌, ◌≤◌, ◌⊎◌, ◌==◌, if◌then◌else◌, false, List, [], ◌∷◌, ◌++◌, length, Option, Some, None, slice_get, slice_index, IsTrue, vec_capacity}
 use Rattle.dia_wire.specs.declared.Key.{Key}
 use Rattle.dia_book.specs.declared.DRule.{DRule}
@@ -17,15 +17,15 @@ use Rattle.dia_valid.specs.LongestRuns.{runs, run_end, loose_start, met, IsAt}
 use Rattle.dia_check.specs.Faults.{subject_of, IsFirstShort, IsFirstMissing}
 use Rattle.dia_check.specs.Reasons.{row_of}
 
--- ---- what is wrong with a key behind others, by the rules of their level
+-- ---- what is wrong with a key after others, by the rules of their level
 
--- in the loose part stands a fixed key, or an unlisted one where there is no wildcard
+-- the loose part has a fixed key, or an unlisted one where there is no wildcard
 abbrev pub IsNotAllowed : List DRule → List Key → Key → Type 0
 IsNotAllowed rules keys key =
     (loose_start rules (keys ++ key ∷ []) ≤ length keys)
     × (IsTrue (is_listed (fixed_rules rules) key) ⊎ ((is_listed rules key ≡ false) × (has_wildcard rules ≡ false)))
 
--- the key doesn't stand where and as often as the rules say, behind these keys
+-- after these keys, the key isn't where or as often as the rules say
 pub data IsMisplaced (rules : List DRule) (keys : List Key) (key : Key) : Reason → Subject → Type 0 where
   missing : (i : ℕ) (rule : DRule) → IsFirstShort rules (keys ++ key ∷ []) i rule → run_end rules i (keys ++ key ∷ []) ≡ length keys
       → IsMisplaced rules keys key reason.Missing (subject_of rule.key)
@@ -41,7 +41,7 @@ pub record IsFirstMisplaced (rules : List DRule) (keys : List Key) (key : Key) (
 abbrev pub IsWellPlaced : List DRule → List Key → Key → Type 0
 IsWellPlaced rules keys key = (r : Reason) (s : Subject) → ¬ IsMisplaced rules keys key r s
 
--- at the end of a level each rule is met, or the first that is not is told
+-- at the end of a level each rule is met, or the first that is not is reported
 abbrev pub IsMetAtEnd : List DRule → List Key → Type 0
 IsMetAtEnd rules keys = (i : ℕ) (rule : DRule) → ¬ IsFirstMissing rules keys i rule
 
@@ -64,7 +64,7 @@ pub record IsFirstUnmet (rules : List DRule) (tally : List Met) (from to i : ℕ
   pub unmet : count_in tally i < rule.min
   pub met_before : AreMet rules tally from i
 
--- the counts are those of the keys; and the rules in front of the run are met
+-- the counts are those of the keys; and the rules before the run are met
 pub record IsCounted (rules : List DRule) (keys : List Key) (level : OpenLevel) (tally : List Met) : Type 0 where
   pub run : IsAt (fixed_rules rules) level.run keys
   pub rising : AreRising 0 tally
@@ -74,7 +74,7 @@ pub record IsCounted (rules : List DRule) (keys : List Key) (level : OpenLevel) 
   pub done_within : level.done ≤ length rules
   pub done : AreMet rules tally 0 level.done
 
--- where one key more leads: into the run of a fixed rule or behind all the runs, and to the rule that counts it
+-- where one key more leads: into the run of a fixed rule or past all the runs, and to the rule that counts it
 pub record Leads (rules : List DRule) (keys : List Key) (key : Key) (old run : ℕ) (rule : Option ℕ) : Type 0 where
   pub at : IsAt (fixed_rules rules) run (keys ++ key ∷ [])
   pub within : (run ≤ length (fixed_rules rules)) × (old ≤ length (fixed_rules rules))
@@ -113,7 +113,7 @@ HasRoom level = length level.keys < 4294967295
 abbrev pub and_key : SoFar → Key → SoFar
 and_key level key = record { rules = level.rules; end = level.end; keys = level.keys ++ key ∷ [] }
 
--- what is kept of a level: its definition's number, its end, and its tally
+-- what is recorded of a level: its definition's number, its end, and its tally
 pub record IsKept (defs : List PlainDefinition) (kept : OpenLevel) (tally : List Met) (level : SoFar) : Type 0 where
   pub definition : PlainDefinition
   pub is_definition : slice_get defs kept.def ≡ Some definition
@@ -121,7 +121,7 @@ pub record IsKept (defs : List PlainDefinition) (kept : OpenLevel) (tally : List
   pub is_end : kept.end ≡ level.end
   pub counted : IsCounted level.rules level.keys kept tally
 
--- the levels, the outermost first, with their tallies one level behind the other from a place on
+-- the levels, the outermost first, with their tallies one after the other from a place on
 abbrev pub AreKept : List PlainDefinition → ℕ → List OpenLevel → List Met → List SoFar → Type 0
 AreKept defs base [] tallies [] = tallies ≡ []
 AreKept defs base [] tallies (level ∷ levels) = ⊥

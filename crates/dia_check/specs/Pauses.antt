@@ -1,4 +1,4 @@
--- A stream apart from its dictionary, and what it stands for.
+-- A stream apart from its dictionary, and what it means.
 use Rattle.std.specs.Prelude.{◌≡◌, ◌≢◌, ℕ, List, Option, Some, None, MatchOption, ⊤}
 use Rattle.dia_wire.specs.declared.Key.{Key}
 use Rattle.dia_data.specs.Plain.{Grouped}
@@ -86,7 +86,7 @@ pub record IsPausedFor (d : Dictionary) (p : Paused) : Type 0 where
   pub is_pause : IsPauseOf d before p.stage
   pub is_stage : IsStage d p.unknown p.levels p.taken p.wanted before
 
--- the stream was refused memory before it was put aside
+-- the stream was refused memory before it was paused
 abbrev pub IsSpentPaused : PausedStage → Type 0
 IsSpentPaused paused.NoMemory = ⊤
 IsSpentPaused (paused.Header x) = ⊥

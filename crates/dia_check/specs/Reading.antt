@@ -53,7 +53,7 @@ IsGroupOf d key g = (i : ℕ) × (Some i ≡ entry_of d key) × (Some g ≡ grou
 
 -- ---- one message
 
--- the piece stands at a place of the message
+-- the piece is at a place of the message
 abbrev pub LiesAt : List ℕ → ℕ → List ℕ → Type 0
 LiesAt bytes from piece = (between bytes from (from + length piece) ≡ piece) × (from + length piece ≤ length bytes)
 
@@ -63,7 +63,7 @@ pub record BeginsLevelAt (d : Dictionary) (most : Levels) (bytes : List ℕ) (at
   pub is_open : IsOpen d most bytes level
   pub start : level.start ≡ at
 
--- a level begins behind one place and up to another
+-- a level begins after one place and goes up to another
 pub record BeginsLevel (d : Dictionary) (most : Levels) (bytes : List ℕ) (from to : ℕ) : Type 0 where
   pub level : Level
   pub is_open : IsOpen d most bytes level
@@ -71,7 +71,7 @@ pub record BeginsLevel (d : Dictionary) (most : Levels) (bytes : List ℕ) (from
   pub within : level.start ≤ to
 
 module _ (d : Dictionary) (u : Unknown) (most : Levels) (bytes : List ℕ) (good : HasGoodHeader d bytes) where
-  -- the first bytes of the AVP at a place are kept, up to where the message was read; they are no whole head, and it may become one
+  -- the first bytes of the AVP at a place are retained, up to where the message was read; they are no whole head yet
   pub record IsInHead (open_levels : OpenLevels) (part : HeadPart) (n : ℕ) : Type 0 where
     pub under_way : IsUnderWay d u most bytes good open_levels part.at
     pub kept : front_bytes part.front ≡ between bytes part.at n
@@ -96,7 +96,7 @@ module _ (d : Dictionary) (u : Unknown) (most : Levels) (bytes : List ℕ) (good
     pub from : part.at + head_length avp.vendor ≤ n
     pub seen : HasSeen d part.leaf part.key (take (n - (part.at + head_length avp.vendor)) avp.bytes)
 
-  -- an AVP with this head stands at a place
+  -- an AVP with this head is at a place
   pub record IsAtAvp (open_levels : OpenLevels) (at : ℕ) (head : AvpHead) : Type 0 where
     pub under_way : IsUnderWay d u most bytes good open_levels at
     pub avp : PlainAvp
@@ -113,7 +113,7 @@ module _ (d : Dictionary) (u : Unknown) (most : Levels) (bytes : List ℕ) (good
   abbrev pub IsNext : OpenLevels → Option Part → ℕ → Type 0
   IsNext open_levels next n = MatchOption next (Walks d u most (whole good.command.rules bytes) None × (n ≡ length bytes)) (λ part. IsInPart open_levels part n)
 
-  -- the body has a fault, or memory was refused where something is so
+  -- the body has a fault, or memory was refused where this type holds
   abbrev pub IsStop : Type 0 → Refusal → Type 0
   IsStop Memory (refusal.Fault f) = (h : Found) × Walks d u most (whole good.command.rules bytes) (Some h) × (f ≡ fault_of h)
   IsStop Memory refusal.NoMemory = Memory
@@ -121,7 +121,7 @@ module _ (d : Dictionary) (u : Unknown) (most : Levels) (bytes : List ℕ) (good
   IsStop Memory refusal.Trailing = ⊥
   IsStop Memory refusal.Spent = ⊥
 
-  -- the AVPs of a piece that ends at a place were read: up to an AVP that goes on behind it, or to the end of the message
+  -- the AVPs of a piece that ends at a place were read: up to an AVP that goes on after it, or to the end of the message
   abbrev pub IsReadTo : OpenLevels → ℕ → Option ℕ → Type 0
   IsReadTo open_levels stop next = MatchOption next (Walks d u most (whole good.command.rules bytes) None × (stop ≡ length bytes))
       (λ at. IsUnderWay d u most bytes good open_levels at)

@@ -1,4 +1,4 @@
--- The reasons: their order, their result codes (RFC 6733 section 7.1), and their words. Which code each gives, and the order, are this project's.
+-- The reasons: their order, their result codes (RFC 6733 section 7.1), and their words. Codes and order are this project's.
 use Rattle.std.specs.Prelude.{ℕ, ◌==◌, if◌then◌else◌, List, codes}
 use Rattle.dia_check.specs.declared.fault.Reason.{Reason}
 use Rattle.dia_check.specs.declared.fault.Reason.TheVariants as reason

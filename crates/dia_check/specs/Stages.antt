@@ -48,11 +48,11 @@ HasReadPiece b old from piece new result =
     (IsInPart b.dictionary b.unknown b.levels bytes good new.open_levels new.part (from + length piece)))
     (IsStop b.dictionary b.unknown b.levels bytes good (BeginsLevel b.dictionary b.levels bytes from (from + length piece)))
 
--- a piece may be read behind the first bytes of some message
+-- a piece may be read after the first bytes of some message
 abbrev pub MayReadSome : PlainBasis → Stage → ℕ → List ℕ → Type 0
 MayReadSome b stage from piece = (bytes : List ℕ) × MayRead b.dictionary b.unknown b.levels bytes stage from piece
 
--- a piece was read behind the first bytes of a message, or memory was refused where a level begins in it
+-- a piece was read after the first bytes of a message, or memory was refused where a level begins in it
 abbrev pub HasReadMore : PlainBasis → Stage → ℕ → List ℕ → Stage → Type 0
 HasReadMore b old from piece new = (bytes : List ℕ) → MayRead b.dictionary b.unknown b.levels bytes old from piece
     → HasReadUnless (OpensBehind b.dictionary b.levels from (bytes ++ piece)) b.dictionary b.unknown b.levels (bytes ++ piece) new

@@ -19,15 +19,15 @@ use Rattle.dia_check.specs.Reading.{BeginsLevel, BeginsLevelAt, IsAtAvp, IsEnter
 
 -- ---- places
 
--- where the reading goes on at a place, the innermost level ends behind this one
+-- where the reading goes on at a place, the innermost level ends after this one
 abbrev pub EndsBehind : ℕ → OpenLevels → Option ℕ → Type 0
 EndsBehind stop open_levels next = IfSome next (λ at. stop < open_levels.innermost.end)
 
--- the place, if there is one, lies behind another, and in the piece that begins there or at its end
+-- the place, if there is one, is after another, and in the piece that begins there or at its end
 abbrev pub IsFarther : ℕ → List ℕ → Option ℕ → Type 0
 IsFarther at piece next = IfSome next (λ start. (at < start) × (start ≤ at + length piece))
 
--- the place, if there is one, lies behind the head at another
+-- the place, if there is one, is after the head at another
 abbrev pub IsBehindHead : ℕ → AvpHead → Option ℕ → Type 0
 IsBehindHead at head next = IfSome next (λ start. start ≡ at + head_length head.vendor)
 
@@ -64,7 +64,7 @@ module _ (b : PlainBasis) where
 
   -- ---- parts of a body
 
-  -- what a piece has behind a place where an AVP begins or levels end was read, up to the next part
+  -- what a piece has after a place where an AVP begins or levels end was read, up to the next part
   abbrev pub HasReadOn : OpenLevels → ℕ → List ℕ → OpenLevels → Result Done Refusal → Type 0
   HasReadOn old from piece new result =
       (bytes : List ℕ) (good : HasGoodHeader b.dictionary bytes) → IsUnderWay b.dictionary b.unknown b.levels bytes good old from → LiesAt bytes from piece

@@ -1,4 +1,4 @@
--- What a stream has taken, and what it stands for.
+-- What a stream has taken, and what it means.
 use Rattle.std.specs.Prelude.{◌≡◌, ℕ, ◌+◌, ◌-◌, ◌/◌, ◌%◌, ◌<◌, ◌≤◌, ◌↔◌, ◌==◌, ◌&&◌, ◌^◌, nat_lt, nat_le, Bool, if◌then◌else◌}
 use Rattle.std.specs.Prelude.{List, ◌++◌, length, take, drop, Some, Result, Ok, Err, slice_get, slice_index, Contains, IsTrue, ⊤}
 use Rattle.dia_wire.specs.Number.{number}
@@ -41,7 +41,7 @@ pub record Takes (bytes piece : List ℕ) (progress : Progress) : Type 0 where
 
 -- ---- levels
 
--- the open levels that begin at or before the last byte taken and end behind it, each once
+-- the open levels that begin at or before the last byte taken and end after it, each once
 pub record AreCurrent (d : Dictionary) (most : Levels) (bytes : List ℕ) (levels : List Level) : Type 0 where
   pub distinct : (i j : ℕ) (l : Level) → slice_get levels i ≡ Some l → slice_get levels j ≡ Some l → i ≡ j
   pub each : (l : Level) → Contains levels l ↔ (IsOpen d most (filled bytes) l × (l.start ≤ length bytes) × (length bytes < l.end))
@@ -71,7 +71,7 @@ pub record CountsLevels (d : Dictionary) (u : Unknown) (most : Levels) (bytes : 
   pub header : 0 < n → IsTrue (is_sound bytes) × HasGoodHeader d (filled bytes)
   pub exact : 20 ≤ length bytes → BeginsValid d u most bytes → (levels : List Level) × AreCurrent d most bytes levels × (n ≡ length levels)
 
--- ---- what a stream keeps
+-- ---- what a stream retains
 
 -- however the message goes on up to its end
 abbrev pub HoweverItEnds : List ℕ → (List ℕ → Type 0) → Type 0
@@ -90,7 +90,7 @@ IsWholeAnswer taken all (Err refusal.Trailing) = ⊥
 IsWholeAnswer taken all (Err refusal.NoMemory) = ⊥
 IsWholeAnswer taken all (Err refusal.Spent) = ⊥
 
--- behind the header of a message: its body is read, or it is answered, or memory was refused for the body of a good header
+-- after the header of a message: its body is read, or it is answered, or memory was refused for the body of a good header
 abbrev pub IsBegun : Dictionary → Unknown → Levels → List ℕ → Stage → Type 0
 IsBegun d u most bytes (InBody body) = IsReading d u most body 20 bytes
 IsBegun d u most bytes (Over answer) = IsWholeAnswer 20 (length bytes) answer × IsAnswer d u most bytes answer
@@ -104,7 +104,7 @@ HasRead d u most bytes (InBody body) = (20 ≤ length bytes) × IsTrue (is_sound
 HasRead d u most bytes (Over answer) = (20 ≤ length bytes) × IsWholeAnswer (length bytes) (wanted bytes) answer × HoweverItEnds bytes (λ all. IsAnswer d u most all answer)
 HasRead d u most bytes NoMemory = ⊥
 
--- these bytes were read, or memory was refused where something is so
+-- these bytes were read, or memory was refused where this type holds
 abbrev pub HasReadUnless : Type 0 → Dictionary → Unknown → Levels → List ℕ → Stage → Type 0
 HasReadUnless Memory d u most bytes (Header front) = HasRead d u most bytes (Header front)
 HasReadUnless Memory d u most bytes (InBody body) = HasRead d u most bytes (InBody body)
@@ -129,7 +129,7 @@ pub record MayRead (d : Dictionary) (u : Unknown) (most : Levels) (bytes : List 
 abbrev pub BeginsGood : Dictionary → List ℕ → Type 0
 BeginsGood d bytes = (20 ≤ length bytes) × IsTrue (is_sound bytes) × HoweverItEnds bytes (HasGoodHeader d)
 
--- a level begins behind a place, and the header is a good one, however the message goes on
+-- a level begins after a place, and the header is a good one, however the message goes on
 abbrev pub OpensBehind : Dictionary → Levels → ℕ → List ℕ → Type 0
 OpensBehind d most from bytes = IsTrue (is_sound bytes) × HoweverItEnds bytes (λ all. HasGoodHeader d all × BeginsLevel d most all from (length bytes))
 

@@ -1,4 +1,4 @@
--- A stream and the bytes that it stands for.
+-- A stream and the bytes that it has taken.
 use Rattle.std.specs.Prelude.{◌≡◌, List, ◌++◌, length, drop, ℕ}
 use Rattle.dia_book.specs.declared.Book.{Ghosts}
 use Rattle.dia_book.specs.Dictionary.{Dictionary}

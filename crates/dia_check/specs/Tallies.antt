@@ -1,4 +1,4 @@
--- The tally of a level: how often its rules were met, in the order of the rules. One that is not told was not met.
+-- The tally of a level: how often its rules were met, in the order of the rules. A rule that isn't recorded was not met.
 use Rattle.std.specs.Prelude.{◌≡◌, ℕ, zero, suc, ◌+◌, ◌<◌, ◌≤◌, ◌==◌, if◌then◌else◌, List, [], ◌∷◌, length, take, drop, slice_get, Some}
 use Rattle.std.specs.List.{AllByRecursion}
 use Rattle.dia_check.specs.declared.open_levels.tally.Met.{Met}
@@ -25,7 +25,7 @@ AreRising from (m ∷ tally) = (from ≤ m.rule) × AreRising (m.rule + 1) tally
 abbrev pub AreBelow : ℕ → List Met → Type 0
 AreBelow to tally = AllByRecursion (λ m. m.rule < to) tally
 
--- the place behind the rules before a rule
+-- the place after the rules before a rule
 pub record IsPlaceOf (tally : List Met) (rule place : ℕ) : Type 0 where
   pub within : place ≤ length tally
   pub before : AreBelow rule (take place tally)
@@ -40,7 +40,7 @@ pub record HasPlaceFor (tallies : List Met) (capacity base many rule : ℕ) : Ty
   pub few : many ≤ 1024
   pub room : base + many ≤ capacity
 
--- the rule is told at a place of the list, and the tally tells the same counts as before
+-- the rule is recorded at a place of the list, and the tally records the same counts as before
 pub record IsTold (old new : List Met) (base many rule place : ℕ) : Type 0 where
   pub behind : ℕ
   pub is_place : place ≡ base + behind

@@ -1,4 +1,4 @@
--- The fault that is told of what is wrong.
+-- The fault that is reported for what is wrong.
 use Rattle.std.specs.Prelude.{ℕ}
 use Rattle.dia_check.specs.declared.fault.Fault.{Fault}
 use Rattle.dia_check.specs.declared.open_levels.Wrong.{Wrong}

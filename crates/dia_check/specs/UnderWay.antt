@@ -1,4 +1,4 @@
--- A check of a body under way: what is left of the levels that are open, and what of them is owed.
+-- A check of a body under way: the rest of the levels that are open, and what of them is owed.
 use Rattle.std.specs.Prelude.{◌≡◌, ℕ, suc, ◌+◌, ◌*◌, ◌/◌, ◌%◌, ◌≤◌, ◌⊎◌, List, [], ◌∷◌, length, map, Option, Some, None}
 use Rattle.dia_wire.specs.Wire.{key_of, SpellsAll}
 use Rattle.dia_book.specs.Dictionary.{Dictionary, definitions}
@@ -14,7 +14,7 @@ use Rattle.dia_check.specs.Walks.{Found, Rest, Walks, whole}
 abbrev pub so_far : Rest → SoFar
 so_far r = record { rules = r.level.rules; end = r.level.end; keys = map key_of r.earlier }
 
--- what is owed of the levels that are open: the innermost first, and then what is left of those round it
+-- what is owed of the levels that are open: the innermost first, and then the rest of those round it
 abbrev pub Owes : Dictionary → Unknown → Levels → List Rest → Rest → Option Found → Type 0
 Owes d u most [] s f = Walks d u most s f
 Owes d u most (r ∷ rs) s f = (Owes d u most rs s None × Walks d u most r f) ⊎ ((g : Found) × Owes d u most rs s (Some g) × (f ≡ Some g))
@@ -28,7 +28,7 @@ pub record Lies (d : Dictionary) (u : Unknown) (most : Levels) (bytes : List ℕ
   pub size : s.at + length s.bytes ≡ s.level.end
   pub within : s.level.end ≤ length bytes
 
--- what is left of a level of this depth, behind whose end the level round it goes on at a place
+-- the rest of a level of this depth, after whose end the level round it goes on at a place
 pub record IsRestAt (d : Dictionary) (u : Unknown) (most : Levels) (bytes : List ℕ) (good : HasGoodHeader d bytes) (depth next : ℕ) (r : Rest) : Type 0 where
   pub lies : Lies d u most bytes good r
   pub deep : r.level.depth ≡ depth

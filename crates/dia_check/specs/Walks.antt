@@ -1,4 +1,4 @@
--- How a checker goes through a message, one AVP after the other and the members of a group before what is behind it, and what it finds first.
+-- How a checker goes through a message, AVP by AVP, the members of a group before what follows it, and what it finds first.
 use Rattle.std.proofs.Common.{◌≡◌, ℕ, suc, ◌+◌, ◌<◌, ◌≤◌, List, [], ◌∷◌, ◌++◌, length, map, drop, Option, Some, None}
 use Rattle.std.specs.Prelude.{◌⊎◌, ⊤}
 use Rattle.dia_wire.specs.Wire.{PlainAvp, key_of, head_length, avp_length, padded_length, BeginsWith, BeginsWithNone}
@@ -25,7 +25,7 @@ pub record Found : Type 0 where
   pub reason : Reason
   pub subject : Subject
 
--- what is left of a level: its first AVPs, the place behind them, and the bytes from there to its end
+-- the rest of a level: its first AVPs, the place after them, and the bytes from there to its end
 pub record Rest : Type 0 where
   pub level : Level
   pub earlier : List PlainAvp
@@ -43,7 +43,7 @@ inside s v group = record {
   bytes = v.bytes;
 }
 
--- nothing is wrong with an AVP; and its data is a leaf of its format or a level, which doesn't follow from that without a decision
+-- nothing is wrong with an AVP; and its data is a leaf of its format or a level, which follows only by a decision
 pub record IsFine (d : Dictionary) (u : Unknown) (most : Levels) (s : Rest) (v : PlainAvp) : Type 0 where
   pub none_wrong : (r : Reason) (t : Subject) → ¬ IsWrong d u most s.level s.earlier v r t
   pub leaf : (e : DictEntry) → known d (key_of v) ≡ Some e → IsLeaf e.format v.bytes ⊎ (e.format ≡ Grouped)
@@ -71,7 +71,7 @@ pub data Walks (d : Dictionary) (u : Unknown) (most : Levels) : Rest → Option 
 abbrev pub whole : List DRule → List ℕ → Rest
 whole rules bytes = record { level = record { rules = rules; start = 20; end = length bytes; depth = 0 }; earlier = []; at = 20; bytes = drop 20 bytes }
 
--- the fault that is told of what is found
+-- the fault that is reported for what is found
 abbrev pub fault_of : Found → Fault
 fault_of h = record { place = h.spot.place; code = code_of h.reason; reason = h.reason; subject = h.subject }
 

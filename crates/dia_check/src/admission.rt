@@ -62,7 +62,7 @@ pub(crate) fn missing_at_end<B: Book>(book: &B, open_levels: &OpenLevels) -> Opt
     missing_apart(book, open_levels)
 }
 
-/// So it is, out of the loop over AVPs, which seldom asks for it.
+/// The same, out of line: the loop over AVPs seldom asks for it.
 #[inline(never)]
 fn missing_apart<B: Book>(book: &B, open_levels: &OpenLevels) -> Option<Wrong>
     requires { ∥ AreSomeOpen (B.meaning book.now) open_levels.now ∥₁ }

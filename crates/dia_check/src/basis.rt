@@ -1,12 +1,11 @@
 use dia_book::Book;
 use dia_policy::{Levels, Unknown};
 
-/// What a check goes by.
+/// What a check uses.
 #[derive(Drop)]
 pub(crate) struct Basis<'a, B: Book> {
     pub(crate) book: &'a B,
     /// The policy for AVPs that the dictionary does not know.
     pub(crate) unknown: Unknown,
-    /// The limit on levels.
     pub(crate) levels: Levels,
 }

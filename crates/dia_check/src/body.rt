@@ -15,7 +15,7 @@ use dia_book::Book;
 use dia_wire::{AvpFault, next_avp};
 
 /// Reads a piece of a body, which begins at a place: the AVPs that lie whole in it, and the heads of the groups that go on
-/// behind it. `None` where the body ends with the piece, and else the place at which an AVP begins that goes on behind the
+/// after it. `None` where the body ends with the piece, and else the place at which an AVP begins that goes on after the
 /// piece and isn't entered, or where the piece ends.
 pub(crate) fn read_piece<B: Book>(
     basis: &Basis<'_, B>,
@@ -44,10 +44,10 @@ pub(crate) fn read_piece<B: Book>(
 }
 
 /// Goes over the AVPs that lie whole in a piece of a body, which begins at a place: each AVP where it lies, and the
-/// members of a group before what is behind it. `None` where the body ends with the piece, and else the place at which the
-/// AVP begins that goes on behind the piece, or where the piece ends.
+/// members of a group before what follows it. `None` where the body ends with the piece, and else the place at which the
+/// AVP begins that goes on after the piece, or where the piece ends.
 ///
-/// The levels that are open wait in a list, so the depth of a message costs memory and no stack.
+/// Levels that are open wait in a list, so the depth of a message costs memory and no stack.
 #[inline(never)]
 pub(crate) fn read_avps<B: Book>(
     basis: &Basis<'_, B>,

@@ -50,7 +50,7 @@ pub fn check<B: Book>(
     check_in(&mut room, book, unknown, levels, bytes)
 }
 
-/// The same, with memory that is kept for the next message.
+/// The same, with memory that is used again for the next message.
 #[inline(always)]
 pub fn check_in<B: Book>(
     room: &mut Room,
@@ -101,7 +101,7 @@ fn check_body<B: Book>(
     }
 }
 
-/// A whole message, with a sound version and Message Length, is valid exactly where no fault stands.
+/// A whole message, with a sound version and Message Length, is valid exactly where no fault occurs.
 pub fn validity()
     ensures { (d : Dictionary) (u : AnyPolicy) (most : AnyLevels) (bytes : List ℕ) → IsDictionary d
         → HasLength bytes (length bytes)

@@ -11,7 +11,7 @@ pub struct Selected {
 }
 
 /// What is wrong with a message, with its result code (RFC 6733 section 7.1), in the order in which faults at one place are
-/// told. Which code each gives, and the order, are our profile.
+/// reported. Which code each gives, and the order, are our profile.
 #[derive(Debug, Clone, Copy, PartialEq, Eq)]
 pub enum Reason {
     /// 5011: the version isn't 1.
@@ -34,7 +34,7 @@ pub enum Reason {
     MBit,
     /// 5005: a rule was met less often than its min, where its run ends or at the end of the level.
     Missing,
-    /// 5008: behind the fixed AVPs stands one of a fixed rule, or one that no rule lists where there is no wildcard.
+    /// 5008: after the fixed AVPs comes one of a fixed rule, or one that no rule lists where there is no wildcard.
     NotAllowed,
     /// 5009: a rule was met more often than its max.
     TooMany,
@@ -42,7 +42,7 @@ pub enum Reason {
     LeafLength,
     /// 5004: the format does not accept the data.
     LeafValue,
-    /// 5012: a group in as many groups as may be opened.
+    /// 5012: a group in as many groups as may be nested.
     Depth,
 }
 

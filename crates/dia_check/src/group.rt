@@ -38,7 +38,7 @@ pub(crate) fn enter_at<B: Book>(
     }
 }
 
-/// Enters the group whose head stands at a place: its data is the innermost level then. Answers where the data begins;
+/// Enters the group whose head is at a place: its data is the innermost level then. Answers where the data begins;
 /// `None`, and nothing is changed, where the AVP is no known group.
 #[inline(always)]
 pub(crate) fn enter_group<B: Book>(
@@ -96,7 +96,7 @@ pub(crate) fn head_key(head: &AvpHead) -> Key
     }
 }
 
-/// The bytes of an AVP in front of its data.
+/// The bytes of an AVP before its data.
 #[inline(always)]
 pub(crate) fn head_length(head: &AvpHead) -> usize
     ensures { result ≡ head_length head.now.vendor }

@@ -23,41 +23,40 @@ use dia_book::{DRule, DefId, Shape, Slot};
 use dia_wire::Key;
 use std::alloc::{AllocError, Global};
 
-/// How many rules of a body stand in its tally from the start: all that a definition may have.
+/// How many rules of a body its tally records from the start: all that a definition may have.
 const LAID_OUT_OF_BODY: usize = 1024;
 
-/// How many rules of a group do. Groups in one another take 8 bytes for each.
+/// The same for a group. Nested groups take 8 bytes for each.
 const LAID_OUT_OF_GROUP: usize = 8;
 
 /// How many more rules the first list of tallies has room for than the body's, so that the groups of most messages take no
 /// memory for theirs.
 const ROOM_FOR_GROUPS: usize = 32;
 
-/// How many levels are kept in memory behind a message: 40 KB at most.
+/// For how many levels memory is retained after a message: 40 KB at most.
 const MOST_LEVELS_KEPT: usize = 1024;
 
-/// How many rules in tallies are: 40 KB at most, enough for as many levels of groups of four rules.
+/// For how many rules of tallies it is: 40 KB at most, enough for as many levels of groups of four rules.
 const MOST_RULES_KEPT: usize = 5120;
 
 /// An open level.
 #[derive(Clone, Copy)]
 pub(crate) struct OpenLevel {
-    /// Its definition.
     pub(crate) def: DefId,
-    /// The place behind its last byte.
+    /// The place after its last byte.
     pub(crate) end: usize,
     /// Where its tally begins; it goes up to the next level's.
     base: usize,
-    /// The fixed rule in whose run the level is; behind the last run, the number of fixed rules.
+    /// The fixed rule in whose run the level is; after the last run, the number of fixed rules.
     run: usize,
-    /// A place in front of which each rule was met often enough: the number of rules, where the AVPs that have to be there
+    /// A place before which each rule was met often enough: the number of rules, where the AVPs that have to be there
     /// came in the order of their rules.
     done: usize,
 }
 
-/// The levels that are open, and their tallies, one level behind the other.
+/// The levels that are open, and their tallies, one level after the other.
 ///
-/// A level that opens has room for all its rules in its tally, but only the first ones stand there from the start: so an
+/// A level that opens has room for all its rules in its tally, which records only the first ones from the start: so an
 /// AVP that is met takes no memory, and to open or close a level costs little, however many rules it has.
 #[derive(Drop)]
 pub(crate) struct OpenLevels {
@@ -87,7 +86,7 @@ impl Wrong {
 }
 
 impl OpenLevel {
-    /// A level of which nothing was read yet, whose tally begins at a place, and whose first rule with a least count stands
+    /// A level of which nothing was read yet, whose tally begins at a place, and whose first rule with a least count is
     /// at another.
     #[inline(always)]
     fn new(def: DefId, end: usize, base: usize, done: usize) -> Self

@@ -4,7 +4,7 @@ use crate::open_levels::OpenLevels;
 use std::alloc::Global;
 use std::marker::Model;
 
-/// Memory for the levels of a message, which is kept for the next one: for most messages no more is taken then. It keeps
+/// Memory for the levels of a message, used again for the next one: for most messages no more is taken then. It retains
 /// nothing else, so all rooms are one value.
 #[derive(Drop)]
 pub struct Room {

@@ -28,7 +28,7 @@ use thiserror::Error;
 
 /// A message that comes in pieces.
 ///
-/// It keeps the levels that are open, and of the bytes a header or the head of an AVP as long as it isn't whole, and the first
+/// It retains the levels that are open, and of the bytes a header or the head of an AVP while it isn't whole, and the first
 /// 20 bytes of a leaf's data.
 #[derive(Drop)]
 pub struct Stream<'a, B: Book> {
@@ -82,7 +82,7 @@ impl<'a, B: Book> Stream<'a, B> {
 
     /// Takes the next piece of the message, as far as it belongs to it.
     ///
-    /// Bytes are taken until Message Length bytes were, also behind a fault, or until 20 were where the version or Message
+    /// Bytes are taken until Message Length bytes were, also after a fault, or until 20 were where the version or Message
     /// Length is at fault. On `NoMemory` the stream is spent. Memory is taken only where a good header ends or a group begins.
     pub fn feed(&mut self, piece: &[u8]) -> Result<Progress, StreamFault>
         ensures taken { IfOk result
@@ -146,7 +146,7 @@ impl<'a, B: Book> Stream<'a, B> {
         }
     }
 
-    /// Takes bytes behind the header, as far as they belong to the message. Answers how many.
+    /// Takes bytes after the header, as far as they belong to the message. Answers how many.
     fn take_body(&mut self, piece: &[u8]) -> Result<usize, StreamFault>
         requires header { 20 ≤ self.old.taken }
         requires not_spent { ¬ IsSpent self.old }
@@ -192,7 +192,7 @@ impl<'a, B: Book> Stream<'a, B> {
         }
     }
 
-    /// How many levels are open: those that began at or before the last byte taken, and end behind it. None are once the
+    /// How many levels are open: those that began at or before the last byte taken, and end after it. None are once the
     /// stream is done, or where the header is at fault. Takes no memory.
     pub fn levels(&self) -> usize
         ensures count { ¬ IsSpent self.now

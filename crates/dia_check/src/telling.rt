@@ -1,4 +1,4 @@
-//! From what is wrong to the fault that is told.
+//! From what is wrong to the fault that is reported.
 
 ghost use Rattle.std.specs.Prelude.{◌≡◌, ◌<◌, ◌^◌};
 ghost use Rattle.dia_check.specs.Faults.{simple};

@@ -38,13 +38,13 @@ grouped_once [] lt = absurd (omega arith)
 grouped_once (a ∷ []) lt = absurd (omega arith)
 grouped_once (a ∷ b ∷ bytes) lt = refl
 
--- the first group stands alone
+-- the first group has no colon before it
 pub grouped_first : (bytes : List ℕ) (i : ℕ) → i ≡ 0 → 2 * i + 1 < length bytes
     → (grouped bytes i ++ hex_byte (get_or bytes (2 * i) 0)) ++ hex_byte (get_or bytes (2 * i + 1) 0) ≡ grouped bytes (i + 1)
 grouped_first bytes i zero_ lt =
     subst (λ (k : ℕ). (grouped bytes k ++ hex_byte (get_or bytes (2 * k) 0)) ++ hex_byte (get_or bytes (2 * k + 1) 0) ≡ grouped bytes (k + 1)) (sym zero_) (grouped_once bytes (omega arith))
 
--- each later one stands behind a colon
+-- each later one follows a colon
 pub grouped_more : (bytes : List ℕ) (i : ℕ) → 0 < i → 2 * i + 1 < length bytes
     → ((grouped bytes i ++ 58 ∷ []) ++ hex_byte (get_or bytes (2 * i) 0)) ++ hex_byte (get_or bytes (2 * i + 1) 0) ≡ grouped bytes (i + 1)
 grouped_more bytes i some lt =

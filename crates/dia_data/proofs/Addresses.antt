@@ -5,7 +5,7 @@ use Rattle.std.proofs.lemmas.List.{take-append-drop, length-take, length-drop}
 use Rattle.dia_data.specs.Number.{number}
 use Rattle.dia_data.specs.Leaf.{IsAddress}
 
--- what an address says of the place where it is cut
+-- what an address says of the offset at which it is cut
 pub record IsLong (bytes : List ℕ) : Type 0 where
   pub family : 2 ≤ length bytes
   pub ipv4 : number (take 2 bytes) ≡ 1 → length bytes ≡ 6

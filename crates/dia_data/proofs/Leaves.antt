@@ -24,7 +24,7 @@ leaf_fits DiameterIdentity bytes leaf = tt
 leaf_fits DiameterUri bytes leaf = tt
 leaf_fits (Enumerated ranges) bytes leaf = leaf.0
 
--- a format says the same of two lists of bytes
+-- a format answers the same for two lists of bytes
 pub record IsSame (kind : PlainFormat) (xs ys : List ℕ) : Type 0 where
   pub leaf : IsLeaf kind xs ↔ IsLeaf kind ys
   pub fits : LengthFits kind xs ↔ LengthFits kind ys

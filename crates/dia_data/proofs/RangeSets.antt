@@ -1,4 +1,4 @@
--- Sets of numbers that are kept as ranges.
+-- Sets of numbers as ranges.
 use Rattle.std.proofs.Common.{◌≡◌, ℕ, ◌+◌, ◌<◌, ◌≤◌, List, [], ◌∷◌, ◌++◌, length, get_or, take, sym, ap, ◌∙◌, subst, inl, inr, ◌⊎◌, ⊎_elim, refl, arith, max, length-append}
 use Rattle.std.specs.Prelude.{◌↔◌, Bool, true, false, ◌||◌, nat_le, IsTrue, Some, Any, All}
 use Rattle.std.specs.List.{list_any, filter}
@@ -68,7 +68,7 @@ AreApart-front rs r apart = (
       omega (arith, ap (λ (x : ℕ × ℕ). x.1) a, ap (λ (x : ℕ × ℕ). x.0) b, apart.1 i j d before (omega (arith, length-append rs (r ∷ []))))),
 )
 
--- the last of ranges that are apart, and those before it
+-- the last of ranges that neither overlap nor touch, and those before it
 AreApart-last : (rs : List (ℕ × ℕ)) (r : ℕ × ℕ) → AreApart (rs ++ r ∷ []) → r.0 ≤ r.1
 AreApart-last rs r apart = subst (λ (x : ℕ × ℕ). x.0 ≤ x.1) (get_or-append_seam rs r [] r) (apart.0 (length rs) r (omega (arith, length-append rs (r ∷ []))))
 
@@ -180,7 +180,7 @@ IsWalked-start f g = record {
   held = λ n any. absurd (omega (arith, any.2, length-take 0 f));
 }
 
--- where the walk stands once it looks for the next range
+-- where the walk is once it looks for the next range
 pub IsWalked-first : (f g : List (ℕ × ℕ)) (i start place : ℕ) → IsWalked f g i start → i < length f → ((k : ℕ) → start ≤ k → k < place → (get_or g k (0, 0)).1 < (get_or f i (0, 0)).0)
     → (place < length g → (get_or f i (0, 0)).0 ≤ (get_or g place (0, 0)).1) → IsFirstTo g place (get_or f i (0, 0)).0
 IsWalked-first f g i start place walked lt before there = record {

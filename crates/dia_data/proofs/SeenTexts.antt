@@ -19,7 +19,7 @@ pub length-pending : (pending bytes : List ℕ) → IsOpen pending bytes → IsU
 length-pending pending bytes seen text =
     length-no_char pending seen.unfinished (IsUtf8-behind seen.whole pending seen.text (subst IsUtf8 seen.parts text))
 
--- what is seen of bytes is seen of them behind a text
+-- what is seen of bytes is seen of them after a text
 pub IsSeenOfText-behind : (t : Text) (a b : List ℕ) → IsUtf8 a → IsSeenOfText t b → IsSeenOfText t (a ++ b)
 IsSeenOfText-behind (Open pending) a b text seen = record {
   whole = a ++ seen.whole;

@@ -24,7 +24,7 @@ length-no_char bs none (c ∷ cs, e) = absurd (none c _ (first_of_both _ _ e.0) 
 pub StartsWithNoChar-empty : (bs : List ℕ) → length bs ≡ 0 → StartsWithNoChar bs
 StartsWithNoChar-empty bs empty c rest s e = omega (arith, ap length e, length-append (encode_utf8 c) rest, length-encode c, len_utf8_bounds c)
 
--- no character begins what is behind the longest front that is a text
+-- no character begins what follows the longest front that is a text
 pub StartsWithNoChar-behind : (bs : List ℕ) (n : ℕ) → IsValidUpTo bs n → StartsWithNoChar (drop n bs)
 StartsWithNoChar-behind bs n v c rest s e =
     let more : take (n + length (encode_utf8 c)) bs ≡ take n bs ++ encode_utf8 c = take-add n (length (encode_utf8 c)) bs
@@ -48,7 +48,7 @@ no_text bs more none long u =
     let rest : StartsWithNoChar (bs ++ more) = StartsWithNoChar-from_take (bs ++ more) (subst StartsWithNoChar (sym front) (StartsWithNoChar-take 4 bs none)) in
     omega (arith, length-append bs more, length-no_char (bs ++ more) rest u)
 
--- a front that is a text ends behind one that no character begins, or is empty
+-- a front that is a text ends after one that no character begins, or is empty
 pub no_text_within : (a b : List ℕ) (n : ℕ) → StartsWithNoChar a → IsUtf8 (take n (a ++ b)) → n ≤ length a → n ≡ 0
 no_text_within a b n none u within =
     let part : IsUtf8 (take n a) = subst IsUtf8 (take-append-le n a b within) u in

@@ -7,7 +7,7 @@ use Rattle.dia_data.specs.Leaf.{IsLeaf, IsListed, IsWithin}
 abbrev pub ValuesBelow : Option (List (ℕ × ℕ)) → Option (List (ℕ × ℕ)) → Type 0
 ValuesBelow v w = IsNone w ⊎ (IsSome v × ((n : ℕ) → IsListed v n → IsListed w n))
 
--- which format stands below another (our profile): its data are included then (`IsDataIncluded`), and more is asked, so that Time isn't below Unsigned32
+-- which format is below another (our profile): its data are included then (`IsDataIncluded`), but Time isn't below Unsigned32
 abbrev pub FormatBelow : PlainFormat → PlainFormat → Type 0
 FormatBelow f (AnyBytes OctetString) = ⊤
 FormatBelow (Enumerated v) (Enumerated w) = ValuesBelow v w

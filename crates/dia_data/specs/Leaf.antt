@@ -32,7 +32,7 @@ pub record IsAddress (bytes : List ℕ) : Type 0 where
 abbrev pub IsIdentity : List ℕ → Type 0
 IsIdentity bytes = (0 < length bytes) × All IsGraphic bytes
 
--- the scheme in either letter case, and one or more bytes behind it
+-- the scheme in either letter case, and one or more bytes after it
 pub record NamesScheme (scheme bytes : List ℕ) : Type 0 where
   pub front : List ℕ
   pub rest : List ℕ
@@ -40,7 +40,7 @@ pub record NamesScheme (scheme bytes : List ℕ) : Type 0 where
   pub spelled : map to_ascii_lowercase front ≡ map to_ascii_lowercase scheme
   pub more : 0 < length rest
 
--- one of two schemes and something behind it, all graphic (our profile)
+-- one of two schemes and something after it, all graphic (our profile)
 abbrev pub IsUri : List ℕ → Type 0
 IsUri bytes = (NamesScheme (codes "aaa://") bytes ⊎ NamesScheme (codes "aaas://") bytes) × All IsGraphic bytes
 

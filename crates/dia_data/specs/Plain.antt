@@ -1,4 +1,4 @@
--- Formats without where their lists lie in memory, by what data they accept.
+-- Formats as plain values, by what data they accept.
 use Rattle.std.specs.Prelude.{ℕ, List, Option}
 use Rattle.std.specs.Option.{option_map}
 use Rattle.dia_terms.specs.declared.FormatName.{FormatName}
@@ -31,7 +31,7 @@ pub data EightName : Type 0 where
   Unsigned64 : EightName
   Float64 : EightName
 
--- the data formats of RFC 6733 sections 4.2 to 4.4, and QoSFilterRule of RFC 3588 section 4.3; an Enumerated one with its ranges, low and high, if it has a list
+-- the data formats (RFC 6733 sections 4.2 to 4.4; for QoSFilterRule RFC 3588 section 4.3); Enumerated with ranges, if any
 pub data PlainFormat : Type 0 where
   AnyBytes : (name : AnyName) → PlainFormat
   FourBytes : (name : FourName) → PlainFormat

@@ -1,4 +1,4 @@
--- Sets of numbers, kept as ranges.
+-- Sets of numbers, as ranges.
 use Rattle.std.specs.Prelude.{◌≡◌, ℕ, ◌+◌, ◌<◌, ◌≤◌, nat_le, Bool, ◌&&◌, List, Option, Some, None, All}
 use Rattle.std.specs.List.{list_any, AllPairs}
 

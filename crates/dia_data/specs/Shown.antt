@@ -21,7 +21,7 @@ hex_byte byte = hex_digit (byte / 16) ∷ hex_digit (byte % 16) ∷ []
 abbrev pub hexadecimal : List ℕ → List ℕ
 hexadecimal bytes = 120 ∷ flat_map hex_byte bytes
 
--- a printing character other than the quote and the backslash stands for itself, each other byte is `\x` and two digits
+-- a printing character other than the quote and the backslash is written as it is, each other byte is `\x` and two digits
 abbrev pub quoted_byte : ℕ → List ℕ
 quoted_byte byte = if nat_le 32 byte && nat_le byte 126 && not (byte == 34) && not (byte == 92) then byte ∷ [] else codes "\\x" ++ hex_byte byte
 

@@ -24,7 +24,7 @@ abbrev pub IsSeenOfText : Text → List ℕ → Type 0
 IsSeenOfText (Open pending) bytes = IsOpen (front_bytes pending) bytes
 IsSeenOfText Broken bytes = (more : List ℕ) → ¬ IsUtf8 (bytes ++ more)
 
--- what is kept of all bytes of a format: nothing, whether they are all graphic, or what they are as a text
+-- what is recorded of all bytes of a format: nothing, whether they are all graphic, or what they are as a text
 abbrev pub IsSeen : Seen → PlainFormat → List ℕ → Type 0
 IsSeen Nothing kind bytes = (kind ≢ Utf8String) × (kind ≢ DiameterIdentity) × (kind ≢ DiameterUri)
 IsSeen (Graphic graphic) kind bytes = ((kind ≡ DiameterIdentity) ⊎ (kind ≡ DiameterUri)) × (IsTrue graphic ↔ All IsGraphic bytes)

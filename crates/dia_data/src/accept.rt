@@ -90,7 +90,7 @@ fn is_uri(bytes: &[u8]) -> bool
     (names_scheme(bytes, b"aaa://") || names_scheme(bytes, b"aaas://")) && is_graphic(bytes)
 }
 
-/// Whether the data begins with the scheme, in either letter case, and goes on behind it.
+/// Whether the data begins with the scheme, in either letter case, and goes on after it.
 fn names_scheme(bytes: &[u8], scheme: &[u8]) -> bool
     ensures { IsTrue result ↔ NamesScheme scheme.now bytes.now }
 {

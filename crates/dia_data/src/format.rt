@@ -31,7 +31,7 @@ pub enum Format {
     Utf8String,
     /// One or more graphic bytes of ASCII (our profile).
     DiameterIdentity,
-    /// `aaa://` or `aaas://` in either letter case, and one or more bytes behind it, all of them graphic ASCII (our
+    /// `aaa://` or `aaas://` in either letter case, and one or more bytes after it, all of them graphic ASCII (our
     /// profile).
     DiameterUri,
     /// A number of 4 bytes that is one of these.
@@ -103,7 +103,6 @@ impl Format {
     ghost use Rattle.std.specs.Prelude.{◌≡◌, ◌≢◌, MatchOption};
     ghost use Rattle.dia_data.specs.Plain.{Enumerated, format_of, kind_of, name_of, plain_format, ranges_of, word_of};
 
-    /// Its name.
     pub fn name(&self) -> FormatName
         ensures { result ≡ name_of (plain_format self.now) }
     {
@@ -134,7 +133,6 @@ impl Format {
         self.name().word()
     }
 
-    /// Its kind.
     pub fn kind(&self) -> FormatKind
         ensures { result ≡ kind_of (plain_format self.now) }
     {

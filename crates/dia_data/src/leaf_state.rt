@@ -6,13 +6,12 @@ use crate::format::Format;
 use crate::front::Front;
 use crate::seen_text::Text;
 
-/// How many bytes of the data are kept.
+/// How many bytes of the data are retained.
 const FRONT_LENGTH: usize = 20;
 
-/// What is kept of all bytes, for the formats whose front alone does not decide.
+/// What is recorded of all bytes, for the formats whose front alone does not decide.
 #[derive(Clone, Copy)]
 enum Seen {
-    /// Nothing.
     Nothing,
     /// Whether all of them are graphic.
     Graphic(bool),
@@ -22,7 +21,7 @@ enum Seen {
 
 /// What has been seen of the data of a format so far, in whatever pieces it came.
 ///
-/// It keeps the first [`FRONT_LENGTH`] bytes. Each length that a format fixes, and each scheme of a URI, is shorter, so
+/// It retains the first [`FRONT_LENGTH`] bytes. Each length that a format fixes, and each scheme of a URI, is shorter, so
 /// that one byte too many is still seen.
 #[derive(Clone, Copy)]
 pub struct LeafState<'a> {

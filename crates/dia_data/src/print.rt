@@ -17,7 +17,7 @@ use std::alloc::{AllocError, Global};
 
 /// The data as text (our profile).
 ///
-/// Numbers are decimal, signed or not as their format is. A text, an identity or a URI stands in double quotes, where each
+/// Numbers are decimal, signed or not as their format is. A text, an identity or a URI is in double quotes, where each
 /// byte that is no printing ASCII, and the quote and the backslash, is `\x` and two lower-case hexadecimal digits. An
 /// address of family 1 is four decimals with dots, of family 2 eight groups of four digits with colons, and of another
 /// family `family N ` and the hexadecimal form of what follows. All else, and data that the format does not accept, has

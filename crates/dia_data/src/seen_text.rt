@@ -73,7 +73,7 @@ impl Text {
     }
 }
 
-/// How many bytes at the front are whole characters. No character begins the bytes behind them.
+/// How many bytes at the front are whole characters. No character begins the bytes after them.
 fn whole_len(bytes: &[u8]) -> usize
     ensures bound { result ≤ length bytes.now }
     ensures text { IsUtf8 (take result bytes.now) }

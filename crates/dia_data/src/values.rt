@@ -9,8 +9,8 @@ use std::alloc::{AllocError, Global};
 /// The 4 bytes of a value are read against the list as an unsigned number in network byte order. Enumerated is derived from
 /// Integer32, so `print_value` prints it signed.
 ///
-/// No list stands for every number of 32 bits. A list names the numbers of its ranges `(low, high)`, both ends in. The
-/// ranges may overlap and stand in any order, and one whose `low` is above its `high` names no number. Two lists are equal
+/// Without a list every number of 32 bits is accepted. A list names the numbers of its ranges `(low, high)`, both ends in.
+/// The ranges may overlap and be in any order, and one whose `low` is above its `high` names no number. Two lists are equal
 /// where the same ranges were written in the same order.
 #[derive(Debug, Drop, PartialEq, Eq)]
 pub struct Values {

@@ -60,6 +60,6 @@ pub first_wrong-base_source : first_wrong base_source ≡ None
 first_wrong-base_source = none_wrong base_source
     refl wrong_names-base_source no_groups-base_source header_mismatches-base_source duplicate_keys-base_source duplicate_commands-base_source wrong_rules-base_source
 
--- no fault of a sound source can be told
+-- no fault of a sound source can be reported
 pub none_told : (s : PlainSource) (fault : DictFault) (kind : DictKind) (name slot : String Global) → first_wrong s ≡ None → fault ≡ Stands kind name slot → IsToldOf s fault → ⊥
 none_told s fault kind name slot sound stands told = let told_so : IsToldOf s (Stands kind name slot) = subst (IsToldOf s) stands told in none-some _ (sym sound ∙ told_so)

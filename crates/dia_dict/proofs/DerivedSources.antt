@@ -1,4 +1,4 @@
--- A source that the grammar derives keeps what a source in memory keeps by its types.
+-- What holds of a source in memory by its types holds of a source that the grammar derives.
 use Rattle.std.proofs.Common.{◌≡◌, ℕ, zero, suc, true, false, List, [], ◌∷◌, Option, Some, None, ⊎_elim, refl, sym, ap, ◌∙◌, subst}
 use Rattle.std.specs.Prelude.{slice_get, IsSome, IsTrue, not}
 use Rattle.std.proofs.lemmas.Option.{none-some, same_Some}

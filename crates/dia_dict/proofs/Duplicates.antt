@@ -1,4 +1,4 @@
--- Names, keys and selectors that stand twice.
+-- Names, keys and selectors that occur twice.
 use Rattle.std.proofs.Common.{◌≡◌, ℕ, Bool, true, List, [], ◌∷◌, ◌++◌, map, find, cond, Option, Some, refl, sym, ap, ◌∙◌, Bor}
 use Rattle.std.specs.Prelude.{not}
 use Rattle.std.specs.List.{list_all}
@@ -37,14 +37,14 @@ same_command a b = same_selector a.head b.head
 abbrev pub is_command : Part × PlainDef → Bool
 is_command d = not (is_group d.1.head)
 
--- two tests that agree at all members find the same
+-- two tests that are equal at all members find the same
 find-agree : {X : Type 0} (p f g : X → Bool) → ((x : X) → p x ≡ true → f x ≡ g x) → (xs : List X) → list_all p xs ≡ true → find f xs ≡ find g xs
 find-agree p f g agree [] all = refl
 find-agree {X} p f g agree (x ∷ xs) all =
     let parts = and_parts (p x) (list_all p xs) all in
     ap (λ (o : Option X). cond (f x) (Some x) o) (find-agree p f g agree xs parts.1) ∙ ap (λ b. cond b (Some x) (find g xs)) (agree x parts.0)
 
--- repeats under two tests that agree at all members
+-- repeats under two tests that are equal at all members
 repeats-agree : {X : Type 0} (p : X → Bool) (same like : X → X → Bool) → ((a b : X) → p a ≡ true → p b ≡ true → same a b ≡ like a b)
     → (earlier xs : List X) → list_all p earlier ≡ true → list_all p xs ≡ true → repeats same earlier xs ≡ repeats like earlier xs
 repeats-agree p same like agree earlier [] before all = refl

@@ -49,7 +49,7 @@ placed_group_name g = (g.0, (g.1.name, group_key g.1.head))
 abbrev pub avp_names : PlainSource → List (List ℕ × Key)
 avp_names s = map (λ d. (d.name, key_of_decl d)) s.avps ++ map (λ g. (g.name, group_key g.head)) (bare_groups s)
 
--- what a source keeps by its types: names, which headers stand where, fixed rules first, and no fixed wildcard
+-- what holds of a source by its types: names, which headers are where, fixed rules first, and no fixed wildcard
 pub record IsFormed (s : PlainSource) : Type 0 where
   pub declared_names : (i : ℕ) (d : PlainDecl) → slice_get s.avps i ≡ Some d → IsTrue (is_name d.name)
   pub defined_names : (i : ℕ) (d : PlainDef) → slice_get (all_defs s) i ≡ Some d → IsTrue (is_name d.name)
@@ -134,7 +134,7 @@ module _ {X : Type 0} (items : List (Part × X)) (xs : List X) (are : map (λ (x
       ap (map (λ (x : Part × X). x.1)) (firsts-all (λ (a b : Part × X). same a.1 b.1) [] items
       (map-none (λ (p : (Part × X) × (Part × X)). finding (bad p.0.1) p.0.0 (Some p.1.0)) (repeats (λ a b. same a.1 b.1) [] items) none)) ∙ are
 
--- names that differ, apart from their parts
+-- names that differ, without their parts
 distinct_names : {X : Type 0} (name : X → List ℕ) (xs : List X) → repeats (λ a b. same_bytes (name a) (name b)) [] xs ≡ [] → repeats same_bytes [] (map name xs) ≡ []
 distinct_names name xs none = repeats-map name same_bytes [] xs ∙ ap (map (both name)) none
 
@@ -168,7 +168,7 @@ module _ (s : PlainSource) where
       ∙ sym (map-map name_and_group_key (λ (d : Part × PlainDef). d.1) (filter (λ g. is_bare s g.1) (first_defs (placed_groups s))))
       ∙ ap (map name_and_group_key) (sym (filter-map (λ (d : Part × PlainDef). d.1) (is_bare s) (first_defs (placed_groups s))) ∙ ap (filter (is_bare s)) groups)
 
-  -- the names with their keys, apart from their places
+  -- the names with their keys, without their places
   members_names : map (λ (d : Part × PlainDecl). d.1) (first_decls (placed_avps s)) ≡ s.avps → map (λ (d : Part × PlainDef). d.1) (first_defs (placed_groups s)) ≡ s.groups
       → map (λ (n : Part × (List ℕ × Key)). n.1) (placed_names s) ≡ avp_names s
   members_names avps groups =

@@ -55,7 +55,7 @@ module _ (rows : List KeyRow) where
         λ none. own.1 (All-permutation (λ row. row.rank ≡ rank_of key → ⊥) others rows (IsPermutation-sym rows others moved) none),
       )
 
-  -- what a search tells is the place
+  -- what a search finds is the place
   pub IsFound-place : (place : Key → Option ℕ) → IsIndexOf rows place → (key : Key) → IsKey key → (found : Option ℕ) → IsFound rows (rank_of key) found → found ≡ place key
   IsFound-place place index key fits None none = sym ((index key fits).1 none)
   IsFound-place place index key fits (Some n) found =

@@ -90,7 +90,7 @@ module _ {X : Type 0} (test : X → Bool) (bad : X → Wrong) where
       by true = refl
       by false = refl
 
-  -- what is told after one member more of a list in memory
+  -- what is reported after one member more of a list in memory
   pub alone-more : {Y : Type 0} (at : ℕ → Part) (f : Y → X) (ys : List Y) (i : ℕ) (y : Y) (before told next : List PlainFinding) → i < length ys → y ≡ get_or ys i y
       → told ≡ before ++ alone test bad (placed at (map f (take i ys))) → next ≡ told ++ (if test (f y) then finding (bad (f y)) (at i) None ∷ [] else [])
       → next ≡ before ++ alone test bad (placed at (map f (take (i + 1) ys)))
@@ -118,7 +118,7 @@ chosen-more {X} {Y} test tell view xs i x before told next within read so more =
     by true = refl
     by false = refl
 
--- what is told of each part, in a loop over a list in memory
+-- what is reported of each part, in a loop over a list in memory
 pub told-more : {X Y : Type 0} (f : Part × Y → List PlainFinding) (at : ℕ → Part) (view : X → Y) (xs : List X) (i : ℕ) (x : X) (before told next : List PlainFinding)
     → i < length xs → x ≡ get_or xs i x → told ≡ before ++ flat_map f (placed at (map view (take i xs))) → next ≡ told ++ f (at i, view x)
     → next ≡ before ++ flat_map f (placed at (map view (take (i + 1) xs)))

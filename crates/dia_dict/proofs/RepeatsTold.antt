@@ -1,4 +1,4 @@
--- A loop that adds what is told of each item that is equal to one before it.
+-- A loop that adds what is reported of each item that is equal to one before it.
 use Rattle.std.proofs.Common.{◌≡◌, ℕ, ◌+◌, ◌<◌, Bool, true, false, cond, List, [], ◌∷◌, ◌++◌, length, map, find, take, get_or, Option, Some, None, refl, sym, ap, ◌∙◌}
 use Rattle.std.specs.Prelude.{if◌then◌else◌, is_some}
 use Rattle.std.specs.Cmp.{IsEquivalence}
@@ -25,7 +25,7 @@ module _ {X T : Type 0} (key : X → T) (part : X → Part) (fault : X → Part 
   abbrev entry : X → T × Part
   entry x = (key x, part x)
 
-  -- what was told of the items before a place, and the first items of each key that were seen there
+  -- what was reported of the items before a place, and the first items of each key that were seen there
   pub record AreFound (before findings : List PlainFinding) (items : List X) (entries : List (T × Part)) (place : ℕ) : Type 0 where
     pub all : findings ≡ before ++ map (λ p. fault p.0 (part p.1)) (repeats (λ a b. eq (key a) (key b)) [] (take place items))
     pub seen : entries ≡ map (λ x. (key x, part x)) (firsts (λ a b. eq (key a) (key b)) [] (take place items))
@@ -99,7 +99,7 @@ insert-fresh {T} {V} eq k v (e ∷ es) none = by (eq k e.0) none (insert-fresh e
     by true found rest = absurd (none-some e.1 (sym found))
     by false none rest = ap (λ (ys : List (T × V)). e ∷ ys) (rest none)
 
--- what is told of the items is what is wrong with the parts that they were made of
+-- what is reported of the items is what is wrong with the parts that they were made of
 pub repeats-told : {X T P K : Type 0} (key : X → T) (part : X → Part) (told : X → Wrong) (eq : T → T → Bool) (name : T → K) (same : K → K → Bool) → ((a b : T) → eq a b ≡ same (name a) (name b))
     → (label : P → K) (bad : P → Wrong) (items : List X) (parts : List (Part × P))
     → map {A = X} {B = Part × (K × Wrong)} (λ x. (part x, (name (key x), told x))) items ≡ map {A = Part × P} {B = Part × (K × Wrong)} (λ p. (p.0, (label p.1, bad p.1))) parts
@@ -114,7 +114,7 @@ repeats-told {X} {T} {P} {K} key part told eq name same agree label bad items pa
     ∙ ap (map tell) (sym (repeats-map of like [] items) ∙ ap (repeats like []) made ∙ repeats-map at like [] parts)
     ∙ map-map tell (both at) (repeats (λ a b. same (label a.1) (label b.1)) [] parts)
 
--- what is told of the labels of parts is what is told of the parts
+-- what is reported of the labels of parts is what is reported of the parts
 pub again-labels : {X Y K : Type 0} (f : X → Y) (label : Y → K) (same : K → K → Bool) (bad : K → Wrong) (at : ℕ → Part) (xs : List X)
     → again same bad (placed at (map (λ x. label (f x)) xs)) ≡ again (λ a b. same (label a) (label b)) (λ y. bad (label y)) (placed at (map f xs))
 again-labels {X} {Y} {K} f label same bad at xs =

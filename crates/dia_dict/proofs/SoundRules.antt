@@ -1,4 +1,4 @@
--- The heads of a sound source are told apart, and its rules are those of a dictionary.
+-- The heads of a sound source are distinct, and its rules are those of a dictionary.
 use Rattle.std.proofs.Common.{◌≡◌, ◌≢◌, ℕ, ◌≤◌, Bool, true, false, cond, List, [], ◌∷◌, map, Option, Some, None, refl, sym, ap, ◌∙◌, subst, arith}
 use Rattle.std.specs.Prelude.{is_some, IfSome, not, ◌==◌, nat_eq, nat_lt, if◌then◌else◌}
 use Rattle.std.specs.List.{list_any, list_all}
@@ -135,7 +135,7 @@ least_rule s r required optional = by r.kind r.qual required optional
     by Required q e f = let p = eqb-false (least Required q) 0 e in omega arith
     by Optional q e f = let p = ltb-false 0 (least Optional q) f in omega arith
 
--- names that are distinct tell members apart
+-- distinct names distinguish members
 pub apart_by_name : {X : Type 0} (name : X → List ℕ) (xs : List X) → repeats same_bytes [] (map name xs) ≡ [] → AreApart name xs
 apart_by_name name xs none i j x y at at' same =
     repeats-distinct same_bytes (map name xs) none i j (name x) (name y) (into_map name xs i x at) (into_map name xs j y at')

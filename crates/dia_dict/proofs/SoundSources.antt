@@ -37,7 +37,7 @@ use Rattle.dia_dict.proofs.SoundRules.{grouped_format, fixed_kind, fixed_rest, b
 use Rattle.dia_dict.proofs.SoundRules.{decl_name, bare_name}
 
 module _ (s : PlainSource) (formed : IsFormed s) (clean : IsClean s) where
-  -- names of AVPs stand for the keys of entries
+  -- names of AVPs mean the keys of entries
   named_key : (text : List ℕ) (key : Key) → key_of_name s text ≡ Some key → (k : ℕ) × (slice_get (avp_names s) k ≡ Some (text, key))
   named_key text key e = by (find (names_decl text) s.avps) refl e
     where
@@ -147,7 +147,7 @@ module _ (s : PlainSource) (formed : IsFormed s) (clean : IsClean s) where
       let same : r.0 ≡ i = decls_apart r.0 i found.0 d r.1 at (sym (same_bytes-true d.name found.0.name r.2)) in
       found.1 ∙ sym r.1 ∙ ap (slice_get s.avps) same ∙ at
 
-  -- a declaration and the group of its name agree
+  -- a declaration and the group of its name have one key
   agreed : (i : ℕ) (d : PlainDecl) (g : PlainDef) → slice_get s.avps i ≡ Some d → find (names_def d.name) s.groups ≡ Some g → (agrees_with g d ≡ true) × (g.name ≡ d.name) × (is_group g.head ≡ true)
   agreed i d g at here =
       let r = at_find (names_def d.name) s.groups g here in

@@ -1,4 +1,4 @@
--- What the rows of the base dictionary's tables stand for.
+-- What the rows of the base dictionary's tables mean.
 use Rattle.std.specs.Prelude.{nat_lt, Bool, true, false, ◌&&◌, List, length, map, Option, Some, None, ℕ}
 use Rattle.std.specs.List.{list_all}
 use Rattle.std.specs.Option.{option_map, option_map_or}

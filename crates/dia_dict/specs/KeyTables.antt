@@ -1,4 +1,4 @@
--- Tables of keys: rows that tell the places of keys, in the order of a number of each key.
+-- Tables of keys: rows with the places of keys, in the order of a number of each key.
 use Rattle.std.specs.Prelude.{◌≡◌, ◌≢◌, ℕ, ◌+◌, ◌*◌, ◌/◌, ◌%◌, ◌^◌, ◌<◌, ◌≤◌, Bool, false, List, length, Option, Some, None, slice_get, slice_index, slice_index_or, position, All, Any}
 use Rattle.std.specs.Option.{option_map_or}
 use Rattle.dia_wire.specs.declared.Key.{Key}
@@ -23,12 +23,12 @@ place_among keys key = position (is_key key) keys
 abbrev pub AreDistinct : List (Option Key) → Type 0
 AreDistinct keys = (i j : ℕ) (key : Key) → slice_get keys i ≡ Some (Some key) → slice_get keys j ≡ Some (Some key) → i ≡ j
 
--- the rows tell the place of each key that has one, and of no other
+-- the rows have the place of each key that has one, and of no other
 abbrev pub IsIndexOf : List KeyRow → (Key → Option ℕ) → Type 0
 IsIndexOf rows place = (key : Key) → IsKey key
     → All (λ row. row.rank ≡ rank_of key → place key ≡ Some row.place) rows × (All (λ row. row.rank ≢ rank_of key) rows → place key ≡ None)
 
--- what a search for a rank finds: the place that a row of this rank tells, or that there is no such row
+-- what a search for a rank finds: the place in a row of this rank, or that there is no such row
 abbrev pub IsFound : List KeyRow → ℕ → Option ℕ → Type 0
 IsFound rows rank None = All (λ row. row.rank ≢ rank) rows
 IsFound rows rank (Some place) = Any (λ row. (row.rank ≡ rank) × (row.place ≡ place)) rows

@@ -58,11 +58,11 @@ is_bare s g = not (list_any (names_decl g.name) s.avps)
 abbrev pub bare_groups : PlainSource → List PlainDef
 bare_groups s = filter (is_bare s) s.groups
 
--- the key that a name stands for
+-- the key that a name means
 abbrev pub key_of_name : PlainSource → List ℕ → Option Key
 key_of_name s text = option_or (option_map key_of_decl (find (names_decl text) s.avps)) (option_map (λ g. group_key g.head) (find (names_def text) s.groups))
 
--- the bounds of a rule (RFC 6733 section 3.2). Without a qualifier: exactly 1, or 0 or 1; an absent min is 1 for a required rule and 0 for others
+-- a rule's bounds (RFC 6733 section 3.2): without a qualifier exactly 1, or 0 or 1; an absent min is 1 if required, else 0
 abbrev pub least : RuleKind → Option Qual → ℕ
 least Optional None = 0
 least kind None = 1
@@ -111,9 +111,9 @@ resolved s = record {
   commands = map (definition_of s) s.commands;
 }
 
--- ---- what is wrong, and where. Each kind has the list of its faults, of declarations, groups and commands, each in the order of the text; the first fault of the first kind is told
+-- ---- what is wrong, and where: by kind, faults of declarations, groups and commands, each in text order. The first is reported
 
--- what is told of a fault
+-- what is reported of a fault
 pub record Wrong : Type 0 where
   pub kind : DictKind
   pub name : List ℕ
@@ -122,7 +122,7 @@ pub record Wrong : Type 0 where
 abbrev pub wrong : DictKind → List ℕ → List ℕ → Wrong
 wrong kind name slot = record { kind = kind; name = name; slot = slot }
 
--- a fault, the part or the rule that has it, and the other one that it does not go with: the first of those that are alike, or a group's declaration
+-- a fault, the part or rule that has it, and what it conflicts with: the first of those that are alike, or a group's declaration
 pub record PlainFinding : Type 0 where
   pub wrong : Wrong
   pub part : Option Part
@@ -310,7 +310,7 @@ abbrev pub wrong_rules : PlainSource → List PlainFinding
 wrong_rules s = bad_rules kind.UndefinedName s (placed_defs s) ++ repeated_slots (placed_defs s) ++ bad_rules kind.MinOverMax s (placed_defs s)
     ++ bad_rules kind.RequiredMin s (placed_defs s) ++ bad_rules kind.OptionalMin s (placed_defs s)
 
--- all that is wrong, in the order in which it is told. A part with the name of an earlier one is told for its name, and compared with no other part
+-- all that is wrong, as it is reported. A part with an earlier one's name is reported for its name, and not compared further
 abbrev pub all_findings : PlainSource → List PlainFinding
 all_findings s = wrong_limits s ++ wrong_names s ++ wrong_entries s ++ wrong_rules s
 
@@ -320,7 +320,7 @@ all_wrong s = map (λ f. f.wrong) (all_findings s)
 abbrev pub first_wrong : PlainSource → Option Wrong
 first_wrong s = slice_get (all_wrong s) 0
 
--- the fault that is told is the first
+-- the fault that is reported is the first
 abbrev pub IsToldOf : PlainSource → DictFault → Type 0
 IsToldOf s (fault.Stands kind name slot) = first_wrong s ≡ Some (wrong kind (string_bytes name) (string_bytes slot))
 IsToldOf s fault.NoMemory = ⊤

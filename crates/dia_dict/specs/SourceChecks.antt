@@ -49,7 +49,7 @@ named_decl e = (e.0.now, placed_decl e.1)
 abbrev pub named_def : Bor (List ℕ) × PlacedDef → List ℕ × (Part × PlainDef)
 named_def e = (e.0.now, placed_def e.1)
 
--- ---- what is compared, and what is told where it repeats
+-- ---- what is compared, and what is reported where it repeats
 
 abbrev pub keyed_text : Keyed (Bor (List ℕ)) → Part × (List ℕ × Wrong)
 keyed_text i = (i.part, (i.key.now, told i.told))
@@ -68,7 +68,7 @@ told_selector d = (d.0, (selector_of (head_of d.1.head), wrong kind.DuplicateCom
 
 -- ---- answers
 
--- the first of what is wrong is told
+-- the first of what is wrong is reported
 abbrev pub IsRefused : List Wrong → Refusal → Type 0
 IsRefused ws (refusal.Stands t) = slice_get ws 0 ≡ Some (told t)
 IsRefused ws refusal.NoMemory = ⊤

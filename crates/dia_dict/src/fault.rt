@@ -2,11 +2,11 @@ use std::alloc::AllocError;
 use std::fmt;
 use thiserror::Error;
 
-/// What is wrong with a source, in the order in which it is told.
+/// What is wrong with a source, in the order in which it is reported.
 #[derive(Debug, Clone, Copy, PartialEq, Eq)]
 pub enum DictKind {
     /// A definition has more than 1,024 rules, and is named; or, where none has, the source has more than 16,384
-    /// declarations, groups and commands together, and no name is told (our profile).
+    /// declarations, groups and commands together, and no name is given (our profile).
     Limit,
     /// Two declarations, two groups or two commands have one name.
     DuplicateName,
@@ -14,7 +14,7 @@ pub enum DictKind {
     NoGroupFormat,
     /// A group's declaration has another key, or is not Grouped.
     HeaderMismatch,
-    /// Two names of AVPs stand for one key.
+    /// Two names of AVPs have one key.
     DuplicateKey,
     /// Two commands have one code, class and application, or both are for errors.
     DuplicateCommand,
@@ -71,7 +71,7 @@ pub enum DictFault {
     NoMemory,
 }
 
-/// Tells what is wrong, and the names that there are.
+/// Writes what is wrong, and the names that there are.
 fn tell_stands<W: fmt::Write>(
     kind: &DictKind,
     name: &String,

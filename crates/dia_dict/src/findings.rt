@@ -48,7 +48,7 @@ impl Part {
     }
 }
 
-/// What is told of a fault: the names are those of `DictFault`, and parts of the source.
+/// What is reported of a fault: the names are those of `DictFault`, and parts of the source.
 #[derive(Debug, Clone, Copy)]
 pub struct Told<'a> {
     pub kind: DictKind,
@@ -62,7 +62,7 @@ pub struct Finding<'a> {
     pub told: Told<'a>,
     /// What has the fault. A source with too many parts has it as a whole.
     pub part: Option<Part>,
-    /// What it does not go with: the first of those that it is like, or the declaration of a group.
+    /// What it conflicts with: the first of those that it is like, or the declaration of a group.
     pub other: Option<Part>,
 }
 
@@ -108,7 +108,7 @@ impl<'a> Told<'a> {
         }
     }
 
-    /// The finding that this part has the fault, and does not go with the other.
+    /// The finding that this part has the fault, and conflicts with the other.
     pub(crate) fn at_both(self, part: Part, other: Option<Part>) -> Finding<'a>
         ensures { plain_finding result ≡ finding (told self.entry) part other }
     {

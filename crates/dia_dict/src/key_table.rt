@@ -47,7 +47,7 @@ impl KeyTable {
     }
 
     /// The place of a key, if it has one. Among n keys it takes log n steps at most, whichever they are; for most keys it is
-    /// the first row of the bucket that tells it.
+    /// in the first row of its bucket.
     #[inline(always)]
     pub fn place(&self, key: Key) -> Option<usize>
         ensures { (place : AnyKey → Option ℕ)

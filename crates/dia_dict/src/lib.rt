@@ -1,6 +1,6 @@
 //! Dictionaries of AVPs, groups and commands (RFC 6733 sections 3.2 and 4).
 //!
-//! A `Source` is what a dictionary text says. `resolve` makes a `PlainBook` of it, or tells what is wrong with it.
+//! A `Source` is what a dictionary text says. `resolve` makes a `PlainBook` of it, or reports what is wrong with it.
 //! Everything that reads a dictionary goes through the trait `Book`. An `IndexedBook` answers the same faster.
 //!
 //! Here `slot_in_request` asks `select` for the command and then `slot` for the rule:

@@ -31,8 +31,8 @@ use std::alloc::{AllocError, Global};
 
 /// The dictionary that a source names.
 ///
-/// Entries stand in the order of the declarations, then of the groups without one; such a group has the M rule `Any`.
-/// `Stands` tells the first fault: the first in the order of `DictKind`, and among faults of one kind the first in the
+/// Entries are in the order of the declarations, then of the groups without one; such a group has the M rule `Any`.
+/// `Stands` has the first fault: the first in the order of `DictKind`, and among faults of one kind the first in the
 /// order declarations, groups, commands, each in the order of the text. Of two items that are alike the later one has the
 /// fault. `NoMemory` comes only where memory was refused. The source is consumed.
 pub fn resolve(alloc: Global, source: Source) -> Result<PlainBook, DictFault>
@@ -43,7 +43,7 @@ pub fn resolve(alloc: Global, source: Source) -> Result<PlainBook, DictFault>
     book_of(alloc, &source)
 }
 
-/// What `resolve` answers, of a source that is kept.
+/// What `resolve` answers, of a source that isn't consumed.
 pub fn book_of(alloc: Global, source: &Source) -> Result<PlainBook, DictFault>
     ensures ok { IfOk result (λ book. (first_wrong (plain_source source.now) ≡ None)
         × (⟦<PlainBook as Book>⟧.meaning book ≡ resolved (plain_source source.now))) }
@@ -57,7 +57,7 @@ pub fn book_of(alloc: Global, source: &Source) -> Result<PlainBook, DictFault>
 }
 
 /// All that is wrong with a source: by kind in the order of `DictKind`, and those of one kind in the order declarations,
-/// groups, commands, each in the order of the text. A part with the name of an earlier one is told for its name, and not
+/// groups, commands, each in the order of the text. A part with the name of an earlier one is reported for its name, and not
 /// compared with other declarations, groups and commands.
 pub fn faults(alloc: Global, source: &Source) -> Result<Vec<Finding<'_>>, AllocError>
     ensures { IfOk result (λ findings. map plain_finding findings.items

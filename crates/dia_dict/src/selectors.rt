@@ -1,4 +1,4 @@
-//! What commands are told apart by, and the keys by which they are looked up.
+//! What distinguishes commands, and the keys by which they are looked up.
 ghost use Rattle.std.specs.Prelude.{◌≡◌};
 ghost use Rattle.dia_dict.specs.Selectors.{app_key, general_key, general_selector, service, service_of};
 

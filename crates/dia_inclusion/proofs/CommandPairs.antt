@@ -307,7 +307,7 @@ module _ (sides : Sides) (sa : IsDictionary sides.first) (sb : IsDictionary side
       back (Command code class (Some a) p) (inl h) = found (Command code class (Some a) p) h.0 h.1 (serves_one code class (Some a) (Some a) p h.0 h.2 (eq-eqb a a refl))
       back (Command code class (Some a) p) (inr h) = found (Command code class (Some a) p) h.0 h.1 (serves_one code class (Some a) None p h.0 h.2 refl)
 
-  -- ---- what stands beside
+  -- ---- what is paired
 
   module _ (table : PlainTable) (pairs : List NamePair) (beside : (a b : List ℕ) → list_any (is_pair a b) pairs ≡ list_any (is_pair a b) table.commands) where
     beside_decides : (c d : PlainDefinition) → Decides (list_any (is_pair c.name d.name) pairs) (IsBeside table c d)

@@ -1,4 +1,4 @@
--- The commands of B that stand beside a command of A in the table of pairs.
+-- The commands of B that are paired with a command of A in the table.
 use Rattle.std.proofs.Common.{◌≡◌, ℕ, ◌+◌, ◌<◌, get_or, Bool, true, false, not, cond, ◌&&◌, ◌==◌, List, [], ◌∷◌}
 use Rattle.std.proofs.Common.{◌++◌, length, map, filter, take, Option, Some, None, option_to_list, refl, sym, ap, ◌∙◌, inl, inr}
 use Rattle.std.specs.Prelude.{◌⊎◌, ◌||◌, slice_get, is_some}
@@ -28,7 +28,7 @@ use Rattle.dia_valid.proofs.SelectedCommands.{command_at}
 use Rattle.dia_inclusion.proofs.CommandsByCode.{and_true, any_kept, all_kept, filter_map_kept, all_filtered, filter_map_map, names_filtered}
 use Rattle.dia_inclusion.proofs.CommandsByCode.{own, own_only, own_any, error_only, error_any, serves_errors}
 
--- ---- what stands beside a command
+-- ---- what is paired with a command
 
 module _ (sides : Sides) (sb : IsDictionary sides.second) where
   -- of a command for one application or for errors, one definition is wanted, the one that is selected
@@ -67,7 +67,7 @@ module _ (sides : Sides) (sb : IsDictionary sides.second) where
   names_only h is single = names_filtered (λ (d : PlainDefinition). is_wanted sides h d.head) (λ (d : PlainDefinition). d.name) sides.second.commands
       ∙ ap (map (λ (d : PlainDefinition). d.name)) (only_wanted h is single)
 
-  -- what is told of a command for all other applications is told of those of its code
+  -- a command that isn't of the code isn't wanted
   not_of_code : (code : ℕ) (class : Class) (a : Option ℕ) (p : Pxy) (h : DefHead) → has_code code h ≡ false → is_wanted sides (Command code class a p) h ≡ false
   not_of_code code class a p (Group key) e = refl
   not_of_code code class a p (Command c cl b q) e = ap (λ (t : Bool). t && same_class class cl && wants_app sides code class a b) e

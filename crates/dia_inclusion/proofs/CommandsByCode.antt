@@ -19,7 +19,7 @@ use Rattle.dia_inclusion.specs.PairTests.{names_app, is_wanted, serves, is_selec
 use Rattle.dia_valid.proofs.Members.{IsIn, in_at, at_in, any_in, in_any, taken}
 use Rattle.dia_valid.proofs.SelectedCommands.{Choice, NoChoice, choose, Reads, reads, class_same}
 
--- ---- what is told of some members alone
+-- ---- what holds of some members alone
 
 pub one_filtered : {X : Type 0} (p : X → Bool) (xs : List X) (i : ℕ) (x : X) → slice_get xs i ≡ Some x → filter p (take (i + 1) xs) ≡ filter p (take i xs) ++ filter p (x ∷ [])
 one_filtered p xs i x at = ap (filter p) (taken xs i x at) ∙ filter-append p (take i xs) (x ∷ [])

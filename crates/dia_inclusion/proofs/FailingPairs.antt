@@ -43,7 +43,7 @@ like f g h = (λ p. f (h.0 p), λ r. h.1 (g r))
 pub rules_at : (d : Dictionary) (n : ℕ) (g : PlainDefinition) → slice_get (definitions d) n ≡ Some g → rules_in d n ≡ g.rules
 rules_at d n g at = ap (λ (o : Option PlainDefinition). option_map_or (λ x. x.rules) o []) at
 
--- ---- what stands at two places
+-- ---- what is at two places
 
 placed_definitions : (c : Compared) (t : Test) (i j : ℕ) (x y : PlainDefinition) → slice_get c.sides.first.commands i ≡ Some x → slice_get c.sides.second.commands j ≡ Some y
     → place_failings c t (Some i) (Some j) ≡ definition_failings c t x y

@@ -1,4 +1,4 @@
--- Members that are gone through one by one: those that a test keeps, and whether it keeps all.
+-- Members that are gone through one by one: those that pass a test, and whether all do.
 use Rattle.std.proofs.Common.{◌≡◌, ℕ, ◌+◌, ◌<◌, Bool, true, false, cond, List, [], ◌∷◌, ◌++◌, length, filter, take, get_or, Option, Some, None, refl, sym, ap, subst, ◌∙◌, arith}
 use Rattle.std.specs.Prelude.{slice_get, IfSome, ◌&&◌, ◌||◌}
 use Rattle.std.specs.List.{list_all, list_any}

@@ -116,7 +116,7 @@ in_keys (w ∷ avps) v (inr h) = inr (in_keys avps v h)
 
 -- ---- the table
 
--- an AVP that fits is known, or the policy keeps it
+-- an AVP that fits is known, or the policy accepts it
 kept_or_known : (d : Dictionary) (u : Unknown) (P : List DRule → List ℕ → Type 0) (v : PlainAvp) (o : Option DictEntry) → known d (key_of v) ≡ o
     → MatchOption o (IsAccepted u v.flags) (λ e. MHolds e.rule v.flags × MatchOption e.group (IsLeaf e.format v.bytes) (λ group. P group.rules v.bytes)) → (u ≡ Kept) ⊎ IsKnown d (key_of v)
 kept_or_known d u P v None at h = inl (only_kept u v.flags h).0
@@ -126,7 +126,7 @@ fits_known : (d : Dictionary) (u : Unknown) (n : ℕ) (v : PlainAvp) → Fits d 
 fits_known d u zero v h = kept_or_known d u (λ rules bytes. ⊥) v (known d (key_of v)) refl h
 fits_known d u (suc n) v h = kept_or_known d u (IsLevel (Fits d u n)) v (known d (key_of v)) refl h
 
--- AVPs that fit, and stand as the first of two definitions says, stand as the second says where it passes each test
+-- AVPs that fit, and are where the first of two definitions says, are where the second says if it passes each test
 module _ (da db : Dictionary) (u : Unknown) (table : PlainTable) (a b : List DRule) (ra : AreRules a) (rb : AreRules b) (below : DefBelow da db u (IsPairKey da db table) a b)
     (avps : List PlainAvp) (placed : Placed a (map key_of avps)) where
   pub placed_at : (n : ℕ) → AllByRecursion (Fits da u n) avps → Placed b (map key_of avps)
@@ -208,7 +208,7 @@ module _ (da db : Dictionary) (sa : IsDictionary da) (sb : IsDictionary db) (u :
   abbrev Body : (List DRule → List ℕ → Type 0) → PlainAvp → Option DictEntry → Type 0
   Body Inner v o = MatchOption o (IsAccepted u v.flags) (λ e. MHolds e.rule v.flags × MatchOption e.group (IsLeaf e.format v.bytes) (λ group. Inner group.rules v.bytes))
 
-  -- what a group of A's may have, B's group beside it may have
+  -- what a group of A's may have, the B group paired with it may have
   abbrev Lifts : (List DRule → List ℕ → Type 0) → (List DRule → List ℕ → Type 0) → Type 0
   Lifts P Q = (a b : List DRule) (bytes : List ℕ) → AreRules a → AreRules b → Below a b → P a bytes → Q b bytes
 

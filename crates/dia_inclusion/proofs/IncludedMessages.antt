@@ -84,7 +84,7 @@ module _ (da db : Dictionary) (sa : IsDictionary da) (sb : IsDictionary db) (u :
   passes p inside test = let here = at_Contains table.commands p inside in
       subst (λ (o : Option (List ℕ × List ℕ)). IfSome o (CommandTest da db table u test)) here.at (closed kind.Command here.place test)
 
-  -- two commands whose names stand in the table
+  -- two commands whose names are in the table
   pub pair_tests : (p : List ℕ × List ℕ) (c d : PlainDefinition) → Contains table.commands p → NamesCommand da p.0 c → NamesCommand db p.1 d → DefBelow da db u (IsPairKey da db table) c.rules d.rules
   pair_tests p c d inside n m N1 = passes p inside N1 c d n m
   pair_tests p c d inside n m N2 = passes p inside N2 c d n m

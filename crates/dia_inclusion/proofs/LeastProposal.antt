@@ -1,4 +1,4 @@
--- A proposed table is the least: where some table that lists the names is closed, the proposed one is, and stands in it.
+-- A proposed table is the least: where some table that lists the names is closed, the proposed one is, and is part of it.
 use Rattle.std.proofs.Common.{◌≡◌, ℕ, suc, List, [], ◌∷◌, ◌++◌, map, Option, Some, None, refl, sym, ap, subst, ◌∙◌, inl, inr}
 use Rattle.std.specs.Prelude.{◌⊎◌, IfSome, is_some, Contains, slice_get}
 use Rattle.dia_wire.specs.declared.Key.{Key}

@@ -1,4 +1,4 @@
--- What is looked up is what the definitions say: keys of pairs, keys that need none, and what is left.
+-- What is looked up is what the definitions say: keys of pairs, keys that need none, and the rest.
 use Rattle.std.proofs.Common.{◌≡◌, ◌≢◌, ℕ, Bool, true, false, List, map, get_or, Option, Some, None, refl, sym, ap, subst, ◌∙◌, arith, Decides}
 use Rattle.std.specs.Prelude.{◌⊎◌, ◌↔◌, ◌&&◌, not, is_some, Contains, slice_get, position, option_and_then, if◌then◌else◌}
 use Rattle.std.specs.List.{list_any, list_all}

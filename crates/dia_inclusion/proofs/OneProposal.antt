@@ -15,7 +15,7 @@ NamePair = List ℕ × List ℕ
 
 -- ---- lists in one order
 
--- items stand in the order of their places elsewhere
+-- items are in the order of their places elsewhere
 abbrev InOrder : {X : Type 0} → (X → ℕ → Type 0) → List X → Type 0
 InOrder {X} At xs = (i j k l : ℕ) (x y : X) → i < j → slice_get xs i ≡ Some x → slice_get xs j ≡ Some y → At x k → At y l → k < l
 
@@ -31,7 +31,7 @@ same_ordered {X} At (x ∷ xs) (y ∷ ys) a b places to from = both first (same_
     both : x ≡ y → xs ≡ ys → x ∷ xs ≡ y ∷ ys
     both e f = ap (λ (z : X). z ∷ xs) e ∙ ap (λ (zs : List X). y ∷ zs) f
 
-    -- an item behind another does not stand where it does
+    -- an item after another is at another place
     apart : (z : X) (zs : List X) → InOrder At (z ∷ zs) → IsIn z zs → (k : ℕ) → At z k → ⊥
     apart z zs order i k at = let p = at_in zs z i in let less = order 0 (suc p.place) k k z z (omega arith) refl p.at at at in omega arith
 
@@ -68,7 +68,7 @@ same_ordered {X} At (x ∷ xs) (y ∷ ys) a b places to from = both first (same_
     back z i = back_by z i (from z (inr i))
 
 module _ (da db : Dictionary) (sa : IsDictionary da) (sb : IsDictionary db) where
-  -- ---- beside a command
+  -- ---- paired with a command
 
   wanted_member : (c d : PlainDefinition) → IsWanted da db c d → Contains db.commands d
   wanted_member c d (error i x y) = i

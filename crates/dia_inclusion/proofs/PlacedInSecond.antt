@@ -1,4 +1,4 @@
--- AVPs that stand as the first definition says stand as the second says, where the second passes N1 to N9.
+-- AVPs that are where the first definition says are where the second says, if the second passes N1 to N9.
 use Rattle.std.proofs.Common.{◌≡◌, ◌≢◌, ℕ, zero, suc, ◌+◌, ◌<◌, ◌≤◌, Bool, true, false, List, [], ◌∷◌, ◌++◌, Option, Some, None, refl, sym, ap, subst, ◌∙◌, arith, inl, inr}
 use Rattle.std.specs.Prelude.{◌⊎◌, not, IsTrue, IfSome, IsSome, is_some, slice_get, get_or, count_by, if◌then◌else◌}
 use Rattle.std.specs.Option.{option_map_or}
@@ -170,7 +170,7 @@ module _ (a : List DRule) (ra : AreRules a) (keys : List Key) (placed : Placed a
       by (inl h) = run_comes q [] (in_all (IsRunKey (fixed_rules a) []) q m.0 m.2 h)
       by (inr h) = rest_comes q (loose_by q h)
 
-  -- no fixed rule has the key of what is behind the runs
+  -- no fixed rule has the key of what follows the runs
   not_fixed : (q : Key) → LooseBy a q → (r : DRule) → IsIn r (fixed_rules a) → r.key ≢ Some q
   not_fixed q (inl l) r i e =
       let f = fixed_part a r i in
@@ -179,7 +179,7 @@ module _ (a : List DRule) (ra : AreRules a) (keys : List Key) (placed : Placed a
       not_both (is_fixed r) f.1 (ap (λ (t : DRule). is_fixed t) same ∙ g.1)
   not_fixed q (inr w) r i e = not_both (is_listed a q) (is_listed_by a q r (fixed_part a r i).0 e) w.unlisted
 
--- ---- what stands as a says stands as b says
+-- ---- what is where a says is where b says
 
 module _ (da db : Dictionary) (u : Unknown) (paired : (Key → Type 0)) (a b : List DRule) (ra : AreRules a) (rb : AreRules b) (below : DefBelow da db u paired a b) (keys : List Key)
     (placed : Placed a keys)
@@ -195,7 +195,7 @@ module _ (da db : Dictionary) (u : Unknown) (paired : (Key → Type 0)) (a b : L
       let m = all_middle (fixed_rules a) keys placed.rest placed.runs in
       subst (λ (ks : List Key). IsIn q ks) (sym m.1) (in_right m.0 placed.rest q i)
 
-  -- what is behind b's runs comes by a rule of a's or by its wildcard
+  -- what follows b's runs comes by a rule of a's or by its wildcard
   behind_comes : (q : Key) → IsIn q parts.behind → Comes a q
   behind_comes q i = by (in_append parts.middle placed.rest q (subst (λ (ks : List Key). IsIn q ks) parts.parts i))
     where
@@ -232,7 +232,7 @@ module _ (da db : Dictionary) (u : Unknown) (paired : (Key → Type 0)) (a b : L
 
   -- ---- the counts of a key
 
-  -- as many behind b's runs as in all
+  -- as many after b's runs as in all
   same_times : (s : DRule) (k : Key) → IsIn s b → is_fixed s ≡ false → s.key ≡ Some k → times k parts.behind ≡ times k keys
   same_times s k i loose e = sym (runs_none (fixed_rules b) keys parts.behind k parts.runs (all_in (λ (t : DRule). t.key ≢ Some k) (fixed_rules b) (λ t j f.
       let here = fixed_part b t j in
@@ -243,7 +243,7 @@ module _ (da db : Dictionary) (u : Unknown) (paired : (Key → Type 0)) (a b : L
   none_in_rest r k i e = count_none (λ (q : Key). same_key q k) placed.rest (λ q j.
       not_same q k (λ same. not_fixed a ra keys placed q (loose_at q j) r i (e ∙ ap (λ (x : Key). Some x) (sym same))))
 
-  -- the bounds of the key's rule in a hold of its number behind b's runs
+  -- the bounds of the key's rule in a hold of its number after b's runs
   in_own_bounds : (r : DRule) (k : Key) (c : Bool) → IsIn r a → r.key ≡ Some k → is_fixed r ≡ c → InBounds r (times k keys)
   in_own_bounds r k true i e f =
       let j = into_filter is_fixed a r i f in

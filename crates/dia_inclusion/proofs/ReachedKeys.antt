@@ -1,4 +1,4 @@
--- What a proposal comes to, step by step.
+-- What a proposal reaches, step by step.
 use Rattle.std.proofs.Common.{◌≡◌, ℕ, ◌+◌, ◌<◌, ◌≤◌, Bool, true, false, not, cond, List, [], ◌∷◌, ◌++◌}
 use Rattle.std.proofs.Common.{length, map, filter, take, get_or, Option, Some, None, refl, sym, ap, subst, ◌∙◌, arith, inl, inr}
 use Rattle.std.specs.Prelude.{◌⊎◌, is_some, IsSome, Contains, slice_get, count_by, option_and_then}
@@ -178,7 +178,7 @@ grew_then da P Q R x y z one two first second = record {
         by (inl g) = inl g
         by (inr w) = inr (two.still key w)
 
--- what comes to all with P and then to all with Q has come to all with one of them
+-- what reaches all with P and then all with Q has reached all with one of them
 pub all_then : (sides : Sides) (P Q R : Key → Type 0) (x y z : Reached) → ComesToAll sides P x y → ComesToAll sides Q y z
     → ((key : Key) → P key → R key) → ((key : Key) → Q key → R key) → ((key : Key) → R key → P key ⊎ Q key) → ComesToAll sides R x z
 all_then sides P Q R x y z one two first second either = record {
@@ -309,7 +309,7 @@ grew_same da P x y same waits near = record {
   nearer = omega (arith, near);
 }
 
--- a key that is not listed is come to, and one that is listed is left
+-- a key that is not listed is reached, and one that is listed is left
 pub sorts_new : (sides : Sides) (rules : List DRule) (key : Key) (x y : Reached) → ¬ IsListed rules key → ComesTo sides key x y → Sorts sides rules key x y
 sorts_new sides rules key x y new one = record {
   comes = all_one sides (λ other. (other ≡ key) × ¬ IsListed rules other) key x y one (refl, new) (λ other h. h.0);

@@ -1,4 +1,4 @@
--- AVPs that stand as the first definition says stand as the second says.
+-- AVPs that are where the first definition says are where the second says.
 use Rattle.std.proofs.Common.{◌≡◌, ◌≢◌, ℕ, ◌≤◌, List, [], ◌∷◌, ◌++◌, length, Option, Some, None, refl, ◌∙◌, arith, inr}
 use Rattle.std.specs.Prelude.{IfSome}
 use Rattle.std.specs.List.{AllByRecursion}
@@ -29,7 +29,7 @@ pub record Split (fa fb : List DRule) (keys rest : List Key) : Type 0 where
   pub parts : behind ≡ middle ++ rest
   pub each : AllByRecursion (IsRunKey fa fb) middle
 
--- a rule behind r has another key than r
+-- a rule after r has another key than r
 new_key : (r s : DRule) (fa gs : List DRule) (key : Key) → r.key ≡ s.key → IsNewKey r fa → IsRunKey fa gs key → IsRunKey (r ∷ fa) (s ∷ gs) key
 new_key r s fa gs key same new k = record {
   rule = k.rule;

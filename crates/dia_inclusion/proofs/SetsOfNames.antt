@@ -30,7 +30,7 @@ taken_at (suc i) j [] x at = absurd (let e : None ≡ Some x = at in cc)
 taken_at (suc i) zero (y ∷ xs) x at = (omega arith, at)
 taken_at (suc i) (suc j) (y ∷ xs) x at = let r = taken_at i j xs x at in (omega (arith, r.0), r.1)
 
--- a name that stands at one place alone isn't among those before
+-- a name that occurs at one place alone isn't among those before
 is_new : (names : List (List ℕ)) (i : ℕ) (x : List ℕ) → ((j k : ℕ) (y : List ℕ) → slice_get names j ≡ Some y → slice_get names k ≡ Some y → j ≡ k) → slice_get names i ≡ Some x
     → list_any (bytes_eq x) (take i names) ≡ false
 is_new names i x distinct at = by (list_any (bytes_eq x) (take i names)) refl
@@ -56,7 +56,7 @@ one_more names keys more i x distinct at before inserted =
     ap (map text_of) pushed ∙ map-append text_of keys (x ∷ []) ∙ ap (λ (zs : List (List ℕ)). zs ++ x.now ∷ []) before
     ∙ ap (λ (y : List ℕ). take i names ++ y ∷ []) (sym here) ∙ sym (take_more names i x.now within)
 
--- names of members that are told apart by their names
+-- names of members that differ in their names
 pub distinct_names : {X : Type 0} (name : X → List ℕ) (xs : List X) → ((i j : ℕ) (x y : X) → slice_get xs i ≡ Some x → slice_get xs j ≡ Some y → name x ≡ name y → i ≡ j)
     → (j k : ℕ) (y : List ℕ) → slice_get (map name xs) j ≡ Some y → slice_get (map name xs) k ≡ Some y → j ≡ k
 distinct_names {X} name xs apart j k y at at' = by (slice_get xs j) (slice_get xs k) refl refl (sym (slice_get-map name xs j) ∙ at) (sym (slice_get-map name xs k) ∙ at')

@@ -111,7 +111,7 @@ module _ (P : NamePair → Test → Type 0) (pairs : List (String Global × Stri
     pub this_passes : (o : Option Test) → o ≡ None → IsFirstFailed (P (x, y)) o → (k : ℕ) (q : NamePair) (t : Test) → k < i + 1 → slice_get (map plain_pair pairs) k ≡ Some q → P q t
     this_passes o e h = one_more_passes (named_pair (λ (z : NamePair). (t : Test) → P z t) p x y first second (subst (IsFirstFailed (P (x, y))) e h))
 
-    -- a pair that stood before passes as it did
+    -- a pair that occurred before passes as it did
     pub stood_before : list_any (is_pair x y) (map plain_pair (take i pairs)) ≡ true → (k : ℕ) (q : NamePair) (t : Test) → k < i + 1 → slice_get (map plain_pair pairs) k ≡ Some q → P q t
     stood_before h =
         let r = any_in (is_pair x y) (map plain_pair (take i pairs)) h in

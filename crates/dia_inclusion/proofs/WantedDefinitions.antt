@@ -160,14 +160,14 @@ module _ (sides : Sides) (sa : IsDictionary sides.first) (sb : IsDictionary side
       by true e g = (e, same_Some d.name name g)
       by false e g = absurd (let f : None ≡ Some name = g in cc)
 
-  -- where the names stand among B's commands
+  -- where the names are among B's commands
   abbrev IsPlaced : ℕ → List ℕ → Type 0
   IsPlaced k name = (d : PlainDefinition) × (slice_get sides.second.commands k ≡ Some d) × (d.name ≡ name)
 
   one_named_place : (k l : ℕ) (name : List ℕ) → IsPlaced k name → IsPlaced l name → k ≡ l
   one_named_place k l name (d, at, is) (e, there, also) = sb.distinct_commands k l d e at there (is ∙ sym also)
 
-  -- what stands beside the command
+  -- what is paired with the command
   pub are_beside : AreBeside sides.first sides.second c (names_beside sides c)
   are_beside = by (wanted_names sides c.head) refl
     where

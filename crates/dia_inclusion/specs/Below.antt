@@ -1,4 +1,4 @@
--- When what stands as one definition says stands as another says.
+-- When what is where one definition says is where another says.
 use Rattle.std.specs.Prelude.{◌≡◌, ◌≢◌, ℕ, ◌<◌, ◌≤◌, ◌⊎◌, List, [], ◌∷◌, Option, Some, None, IsSome, IfSome, ⊤}
 use Rattle.dia_wire.specs.declared.Key.{Key}
 use Rattle.dia_data.specs.Plain.{AnyBytes, OctetString}
@@ -25,7 +25,7 @@ Within a b = (b.min ≤ a.min) × MaxWithin a.max b.max
 abbrev pub IsAboveZero : Option ℕ → Type 0
 IsAboveZero max = IfSome max (λ n. 0 < n)
 
--- an unknown AVP of this key is accepted, and so may the dictionary's be
+-- an AVP of this key that fits in a has its M flag clear, and b accepts it as an unknown one
 abbrev pub IsCoveredAlone : Dictionary → Dictionary → Unknown → Key → Type 0
 IsCoveredAlone a b u key = (u ≡ Kept) × (known b key ≡ None) × (e : DictEntry) × (known a key ≡ Some e) × (e.rule ≡ MustNot)
 
@@ -62,6 +62,6 @@ Passes N8 da db u paired a b = (w : DRule) → HasWildcard b w → 0 < w.min →
 Passes N9 da db u paired a b = (v : DRule) → HasWildcard a v → IsAboveZero v.max → WildcardCovered da db u paired a
 Passes N10 da db u paired a b = ⊤
 
--- what stands as a says stands as b says
+-- what is where a says is where b says
 abbrev pub DefBelow : Dictionary → Dictionary → Unknown → (Key → Type 0) → List DRule → List DRule → Type 0
 DefBelow da db u paired a b = (test : Test) → Passes test da db u paired a b

@@ -93,7 +93,7 @@ PassesAt da db u table kind.Avp i test = IfSome (slice_get table.avps i) (AvpTes
 abbrev pub IsClosed : Dictionary → Dictionary → Unknown → PlainTable → Type 0
 IsClosed da db u table = (k : PairKind) (i : ℕ) (test : Test) → PassesAt da db u table k i test
 
--- ---- what is told
+-- ---- what is reported
 
 -- the tenth test is looked at first
 abbrev pub test_number : Test → ℕ

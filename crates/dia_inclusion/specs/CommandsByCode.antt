@@ -21,7 +21,7 @@ commands_of d code = filter (λ c. has_code code c.head) d.commands
 abbrev pub listed : Option (List (Bor Definition)) → List PlainDefinition
 listed list = option_map_or (map (λ d. plain_definition d.now)) list []
 
--- the number of the one definition of B that may be selected for messages of a command of A: where that is for one application, or for errors
+-- the number of the one definition of B that may be selected for a command of A that is for one application or for errors
 abbrev pub only_number : Dictionary → DefHead → Option ℕ
 only_number db (Group key) = None
 only_number db (Command code class None p) = None

@@ -1,4 +1,4 @@
--- What fails a test of a pair: each rule, AVP or command that the test says all of, and that it doesn't hold of.
+-- What fails a test of a pair: each rule, AVP or command that the test is about and that doesn't pass it.
 use Rattle.std.specs.Prelude.{◌≡◌, ◌↔◌, ◌⊎◌, ℕ, nat_le, Bool, true, false, not, ◌||◌, ◌==◌, if◌then◌else◌, List, [], ◌++◌}
 use Rattle.std.specs.Prelude.{Option, Some, None, IsTrue, MatchBool, MatchOption, is_some, position, slice_get, option_and_then, option_to_list}
 use Rattle.std.specs.List.{filter_map, enumerate_from, list_any}
@@ -62,7 +62,7 @@ fails_fixed a p = unless (not (is_fixed p.1) || option_map_or (λ r. leads r p.1
 abbrev pub fails_counts : List DRule → Placed → Option Failing
 fails_counts b p = option_and_then (λ key. option_and_then (λ q. unless (is_within p.1 q.1) (failing.Counts p.0 q.0)) (placed_rule b key)) p.1.key
 
--- the wildcard of the first may bring more than the rule takes
+-- the wildcard of the first may bring more than the rule allows
 abbrev pub fails_crowded : Bool → Option Placed → Placed → Option Failing
 fails_crowded comes wildcard p = option_and_then (λ w. unless (not comes || is_max_within w.1.max p.1.max) (failing.Crowded w.0 p.0)) wildcard
 
@@ -74,7 +74,7 @@ fails_own_key s a wildcard p key =
 abbrev pub fails_own : Sides → List DRule → Option Placed → Placed → Option Failing
 fails_own s a wildcard p = option_and_then (fails_own_key s a wildcard p) p.1.key
 
--- N7, where the second's wildcard stands at the place and has this greatest count
+-- N7, where the second's wildcard is at the place and has this greatest count
 abbrev pub fails_most : List DRule → List DRule → ℕ → Option ℕ → List Failing
 fails_most a b place None = []
 fails_most a b place (Some max) = among (λ p. unless (listed_rule b p.1) (failing.CountsAsOther p.0 place)) a
@@ -121,7 +121,7 @@ is_tenth t = false
 abbrev pub name_failings : Test → Bool → Bool → List Failing
 name_failings t first second = if is_tenth t then option_to_list (unless first failing.FirstName) ++ option_to_list (unless second failing.SecondName) else []
 
--- that no definition of B serves all messages of a command of A, and the definitions that may be selected for them and don't stand beside it in the table
+-- that no definition of B serves all messages of a command of A, and which may be selected for them, but are in no pair with it
 abbrev pub selection_failings : Compared → PlainDefinition → List Failing
 selection_failings c x =
     option_to_list (unless (list_any (λ d. serves x.head d.head) c.sides.second.commands) failing.Unserved)
@@ -142,7 +142,7 @@ place_failings c t x y = name_failings t (is_some x) (is_some y)
 abbrev pub command_failings : Compared → NamePair → Test → List Failing
 command_failings c p t = place_failings c t (command_named c.sides.first p.0) (command_named c.sides.second p.1)
 
--- where B's declaration doesn't take what A's sends
+-- where B's declaration doesn't accept what A's sends
 pub record AreDeclarationFailings (e f : DictEntry) (all : List Failing) : Type 0 where
   pub takes_flag : Bool
   pub takes_format : Bool

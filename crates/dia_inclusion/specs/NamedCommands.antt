@@ -1,4 +1,4 @@
--- The commands that were named so far, and what was come to from them.
+-- The commands that were named so far, and what was reached from them.
 use Rattle.std.specs.Prelude.{◌≡◌, ℕ, ◌⊎◌, if◌then◌else◌, true, List, [], ◌∷◌, ◌++◌, map, Option, Some, None, Contains, slice_get}
 use Rattle.std.specs.Option.{option_map, option_map_or}
 use Rattle.dia_wire.specs.declared.Key.{Key}
@@ -13,7 +13,7 @@ use Rattle.dia_inclusion.specs.Proposed.{AreCommandPairs}
 use Rattle.dia_inclusion.specs.ReachedKeys.{has, Admits, Wants, ComesToAll, AllWait, AreRest}
 use Rattle.dia_inclusion.specs.WantedNames.{names_beside}
 
--- the pair of an AVP of A, if it was come to and B knows its key
+-- the pair of an AVP of A, if it was reached and B knows its key
 abbrev pub shared_pair : Dictionary → Reached → DictEntry → Option (List ℕ × List ℕ)
 shared_pair db r e = if has r e.key then option_map (λ f. (e.name, f.name)) (known db e.key) else None
 
@@ -35,7 +35,7 @@ AddsOnce sides place c old new = (Contains old.places.keys place × Same old new
 abbrev pub name_at : Dictionary → ℕ → List ℕ
 name_at d place = option_map_or (λ c. c.name) (slice_get d.commands place) []
 
--- the keys that were come to are those that the commands of the pairs want, and all of them wait
+-- the keys that were reached are those that the commands of the pairs want, and all of them wait
 pub record AreRoots (sides : Sides) (pairs : List (List ℕ × List ℕ)) (r : Reached) : Type 0 where
   pub each : (key : Key) → has r key ≡ true → (p : List ℕ × List ℕ) × (c : PlainDefinition) × Contains pairs p × NamesCommand sides.first p.0 c × Wants sides c.rules key
   pub all : (p : List ℕ × List ℕ) (c : PlainDefinition) (key : Key) → Contains pairs p → NamesCommand sides.first p.0 c → Wants sides c.rules key → has r key ≡ true

@@ -24,7 +24,7 @@ pub data IsProposed (da db : Dictionary) (u : Unknown) (commands : List (List �
   by_group : (outer key : Key) (e f : DictEntry) (group : PlainDefinition) → IsProposed da db u commands outer → known da outer ≡ Some e → known db outer ≡ Some f
       → BothGrouped e f → e.group ≡ Some group → WantsPair da db u group.rules key → IsProposed da db u commands key
 
--- the names of the definitions of B beside a command, in B's order; the command's own name alone where there is none
+-- the names of the definitions of B paired with a command, in B's order; the command's own name alone where there is none
 pub record AreBeside (da db : Dictionary) (c : PlainDefinition) (names : List (List ℕ)) : Type 0 where
   pub each : (d : PlainDefinition) → IsWanted da db c d → Contains names d.name
   pub only : (name : List ℕ) → Contains names name → ((d : PlainDefinition) × IsWanted da db c d × (d.name ≡ name)) ⊎ ((d : PlainDefinition) → ¬ IsWanted da db c d)
@@ -55,12 +55,12 @@ pub record IsProposal (da db : Dictionary) (u : Unknown) (names : List (List ℕ
 abbrev pub ListsAll : List (List ℕ) → PlainTable → Type 0
 ListsAll names table = (name : List ℕ) → Contains names name → (p : List ℕ × List ℕ) × Contains table.commands p × (p.0 ≡ name)
 
--- each pair of the one stands in the other
+-- each pair of the one is in the other
 pub record IsPartOf (table other : PlainTable) : Type 0 where
   pub commands : (p : List ℕ × List ℕ) → Contains table.commands p → Contains other.commands p
   pub avps : (p : List ℕ × List ℕ) → Contains table.avps p → Contains other.avps p
 
--- it lists the names; and where some table that does is closed, it is closed, and all of it stands in that table
+-- it lists the names; and where some table that does is closed, it is closed, and all of it is in that table
 pub record IsLeast (da db : Dictionary) (u : Unknown) (names : List (List ℕ)) (table : PlainTable) : Type 0 where
   pub lists : ListsAll names table
   pub least : (other : PlainTable) → ListsAll names other → IsClosed da db u other → IsClosed da db u table × IsPartOf table other

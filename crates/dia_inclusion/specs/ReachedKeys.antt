@@ -1,4 +1,4 @@
--- Which AVPs a proposal has come to, and which of their groups are still to be gone through.
+-- Which AVPs a proposal has reached, and which of their groups are still to be gone through.
 use Rattle.std.specs.Prelude.{◌≡◌, ℕ, ◌+◌, ◌≤◌, ◌⊎◌, Bool, true, not, if◌then◌else◌, List, [], ◌∷◌, ◌++◌, length, count_by, Some, Contains}
 use Rattle.std.specs.List.{list_any}
 use Rattle.dia_wire.specs.declared.Key.{Key}
@@ -12,7 +12,7 @@ use Rattle.dia_inclusion.specs.Below.{IsAboveZero, IsKnown}
 use Rattle.dia_valid.specs.Rules.{HasRule, IsListed, HasWildcard}
 use Rattle.dia_inclusion.specs.Closed.{BothGrouped}
 
--- it has come to the AVP with this key
+-- it has reached the AVP with this key
 abbrev pub has : Reached → Key → Bool
 has r key = list_any (same_key key) r.keys.keys
 
@@ -46,11 +46,11 @@ pub record Inserts (key : Key) (old new : Reached) : Type 0 where
   pub waiting : new.waiting.items ≡ (if has old key then old.waiting.items else old.waiting.items ++ key ∷ [])
   pub rest : new.rest.items ≡ old.rest.items
 
--- how many AVPs of A it has not come to, and how many wait
+-- how many AVPs of A it has not reached, and how many wait
 abbrev pub potential : Dictionary → Reached → ℕ
 potential da r = count_by (λ e. not (has r e.key)) da.entries + length r.waiting.items
 
--- it has come to some keys that have P, which now wait
+-- it has reached some keys that have P, which now wait
 pub record Grew (da : Dictionary) (P : (Key → Type 0)) (old new : Reached) : Type 0 where
   pub grows : (key : Key) → has old key ≡ true → has new key ≡ true
   pub only : (key : Key) → has new key ≡ true → (has old key ≡ true) ⊎ P key
@@ -75,7 +75,7 @@ pub record ComesToAll (sides : Sides) (P : (Key → Type 0)) (old new : Reached)
   pub there : (key : Key) → P key → IsShared sides key → has new key ≡ true
   pub rest : KeepsRest sides old new
 
--- each key that both know was come to, or is one of the rest
+-- each key that both know was reached, or is one of the rest
 abbrev pub AreRest : Sides → Reached → Type 0
 AreRest sides r = (key : Key) → IsShared sides key → (has r key ≡ true) ⊎ Contains r.rest.items key
 
@@ -84,7 +84,7 @@ pub record Sorts (sides : Sides) (rules : List DRule) (key : Key) (old new : Rea
   pub comes : ComesToAll sides (λ other. (other ≡ key) × ¬ IsListed rules other) old new
   pub left : IsShared sides key → (has new key ≡ true) ⊎ Contains new.rest.items key
 
--- what follows from the keys that it had come to
+-- what follows from the keys that it had reached
 pub data Follows (sides : Sides) (roots : Reached) : Key → Type 0 where
   root : (key : Key) → has roots key ≡ true → Follows sides roots key
   in_group : (outer key : Key) (e f : DictEntry) (group : PlainDefinition) → Follows sides roots outer → known sides.first outer ≡ Some e → known sides.second outer ≡ Some f
@@ -99,7 +99,7 @@ pub record IsSharedGroup (sides : Sides) (key : Key) (group : PlainDefinition) :
   pub both : BothGrouped e f
   pub is_group : e.group ≡ Some group
 
--- each key that it has come to waits, and each that waits is one
+-- each key that it has reached waits, and each that waits is one
 pub record AllWait (r : Reached) : Type 0 where
   pub each : (key : Key) → has r key ≡ true → Waits r key
   pub only : (key : Key) → Waits r key → has r key ≡ true

@@ -3,7 +3,7 @@ use Rattle.dia_book.specs.Dictionary.{Dictionary}
 use Rattle.dia_policy.specs.declared.Unknown.{Unknown}
 use Rattle.dia_tables.specs.TableText.{PlainTable}
 
--- two dictionaries, and whether AVPs that they don't know are kept
+-- two dictionaries, and whether AVPs that they don't know are accepted
 pub record Sides : Type 0 where
   pub first : Dictionary
   pub second : Dictionary

@@ -22,7 +22,7 @@ is_max_within (Some m) (Some n) = nat_le m n
 abbrev pub is_within : DRule → DRule → Bool
 is_within a b = nat_le b.min a.min && is_max_within a.max b.max
 
--- some AVP may stand by the rule
+-- some AVP may occur by the rule
 abbrev pub is_above_zero : Option ℕ → Bool
 is_above_zero max = not (option_eq nat_eq max (Some 0))
 
@@ -46,7 +46,7 @@ may_come s key = is_kept s.unknown || is_some (entry_of s.first key)
 
 -- ---- each test
 
--- a rule that stands at the place of a fixed one, with counts within its
+-- a rule at the place of a fixed one, with counts within its
 abbrev pub leads : DRule → DRule → Bool
 leads r s = is_fixed r && option_eq same_key r.key s.key && is_within r s
 

@@ -1,4 +1,4 @@
--- The names of the definitions of B that a command of A wants beside it.
+-- The names of the definitions of B that a command of A wants paired with it.
 use Rattle.std.specs.Prelude.{◌≡◌, ℕ, if◌then◌else◌, List, [], ◌∷◌, ◌++◌, map, Option, Some, None, String}
 use Rattle.std.specs.Global.{Global}
 use Rattle.std.specs.List.{filter_map}
@@ -22,6 +22,6 @@ or_alone name (n ∷ ns) = n ∷ ns
 abbrev pub names_beside : Sides → PlainDefinition → List (List ℕ)
 names_beside sides c = or_alone c.name (wanted_names sides c.head)
 
--- behind the pairs there are those of the command with these names
+-- the pairs are followed by those of the command with these names
 abbrev pub AddsPairs : PlainDefinition → List (List ℕ) → List (String Global × String Global) → List (String Global × String Global) → Type 0
 AddsPairs c names old new = map plain_pair new ≡ map plain_pair old ++ map (λ name. (c.name, name)) names

@@ -53,7 +53,7 @@ pub struct Verdict {
 
 /// Whether every pair of the table passes every test, or else which pair is the first that doesn't. Where each does, each message
 /// that is valid under the first dictionary, of a command that the table lists, is valid under the second, as a message of a
-/// command beside it.
+/// command paired with it.
 pub fn check_table<A: Book, B: Book>(
     alloc: Global,
     a: &A,
@@ -89,7 +89,7 @@ pub fn judge_table<A: Book, B: Book>(
     ensures inclusion { IfOk result
         (λ verdict. verdict.answer ≡ Answer.Yes
         → IsIncluded (A.meaning a.now) (B.meaning b.now) unknown (plain_table table.now)) }
-    // What the test says all of, and what of it fails.
+    // What the test is about, and what of it fails.
     ensures failings { IfOk result (λ verdict. AreFailingsFor (A.meaning a.now) (B.meaning b.now)
         unknown (plain_table table.now) verdict.answer verdict.failings.items) }
     // There are some exactly where a pair fails a test.

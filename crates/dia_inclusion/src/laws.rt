@@ -17,7 +17,7 @@ ghost use Rattle.dia_inclusion.specs.declared.checking.Test.{Test as AnyTest};
 use crate::checking::Answer;
 
 /// Where every pair of a table passes every test, each message that is valid under the first dictionary, of a command that the
-/// table lists, is valid under the second, as a message of a command beside it.
+/// table lists, is valid under the second, as a message of a command paired with it.
 pub fn closed_is_included()
     ensures { (da db : Dictionary) (u : AnyPolicy) (table : PlainTable)
         → IsDictionary da → IsDictionary db → IsClosed da db u table
@@ -25,7 +25,7 @@ pub fn closed_is_included()
 {}
 
 /// Where a table is closed, and a definition of the first dictionary passes each test against one of the second, a level that
-/// is right by the first is right by the second: its AVPs stand as the rules say, and each fits, at every depth of groups.
+/// is right by the first is right by the second: its AVPs are where the rules say, and each fits, at every depth of groups.
 pub fn level_is_included()
     ensures { (da db : Dictionary) (u : AnyPolicy) (table : PlainTable) (most : AnyLevels)
         (a b : List AnyRule) (avps : List PlainAvp) → IsDictionary da → IsDictionary db
@@ -35,8 +35,8 @@ pub fn level_is_included()
         → Placed b (map key_of avps) × AllFit db u most avps }
 {}
 
-/// Where a definition of the first dictionary passes each test against one of the second, AVPs that fit by the first and stand as
-/// its definition says stand as the second's says. Nothing is asked of the table's other pairs.
+/// Where a definition of the first dictionary passes each test against one of the second, AVPs that fit by the first and are
+/// where its definition says are where the second's says. Nothing is asked of the table's other pairs.
 pub fn level_is_placed()
     ensures { (da db : Dictionary) (u : AnyPolicy) (table : PlainTable) (most : AnyLevels)
         (a b : List AnyRule) (avps : List PlainAvp) → AreRules a → AreRules b

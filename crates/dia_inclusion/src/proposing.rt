@@ -34,13 +34,13 @@ pub enum ProposeFault {
 
 /// The least table for the named commands of the first dictionary, as `compare` asks for it under this policy.
 ///
-/// Each named command stands in it at its first mention, with the definitions of the second dictionary that may be
+/// Each named command is in it at its first mention, with the definitions of the second dictionary that may be
 /// selected for its messages, in that dictionary's order, or with its own name where there is none. An AVP
 /// has a pair where both dictionaries know it, and a named command, or a group that has a pair, lets it in and asks for the
-/// pair. These stand in the first dictionary's order. So where no table that lists the commands passes, neither does this
+/// pair. These are in the first dictionary's order. So where no table that lists the commands passes, neither does this
 /// one.
 ///
-/// It takes time in proportion to the names, to both dictionaries and to the definitions that it comes to, up to a
+/// It takes time in proportion to the names, to both dictionaries and to the definitions that it reaches, up to a
 /// logarithm: a command of the first dictionary is compared only with those of its code in the second. `UnknownCommand` has
 /// the first name of which the first dictionary has no command. `NoMemory` comes only where memory was refused.
 pub fn propose<A: Book, B: Book>(
@@ -77,7 +77,7 @@ pub fn propose<A: Book, B: Book>(
     Ok(Table { commands, avps })
 }
 
-/// The commands of these names, with what stands beside them and the AVPs that they let in.
+/// The commands of these names, with what is paired with them and the AVPs that they let in.
 fn named_commands<A: Book, B: Book>(
     alloc: Global,
     sides: &Sides<'_, A, B>,
@@ -134,7 +134,7 @@ impl From<AllocError> for ProposeFault {
     }
 }
 
-/// The pairs of the AVPs that it has come to, by their names, in the first's order.
+/// The pairs of the AVPs that were reached, by their names, in the first's order.
 fn shared_pairs<A: Book, B: Book>(
     alloc: Global,
     sides: &Sides<'_, A, B>,
@@ -151,7 +151,7 @@ fn shared_pairs<A: Book, B: Book>(
     Ok(pairs)
 }
 
-/// Adds the pair of an AVP of the first, if it has come to it and the second knows it.
+/// Adds the pair of an AVP of the first, if it was reached and the second knows it.
 fn push_if_shared<A: Book, B: Book>(
     alloc: Global,
     sides: &Sides<'_, A, B>,

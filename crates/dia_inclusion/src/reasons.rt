@@ -7,7 +7,7 @@ use dia_book::Key;
 #[derive(Clone, Copy)]
 pub enum Failing {
     /// N1: at the place of a fixed rule of the second, the first has no fixed rule of the same AVP with counts within. `first` is
-    /// its rule of that AVP, wherever it stands.
+    /// its rule of that AVP, wherever it is.
     Fixed { first: Option<usize>, second: usize },
     /// N2: the counts of two rules of one AVP: those of the first don't lie within those of the second.
     Counts { first: usize, second: usize },
@@ -17,7 +17,7 @@ pub enum Failing {
     Uncovered { first: usize },
     /// N5: the second wants an AVP that the first doesn't list.
     Required { second: usize },
-    /// N5: the wildcard of the first may bring more of an AVP than the second's rule takes.
+    /// N5: the wildcard of the first may bring more of an AVP than the second's rule allows.
     Crowded { first: usize, second: usize },
     /// N6: the first has a wildcard and the second has none.
     NoWildcard { first: usize },
@@ -29,8 +29,8 @@ pub enum Failing {
     WildcardLeast { first: Option<usize>, second: usize },
     /// N8: the second lists an AVP that the first's wildcard may let in, so its own wildcard doesn't count it.
     NotCounted { second: usize, wildcard: usize },
-    /// N9: the wildcard of the first lets in AVPs that the first dictionary doesn't know, and the second knows this one and takes
-    /// it only with some data or with the M flag.
+    /// N9: the wildcard of the first lets in AVPs that the first dictionary doesn't know, and the second knows this one and
+    /// accepts it only with some data or with the M flag.
     Stranger { first: usize, key: Key },
     /// N9: the wildcard of the first lets in a known AVP that has no pair in the table that it needs.
     LetIn { first: usize, key: Key },

@@ -10,7 +10,7 @@ abbrev pub answer_of : Result ℕ Error → Result ℕ Failed
 answer_of (Ok count) = Ok count
 answer_of (Err error) = Err (record {})
 
--- the failure that is kept: the last one
+-- the failure that is retained: the last one
 abbrev pub failure_after : Option Error → Result ℕ Error → Option Error
 failure_after kept (Ok count) = kept
 failure_after kept (Err error) = Some error

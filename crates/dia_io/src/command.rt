@@ -14,17 +14,17 @@ pub enum Command {
     Show,
     /// Prints the canonical text of a dictionary.
     Render,
-    /// Tells whether a message is valid, or its first fault.
+    /// Reports whether a message is valid, or its first fault.
     Check {
         unknown: Unknown,
         levels: Levels,
     },
-    /// Tells whether a table of pairs shows that each valid message of a command that it lists is valid under the second
+    /// Reports whether a table of pairs shows that each valid message of a command that it lists is valid under the second
     /// dictionary, too.
     Compare {
         unknown: Unknown,
     },
-    /// Tells whether a message is valid under the first dictionary and not under the second.
+    /// Reports whether a message is valid under the first dictionary and not under the second.
     Refute {
         unknown: Unknown,
         levels: Levels,
@@ -84,7 +84,7 @@ pub enum Exit {
 /// Why a command didn't end.
 #[derive(Clone, Copy, Debug, PartialEq, Eq, Error)]
 pub enum RunFault {
-    /// The sink failed. What it has taken is a beginning of the text.
+    /// The sink failed. What it has taken is a prefix of the text.
     #[error("device failed")]
     Device,
     /// Nothing was written.

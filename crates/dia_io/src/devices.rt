@@ -95,7 +95,7 @@ impl<W: Write> Sink for ToWriter<W> {
     }
 }
 
-/// What a device answers where the system answers this. A failure is kept.
+/// What a device answers where the system answers this. A failure is retained.
 fn answer(said: io::Result<usize>, failure: &mut Option<io::Error>) -> Result<usize, Failed>
     ensures answer { result ≡ answer_of said }
     ensures failure { failure.new ≡ failure_after failure.old said }

@@ -13,7 +13,7 @@ pub struct Failed;
 
 /// Where bytes come from.
 pub trait Feed {
-    // What it will still give, where it tells it.
+    // What it will still give, where that is known.
     ghost remaining: { Self → Option (List ℕ) };
 
     ghost has_failed: { Self → Bool };
@@ -33,7 +33,7 @@ pub trait Feed {
 
 /// Where bytes go.
 pub trait Sink {
-    // What it has taken, where it tells it.
+    // What it has taken, where that is known.
     ghost written: { Self → Option (List ℕ) };
 
     ghost has_failed: { Self → Bool };

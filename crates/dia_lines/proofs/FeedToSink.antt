@@ -21,7 +21,7 @@ long_feed (Some xs) None n read h long = absurd h
 long_feed (Some xs) (Some ys) n read h long =
     let all : length xs ≡ length read + length ys = ap (λ (t : List ℕ). length t) h ∙ length-append read ys in omega arith
 
--- a beginning that follows what was put
+-- a prefix that follows what was put
 front_behind : (a b c : Option (List ℕ)) (x y : List ℕ) → Appends a b x → AppendsFront b c y → AppendsFront a c (x ++ y)
 front_behind a b c x y h (front, rest, parts, k) =
     (x ++ front, rest, ap (λ (t : List ℕ). x ++ t) parts ∙ sym (append_assoc x front rest), Appends-trans a b c x front h k)
@@ -137,7 +137,7 @@ module _ {V W : Type 0} (P : Input → V → Type 0) (told : ℕ → V → List 
           counted = omega arith;
         }
 
-    -- the sink failed behind it
+    -- the sink failed after it
     pub sink_failed : AppendsFront p p' (string_bytes now.text) → FrontAnswered P (told_lines told) fed f' put p'
     sink_failed is_put =
         let u = reads.reads a.read a.verdicts a.under_way in record {
@@ -170,7 +170,7 @@ module _ {V W : Type 0} (P : Input → V → Type 0) (told : ℕ → V → List 
       seen = Sees-both saw w x y a.verdicts more a.seen ends.seen;
     }
 
-    -- the sink failed behind it
+    -- the sink failed after it
     pub sink_failed_at_end : IsAtEnd f' → AppendsFront p p' (string_bytes now.text) → FrontAnswered P (told_lines told) fed f' put p'
     sink_failed_at_end at_end is_put = record {
       front = a.read;

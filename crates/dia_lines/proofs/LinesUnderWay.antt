@@ -52,7 +52,7 @@ module _ {V : Type 0} (P : Input → V → Type 0) where
     counted = one_more_line verdicts old.count new.count u.counted more ∙ ap line_number (sym (length_push verdicts verdict));
   }
 
-  -- there is no line behind the last line feed
+  -- there is no line after the last line feed
   none_under_way : (now : Answered) (read : List ℕ) (verdicts : List V) → (u : IsUnderWay P now read verdicts) → length u.rest ≡ 0 → IsAnswered P read (verdicts ++ [])
   none_under_way now read verdicts u empty =
       inl (subst (λ (r : List ℕ). AreAnswered P r (verdicts ++ [])) (sym (u.parts ∙ no_line u.lines u.rest empty))

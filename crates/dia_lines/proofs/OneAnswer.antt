@@ -108,7 +108,7 @@ module _ {V : Type 0} (P : Input → V → Type 0) (once : LineHasOneAnswer P) w
   text_once bytes verdicts others (inr h) (inl k) = absurd (not_both bytes others k h.0)
   text_once bytes verdicts others (inr h) (inr k) = lines_once (bytes ++ line_feed ∷ []) verdicts others h.1 k.1
 
-  -- the verdicts on whole lines at the front are a beginning of all
+  -- the verdicts on whole lines at the front are a prefix of all
   lines_front : (lines : List ℕ) (all : List V) → AreAnswered P lines all
       → (front rest : List ℕ) (verdicts : List V) → AreAnswered P front verdicts → lines ≡ front ++ rest → (more : List V) × (all ≡ verdicts ++ more)
   lines_front _ _ none front rest verdicts k parts =

@@ -1,4 +1,4 @@
--- Verdicts on lines may be told in other words.
+-- Verdicts on lines may be reported in other words.
 use Rattle.std.proofs.Common.{◌≡◌, ℕ, List, [], ◌∷◌, ◌++◌, Option, refl, sym, ap, subst, ◌∙◌, inl, inr}
 use Rattle.std.specs.Prelude.{map}
 use Rattle.std.specs.List.{flat_map}
@@ -10,7 +10,7 @@ use Rattle.dia_io.specs.Writing.{AppendsFront}
 use Rattle.dia_lines.specs.Lines.{AreAnswered, none, one_more, IsAnswered}
 use Rattle.dia_lines.specs.FeedToSink.{AllAnswered, FrontAnswered, LinesAnswered}
 
--- texts of verdicts, one behind the other
+-- texts of verdicts, one after the other
 pub same_text : {V A : Type 0} (g : V → A) (told : V → List ℕ) (other : A → List ℕ) → ((verdict : V) → told verdict ≡ other (g verdict)) → (verdicts : List V)
     → flat_map told verdicts ≡ flat_map other (map g verdicts)
 same_text g told other same [] = refl

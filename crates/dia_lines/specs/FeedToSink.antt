@@ -9,7 +9,7 @@ use Rattle.dia_lines.specs.Lines.{AreAnswered, IsAnswered}
 abbrev pub most_pieces : ℕ
 most_pieces = 18446744073709551615
 
--- what watches saw these verdicts behind those before
+-- what watches saw these verdicts after those before
 abbrev pub Sees : {W V : Type 0} → (W → List V → Type 0) → (old now : W) → List V → Type 0
 Sees {W} {V} saw old now verdicts = (before : List V) → saw old before → saw now (before ++ verdicts)
 
@@ -32,7 +32,7 @@ pub record LinesAnswered {V : Type 0} (P : Input → V → Type 0) (text : List 
   pub answered : AreAnswered P lines verdicts
   pub is_put : Appends put_old put (text verdicts)
 
--- what was put is a beginning of the answers: of whole lines at the front of what was read, or, at the end of the feed, of all lines
+-- what was put is a prefix of the answers: of whole lines at the front of what was read, or, at the end of the feed, of all lines
 pub record FrontAnswered {V : Type 0} (P : Input → V → Type 0) (text : List V → List ℕ) (fed_old fed put_old put : Option (List ℕ)) : Type 0 where
   pub front : List ℕ
   pub rest : List ℕ
@@ -41,7 +41,7 @@ pub record FrontAnswered {V : Type 0} (P : Input → V → Type 0) (text : List 
   pub answered : AreAnswered P front verdicts ⊎ (IsAtEnd fed × (rest ≡ []) × IsAnswered P front verdicts)
   pub is_put : AppendsFront put_old put (text verdicts)
 
--- what was put of the answers is a beginning of the whole text
+-- what was put of the answers is a prefix of the whole text
 abbrev pub FrontIsBeginning : {V : Type 0} → (Input → V → Type 0) → (List V → List ℕ) → Type 0
 FrontIsBeginning {V} P text = (bytes left before now : List ℕ) (verdicts : List V) → FrontAnswered P text (Some bytes) (Some left) (Some before) (Some now)
     → IsAnswered P bytes verdicts → (put : List ℕ) × (rest : List ℕ) × (now ≡ before ++ put) × (text verdicts ≡ put ++ rest)

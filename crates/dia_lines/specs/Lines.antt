@@ -25,7 +25,7 @@ pub data AreAnswered {V : Type 0} (P : Input → V → Type 0) : (lines : List �
       → lines ≡ lines_before ++ (bytes ++ line_feed ∷ []) → verdicts ≡ verdicts_before ++ verdict ∷ []
       → AreAnswered P lines verdicts
 
--- behind the last line feed there are bytes
+-- after the last line feed there are bytes
 pub record EndsInLine (bytes : List ℕ) : Type 0 where
   pub front : List ℕ
   pub line : List ℕ
@@ -38,18 +38,18 @@ abbrev pub IsAnswered : {V : Type 0} → (Input → V → Type 0) → List ℕ �
 IsAnswered P bytes verdicts = AreAnswered P bytes verdicts
     ⊎ (EndsInLine bytes × AreAnswered P (bytes ++ line_feed ∷ []) verdicts)
 
--- ---- what is told of them, behind the numbers of their lines
+-- ---- what is reported of them, after the numbers of their lines
 
--- lines are numbered from 1. All lines behind the one with the greatest number of 64 bits have this number, too
+-- lines are numbered from 1. All lines after the one with the greatest number of 64 bits have this number, too
 abbrev pub line_number : ℕ → ℕ
 line_number n = min n 18446744073709551615
 
--- what is told of these verdicts, the first of which is on the n-th line
+-- what is reported of these verdicts, the first of which is on the n-th line
 abbrev pub told_from : {V : Type 0} → (ℕ → V → List ℕ) → ℕ → List V → List ℕ
 told_from told n [] = []
 told_from told n (v ∷ vs) = told (line_number n) v ++ told_from told (suc n) vs
 
--- what is told of the verdicts on all lines
+-- what is reported of the verdicts on all lines
 abbrev pub told_lines : {V : Type 0} → (ℕ → V → List ℕ) → List V → List ℕ
 told_lines told verdicts = told_from told 1 verdicts
 

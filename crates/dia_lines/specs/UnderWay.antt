@@ -16,7 +16,7 @@ pub record IsUnderWay {V : Type 0} (P : Input → V → Type 0) (now : Answered)
   pub whole : IsLineInput now.line rest
   pub counted : now.count ≡ line_number (length verdicts)
 
--- the bytes were read, and these verdicts were told and seen
+-- the bytes were read, and these verdicts were reported and seen
 pub record Reads {V W : Type 0} (P : Input → V → Type 0) (told : ℕ → V → List ℕ) (saw : W → List V → Type 0)
     (old now : Answered) (watch_old watch : W) (bytes : List ℕ) (more : List V) : Type 0 where
   pub text : (read : List ℕ) (verdicts : List V) → IsUnderWay P old read verdicts
@@ -24,7 +24,7 @@ pub record Reads {V W : Type 0} (P : Input → V → Type 0) (told : ℕ → V �
   pub seen : Sees saw watch_old watch more
   pub reads : (read : List ℕ) (verdicts : List V) → IsUnderWay P old read verdicts → IsUnderWay P now (read ++ bytes) (verdicts ++ more)
 
--- the end was read, and these verdicts were told and seen
+-- the end was read, and these verdicts were reported and seen
 pub record Ends {V W : Type 0} (P : Input → V → Type 0) (told : ℕ → V → List ℕ) (saw : W → List V → Type 0)
     (old now : Answered) (watch_old watch : W) (more : List V) : Type 0 where
   pub text : (read : List ℕ) (verdicts : List V) → IsUnderWay P old read verdicts

@@ -58,7 +58,7 @@ pub fn answer_lines<J: Judge, W: Watch<J::Verdict>, F: Feed, S: Sink>(
     Err(LinesFault::Endless)
 }
 
-/// Reads the next piece of a feed, and puts the answers of the lines that end in it. `false` behind the last one.
+/// Reads the next piece of a feed, and puts the answers of the lines that end in it. `false` after the last one.
 fn answer_piece<J: Judge, W: Watch<J::Verdict>, F: Feed, S: Sink>(
     alloc: Global,
     judge: &J,

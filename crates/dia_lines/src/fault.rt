@@ -5,7 +5,7 @@ use thiserror::Error;
 /// Why the lines of a feed weren't answered to their end.
 #[derive(Clone, Copy, Debug, PartialEq, Eq, Error)]
 pub enum LinesFault {
-    /// The feed or the sink failed. What the sink has taken is a beginning of the answers.
+    /// The feed or the sink failed. What the sink has taken is a prefix of the answers.
     #[error("device failed")]
     Device,
     /// Memory was refused. The answers of whole lines were put, and nothing else.

@@ -15,8 +15,8 @@ pub trait Judge {
     // The text for a verdict on the line of this number.
     ghost told: { Self → ℕ → Self.Verdict → List ℕ };
 
-    /// The verdict on the line of this number. Its text is added to another. What the space holds means nothing: it is memory that
-    /// is kept from line to line.
+    /// The verdict on the line of this number. Its text is added to another. What the space holds means nothing: it is memory
+    /// that is used again for the next line.
     fn judge(
         &self,
         alloc: Global,

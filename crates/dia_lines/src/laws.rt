@@ -10,7 +10,7 @@ pub fn text_has_one_answer<J: Judge>(judge: &J)
     ensures { LineHasOneAnswer (J.says judge.now) → TextHasOneAnswer (J.says judge.now) }
 {}
 
-/// Where each line has one verdict, a call that fails has put a beginning of the text.
+/// Where each line has one verdict, a call that fails has put a prefix of the text.
 pub fn front_is_beginning<J: Judge>(judge: &J)
     ensures { LineHasOneAnswer (J.says judge.now)
         → FrontIsBeginning (J.says judge.now) (told_lines (J.told judge.now)) }

@@ -1,4 +1,4 @@
-//! The lines of a text, answered one by one as its pieces come, in the memory of one line and what the judge keeps.
+//! The lines of a text, answered one by one as its pieces come, in the memory of one line and of the judge.
 //!
 //! `answer_lines` reads a feed piece by piece, asks a [`Judge`] for the verdict on each line and its text, puts these texts into
 //! a sink as they come, and shows the verdicts to a [`Watch`].

@@ -7,7 +7,7 @@ use dia_io::Input;
 use dia_policy::MAX_MESSAGE_TEXT;
 use std::alloc::{AllocError, Global};
 
-/// Adds bytes to a line. Above the limit none are kept.
+/// Adds bytes to a line. Above the limit none are retained.
 pub fn extend(line: &mut Input, bytes: &[u8]) -> Result<(), AllocError>
     ensures { OnOk result ((all : List ℕ) → IsLineInput line.old all
         → IsLineInput line.new (all ++ bytes.now)) }

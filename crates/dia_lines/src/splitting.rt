@@ -5,7 +5,7 @@ ghost use Rattle.dia_lines.specs.Lines.{IsLine, line_feed};
 
 use memchr::memchr;
 
-/// The first line of a text, without its line feed, and what is behind it. `None` where there is no line feed.
+/// The first line of a text, without its line feed, and what follows it. `None` where there is no line feed.
 pub fn split_line(text: &[u8]) -> Option<(&[u8], &[u8])>
     ensures some { IfSome result
         (λ parts. text.entry.now ≡ parts.0.now ++ line_feed ∷ parts.1.now) }

@@ -6,7 +6,7 @@ pub enum Unknown {
     Refused,
 }
 
-/// How deep groups may stand in one another.
+/// How deep groups may be nested.
 #[derive(Clone, Copy, PartialEq, Eq)]
 pub enum Levels {
     Any,

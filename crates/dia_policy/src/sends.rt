@@ -1,4 +1,4 @@
-/// Which messages a sender that goes by its dictionary sends.
+/// Which messages a sender sends by its dictionary.
 #[derive(Clone, Copy, PartialEq, Eq)]
 pub enum Sends {
     /// Also AVPs that the dictionary doesn't know, with M clear, wherever a wildcard lets them in.

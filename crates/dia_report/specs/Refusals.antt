@@ -1,4 +1,4 @@
--- What is told of an input that is refused.
+-- What is reported of an input that is refused.
 use Rattle.std.specs.Prelude.{ℕ, List, [], ◌∷◌, ◌++◌, codes, string_bytes, ⊤}
 use Rattle.std.specs.Fmt.{decimal}
 use Rattle.dia_ccf.specs.declared.CcfFault.{CcfFault}
@@ -43,7 +43,7 @@ bad_dictionary_text (dictionary.NotText place) = codes "not text"
 bad_dictionary_text (dictionary.NoSource misfit) = fault_text misfit.fault
 bad_dictionary_text (dictionary.Wrong found) = wrong_text (wrong found.kind (string_bytes found.name) (string_bytes found.slot))
 
--- what is told of a dictionary by its number
+-- what is reported of a dictionary by its number
 abbrev pub dictionary_line : ℕ → List ℕ → List ℕ
 dictionary_line number why = codes "dictionary " ++ decimal number ++ codes ": " ++ why
 
@@ -55,7 +55,7 @@ bad_table_text (table.NotText place) = codes "not text"
 bad_table_text (table.Syntax n) = fault_at (codes "syntax") n
 bad_table_text (table.Limit n) = fault_at (codes "limit") n
 
--- what is told of a table
+-- what is reported of a table
 abbrev pub table_line : List ℕ → List ℕ
 table_line why = codes "table: " ++ why
 
@@ -79,7 +79,7 @@ bad_input_text (Dictionary number why) = dictionary_line number (bad_dictionary_
 bad_input_text (Table why) = table_line (bad_table_text why)
 bad_input_text (Message why) = codes "message: " ++ bad_message_word why
 
--- what is told holds, unless memory was refused
+-- what is reported holds, unless memory was refused
 abbrev pub TellsOf : (List ℕ → Type 0) → Refused → Type 0
 TellsOf P (Bad bad) = P (bad_input_text bad)
 TellsOf P NoMemory = ⊤

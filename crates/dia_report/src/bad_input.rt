@@ -1,4 +1,4 @@
-//! Inputs that are refused, and what is told of them.
+//! Inputs that are refused, and what is reported of them.
 
 ghost use Rattle.std.specs.Prelude.{◌≡◌};
 ghost use Rattle.dia_report.specs.Refusals.{message_fault_word, or_dash};
@@ -24,7 +24,7 @@ pub enum BadDictionary {
     TooLong,
     /// Bytes that are no UTF-8, from this place on.
     NotText { at: usize },
-    /// The grammar doesn't derive the text: where, and what could stand there. Memory wasn't refused.
+    /// The grammar doesn't derive the text: where, and what would fit there. Memory wasn't refused.
     NoSource(Misfit),
     /// What the text says is no dictionary.
     Wrong(WrongSource),

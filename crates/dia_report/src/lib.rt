@@ -1,6 +1,6 @@
 //! What a command reports: the inputs that it read or refused, and what it found of them.
 //!
-//! Commands make reports, and standard error is told from them. Neither stands on the other: both stand on this crate.
+//! Commands make reports, and standard error is written from them. Neither depends on the other: both depend on this crate.
 #![tactic(auto)]
 
 mod bad_input;

@@ -90,7 +90,7 @@ pub enum Report {
     Refused(BadInput),
     /// A name that is asked for is that of no command of the first dictionary.
     NoCommand(BothBooks),
-    /// A message that was shown: its bytes. `show` has shown it to its end; `show --as-text` may have told where it is cut.
+    /// A message that was shown: its bytes. `show` has shown it to its end; `show --as-text` may have reported where it is cut.
     Shown(Vec<u8>),
     Cut(CutListing),
     Invalid(Invalid),

@@ -15,7 +15,7 @@ value_small c v h = grind (arith, nat_tests)
 pub no_white : (c v : ℕ) → hex_digit_value c ≡ Some v → is_white c ≡ false
 no_white c v h = grind (arith, nat_tests)
 
--- digits behind others
+-- digits after others
 pub spelled_both : (s t a b : List ℕ) → AreSpelled s a → AreSpelled t b → AreSpelled (s ++ t) (a ++ b)
 spelled_both [] t [] b h k = k
 spelled_both [] t (byte ∷ a) b h k = absurd h
@@ -126,7 +126,7 @@ Takes-both good h0 h1 h2 b0 b1 b2 s t x y = record {
       (y.taken (read ++ digits_of s) (before ++ x.more) (x.taken read before a));
 }
 
--- what stands behind a character that is no digit is not looked at
+-- what follows a character that is no digit is not looked at
 pub AreStopped-more : (read before more : List ℕ) → AreStopped read before → AreStopped (read ++ more) before
 AreStopped-more read before more a = record {
   digits = a.digits;

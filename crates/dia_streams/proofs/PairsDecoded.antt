@@ -77,7 +77,7 @@ module _ (c : ℕ) (byte : c < 256) where
 
 -- ---- all pairs
 
--- the pairs in front of the i-th are decoded, unless one of them is refused
+-- the pairs before the i-th are decoded, unless one of them is refused
 pub record AreDecoded (digits bytes : List ℕ) (i seen : ℕ) : Type 0 where
   pub good : seen < 16 → decode_pairs 0 digits ≡ prepend (take i bytes) (decode_pairs (2 * i) (drop (2 * i) digits))
   pub bad : 16 ≤ seen → ¬ IsOk (decode_pairs 0 digits)

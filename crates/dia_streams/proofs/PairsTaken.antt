@@ -9,7 +9,7 @@ use Rattle.dia_streams.specs.Streams.{AreSpelled, digits_of}
 use Rattle.dia_streams.specs.UnderWay.{Takes}
 use Rattle.dia_streams.proofs.DigitsTaken.{no_white, spelled_both, Takes-both, Takes-stopped}
 
--- a pair in front of what is decoded
+-- a pair before what is decoded
 abbrev with_pair : (high low i : ℕ) → Option ℕ → Option ℕ → Result (List ℕ) FromHexError → Result (List ℕ) FromHexError
 with_pair high low i x y r = (digit_or_error high i x >>= (λ p. digit_or_error low (i + 1) y >>= (λ q. Ok (p * 16 + q)))) >>= (λ byte. r >>= (λ bytes. Ok (byte ∷ bytes)))
 
@@ -67,11 +67,11 @@ Takes-pairs bytes_old bytes more text decoded grows =
 
 -- ---- parts of a line, and lines
 
--- what stands behind the parts that stopped is not looked at
+-- what follows the parts that stopped is not looked at
 pub stopped_within : (h0 h h' : Option ℕ) (b0 b s t line : List ℕ) → s ++ t ≡ line → Takes false h0 h b0 b s → Takes false h0 h' b0 b line
 stopped_within h0 h h' b0 b s t line parts x = subst (Takes false h0 h' b0 b) parts (Takes-stopped h0 h h' b0 b s t x)
 
--- a line and its line feed behind a front
+-- a line and its line feed after a front
 pub Takes-lines : (good : Bool) (h0 h1 h2 h3 : Option ℕ) (b0 b1 b2 b3 front rest : List ℕ) (at : ℕ) → at < length rest → Takes true h0 h1 b0 b1 front
     → Takes true h1 h2 b1 b2 (take at rest) → Takes good h2 h3 b2 b3 (get_or rest at 0 ∷ []) → Takes good h0 h3 b0 b3 (front ++ take (at + 1) rest)
 Takes-lines good h0 h1 h2 h3 b0 b1 b2 b3 front rest at less x y z =
@@ -89,6 +89,6 @@ pub if_ok_map : {A E : Type 0} {P Q : A → Type 0} (r : Result A E) → ((a : A
 if_ok_map (Ok a) f h = f a h
 if_ok_map (Err e) f h = h
 
--- the parts of a text behind a line more
+-- the parts of a text after a line more
 pub next_line : (front rest text : List ℕ) (n : ℕ) → front ++ rest ≡ text → (front ++ take n rest) ++ drop n rest ≡ text
 next_line front rest text n parts = append_assoc front (take n rest) (drop n rest) ∙ ap (λ (r : List ℕ). front ++ r) (take-append-drop n rest) ∙ parts

@@ -1,4 +1,4 @@
--- A stream that is told from a feed into a sink.
+-- A stream that is reported from a feed into a sink.
 use Rattle.std.proofs.Common.{◌≡◌, ℕ, ◌+◌, ◌<◌, Bool, true, false, List, [], ◌++◌, Option, None, Some, Result, Ok, length, refl, sym, ap, subst, ◌∙◌, append_assoc, inl, inr, arith}
 use Rattle.std.specs.Prelude.{string_bytes, ◌⊎◌}
 use Rattle.std.specs.List.{flat_map}
@@ -65,7 +65,7 @@ module _ {V W : Type 0} (P : Option (List ℕ) → V → Type 0) (text : ℕ × 
     counted = omega arith;
   }
 
-  -- what was told of a front, of which more was read
+  -- what was reported of a front, of which more was read
   front_told : (now : Streamed) (read piece : List ℕ) (verdicts : List (ℕ × V)) → IsUnderWay P now read verdicts → IsFrontTold P (read ++ piece) verdicts
   front_told now read piece verdicts u = record {
     digits = u.digits.digits;
@@ -115,7 +115,7 @@ module _ {V W : Type 0} (P : Option (List ℕ) → V → Type 0) (text : ℕ × 
       kept None = tt
       kept (Some xs) = refl
 
-  -- a piece was told
+  -- a piece was reported
   module _ (goes_on : Bool) (fed f f' put p p' : Option (List ℕ)) (w x y : W) (old now : Streamed) (n : ℕ) (piece : List ℕ)
       (consumed : Consumes f f' piece) (reads : Reads P text saw goes_on old now x y piece) (a : AreRead P text saw fed f put p w x old n) where
     all_lines : string_bytes now.told.text ≡ flat_map text reads.verdicts
@@ -148,7 +148,7 @@ module _ {V W : Type 0} (P : Option (List ℕ) → V → Type 0) (text : ℕ × 
           counted = omega (arith, lengths, counted, some);
         }
 
-    -- and all was told before the end
+    -- and all was reported before the end
     pub all_over : goes_on ≡ false → Appends p p' (string_bytes now.told.text) → AllTold P text saw fed f' put p' w y
     all_over off is_put = record {
       read = a.read ++ piece;
@@ -159,7 +159,7 @@ module _ {V W : Type 0} (P : Option (List ℕ) → V → Type 0) (text : ℕ × 
       seen = all_seen;
     }
 
-    -- and the sink failed behind it
+    -- and the sink failed after it
     pub sink_failed : AppendsFront p p' (string_bytes now.told.text) → SomeTold P text fed f' put p'
     sink_failed is_put = record {
       read = a.read ++ piece;
@@ -177,7 +177,7 @@ module _ {V W : Type 0} (P : Option (List ℕ) → V → Type 0) (text : ℕ × 
             (front_told now (a.read ++ piece) [] (a.verdicts ++ reads.verdicts) u))
         by false over = inr (λ rest gives. over rest)
 
-  -- what was under way was told at the end
+  -- what was under way was reported at the end
   module _ (fed f f' put p p' : Option (List ℕ)) (w x y : W) (old now : Streamed) (n : ℕ)
       (consumed : Consumes f f' []) (at_end : IsAtEnd f') (ends : Ends P text saw old now x y) (a : AreRead P text saw fed f put p w x old n) where
     end_lines : string_bytes now.told.text ≡ flat_map text ends.verdicts
@@ -201,7 +201,7 @@ module _ {V W : Type 0} (P : Option (List ℕ) → V → Type 0) (text : ℕ × 
       seen = Sees-both saw w x y a.verdicts ends.verdicts a.seen ends.seen;
     }
 
-    -- and the sink failed behind it
+    -- and the sink failed after it
     pub sink_failed_at_end : AppendsFront p p' (string_bytes now.told.text) → SomeTold P text fed f' put p'
     sink_failed_at_end is_put = record {
       read = a.read;

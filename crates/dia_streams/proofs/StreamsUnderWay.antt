@@ -1,4 +1,4 @@
--- A stream that is told as it is read.
+-- A stream that is reported as it is read.
 use Rattle.std.proofs.Common.{◌≡◌, ◌≢◌, ℕ, ◌+◌, ◌<◌, Bool, true, false, not, cond, List, [], ◌∷◌, ◌++◌, length, take, Option, None, Some, refl, sym, ap, subst, ◌∙◌, append_assoc, arith, inl, inr, ◌≤◌}
 use Rattle.std.specs.Prelude.{string_bytes, ◌==◌, is_some}
 use Rattle.std.proofs.lemmas.Bool.{eqb-true}
@@ -14,11 +14,11 @@ use Rattle.dia_streams.specs.UnderWay.{AreDigits, AreTaken, Takes, HasTold, Adds
 use Rattle.dia_streams.proofs.DigitsTaken.{digits_both, spelled_both, spelled_front, stops_half}
 use Rattle.dia_streams.proofs.Fronts.{endless_on}
 
--- what is told of one verdict
+-- the report of one verdict
 one_told : {V : Type 0} (told : V → List ℕ) (verdict : V) (old new : List ℕ) → new ≡ old ++ told verdict → new ≡ old ++ flat_map told (verdict ∷ [])
 one_told told verdict old new h = h ∙ ap (λ (t : List ℕ). old ++ t) (sym (flat_map-cons told verdict [] ∙ append-nil (told verdict)))
 
--- what is told of verdicts, and then of more
+-- the report of verdicts, and then of more
 both_told : {V : Type 0} (told : V → List ℕ) (xs ys : List V) (a b c : List ℕ) → b ≡ a ++ flat_map told xs → c ≡ b ++ flat_map told ys
     → c ≡ a ++ flat_map told (xs ++ ys)
 both_told told xs ys a b c h k = k ∙ ap (λ (t : List ℕ). t ++ flat_map told ys) h ∙ append_assoc a (flat_map told xs) (flat_map told ys)
@@ -51,7 +51,7 @@ digits_short (c ∷ text) = by (not (is_white c)) (digits_short text)
     by true ih = omega (arith, ih)
     by false ih = omega (arith, ih)
 
--- the bytes before, those of a piece, and how they are told
+-- the bytes before, those of a piece, and how they are reported
 regroup : (whole kept more all w rest : List ℕ) → all ≡ kept ++ more → all ≡ w ++ rest → (whole ++ kept) ++ more ≡ (whole ++ w) ++ rest
 regroup whole kept more all w rest grows parts =
     append_assoc whole kept more ∙ ap (λ (b : List ℕ). whole ++ b) (sym grows ∙ parts) ∙ sym (append_assoc whole w rest)
@@ -81,7 +81,7 @@ module _ {V : Type 0} (P : Option (List ℕ) → V → Type 0) where
         at = omega (arith, here, size, at);
       }
 
-  -- the verdict on what stands behind whole messages
+  -- the verdict on what follows whole messages
   whole_stream : (read bytes left rest : List ℕ) (verdict : V) (now : Told) (whole : List ℕ) (verdicts : List (ℕ × V)) → HasTold P now whole verdicts
       → Spells read bytes left → bytes ≡ whole ++ rest → IsEndTold P (length whole) rest left ((length whole, verdict) ∷ [])
       → IsStreamTold P read (verdicts ++ (now.at, verdict) ∷ [])
@@ -136,7 +136,7 @@ module _ {V : Type 0} (P : Option (List ℕ) → V → Type 0) where
               (HasTold-more now new (before ++ t.whole) (earlier ++ t.verdicts) first verdict (t.told before earlier h) is says place));
         }
 
-    -- the digits of a piece were taken, and its messages told
+    -- the digits of a piece were taken, and its messages reported
     module _ (good : Bool) (half : Option ℕ) (all piece rest : List ℕ) (old : Streamed) (mid : Told) (w x : W)
         (takes : Takes good old.digits.half half old.digits.bytes.items all piece) (tells : TellsWhole P text saw old.told mid w x all rest) where
       taken : (read : List ℕ) (earlier : List (ℕ × V)) → (u : IsUnderWay P old read earlier) → AreTaken good half (digits_of (read ++ piece)) ((u.whole ++ tells.whole) ++ rest)
@@ -145,7 +145,7 @@ module _ {V : Type 0} (P : Option (List ℕ) → V → Type 0) where
           (regroup u.whole old.digits.bytes.items takes.more all tells.whole rest takes.grows tells.parts)
           (takes.taken (digits_of read) (u.whole ++ old.digits.bytes.items) u.digits))
 
-      -- the last verdict was told
+      -- the last verdict was reported
       over : (new : Streamed) (y : W) (verdict : V) → Adds text saw mid new.told x y verdict
           → ((read : List ℕ) (earlier : List (ℕ × V)) → (u : IsUnderWay P old read earlier) → (chars : List ℕ)
           → (bytes : List ℕ) × (left : List ℕ) × (behind : List ℕ) × Spells ((read ++ piece) ++ chars) bytes left
@@ -257,7 +257,7 @@ module _ {V : Type 0} (P : Option (List ℕ) → V → Type 0) where
       };
     }
 
-    -- the last verdict was told
+    -- the last verdict was reported
     last_told : (old new : Streamed) (w x : W) (verdict : V) → Adds text saw old.told new.told w x verdict
         → ((read : List ℕ) (earlier : List (ℕ × V)) → (u : IsUnderWay P old read earlier)
         → IsEndTold P (length u.whole) old.digits.bytes.items u.digits.left ((length u.whole, verdict) ∷ []))
@@ -287,7 +287,7 @@ pub is_part : (bytes : List ℕ) → BeginsNone bytes → ¬ IsEndless bytes →
 is_part bytes (inl few) not = few
 is_part bytes (inr bad) not = absurd (not bad)
 
--- nothing was in front of it
+-- nothing was before it
 pub all_left : (all whole rest : List ℕ) → all ≡ whole ++ rest → length all ≤ length rest → all ≡ rest
 all_left all [] rest parts less = parts
 all_left all (b ∷ whole) rest parts less = let l = ap length parts in let m = length-append whole rest in absurd (omega (arith, l, m, less))
@@ -306,7 +306,7 @@ pub some_by : (bytes same : List ℕ) → same ≡ bytes → false ≡ (length s
 some_by [] same is e = let no : (length same == 0) ≡ true = ap (λ (b : List ℕ). length b == 0) is in absurd cc
 some_by (b ∷ bytes) same is e = omega arith
 
--- a place that can't be counted is behind as many characters
+-- a place that can't be counted follows as many characters
 pub many_read : {V : Type 0} (P : Option (List ℕ) → V → Type 0) (old : Streamed) (good : Bool) (half : Option ℕ) (all piece : List ℕ) (most : ℕ) → Takes good old.digits.half half old.digits.bytes.items all piece
     → most ≤ old.told.at + length all → (read : List ℕ) (verdicts : List (ℕ × V)) → IsUnderWay P old read verdicts → most ≤ length (read ++ piece)
 many_read P old good half all piece most takes far read verdicts u =

@@ -1,4 +1,4 @@
--- Messages that stand back to back, as hexadecimal text with white space anywhere, and the verdicts on them.
+-- Messages back to back, as hexadecimal text with white space anywhere, and the verdicts on them.
 use Rattle.std.specs.Prelude.{◌≡◌, ℕ, ◌+◌, ◌*◌, ◌<◌, ◌≤◌, ◌⊎◌, ⊤, List, [], ◌∷◌, ◌++◌, Option, None, Some, length, take}
 use Rattle.std.specs.List.{flat_map}
 use Rattle.std.specs.Io.KnownBytes.{Appends, Consumes}
@@ -22,13 +22,13 @@ AreSpelled (high ∷ []) bytes = ⊥
 AreSpelled (high ∷ low ∷ digits) [] = ⊥
 AreSpelled (high ∷ low ∷ digits) (byte ∷ bytes) = IsPair high low byte × AreSpelled digits bytes
 
--- no pair of digits stands at the front
+-- no pair of digits is at the front
 abbrev pub BeginsNoPair : List ℕ → Type 0
 BeginsNoPair [] = ⊤
 BeginsNoPair (high ∷ []) = ⊤
 BeginsNoPair (high ∷ low ∷ rest) = (byte : ℕ) → ¬ IsPair high low byte
 
--- the pairs of digits at the front of the text spell these bytes; this is left of it without white space, and begins with no pair
+-- the pairs of digits at the front of the text spell these bytes; the rest, without white space, begins with no pair
 pub record Spells (text bytes left : List ℕ) : Type 0 where
   pub digits : List ℕ
   pub parts : digits_of text ≡ digits ++ left
@@ -49,8 +49,8 @@ IsPart bytes = (length bytes < 20) ⊎ ((n : ℕ) × BeginsMessage bytes n × (l
 abbrev pub IsEndless : List ℕ → Type 0
 IsEndless bytes = (20 ≤ length bytes) × ((n : ℕ) → ¬ BeginsMessage bytes n)
 
--- ---- verdicts. P says which verdict the bytes of a message have, and what isn't hexadecimal, which has none. A verdict stands
--- behind the place where its message begins
+-- ---- verdicts. P says which verdict the bytes of a message have, or a message that isn't hexadecimal. Each verdict follows
+-- the place where its message begins
 
 -- the verdicts on whole messages, the first of them at a place
 pub data AreTold {V : Type 0} (P : Option (List ℕ) → V → Type 0) : (at : ℕ) (bytes : List ℕ) → List (ℕ × V) → Type 0 where
@@ -59,7 +59,7 @@ pub data AreTold {V : Type 0} (P : Option (List ℕ) → V → Type 0) : (at : �
       → IsMessage first → P (Some first) verdict → AreTold P (at + length first) rest others
       → bytes ≡ first ++ rest → verdicts ≡ (at, verdict) ∷ others → AreTold P at bytes verdicts
 
--- the verdict on what stands behind them, at a place: on a part of a message, on a bad header, or where digits are left that spell nothing
+-- the verdict on what follows them, at a place: a part of a message, a bad header, or digits that spell nothing
 pub data IsEndTold {V : Type 0} (P : Option (List ℕ) → V → Type 0) (at : ℕ) (bytes left : List ℕ) (verdicts : List (ℕ × V)) : Type 0 where
   nothing : bytes ≡ [] → left ≡ [] → verdicts ≡ [] → IsEndTold P at bytes left verdicts
   part : (verdict : V) → 0 < length bytes → IsPart bytes → left ≡ [] → P (Some bytes) verdict → verdicts ≡ (at, verdict) ∷ []
@@ -97,7 +97,7 @@ pub record IsFrontTold {V : Type 0} (P : Option (List ℕ) → V → Type 0) (st
 abbrev pub most_places : ℕ
 most_places = 18446744073709551615
 
--- the feed still gives this, where it tells it
+-- the feed still gives this, where that is known
 abbrev pub StillGives : Option (List ℕ) → List ℕ → Type 0
 StillGives None rest = rest ≡ []
 StillGives (Some all) rest = rest ≡ all
@@ -120,7 +120,7 @@ pub record WholeTold {V : Type 0} (P : Option (List ℕ) → V → Type 0) (text
   pub told : IsFrontTold P read verdicts
   pub is_put : Appends put_old put (flat_map text verdicts)
 
--- what was put is a beginning of the lines: of whole messages at the front of what was read, or of all
+-- what was put is a prefix of the lines: of whole messages at the front of what was read, or of all
 pub record SomeTold {V : Type 0} (P : Option (List ℕ) → V → Type 0) (text : ℕ × V → List ℕ) (fed_old fed put_old put : Option (List ℕ)) : Type 0 where
   pub read : List ℕ
   pub verdicts : List (ℕ × V)

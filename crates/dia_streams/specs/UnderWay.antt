@@ -48,22 +48,22 @@ pub record Takes (good : Bool) (half_old half : Option ℕ) (bytes_old bytes tex
 
 -- ---- verdicts
 
--- these are the verdicts on whole messages that were told
+-- these are the verdicts on whole messages that were reported
 pub record HasTold {V : Type 0} (P : Option (List ℕ) → V → Type 0) (now : Told) (whole : List ℕ) (verdicts : List (ℕ × V)) : Type 0 where
   pub told : AreTold P 0 whole verdicts
   pub at : now.at ≡ length whole
 
--- a verdict was told and seen, on what begins at the place
+-- a verdict was reported and seen, on what begins at the place
 pub record Adds {V W : Type 0} (text : ℕ × V → List ℕ) (saw : W → List (ℕ × V) → Type 0) (old now : Told) (watch_old watch : W) (verdict : V) : Type 0 where
   pub line : string_bytes now.text ≡ string_bytes old.text ++ text (old.at, verdict)
   pub at : now.at ≡ old.at
   pub seen : Sees saw watch_old watch ((old.at, verdict) ∷ [])
 
--- no whole message stands at the front
+-- no whole message is at the front
 abbrev pub BeginsNone : List ℕ → Type 0
 BeginsNone bytes = IsPart bytes ⊎ IsEndless bytes
 
--- the whole messages at the front of the bytes were told
+-- the whole messages at the front of the bytes were reported
 pub record TellsWhole {V W : Type 0} (P : Option (List ℕ) → V → Type 0) (text : ℕ × V → List ℕ) (saw : W → List (ℕ × V) → Type 0)
     (old now : Told) (watch_old watch : W) (bytes rest : List ℕ) : Type 0 where
   pub whole : List ℕ
@@ -82,7 +82,7 @@ pub record IsUnderWay {V : Type 0} (P : Option (List ℕ) → V → Type 0) (now
   pub is_part : IsPart now.digits.bytes.items
   pub told : HasTold P now.told whole verdicts
 
--- all was told, whatever follows
+-- all was reported, whatever follows
 abbrev pub IsOver : {V : Type 0} → (Option (List ℕ) → V → Type 0) → List ℕ → List (ℕ × V) → Type 0
 IsOver P read verdicts = (rest : List ℕ) → IsStreamTold P (read ++ rest) verdicts
 
@@ -90,7 +90,7 @@ abbrev pub Goes : {V : Type 0} → (Option (List ℕ) → V → Type 0) → Bool
 Goes P true now read verdicts = IsUnderWay P now read verdicts
 Goes P false now read verdicts = IsOver P read verdicts
 
--- a piece was read, and these verdicts were told and seen
+-- a piece was read, and these verdicts were reported and seen
 pub record Reads {V W : Type 0} (P : Option (List ℕ) → V → Type 0) (text : ℕ × V → List ℕ) (saw : W → List (ℕ × V) → Type 0)
     (goes_on : Bool) (old now : Streamed) (watch_old watch : W) (piece : List ℕ) : Type 0 where
   pub verdicts : List (ℕ × V)
@@ -98,7 +98,7 @@ pub record Reads {V W : Type 0} (P : Option (List ℕ) → V → Type 0) (text :
   pub seen : Sees saw watch_old watch verdicts
   pub reads : (read : List ℕ) (earlier : List (ℕ × V)) → IsUnderWay P old read earlier → Goes P goes_on now (read ++ piece) (earlier ++ verdicts)
 
--- the end was read, and these verdicts were told and seen
+-- the end was read, and these verdicts were reported and seen
 pub record Ends {V W : Type 0} (P : Option (List ℕ) → V → Type 0) (text : ℕ × V → List ℕ) (saw : W → List (ℕ × V) → Type 0)
     (old now : Streamed) (watch_old watch : W) : Type 0 where
   pub verdicts : List (ℕ × V)
@@ -106,7 +106,7 @@ pub record Ends {V W : Type 0} (P : Option (List ℕ) → V → Type 0) (text : 
   pub seen : Sees saw watch_old watch verdicts
   pub ends : (read : List ℕ) (earlier : List (ℕ × V)) → IsUnderWay P old read earlier → IsStreamTold P read (earlier ++ verdicts)
 
--- so many pieces were read from the feed and told into the sink
+-- so many pieces were read from the feed and reported into the sink
 pub record AreRead {V W : Type 0} (P : Option (List ℕ) → V → Type 0) (text : ℕ × V → List ℕ) (saw : W → List (ℕ × V) → Type 0)
     (fed_old fed put_old put : Option (List ℕ)) (watch_old watch : W) (now : Streamed) (pieces : ℕ) : Type 0 where
   pub read : List ℕ

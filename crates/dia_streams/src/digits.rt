@@ -38,7 +38,7 @@ impl Digits {
 
     /// Takes the digits of a text, up to a character that is neither a digit nor white space. `false` where there is one.
     ///
-    /// The digits of a line are decoded together, where no white space stands among them.
+    /// The digits of a line are decoded together, where no white space is among them.
     pub fn take(&mut self, alloc: Global, text: &[u8]) -> Result<bool, AllocError>
         ensures { IfOk result (λ good. Takes good self.old.half self.new.half
             self.old.bytes.items self.new.bytes.items text.now) }
@@ -56,7 +56,7 @@ impl Digits {
         self.take_line(alloc, rest)
     }
 
-    /// Takes a line: the other digit of a pair whose first one came, then whole pairs, and what is left.
+    /// Takes a line: the other digit of a pair whose first one came, then whole pairs, and the rest.
     fn take_line(&mut self, alloc: Global, line: &[u8]) -> Result<bool, AllocError>
         ensures { IfOk result (λ good. Takes good self.old.half self.new.half
             self.old.bytes.items self.new.bytes.items line.now) }
@@ -72,7 +72,7 @@ impl Digits {
         self.take_each(last)
     }
 
-    /// How many characters of a line belong to a pair whose first digit came before it, if no white space is among them.
+    /// How many characters of a line complete a pair whose first digit came before it, if no white space is among them.
     fn lacking(&self, line: &[u8]) -> usize
         ensures { result ≤ length line.now }
     {

@@ -1,4 +1,4 @@
-//! Messages that stand back to back, as hexadecimal text, told one by one as the pieces of the text come.
+//! Messages back to back, as hexadecimal text, reported one by one as the pieces of the text come.
 //!
 //! `answer_stream` reads a feed piece by piece, asks a [`MessageJudge`] for the verdict on each message and its line, puts these
 //! lines into a sink, and shows the verdicts to a `Watch`, each with the place where its message begins. It takes the memory of

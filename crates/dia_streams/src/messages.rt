@@ -1,4 +1,4 @@
-//! Where messages end that stand back to back.
+//! Where messages end that are back to back.
 
 ghost use Rattle.std.specs.Prelude.{◌≡◌, ◌++◌, ◌↔◌, take, IfSome, IsNone, IsTrue};
 ghost use Rattle.dia_streams.specs.Streams.{IsEndless, IsMessage};
@@ -6,7 +6,7 @@ ghost use Rattle.dia_streams.specs.UnderWay.{BeginsNone};
 
 use dia_wire::{HEADER_LENGTH, read_header};
 
-/// The message that the bytes begin with, and what is behind it. `None` where it isn't whole, or no message begins so.
+/// The message that the bytes begin with, and what follows it. `None` where it isn't whole, or no message begins so.
 pub fn first_message(bytes: &[u8]) -> Option<(&[u8], &[u8])>
     ensures parts { IfSome result (λ parts. bytes.entry.now ≡ parts.0.now ++ parts.1.now) }
     ensures message { IfSome result (λ parts. IsMessage parts.0.now) }

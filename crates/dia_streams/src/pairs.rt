@@ -1,4 +1,4 @@
-//! The bytes that hexadecimal digits spell that are all there.
+//! The bytes that hexadecimal digits spell, when all digits are there.
 
 ghost use Rattle.std.specs.Prelude.{◌≡◌, ◌≤◌, ◌*◌, length, take, Ok, IfOk, IfSome, IsNone, IsOk, IsTrue};
 ghost use Rattle.hex.specs.Hex.{decode_of};
@@ -38,10 +38,10 @@ pub fn decode_digits(
     }
 }
 
-/// Decodes so many pairs of digits into the front of the bytes, and tells whether all are digits. Where one isn't, the bytes mean
-/// nothing.
+/// Decodes so many pairs of digits into the front of the bytes, and returns whether all are digits. Where one isn't, the bytes
+/// mean nothing.
 ///
-/// The loop doesn't branch on what it reads, so it takes several digits at a time once it is compiled, as long as it stands in a
+/// The loop doesn't branch on what it reads, so it takes several digits at a time once it is compiled, as long as it is in a
 /// function of its own.
 #[inline(never)]
 fn decode_pairs(digits: &[u8], bytes: &mut [u8], count: usize) -> bool

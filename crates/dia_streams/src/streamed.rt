@@ -1,4 +1,4 @@
-//! The messages of a stream that were told, and the one that is under way.
+//! The messages of a stream that were reported, and the one that is under way.
 
 use crate::digits::Digits;
 use crate::judge::MessageJudge;
@@ -34,7 +34,7 @@ impl Streamed {
         }
     }
 
-    /// Tells the messages that end in the next piece. `false` where no message can be found behind them.
+    /// Reports the messages that end in the next piece. `false` where no message can be found after them.
     pub fn read<J: MessageJudge, W: Watch<(u64, J::Verdict)>>(
         &mut self,
         alloc: Global,
@@ -66,7 +66,7 @@ impl Streamed {
         Ok(true)
     }
 
-    /// Tells what is under way, where the text is at its end.
+    /// Reports what is under way, where the text is at its end.
     pub fn end<J: MessageJudge, W: Watch<(u64, J::Verdict)>>(
         &mut self,
         alloc: Global,

@@ -55,7 +55,7 @@ pub fn answer_stream<J: MessageJudge, W: Watch<(u64, J::Verdict)>, F: Feed, S: S
     Err(LinesFault::Endless)
 }
 
-/// Reads the next piece of a feed, and puts the lines of the messages that end in it. `false` behind the last one.
+/// Reads the next piece of a feed, and puts the lines of the messages that end in it. `false` after the last one.
 fn answer_piece<J: MessageJudge, W: Watch<(u64, J::Verdict)>, F: Feed, S: Sink>(
     alloc: Global,
     judge: &J,

@@ -1,4 +1,4 @@
-//! The messages of a stream that were told.
+//! The messages of a stream that were reported.
 
 ghost use Rattle.std.specs.Prelude.{◌≡◌};
 
@@ -22,7 +22,7 @@ impl Told {
     ghost use Rattle.dia_streams.specs.Streams.{most_places};
     ghost use Rattle.dia_streams.specs.UnderWay.{Adds, BeginsNone, TellsWhole};
 
-    /// Nothing was told yet.
+    /// Nothing was reported yet.
     pub fn new(alloc: Global) -> Told
         ensures at { result.at ≡ 0 }
         ensures text { string_bytes result.text ≡ [] }
@@ -33,7 +33,7 @@ impl Told {
         }
     }
 
-    /// Tells the messages at the front of the bytes. Answers what is left of the bytes.
+    /// Reports the messages at the front of the bytes. Answers the rest of the bytes.
     pub fn tell_whole<'b, J: MessageJudge, W: Watch<(u64, J::Verdict)>>(
         &mut self,
         alloc: Global,
@@ -57,7 +57,7 @@ impl Told {
         Ok(rest)
     }
 
-    /// Tells the verdict on these bytes.
+    /// Reports the verdict on these bytes.
     pub fn tell<J: MessageJudge, W: Watch<(u64, J::Verdict)>>(
         &mut self,
         alloc: Global,
@@ -73,7 +73,7 @@ impl Told {
         Ok(())
     }
 
-    /// Tells the verdict on a text that isn't hexadecimal.
+    /// Reports the verdict on a text that isn't hexadecimal.
     pub fn tell_no_digits<J: MessageJudge, W: Watch<(u64, J::Verdict)>>(
         &mut self,
         judge: &J,
@@ -87,7 +87,7 @@ impl Told {
         Ok(())
     }
 
-    /// The next message begins behind so many bytes.
+    /// The next message begins after so many bytes.
     fn pass(&mut self, length: usize) -> Result<(), LinesFault>
         ensures at { OnOk result (self.new.at ≡ self.old.at + length) }
         ensures text { self.new.text ≡ self.old.text }

@@ -34,7 +34,7 @@ in_words Blank text is = tail_has_no_word text is
 in_words (Command a b) text is = pair_words (codes "command") a b text command_is_word is
 in_words (Avp a b) text is = pair_words (codes "avp") a b text avp_is_word is
 
--- with a first word that is none of the two, or with others behind it, a line has no form
+-- with a first word that is none of the two, or with others after it, a line has no form
 pub has_no_form : (text : List ℕ) → first_word text ≢ []
     → ((a b : List ℕ) → ArePairWords a b (behind_word text) → ((first_word text ≡ codes "command") ⊎ (first_word text ≡ codes "avp")) → ⊥) → ¬ HasForm text
 has_no_form text some other (Blank, is) = some (in_words Blank text is)

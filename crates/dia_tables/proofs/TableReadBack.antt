@@ -1,4 +1,4 @@
--- The text of a table is read back: each line says its pair, and nothing else stands between the line feeds.
+-- The text of a table is read back: each line says its pair, and nothing else is between the line feeds.
 use Rattle.std.proofs.Common.{◌≡◌, ℕ, ◌-◌, ◌*◌, ◌≤◌, Bool, true, false, not, ◌==◌, ◌&&◌, ◌||◌, List, [], ◌∷◌, ◌++◌, length, map, codes, refl, sym, ap, subst, ◌∙◌, inl, arith}
 use Rattle.std.specs.Prelude.{slice_index}
 use Rattle.std.specs.List.{list_all, list_any, filter_map, slice_split, AllByRecursion}

@@ -60,7 +60,7 @@ word_is gap word rest blank ends word_bytes stops =
       ap (λ (t : List ℕ). drop (prefix_len is_word_byte t) t) same ∙ drop_at word rest (prefix_len is_word_byte (word ++ rest)) (sym long),
     )
 
--- the blanks in front of the first word
+-- the blanks before the first word
 abbrev gap_of : List ℕ → List ℕ
 gap_of text = take (prefix_len is_blank text) text
 
@@ -187,7 +187,7 @@ pair_words word a b line is pair =
       },
     )
 
--- where a word follows another, blanks stand between
+-- where a word follows another, blanks are between
 gap_between : (text word : List ℕ) → begins is_word_byte text ≡ false → first_word text ≡ word → IsWord word → IsGap (gap_of text)
 gap_between text word stops e is = by (gap_of text) refl
   where
@@ -229,9 +229,9 @@ words_pair word a b line e words =
       names = words.names;
     }
 
--- ---- which part can't stand
+-- ---- which part doesn't fit
 
--- each part of a pair's line has a word that can stand there
+-- each part of a pair's line has a word that fits there
 pub record AllFit (words : PlainWords) : Type 0 where
   pub kind : fits words Kind ≡ true
   pub first : fits words First ≡ true
@@ -242,7 +242,7 @@ pub record AllFit (words : PlainWords) : Type 0 where
 pub none_wrong : (words : PlainWords) → AllFit words → wrong_part words ≡ None
 none_wrong words all = rw (all.kind, all.first, all.sign, all.second, all.behind) refl
 
--- the first part that can't stand, by which can
+-- the first part that doesn't fit, by which do
 abbrev misfit : (kind first sign second behind : Bool) → Option PairPart
 misfit kind first sign second behind =
     cond (not kind) (Some Kind) (cond (not first) (Some First) (cond (not sign) (Some Sign) (cond (not second) (Some Second) (cond (not behind) (Some Behind) None))))

@@ -4,7 +4,7 @@ use Rattle.dia_tables.specs.declared.line.Line.{Line as ReadLine}
 use Rattle.dia_tables.specs.declared.line.Line.TheVariants as lines
 use Rattle.dia_tables.specs.TableText.{PlainTable, Line, Blank, Command, Avp, with_line, IsLine, HasShortNames, IsWithinLimits, most_pairs}
 
--- a line that was read, without where its names lie in memory
+-- a line that was read, as a plain value
 abbrev pub shown : ReadLine → Line
 shown lines.Blank = Blank
 shown (lines.Command a b) = Command a.now b.now
@@ -14,7 +14,7 @@ shown (lines.Avp a b) = Avp a.now b.now
 abbrev pub HasRoom : PlainTable → List ℕ × List ℕ → Type 0
 HasRoom t p = (length t.commands + length t.avps < most_pairs) × HasShortNames p
 
--- the line's pair, if it has one, is within the limits and stands behind those before
+-- the line's pair, if it has one, is within the limits and follows those before
 pub record Adds (line : List ℕ) (old new : PlainTable) : Type 0 where
   pub said : Line
   pub is_line : IsLine said line

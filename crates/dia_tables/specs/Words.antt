@@ -34,12 +34,12 @@ pub record ArePairWords (a b text : List ℕ) : Type 0 where
 
 -- ---- the words of a line, with their places
 
--- a word, and how many bytes of its line stand before it
+-- a word, and how many bytes of its line precede it
 pub record PlainWord : Type 0 where
   pub at : ℕ
   pub text : List ℕ
 
--- the words of a line: those of a pair, and the first behind them
+-- the words of a line: those of a pair, and the first after them
 pub record PlainWords : Type 0 where
   pub kind : PlainWord
   pub first : PlainWord
@@ -62,7 +62,7 @@ plain_words words = record {
   more = plain_word words.more;
 }
 
--- the first word of what is left of a line, behind its blanks
+-- the first word of the rest of a line, after its blanks
 abbrev pub word_in : List ℕ → List ℕ → PlainWord
 word_in line rest = word_at (length line - length (unblanked rest)) (first_word rest)
 
@@ -88,7 +88,7 @@ word_of words Sign = words.sign
 word_of words Second = words.second
 word_of words Behind = words.more
 
--- the word can stand in the place of this part of `command A = B` or `avp A = B`, where names have any length
+-- the word fits in the place of this part of `command A = B` or `avp A = B`, where names have any length
 abbrev pub fits : PlainWords → PairPart → Bool
 fits words Kind = bytes_eq words.kind.text (codes "command") || bytes_eq words.kind.text (codes "avp")
 fits words First = is_name_run words.first.text
@@ -96,7 +96,7 @@ fits words Sign = bytes_eq words.sign.text (codes "=")
 fits words Second = is_name_run words.second.text
 fits words Behind = length words.more.text == 0
 
--- the first part whose word can't stand there
+-- the first part whose word doesn't fit there
 abbrev pub wrong_part : PlainWords → Option PairPart
 wrong_part words = find (λ part. not (fits words part)) (Kind ∷ First ∷ Sign ∷ Second ∷ Behind ∷ [])
 

@@ -1,4 +1,4 @@
-//! Tables of pairs of names, of which each says what of one dictionary stands for what of another, and their texts.
+//! Tables of pairs of names, each of which says what of one dictionary corresponds to what of another, and their texts.
 #![tactic(auto)]
 
 mod laws;

@@ -36,7 +36,6 @@ fn push_lines(text: &mut String, word: &str, pairs: &[(String, String)]) -> Resu
     Ok(())
 }
 
-/// Adds the line of a pair.
 fn push_line(text: &mut String, word: &str, pair: &(String, String)) -> Result<(), AllocError>
     ensures { OnOk result (string_bytes text.new ≡ string_bytes text.old
         ++ (pair_text word.now (plain_pair pair.now) ++ 10 ∷ [])) }

@@ -15,8 +15,8 @@ use thiserror::Error;
 /// The most pairs of a table that is read (our profile).
 pub const MAX_PAIRS: usize = 65_536;
 
-/// Pairs of names, each of the first dictionary and of the second: what stands for what. Both lists are in order, and
-/// a pair may stand in them more than once.
+/// Pairs of names, each of the first dictionary and of the second, which correspond. Both lists are in order, and
+/// may have a pair more than once.
 #[derive(Drop, PartialEq, Eq)]
 pub struct Table {
     pub commands: Vec<(String, String)>,
@@ -38,7 +38,7 @@ pub enum TableFault {
     NoMemory,
 }
 
-/// Tells which limit is passed.
+/// Writes which limit is passed.
 fn tell_limit<W: fmt::Write>(line: &u32, f: &mut fmt::Formatter<W>) -> fmt::Result {
     if *line == 0 {
         write!(f, "the text is too long")
@@ -141,7 +141,7 @@ impl Table {
     }
 }
 
-/// Adds a pair behind the others. `AllocError` comes only where memory was refused.
+/// Adds a pair after the others. `AllocError` comes only where memory was refused.
 pub fn push_pair(
     alloc: Global,
     pairs: &mut Vec<(String, String)>,

@@ -1,4 +1,4 @@
-//! The words of a line, with their places, and which of them can't stand where they stand.
+//! The words of a line, with their places, and which of them don't fit where they are.
 ghost use Rattle.std.specs.Prelude.{◌≡◌, ◌≤◌, ◌==◌, length, IfSome, None};
 ghost use Rattle.std.specs.Char.{is_ascii_alphabetic};
 ghost use Rattle.std.specs.List.{list_all, list_any, prefix_len};
@@ -9,7 +9,7 @@ ghost use Rattle.dia_tables.specs.Words.{word_in, words_in};
 
 use dia_terms::MAX_NAME;
 
-/// A word of a line, and how many bytes of the line stand before it. Where there is none it is empty, and stands at the end of the
+/// A word of a line, and how many bytes of the line precede it. Where there is none it is empty, and its place is the end of the
 /// line or where its comment begins.
 #[derive(Clone, Copy)]
 pub struct Word<'a> {
@@ -17,7 +17,7 @@ pub struct Word<'a> {
     pub at: usize,
 }
 
-/// The words of a line: those of a pair, and the first behind them.
+/// The words of a line: those of a pair, and the first after them.
 #[derive(Clone, Copy)]
 pub struct PairWords<'a> {
     pub kind: Word<'a>,
@@ -27,7 +27,7 @@ pub struct PairWords<'a> {
     pub more: Word<'a>,
 }
 
-/// A part of a line `command A = B`, or what stands behind it.
+/// A part of a line `command A = B`, or what follows it.
 #[derive(Clone, Copy, PartialEq, Eq)]
 pub enum PairPart {
     /// `command` or `avp`.
@@ -56,7 +56,7 @@ pub fn words_of(line: &[u8]) -> PairWords<'_>
     }
 }
 
-/// The first word of what is left of a line, and what is left behind it.
+/// The first word of the rest of a line, and the rest after it.
 fn next_word<'a>(line: &[u8], rest: &'a [u8]) -> (Word<'a>, &'a [u8])
     ensures word { plain_word result.0 ≡ word_in line.now rest.now }
     ensures rest { result.1.now ≡ behind_word rest.now }
@@ -67,7 +67,7 @@ fn next_word<'a>(line: &[u8], rest: &'a [u8]) -> (Word<'a>, &'a [u8])
     (Word { text, at }, behind)
 }
 
-/// How many blanks stand at the front.
+/// How many blanks are at the front.
 fn blanks_len(bytes: &[u8]) -> usize
     ensures len { result ≡ prefix_len is_blank bytes.now }
     ensures within { result ≤ length bytes.now }
@@ -75,7 +75,7 @@ fn blanks_len(bytes: &[u8]) -> usize
     bytes.iter().take_while(|b| is_blank(**b)).count()
 }
 
-/// How many bytes of a word stand at the front.
+/// How many bytes of a word are at the front.
 fn word_len(bytes: &[u8]) -> usize
     ensures len { result ≡ prefix_len is_word_byte bytes.now }
     ensures within { result ≤ length bytes.now }
@@ -154,7 +154,7 @@ impl<'a> PairWords<'a> {
         }
     }
 
-    /// The first part whose word can't stand there. A line with words is a pair where there is none.
+    /// The first part whose word doesn't fit there. A line with words is a pair where there is none.
     pub fn wrong_part(&self) -> Option<PairPart>
         ensures { result ≡ wrong_part (plain_words self.now) }
     {
@@ -170,7 +170,7 @@ impl<'a> PairWords<'a> {
         .find(|part| !self.fits(*part))
     }
 
-    /// Whether the word in the place of a part can stand there.
+    /// Whether the word in the place of a part fits there.
     fn fits(&self, part: PairPart) -> bool
         ensures { result ≡ fits (plain_words self.now) part }
     {

@@ -1,4 +1,4 @@
--- The words of formats are apart.
+-- The words of formats are distinct.
 use Rattle.std.proofs.Common.{◌≡◌, Some, refl}
 use Rattle.std.specs.Prelude.{codes}
 use Rattle.dia_terms.specs.declared.formats.FormatName.{FormatName}

@@ -25,7 +25,6 @@ pub enum FormatName {
     QosFilterRule,
 }
 
-/// All formats.
 const FORMATS: [FormatName; 16] = [
     FormatName::OctetString,
     FormatName::Integer32,

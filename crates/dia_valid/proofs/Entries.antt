@@ -1,4 +1,4 @@
--- What stands at a place of a list, the entry of a key, and the definition of its group.
+-- What is at a place of a list, the entry of a key, and the definition of its group.
 use Rattle.std.proofs.Common.{◌≡◌, ℕ, zero, suc, ◌<◌, ◌≤◌, Bool, true, List, [], ◌∷◌, length, take, get_or, Option, Some, None, refl, sym, ap, subst, ◌∙◌, arith, inl, inr}
 use Rattle.std.specs.Prelude.{slice_get, position, option_and_then, All, ◌⊎◌}
 use Rattle.std.specs.List.{filter_map, cons_option}
@@ -41,7 +41,7 @@ entry_within d key i is = let (e, at, same) = entry_here d key i is in slice_get
 pub not_known : (d : Dictionary) (key : Key) → None ≡ entry_of d key → known d key ≡ None
 not_known d key is = ap (λ (o : Option ℕ). option_and_then (λ j. slice_get d.entries j) o) (sym is)
 
--- as many groups stand before a group as its number says
+-- as many groups precede a group as its number says
 group_at_number : (es : List DictEntry) (i : ℕ) (e : DictEntry) (g : PlainDefinition) → slice_get es i ≡ Some e → e.group ≡ Some g
     → slice_get (filter_map (λ x. x.group) es) (length (filter_map (λ x. x.group) (take i es))) ≡ Some g
 group_at_number [] i e g at is = absurd (none-some e at)
@@ -69,6 +69,6 @@ group_definition d i e at n is = by e.group refl (is ∙ group_of_entry d i e at
         let here : slice_get (groups d) n ≡ Some g = ap (λ (k : ℕ). slice_get (groups d) k) (sym number) ∙ group_at_number d.entries i e g at some in
         (g, some, slice_get-append_left (groups d) d.commands n (slice_get_within (groups d) n g here) ∙ here)
 
--- the definition of a level that is kept has rules
+-- the definition of a recorded level has rules
 pub kept_rules : (d : Dictionary) (i : ℕ) (def : PlainDefinition) → IsDictionary d → slice_get (definitions d) i ≡ Some def → AreRules def.rules
 kept_rules d i def sound at = all_at (λ (x : PlainDefinition). AreRules x.rules) (definitions d) i def sound.rules at

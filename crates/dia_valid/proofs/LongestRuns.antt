@@ -1,4 +1,4 @@
--- The keys of a level stand as the rules say exactly where the longest runs do.
+-- The keys of a level are where the rules say exactly where the longest runs are.
 use Rattle.std.proofs.Common.{◌≡◌, ◌≢◌, ℕ, suc, ◌+◌, Bool, true, false, ◌&&◌, cond, eqb, List, [], ◌∷◌, ◌++◌, length, take, drop, sum, Option, Some, None, refl, sym, ap, subst, ◌∙◌, arith}
 use Rattle.std.specs.Option.{option_map_or}
 use Rattle.std.specs.List.{prefix_len, AllByRecursion}
@@ -87,7 +87,7 @@ longest_are_runs (r ∷ rules) keys h =
 abbrev pub IsNewKey : DRule → List DRule → Type 0
 IsNewKey r rules = AllByRecursion (λ s. (key : Key) → r.key ≡ Some key → s.key ≢ Some key) rules
 
--- each rule's key is none of those behind it
+-- each rule's key is none of those that follow
 abbrev pub AreDistinct : List DRule → Type 0
 AreDistinct [] = Unit {0}
 AreDistinct (r ∷ rules) = IsNewKey r rules × AreDistinct rules
@@ -100,7 +100,7 @@ false_of : (r : DRule) (key : Key) (b : Bool) → is_of r key ≡ b → r.key �
 false_of r key true e h = absurd (h (is_of-key r key e))
 false_of r key false e h = refl
 
--- where a run of another rule's key stands in front, the rule's run is empty
+-- where a run of another rule's key comes first, the rule's run is empty
 starts_other : (r s : DRule) (run after : List Key) → ((key : Key) → r.key ≡ Some key → s.key ≢ Some key) → AllByRecursion (λ key. s.key ≡ Some key) run
     → prefix_len (is_of r) after ≡ 0 → prefix_len (is_of r) (run ++ after) ≡ 0
 starts_other r s [] after new all e = e

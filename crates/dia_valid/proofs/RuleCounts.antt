@@ -1,4 +1,4 @@
--- Where each rule is met as often as it says, and what is behind the runs may stand there, the keys are placed; and what one key more does to the counts.
+-- Keys are placed where each rule is met as often as it says, and what follows the runs is allowed; what one more key changes.
 use Rattle.std.proofs.Common.{◌≡◌, ℕ, zero, suc, ◌+◌, ◌<◌, ◌≤◌, Bool, true, false, cond, List, [], ◌∷◌, ◌++◌, length, drop, sum, filter, Some, refl, sym, ap, subst, ◌∙◌, arith}
 use Rattle.std.specs.Prelude.{slice_get, slice_index, not, count_by, if◌then◌else◌, ◌&&◌, ◌||◌}
 use Rattle.std.specs.List.{prefix_len, list_all, list_any, AllByRecursion}
@@ -99,7 +99,7 @@ sum-runs (r ∷ rules) keys =
 abbrev pub counts_key : List DRule → DRule → Key → Bool
 counts_key rules rule key = if is_wildcard rule then not (is_listed rules key) else lists_key key rule
 
--- a key behind all the runs, or that ends them, counts for the loose rules that it is of, and lengthens no run
+-- a key after all the runs, or that ends them, counts for the loose rules that list it, and lengthens no run
 pub met_more : (rules : List DRule) (m : ℕ) (keys : List Key) (k : Key) (i : ℕ) (rule : DRule) → IsAt (fixed_rules rules) m keys → NoneFrom (fixed_rules rules) m k
     → met rules (keys ++ k ∷ []) i rule ≡ (if is_fixed rule then met rules keys i rule else met rules keys i rule + count_by (counts_key rules rule) (k ∷ []))
 met_more rules m keys k i rule at none = by (is_fixed rule)

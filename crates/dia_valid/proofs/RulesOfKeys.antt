@@ -126,7 +126,7 @@ pub no_rule : (p : Option ℕ) → option_and_then (slice_get (let none : List D
 no_rule None = refl
 no_rule (Some i) = refl
 
--- what stands at the slot of a key is its rule
+-- the rule at the slot of a key is the key's
 pub rule_at : (d : Dictionary) (def : ℕ) (key : Key) (s : Slot) → IfSome (slice_get (definitions d) def) (λ x. s ≡ slot_of x.rules key)
     → option_and_then (slice_get (rules_in d def)) (place_in s) ≡ rule_of (rules_in d def) key
 rule_at d def key s is = by (slice_get (definitions d) def) is

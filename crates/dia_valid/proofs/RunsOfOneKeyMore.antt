@@ -12,7 +12,7 @@ use Rattle.dia_valid.specs.LongestRuns.{IsAt}
 abbrev pub is_of : DRule → Key → Bool
 is_of rule key = lists_key key rule
 
--- ---- the longest front, and more behind the list
+-- ---- the longest front, and a longer list
 
 inside_at : (n m len : ℕ) (b : Bool) → (n < len → m ≡ n) → cond b (1 + n) 0 < suc len → cond b (1 + m) 0 ≡ cond b (1 + n) 0
 inside_at n m len true ih h = ap (λ (k : ℕ). 1 + k) (ih (omega (arith, h)))
@@ -64,11 +64,11 @@ at_start (r ∷ rules) = refl
 pub runs_step : (r : DRule) (rules : List DRule) (keys rest : List Key) (n : ℕ) → prefix_len (is_of r) keys ≡ n → drop n keys ≡ rest → runs (r ∷ rules) keys ≡ n ∷ runs rules rest
 runs_step r rules keys rest n e d = ap (λ (j : ℕ). j ∷ runs rules (drop j keys)) e ∙ ap (λ (f : List Key). n ∷ runs rules f) d
 
--- behind the run of a rule that takes all of the keys
+-- after the run of a rule that lists all of the keys
 pub none_left : (keys : List Key) → drop (length keys) keys ≡ []
 none_left keys = drop-length keys
 
--- the rest behind a run that ends inside, with a key more
+-- the rest after a run that ends inside, with a key more
 rest_more : (n : ℕ) (keys : List Key) (k : Key) → n < length keys → drop n (keys ++ k ∷ []) ≡ drop n keys ++ k ∷ []
 rest_more n keys k h = drop-append-le n keys (k ∷ []) (omega (arith, h))
 
@@ -86,7 +86,7 @@ same_runs (r ∷ rules) (suc m) keys k (less, at) none =
     runs_step r rules (keys ++ k ∷ []) (drop n keys ++ k ∷ []) n (stops_inside (is_of r) keys (k ∷ []) less) (rest_more n keys k less)
     ∙ ap (λ (t : List ℕ). n ∷ t) (same_runs rules m (drop n keys) k at none)
 
--- then the level is behind all the runs
+-- then the level is past all the runs
 pub behind_all : (rules : List DRule) (m : ℕ) (keys : List Key) (k : Key) → IsAt rules m keys → NoneFrom rules m k → IsAt rules (length rules) (keys ++ k ∷ [])
 behind_all [] m keys k at none = refl
 behind_all (r ∷ rules) zero keys k at (other, none) =

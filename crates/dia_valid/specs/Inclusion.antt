@@ -5,16 +5,16 @@ use Rattle.dia_policy.specs.declared.Unknown.{Unknown}
 use Rattle.dia_policy.specs.declared.Levels.{Levels}
 use Rattle.dia_valid.specs.Valid.{IsValidOf}
 
--- a table without where it lies in memory
+-- a table as a plain value
 pub record PlainTable : Type 0 where
   pub commands : List (List ℕ × List ℕ)
   pub avps : List (List ℕ × List ℕ)
 
--- the pair stands in the table
+-- the pair is in the table
 abbrev pub IsBeside : PlainTable → PlainDefinition → PlainDefinition → Type 0
 IsBeside table c d = Contains table.commands (c.name, d.name)
 
--- each valid message of a command that the table lists is valid under the second dictionary, as a message of a command beside it
+-- each valid message of a command that the table lists is valid under the second dictionary, as one of a command paired with it
 abbrev pub IsIncluded : Dictionary → Dictionary → Unknown → PlainTable → Type 0
 IsIncluded da db u table = (most : Levels) (bytes : List ℕ) (c : ℕ) (command : PlainDefinition) (p : List ℕ × List ℕ)
     → slice_get (definitions da) c ≡ Some command → Contains table.commands p → command.name ≡ p.0 → IsValidOf da u most bytes c

@@ -22,7 +22,7 @@ loose_start rules keys = sum (runs (fixed_rules rules) keys)
 abbrev pub met : List DRule → List Key → ℕ → DRule → ℕ
 met rules keys i rule = if is_fixed rule then slice_index (runs (fixed_rules rules) keys) i else counted rules rule (drop (loose_start rules keys) keys)
 
--- the keys end in the run of fixed rule m, and a rule behind the first is only entered by a key; or they end behind all the runs
+-- the keys end in the run of fixed rule m, where only a key enters a rule after the first; or they end after all the runs
 abbrev pub IsAt : List DRule → ℕ → List Key → Type 0
 IsAt [] m keys = m ≡ 0
 IsAt (r ∷ rules) zero keys = prefix_len (λ key. lists_key key r) keys ≡ length keys

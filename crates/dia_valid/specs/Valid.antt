@@ -54,7 +54,7 @@ Runs [] keys rest = keys ≡ rest
 Runs (rule ∷ rules) keys rest = (run : List Key) × (after : List Key) × (keys ≡ run ++ after)
     × AllByRecursion (λ key. rule.key ≡ Some key) run × InBounds rule (length run) × Runs rules after rest
 
--- behind the fixed AVPs: a loose rule's key, or one that no rule lists where there is a wildcard
+-- after the fixed AVPs: a loose rule's key, or one that no rule lists where there is a wildcard
 abbrev pub MayBeLoose : List DRule → Key → Type 0
 MayBeLoose rules key = IsTrue (is_listed (loose_rules rules) key) ⊎ ((is_listed rules key ≡ false) × IsTrue (has_wildcard rules))
 
@@ -62,7 +62,7 @@ MayBeLoose rules key = IsTrue (is_listed (loose_rules rules) key) ⊎ ((is_liste
 abbrev pub counted : List DRule → DRule → List Key → ℕ
 counted rules rule keys = count_by (λ key. if is_wildcard rule then not (is_listed rules key) else lists_key key rule) keys
 
--- the keys stand as the rules say
+-- the keys are where the rules say
 pub record Placed (rules : List DRule) (keys : List Key) : Type 0 where
   pub rest : List Key
   pub runs : Runs (fixed_rules rules) keys rest
@@ -92,7 +92,7 @@ group_at d v = option_and_then (λ e. e.group) (known d (key_of v))
 abbrev pub HasFlags : Dictionary → Unknown → Key → ℕ → Type 0
 HasFlags d u key flags = MatchOption (known d key) (IsAccepted u flags) (λ e. MHolds e.rule flags)
 
--- the bytes are AVPs that stand as the rules say, and each has P
+-- the bytes are AVPs that are where the rules say, and each has P
 abbrev pub IsLevel : (PlainAvp → Type 0) → List DRule → List ℕ → Type 0
 IsLevel P rules bytes = (avps : List PlainAvp) × SpellsAll avps bytes × Placed rules (map key_of avps) × AllByRecursion P avps
 
@@ -101,7 +101,7 @@ abbrev pub FitsBy : Dictionary → Unknown → (List DRule → List ℕ → Type
 FitsBy d u Inner v = MatchOption (known d (key_of v)) (IsAccepted u v.flags)
     (λ e. MHolds e.rule v.flags × MatchOption e.group (IsLeaf e.format v.bytes) (λ group. Inner group.rules v.bytes))
 
--- the AVP fits, with at most n levels of groups in one another (RFC 6733 section 4.4)
+-- the AVP fits, with at most n levels of nested groups (RFC 6733 section 4.4)
 abbrev pub Fits : Dictionary → Unknown → ℕ → PlainAvp → Type 0
 Fits d u zero v = FitsBy d u (λ rules bytes. ⊥) v
 Fits d u (suc n) v = FitsBy d u (IsLevel (Fits d u n)) v

@@ -21,7 +21,7 @@ no_fault bytes n Short short version len (h, is_head, long) = let says = head_sa
 no_fault bytes n Version short version len (h, is_head, long) = (version refl).1 (head_says h n bytes is_head).1
 no_fault bytes n Length short version len (h, is_head, long) = (len refl).2 (subst IsMessageLength (sym (head_says h n bytes is_head).2) long)
 
--- what is told of a fault of the header
+-- what is reported of a fault of the header
 pub told_of : {X : Type 0} (r : Result X MessageFault) (e : HeadFault) (k : MessageFault) → IsErrAnd r (λ m. m ≡ message_fault e) → r ≡ Err k → k ≡ message_fault e
 told_of (Ok x) e k h is = absurd cc
 told_of (Err m) e k h is = cc

@@ -68,7 +68,7 @@ length-vendor : (v : Option ℕ) (bytes : List ℕ) → IsVendorField v bytes �
 length-vendor None bytes h = rw h refl
 length-vendor (Some n) bytes h = rw h.width refl
 
--- a field in front of other bytes, read
+-- a field before other bytes, read
 front_field : (n x : ℕ) (bytes rest : List ℕ) → IsField n x bytes → big_from 0 n (bytes ++ rest) ≡ x
 front_field n x bytes rest f =
     big_from-number n (bytes ++ rest) (omega (arith, length-append bytes rest, f.width)) ∙ ap number (take_at bytes rest n f.width) ∙ f.value
@@ -163,7 +163,7 @@ vendor_field_at xs flags v (inl h) long =
     rw h.1 (field 4 (drop 8 xs) (omega (arith, length-drop 8 xs, room)))
 vendor_field_at xs flags v (inr h) long = rw h.1 refl
 
--- the AVP that is read stands at the front
+-- the AVP that is read is at the front
 pub begins_at : (xs : List ℕ) (code len start n : ℕ) (vendor : Option ℕ) → code ≡ big_from 0 4 xs → big_from 0 3 (drop 5 xs) ≡ len → n ≡ big_from 0 4 (drop 8 xs)
     → ((HasVendorFlag (get_or xs 4 0) × (start ≡ 12)) ⊎ ((¬ HasVendorFlag (get_or xs 4 0)) × (start ≡ 8)))
     → ((HasVendorFlag (get_or xs 4 0) × (vendor ≡ Some n)) ⊎ ((¬ HasVendorFlag (get_or xs 4 0)) × (vendor ≡ None)))

@@ -5,7 +5,7 @@ use Rattle.dia_wire.specs.declared.avp.Avp.{Avp}
 use Rattle.dia_wire.specs.declared.avp.AvpFault.{AvpFault}
 use Rattle.dia_wire.specs.Wire.{BeginsWith, BeginsWithNone, plain_avp}
 
--- what is left of the level
+-- the rest of the level
 abbrev pub level_left : Avps → List ℕ
 level_left avps = avps.level.now
 

@@ -10,7 +10,7 @@ use Rattle.dia_wire.specs.Lengths.{header_length, avp_head_length, vendor_avp_he
 
 -- ---- AVPs (RFC 6733 section 4.1)
 
--- an AVP without where its data lies in memory
+-- an AVP as a plain value
 pub record PlainAvp : Type 0 where
   pub code : ℕ
   pub flags : ℕ
@@ -32,7 +32,7 @@ HasM flags = IsBitSet flags 6
 abbrev pub Agrees : PlainAvp → Type 0
 Agrees v = HasVendorFlag v.flags ↔ IsSome v.vendor
 
--- the bytes in front of the data
+-- the bytes before the data
 abbrev pub head_length : Option ℕ → ℕ
 head_length None = avp_head_length
 head_length (Some vendor) = vendor_avp_head_length

@@ -20,7 +20,7 @@ pub const AVP_PROTECTED: u8 = 0x20;
 #[derive(Clone, Copy)]
 pub struct Avp<'a> {
     pub code: u32,
-    /// The AVP Flags: V, M and P. The other bits are kept and mean nothing.
+    /// The AVP Flags: V, M and P. The other bits are retained and mean nothing.
     pub flags: u8,
     /// The Vendor-ID, where the AVP has the field.
     pub vendor: Option<u32>,
@@ -28,7 +28,7 @@ pub struct Avp<'a> {
     pub bytes: &'a [u8],
 }
 
-/// The fields of an AVP in front of its data.
+/// The fields of an AVP before its data.
 #[derive(Clone, Copy, PartialEq, Eq)]
 pub struct AvpHead {
     pub code: u32,
@@ -41,7 +41,7 @@ pub struct AvpHead {
 /// Why no AVP could be read.
 #[derive(Clone, Copy, Debug, PartialEq, Eq, Error)]
 pub enum AvpFault {
-    /// The Length is shorter than the AVP's header, or padded longer than what is left of the level.
+    /// The Length is shorter than the AVP's header, or padded longer than the rest of the level.
     #[error("the AVP Length doesn't fit")]
     Length,
 }

@@ -3,7 +3,7 @@
 use crate::avp::{Avp, AvpFault};
 use crate::reading::next_avp;
 
-/// An iterator over the AVPs of a level (RFC 6733 section 4.1), which ends with the level or behind the first fault.
+/// An iterator over the AVPs of a level (RFC 6733 section 4.1), which ends with the level or after the first fault.
 #[derive(Clone, Copy)]
 pub struct Avps<'a> {
     level: &'a [u8],

@@ -22,7 +22,7 @@ pub const COMMAND_RETRANSMITTED: u8 = 0x10;
 /// The header of a message (RFC 6733 section 3) without its version, which is 1, and its Message Length.
 #[derive(Clone, Copy, PartialEq, Eq)]
 pub struct Header {
-    /// The Command Flags: R, P, E and T. The other bits are kept and mean nothing.
+    /// The Command Flags: R, P, E and T. The other bits are retained and mean nothing.
     pub flags: u8,
     /// The Command Code, at most 16,777,215 in a message.
     pub code: u32,
@@ -48,7 +48,7 @@ pub enum HeadFault {
     Length,
 }
 
-/// Why bytes are no single message. The faults are in the order in which they are told.
+/// Why bytes are no single message. The first fault that applies is reported.
 #[derive(Clone, Copy, Debug, PartialEq, Eq, Error)]
 pub enum MessageFault {
     /// There are fewer than 20 bytes.

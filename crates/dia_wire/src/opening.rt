@@ -16,9 +16,8 @@ use byteorder::{BigEndian, ByteOrder};
 pub(crate) struct Opening {
     pub(crate) code: u32,
     pub(crate) flags: u8,
-    /// The AVP Length.
     pub(crate) length: u32,
-    /// How many bytes stand in front of the data.
+    /// How many bytes precede the data.
     pub(crate) start: usize,
 }
 
@@ -59,7 +58,7 @@ impl Opening {
         })
     }
 
-    /// The Vendor-ID behind the first 8 bytes of an AVP, where the V flag says that it is there.
+    /// The Vendor-ID after the first 8 bytes of an AVP, where the V flag says that it is there.
     #[inline(always)]
     pub(crate) fn vendor(&self, bytes: &[u8]) -> Option<u32>
         requires { HasVendorFlag self.now.flags → vendor_avp_head_length ≤ length bytes.now }

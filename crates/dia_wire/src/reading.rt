@@ -18,14 +18,14 @@ use byteorder::{BigEndian, ByteOrder};
 /// The header and the Message Length of the first 20 bytes (RFC 6733 section 3), whatever follows them:
 /// the Message Length isn't compared with the bytes that are there. The header fits, as `put_message` asks.
 ///
-/// The first fault that stands is told: `Short`, then `Version`, then `Length`.
+/// The first fault that applies is reported: `Short`, then `Version`, then `Length`.
 pub fn read_header(bytes: &[u8]) -> Result<(Header, u32), HeadFault>
     ensures head { IfOk result (λ found. IsHead found.0 found.1 (take header_length bytes.now)) }
     ensures long { IfOk result (λ found. IsMessageLength found.1) }
     ensures bounded { IfOk result (λ found. found.1 < three_bytes) }
     ensures fits { IfOk result (λ found. found.0.code < three_bytes) }
 
-    // The faults, the first that stands.
+    // The first fault that applies.
     ensures short { (result ≡ Err HeadFault.Short) ↔ (length bytes.now < header_length) }
     ensures version { (result ≡ Err HeadFault.Version)
         ↔ ((header_length ≤ length bytes.now) × (slice_index bytes.now 0 ≢ 1)) }
@@ -54,10 +54,10 @@ pub fn read_header(bytes: &[u8]) -> Result<(Header, u32), HeadFault>
     Ok((header, length))
 }
 
-/// The header and the body of the message that these bytes are (RFC 6733 section 3): one message, and nothing behind it.
+/// The header and the body of the message that these bytes are (RFC 6733 section 3): one message, and nothing after it.
 /// The body's AVPs aren't looked at.
 ///
-/// The first fault that stands is told: `Short`, then `Version`, then `Length`, then `Truncated` or `Trailing`.
+/// The first fault that applies is reported: `Short`, then `Version`, then `Length`, then `Truncated` or `Trailing`.
 pub fn split_message(bytes: &[u8]) -> Result<(Header, &[u8]), MessageFault>
     ensures head { IfOk result
         (λ found. IsHead found.0 (length bytes.now) (take header_length bytes.now)) }
@@ -66,7 +66,7 @@ pub fn split_message(bytes: &[u8]) -> Result<(Header, &[u8]), MessageFault>
     ensures fits { IfOk result (λ found. found.0.code < three_bytes) }
     ensures body { IfOk result (λ found. found.1.now ≡ drop header_length bytes.now) }
 
-    // The faults, the first that stands.
+    // The first fault that applies.
     ensures short { (result ≡ Err MessageFault.Short) ↔ (length bytes.now < header_length) }
     ensures version { (result ≡ Err MessageFault.Version)
         ↔ ((header_length ≤ length bytes.now) × (slice_index bytes.now 0 ≢ 1)) }

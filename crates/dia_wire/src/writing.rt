@@ -151,7 +151,7 @@ fn push_vendor(out: &mut Vec<u8>, vendor: Option<u32>)
     }
 }
 
-/// Appends the zero bytes behind an AVP of this length.
+/// Appends the zero bytes after an AVP of this length.
 fn push_padding(out: &mut Vec<u8>, length: u32)
     requires { vec_len out.old + (4 - length % 4) % 4 ≤ vec_capacity out.old }
     ensures bytes { out.new.items ≡ out.old.items ++ padding length }

@@ -22,7 +22,7 @@ impl<'a> Reader<'a> {
     ghost use Rattle.dia_ccf.specs.ReaderFunctions.{Accepts, Leads, course, begins_with, left};
     ghost use Rattle.dia_ccf.specs.ReaderFunctions.{Derived, declaring};
 
-    /// A declaration, whose `%avp` stands at a place and was read.
+    /// A declaration, whose `%avp` is at the place and was read.
     pub(super) fn declaration(&mut self, at: usize) -> Result<Decl, Refusal>
         ensures read { (done : PlainSource)
             → Leads (course (done, Decl_name) self.old)
@@ -48,7 +48,7 @@ impl<'a> Reader<'a> {
         })
     }
 
-    /// The vendor, which is 0 where none stands.
+    /// The vendor, which is 0 where none is written.
     fn vendor(&mut self) -> Result<u32, Refusal>
         ensures read { (done : PlainSource) (name : List ℕ) (code : ℕ)
             → Leads (course (done, Decl_vendor name code) self.old)
@@ -90,7 +90,7 @@ impl<'a> Reader<'a> {
         }
     }
 
-    /// The list of values, which stands only behind Enumerated.
+    /// The list of values, which follows only Enumerated.
     fn values(&mut self, format: FormatName) -> Result<Option<Vec<(u32, u32)>>, Refusal>
         ensures read { (done : PlainSource) (d : PlainDecl) → d.format ≡ format → d.values ≡ None
             → Leads (course (done, Decl_values d) self.old)

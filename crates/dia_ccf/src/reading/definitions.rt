@@ -8,19 +8,19 @@ use crate::lexer::{Sign, Token};
 use crate::source::{Def, Qual, Rule};
 use dia_terms::RuleKind;
 
-/// The beginning of a definition: its place and its name.
+/// The opening of a definition: its place and its name.
 #[derive(Drop)]
 pub(super) struct Opening {
     pub(super) at: usize,
     pub(super) name: String,
 }
 
-/// What stands behind some rules of a definition.
+/// What follows some rules of a definition.
 #[derive(Drop)]
 enum Behind {
     /// One more rule.
     Rule(Rule),
-    /// The beginning of the next definition, in angle brackets.
+    /// The next definition's name, in angle brackets.
     Definition(Opening),
     /// Nothing of this definition.
     Nothing,
@@ -84,7 +84,7 @@ impl<'a> Reader<'a> {
         Ok(name)
     }
 
-    /// The definition whose beginning was read, and the beginning of the next one, where that is a name in angle brackets.
+    /// The definition whose name was read, and the next one's name, where that is in angle brackets.
     pub(super) fn definition(&mut self, opening: Opening) -> Result<(Def, Option<Opening>), Refusal>
         requires named { IsTrue (is_name (string_bytes opening.name)) }
         requires begun { From opening.at (opened (string_bytes opening.name)) self.old }
@@ -115,7 +115,7 @@ impl<'a> Reader<'a> {
         Ok((def, next))
     }
 
-    /// The rules of a definition, and the beginning of the next one, where that is a name in angle brackets.
+    /// The rules of a definition, and the next one's name, where that is in angle brackets.
     fn rules(&mut self) -> Result<(Vec<Rule>, Option<Opening>), Refusal>
         ensures read { (done : PlainSource) (name : List ℕ) (head : AnyHead)
             → Leads
@@ -150,7 +150,7 @@ impl<'a> Reader<'a> {
         }
     }
 
-    /// What stands behind the rules that were read; `only_fixed` tells whether all of them are fixed.
+    /// What follows the rules that were read; `only_fixed` is whether all of them are fixed.
     fn behind_rules(&mut self, only_fixed: bool) -> Result<Behind, Refusal>
         ensures read { (done : PlainSource) (d : PlainDef) → all_fixed d.rules ≡ only_fixed
             → Leads (course (done, Rules d) self.old) (after_rules done d) result self.new }
@@ -184,7 +184,7 @@ impl<'a> Reader<'a> {
         Ok(Behind::Nothing)
     }
 
-    /// Whether the name in angle brackets before this place begins a definition: `::=` stands ahead, or no
+    /// Whether the name in angle brackets before this place begins a definition: `::=` is ahead, or no
     /// fixed rule may come any more.
     fn is_at_definition(&self, only_fixed: bool) -> bool
         ensures { result ≡ (not only_fixed || begins_with (same_sign Assign) (left self.now)) }
@@ -192,7 +192,7 @@ impl<'a> Reader<'a> {
         !only_fixed || self.is_at(Sign::Assign)
     }
 
-    /// Goes past the `<` of a fixed rule, if one may come and it stands ahead.
+    /// Goes past the `<` of a fixed rule, if one may come and it is ahead.
     fn takes_fixed(&mut self, fixed: bool) -> bool
         ensures read { MatchBool result
             ((fixed ≡ true) × Takes (same_sign Less) self.old true self.new)
@@ -242,7 +242,7 @@ impl<'a> Reader<'a> {
         self.loose(at, Some(qual))
     }
 
-    /// A rule that is not fixed, behind its qualifier. The rule begins at the place.
+    /// A rule that is not fixed, after its qualifier. The rule begins at the place.
     fn loose(&mut self, at: usize, qual: Option<Qual>) -> Result<Rule, Refusal>
         requires { IsTrue (is_qualifier qual) }
         ensures read { (done : PlainSource) (d : PlainDef) (state : State)
@@ -291,7 +291,7 @@ impl<'a> Reader<'a> {
         Ok(Qual { min, max })
     }
 
-    /// A number, if one stands here.
+    /// A number, if one is ahead.
     fn count(&mut self) -> Result<Option<u32>, Refusal>
         ensures read { MatchBool (begins_with is_number (left self.old))
             (Accepts true false (λ token. option_map (λ n. Some n) (number_at 0 max_number token))

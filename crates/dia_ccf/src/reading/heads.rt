@@ -115,14 +115,14 @@ impl<'a> Reader<'a> {
         })
     }
 
-    /// Whether a number is to be read: one stands ahead, or a comma was read, behind which a number has to stand.
+    /// Whether a number is to be read: one is ahead, or a comma was read, which a number has to follow.
     fn wants_number(&self, comma: bool) -> bool
         ensures { result ≡ (comma || begins_with is_number (left self.now)) }
     {
         comma || self.is_at_number()
     }
 
-    /// Takes the flag and a comma behind it, where they stand ahead. Tells whether the flag was there, and whether a comma
+    /// Takes the flag and a comma after it, where they are ahead. Returns whether the flag was there, and whether a comma
     /// was the last token that was read.
     fn flag(&mut self, word: &str, comma: bool) -> (bool, bool)
         ensures read { Flags_read (map to_ascii_lowercase word.now) comma self.old result self.new }
@@ -150,7 +150,7 @@ impl<'a> Reader<'a> {
         Ok(Head::Error { pxy })
     }
 
-    /// The proxiable flag behind `ERR`.
+    /// The proxiable flag after `ERR`.
     fn error_proxy(&mut self) -> Result<Pxy, Refusal>
         ensures read { (done : PlainSource) (name : List ℕ)
             → Leads (course (done, In_head name (Error_flags false)) self.old)
@@ -171,7 +171,7 @@ impl<'a> Reader<'a> {
         Ok(Pxy::Clear)
     }
 
-    /// The proxiable flag behind its `[`.
+    /// The proxiable flag after its `[`.
     fn proxy_in_brackets(&mut self) -> Result<Pxy, Refusal>
         ensures read { (done : PlainSource) (name : List ℕ)
             → Leads (course (done, In_head name (Error_either false)) self.old)

@@ -1,4 +1,4 @@
-//! What can stand behind a token that could stand.
+//! What fits after a token that fits.
 
 ghost use Rattle.std.specs.Prelude.{◌≡◌};
 ghost use Rattle.dia_ccf.specs.LexerTokens.{shown};
@@ -11,7 +11,7 @@ use crate::lexer::{Sign, Token};
 use dia_terms::RuleKind;
 
 impl Wanted {
-    /// What can stand behind the token, where it can stand here.
+    /// What fits after the token, where it fits here.
     pub(crate) fn behind(self, token: Token<'_>) -> Wanted
         ensures { result ≡ behind self (shown token.entry) }
     {
@@ -25,7 +25,7 @@ impl Wanted {
     }
 }
 
-/// Behind the first token of an item.
+/// After the first token of an item.
 fn behind_item(token: Token<'_>) -> Wanted
     ensures { result ≡ behind_item (shown token.entry) }
 {
@@ -71,7 +71,7 @@ fn behind_in_declaration(place: InDeclaration, token: Token<'_>) -> Wanted
     Wanted::Declaration(next)
 }
 
-/// Behind a value or the `)` of a list.
+/// After a value or the `)` of a list.
 fn behind_value(token: Token<'_>) -> Wanted
     ensures { result ≡ behind_value (shown token.entry) }
 {
@@ -103,7 +103,7 @@ fn behind_in_head(place: InHead, token: Token<'_>) -> Wanted
     }
 }
 
-/// Behind a token that doesn't end the head.
+/// After a token that doesn't end the head.
 fn next_in_head(place: InHead, token: Token<'_>) -> InHead
     ensures { result ≡ next_wanted place (shown token.entry) }
 {
@@ -136,7 +136,7 @@ fn next_in_head(place: InHead, token: Token<'_>) -> InHead
     }
 }
 
-/// Behind the first word of a head.
+/// After the first word of a head.
 fn behind_first_word(token: Token<'_>) -> InHead
     ensures { result ≡ behind_first_word (shown token.entry) }
 {
@@ -151,7 +151,7 @@ fn behind_first_word(token: Token<'_>) -> InHead
     }
 }
 
-/// Behind a flag of a command, a comma or the Application-ID.
+/// After a flag of a command, a comma or the Application-ID.
 fn behind_flag(request: bool, pxy: bool, token: Token<'_>) -> InHead
     ensures { result ≡ behind_flag request pxy (shown token.entry) }
 {
@@ -201,7 +201,7 @@ fn behind_in_rules(place: InRules, token: Token<'_>) -> Wanted
     Wanted::Rules(next)
 }
 
-/// Behind the first token of a rule, or of what stands behind a definition.
+/// After the first token of a rule, or of what follows a definition.
 fn behind_rule(only_fixed: bool, token: Token<'_>) -> Wanted
     ensures { result ≡ behind_rule only_fixed (shown token.entry) }
 {
@@ -218,7 +218,7 @@ fn behind_rule(only_fixed: bool, token: Token<'_>) -> Wanted
     }
 }
 
-/// Behind the bracket that opens a rule.
+/// After the bracket that opens a rule.
 fn behind_bracket(token: Token<'_>) -> InRules
     ensures { result ≡ behind_bracket (shown token.entry) }
 {
@@ -229,7 +229,7 @@ fn behind_bracket(token: Token<'_>) -> InRules
     }
 }
 
-/// Behind the bracket that opens a rule that isn't fixed.
+/// After the bracket that opens a rule that isn't fixed.
 fn behind_loose(token: Token<'_>) -> InRules
     ensures { result ≡ behind_loose (shown token.entry) }
 {

@@ -1,4 +1,4 @@
-//! The tally of a level: how often its rules were met, in the order of the rules. One that is not told was not met.
+//! The tally of a level: how often its rules were met, in the order of the rules. A rule that isn't recorded was not met.
 
 ghost use Rattle.std.specs.Prelude.{◌≡◌, ◌≢◌, ◌<◌, ◌≤◌, ◌+◌, ◌^◌, ◌++◌, ℕ, IsTrue, IsFalse};
 ghost use Rattle.std.specs.Prelude.{Some, drop, insert, slice_get, slice_set, take, vec_len, vec_capacity};
@@ -7,7 +7,7 @@ ghost use Rattle.dia_check.specs.Tallies.{count_in, never, unmet};
 ghost use Rattle.dia_check.specs.Tallies.{AreBelow, AreRising, HasPlaceFor, IsPlaceOf, IsTold};
 ghost use Rattle.dia_check.specs.LaidOutTallies.{laid_out};
 
-/// Where a tally tells fewer rules than these, one more is told by itself, and those behind it move; from here on, one more
+/// While a tally records fewer rules than these, one more is inserted, and those after it move; from here on, one more
 /// has all the rules of the level laid out at once.
 const MANY_TOLD: usize = 128;
 
@@ -18,7 +18,7 @@ pub(crate) struct Met {
     pub(super) count: u32,
 }
 
-/// Tells the first rules, as ones that were not met: each stands at its own place then, where `told_at` looks first. There
+/// Records the first rules, as ones that were not met: each is at its own place then, where `told_at` looks first. There
 /// is room.
 #[inline(always)]
 pub(super) fn lay_out(tallies: &mut Vec<Met>, many: usize)
@@ -35,7 +35,7 @@ pub(super) fn lay_out(tallies: &mut Vec<Met>, many: usize)
     }
 }
 
-/// The place of a rule: behind the rules before it.
+/// The place of a rule: after the rules before it.
 #[inline(always)]
 fn place_of(tally: &[Met], rule: usize) -> usize
     requires { AreRising 0 tally.now }
@@ -48,8 +48,8 @@ fn place_of(tally: &[Met], rule: usize) -> usize
     }
 }
 
-/// The place of a rule in the tally that begins at a place of the list and goes to its end. A rule that isn't told there
-/// is told then, as one that was not met. There is room.
+/// The place of a rule in the tally that begins at a place of the list and goes to its end. A rule that isn't recorded
+/// there is recorded then, as one that was not met. There is room.
 #[inline(always)]
 pub(super) fn told_at(tallies: &mut Vec<Met>, base: usize, many: usize, rule: usize) -> usize
     requires { HasPlaceFor tallies.old.items (vec_capacity tallies.old) base many rule }
@@ -62,7 +62,7 @@ pub(super) fn told_at(tallies: &mut Vec<Met>, base: usize, many: usize, rule: us
     }
 }
 
-/// So it is of a rule that doesn't stand at its own place.
+/// The same for a rule that isn't at its own place.
 #[inline(never)]
 fn tell(tallies: &mut Vec<Met>, base: usize, many: usize, rule: usize) -> usize
     requires { HasPlaceFor tallies.old.items (vec_capacity tallies.old) base many rule }
@@ -82,8 +82,8 @@ fn tell(tallies: &mut Vec<Met>, base: usize, many: usize, rule: usize) -> usize
     base + place
 }
 
-/// Lays out the tally that begins at a place of the list: each of the level's rules stands at its own place then, with the
-/// count that was told. There is room. Places for the rules that were not told are made at the end; then each place is
+/// Lays out the tally that begins at a place of the list: each of the level's rules is at its own place then, with the
+/// count that was recorded. There is room. Places for the rules that were not recorded are made at the end; then each is
 /// written, the last first, so that no count is written over before it is read.
 #[inline(never)]
 fn lay_out_all(tallies: &mut Vec<Met>, base: usize, many: usize)
@@ -109,7 +109,7 @@ fn lay_out_all(tallies: &mut Vec<Met>, base: usize, many: usize)
     }
 }
 
-/// The count of a rule behind which none is told, and how many are told before it.
+/// The count of a rule after which none is recorded, and how many are recorded before it.
 #[inline(always)]
 fn last_count(tally: &[Met], rule: usize) -> (u32, usize)
     requires { AreRising 0 tally.now × AreBelow (rule + 1) tally.now }
@@ -125,7 +125,7 @@ fn last_count(tally: &[Met], rule: usize) -> (u32, usize)
     (0, tally.len())
 }
 
-/// Whether the rule is told at a place.
+/// Whether the rule is recorded at a place.
 fn is_at(tally: &[Met], place: usize, rule: usize) -> bool
     ensures yes { IsTrue result → (m : AnyMet) × (slice_get tally.now place ≡ Some m) × (m.rule ≡ rule) }
     ensures no { IsFalse result → (m : AnyMet) → slice_get tally.now place ≡ Some m → m.rule ≢ rule }
@@ -136,7 +136,7 @@ fn is_at(tally: &[Met], place: usize, rule: usize) -> bool
     }
 }
 
-/// Tells a rule at a place, as one that was not met. There is room.
+/// Records a rule at a place, as one that was not met. There is room.
 fn add(tallies: &mut Vec<Met>, place: usize, rule: u32)
     requires { (place ≤ vec_len tallies.old) × (vec_len tallies.old < vec_capacity tallies.old) }
     ensures items { tallies.new.items ≡ insert tallies.old.items place (never rule) }
@@ -149,7 +149,7 @@ fn add(tallies: &mut Vec<Met>, place: usize, rule: u32)
     }
 }
 
-/// What is told of a rule and those behind it.
+/// What is recorded of a rule and those after it.
 pub(super) fn from_rule(tally: &[Met], rule: usize) -> &[Met]
     requires { AreRising 0 tally.now }
     ensures rising { AreRising 0 result.now }
@@ -161,7 +161,7 @@ pub(super) fn from_rule(tally: &[Met], rule: usize) -> &[Met]
     &tally[place_of(tally, rule)..]
 }
 
-/// What is told at a place.
+/// What is recorded at a place.
 #[inline(always)]
 pub(super) fn read(tallies: &Vec<Met>, place: usize) -> Met
     requires { place < vec_len tallies.now }
@@ -170,7 +170,7 @@ pub(super) fn read(tallies: &Vec<Met>, place: usize) -> Met
     tallies[place]
 }
 
-/// Tells this at a place, in place of what is told there.
+/// Replaces what is recorded at a place.
 #[inline(always)]
 pub(super) fn write(tallies: &mut Vec<Met>, place: usize, met: Met)
     requires { place < vec_len tallies.old }

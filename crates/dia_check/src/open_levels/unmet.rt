@@ -26,7 +26,7 @@ pub(super) fn missing(rule: DRule) -> Wrong
     }
 }
 
-/// How far the rules are met, from the first on, where those in front of a rule are, and it was met so often now.
+/// How far the rules are met, from the first on, where those before a rule are, and it was met so often now.
 #[inline(always)]
 pub(super) fn met_up_to(rules: &[DRule], shape: &Shape, rule: usize, count: u32) -> usize
     requires shape { IsShape rules.now shape.now }
@@ -64,7 +64,7 @@ pub(super) fn first_unmet(
     }
 }
 
-/// So it is, out of the loop over AVPs, which seldom asks for it.
+/// The same, out of line: the loop over AVPs seldom asks for it.
 #[inline(never)]
 fn unmet_apart(
     rules: &[DRule],
@@ -82,7 +82,7 @@ fn unmet_apart(
     unmet_among(rules, shape, tally, from, to)
 }
 
-/// So it is, also where no rule with a least count stands between the places. It takes as many steps as rules stand there
+/// The same, also where no rule with a least count is between the places. It takes as many steps as there are rules
 /// that were met, and one more, and what `from_rule` takes.
 #[inline(always)]
 pub(super) fn unmet_among(

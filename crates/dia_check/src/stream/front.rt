@@ -1,4 +1,4 @@
-//! A few bytes, kept by value.
+//! A few bytes, held by value.
 
 ghost use Rattle.std.specs.Prelude.{◌≡◌, ◌≤◌, ◌++◌, [], length, take};
 

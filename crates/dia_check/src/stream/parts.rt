@@ -38,9 +38,9 @@ pub(crate) struct HeadPart {
 pub(crate) struct DataPart<'a> {
     pub(crate) at: usize,
     pub(crate) key: Key,
-    /// The place behind the data.
+    /// The place after the data.
     pub(crate) end: usize,
-    /// The place behind the padding.
+    /// The place after the padding.
     pub(crate) next: usize,
     /// What was seen of the data of a known AVP.
     pub(crate) leaf: Option<LeafState<'a>>,
@@ -184,7 +184,7 @@ fn read_head<'a, B: Book>(
     }
 }
 
-/// Goes on behind the head of an AVP.
+/// Goes on after the head of an AVP.
 #[inline(always)]
 fn begin_data<'a, B: Book>(
     basis: &Basis<'a, B>,
@@ -249,7 +249,7 @@ fn read_data<'a, B: Book>(
     Ok(Done { taken, next })
 }
 
-/// Judges the data of an AVP that was read wholly, and goes on behind its padding.
+/// Judges the data of an AVP that was read wholly, and goes on after its padding.
 #[inline(always)]
 fn end_data<'a, B: Book>(
     book: &'a B,

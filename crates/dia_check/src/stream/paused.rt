@@ -1,4 +1,4 @@
-//! A stream that is put aside, without the dictionary that it checks by.
+//! A paused stream, without the dictionary that it checks by.
 
 ghost use Rattle.std.specs.Prelude.{◌≡◌, ◌↔◌, ℕ, List};
 ghost use Rattle.dia_book.specs.Dictionary.{Dictionary};
@@ -22,9 +22,9 @@ use dia_policy::{Levels, Unknown};
 use dia_wire::Key;
 use std::alloc::Global;
 
-/// What a stream keeps, apart from its dictionary: it goes on where it stopped, with the same one.
+/// What a stream retains, apart from its dictionary: it goes on where it stopped, with the same one.
 ///
-/// It borrows nothing, so that a caller can keep it beside the dictionary that it belongs to.
+/// It borrows nothing, so that a caller can hold it next to the dictionary that it belongs to.
 #[derive(Drop)]
 pub struct Paused {
     alloc: Global,
@@ -67,7 +67,7 @@ pub(crate) struct PausedData {
 }
 
 impl<'a, B: Book> Stream<'a, B> {
-    /// Puts the stream aside, without its dictionary. Takes no memory.
+    /// Pauses the stream, without its dictionary. Takes no memory.
     pub fn pause(self) -> Paused
         ensures paused { (d : Dictionary) (u : AnyPolicy) (most : AnyLevels) (bytes : List ℕ)
             → StandsFor B.meaning self.entry d u most bytes → HasPaused result d u most bytes }

@@ -72,7 +72,7 @@ fn read_all<'a, B: Book>(
     Ok(false)
 }
 
-/// Reads a piece behind the header, which begins at a place and doesn't go past the end of the message.
+/// Reads a piece after the header, which begins at a place and doesn't go past the end of the message.
 pub(crate) fn read_stage<'a, B: Book>(
     basis: &Basis<'a, B>,
     stage: &mut Stage<'a>,
@@ -108,7 +108,7 @@ fn read_body<'a, B: Book>(
     }
 }
 
-/// How a stream goes on behind a refusal.
+/// How a stream goes on after a refusal.
 fn stopped<'a>(refusal: Refusal) -> Stage<'a>
     ensures { ((refusal ≡ Refusal.NoMemory) × (result ≡ Stage.NoMemory))
         ⊎ ((refusal ≢ Refusal.NoMemory) × (result ≡ Stage.Over (Err refusal))) }
@@ -141,7 +141,7 @@ pub(crate) fn read_front<'a, B: Book>(
     }
 }
 
-/// How a message goes on behind its header, where it ends at a place.
+/// How a message goes on after its header, where it ends at a place.
 fn begin<'a, B: Book>(alloc: Global, book: &'a B, header: &Header, end: usize) -> Stage<'a>
     requires { ∥ IsOfSome header.now end ∥₁ }
     ensures { HasBegun (B.meaning book.now) header.now end result }
@@ -152,7 +152,7 @@ fn begin<'a, B: Book>(alloc: Global, book: &'a B, header: &Header, end: usize) -
     }
 }
 
-/// What is to be read behind the header of a message that ends at a place.
+/// What is to be read after the header of a message that ends at a place.
 fn begin_body<'a, B: Book>(
     alloc: Global,
     book: &'a B,

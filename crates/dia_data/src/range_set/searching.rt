@@ -1,4 +1,4 @@
-//! Searches in ranges that are in order and apart.
+//! Searches in ranges that are in order and neither overlap nor touch.
 ghost use Rattle.std.specs.Prelude.{◌<◌, ◌≤◌, ◌↔◌, Any, IsTrue, ℕ, length, slice_index_or};
 ghost use Rattle.dia_data.specs.Below.{RangesBelow};
 ghost use Rattle.dia_data.specs.Leaf.{IsWithin};

@@ -26,7 +26,7 @@ position-push p xs x =
 
 -- ---- members
 
--- what stands at a place of the front
+-- what is at a place of the front
 pub slice_get-take : {X : Type 0} (xs : List X) (n j : ℕ) (x : X) → slice_get (take n xs) j ≡ Some x → (slice_get xs j ≡ Some x) × (j < n)
 slice_get-take xs zero j x e = absurd (none-some x e)
 slice_get-take [] (suc n) j x e = absurd (none-some x e)

@@ -1,4 +1,4 @@
--- What a dictionary keeps, of the lists that a plain book holds.
+-- What holds of a dictionary, said of the lists that a plain book holds.
 use Rattle.std.proofs.Common.{◌≡◌, ℕ, ◌+◌, List, ◌++◌, length, map, get_or, Some, sym, ap, ◌∙◌}
 use Rattle.std.specs.Prelude.{slice_get, All}
 use Rattle.std.specs.List.{range_with_len}

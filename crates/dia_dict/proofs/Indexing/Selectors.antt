@@ -72,7 +72,7 @@ All-image f P xs all k y short =
     subst P found.2 (All-at (λ x. P (f x)) xs k found.0 all found.1)
 
 module _ (heads : List DefHead) (commands : All IsCommandHead heads) where
-  -- two tests that agree at each header of a command
+  -- two tests that are equal at each header of a command
   pub agree : (p q : DefHead → Bool) → ((head : DefHead) → IsCommandHead head → p head ≡ q head) → map p heads ≡ map q heads
   agree p q same = map-agree p q heads (λ i head at. same head (All-at IsCommandHead heads i head commands at))
 

@@ -24,7 +24,7 @@ use Rattle.dia_dict.proofs.Indexing.Selectors.{option-prop}
 use Rattle.dia_book.proofs.Members.{at_append}
 use Rattle.dia_dict.proofs.BookRows.{held, definitions-held, length-definitions-held}
 
--- what stands at a place of a list with one more member
+-- what is at a place of a list with one more member
 at_last : {X : Type 0} (x y : X) (j : ℕ) → slice_get (x ∷ []) j ≡ Some y → (j ≡ 0) × (x ≡ y)
 at_last x y zero e = (refl, same_Some x y e)
 at_last x y (suc j) e = absurd (none-some y e)
@@ -66,7 +66,7 @@ module _ (rows : List Row) (groups commands : List Definition) (numbered : numbe
   pub length-tables : length tables ≡ length groups + length commands
   length-tables = ∥∥₁_elim slotted (hlevel props) (λ s. s.0) ∙ length-append groups commands
 
-  -- and tells the places of its rules
+  -- and has the places of its rules
   pub place-of_slot : (def : ℕ) (table : KeyTable) (d : Definition) → slice_get tables def ≡ Some table → slice_get (definitions (held rows groups commands)) def ≡ Some (plain_definition d)
       → (key : Key) (found : Option ℕ) → ((place : Key → Option ℕ) → IsIndexOf table.rows.items place → found ≡ place key) → found ≡ position (lists_key key) d.rules.items
   place-of_slot def table d at on key found told = ∥∥₁_elim slotted (option-prop _ _) (λ s.

@@ -12,7 +12,6 @@ use super::tables::{AVPS, AvpRow, COMMANDS, DefRow, GROUPS, RuleRow};
 use dia_ccf::{Decl, Def, MRule, Qual, Rule, RuleKind, Source};
 use std::alloc::{AllocError, Global};
 
-/// The source of the base dictionary.
 pub(super) fn source(alloc: Global) -> Result<Source, AllocError>
     ensures { IfOk result (λ source. plain_source source ≡ base_source) }
 {

@@ -12,7 +12,7 @@ pub(crate) struct KeyRow {
     pub place: u32,
 }
 
-/// The odd number next to 2^64 divided by the golden ratio: the products of neighbours with it lie far apart.
+/// The odd number next to 2^64 divided by the golden ratio, by which neighbours have products that lie far apart.
 const SPREAD: u64 = 11400714819323198485;
 
 /// A key's number, which no other key has.

@@ -1,4 +1,4 @@
-//! All that is wrong with a source, in the order in which it is told.
+//! All that is wrong with a source, in the order in which it is reported.
 ghost use Rattle.std.specs.Prelude.{◌≡◌, ◌++◌, ◌∷◌, [], OnOk, IfOk, map};
 ghost use Rattle.std.specs.Prelude.{if◌then◌else◌};
 ghost use Rattle.dia_ccf.specs.Plain.{plain_source};
@@ -28,7 +28,6 @@ pub(super) fn found<'a>(alloc: Global, names: &Names<'a>) -> Result<Vec<Finding<
     Ok(findings)
 }
 
-/// Adds a finding.
 fn push_finding<'a>(findings: &mut Vec<Finding<'a>>, finding: Finding<'a>) -> Result<(), AllocError>
     ensures { OnOk result (map plain_finding findings.new.items
         ≡ map plain_finding findings.old.items ++ plain_finding finding.entry ∷ []) }
@@ -37,7 +36,7 @@ fn push_finding<'a>(findings: &mut Vec<Finding<'a>>, finding: Finding<'a>) -> Re
     Ok(())
 }
 
-/// Adds a finding where it stands.
+/// Adds a finding where it applies.
 fn push_if<'a>(
     findings: &mut Vec<Finding<'a>>,
     stands: bool,

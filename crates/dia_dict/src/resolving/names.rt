@@ -110,7 +110,7 @@ impl<'a> Names<'a> {
         self.groups.contains_key(&name)
     }
 
-    /// The key that a name stands for: that of its declaration, else that of its group.
+    /// The key that a name means: that of its declaration, else that of its group.
     pub(super) fn key(&self, name: &str) -> Option<Key>
         ensures { result ≡ key_of_name (plain_source self.now.source.now) name.now }
     {

@@ -1,4 +1,4 @@
-//! Maps that keep the first value of each key.
+//! Maps that retain the first value of each key.
 ghost use Rattle.std.specs.Prelude.{◌≡◌, ◌++◌, ◌∷◌, [], OnOk, IfOk, is_some};
 ghost use Rattle.std.specs.Prelude.{if◌then◌else◌};
 ghost use Rattle.indexmap.specs.IndexMap.{get};

@@ -25,7 +25,7 @@ pub(super) fn within(a: &DRule, b: &DRule) -> bool
     b.min <= a.min && max_within(a.max, b.max)
 }
 
-/// Whether some AVP may stand by the rule.
+/// Whether some AVP may occur by the rule.
 pub(super) fn may_stand(rule: &DRule) -> bool
     ensures { result ≡ is_above_zero rule.now.max }
 {

@@ -48,7 +48,7 @@ impl<'a, A: Book, B: Book> Commands<'a, A, B> {
         ensures same { result.now ≡ self.now }
         ensures sound { IsDictionary self.now.first × IsDictionary self.now.second }
     {
-        // Asked for their law.
+        // Called for its law.
         let _ = self.sides.first();
         let _ = self.sides.second();
         &self.sides

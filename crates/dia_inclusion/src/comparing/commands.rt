@@ -70,7 +70,7 @@ fn selected_among<A: Book, B: Book>(
     Ok(all)
 }
 
-/// Whether some command of the second is selected for messages of this one, and each that may be stands beside it.
+/// Whether some command of the second is selected for messages of this one, and each that may be is paired with it.
 fn is_selected<A: Book, B: Book>(
     commands: &Commands<'_, A, B>,
     beside: &IndexSet<(&str, &str)>,
@@ -93,7 +93,7 @@ fn is_selected<A: Book, B: Book>(
     }
 }
 
-/// Whether one of these definitions of the second is selected for messages of the command, and each that may be stands beside it.
+/// Whether one of these definitions of the second is selected for messages of the command, and each that may be is its pair.
 fn has_all<A: Book, B: Book>(
     sides: &Sides<'_, A, B>,
     beside: &IndexSet<(&str, &str)>,
@@ -107,7 +107,7 @@ fn has_all<A: Book, B: Book>(
     is_served(others, &command.head) && all_beside(sides, beside, command, others)
 }
 
-/// Whether the definitions stand in the table as a pair.
+/// Whether the table has the definitions as a pair.
 fn stands_beside(beside: &IndexSet<(&str, &str)>, command: &Definition, other: &Definition) -> bool
     ensures { result ≡ list_any
         (is_pair (plain_definition command.now).name (plain_definition other.now).name)
@@ -128,7 +128,7 @@ fn is_served(others: &[&Definition], head: &DefHead) -> bool
     false
 }
 
-/// Whether each of these definitions of the second that may be selected for messages of the command stands beside it.
+/// Whether each of these definitions of the second that may be selected for messages of the command is paired with it.
 fn all_beside<A: Book, B: Book>(
     sides: &Sides<'_, A, B>,
     beside: &IndexSet<(&str, &str)>,
@@ -147,7 +147,7 @@ fn all_beside<A: Book, B: Book>(
     true
 }
 
-/// Whether a command of the second isn't selected for messages of this one, or stands beside it.
+/// Whether a command of the second isn't selected for messages of this one, or is paired with it.
 pub(super) fn is_ready<A: Book, B: Book>(
     sides: &Sides<'_, A, B>,
     beside: &IndexSet<(&str, &str)>,

@@ -1,4 +1,4 @@
-//! Keys of pairs, and what may stand without a pair.
+//! Keys of pairs, and what needs no pair.
 ghost use Rattle.std.specs.Prelude.{◌≡◌, ◌<◌, ◌||◌, not, IfOk, IfSome, OnOk, map, filter, length, slice_get, false};
 ghost use Rattle.std.specs.List.{list_all, list_any};
 ghost use Rattle.std.specs.Option.{option_map_or};
@@ -30,7 +30,7 @@ pub(super) struct Cover<'a, A: Book, B: Book> {
     table: &'a Table,
     /// The keys of the table's pairs of AVPs.
     paired: Box<IndexSet<Key>>,
-    /// The keys that the first dictionary knows and that are neither those of pairs nor need none.
+    /// The keys that the first dictionary knows and that are not covered.
     uncovered: Vec<Key>,
     /// Whether the AVPs that the second dictionary alone knows do no harm.
     harmless: bool,
@@ -108,7 +108,7 @@ impl<'a, A: Book, B: Book> Cover<'a, A, B> {
     }
 }
 
-/// The keys that the first knows and that are neither among those of pairs nor need none, in its order.
+/// The keys that the first knows and that are not covered, in its order.
 fn uncovered_keys<A: Book, B: Book>(
     alloc: Global,
     sides: &Sides<'_, A, B>,
@@ -188,7 +188,7 @@ fn pair_key<A: Book, B: Book>(
     }
 }
 
-/// Whether each AVP of this key that is valid in the first is one of the unknown ones that are kept in the second.
+/// Whether each AVP of this key that is valid in the first is one of the unknown ones that are accepted in the second.
 fn is_alone<A: Book, B: Book>(sides: &Sides<'_, A, B>, key: Key) -> bool
     ensures { result ≡ is_alone sides.now key }
 {

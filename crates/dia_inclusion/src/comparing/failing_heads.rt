@@ -42,7 +42,6 @@ pub(super) fn push_unless(
     Ok(())
 }
 
-/// Adds what fails, if something does.
 pub(super) fn push_found(all: &mut Vec<Failing>, found: Option<Failing>) -> Result<(), AllocError>
     ensures { OnOk result (all.new.items ≡ all.old.items ++ option_to_list found) }
 {
@@ -69,7 +68,7 @@ pub(super) fn name_failings(
     Ok(all)
 }
 
-/// Where the declaration of the second doesn't take what that of the first sends.
+/// Where the declaration of the second doesn't accept what that of the first sends.
 pub(super) fn declaration_failings<A: Book, B: Book>(
     alloc: Global,
     a: &A,
@@ -93,7 +92,7 @@ pub(super) fn declaration_failings<A: Book, B: Book>(
     Ok(all)
 }
 
-/// Where two commands can't stand for each other.
+/// Where two commands can't correspond to each other.
 pub(super) fn head_failings<A: Book, B: Book>(
     alloc: Global,
     cover: &Cover<'_, A, B>,
@@ -142,7 +141,7 @@ fn is_served<B: Book>(book: &B, head: &DefHead) -> bool
     false
 }
 
-/// The commands of the second that may be selected for messages of a command and don't stand beside it in the table.
+/// The commands of the second that may be selected for messages of a command and aren't paired with it in the table.
 fn commands_apart<A: Book, B: Book>(
     alloc: Global,
     cover: &Cover<'_, A, B>,

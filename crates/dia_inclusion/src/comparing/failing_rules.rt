@@ -22,13 +22,13 @@ pub(super) enum RuleTest {
     Fixed,
     /// N2: whether the counts of a rule of `a` are within those of the same key in `b`.
     Counts,
-    /// N3: whether `b` lists the key of a rule of `a` that may stand, or takes it by a wildcard.
+    /// N3: whether `b` lists the key of a rule of `a` that may occur, or accepts it by a wildcard.
     Unlisted { wild: bool },
-    /// N4: whether the key of a rule of `a` that may stand is covered.
+    /// N4: whether the key of a rule of `a` that may occur is covered.
     Uncovered,
     /// N5: whether of the key of a rule of `b` that `a` doesn't list enough and not too many come by the wildcard of `a`.
     Own { wildcard: Option<(usize, DRule)> },
-    /// N7: whether `b` lists the key of a rule of `a` that may stand. The wildcard of `b`, at this place, counts it otherwise.
+    /// N7: whether `b` lists the key of a rule of `a` that may occur. The wildcard of `b`, at this place, counts it otherwise.
     Other { wildcard: usize },
     /// N8: whether `a` lists the key of a rule of `b`. The wildcard of `b`, at this place, doesn't count it otherwise.
     Listed { wildcard: usize },
@@ -184,7 +184,7 @@ fn fails_own_key<A: Book, B: Book>(
     }
 }
 
-/// Whether a wildcard that may bring a key brings more than the rule of the key takes.
+/// Whether a wildcard that may bring a key brings more than the rule of the key allows.
 fn fails_crowded(
     comes: bool,
     wildcard: Option<(usize, DRule)>,

@@ -28,7 +28,7 @@ pub(super) fn same_code_and_class(a: &DefHead, b: &DefHead) -> bool
     }
 }
 
-/// Whether messages of the first command are selected for the second, where nothing is for them alone.
+/// Whether messages of the first command are selected for the second, where no command is for them alone.
 pub(super) fn serves(a: &DefHead, b: &DefHead) -> bool
     ensures { result ≡ serves a.now b.now }
 {

@@ -37,7 +37,7 @@ fn is_common_within<B: Book>(rule: &DRule, b: &Rules<'_, B>) -> bool
     }
 }
 
-/// Whether each key that may stand under `a` may stand under `b`, by a rule or the wildcard.
+/// Whether each key that may occur under `a` may occur under `b`, by a rule or the wildcard.
 pub(super) fn let_in<A: Book, B: Book>(a: &Rules<'_, A>, b: &Rules<'_, B>) -> bool
     ensures { result ≡ list_all (let_in_rule b.now (has_wildcard b.now)) a.now }
 {
@@ -59,7 +59,7 @@ pub(super) fn is_let_in<B: Book>(rule: &DRule, b: &Rules<'_, B>, wild: bool) -> 
     }
 }
 
-/// Whether each key that may stand by a rule is covered.
+/// Whether each key that may occur by a rule is covered.
 pub(super) fn all_covered<A: Book, B: Book>(a: &Rules<'_, A>, cover: &Cover<'_, A, B>) -> bool
     ensures { result ≡ list_all (covered_rule (is_covered cover.now)) a.now }
 {
@@ -80,7 +80,7 @@ pub(super) fn rule_is_covered<A: Book, B: Book>(rule: &DRule, cover: &Cover<'_, 
     }
 }
 
-/// Whether each key that `b` alone lists may be absent under `b`, and stand as often as the wildcard of `a` may let it in.
+/// Whether each key that `b` alone lists may be absent under `b`, and occur as often as the wildcard of `a` may let it in.
 pub(super) fn own_fit<A: Book, B: Book>(
     a: &Rules<'_, A>,
     b: &Rules<'_, B>,

@@ -41,7 +41,7 @@ impl<'a, B: Book> Rules<'a, B> {
     pub fn place(&self, key: Key) -> Option<usize>
         ensures { result ≡ place_of_key self.now key }
     {
-        // Opened, for what the definition's number keeps.
+        // Opened, for what is known of the definition's number.
         let _ = self.list();
         match self.book.slot(self.def, key) {
             Slot::Fixed(index) => Some(index),

@@ -10,7 +10,7 @@ use dia_book::{Book, DefId, Key};
 use dia_policy::Unknown;
 use std::marker::Model;
 
-/// Two dictionaries, and whether AVPs that they don't know are kept.
+/// Two dictionaries, and whether AVPs that they don't know are accepted.
 #[derive(Drop)]
 pub(crate) struct Sides<'a, A: Book, B: Book> {
     pub first: &'a A,
@@ -52,7 +52,7 @@ impl<'a, A: Book, B: Book> Sides<'a, A, B> {
         self.second
     }
 
-    /// Whether AVPs that they don't know are kept.
+    /// Whether AVPs that they don't know are accepted.
     pub fn keeps(&self) -> bool
         ensures { result ≡ is_kept self.now.unknown }
     {

@@ -19,7 +19,7 @@ pub(super) fn wildcard_kept<A: Book, B: Book>(a: &Rules<'_, A>, b: &Rules<'_, B>
     !a.has_wildcard() || b.has_wildcard()
 }
 
-/// Whether the greatest count of the wildcard of `b` is kept.
+/// Whether the greatest count of the wildcard of `b` can't be exceeded.
 pub(super) fn max_kept<A: Book, B: Book>(a: &Rules<'_, A>, b: &Rules<'_, B>) -> bool
     ensures { result ≡ option_map_or (λ w. bounded_wildcard a.now b.now w.max)
         (wildcard_of b.now) true }
@@ -39,7 +39,7 @@ fn is_bounded<A: Book, B: Book>(a: &Rules<'_, A>, b: &Rules<'_, B>, max: Option<
     }
 }
 
-/// Whether each key that may stand by a rule of `a` is listed in `b`.
+/// Whether each key that may occur by a rule of `a` is listed in `b`.
 fn all_listed<A: Book, B: Book>(a: &Rules<'_, A>, b: &Rules<'_, B>) -> bool
     ensures { result ≡ list_all (listed_rule b.now) a.now }
 {
@@ -60,7 +60,7 @@ pub(super) fn is_listed<B: Book>(rule: &DRule, b: &Rules<'_, B>) -> bool
     }
 }
 
-/// Whether the least count of the wildcard of `b` is kept.
+/// Whether the least count of the wildcard of `b` is met.
 pub(super) fn min_kept<A: Book, B: Book>(a: &Rules<'_, A>, b: &Rules<'_, B>) -> bool
     ensures { result ≡ option_map_or (λ w. required_wildcard a.now b.now w.min)
         (wildcard_of b.now) true }

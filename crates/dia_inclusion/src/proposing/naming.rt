@@ -60,7 +60,7 @@ impl NamedCommands {
         ensures refusal { IfErr result
             (IsRefusal commands.now.first (map (λ n. string_bytes n) names.now)) }
     {
-        // Asked for its law: both dictionaries are sound.
+        // Called for its law: both dictionaries are sound.
         let _ = commands.sides();
         for name in names {
             let text = name.as_str();

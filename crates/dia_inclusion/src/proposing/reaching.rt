@@ -18,12 +18,12 @@ use std::alloc::{AllocError, Global};
 use std::collections::HashSet;
 use std::mem;
 
-/// The AVPs that a proposal has come to, by their keys, and those of them whose groups are still to be gone through.
+/// The AVPs that a proposal has reached, by their keys, and those of them whose groups are still to be gone through.
 #[derive(Drop)]
 pub(crate) struct Reached {
     keys: HashSet<Key>,
     waiting: Vec<Key>,
-    /// Among these are all keys that both dictionaries know and that it has not come to.
+    /// Among these are all keys that both dictionaries know and that were not reached.
     rest: Vec<Key>,
 }
 
@@ -45,14 +45,14 @@ impl Reached {
         })
     }
 
-    /// Whether it has come to the AVP with this key.
+    /// Whether the AVP with this key was reached.
     pub(crate) fn contains(&self, key: Key) -> bool
         ensures { result ≡ has self.now key }
     {
         self.keys.contains(&key)
     }
 
-    /// Comes to the AVP with this key.
+    /// Reaches the AVP with this key.
     fn insert(&mut self, key: Key) -> Result<(), AllocError>
         ensures { OnOk result (Inserts key self.old self.new) }
     {
@@ -62,7 +62,7 @@ impl Reached {
         Ok(())
     }
 
-    /// Comes to the AVP with this key, if both dictionaries know it.
+    /// Reaches the AVP with this key, if both dictionaries know it.
     fn come_to<A: Book, B: Book>(
         &mut self,
         sides: &Sides<'_, A, B>,
@@ -76,7 +76,7 @@ impl Reached {
         Ok(())
     }
 
-    /// Comes to the AVP that a rule lists, if the rule lets it in.
+    /// Reaches the AVP that a rule lists, if the rule lets it in.
     fn come_to_allowed<A: Book, B: Book>(
         &mut self,
         sides: &Sides<'_, A, B>,
@@ -90,7 +90,7 @@ impl Reached {
         }
     }
 
-    /// Comes to the AVPs that the rules list and let in.
+    /// Reaches the AVPs that the rules list and let in.
     fn come_to_listed<A: Book, B: Book>(
         &mut self,
         sides: &Sides<'_, A, B>,
@@ -104,7 +104,7 @@ impl Reached {
         Ok(())
     }
 
-    /// Comes to the AVP with this key, if a definition of the first does not list it, and else leaves it among the rest.
+    /// Reaches the AVP with this key, if a definition of the first does not list it, and else leaves it among the rest.
     fn come_to_or_leave<A: Book, B: Book>(
         &mut self,
         sides: &Sides<'_, A, B>,
@@ -121,7 +121,7 @@ impl Reached {
         Ok(())
     }
 
-    /// Comes to the AVPs that a definition of the first does not list. The rest is then no longer than its rules.
+    /// Reaches the AVPs that a definition of the first does not list. The rest is then no longer than its rules.
     fn come_to_unlisted<A: Book, B: Book>(
         &mut self,
         alloc: Global,
@@ -139,7 +139,7 @@ impl Reached {
         Ok(())
     }
 
-    /// Comes to the AVPs that a definition of the first lets in.
+    /// Reaches the AVPs that a definition of the first lets in.
     pub(crate) fn come_to_admitted<A: Book, B: Book>(
         &mut self,
         alloc: Global,
@@ -157,7 +157,7 @@ impl Reached {
         Ok(())
     }
 
-    /// Comes to the AVPs that are let in by the groups that wait, and by those that then wait.
+    /// Reaches the AVPs that are let in by the groups that wait, and by those that then wait.
     pub(crate) fn follow<A: Book, B: Book>(
         &mut self,
         alloc: Global,

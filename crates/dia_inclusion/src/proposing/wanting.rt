@@ -1,4 +1,4 @@
-//! The definitions of the second dictionary that stand beside a command of the first.
+//! The definitions of the second dictionary that are paired with a command of the first.
 ghost use Rattle.std.specs.Prelude.{OnOk, option_to_list};
 ghost use Rattle.std.specs.List.{filter_map};
 ghost use Rattle.dia_book.specs.Dictionary.{IsCommandHead, plain_definition};
@@ -10,7 +10,7 @@ use dia_book::{Book, Definition};
 use dia_tables::push_pair;
 use std::alloc::{AllocError, Global};
 
-/// Adds the pairs of a command of the first with what stands beside it: the definitions of the second that may be selected for
+/// Adds the pairs of a command of the first: with the definitions of the second that may be selected for
 /// its messages, in the second's order, or a definition of its own name where there is none.
 pub(crate) fn push_pairs<A: Book, B: Book>(
     alloc: Global,

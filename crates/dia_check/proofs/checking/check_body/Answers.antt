@@ -27,7 +27,7 @@ slice_bounds-body-count g c = ∥∥₁_elim c.requires le_prop (λ x. let (good
 pub slice_bounds-body-start : goal.slice_bounds-body-start
 slice_bounds-body-start g c = ∥∥₁_elim c.requires le_prop (λ x. let (good, is, sized, few) = x in sized.long)
 
--- the body, behind the header
+-- the body, after the header
 lies_behind : (bytes : List ℕ) → 20 ≤ length bytes → LiesAt bytes 20 (take (length bytes - 20) (drop 20 bytes))
 lies_behind bytes long = subst (LiesAt bytes 20) (sym (take_rest bytes 20)) (lies_whole bytes 20 long)
 

@@ -58,7 +58,7 @@ fn lacks_group(names: &Names<'_>, decl: &Decl) -> bool
     is_grouped(decl.format) && !names.is_group(&decl.name)
 }
 
-/// Adds the groups whose declaration does not go with them.
+/// Adds the groups that conflict with their declaration.
 fn push_mismatches<'a>(findings: &mut Vec<Finding<'a>>, names: &Names<'a>) -> Result<(), AllocError>
     ensures { OnOk result (map plain_finding findings.new.items ≡ map plain_finding findings.old.items
         ++ header_mismatches (plain_source names.now.source.now)) }
@@ -70,7 +70,7 @@ fn push_mismatches<'a>(findings: &mut Vec<Finding<'a>>, names: &Names<'a>) -> Re
     Ok(())
 }
 
-/// Adds a group, if its declaration does not go with it.
+/// Adds a group, if it conflicts with its declaration.
 fn push_mismatch<'a>(
     findings: &mut Vec<Finding<'a>>,
     names: &Names<'_>,
@@ -87,7 +87,7 @@ fn push_mismatch<'a>(
     }
 }
 
-/// The finding that a group and its declaration do not go together.
+/// The finding that a group conflicts with its declaration.
 fn mismatch<'a>(names: &Names<'_>, group: PlacedDef<'a>) -> Finding<'a>
     ensures { plain_finding result
         ≡ mismatch_of (plain_source names.now.source.now) (placed_def group.entry) }

@@ -1,4 +1,4 @@
-//! Names that stand again.
+//! Names that occur again.
 ghost use Rattle.std.specs.Prelude.{◌≡◌, ◌++◌, [], OnOk, map};
 ghost use Rattle.dia_ccf.specs.Plain.{plain_source};
 ghost use Rattle.dia_terms.specs.Names.{same_bytes};
@@ -13,7 +13,7 @@ use crate::resolving::parts::Named;
 use dia_ccf::Source;
 use std::alloc::{AllocError, Global};
 
-/// Adds the names that stand again among declarations, among groups and among commands.
+/// Adds the names that occur again among declarations, among groups and among commands.
 pub(super) fn push_names<'a>(
     alloc: Global,
     findings: &mut Vec<Finding<'a>>,

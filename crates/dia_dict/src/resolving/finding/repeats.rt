@@ -13,7 +13,7 @@ use indexmap::IndexMap;
 use std::alloc::{AllocError, Global};
 use std::hash::Hash;
 
-/// A part, what it is compared by, and what is told of it where one before it is equal.
+/// A part, what it is compared by, and what is reported of it where one before it is equal.
 #[derive(Clone, Copy)]
 pub(super) struct Keyed<'a, T> {
     pub part: Part,
@@ -21,7 +21,7 @@ pub(super) struct Keyed<'a, T> {
     pub told: Told<'a>,
 }
 
-/// Adds what is told of the items that are equal to one before them.
+/// Adds what is reported of the items that are equal to one before them.
 pub(super) fn push_repeats<'a, T: Eq + Hash + Copy>(
     alloc: Global,
     findings: &mut Vec<Finding<'a>>,

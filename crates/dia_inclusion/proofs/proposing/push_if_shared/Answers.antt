@@ -13,7 +13,7 @@ use Rattle.dia_inclusion.specs.NamedCommands.{shared_pair}
 use Rattle.dia_inclusion.specs.ReachedKeys.{has}
 use Rattle.dia_inclusion.proofs.proposing.push_if_shared.Goals as goal
 
--- the pair of an entry, by whether it has come to the entry's key and what the second knows by that
+-- the pair of an entry, by whether the entry's key was reached and what the second knows by that
 pair_of : (db : Dictionary) (r : Reached) (e : DictEntry) (key : Key) (b : Bool) (o : Option DictEntry) → key ≡ e.key → b ≡ has r key → known db key ≡ o
     → shared_pair db r e ≡ (if b then option_map (λ (f : DictEntry). (e.name, f.name)) o else None)
 pair_of db r e key b o same there at =

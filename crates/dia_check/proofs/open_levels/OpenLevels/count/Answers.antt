@@ -19,7 +19,7 @@ use Rattle.dia_check.proofs.open_levels.OpenLevels.count.Goals as goal
 abbrev no_rule : DRule
 no_rule = record { kind = Fixed; key = None; min = 0; max = None }
 
--- what is read at the place is what is told of the rule
+-- what is read at the place is what is recorded of the rule
 is_told : (old new : List Met) (base many rule place : ℕ) (met : Met) (t : IsTold old new base many rule place) → slice_get new place ≡ Some met
     → (slice_get (drop base new) t.behind ≡ Some met) × (met.rule ≡ rule) × (count_in (drop base new) rule ≡ met.count)
 is_told old new base many rule place met t read =

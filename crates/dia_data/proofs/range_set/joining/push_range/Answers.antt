@@ -5,7 +5,7 @@ use Rattle.dia_data.specs.Ranges.{AreApart, covers}
 use Rattle.dia_data.proofs.RangeSets.{AreApart-grown, AreApart-more, later_grown, any_grown}
 use Rattle.dia_data.proofs.range_set.joining.push_range.Goals as goal
 
--- the range that was the last, and what stands in its place
+-- the range that was the last, and what replaces it
 old_items : (c : goal.In_ok-push-in-Some) → c.args.ranges.now.items ≡ c.pop.new.self.items ++ (c.in-Some.first, c.in-Some.last) ∷ []
 old_items c = c.in-Some.ensures.items
 
