@@ -1,4 +1,4 @@
--- What is kept of the members of a list.
+-- What holds of the members of a list under its operations.
 use Rattle.std.proofs.Common.{◌≡◌, false, ℕ, ◌+◌, ◌<◌, get_or, List, [], ◌∷◌, ◌++◌, length, map, take, Option, Some, None, Result, Ok, Err, sym, ap, subst, ◌∙◌, append_assoc}
 use Rattle.std.specs.Prelude.{◌↔◌, All, Contains, IfOk, IsSome, IsTrue, slice_get}
 use Rattle.std.specs.List.{filter_map, flat_map}
