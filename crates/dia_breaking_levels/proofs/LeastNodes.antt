@@ -80,7 +80,7 @@ lesser_weight x y = by (nat_lt (weight y) (weight x)) refl
     by true e = let lt = ltb-true (weight y) (weight x) e in omega (arith, lt)
     by false e = let le = ltb-false (weight y) (weight x) e in omega (arith, le)
 
--- an offer that is put in front of another of more weight
+-- an offer that is put before another of more weight
 lesser_second : (x y offer : Offer) → lesser x offer ≡ offer → weight offer < weight x → weight x ≤ weight y → lesser y offer ≡ offer
 lesser_second x y offer is lt le = by (nat_lt (weight offer) (weight y)) refl
   where

@@ -10,12 +10,12 @@ pub fn definitions_are_sound()
     ensures { DefinitionsAreSound }
 {}
 
-/// AVPs stand as rules say just where they come as often as these say, and in the order of the fixed ones.
+/// AVPs are as rules say just where they come as often as these say, and in the order of the fixed ones.
 pub fn placed_is_in_place()
     ensures { PlacedIsInPlace }
 {}
 
-/// AVPs that don't stand as rules say break them in one of six ways.
+/// AVPs that aren't as rules say break them in one of six ways.
 pub fn breaches_are_all()
     ensures either { PlacedOrBreach }
     ensures never_both { BreachIsUnplaced }
@@ -27,12 +27,12 @@ pub fn plan_is_least()
     ensures least { PlanIsLeast }
 {}
 
-/// The least level in which a key stands once or more is computed from the rules, and the cheapest AVP by the wildcard.
+/// The least level in which a key occurs once or more is computed from the rules, and the cheapest AVP by the wildcard.
 pub fn once_is_least()
     ensures { OnceIsLeast }
 {}
 
-/// The lines of two definitions are one list: their order, their lengths, and which key each is told with.
+/// The lines of two definitions are unique: their order, their lengths, and which key each reports.
 pub fn lines_are_one()
     ensures { LinesAreOne }
 {}

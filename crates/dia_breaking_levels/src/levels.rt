@@ -61,7 +61,7 @@ pub fn level_lines<A: Book, B: Book, C: Costs>(
     lines_at(alloc, &level)
 }
 
-/// The lines of counts, and behind them those of the order.
+/// The lines of counts, and after them those of the order.
 fn lines_at<A: Book, B: Book, C: Costs>(
     alloc: Global,
     level: &Level<'_, A, B, C>,
