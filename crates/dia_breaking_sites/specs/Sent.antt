@@ -19,17 +19,17 @@ own_policy sends.Any = Kept
 own_policy sends.Known = Refused
 own_policy sends.Listed = Refused
 
--- each AVP stands by a rule of its own, and none through the wildcard
+-- each AVP comes by a rule of its own, and none through the wildcard
 abbrev pub AreListed : List DRule → List Key → Type 0
 AreListed rules keys = AllByRecursion (λ key. IsTrue (is_listed rules key)) keys
 
--- the keys of a level stand as the sender's side sends them
+-- the keys of a level are as the sender's side sends them
 abbrev pub StandAsSent : Sends → List DRule → List Key → Type 0
 StandAsSent sends.Any rules keys = Placed rules keys
 StandAsSent sends.Known rules keys = Placed rules keys
 StandAsSent sends.Listed rules keys = Placed rules keys × AreListed rules keys
 
--- the bytes are AVPs that stand so, and each has P
+-- the bytes are AVPs that are sent so, and each has P
 abbrev pub IsSentLevel : Sends → (PlainAvp → Type 0) → List DRule → List ℕ → Type 0
 IsSentLevel who P rules bytes = (avps : List PlainAvp) × SpellsAll avps bytes × StandAsSent who rules (map key_of avps) × AllByRecursion P avps
 
