@@ -100,8 +100,8 @@ fn unlisted(low: u32, high: u32, ranges: &[(u32, u32)]) -> Option<u32>
     }
 }
 
-/// The first number of the range whose 4 bytes the format doesn't accept. Of 256 numbers one after the other the last byte
-/// of one is ff, which stands in no text, so no more are looked at where the format accepts no other data than text.
+/// The first number of the range whose 4 bytes the format doesn't accept. Of 256 numbers in a row the last byte of one is ff,
+/// which no text contains, so no more are looked at where the format accepts no other data than text.
 fn first_refused_of(low: u32, high: u32, format: &Format) -> Option<u32>
     ensures some { IfSome result (λ n. IsWithin n (low, high)
         × (¬ IsLeaf (plain_format format.now) (four_bytes n))) }
