@@ -23,7 +23,7 @@ pub fn unknown_is_attained()
     ensures { UnknownIsAttained }
 {}
 
-/// AVPs that are sent, and stand as the rules of a group say, make a group that is sent.
+/// AVPs that are sent, and are as the rules of a group say, make a group that is sent.
 pub fn group_is_attained()
     ensures { GroupIsAttained }
 {}
@@ -44,8 +44,8 @@ pub fn least_avps_are_one()
     ensures bytes { LeastAvpsAreBytes }
 {}
 
-/// The bytes of a shortest AVP spell one AVP of its key, which has the length that is computed, where a message has room for it. Its
-/// data spell AVPs, where it is a group.
+/// The bytes of a shortest AVP spell one AVP of its key, which has the length that is computed, where a message has room for it.
+/// Its data spell AVPs, where it is a group.
 pub fn least_avps_are_spelled()
     ensures one { LeastAvpsAreSpelled }
     ensures level { LeastLevelsAreSpelled }

@@ -62,7 +62,7 @@ fn is_short<B: Book>(book: &B, least: &Least, key: Key) -> bool
     }
 }
 
-/// Adds the first of these AVPs, but for the AVPs within it: they wait, and behind them the others.
+/// Adds the first of these AVPs, but for the AVPs within it: they wait, before the others.
 fn push_next<B: Book>(
     alloc: Global,
     out: &mut Vec<u8>,
@@ -185,7 +185,7 @@ fn push_vendor(out: &mut Vec<u8>, vendor: u32) -> Result<(), AllocError>
     }
 }
 
-/// Adds the zero bytes behind data of this length.
+/// Adds the zero bytes after data of this length.
 fn push_padding(out: &mut Vec<u8>, length: usize) -> Result<(), AllocError>
     ensures { OnOk result (out.new.items ≡ out.old.items ++ padding length) }
 {
