@@ -19,7 +19,7 @@ enum Event {
 #[derive(Drop)]
 struct Search<'a> {
     ways: Ways<'a>,
-    /// The length of the shortest way that is known to each AVP, and the group in whose level the AVP stands then.
+    /// The length of the shortest way that is known to each AVP, and the group whose level then holds the AVP.
     nearest: Vec<Option<(u64, Option<usize>)>>,
     /// The levels that were come to, with their ways. Their `outer` says nothing yet.
     steps: Vec<Step>,
@@ -169,7 +169,7 @@ impl<'a> Search<'a> {
         is_nearer
     }
 
-    /// Comes to the AVPs that come through the wildcard of a level. `length` is what a message takes beside one.
+    /// Comes to the AVPs that come through the wildcard of a level. `length` is what a message takes besides one.
     fn open(&mut self, alloc: Global, group: Option<usize>, length: u64) -> Result<(), AllocError> {
         if self.rest.is_empty() {
             return Ok(());
