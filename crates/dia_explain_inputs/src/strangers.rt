@@ -6,7 +6,7 @@ use dia_explain_places::{InputTexts, NamedText, Note, line_from};
 use dia_report::BothBooks;
 use dia_tables::words_of;
 
-/// The most names that are told of a side.
+/// The most names that are reported for a side.
 const MOST: usize = 50;
 
 /// A name of a pair that the dictionary of its side doesn't have, and its place.
@@ -17,14 +17,14 @@ struct Stranger<'a> {
     at: usize,
 }
 
-/// How many names the dictionary doesn't have, and whether one that is told is like no other.
+/// How many names the dictionary doesn't have, and whether a reported one is like no other.
 #[derive(Clone, Copy)]
 struct Strangers {
     count: usize,
     is_odd: bool,
 }
 
-/// Adds the names of a table that its dictionaries don't have, and what to do about those that are like no other.
+/// Adds the names of a table that its dictionaries don't have, and the hint about those that are like no other.
 pub fn push_strangers(note: &mut Note, texts: &InputTexts<'_>, books: &BothBooks) {
     let table = &texts.table;
     let of_first = push_side_of(note, table, true, &first_of(texts, books));
@@ -86,7 +86,7 @@ fn push_side(
     strangers
 }
 
-/// Adds a name behind others, if there aren't too many. Answers what they are with it.
+/// Adds a name after others, if there aren't too many. Answers what they are with it.
 fn push_next(
     note: &mut Note,
     table: &NamedText<'_>,
