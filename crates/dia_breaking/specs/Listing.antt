@@ -43,7 +43,7 @@ pub record Told : Type 0 where
   pub cause : Cause
   pub length : ℕ
 
--- which data break is left apart, and so it is whether those of a shortest group do that B reads as a leaf
+-- without the data that break, and without whether the data of a shortest group break that B reads as a leaf
 abbrev pub subject : Cause → Cause
 subject (causes.Format key found) = causes.Format key None
 subject (causes.LevelAsLeaf key) = causes.Format key None
@@ -52,7 +52,7 @@ subject cause = cause
 abbrev pub subject_with : Cause × ℕ → Cause × ℕ
 subject_with found = (subject found.0, found.1)
 
--- what is known of the line is left apart too
+-- also without the status of the line
 abbrev pub tells : Line → Told
 tells line = record { site = line.site; cause = subject line.cause; length = line.length }
 
@@ -60,19 +60,19 @@ tells line = record { site = line.site; cause = subject line.cause; length = lin
 abbrev pub AddsTold : List Line → List Line → List Told → Type 0
 AddsTold old new told = map tells new ≡ map tells old ++ told
 
--- a line of which nothing is known
+-- an unchecked line
 abbrev pub new_line : ℕ → Cause → ℕ → Line
 new_line site cause size = record { site = site; cause = cause; length = size; standing = Unchecked }
 
--- the same line, of which nothing is known
+-- the same line, unchecked
 abbrev pub unchecked : Line → Line
 unchecked line = record line { standing = Unchecked }
 
--- nothing is known of these lines
+-- these lines are unchecked
 abbrev pub AreUnchecked : List Line → Type 0
 AreUnchecked lines = All (λ line. line.standing ≡ Unchecked) lines
 
--- where nothing is known of the old ones, it isn't of the new ones
+-- where the old ones are unchecked, the new ones are
 abbrev pub KeepsUnchecked : List Line → List Line → Type 0
 KeepsUnchecked old new = AreUnchecked old → AreUnchecked new
 
@@ -216,12 +216,12 @@ IsListing db basis sites told = IsListingOf lines_of db basis sites told
 abbrev pub AreMeanings : Dictionary → Basis → List Site → List Told → Type 0
 AreMeanings db basis sites told = IsListingOf meanings_of db basis sites told
 
--- from one basis there is one list of sites, and one of lines
+-- a basis determines the sites and the lines
 abbrev pub ListingsAreOne : Type 0
 ListingsAreOne = (db : Dictionary) (basis : Basis) (sites others : List Site) (told lines : List Told) → IsListing db basis sites told → IsListing db basis others lines
     → (sites ≡ others) × (told ≡ lines)
 
--- ---- of what is known of two dictionaries
+-- ---- by two dictionaries
 
 abbrev pub lines_in : Outlook → List LevelLine
 lines_in outlook = option_map_or (λ inner. inner.lines.items) outlook.inner []

@@ -18,7 +18,7 @@ use Rattle.dia_breaking.specs.Sides.{Sides}
 use Rattle.dia_breaking.specs.Tried.{IsLeftOpenBy, IsRefusedBy}
 
 -- AVPs of the key break so, and have this length at least, where a rule lists them; where A sees levels in them and the data fit,
--- B takes any data, or each level is an Address of B's; and it is known whether they are read as another format
+-- B accepts any data, or each level is an Address of B's; and it is known whether they are read as another format
 pub record IsOwnBreaks (s : Sides) (length : Key → ℕ) (own : OwnBreaks) : Type 0 where
   pub least : own.least ≡ length own.key
   pub head : IsHeadBreak s.sender s.receiver s.sends s.unknown own.key own.breaks.head

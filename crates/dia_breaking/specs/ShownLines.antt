@@ -96,7 +96,7 @@ EachIsShown s k c sites lines = All (λ line. line.standing ≡ Confirmed → Is
 
 -- ---- keys of lines
 
--- fields can say the key of the AVP that the line reports
+-- the key of the AVP that the line reports fits the fields of an AVP
 abbrev pub HasSpellableKey : Cause → Type 0
 HasSpellableKey cause = IfSome (flags_key cause) IsSpellable × IfSome (data_key cause) IsSpellable
 

@@ -1,4 +1,4 @@
--- The one list of lines that a command has.
+-- A command has one list of lines.
 use Rattle.std.specs.Prelude.{◌≡◌, ℕ, ◌^◌, ◌<◌, nat_le, Bool, true, false, List, [], ◌∷◌, length, map, Option, MatchOption, All, IfSome}
 use Rattle.dia_wire.specs.declared.Key.{Key}
 use Rattle.dia_book.specs.declared.DRule.{DRule}
@@ -146,7 +146,7 @@ abbrev pub TheLinesAreAll : Type 0
 TheLinesAreAll = (s : Sides) (c : ℕ) (sites : List Site) (lines : List Line) → IsDictionary s.sender → IsDictionary s.receiver → length sites < 2 ^ 64
     → AreTheLines s c sites (map tells lines) → AreValidWhereFree s (answer c sites lines) × AreValidOnceMended s (answer c sites lines)
 
--- ---- there is one
+-- ---- they are unique
 
 -- two lists of sites and of lines of one command are the same
 abbrev pub TheLinesAreOne : Type 0

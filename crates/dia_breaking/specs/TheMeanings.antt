@@ -44,7 +44,7 @@ abbrev pub HoldsOfLevels : Sides → Answer → AboutLevels → Type 0
 HoldsOfLevels s answer Asked = (bytes : List ℕ) (sent : IsSent s.sender s.sends bytes answer.command) (app : ℕ) (site : Site) (other : PlainDefinition)
     → IsLevelAt s answer.sites answer.command app site sent.command other → AreAsked s.sender s.receiver Asked sent.command other sent.avps
 
--- ---- they are one
+-- ---- they are unique
 
 -- two lists of sites and of meanings of one command are the same
 abbrev pub TheMeaningsAreOne : Type 0

@@ -17,11 +17,11 @@ most_tried = 65536
 abbrev pub data_of : Key → List ℕ → List ℕ
 data_of key bytes = drop (shortest_head key) bytes
 
--- such an AVP, whose length is n, isn't too long to be tried, and its data aren't taken
+-- such an AVP, whose length is n, isn't too long to be tried, and its data are refused
 abbrev pub IsRefusedBy : (List ℕ → Type 0) → Key → List ℕ → ℕ → Type 0
 IsRefusedBy Takes key bytes n = (n ≤ most_tried) × (¬ Takes (data_of key bytes))
 
--- it is too long to be tried, or its data are taken
+-- it is too long to be tried, or its data are accepted
 abbrev pub IsLeftOpenBy : (List ℕ → Type 0) → Key → List ℕ → ℕ → Type 0
 IsLeftOpenBy Takes key bytes n = (most_tried < n) ⊎ Takes (data_of key bytes)
 

@@ -131,7 +131,7 @@ impl<'a, A: Book, B: Book> Upgrade<'a, A, B> {
         Ok(Breaks { lines, ..breaks })
     }
 
-    /// What is known of a line, where so many bytes are left to check.
+    /// The status of a line, where so many bytes are left to check.
     fn standing(
         &self,
         alloc: Global,
@@ -249,7 +249,7 @@ pub(crate) fn is_valid<B: Book>(
     }
 }
 
-/// Fields can say the key of the AVP that a line reports.
+/// The key of the AVP that a line reports fits the fields of an AVP.
 fn spell_key(cause: &Cause)
     ensures { HasSpellableKey cause.now }
 {

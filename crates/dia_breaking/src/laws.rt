@@ -15,13 +15,13 @@ pub fn included_commands_break_nothing()
     ensures lines { IncludedHaveNoLines }
 {}
 
-/// From one basis there is one list of sites, and one of lines.
+/// A basis determines the sites and the lines.
 pub fn listings_are_one()
     ensures { ListingsAreOne }
 {}
 
-/// There is one message that is written for a line, and its numbers are bytes. Two dictionaries, what is sent and the line's site
-/// and cause leave no choice of what it is made of.
+/// The message of a line is unique, and its numbers are bytes. The dictionaries, what is sent, and the line's site and cause
+/// determine what it is made of.
 pub fn line_messages_are_one()
     ensures one { LineMessagesAreOne }
     ensures some { EachLineHasAMessage }
@@ -41,13 +41,12 @@ pub fn data_lines_are_apart()
     ensures { DataLinesAreApart }
 {}
 
-/// Two dictionaries have one list of sites and one of lines for a command, by what is sent and by the receiver's policy.
+/// Two dictionaries, what is sent and the receiver's policy determine the sites and the lines of a command.
 pub fn the_lines_are_one()
     ensures { TheLinesAreOne }
 {}
 
-/// Two dictionaries have one list of AVPs that are read as another format for a command, by what is sent and by the receiver's
-/// policy.
+/// Two dictionaries, what is sent and the receiver's policy determine the AVPs of a command that are read as another format.
 pub fn the_meanings_are_one()
     ensures { TheMeaningsAreOne }
 {}

@@ -41,7 +41,7 @@ impl Place {
     }
 }
 
-/// A place, and what a message with a level there takes at least around that level, without the message's header.
+/// A place, and the fewest bytes that a message needs around a level there, without its header.
 #[derive(Clone, Copy, PartialEq, Eq)]
 pub struct Site {
     pub place: Place,
@@ -74,7 +74,7 @@ pub enum Cause {
     Meaning { key: Key },
 }
 
-/// What is known of a line.
+/// The status of a line.
 #[derive(Clone, Copy, PartialEq, Eq)]
 pub enum Standing {
     /// Its message was checked: it is valid under A, and B's side refuses it. For `Sends::Listed` it isn't checked that A's rules

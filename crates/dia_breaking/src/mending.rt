@@ -66,8 +66,8 @@ impl<'a, A: Book, B: Book> Upgrade<'a, A, B> {
         Ok(!is_valid(alloc, self.b, self.unknown, &message)?)
     }
 
-    /// The header with a P flag and an application that B's definition at a place of the command takes; none, where no header
-    /// is so.
+    /// The header with a P flag and an application that B's definition at a place of the command accepts; none, where there is no
+    /// such header.
     fn mended_header(&self, command: DefId, place: Place, header: &Header) -> Option<Header>
         requires { command < length (definitions (sides_of self.now).sender) }
         ensures some { IfSome result (IsMendedAt (sides_of self.now) command place header.now) }

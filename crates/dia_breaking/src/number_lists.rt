@@ -17,7 +17,7 @@ pub(crate) fn numbers_of(format: &Format) -> Option<&[(u32, u32)]>
     listed(format)
 }
 
-/// The numbers of the first format that the second lacks, where both have a list. The error comes only where memory was refused.
+/// The numbers of the first format that the second lacks, where both have a list. The only error is an allocation failure.
 pub(crate) fn lacking(
     alloc: Global,
     format: &Format,

@@ -81,8 +81,7 @@ impl<'a, A: Book, B: Book> Upgrade<'a, A, B> {
     ghost use Rattle.dia_breaking.specs.ToldMessages.{AreConfirmedWhere};
     ghost use Rattle.dia_breaking.specs.Upgrades.{receiver_of, sender_of, sides_of, stock_of};
 
-    /// What A's side sends, read under B by a side that has this policy for AVPs that it doesn't know. The error comes only where
-    /// memory was refused.
+    /// Messages of A's side, read by B's side with this policy for unknown AVPs. The only error is an allocation failure.
     pub fn new(
         alloc: Global,
         a: &'a A,
