@@ -264,7 +264,7 @@ module _ (listed other : Key → ℕ) (keys : List Key) (a b : List DRule) (are_
   in_kind : (fixed : Bool) (k : Key) (w : IsWantedAt a d k fixed) → IsIn k (part_keys (kind_parts a d fixed))
   in_kind fixed k w = in_below a d fixed (length a) w.place_is k (slice_get_within a w.place_is w.rule w.at) (has_key a d fixed w.place_is w.rule k w.at w.kind refl w.some)
 
-  -- y is among the loose ones that aren't in front
+  -- y is among the loose ones that don't come first
   y_behind : x ≢ y → IsWantedAt a d y false → IsIn y (part_keys (filter (stands (Some x) false) loose_parts))
   y_behind apart w = in_filtered y (stands (Some x) false) loose_parts (λ part e. test part e (same_key x part.key) refl) (in_kind false y w)
     where

@@ -23,7 +23,7 @@ use Rattle.dia_breaking_levels.specs.Steps.{room_above, steps}
 use Rattle.dia_breaking_levels.specs.Exact.{floor_between}
 use Rattle.dia_breaking_levels.specs.LevelTests.{too_long, filler, inner_length, is_outside}
 
--- ---- what a level is to have
+-- ---- what a level has to have
 
 -- two keys that are wanted so often or more, the key of the rest by the wildcard, the key that precedes the other loose ones, how
 -- many AVPs more each rule has, and the key of those that come so by the wildcard
@@ -88,11 +88,11 @@ parts_below rules d fixed (suc n) = parts_below rules d fixed n ++ parts_at rule
 abbrev pub kind_parts : List DRule → PlainDemand → Bool → List Part
 kind_parts rules d fixed = parts_below rules d fixed (length rules)
 
--- the part is of the key in front, or it isn't
+-- the part is of the key that comes first, or it isn't
 abbrev pub stands : Option Key → Bool → Part → Bool
 stands front in_front part = if option_eq same_key front (Some part.key) then in_front else not in_front
 
--- the fixed rules' AVPs, then those of the key in front, then the other loose ones
+-- the fixed rules' AVPs, then those of the first loose key, then the other loose ones
 abbrev pub level_parts : List DRule → PlainDemand → List Part
 level_parts rules d = kind_parts rules d true ++ filter (stands d.front true) (kind_parts rules d false) ++ filter (stands d.front false) (kind_parts rules d false)
 

@@ -25,7 +25,7 @@ pub(crate) struct Wanted {
     pub count: u64,
 }
 
-/// What a level is to have beyond the least counts of its rules.
+/// What a level has to have beyond the least counts of its rules.
 #[derive(Drop)]
 pub(crate) struct Demand {
     pub first: Option<Wanted>,

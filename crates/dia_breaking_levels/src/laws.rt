@@ -1,11 +1,11 @@
-//! What holds of the levels of definitions: by it a level is looked at as counts of keys and one order.
+//! Laws of the levels of definitions: they reduce a level to the counts of its keys and one order.
 ghost use Rattle.dia_breaking_levels.specs.Laws.{DefinitionsAreSound, PlacedIsInPlace, PlacedOrBreach};
 ghost use Rattle.dia_breaking_levels.specs.Laws.{BreachIsUnplaced, PlanIsPlaced, PlanIsLeast, OnceIsLeast};
 ghost use Rattle.dia_breaking_levels.specs.Chosen.{EachLineHasALevel, LineLevelsAreOne};
 ghost use Rattle.dia_breaking_levels.specs.Laws.{LinesAreOne};
 ghost use Rattle.dia_breaking_levels.specs.Showing.{LinesAreShown, LinesHaveRoom};
 
-/// The rules of a dictionary's definitions are as the other laws want them.
+/// The rules of a dictionary's definitions meet the conditions of the other laws.
 pub fn definitions_are_sound()
     ensures { DefinitionsAreSound }
 {}
@@ -37,7 +37,7 @@ pub fn lines_are_one()
     ensures { LinesAreOne }
 {}
 
-/// There is one level that is written for a line: which AVPs it has, and their order.
+/// The level that is written for a line is unique: its AVPs and their order.
 pub fn line_levels_are_one()
     ensures one { LineLevelsAreOne }
     ensures some { EachLineHasALevel }

@@ -38,7 +38,7 @@ fn no_offer() -> Offer
     }
 }
 
-/// Nothing is offered at so many places.
+/// No offers at so many places.
 pub(crate) fn no_offers(alloc: Global, places: usize) -> Result<Offers, AllocError>
     ensures size { IfOk result (λ offers. vec_len offers.nodes ≡ places + places) }
     ensures tree { IfOk result (λ offers. AreLeast offers.nodes.items) }
