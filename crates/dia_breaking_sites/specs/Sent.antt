@@ -33,7 +33,7 @@ StandAsSent sends.Listed rules keys = Placed rules keys × AreListed rules keys
 abbrev pub IsSentLevel : Sends → (PlainAvp → Type 0) → List DRule → List ℕ → Type 0
 IsSentLevel who P rules bytes = (avps : List PlainAvp) × SpellsAll avps bytes × StandAsSent who rules (map key_of avps) × AllByRecursion P avps
 
--- the AVP can be sent, with at most n levels of groups in one another (RFC 6733 section 4.4)
+-- the AVP can be sent, with at most n nested levels of groups (RFC 6733 section 4.4)
 abbrev pub IsSentWithin : Dictionary → Sends → ℕ → PlainAvp → Type 0
 IsSentWithin d who zero v = FitsBy d (own_policy who) (λ rules bytes. ⊥) v
 IsSentWithin d who (suc n) v = FitsBy d (own_policy who) (IsSentLevel who (IsSentWithin d who n)) v
@@ -63,6 +63,6 @@ pub record IsSent (d : Dictionary) (who : Sends) (bytes : List ℕ) (c : ℕ) : 
   pub stand : StandAsSent who command.rules (map key_of avps)
   pub sent : AreSentAvps d who avps
 
--- such a message that isn't valid under the receiver's dictionary, which has this policy for AVPs that it doesn't know
+-- such a message that isn't valid under the receiver's dictionary, with this policy for unknown AVPs
 abbrev pub Breaks : Dictionary → Dictionary → Sends → Unknown → List ℕ → ℕ → Type 0
 Breaks da db who u bytes c = IsSent da who bytes c × (¬ IsValid db u levels.Any bytes)
