@@ -10,8 +10,8 @@ use crate::kinds::Kind;
 use crate::short_data::Witness;
 use dia_data::Format;
 
-/// The numbers of two families of addresses, whose data are longer than 4 bytes, as the front of 4 bytes: from the first
-/// number of the one to the last of the other.
+/// The families of addresses whose data are longer than 4 bytes, as prefixes of 4 bytes: from the first number of the one to the
+/// last of the other.
 const FIRST_LONG_FAMILY: u32 = 0x1_0000;
 
 const LAST_LONG_FAMILY: u32 = 0x2_ffff;
