@@ -28,7 +28,7 @@ pub fn group_is_attained()
     ensures { GroupIsAttained }
 {}
 
-/// The lengths of shortest AVPs are one list: no other solves their equations.
+/// The lengths of shortest AVPs are the only solution of their equations.
 pub fn lengths_are_one()
     ensures { LengthsAreOne }
 {}
@@ -38,7 +38,7 @@ pub fn length_is_attained()
     ensures { LengthIsAttained }
 {}
 
-/// A dictionary and what its side sends have one shortest AVP of each key that is written, whatever found what it is made of.
+/// A dictionary and what its side sends determine the shortest AVP of each key that is written.
 pub fn least_avps_are_one()
     ensures one { LeastAvpsAreOne }
     ensures bytes { LeastAvpsAreBytes }
