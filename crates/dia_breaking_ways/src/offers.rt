@@ -37,7 +37,7 @@ pub(crate) fn offer(best: &mut Vec<Option<Reach>>, place: usize, reach: Reach)
     }
 }
 
-/// Takes the ways to the AVPs that the rules of a level list.
+/// Records the ways to the AVPs that the rules of a level list.
 pub(crate) fn offer_listed(
     best: &mut Vec<Option<Reach>>,
     room: u64,
