@@ -10,7 +10,7 @@
 //! | `taken` | the rule of `y` that the failing is about |
 //! | `wildcard` | the rule of `y` for AVP |
 //! | `own`, `other` | the AVP that the failing is about, in the first dictionary and in the second |
-//! | `lack` | the second dictionary, if it doesn't have that AVP |
+//! | `lack` | the second dictionary, if it doesn't know that AVP |
 //! | `a`, `b` | the two AVPs of a pair of AVPs |
 //! | `hint` | what to do |
 

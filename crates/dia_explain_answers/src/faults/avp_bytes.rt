@@ -24,7 +24,7 @@ struct AvpBytes<'a> {
     bytes: &'a [u8],
 }
 
-/// Adds a line with the place of an AVP and its fields, as far as they are there: in decimal, and in hexadecimal.
+/// Adds a line with the place of an AVP and its fields, as far as they are present: in decimal, and in hexadecimal.
 pub fn push_avp(note: &mut Note, at: usize, bytes: &[u8]) {
     let fields = if bytes.len() < FLAGS_END {
         "  at {at}: bytes {bytes}\n"
@@ -127,7 +127,7 @@ pub fn flags_of(own: &[u8]) -> u8 {
     }
 }
 
-/// The bytes from one place up to another, as far as they are there.
+/// The bytes from one place up to another, as far as they are present.
 pub fn part(bytes: &[u8], from: usize, to: usize) -> &[u8] {
     let end = to.min(bytes.len());
     bytes.get(from..end).unwrap_or(b"".as_slice())

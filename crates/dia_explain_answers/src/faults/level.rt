@@ -84,7 +84,7 @@ impl<'a> InBody<'a> {
         })
     }
 
-    /// Whether the level has fewer AVPs than the rule for the AVP of the fault wants.
+    /// Whether the level has fewer AVPs than the rule for the AVP of the fault requires.
     fn lacks(&self) -> bool {
         match self.counting {
             Some(Counting { rule, found, .. }) if self.fault.reason == Reason::Missing => {
@@ -123,8 +123,7 @@ pub fn find_key(avps: &[u8], keys: &[Key]) -> Option<(usize, Key)> {
     None
 }
 
-/// How many bytes precede the first AVP that the dictionary doesn't have, of the code of a key and another vendor; and this
-/// vendor.
+/// How many bytes precede the first unknown AVP of the code of a key and another vendor; and this vendor.
 pub fn find_other_vendor(book: &IndexedBook, avps: &[u8], wanted: Key) -> Option<(usize, u32)> {
     let mut rest = avps;
     for _ in avps {

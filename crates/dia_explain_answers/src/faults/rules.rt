@@ -14,8 +14,7 @@ pub fn place_behind(scene: &InBody<'_>) -> Option<usize> {
     Some((scene.fault.place as usize).saturating_add(behind))
 }
 
-/// The place of an AVP in the level that the dictionary doesn't have, of the code of the one that is missing and another vendor;
-/// and this vendor.
+/// The place of an unknown AVP in the level, of the code of the one that is missing and another vendor; and this vendor.
 pub fn other_vendor(scene: &InBody<'_>) -> Option<(usize, u32)> {
     let (begin, bytes) = scene.bytes();
     let (at, vendor) = find_other_vendor(scene.side.book, bytes, scene.key()?)?;
@@ -52,7 +51,7 @@ pub fn push_rule_word(note: &mut Note, scene: &InBody<'_>, word: Word) {
     }
 }
 
-/// Adds how many AVPs a rule wants.
+/// Adds how many AVPs a rule requires.
 fn push_wanted(note: &mut Note, rule: &DRule) {
     if rule.max != Some(rule.min) {
         note.put("at least ");

@@ -51,7 +51,7 @@ pub fn push_show(note: &mut Note, texts: &InputTexts<'_>, cut: &CutListing) {
     }
 }
 
-/// Adds how all AVPs of a message are named, where the base dictionary, by which it was shown, doesn't have each of them. `sign`
+/// Adds how all AVPs of a message are named, where the base dictionary, by which it was shown, doesn't know each of them. `sign`
 /// is shown in place of a name.
 pub fn push_unnamed(note: &mut Note, message: &[u8], sign: &str) {
     let Ok((header, _)) = read_header(message) else {
