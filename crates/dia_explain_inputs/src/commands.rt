@@ -32,7 +32,7 @@ pub fn push_unknown_commands(
     }
 }
 
-/// Adds the first names that no command has. Answers how many these are.
+/// Adds the first names that no command has. Returns how many these are.
 fn push_all_missing(note: &mut Note, known: &Vocabulary<'_>, names: &[String]) -> usize {
     let dictionary = known.dictionary.name;
     let instead = "an AVP there, and commands are asked for";

@@ -190,7 +190,7 @@ fn push_rest(note: &mut Note, name: &str, faults: &[ToldFault<'_>]) {
     }
 }
 
-/// Adds the first undefined names of faults. Answers how many these are.
+/// Adds the first undefined names of faults. Returns how many these are.
 fn push_undefined(note: &mut Note, faults: &[ToldFault<'_>]) -> usize {
     let mut count = 0usize;
     let mut between = "hint: these names aren't defined either: ";
