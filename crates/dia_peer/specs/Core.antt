@@ -75,7 +75,7 @@ pub record AreApps (apps : List App) : Type 0 where
   pub numbers : AllByRecursion (λ a. a.id < 2 ^ 32) apps
   pub distinct : AreDistinct apps
 
--- as many bytes as the family wants
+-- as many bytes as the family has
 abbrev pub IsIp : Ip → Type 0
 IsIp (V4 bytes) = length bytes ≡ 4
 IsIp (V6 bytes) = length bytes ≡ 16

@@ -134,7 +134,7 @@ impl Core {
 
     /// What is to be done at an event, in order. On an error, which is an allocation failure, nothing has changed.
     ///
-    /// The bytes of a message are checked once, and gone through once more where they are a CER or a CEA.
+    /// The bytes of a message are checked once, and those of a CER or a CEA are read once more.
     pub fn step(&mut self, event: Event<'_>) -> Result<Vec<Output>, AllocError>
         ensures ok { IfOk result (λ outputs. IsStep self.old event.entry outputs.items self.new) }
         ensures valid { IfOk result (λ outputs. All IsSound outputs.items) }

@@ -1,4 +1,4 @@
-//! What happens to a core, and what it wants done.
+//! What happens to a core, and what it asks for.
 
 /// The state of one end of a connection.
 #[derive(Debug, Clone, Copy, PartialEq, Eq)]
@@ -29,7 +29,7 @@ pub enum Cause {
 
 #[derive(Clone, Copy)]
 pub enum Event<'a> {
-    /// The transport connection is there.
+    /// The transport connection is open.
     Start,
     /// One whole message came.
     Bytes(&'a [u8]),

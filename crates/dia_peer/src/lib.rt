@@ -17,7 +17,7 @@
 //! // No message came for a time: a watchdog and its answer.
 //! exchanged(alloc, &mut initiator, Event::Tick, &mut responder)?;
 //!
-//! // The initiator goes.
+//! // The initiator closes.
 //! let cause = Event::Stop(Cause::Rebooting);
 //! exchanged(alloc, &mut initiator, cause, &mut responder)?;
 //! assert_eq!(rt; initiator.state(), State::Closed);
