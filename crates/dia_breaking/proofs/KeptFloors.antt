@@ -1,4 +1,4 @@
--- The least lengths that are found are recorded with the lengths of the entries.
+-- The least lengths, recorded as the entries' lengths, are floors.
 use Rattle.std.proofs.Common.{◌≡◌, ℕ, List, subst}
 use Rattle.dia_book.specs.Dictionary.{Dictionary}
 use Rattle.dia_policy.specs.declared.Sends.{Sends}

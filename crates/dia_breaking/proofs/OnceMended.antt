@@ -199,7 +199,7 @@ module _ (da db : Dictionary) (who : Sends) (u : Unknown) (sound : IsDictionary 
           },
         )
 
-    -- so it breaks exactly where the message with this header isn't taken
+    -- so it breaks exactly where the message with this header is refused
     pub said_mended : (new : Header) (message : List ℕ) → IsMendedAt (sides da db who u) c place found new
         → ((old : Header) (avps : List PlainAvp) → IsMessage old avps bytes → new.code ≡ old.code → new.hop ≡ old.hop → new.e2e ≡ old.e2e → IsMessage new avps message)
         → (accepted : Bool) → (IsTrue accepted ↔ IsValid db u levels.Any message) → IsTrue (not accepted) ↔ BreaksOnceMended (sides da db who u) c place bytes

@@ -47,8 +47,8 @@ abbrev pub StandsIn : Dictionary → Dictionary → Key → Key → Type 0
 StandsIn da db key own = (key ≡ own) ⊎ (IsStrange da db own × IsStrange da db key)
 
 -- a level that these definitions read breaks in none of the ways that lines of such levels report. Where a line reports the flags
--- of AVPs of a key, B accepts the flags of those AVPs of the level that the key represents. Where one reports their data, B
--- accepts the data of those of the level
+-- of AVPs of a key, B accepts the flags of the level's AVPs whose keys represent it. Where one reports their data, B accepts the
+-- data of the level's AVPs of the key
 pub record IsFreeLevel (da db : Dictionary) (u : Unknown) (sites : List Site) (lines : List Line) (c : ℕ) (x y : PlainDefinition) (avps : List PlainAvp) : Type 0 where
   pub level : (line : Line) (told : LevelLine) → Contains lines line → line.cause ≡ causes.Level told → IsLineOf da db sites c line x y
       → ¬ ShowsAt x.rules y.rules (map key_of avps) told.reason told.key
