@@ -1,4 +1,4 @@
--- The lines of a command tell all that breaks: a message that is free of them is valid under B.
+-- The lines of a command report all that breaks: a message that is free of them is valid under B.
 use Rattle.std.proofs.Common.{◌≡◌, ℕ, zero, suc, ◌+◌, ◌-◌, ◌<◌, ◌≤◌, Bool, true, false, List, [], ◌∷◌, ◌++◌, length, map, Option, Some, None, refl, sym, ap, subst, ◌∙◌, arith, inl, inr}
 use Rattle.std.specs.Prelude.{◌⊎◌, ◌&&◌, not, is_some, IfSome, slice_get, option_and_then, unwrap_or, if◌then◌else◌}
 use Rattle.std.specs.Option.{option_map_or}
@@ -218,7 +218,7 @@ module _ (da db : Dictionary) (who : Sends) (u : Unknown) (made : Facts) (start 
 
     -- ---- the header
 
-    -- what is told for a reading
+    -- what is reported for a reading
     head_told : (i : ℕ) (r : Reading) → slice_get readings i ≡ Some r → (cause : Cause) → IsIn cause (header_causes db head r.read_as)
         → IsToldIn lines (header_line start.base i cause)
     head_told i r at cause inside =
@@ -267,7 +267,7 @@ module _ (da db : Dictionary) (who : Sends) (u : Unknown) (made : Facts) (start 
             (subst (λ (o : Option Head). IsIn (causes.Proxiable set) (option_map_or (λ other. flag_causes head other false ++ flag_causes head other true) o (refusal db head ∷ []))) (sym (other_is y r))
             (both set here))
 
-    -- B's definition allows it, where what is told of it doesn't hold
+    -- B's definition allows it, where what is reported of it doesn't hold
     allowed : (y : PlainDefinition) → IsReadingOf db head readings y → (TellsFlags da db sites lines c y sent.header.flags → AllowsP y.head sent.header.flags) → AllowsP y.head sent.header.flags
     allowed y r asked = by (is_set sent.header.flags)
       where
@@ -321,7 +321,7 @@ module _ (da db : Dictionary) (who : Sends) (u : Unknown) (made : Facts) (start 
               },
             )
 
-    -- ---- once the header is mended
+    -- ---- once the header is fixed
 
     reading_at : (app : ℕ) (site : Site) (y : PlainDefinition) → IsLevelAt (sides da db who u) sites c app site x y → IsReadingOf db head readings y
     reading_at app site y level =

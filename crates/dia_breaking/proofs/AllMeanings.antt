@@ -44,7 +44,7 @@ use Rattle.dia_breaking.proofs.Shortest.{first_is_shortest}
 use Rattle.dia_breaking.proofs.ToldLines.{cause_is, in_sorted, own_told, told_in}
 use Rattle.dia_breaking.proofs.TopLevels.{top_level}
 
--- ---- what lines tell
+-- ---- what lines report
 
 meant_by : (meanings : List Line) (key : Key) (told : Told) → IsIn told (map tells meanings) → told.cause ≡ causes.Meaning key → IsMeant meanings key
 meant_by meanings key told i is = let t = told_in meanings told i in (t.line, t.inside, cause_is t.line.cause (causes.Meaning key) (t.cause ∙ is) refl)
@@ -53,7 +53,7 @@ module _ (da db : Dictionary) (who : Sends) (u : Unknown) (lengths : List ℕ) (
     (are : AreOutlooks da db telling (costs_by da who lengths others) outlooks) (owns : List OwnBreaks)
     (are_own : AreOwnBreaks (sides da db who u) (listed da db who u lengths others telling outlooks tells_all are) telling.own.items owns) (first count : ℕ) (reached : List (Option Reach))
     (told : List Told) (order : IsInOrderOf (λ (line : Told). line.site) (own_lines kinds.Meaning first count owns reached) told) where
-  -- what is reached of an AVP that is read as another format is told
+  -- what is reached of an AVP that is read as another format is reported
   meaning_told : (key : Key) (p : Kept da db who u lengths others telling outlooks tells_all are key) → IsReadAsOther (sides da db who u) key → (reach : Reach)
       → slice_get reached p.place ≡ Some (Some reach) → reach.length ≤ max_body → (line : Told) × IsIn line told × (line.cause ≡ causes.Meaning key)
   meaning_told key p is reach at room =
@@ -145,7 +145,7 @@ module _ (da db : Dictionary) (who : Sends) (u : Unknown) (made : Facts) (start 
           (map tells meanings) listing.lines_are key p is w.0 w.1 (omega (arith, le, room, fits)) in
           meant_by meanings key t.0 t.1 t.2
 
--- where none is told, none is read so
+-- where none is reported, none is read so
 pub none_meant : (da db : Dictionary) (who : Sends) (u : Unknown) (c : ℕ) (sites : List Site) (lines meanings : List Line) → meanings ≡ []
     → HoldsOfLevels (sides da db who u) (answer c sites lines) (AreMeant (sides da db who u) meanings) → HoldsOfLevels (sides da db who u) (answer c sites lines) (IsReadAsSent (sides da db who u))
 none_meant da db who u c sites lines meanings none all bytes sent app site other level a b inner lies v comes is =

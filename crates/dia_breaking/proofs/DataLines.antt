@@ -1,4 +1,4 @@
--- Which line tells of data that break: no line is told for another.
+-- Which line reports data that break: the causes exclude each other.
 use Rattle.std.proofs.Common.{◌≡◌, ℕ, Bool, true, false, List, [], ◌∷◌, Option, Some, None, refl, sym, ap, subst, ◌∙◌, arith, inl, inr}
 use Rattle.std.specs.Prelude.{◌⊎◌, is_some, IsSome}
 use Rattle.std.proofs.lemmas.Bool.{both_ways}
@@ -145,7 +145,7 @@ module _ (s : Sides) (key : Key) where
       let r = of_both (IsRefusedBy Accepts key) (IsLeftOpenBy Accepts key) refused left in
       refused_or_open r.0 r.1 r.2 r.3
 
-  -- ---- no word is told for the other
+  -- ---- the causes exclude each other
 
   refused_or_left : RefusesShortest s key → LeavesOpen s key → ⊥
   refused_or_left (inl h) (inl eight) = not_eight h eight.0

@@ -1,4 +1,4 @@
--- The lines that two definitions have tell all that breaks in their levels.
+-- The lines that two definitions have report all that breaks in their levels.
 use Rattle.std.proofs.Common.{ℕ, List, refl}
 use Rattle.std.specs.Prelude.{find}
 use Rattle.dia_wire.specs.declared.Key.{Key}

@@ -1,4 +1,4 @@
--- The messages of lines show what the lines tell, and so each confirmed line does.
+-- The messages of lines show what the lines report, and so each confirmed line does.
 use Rattle.std.proofs.Common.{◌≡◌, ℕ, zero, suc, ◌^◌, ◌<◌, get_or, List, [], ◌∷◌, length, map, Some, None, refl, subst}
 use Rattle.std.specs.Prelude.{Contains, slice_get}
 use Rattle.std.proofs.Math.Logic.{∥∥₁_elim, ∥∥₁_map, ∥∥₁_map₂}

@@ -127,6 +127,6 @@ module _ (d : Dictionary) (who : Sends) (lengths : List ℕ) (sound : IsDictiona
         omega (arith, moved, same);
   }
 
--- nor than the lengths that are kept
+-- nor than the lengths that are recorded
 pub kept_floors : (d : Dictionary) (who : Sends) (least lengths : List ℕ) → IsDictionary d → AreExact d who least → AreEntryLengths d least lengths → AreFloors d who (listed_length d who lengths)
 kept_floors d who least lengths sound exact are = floors_of_entries d who least lengths are.1 (exact_floors d who least sound exact)

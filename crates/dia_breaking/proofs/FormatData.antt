@@ -1,4 +1,4 @@
--- What lines tell of data.
+-- What lines report about data.
 use Rattle.std.proofs.Common.{◌≡◌, ℕ, zero, suc, ◌+◌, Bool, true, false, get_or, List, [], ◌∷◌, ◌++◌, length, map, Option, Some, None, Result, Ok, Err, refl, sym, ap, subst, ◌∙◌, arith, inl, inr}
 use Rattle.std.specs.Prelude.{◌⊎◌, ◌==◌, min, All, IfSome, OnOk, slice_get, if◌then◌else◌}
 use Rattle.std.specs.List.{cons_option, filter_map}
@@ -70,7 +70,7 @@ all_each {X} {Y} P f each xs = all_joined P (λ i. option_map_or (f i) (slice_ge
     at i None = All-nil P
     at i (Some x) = each i x
 
--- ---- what is told of headers and levels is nothing of data
+-- ---- reports about headers and levels report nothing about data
 
 abbrev IsOther : Cause → Type 0
 IsOther cause = (key : Key) → cause ≡ causes.Format key None → ⊥
@@ -137,7 +137,7 @@ module _ (da db : Dictionary) (who : Sends) (u : Unknown) where
   plain (causes.MBit key m) other = tt
   plain (causes.Meaning key) other = tt
 
-  -- where nothing is told of data
+  -- where nothing is reported about data
   pub plain_lines : (lines : List Line) (told : List Told) → map tells lines ≡ told → All IsPlain told → TellData (sides da db who u) lines
   plain_lines lines told is all i d within =
       let same = get_or-map tells lines i d (tells d) within in
@@ -170,7 +170,7 @@ module _ (da db : Dictionary) (who : Sends) (u : Unknown) where
   head_tells kinds.Meaning key (head_breaks.Unknown m) = tt
   head_tells kinds.Meaning key (head_breaks.MBit m) = tt
 
-  -- that data are read as another format tells nothing of data that break
+  -- that data are read as another format reports no data that break
   pub meaning_tells : (key : Key) (found : Option (Cause × ℕ)) → IfSome found (λ (pair : Cause × ℕ). pair.0 ≡ causes.Meaning key) → IfSome found (λ (pair : Cause × ℕ). TellsData (sides da db who u) pair.0)
   meaning_tells key None is = tt
   meaning_tells key (Some pair) is = subst (TellsData (sides da db who u)) (sym is) tt

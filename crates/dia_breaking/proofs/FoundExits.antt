@@ -47,7 +47,7 @@ inner_found da telling k key def inner are least exits = record {
 
 -- ---- one outlook more
 
--- the outlooks of the first of what is told
+-- the outlooks of the first of what is recorded
 abbrev pub AreFirstOutlooks : Dictionary → Dictionary → Telling → Costs → ℕ → List Outlook → Type 0
 AreFirstOutlooks da db telling k i outlooks =
     (map (λ (o : Outlook). o.key) outlooks ≡ map (λ (own : Own). own.key) (take i telling.own.items)) × All (IsOutlook da db telling k) outlooks

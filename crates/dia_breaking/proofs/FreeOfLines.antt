@@ -22,7 +22,7 @@ use Rattle.dia_breaking.proofs.Lists.{same_image}
 no_member : (lines : List Line) (line : Line) → lines ≡ [] → Contains lines line → ⊥
 no_member lines line none (i, within, is) = absurd (let e : length lines ≡ 0 = ap length none in omega (arith, within, e))
 
--- where nothing is told, each message is free
+-- where nothing is reported, each message is free
 pub nothing_told : (da db : Dictionary) (who : Sends) (u : Unknown) (sites : List Site) (lines : List Line) (c : ℕ) → AreValidWhereFree (sides da db who u) (answer c sites lines) → lines ≡ [] → AreValid da db who u c
 nothing_told da db who u sites lines c valid none bytes sent =
     valid bytes sent (record {

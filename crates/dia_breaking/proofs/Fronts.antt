@@ -1,4 +1,4 @@
--- What stands before the groups of a path and behind them, site by site.
+-- What precedes and what follows the groups of a path, site by site.
 use Rattle.std.proofs.Common.{◌≡◌, ℕ, ◌+◌, ◌<◌, ◌≤◌, List, ◌++◌, Option, Some, length, get_or, drop, sym, ap, ◌∙◌, append_assoc}
 use Rattle.std.proofs.lemmas.List.{append-nil, drop_all, drop_more}
 use Rattle.dia_breaking_levels.specs.declared.line.Part.{Part}

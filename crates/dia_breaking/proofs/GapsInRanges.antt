@@ -5,7 +5,7 @@ use Rattle.std.proofs.lemmas.Bool.{lt-ltb, le-ltb, le-leb, lt-leb}
 use Rattle.std.proofs.lemmas.List.{append-nil, drop_more, take_all, length-drop}
 use Rattle.dia_breaking.specs.Gaps.{front, gaps, gaps_from}
 
--- what stands before a range of the others, that range, and the others behind it
+-- what precedes a range of the others, that range, and the others after it
 pub passed : (low high : ℕ) (r : ℕ × ℕ) (rest : List (ℕ × ℕ)) → r.1 < low → gaps low high (r ∷ rest) ≡ gaps low high rest
 passed low high r rest lt =
     ap (λ (b : Bool). if b then gaps low high rest else (if nat_lt high r.0 then (low, high) ∷ [] else front low r.0 ++ (if nat_le high r.1 then [] else gaps (suc r.1) high rest))) (lt-ltb r.1 low lt)

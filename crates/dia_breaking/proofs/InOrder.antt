@@ -109,7 +109,7 @@ pub filter_image : {X Y : Type 0} (f : X → Y) (p : Y → Bool) (xs : List X) �
 filter_image f p [] = refl
 filter_image f p (x ∷ xs) = swap_if f x (filter (λ y. p (f y)) xs) (filter p (map f xs)) (p (f x)) (filter_image f p xs)
 
--- where an image keeps the number, that of a list in order is in order
+-- where an image preserves the number, that of a list in order is in order
 pub image_in_order : {X Y : Type 0} (f : X → Y) (number : X → ℕ) (of : Y → ℕ) → ((x : X) → of (f x) ≡ number x) → X → (all xs : List X) → IsInOrderOf number all xs
     → IsInOrderOf of (map f all) (map f xs)
 image_in_order {X} {Y} f number of same some all xs order = record {

@@ -1,4 +1,4 @@
--- Where the definitions stand that a dictionary answers.
+-- The definitions that a dictionary answers are in range.
 use Rattle.std.proofs.Common.{◌≡◌, ℕ, ◌+◌, ◌<◌, length, Option, Some, None, refl, sym, ap, inl, inr, ◌∙◌}
 use Rattle.std.specs.Prelude.{◌⊎◌, IfSome, is_some, option_and_then, slice_get, take}
 use Rattle.std.specs.List.{filter_map}

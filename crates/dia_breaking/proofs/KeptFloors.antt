@@ -1,4 +1,4 @@
--- What is found of the least lengths is kept with the lengths of the entries.
+-- The least lengths, recorded as the entries' lengths, are floors.
 use Rattle.std.proofs.Common.{◌≡◌, ℕ, List, subst}
 use Rattle.dia_book.specs.Dictionary.{Dictionary}
 use Rattle.dia_policy.specs.declared.Sends.{Sends}

@@ -196,7 +196,7 @@ front_below low from high tail all le = elim (cases_Bool (nat_lt low from)) [
   | inr other ↦ subst (λ (rs : List (ℕ × ℕ)). AllByRecursion (λ r. r.1 ≤ high) (rs ++ tail)) (sym (off (nat_lt low from) ((low, from - 1) ∷ []) [] other)) all
 ]
 
--- what stands before a range that is taken out, and what is left behind it
+-- what precedes a range that is taken out, and the rest after it
 around : (low high : ℕ) (r : ℕ × ℕ) (rest tail : List (ℕ × ℕ)) → low ≤ r.1 → r.0 ≤ high → r.0 ≤ r.1 → IsFrom (r.1 + 2) rest → AreGaps (suc r.1) high rest tail → AreGaps low high (r ∷ rest) (front low r.0 ++ tail)
 around low high r rest tail reach begins some from are = (
   front_from low r.0 (suc r.1) tail are.0 (omega (arith, reach)) (omega (arith, some)),

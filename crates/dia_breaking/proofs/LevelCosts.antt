@@ -1,4 +1,4 @@
--- What is computed of a definition's levels in which an AVP stands is no more than what such levels take.
+-- What is computed of a definition's levels with an AVP is no more than what such levels take.
 use Rattle.std.proofs.Common.{◌≡◌, ℕ, zero, suc, ◌+◌, ◌-◌, ◌*◌, ◌≤◌, min, max, Bool, true, false, List, [], ◌∷◌, Option, Some, None, refl, sym, ap, subst, ◌∙◌, arith, inl, inr}
 use Rattle.std.specs.Prelude.{◌⊎◌, nat_eq, nat_le, nat_lt, ◌||◌, ◌&&◌, not, if◌then◌else◌, fold, find, slice_get, length}
 use Rattle.std.specs.Option.{option_eq, option_map_or}

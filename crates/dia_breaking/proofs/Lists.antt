@@ -1,4 +1,4 @@
--- What is kept of the members of a list.
+-- Functions of lists, by one member more.
 use Rattle.std.proofs.Common.{◌≡◌, false, ℕ, ◌+◌, ◌<◌, get_or, List, [], ◌∷◌, ◌++◌, length, map, take, Option, Some, None, Result, Ok, Err, sym, ap, subst, ◌∙◌, append_assoc}
 use Rattle.std.specs.Prelude.{◌↔◌, All, Contains, IfOk, IsSome, IsTrue, slice_get}
 use Rattle.std.specs.List.{filter_map, flat_map}

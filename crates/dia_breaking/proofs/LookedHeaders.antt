@@ -1,4 +1,4 @@
--- A header for which A selects a command is told of by one that is looked at: B selects the same for both.
+-- For each header for which A selects a command, one that is looked at reports the same: B selects the same for both.
 use Rattle.std.proofs.Common.{◌≡◌, ◌≢◌, ℕ, zero, suc, ◌+◌, ◌<◌, ◌^◌, Bool, true, false, ◌==◌, ◌&&◌, nat_eq, List, [], ◌∷◌, ◌++◌, length, map, filter, Option, Some, None, refl, sym, ap, subst, ◌∙◌, inl, inr}
 use Rattle.std.specs.Prelude.{◌⊎◌, Contains, MatchOption, is_some, option_and_then, option_to_list, slice_get, position, if◌then◌else◌}
 use Rattle.std.specs.Option.{option_eq, option_map, option_or}

@@ -1,4 +1,4 @@
--- Headers whose P flag and application are mended, as bytes.
+-- Headers whose P flag and application are fixed, as bytes.
 use Rattle.std.proofs.Common.{◌≡◌, ◌≢◌, ℕ, zero, suc, ◌+◌, ◌-◌, ◌*◌, ◌%◌, ◌^◌, ◌<◌, Bool, true, false, bit_and, bit_xor, List, [], ◌∷◌, ◌++◌, length, take, drop, refl, sym, ap, subst, ◌∙◌, append_assoc, arith}
 use Rattle.std.specs.Prelude.{◌↔◌, ◌==◌, ◌&&◌, IsTrue}
 use Rattle.std.specs.Int.{IsBitSet, bit_at, w32, to_be_bytes, from_be_bytes}

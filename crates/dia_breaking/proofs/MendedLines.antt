@@ -1,4 +1,4 @@
--- The messages of lines, with their headers mended.
+-- The messages of lines, with their headers fixed.
 use Rattle.std.proofs.Common.{◌≡◌, ◌≢◌, ℕ, Bool, true, false, not, List, length, take, Some, sym, subst, ◌∙◌}
 use Rattle.std.specs.Prelude.{◌↔◌, IsTrue, slice_get}
 use Rattle.std.specs.Int.{IsBitSet}
@@ -50,7 +50,7 @@ module _ (da db : Dictionary) (who : Sends) (u : Unknown) (c : ℕ) (place : Pla
           breaks = v.1;
         }
 
-    -- or it is mended
+    -- or it is fixed
     pub breaks_new : (message : List ℕ) (accepted : Bool) → ((old : Header) (avps : List PlainAvp) → IsMessage old avps bytes → new.code ≡ old.code → new.hop ≡ old.hop → new.e2e ≡ old.e2e
         → IsMessage new avps message)
         → (IsTrue accepted ↔ IsValid db u levels.Any message) → IsTrue (not accepted) → BreaksOnceMended (sides da db who u) c place bytes

@@ -91,7 +91,7 @@ module _ (s : Sides) (k : Stock) (c size : ℕ) where
   all_apart (site ∷ path) bytes =
       levels_apart site path bytes ∙ ap (λ (ps : List Part). (fronts s k c size (Some site) path ++ bytes) ++ parts_bytes (shortest_avp s k) ps) (sym (append-nil (rests s k c (Some site) path)))
 
-  -- a path written: what stands before, the innermost level, and what stands behind
+  -- a path written: what precedes, the innermost level, and what follows
   pub path_written : (path : List Site) (bytes old first second last : List ℕ) (waiting turned none : List Part) → none ≡ [] → first ≡ old ++ fronts s k c size None path
       → reverse waiting ≡ rests s k c None path ++ reverse none → second ≡ first ++ bytes → turned ≡ reverse waiting → last ≡ second ++ parts_bytes (shortest_avp s k) turned
       → last ≡ old ++ levels_on s k c size path bytes

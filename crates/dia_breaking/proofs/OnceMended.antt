@@ -1,4 +1,4 @@
--- A message is refused once its header is mended, however it is mended for the place; or it isn't.
+-- Whether a message is refused once its header is fixed for a place doesn't depend on how it is fixed.
 use Rattle.std.proofs.Common.{◌≡◌, ◌≢◌, ℕ, zero, suc, ◌+◌, ◌<◌, ◌≤◌, Bool, true, false, bit_and, List, ◌++◌, length, map, take, drop, Option, Some, None, refl, sym, ap, subst, ◌∙◌, arith, inl, inr}
 use Rattle.std.specs.Prelude.{◌↔◌, ◌⊎◌, ◌==◌, IsTrue, not, if◌then◌else◌, slice_get, slice_index}
 use Rattle.std.specs.Int.{IsBitSet}
@@ -114,10 +114,10 @@ one_number d sound code other class kind app its n m y first second at_first at_
     let same : i ≡ j = sound.distinct_commands i j y y (command_at d i n y is at_first) (command_at d j m y are at_second) refl in
     is ∙ ap (λ (k : ℕ). length (groups d) + k) same ∙ sym are
 
--- ---- mended headers
+-- ---- fixed headers
 
 module _ (da db : Dictionary) (who : Sends) (u : Unknown) (sound : IsDictionary da) (sound_b : IsDictionary db) (c : ℕ) (place : Place) where
-  -- two headers that are mended for a place select one definition
+  -- two headers that are fixed for a place select one definition
   selects_alike : (old new other : Header) → IsMendedAt (sides da db who u) c place old new → IsMendedAt (sides da db who u) c place old other
       → selected db new.code (class_of new.flags) new.app ≡ selected db other.code (class_of other.flags) other.app
   selects_alike old new other m n =
@@ -133,7 +133,7 @@ module _ (da db : Dictionary) (who : Sends) (u : Unknown) (sound : IsDictionary 
       one_app (places.Command app read_as is_told proxiable) a b x y = sym x ∙ y
       one_app (places.Group key outer) a b x y = absurd x
 
-  -- B selects another definition for the header that was tried, so no header is mended for the place
+  -- B selects another definition for the header that was tried, so no header is fixed for the place
   pub none_mended : (app read_as def tried : ℕ) (is_told proxiable : Bool) (x y : PlainDefinition) (own : Head) (old : Header) → place ≡ places.Command app read_as is_told proxiable
       → slice_get (definitions da) c ≡ Some x → head_in x.head ≡ Some own → selected db own.code own.class read_as ≡ Some def
       → slice_get (definitions db) def ≡ Some y → ((bit : ℕ) → bit ≢ p_bit → IsBitSet tried bit ↔ IsBitSet old.flags bit)
@@ -156,7 +156,7 @@ module _ (da db : Dictionary) (who : Sends) (u : Unknown) (sound : IsDictionary 
   -- ---- both answers
 
   module _ (bytes : List ℕ) (found : Header) (confirmed : IsConfirmed (sides da db who u) bytes c) (is_head : IsHead found (length bytes) (take 20 bytes)) where
-    -- no header is mended for the place
+    -- no header is fixed for the place
     pub never_mended : ((new : Header) → ¬ IsMendedAt (sides da db who u) c place found new) → ¬ BreaksOnceMended (sides da db who u) c place bytes
     never_mended none breaks =
         let own = header_is breaks.sent.header found breaks.sent.avps bytes breaks.sent.message is_head in
@@ -199,7 +199,7 @@ module _ (da db : Dictionary) (who : Sends) (u : Unknown) (sound : IsDictionary 
           },
         )
 
-    -- so it breaks exactly where the message with this header isn't taken
+    -- so it breaks exactly where the message with this header is refused
     pub said_mended : (new : Header) (message : List ℕ) → IsMendedAt (sides da db who u) c place found new
         → ((old : Header) (avps : List PlainAvp) → IsMessage old avps bytes → new.code ≡ old.code → new.hop ≡ old.hop → new.e2e ≡ old.e2e → IsMessage new avps message)
         → (accepted : Bool) → (IsTrue accepted ↔ IsValid db u levels.Any message) → IsTrue (not accepted) ↔ BreaksOnceMended (sides da db who u) c place bytes

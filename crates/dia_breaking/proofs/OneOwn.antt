@@ -127,7 +127,7 @@ module _ (da db : Dictionary) (who : Sends) (u : Unknown) (key : Key) where
     one_cause kinds.Unknown heads lengths = ap (λ (o : Option HeadBreak). option_map (λ (cause : Cause). (cause, size)) (option_and_then (head_cause kinds.Unknown key) o)) heads
     one_cause kinds.MBit heads lengths = ap (λ (o : Option HeadBreak). option_map (λ (cause : Cause). (cause, size)) (option_and_then (head_cause kinds.MBit key) o)) heads
 
--- ---- lists of which the same is told
+-- ---- lists for which the same is reported
 
 abbrev pub Alike : OwnBreaks → OwnBreaks → Type 0
 Alike one other = (one.key ≡ other.key) × ((kind : Kind) (size : ℕ) → own_cause kind one size ≡ own_cause kind other size)

@@ -1,4 +1,4 @@
--- What is told of two dictionaries is one: keys, applications and orders.
+-- What is reported of two dictionaries is unique: keys, applications and orders.
 use Rattle.std.proofs.Common.{◌≡◌, ℕ, ◌<◌, Bool, true, false, List, [], ◌∷◌, ◌++◌, map, filter, Option, Some, None, refl, sym, ap, subst, ◌∙◌, arith, inl, inr}
 use Rattle.std.specs.Prelude.{◌↔◌, ◌⊎◌, IsTrue, All, MatchOption, option_to_list, position}
 use Rattle.std.specs.HashMap.{get}

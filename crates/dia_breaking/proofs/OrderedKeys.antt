@@ -1,4 +1,4 @@
--- The keys that are sent, in order: the stranger, and that no key stands twice.
+-- The keys that are sent, in order: the stranger, and that no key occurs twice.
 use Rattle.std.proofs.Common.{◌≡◌, ℕ, zero, suc, ◌+◌, ◌<◌, ◌≤◌, Bool, not, List, [], ◌∷◌, ◌++◌, length, map, Option, Some, None, refl, sym, ap, subst, ◌∙◌, arith, inl, inr}
 use Rattle.std.specs.Prelude.{◌⊎◌, is_some, IsSome, slice_get}
 use Rattle.std.proofs.lemmas.Bool.{both_ways, cases_lt, not-true}
@@ -37,7 +37,7 @@ is_stranger da db key strange vendor below = record {
         clash (inl some) = known da other none there.0 some
         clash (inr some) = known db other none there.1 some
 
--- ---- no key stands twice
+-- ---- no key occurs twice
 
 pub apart_map : {X Y : Type 0} (f : X → Y) (xs : List X) → AreApart f xs → AreApart (λ (y : Y). y) (map f xs)
 apart_map f xs apart = λ i j x y at at' same.

@@ -63,6 +63,6 @@ module _ (da db : Dictionary) (who : Sends) (u : Unknown) (key : Key) where
   pub groups_alike : (a b : ℕ) → IsDataBreak da db who u key (Groups a b) → IsTrue false ↔ IsReadAsOther (sides da db who u) key
   groups_alike a b both = not_so (IsReadAsOther (sides da db who u) key) (λ is. is.formats.other (inl (has_group da key a both.0, has_group db key b both.1)))
 
-  -- what breaks by its data is told as such
+  -- what breaks by its data is reported as such
   pub broken_apart : (found : DataBreak) → IsDataBreak da db who u key found → (IsSilentData found → ⊥) → IsTrue false ↔ IsReadAsOther (sides da db who u) key
   broken_apart found content breaks = not_so (IsReadAsOther (sides da db who u) key) (λ is. breaks (silent_by_taken da db who u key found content (inr is.accepted)))

@@ -82,7 +82,7 @@ module _ (da db : Dictionary) (u : Unknown) (v : PlainAvp) where
   by_parts flags (inl accepted) = of_data da db u v (known db (key_of v)) flags accepted
   by_parts flags (inr both) = let y = some_of (group_of db (key_of v)) both.1 in (0, of_group both.0 y.0 (known db (key_of v)) y.1 flags)
 
--- the kinds that lines tell
+-- the kinds that lines report
 abbrev pub IsOfLines : Kind → Type 0
 IsOfLines kinds.Unknown = ⊤
 IsOfLines kinds.MBit = ⊤
@@ -116,7 +116,7 @@ module _ (da db : Dictionary) (who : Sends) (u : Unknown) (made : Facts) (facts 
   keys_sent : AreSentKeys da db who facts.is_telling.keys
   keys_sent = sent_of da db who facts.is_telling.keys facts.is_telling.sent
 
-  -- how it breaks is kept beside
+  -- how it breaks is recorded, too
   record KeptOwn (key : Key) (place : ℕ) : Type 0 where
     one : OwnBreaks
     at : slice_get made.own place ≡ Some one
@@ -151,7 +151,7 @@ module _ (da db : Dictionary) (who : Sends) (u : Unknown) (made : Facts) (facts 
     abbrev HasDataHere : Type 0
     HasDataHere = IsAcceptedData db u key v.bytes
 
-    -- where it is told that flags of an AVP that is reached break, they don't here
+    -- where it is reported that flags of an AVP that is reached break, they don't here
     flags_told : (q : Key) (place : ℕ) (o : KeptOwn q place) (reach : Reach) → slice_get reached place ≡ Some (Some reach) → StandsIn da db key q → (kind : Kind) → IsOfLines kind → (cause : Cause) (n : ℕ)
         → own_cause kind o.one reach.length ≡ Some (cause, n) → n ≤ max_body → flags_key cause ≡ Some o.one.key → HasFlagsHere
     flags_told q place o reach at stands kind of cause n is room its =
@@ -167,7 +167,7 @@ module _ (da db : Dictionary) (who : Sends) (u : Unknown) (made : Facts) (facts 
         flags_told q place o reach at stands kinds.MBit tt (causes.MBit o.one.key m) reach.length
         (ap (λ (h : Option HeadBreak). option_map {U = Cause × ℕ} (λ (cause : Cause). (cause, reach.length)) (option_and_then (head_cause kinds.MBit o.one.key) h)) is) room refl
 
-    -- where nothing is told of its flags, B accepts them all
+    -- where nothing is reported of its flags, B accepts them all
     silent_flags : (q : Key) (place : ℕ) (o : KeptOwn q place) → o.one.breaks.head ≡ None → AcceptsFlags da db who u q
     silent_flags q place o is = subst (λ (k : Key). AcceptsFlags da db who u k) o.is_key (subst (λ (h : Option HeadBreak). IsHeadBreak da db who u o.one.key h) is o.is.head)
 
@@ -186,7 +186,7 @@ module _ (da db : Dictionary) (who : Sends) (u : Unknown) (made : Facts) (facts 
       breaks : (r : DataBreak) → o.one.breaks.data ≡ r → IsDataBreak da db who u key r
       breaks r is = subst (λ (k : Key). IsDataBreak da db who u k r) o.is_key (subst (λ (d : DataBreak). IsDataBreak da db who u o.one.key d) is o.is.content)
 
-      -- where it is told that its data break, they don't here
+      -- where it is reported that its data break, they don't here
       data_told : (n : ℕ) → data_length o.one reach.length o.one.breaks.data ≡ Some n → n ≤ max_body → HasDataHere
       data_told n is fits =
           let cause = causes.Format o.one.key None in
@@ -251,7 +251,7 @@ module _ (da db : Dictionary) (who : Sends) (u : Unknown) (made : Facts) (facts 
         by true e = own_fits (own_kept da db who u made.lengths made.others made.telling made.outlooks facts.is_telling facts.are_outlooks key f e)
         by false e = silent_fits (subst (λ (k : Key). BreaksNothing da db who u k) f.own_key (f.exact.silent.0 e))
 
-    -- ---- a key that neither knows: another stands for it
+    -- ---- a key that neither knows: another represents it
 
     module _ (none_a : entry_of da key ≡ None) (none_b : entry_of db key ≡ None) (q : Key) (strange : IsStrange da db q) (vendor : q.vendor ≡ 0) where
       not_listed : (k : Key) → entry_of da k ≡ None → is_listed x.rules k ≡ false

@@ -1,4 +1,4 @@
--- Lines of AVPs by themselves: which AVPs they tell of, and that messages have room for them.
+-- Lines of AVPs by themselves: which AVPs they report, and that messages have room for them.
 use Rattle.std.proofs.Common.{◌≡◌, ℕ, zero, suc, ◌+◌, ◌≤◌, Bool, true, false, List, [], ◌∷◌, ◌++◌, length, map, Option, Some, None, refl, sym, ap, subst, ◌∙◌, arith, inl, inr}
 use Rattle.std.specs.Prelude.{◌⊎◌, ⊤, ◌&&◌, min, not, is_some, nat_le, slice_get, option_and_then, option_to_list, unwrap_or, if◌then◌else◌}
 use Rattle.std.specs.Option.{option_map, option_map_or}
@@ -39,7 +39,7 @@ use Rattle.dia_breaking.proofs.Lists.{all_in, contains_at}
 use Rattle.dia_breaking.proofs.ToldLevels.{from_each, from_sorted}
 use Rattle.dia_breaking.proofs.WalkGraphs.{lead_takes}
 
--- what is told of AVPs by themselves: the key, and M, where it is of their flags
+-- what is reported of AVPs by themselves: the key, and M, where it is of their flags
 abbrev pub own_key : Cause → Option Key
 own_key causes.Command = None
 own_key causes.Application = None
@@ -73,9 +73,9 @@ stage_exits graph steps (suc i) stage is = by_step (slice_get steps i) is
     by_step None e = absurd (none-some stage e)
     by_step (Some step) e = by_level step (level_of graph step.place) refl e
 
--- ---- what is told
+-- ---- what is reported
 
--- it is told of this AVP, to which a walk leads
+-- it is reported of this AVP, to which a walk leads
 record IsToldOf (kind : Kind) (own : List OwnBreaks) (reached : List (Option Reach)) (told : Told) : Type 0 where
   place : ℕ
   one : OwnBreaks
@@ -200,7 +200,7 @@ no_level_key site way found told i =
 
 -- ---- all lines
 
--- messages have room for an AVP of the key; and B refuses the flag that is told of it
+-- messages have room for an AVP of the key; and B refuses the flag that is reported
 pub record IsOwnLine (s : Sides) (made : Facts) (cause : Cause) (key : Key) : Type 0 where
   pub room : listed_length s.sender s.sends made.lengths key ≤ max_body
   pub refuses : RefusesTold s cause

@@ -33,7 +33,7 @@ last_of sites (suc most) n s less at = by (n == most) refl (λ below. last_of si
         let other : n ≡ most → ⊥ = λ same. absurd (let z : true ≡ false = sym (eq-eqb n most same) ∙ e in cc) in
         past sites most n other ∙ rest (omega (arith, less, other))
 
--- what stands before it, where `o` is its outer site
+-- what precedes it, where `o` is its outer site
 before_it : (sites : List Site) (n : ℕ) (o : Option ℕ) → path_below sites n (unwrap_or o n) ≡ option_map_or (path_below sites n) o []
 before_it sites n None = none_below sites n n (omega arith)
 before_it sites n (Some outer) = refl

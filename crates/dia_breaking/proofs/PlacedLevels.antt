@@ -51,7 +51,7 @@ use Rattle.dia_breaking.proofs.ToldLines.{IsToldIn, cause_is, in_each, with_enou
 
 -- ---- lists
 
--- where nothing is left out, each stands at its place
+-- where nothing is left out, each is at its place
 pub at_kept : {X Y : Type 0} (f : X → Option Y) (xs : List X) → ((i : ℕ) (x : X) → slice_get xs i ≡ Some x → IsSome (f x)) → (i : ℕ) (x : X) (y : Y) → slice_get xs i ≡ Some x → f x ≡ Some y
     → slice_get (filter_map f xs) i ≡ Some y
 at_kept f [] all i x y at is = absurd (none-some x at)
@@ -67,7 +67,7 @@ rules_of_def d def x at = ap (λ (o : Option PlainDefinition). option_map_or (λ
 pub sound_rules : (d : Dictionary) (def : ℕ) (x : PlainDefinition) → IsDictionary d → slice_get (definitions d) def ≡ Some x → AreRules x.rules
 sound_rules d def x sound at = all_in (λ (y : PlainDefinition). AreRules y.rules) (definitions d) x sound.rules (contains_at (definitions d) def x at)
 
--- the line of a level is told, if a message has room for it
+-- the line of a level is reported, if a message has room for it
 pub level_told : (site way : ℕ) (found : List LevelLine) (line : LevelLine) → Contains found line → way + line.length ≤ max_body
     → IsIn (record { site = site; cause = causes.Level line; length = way + line.length }) (level_lines site way found)
 level_told site way found line inside room =
@@ -79,7 +79,7 @@ module _ (da db : Dictionary) (who : Sends) (u : Unknown) (made : Facts) (facts 
   abbrev k : Costs
   k = costs_in (sides da db who u) made
 
-  -- a level stands as B's rules say, if none of its lines shows that a message has room for
+  -- a level is as B's rules say, if none of its lines shows that a message has room for
   pub level_placed : (x y : PlainDefinition) (a b : ℕ) → slice_get (definitions da) a ≡ Some x → slice_get (definitions db) b ≡ Some y → (found : List LevelLine)
       → AreLinesOf k x.rules y.rules found → (way : ℕ) → way ≤ max_body → (avps : List PlainAvp) → IsLevelOf da who x.rules (max_body - way) avps
       → ((line : LevelLine) → Contains found line → way + line.length ≤ max_body → ¬ ShowsAt x.rules y.rules (map key_of avps) line.reason line.key) → Placed y.rules (map key_of avps)
@@ -108,7 +108,7 @@ module _ (da db : Dictionary) (who : Sends) (u : Unknown) (made : Facts) (facts 
 
   -- ---- the level of a group
 
-  -- what is kept of the keys that are told stands at their places
+  -- what is recorded of the keys that are reported is at their places
   same_place : (place : ℕ) (outlook : Outlook) → slice_get made.outlooks place ≡ Some outlook → (one : OwnBreaks) × (slice_get made.own place ≡ Some one) × (one.key ≡ outlook.key)
   same_place place outlook at =
       let keys : map (λ (o : Outlook). o.key) made.outlooks ≡ map (λ (one : OwnBreaks). one.key) made.own = facts.are_outlooks.0 ∙ sym facts.are_own.keys in

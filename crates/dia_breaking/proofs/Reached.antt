@@ -1,4 +1,4 @@
--- What there is to tell of a key has its place, and each level in which an AVP of the key stands leads to it.
+-- What there is to report of a key has its place, and each level with an AVP of the key leads to it.
 use Rattle.std.proofs.Common.{◌≡◌, ℕ, ◌+◌, ◌≤◌, Bool, true, false, List, [], map, Option, Some, None, refl, sym, ap, subst, ◌∙◌, arith}
 use Rattle.std.specs.Prelude.{◌||◌, is_some, IsSome, Contains, position, slice_get, option_and_then}
 use Rattle.std.specs.HashMap.{get}
@@ -72,7 +72,7 @@ module _ (da db : Dictionary) (who : Sends) (u : Unknown) (lengths : List ℕ) (
 
   -- ---- places
 
-  -- what is kept of a key
+  -- what is recorded of a key
   pub record Kept (key : Key) : Type 0 where
     pub place : ℕ
     pub own : Own
@@ -90,7 +90,7 @@ module _ (da db : Dictionary) (who : Sends) (u : Unknown) (lengths : List ℕ) (
       let one : x ≡ own = same_Some x own (sym here ∙ is) in
       ap (λ (o : Own). o.key) (sym one) ∙ same_key-true x.key q same
 
-  -- what is told has its place
+  -- what is reported has its place
   placed : (key : Key) (x : Own) → IsIn x telling.own.items → x.key ≡ key → Kept key
   placed key x inside same =
       let has_key : Own → Bool = λ o. same_key o.key key in
@@ -126,7 +126,7 @@ module _ (da db : Dictionary) (who : Sends) (u : Unknown) (lengths : List ℕ) (
       let inside = in_at tells.all a.place x at in
       record { own = x; inside = inside; own_key = same; exact = all_of (IsExactlyOwn (sides da db who u)) tells.all x tells.each.1 inside }
 
-  -- that of which there is something to tell is kept
+  -- that of which there is something to report is recorded
   news_kept : (key : Key) (f : Found key) → is_news f.own ≡ true → Kept key
   news_kept key f news = placed key f.own (subst (λ (xs : List Own). IsIn f.own xs) (sym tells.told_are) (into_filter is_news tells.all f.own f.inside news)) f.own_key
 

@@ -144,7 +144,7 @@ module _ (da db : Dictionary) (who : Sends) (u : Unknown) (lengths : List ℕ) (
       pub level : IsLevelOf da who x.rules (max_body - stage.way) avps
 
     module _ (walk : IsWalk graph steps reached) where
-      -- so is each AVP of it of which something is kept
+      -- so is each AVP of it of which something is recorded
       abbrev pub Reaches : (x y : PlainDefinition) (avps : List PlainAvp) → AtLevel x y avps → ℕ → Type 0
       Reaches x y avps l place = (reach : Reach) × (slice_get reached place ≡ Some (Some reach)) × (reach.length ≤ l.stage.way + total floor (map key_of avps))
 
@@ -238,7 +238,7 @@ module _ (da db : Dictionary) (who : Sends) (u : Unknown) (lengths : List ℕ) (
               sent = (m, subst (λ (vs : List PlainAvp). AllByRecursion (IsSentWithin da who m) vs) one all);
             }
 
-        -- by the level that is kept of it
+        -- by the level that is recorded of it
         by_inner : (inner : Inner) → p.outlook.inner ≡ Some inner → IsInner da telling (costs_by da who lengths others) p.outlook.key inner → AtLevel g h next
         by_inner inner is_inner is =
             let reach = way.0 in

@@ -1,4 +1,4 @@
--- B refuses the data of the shortest AVP of which a line of the format tells so.
+-- Where a line of the format reports so, B refuses the data of the shortest AVP.
 use Rattle.std.proofs.Common.{◌≡◌, ℕ, zero, suc, ◌+◌, ◌-◌, ◌<◌, ◌≤◌, List, [], ◌∷◌, ◌++◌, drop, length, Option, Some, None, refl, sym, ap, subst, ◌∙◌, arith, length-append, inl, inr, true≢false}
 use Rattle.std.specs.Prelude.{⊤, Contains, IsSome, MatchOption, max, min, option_and_then, slice_get}
 use Rattle.std.specs.Option.{option_map_or}
@@ -129,7 +129,7 @@ module _ (s : Sides) (least : Least) (lengths : List ℕ) (are : IsLeastFor s.se
       let same = one_least_avp s.sender s.sends other least its.is_least are.is_least key in
       not (subst (IsAcceptedData s.receiver s.unknown key) (sym (ap (λ (bs : List ℕ). drop (shortest_head key) bs) same ∙ one.behind)) accepted)
 
--- ---- groups of which a line tells
+-- ---- groups that a line reports
 
 -- the sender's AVPs of the key are groups
 pub record HasOwnGroup (s : Sides) (key : Key) : Type 0 where
@@ -154,7 +154,7 @@ refused_group s key (inl (sent, rest)) = own_group s key sent
 refused_group s key (inr (inl ((sent, rest), of))) = own_group s key sent
 refused_group s key (inr (inr ((sent, rest), of))) = own_group s key sent
 
--- ---- what stands in a level is no longer than the level
+-- ---- what is in a level is no longer than the level
 
 module _ (s : Sides) (k : Stock) (c : ℕ) where
   pub round_long : (place : Place) (key : Key) (bytes : List ℕ) → length bytes ≤ length (level_round s k c place key bytes)

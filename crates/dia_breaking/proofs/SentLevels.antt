@@ -28,7 +28,7 @@ head_at_least v = by v.vendor
     by (Some zero) = omega arith
     by (Some (suc n)) = omega arith
 
--- an AVP has room for its data behind the shortest head
+-- an AVP has room for its data after the shortest head
 data_within : (v : PlainAvp) → length v.bytes + shortest_head (key_of v) ≤ padded_length v
 data_within v = let head = head_at_least v in let more = rounded_up (avp_length v) in omega (arith, head, more)
 

@@ -26,7 +26,7 @@ either : (b : Bool) (m n : ℕ) → n ≡ m → (if b then m else n) ≡ m
 either true m n e = refl
 either false m n e = e
 
--- what is sent stands as the rules say
+-- what is sent is where the rules place it
 pub stand_placed : (who : Sends) (rules : List DRule) (keys : List Key) → StandAsSent who rules keys → Placed rules keys
 stand_placed Any rules keys h = h
 stand_placed Known rules keys h = h

@@ -114,7 +114,7 @@ module _ (s : Sides) (k : Stock) (c : ℕ) (sites : List Site) (line : Line) (by
       let size = broken.size in
       refused s k.least lengths least key own.entry own.group own.knows own.some short one (omega (arith, fits, checked, size, within, rest)) refuses)
 
--- the lengths by which the lines are told are those of what messages are made of
+-- the lengths that the lines report are those of what messages are made of
 least_for : (s : Sides) (k : Stock) (lengths : List ℕ) (made : Facts) → IsLeastFor s.sender s.sends k.least lengths → AreFacts s made → IsLeastFor s.sender s.sends k.least made.lengths
 least_for s k lengths made least facts = record {
   is_least = least.is_least;

@@ -1,4 +1,4 @@
--- What is written for a level spells AVPs, and among them the one that its line tells of.
+-- What is written for a level spells AVPs, among them the one that its line reports.
 use Rattle.std.proofs.Common.{◌≡◌, ℕ, zero, suc, ◌+◌, ◌<◌, ◌≤◌, Bool, true, false, List, [], ◌∷◌, ◌++◌, length, take, Option, Some, None, refl, sym, ap, subst, ◌∙◌, arith, inl, inr}
 use Rattle.std.specs.Prelude.{◌⊎◌, Contains, min, max, if◌then◌else◌, slice_get, slice_index, slice_set}
 use Rattle.std.specs.Option.{option_map_or}
@@ -127,7 +127,7 @@ module _ (s : Sides) (k : Stock) (is : IsLeastOf s.sender s.sends k.least) where
         refl,
       )
 
--- one with data that are told
+-- one with data that are reported
 pub data_spelled : (key : Key) (m : Bool) (found : Witness) → IsSpellable key
     → (v : PlainAvp) × Spells v (avp_bytes key m (witness_bytes found)) × (key_of v ≡ key) × (v.bytes ≡ witness_bytes found)
 data_spelled key m found small =

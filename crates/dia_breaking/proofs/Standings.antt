@@ -18,7 +18,7 @@ pub standings_more : (left : ℕ) (lines : List Line) (line : Line) → HaveStan
 standings_more left [] line have own = (own, tt)
 standings_more left (x ∷ xs) line have own = (have.0, standings_more (left_behind left x) xs line have.1 own)
 
--- the line as it stands then
+-- the line with its status
 pub so_told : (left : ℕ) (line : Line) (standing : Standing) → IsStandingOf left line standing → IsStandingOf left (record line { standing = standing }) standing
 so_told left line standing is = record { undecided = is.undecided; checked = is.checked; too_long = is.too_long }
 
@@ -31,7 +31,7 @@ module _ (s : Sides) (k : Stock) (c : ℕ) (sites : List Site) where
   where_more left (x ∷ xs) line are own = (are.0, where_more (left_behind left x) xs line are.1 own)
 
   module _ (left : ℕ) (line : Line) where
-    -- the line as it stands then
+    -- the line with its status
     pub so_where : (standing : Standing) → IsConfirmedWhere s k c sites left line standing → IsConfirmedWhere s k c sites left (record line { standing = standing }) standing
     so_where standing iff = (
       (λ is. let (checked, (bytes, b)) = iff.0 is in (checked, (bytes, record { message = b.message; size = b.size; confirmed = b.confirmed; behind = b.behind }))),

@@ -1,4 +1,4 @@
--- One key more that is told exactly, and the places of what is told.
+-- One key more that is recorded exactly, and the places of what is recorded.
 use Rattle.std.proofs.Common.{◌≡◌, ℕ, ◌<◌, arith, Bool, true, false, List, [], ◌∷◌, ◌++◌, length, filter, Option, Some, None, refl, sym, ap, subst, ◌∙◌, inl, inr}
 use Rattle.std.specs.Prelude.{◌⊎◌, ◌&&◌, is_some, IsSome, Contains, slice_get, position, if◌then◌else◌}
 use Rattle.std.specs.HashMap.{get}

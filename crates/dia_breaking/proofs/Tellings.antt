@@ -1,4 +1,4 @@
--- What is told of the keys that are sent is all that there is to tell.
+-- What is recorded of the keys that are sent is all that there is to report.
 use Rattle.std.proofs.Common.{◌≡◌, ℕ, zero, suc, Bool, true, false, List, [], ◌∷◌, ◌++◌, length, Option, Some, None, refl, sym, ap, subst, ◌∙◌, arith, inl, inr}
 use Rattle.std.specs.Prelude.{◌⊎◌, ◌&&◌, is_some, IsSome, MatchOption, ⊤, Contains, slice_get, option_and_then, if◌then◌else◌}
 use Rattle.std.specs.HashMap.{get}

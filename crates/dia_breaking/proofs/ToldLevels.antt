@@ -1,4 +1,4 @@
--- Which of the lines of a command tell of levels.
+-- Which of the lines of a command report levels.
 use Rattle.std.proofs.Common.{◌≡◌, ℕ, zero, suc, ◌+◌, Bool, true, false, List, [], ◌∷◌, ◌++◌, length, Option, Some, None, refl, sym, ap, subst, ◌∙◌, inl, inr}
 use Rattle.std.specs.Prelude.{◌⊎◌, ◌&&◌, not, nat_le, ◌==◌, slice_get, option_and_then, option_to_list, if◌then◌else◌}
 use Rattle.std.specs.Option.{option_map, option_map_or}
@@ -24,7 +24,7 @@ use Rattle.dia_breaking.specs.Listing.{Told, data_length, flag_causes, head_caus
 use Rattle.dia_breaking.specs.Orders.{IsInOrderOf, joined, of_each}
 use Rattle.dia_breaking.specs.Sites.{other_head, site_number}
 
--- the line of a level, if a line tells of one
+-- the line of a level, if a line reports one
 abbrev pub level_in : Cause → Option LevelLine
 level_in causes.Command = None
 level_in causes.Application = None
@@ -59,7 +59,7 @@ from_sorted {X} number all sorted x order i =
     let kept = into_filter p sorted x i (eq-eqb (number x) (number x) refl) in
     (in_filter p all x (subst (λ (xs : List X). IsIn x xs) (order.each (number x)) kept)).0
 
--- a told line that had room
+-- a reported line that had room
 had_room : (site size : ℕ) (cause : Cause) (told : Told) → with_room site size cause ≡ Some told → (told.site ≡ site) × (told.cause ≡ cause)
 had_room site size cause told is = by (nat_le size max_body) is
   where
@@ -79,7 +79,7 @@ of_levels site way found told line i tells_it =
     let same : h.1 ≡ line = same_Some h.1 line (sym (ap level_in parts.1) ∙ tells_it) in
     (parts.0, subst (λ (l : LevelLine). IsIn l found) same (in_at found h.0 h.1 h.2))
 
--- a header's line tells of none
+-- a header's line reports none
 pub no_head_level : (db : Dictionary) (head : Head) (app : ℕ) (cause : Cause) → IsIn cause (header_causes db head app) → level_in cause ≡ None
 no_head_level db head app cause = by (other_head db head app)
   where

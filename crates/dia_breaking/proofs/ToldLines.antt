@@ -1,4 +1,4 @@
--- What is told of a command is told by a line of its answer.
+-- What is reported of a command is reported by a line of its answer.
 use Rattle.std.proofs.Common.{◌≡◌, ℕ, zero, suc, ◌<◌, ◌≤◌, Bool, true, false, List, [], ◌∷◌, ◌++◌, length, map, Option, Some, None, refl, sym, ap, subst, ◌∙◌, arith, inl, inr}
 use Rattle.std.specs.Prelude.{◌⊎◌, ◌==◌, Contains, slice_get, option_and_then, option_to_list, if◌then◌else◌}
 use Rattle.std.specs.Option.{option_map_or}
@@ -48,7 +48,7 @@ in_sorted {X} number all sorted x order i =
 pub with_enough : (site size : ℕ) (cause : Cause) → size ≤ max_body → with_room site size cause ≡ Some (record { site = site; cause = cause; length = size })
 with_enough site size cause le = ap (λ (b : Bool). if b then Some (record { site = site; cause = cause; length = size }) else None) (le-leb size max_body le)
 
--- a line tells this
+-- a line reports this
 pub record IsToldIn (lines : List Line) (told : Told) : Type 0 where
   pub line : Line
   pub inside : Contains lines line
@@ -66,7 +66,7 @@ is_data (causes.Format key found) = true
 is_data (causes.LevelAsLeaf key) = true
 is_data cause = false
 
--- but for data, what a line tells is its cause
+-- but for data, what a line reports is its cause
 pub cause_is : (cause told : Cause) → subject cause ≡ told → is_data told ≡ false → cause ≡ told
 cause_is (causes.Format key found) told e none = absurd (let bad : true ≡ false = ap is_data e ∙ none in cc)
 cause_is (causes.LevelAsLeaf key) told e none = absurd (let bad : true ≡ false = ap is_data e ∙ none in cc)
@@ -103,7 +103,7 @@ subject_data (causes.Meaning key) = refl
 
 -- ---- AVPs by themselves
 
--- what is reached of an AVP is told, if a message has room for it
+-- what is reached of an AVP is reported, if a message has room for it
 pub own_told : (kind : Kind) (first count : ℕ) (owns : List OwnBreaks) (reached : List (Option Reach)) (place : ℕ) (one : OwnBreaks) (reach : Reach) (cause : Cause) (n : ℕ)
     → slice_get owns place ≡ Some one → slice_get reached place ≡ Some (Some reach) → own_cause kind one reach.length ≡ Some (cause, n) → n ≤ max_body
     → IsIn (record { site = site_number first count reach.level; cause = cause; length = n }) (own_lines kind first count owns reached)
@@ -171,6 +171,6 @@ module _ (db : Dictionary) (basis : Basis) (first count : ℕ) (steps : List Ste
   pub from_data : (told : Told) → IsIn told (by kinds.Data) → AllTold told
   from_data told i = in_right ((((heads ++ own_levels) ++ inner_levels) ++ by kinds.Unknown) ++ by kinds.MBit) (by kinds.Data) told i
 
-  -- a line tells each
+  -- a line reports each
   pub told_of : (lines : List Line) → AreInOrder (lines_of db basis (numbers first count) steps reached) (map tells lines) → (told : Told) → AllTold told → IsToldIn lines told
   told_of lines order told i = told_in lines told (in_sorted (λ (line : Told). line.site) (lines_of db basis (numbers first count) steps reached) (map tells lines) told order i)

@@ -1,4 +1,4 @@
--- What is told where lines are added, part by part.
+-- What is reported where lines are added, part by part.
 use Rattle.std.proofs.Common.{◌≡◌, ℕ, zero, suc, ◌+◌, ◌≤◌, ◌<◌, List, [], ◌∷◌, ◌++◌, length, map, take, Option, Some, None, sym, refl, ap, subst, ◌∙◌, arith, inl, inr, append_assoc, append-nil, add-one}
 use Rattle.std.specs.Prelude.{◌⊎◌, OnOk, slice_get}
 use Rattle.std.specs.declared.result.Result.{Result}
@@ -30,7 +30,7 @@ module _ {X Y : Type 0} (f : ℕ → X → List Y) (xs : List X) where
   abbrev part_at : ℕ → List Y
   part_at i = option_map_or (f i) (slice_get xs i) []
 
-  -- behind the last element there are no parts
+  -- after the last element there are no parts
   pub joined_past : (i : ℕ) → length xs ≤ i → joined part_at i ≡ of_each f xs
   joined_past zero le = ap (joined part_at) (let e : 0 ≡ length xs = omega (arith, le) in e)
   joined_past (suc i) le = past (cases_order (length xs) (suc i)) (joined_past i)
@@ -58,7 +58,7 @@ pub adds_at_on_ok : {X Y E : Type 0} (f : X → List Told) (xs : List X) (i : �
     → OnOk r (AddsTold a b (option_map_or f (slice_get xs i) []))
 adds_at_on_ok {X} f xs i x r a b at adds = subst (λ (o : Option X). OnOk r (AddsTold a b (option_map_or f o []))) (sym at) adds
 
--- what is known of lines is no part of what they tell
+-- the status of lines is no part of what they report
 told_images : (xs : List Line) → map told_of (map unchecked xs) ≡ map told_of xs
 told_images [] = refl
 told_images (x ∷ xs) = ap (λ zs. told_of x ∷ zs) (told_images xs)
@@ -90,7 +90,7 @@ adds_level site way outlooks place outlook inner lines r a b at some is adds =
     ∙ sym (slice_get-map lines_in outlooks place ∙ ap (option_map lines_in) at ∙ ap (λ (inner : Option Inner). Some (option_map_or (λ (i : Inner). i.lines.items) inner [])) some))
     adds
 
--- what is added behind others for one member more
+-- what is added after others for one member more
 pub added_behind : {X Y : Type 0} (f : X → Option Y) (xs : List X) (i : ℕ) (x : X) (start old new : List Y) → new ≡ old ++ filter_map f (x ∷ []) → old ≡ start ++ filter_map f (take i xs)
     → slice_get xs i ≡ Some x
     → new ≡ start ++ filter_map f (take (i + 1) xs)

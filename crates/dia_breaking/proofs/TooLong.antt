@@ -32,7 +32,7 @@ below_three_bytes (x ∷ y ∷ []) e h = absurd (omega (arith, e))
 below_three_bytes (x ∷ y ∷ z ∷ []) e h = let less : x * 65536 + (y * 256 + (z * 1 + 0)) < 16777216 = omega (arith, h.0, h.1.0, h.1.1.0) in less
 below_three_bytes (x ∷ y ∷ z ∷ w ∷ more) e h = absurd (let f : suc (suc (suc (suc (length more)))) ≡ 3 = e in omega (arith, f))
 
--- its length stands in three bytes
+-- its length has three bytes
 head_says : (h : Header) (n : ℕ) (b : List ℕ) → IsHead h n b → AreBytes b → n < three_bytes
 head_says h n b s are =
     let all = subst AreBytes s.parts are in

@@ -19,20 +19,20 @@ IsConfirmedBy Any s bytes c = Breaks s.sender s.receiver Any s.unknown bytes c
 IsConfirmedBy Known s bytes c = Breaks s.sender s.receiver Known s.unknown bytes c
 IsConfirmedBy Listed s bytes c = IsValidOf s.sender (own_policy Listed) levels.Any bytes c × (¬ IsValid s.receiver s.unknown levels.Any bytes)
 
--- the message is valid for the sender, as one of the command c, and not for the receiver. Where all AVPs have to be listed, it is only known to
--- be valid for a sender that sends what it knows
+-- the message is valid for the sender, as one of the command c, and not for the receiver. Where all AVPs have to be listed, it is
+-- only known to be valid for a sender that sends what it knows
 abbrev pub IsConfirmed : Sides → List ℕ → ℕ → Type 0
 IsConfirmed s bytes c = IsConfirmedBy s.sends s bytes c
 
--- each line that is told as confirmed has such a message
+-- each line that is reported as confirmed has such a message
 abbrev pub EachConfirmedBreaks : Sides → ℕ → List Line → Type 0
 EachConfirmedBreaks s c lines = All (λ line. line.standing ≡ Confirmed → (bytes : List ℕ) × IsConfirmed s bytes c) lines
 
--- what a line tells, whatever is known of it: its site, and what breaks
+-- what a line reports, whatever its status: its site, and what breaks
 abbrev pub told_of : Line → ℕ × Cause
 told_of line = (line.site, line.cause)
 
--- none of the lines is told so
+-- none of the lines is reported as confirmed
 abbrev pub NoneConfirmed : List Line → Type 0
 NoneConfirmed lines = All (λ line. ¬ (line.standing ≡ Confirmed)) lines
 
@@ -51,15 +51,15 @@ abbrev pub has_no_message : Cause → Bool
 has_no_message (causes.LevelAsLeaf key) = true
 has_no_message cause = false
 
--- the line's message is checked, where so many bytes are left for this and the lines behind
+-- the line's message is checked, where so many bytes are left for this line and those after it
 abbrev pub is_checked : ℕ → Line → Bool
 is_checked left line = not (has_no_message line.cause) && (nat_le line.length most_checked && nat_le line.length left)
 
--- what is left for the lines behind
+-- how many bytes are left for the lines after it
 abbrev pub left_behind : ℕ → Line → ℕ
 left_behind left line = if is_checked left line then left - line.length else left
 
--- what is left behind all of these
+-- how many bytes are left after all of these
 abbrev pub left_after : ℕ → List Line → ℕ
 left_after left [] = left
 left_after left (line ∷ lines) = left_after (left_behind left line) lines
@@ -81,12 +81,13 @@ HaveStandings left (line ∷ lines) = IsStandingOf left line line.standing × Ha
 abbrev pub ListsCommand : Dictionary → PlainTable → ℕ → Type 0
 ListsCommand da table c = (command : PlainDefinition) × (pair : List ℕ × List ℕ) × (slice_get (definitions da) c ≡ Some command) × Contains table.commands pair × (command.name ≡ pair.0)
 
--- where a table shows inclusion, with the sender's own policy for unknown AVPs on both sides, no message breaks a command that it lists
+-- where a table shows inclusion, with the sender's own policy for unknown AVPs on both sides, no message breaks a command that it
+-- lists
 abbrev pub IncludedBreakNothing : Type 0
 IncludedBreakNothing = (da db : Dictionary) (who : Sends) (table : PlainTable) (c : ℕ) (bytes : List ℕ) → IsIncluded da db (own_policy who) table → ListsCommand da table c
     → ¬ IsConfirmed (sides da db who (own_policy who)) bytes c
 
--- and no line of such a command is told as confirmed
+-- and no line of such a command is reported as confirmed
 abbrev pub IncludedHaveNoLines : Type 0
 IncludedHaveNoLines = (da db : Dictionary) (who : Sends) (table : PlainTable) (c : ℕ) (lines : List Line) → IsIncluded da db (own_policy who) table → ListsCommand da table c
     → EachConfirmedBreaks (sides da db who (own_policy who)) c lines → NoneConfirmed lines

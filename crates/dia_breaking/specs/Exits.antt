@@ -18,7 +18,7 @@ use Rattle.dia_breaking.specs.LevelCosts.{cost_of, with_listed}
 use Rattle.dia_breaking.specs.Outlooks.{group_rules}
 use Rattle.dia_breaking.specs.Taken.{AreGroups}
 
--- the place of the rule's key in what is told, if it is told, and the length of a least level that has an AVP of it
+-- the place of the rule's key in the record, if it is there, and the length of a least level that has an AVP of it
 abbrev pub exit_by : Telling → (Key → ℕ) → LevelCost → DRule → Option (ℕ × ℕ)
 exit_by telling listed cost rule = option_and_then (λ key. option_map (λ place. (place, with_listed cost rule (listed key))) (get same_key telling.places key)) rule.key
 
@@ -37,11 +37,11 @@ pub record IsInner (da : Dictionary) (telling : Telling) (k : Costs) (key : Key)
 abbrev pub IsInnerOrNone : Dictionary → Dictionary → Telling → Costs → Key → Option Inner → Type 0
 IsInnerOrNone da db telling k key inner = MatchOption inner (¬ AreGroups da db key) (λ inner. AreGroups da db key × IsInner da telling k key inner)
 
--- of an AVP of which there is something to tell: its least length through a wildcard, and its group, if it is one for both
+-- of an AVP of which there is something to report: its least length through a wildcard, and its group, if it is one for both
 pub record IsOutlook (da db : Dictionary) (telling : Telling) (k : Costs) (outlook : Outlook) : Type 0 where
   pub other_is : outlook.other ≡ k.other outlook.key
   pub inner_is : IsInnerOrNone da db telling k outlook.key outlook.inner
 
--- of all that is told, in its order
+-- of all that is recorded, in its order
 abbrev pub AreOutlooks : Dictionary → Dictionary → Telling → Costs → List Outlook → Type 0
 AreOutlooks da db telling k outlooks = (map (λ outlook. outlook.key) outlooks ≡ map (λ own. own.key) telling.own.items) × All (IsOutlook da db telling k) outlooks

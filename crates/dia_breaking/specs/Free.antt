@@ -1,4 +1,4 @@
--- Messages that are free of the lines of an answer: they break in none of the ways that it tells.
+-- Messages that are free of the lines of an answer: they break in none of the ways that it reports.
 use Rattle.std.specs.Prelude.{◌≡◌, ◌⊎◌, ℕ, Bool, true, false, List, map, Some, slice_get, Contains}
 use Rattle.dia_wire.specs.declared.Header.{Header}
 use Rattle.dia_wire.specs.declared.Key.{Key}
@@ -36,19 +36,19 @@ abbrev pub IsReadBy : Dictionary → Dictionary → ℕ → Place → PlainDefin
 IsReadBy da db c (places.Command app read_as is_told proxiable) x y = (slice_get (definitions da) c ≡ Some x) × IsSelectedFor db x.head read_as y
 IsReadBy da db c (places.Group key outer) x y = (group_of da key ≡ Some x) × (group_of db key ≡ Some y)
 
--- the line stands at a site whose level is read so
+-- the line has a site whose level is read so
 abbrev pub IsLineOf : Dictionary → Dictionary → List Site → ℕ → Line → PlainDefinition → PlainDefinition → Type 0
 IsLineOf da db sites c line x y = (site : Site) × (slice_get sites line.site ≡ Some site) × IsReadBy da db c site.place x y
 
 -- ---- levels
 
--- AVPs of the key stand for those of another: they have that key, or neither dictionary knows either
+-- the first key represents the other: they are equal, or neither dictionary knows either
 abbrev pub StandsIn : Dictionary → Dictionary → Key → Key → Type 0
 StandsIn da db key own = (key ≡ own) ⊎ (IsStrange da db own × IsStrange da db key)
 
--- a level that these definitions read breaks in none of the ways that lines of such levels tell. Where a line tells that AVPs of a key break
--- by their flags, those that stand for them in the level have flags that B accepts. Where one tells that they break by their data, those of
--- the level have data that B accepts
+-- a level that these definitions read breaks in none of the ways that lines of such levels report. Where a line reports the flags
+-- of AVPs of a key, B accepts the flags of the level's AVPs whose keys represent it. Where one reports their data, B accepts the
+-- data of the level's AVPs of the key
 pub record IsFreeLevel (da db : Dictionary) (u : Unknown) (sites : List Site) (lines : List Line) (c : ℕ) (x y : PlainDefinition) (avps : List PlainAvp) : Type 0 where
   pub level : (line : Line) (told : LevelLine) → Contains lines line → line.cause ≡ causes.Level told → IsLineOf da db sites c line x y
       → ¬ ShowsAt x.rules y.rules (map key_of avps) told.reason told.key
@@ -64,15 +64,15 @@ abbrev pub HasThisP : Bool → ℕ → Type 0
 HasThisP true flags = HasP flags
 HasThisP false flags = ¬ HasP flags
 
--- a line tells that this definition of B forbids the P flag of these flags
+-- a line reports that this definition of B forbids the P flag of these flags
 abbrev pub TellsFlags : Dictionary → Dictionary → List Site → List Line → ℕ → AboutFlags
 TellsFlags da db sites lines c other flags = (line : Line) × (set : Bool) × (x : PlainDefinition) × Contains lines line × (line.cause ≡ causes.Proxiable set)
     × IsLineOf da db sites c line x other × HasThisP set flags
 
 -- ---- messages
 
--- B selects a definition, and allows the P flag, also where lines tell of others; and each level that both dictionaries see in the message is
--- free of the lines
+-- B selects a definition, and allows the P flag, also where lines report others; and each level that both dictionaries see in the
+-- message is free of the lines
 abbrev pub IsFree : Dictionary → Dictionary → Unknown → List Site → List Line → ℕ → Header → PlainDefinition → List PlainAvp → Type 0
 IsFree da db u sites lines c header command avps = IsAsked da db (IsFreeLevel da db u sites lines c) (TellsRefusal lines) (TellsFlags da db sites lines c) header command avps
 

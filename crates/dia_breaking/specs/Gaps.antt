@@ -1,8 +1,8 @@
--- What is left of ranges that are in order and apart where others are taken out.
+-- The rest of ranges that are in order and apart where others are taken out.
 use Rattle.std.specs.Prelude.{ℕ, suc, ◌-◌, nat_lt, nat_le, if◌then◌else◌, List, [], ◌∷◌, ◌++◌, Option, Some, None}
 use Rattle.std.specs.List.{flat_map}
 
--- the numbers from `low` on that stand before `from`
+-- the numbers from `low` on that precede `from`
 abbrev pub front : ℕ → ℕ → List (ℕ × ℕ)
 front low from = if nat_lt low from then (low, from - 1) ∷ [] else []
 

@@ -1,4 +1,4 @@
--- The headers of a command's messages that tell of all, as they are found.
+-- The headers of a command's messages that represent all, as they are found.
 use Rattle.std.specs.Prelude.{◌≡◌, ◌⊎◌, ℕ, ◌==◌, nat_eq, Bool, true, not, List, [], Option, Some, None, if◌then◌else◌, unwrap_or, slice_get, Contains}
 use Rattle.std.specs.List.{filter_map}
 use Rattle.std.specs.Option.{option_map}
@@ -56,7 +56,7 @@ head_in (Error p) = Some (record { code = 0; class = classes.Error; app = Some 0
 abbrev pub HasHead : Dictionary → ℕ → Head → Type 0
 HasHead d c head = (x : PlainDefinition) × (slice_get (definitions d) c ≡ Some x) × (head_in x.head ≡ Some head)
 
--- a line tells that B selects no definition
+-- a line reports that B selects no definition
 abbrev pub TellsRefusal : List Line → Type 0
 TellsRefusal lines = (line : Line) × Contains lines line × ((line.cause ≡ causes.Command) ⊎ (line.cause ≡ causes.Application))
 

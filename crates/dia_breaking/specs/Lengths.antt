@@ -39,7 +39,8 @@ AreSameLengths d xs ys = (e : ℕ) → e < length d.entries → entry_length ys 
 
 -- ---- exactly these
 
--- the keys that a wildcard lets in, so that the first that no rule lists is one of a shortest AVP: where it lets in any, the stranger; where it lets in what A knows, A's keys by the lengths of their AVPs, and those of one length in A's order
+-- the keys that a wildcard lets in, so that the first that no rule lists is one of a shortest AVP: where it lets in any, the
+-- stranger; where it lets in what A knows, A's keys by the lengths of their AVPs, and those of one length in A's order
 abbrev pub AreExactlyOthers : Dictionary → Dictionary → Sends → List ℕ → List Key → Type 0
 AreExactlyOthers da db Any lengths keys = (key : Key) × IsStranger da db key × (keys ≡ key ∷ [])
 AreExactlyOthers da db Known lengths keys =

@@ -1,4 +1,4 @@
--- What a definition's levels take in which an AVP stands (RFC 6733 section 3.2).
+-- What a definition's levels with an AVP take (RFC 6733 section 3.2).
 use Rattle.std.specs.Prelude.{◌≡◌, ℕ, ◌+◌, ◌-◌, nat_eq, nat_le, nat_lt, false, ◌||◌, if◌then◌else◌, List, Some}
 use Rattle.std.specs.Option.{option_eq, option_map_or}
 use Rattle.dia_wire.specs.declared.Key.{Key}
@@ -19,16 +19,16 @@ with_listed cost rule length = if option_eq nat_eq rule.max (Some 0) || nat_le t
 abbrev pub with_other : LevelCost → ℕ → ℕ
 with_other cost length = capped (cost.beside + length)
 
--- what a least level takes beside an AVP by this wildcard, where the least by it has the length `filler`
+-- what a least level takes besides an AVP by this wildcard, where the least by it has the length `filler`
 abbrev pub beside_of : ℕ → ℕ → DRule → ℕ
 beside_of base filler wild = if option_eq nat_eq wild.max (Some 0) || nat_le too_long base then too_long else if nat_lt 0 wild.min then base - filler else base
 
--- no level in which a key stands is shorter than the cost says
+-- no level with an AVP of a key is shorter than the cost says
 pub record IsCostOf (listed other : Key → ℕ) (rules : List DRule) (cost : LevelCost) : Type 0 where
   pub listed_within : (key : Key) (rule : DRule) → HasRule rules key rule → IsWithinAllWith (price listed other rules) rules key (with_listed cost rule (listed key))
   pub others_within : (key : Key) → is_listed rules key ≡ false → IsWithinAllWith (price listed other rules) rules key (with_other cost (other key))
 
--- the least level of the rules, and what it takes beside an AVP that comes through their wildcard
+-- the least level of the rules, and what it takes besides an AVP that comes through their wildcard
 abbrev pub cost_from : ℕ → ℕ → List DRule → LevelCost
 cost_from base filler rules = record { base = base; beside = option_map_or (beside_of base filler) (wildcard_of rules) too_long }
 

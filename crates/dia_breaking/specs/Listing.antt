@@ -1,4 +1,4 @@
--- The lines of a command, by what they tell.
+-- The lines of a command, by what they report.
 use Rattle.std.specs.Prelude.{◌≡◌, ℕ, ◌+◌, ◌-◌, min, nat_le, Bool, true, false, not, ◌&&◌, if◌then◌else◌, List, [], ◌∷◌, ◌++◌, length, map, All, Option, Some, None, option_and_then, is_some, option_to_list, slice_get, unwrap_or}
 use Rattle.std.specs.List.{filter_map}
 use Rattle.std.specs.Option.{option_map, option_map_or}
@@ -35,7 +35,7 @@ use Rattle.dia_breaking.specs.Nodes.{node_in}
 use Rattle.dia_breaking.specs.Orders.{IsInOrderOf, of_each}
 use Rattle.dia_breaking.specs.Sites.{other_head, command_sites, first_read, site_number, group_sites}
 
--- ---- what a line tells
+-- ---- what a line reports
 
 -- the number of its site, what breaks, and the length of its message
 pub record Told : Type 0 where
@@ -43,7 +43,7 @@ pub record Told : Type 0 where
   pub cause : Cause
   pub length : ℕ
 
--- which data break is left apart, and so it is whether those of a shortest group do that B reads as a leaf
+-- without the data that break, and without whether the data of a shortest group break that B reads as a leaf
 abbrev pub subject : Cause → Cause
 subject (causes.Format key found) = causes.Format key None
 subject (causes.LevelAsLeaf key) = causes.Format key None
@@ -52,27 +52,27 @@ subject cause = cause
 abbrev pub subject_with : Cause × ℕ → Cause × ℕ
 subject_with found = (subject found.0, found.1)
 
--- what is known of the line is left apart too
+-- also without the status of the line
 abbrev pub tells : Line → Told
 tells line = record { site = line.site; cause = subject line.cause; length = line.length }
 
--- the lines of the second list are those of the first, and behind them some that tell this
+-- the lines of the second list are those of the first, followed by some that report this
 abbrev pub AddsTold : List Line → List Line → List Told → Type 0
 AddsTold old new told = map tells new ≡ map tells old ++ told
 
--- a line of which nothing is known
+-- an unchecked line
 abbrev pub new_line : ℕ → Cause → ℕ → Line
 new_line site cause size = record { site = site; cause = cause; length = size; standing = Unchecked }
 
--- the same line, of which nothing is known
+-- the same line, unchecked
 abbrev pub unchecked : Line → Line
 unchecked line = record line { standing = Unchecked }
 
--- nothing is known of these lines
+-- these lines are unchecked
 abbrev pub AreUnchecked : List Line → Type 0
 AreUnchecked lines = All (λ line. line.standing ≡ Unchecked) lines
 
--- where nothing is known of the old ones, it isn't of the new ones
+-- where the old ones are unchecked, the new ones are
 abbrev pub KeepsUnchecked : List Line → List Line → Type 0
 KeepsUnchecked old new = AreUnchecked old → AreUnchecked new
 
@@ -134,7 +134,7 @@ data_length own size LeastLevel = Some size
 data_length own size EightBytes = Some size
 data_length own size Undecided = Some size
 
--- what there is to tell of this kind, and what a message takes
+-- what there is to report of this kind, and what a message takes
 abbrev pub own_cause : Kind → OwnBreaks → ℕ → Option (Cause × ℕ)
 own_cause kinds.Data own size = option_map (λ n. (causes.Format own.key None, n)) (data_length own size own.breaks.data)
 own_cause kinds.Meaning own size = if own.is_other then Some (causes.Meaning own.key, size) else None
@@ -157,8 +157,9 @@ own_lines kind first count own reached = of_each (reached_line kind first count 
 
 -- ---- all
 
--- what the sites and the lines are made of: the head of the command, the length of a least level of it, its readings, and for each how its
--- levels break B's rules; where levels lead; and the AVPs of which there is something to tell, with how the levels of each break B's rules
+-- what the sites and the lines are made of: the head of the command, the length of a least level of it, its readings, and for
+-- each how its levels break B's rules; where levels lead; and the AVPs of which there is something to report, with how the levels
+-- of each break B's rules
 pub record Basis : Type 0 where
   pub head : Head
   pub base : ℕ
@@ -175,7 +176,7 @@ start_of db basis = first_read (command_sites db basis.head basis.readings)
 abbrev pub sites_of : Dictionary → Basis → ℕ → ℕ → List Step → List Site
 sites_of db basis first count steps = command_sites db basis.head basis.readings ++ group_sites basis.own first count steps
 
--- in the order in which the lines of one site stand
+-- in the order of the lines of one site
 abbrev pub numbers : ℕ → ℕ → Numbers
 numbers first count = record { first = first; count = count }
 
@@ -188,11 +189,11 @@ lines_of db basis n steps reached =
 abbrev pub meanings_of : Dictionary → Basis → Numbers → List Step → List (Option Reach) → List Told
 meanings_of db basis n steps reached = own_lines kinds.Meaning n.first n.count basis.own reached
 
--- what is told of a basis, by a walk
+-- what is reported of a basis, by a walk
 abbrev pub Listed : Type 0
 Listed = Dictionary → Basis → Numbers → List Step → List (Option Reach) → List Told
 
--- what is told stands in the order of the sites
+-- what is reported is in the order of the sites
 abbrev pub AreInOrder : List Told → List Told → Type 0
 AreInOrder all told = IsInOrderOf (λ (line : Told). line.site) all told
 
@@ -201,7 +202,7 @@ abbrev pub IsWalkFrom : Bool → Graph → List Step → List (Option Reach) →
 IsWalkFrom true graph steps reached = IsWalk graph steps reached
 IsWalkFrom false graph steps reached = (steps ≡ []) × (reached ≡ [])
 
--- the sites and what is told of them by a walk, in the order of the sites
+-- the sites and what is reported of them by a walk, in the order of the sites
 pub record IsListingOf (listed : Listed) (db : Dictionary) (basis : Basis) (sites : List Site) (told : List Told) : Type 0 where
   pub steps : List Step
   pub reached : List (Option Reach)
@@ -215,12 +216,12 @@ IsListing db basis sites told = IsListingOf lines_of db basis sites told
 abbrev pub AreMeanings : Dictionary → Basis → List Site → List Told → Type 0
 AreMeanings db basis sites told = IsListingOf meanings_of db basis sites told
 
--- from one basis there is one list of sites, and one of lines
+-- a basis determines the sites and the lines
 abbrev pub ListingsAreOne : Type 0
 ListingsAreOne = (db : Dictionary) (basis : Basis) (sites others : List Site) (told lines : List Told) → IsListing db basis sites told → IsListing db basis others lines
     → (sites ≡ others) × (told ≡ lines)
 
--- ---- of what is known of two dictionaries
+-- ---- by two dictionaries
 
 abbrev pub lines_in : Outlook → List LevelLine
 lines_in outlook = option_map_or (λ inner. inner.lines.items) outlook.inner []

@@ -21,8 +21,8 @@ AreLeaves da db key = (group_of da key ≡ None) × (group_of db key ≡ None)
 abbrev pub AreAlike : Dictionary → Dictionary → Key → PlainFormat → PlainFormat → Type 0
 AreAlike da db key sent read = AreGroups da db key ⊎ (AreLeaves da db key × FormatBelow sent read)
 
--- both dictionaries know AVPs of the key, and B's format for them is another than A's: they are leaves for both, and A's format isn't below B's; or a
--- level for A and a leaf for B, or a leaf for A and a level for B
+-- both dictionaries know AVPs of the key, and B's format for them is another than A's: they are leaves for both, and A's format
+-- isn't below B's; or a level for A and a leaf for B, or a leaf for A and a level for B
 pub record AreOtherFormats (da db : Dictionary) (key : Key) : Type 0 where
   pub sent : PlainFormat
   pub read : PlainFormat
@@ -43,9 +43,10 @@ pub record ShareFlags (da db : Dictionary) (key : Key) : Type 0 where
   pub is_sent : MHolds sent flags
   pub is_read : MHolds read flags
 
--- B accepts some AVPs of the key, whatever data A's side sends in them, and reads these as another format. Left out are AVPs of another format of which B
--- refuses each M flag that is sent, or some data; or which are levels for A and UTF8Strings, Addresses or numbers of eight bytes for B, where it isn't
--- known whether B accepts all of them. They have lines of what breaks, if a message has room for such data
+-- B accepts some AVPs of the key, whatever data A's side sends in them, and reads these as another format. Left out are AVPs of
+-- another format of which B refuses each M flag that is sent, or some data; or which are levels for A and UTF8Strings, Addresses
+-- or numbers of eight bytes for B, where it isn't known whether B accepts all of them. They have lines of what breaks, if a
+-- message has room for such data
 pub record IsReadAsOther (s : Sides) (key : Key) : Type 0 where
   pub formats : AreOtherFormats s.sender s.receiver key
   pub flags : ShareFlags s.sender s.receiver key

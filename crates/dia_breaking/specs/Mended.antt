@@ -1,4 +1,4 @@
--- Messages whose headers are mended: their P flag and their application are such as a definition of the receiver's takes.
+-- Messages whose headers are fixed: a definition of the receiver accepts their P flag and their application.
 use Rattle.std.specs.Prelude.{◌≡◌, ◌≢◌, ◌↔◌, ℕ, Bool, true, false, List, All, Some, slice_get, Contains}
 use Rattle.std.specs.Int.{IsBitSet}
 use Rattle.dia_wire.specs.declared.Header.{Header}
@@ -25,7 +25,8 @@ use Rattle.dia_breaking.specs.Words.{path_to}
 abbrev pub p_bit : ℕ
 p_bit = 6
 
--- the new header is the old one, but for its P flag and its application: B's dictionary selects this definition for it, which allows its P flag
+-- the new header is the old one, but for its P flag and its application: B's dictionary selects this definition for it, which
+-- allows its P flag
 pub record IsMendedFor (db : Dictionary) (other : PlainDefinition) (old new : Header) : Type 0 where
   pub code : new.code ≡ old.code
   pub flags : (bit : ℕ) → bit ≢ p_bit → IsBitSet new.flags bit ↔ IsBitSet old.flags bit
@@ -41,8 +42,8 @@ pub record IsLevelAt (s : Sides) (sites : List Site) (c app : ℕ) (site : Site)
   pub place : IsCommandPlace app site.place
   pub read : IsReadBy s.sender s.receiver c site.place command other
 
--- a message that A's side sends, whose levels are free of the lines where they are read by the definitions of a site of the command, is
--- valid under B once its header is mended for that site's definition
+-- a message that A's side sends, whose levels are free of the lines where they are read by the definitions of a site of the
+-- command, is valid under B once its header is fixed for that site's definition
 abbrev pub AreValidOnceMended : Sides → Answer → Type 0
 AreValidOnceMended s answer = (bytes mended : List ℕ) (sent : IsSent s.sender s.sends bytes answer.command) (app : ℕ) (site : Site) (other : PlainDefinition) (header : Header)
     → IsLevelAt s answer.sites answer.command app site sent.command other
@@ -55,7 +56,7 @@ IsUnsent s c = (bytes : List ℕ) → ¬ IsSent s.sender s.sends bytes c
 
 -- ---- messages of lines
 
--- the new header is the old one, mended for the definition of B that reads the level of the command c at this place
+-- the new header is the old one, fixed for the definition of B that reads the level of the command c at this place
 pub record IsMendedAt (s : Sides) (c : ℕ) (place : Place) (old new : Header) : Type 0 where
   pub command : PlainDefinition
   pub other : PlainDefinition
@@ -63,7 +64,7 @@ pub record IsMendedAt (s : Sides) (c : ℕ) (place : Place) (old new : Header) :
   pub read : IsReadBy s.sender s.receiver c place command other
   pub mends : IsMendedFor s.receiver other old new
 
--- the message is valid for the sender, as one of the command c, and isn't valid for the receiver once its header is mended for the place
+-- the message is valid for the sender, as one of the command c, and not for the receiver once its header is fixed for the place
 pub record BreaksOnceMended (s : Sides) (c : ℕ) (place : Place) (bytes : List ℕ) : Type 0 where
   pub sent : IsValidOf s.sender (own_policy s.sends) levels.Any bytes c
   pub header : Header
@@ -72,14 +73,15 @@ pub record BreaksOnceMended (s : Sides) (c : ℕ) (place : Place) (bytes : List 
   pub message : IsMessage header sent.avps mended
   pub breaks : ¬ IsValid s.receiver s.unknown levels.Any mended
 
--- the line tells of the header
+-- the line is about the header
 abbrev pub is_of_header : Cause → Bool
 is_of_header causes.Command = true
 is_of_header causes.Application = true
 is_of_header (causes.Proxiable set) = true
 is_of_header cause = false
 
--- unless the line is of the header, the message breaks once its header is mended for the place of the command with which the line's path begins
+-- unless the line is about the header, the message breaks once its header is fixed for the place of the command where the line's
+-- path begins
 abbrev pub BreaksBehind : Sides → ℕ → List Site → Line → List ℕ → Type 0
 BreaksBehind s c sites line bytes = is_of_header line.cause ≡ false → (site : Site) × (slice_get (path_to sites line.site) 0 ≡ Some site) × BreaksOnceMended s c site.place bytes
 
@@ -87,6 +89,6 @@ BreaksBehind s c sites line bytes = is_of_header line.cause ≡ false → (site 
 abbrev pub HasMessage : Sides → ℕ → List Site → Line → Type 0
 HasMessage s c sites line = (bytes : List ℕ) × IsConfirmed s bytes c × BreaksBehind s c sites line bytes
 
--- so has each line that is told as confirmed
+-- so has each line that is reported as confirmed
 abbrev pub EachHasMessage : Sides → ℕ → List Site → List Line → Type 0
 EachHasMessage s c sites lines = All (λ line. line.standing ≡ Confirmed → HasMessage s c sites line) lines

@@ -1,5 +1,5 @@
--- The message that is written for a line: a header, the levels of the path from the command inwards, each the shortest that has the next, and within
--- them the level that shows the line (RFC 6733 sections 3, 3.2 and 4.1).
+-- The message that is written for a line: a header, the levels of the path from the command inwards, each the shortest that has
+-- the next, and within them the level that shows the line (RFC 6733 sections 3, 3.2 and 4.1).
 use Rattle.std.specs.Prelude.{◌≡◌, ℕ, ◌+◌, ◌-◌, min, nat_lt, Bool, true, false, if◌then◌else◌, bit_and, bit_or, List, [], ◌∷◌, ◌++◌, length, take, drop}
 use Rattle.std.specs.Prelude.{Option, Some, None, MatchOption, option_and_then, position, slice_get, slice_index, slice_set, unwrap_or}
 use Rattle.std.specs.Int.{w32, to_be_bytes}
@@ -84,8 +84,8 @@ pub record Shown : Type 0 where
 abbrev pub shown : Key → List ℕ → Shown
 shown key bytes = record { key = key; bytes = bytes }
 
--- the AVP that breaks by itself, or that is read as another format: a shortest one with the M flag that is told, or with the data that are told. None, where the
--- level shows the line by itself
+-- the AVP that breaks by itself, or that is read as another format: a shortest one with the M flag or the data that the line
+-- reports. None, where the level shows the line by itself
 abbrev pub shown_avp : Sides → Stock → Cause → Option Shown
 shown_avp s k causes.Command = None
 shown_avp s k causes.Application = None
@@ -116,7 +116,7 @@ read_number s c (places.Group key outer) = group_number s.receiver key
 abbrev pub parts_round : Sides → Stock → ℕ → Place → Key → List Part
 parts_round s k c place key = option_map_or (λ def. parts_with k.costs.others (rules_in s.sender def) key) (sent_number s c place) []
 
--- how many parts stand before the first of the key
+-- how many parts precede the first of the key
 abbrev pub parts_before : Key → List Part → ℕ
 parts_before key parts = unwrap_or (position (λ part. same_key part.key key) parts) (length parts)
 
@@ -142,7 +142,7 @@ abbrev pub key_at : Place → Option Key
 key_at (places.Command app read_as is_told proxiable) = None
 key_at (places.Group key outer) = Some key
 
--- a group with these data. What stands around the level at its site takes `way`, and all AVPs take `size`
+-- a group with these data. What is around the level at its site takes `way`, and all AVPs take `size`
 abbrev pub group_head : Sides → ℕ → Site → Key → List ℕ
 group_head s size site key = head_bytes key (wants_m s key) (sum_64 (size - site.way) (shortest_head key))
 
@@ -150,7 +150,7 @@ group_head s size site key = head_bytes key (wants_m s key) (sum_64 (size - site
 abbrev pub site_round : Sides → Stock → ℕ → ℕ → Site → Site → List ℕ → List ℕ
 site_round s k c size outer site bytes = option_map_or (λ key. level_round s k c outer.place key (group_head s size site key ++ bytes)) (key_at site.place) bytes
 
--- the level of a site, and in it those of the sites behind; the last one has these bytes
+-- the level of a site, and in it those of the following sites; the last one has these bytes
 abbrev pub levels_from : Sides → Stock → ℕ → ℕ → Site → List Site → List ℕ → List ℕ
 levels_from s k c size outer [] bytes = bytes
 levels_from s k c size outer (site ∷ path) bytes = site_round s k c size outer site (levels_from s k c size site path bytes)
@@ -161,7 +161,7 @@ levels_on s k c size (site ∷ path) bytes = levels_from s k c size site path by
 
 -- ---- the level of the line
 
--- a level that shows by itself what its line tells, and else the least level
+-- a level that shows by itself what its line reports, and else the least level
 abbrev pub AreParts : Sides → Stock → ℕ → Place → ℕ → Cause → List Part → Type 0
 AreParts s k c place def (causes.Level line) parts = MatchOption (read_number s c place) (parts ≡ least_parts k.costs.others (rules_in s.sender def))
     (λ other. IsLineLevel (reads_between (rules_in s.sender def) (rules_in s.receiver other) k.costs.listed k.costs.other k.costs.others) line parts)
@@ -172,7 +172,7 @@ abbrev pub IsAlone : Sides → Stock → ℕ → Place → Cause → List ℕ �
 IsAlone s k c place cause bytes =
     MatchOption (sent_number s c place) (bytes ≡ []) (λ def. (parts : List Part) × AreParts s k c place def cause parts × (bytes ≡ parts_bytes (shortest_avp s k) parts))
 
--- the level at a place that shows the line, by itself or round the AVP that the line tells of
+-- the level at a place that shows the line, by itself or round the AVP that the line reports
 abbrev pub IsShowingLevel : Sides → Stock → ℕ → Cause → Place → List ℕ → Type 0
 IsShowingLevel s k c cause place bytes = MatchOption (shown_avp s k cause) (IsAlone s k c place cause bytes) (λ found. bytes ≡ level_round s k c place found.key found.bytes)
 
@@ -195,7 +195,7 @@ abbrev pub p_at : Place → Bool
 p_at (places.Command app read_as is_told proxiable) = proxiable
 p_at (places.Group key outer) = false
 
--- P as the line tells, and else as at the command's site
+-- P as the line reports, and else as at the command's site
 abbrev pub line_p : Cause → Option Site → Bool
 line_p (causes.Proxiable set) site = set
 line_p cause site = option_map_or (λ at. p_at at.place) site false

@@ -1,4 +1,4 @@
--- The levels of a path taken apart: what stands before each group, and what stands behind.
+-- The levels of a path taken apart: what precedes each group, and what follows it.
 use Rattle.std.specs.Prelude.{ℕ, List, [], ◌∷◌, ◌++◌, Option, Some, None}
 use Rattle.std.specs.Option.{option_map_or}
 use Rattle.dia_wire.specs.declared.Key.{Key}
@@ -13,14 +13,14 @@ use Rattle.dia_breaking.specs.Sides.{Sides}
 abbrev pub plain_shown : ShownAvp → Shown
 plain_shown avp = shown avp.key avp.bytes.items
 
--- of a group in the level at a place: the bytes before its data, and the parts behind them
+-- of a group in the level at a place: the bytes before its data, and the parts after them
 abbrev pub group_front : Sides → Stock → ℕ → ℕ → Place → Site → Key → List ℕ
 group_front s k c size outer site key = parts_bytes (shortest_avp s k) (front_parts key (parts_round s k c outer key)) ++ group_head s size site key
 
 abbrev pub group_rest : Sides → Stock → ℕ → Place → Key → List Part
 group_rest s k c outer key = rest_parts key (parts_round s k c outer key)
 
--- of the group of a site, if it stands in the level of another
+-- of the group of a site, if it is in the level of another
 abbrev pub site_front : Sides → Stock → ℕ → ℕ → Option Site → Site → List ℕ
 site_front s k c size None site = []
 site_front s k c size (Some outer) site = option_map_or (group_front s k c size outer.place site) (key_at site.place) []

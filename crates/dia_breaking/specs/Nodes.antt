@@ -1,4 +1,4 @@
--- The AVPs of which there is something to tell, as the nodes of a walk.
+-- The AVPs of which there is something to report, as the nodes of a walk.
 use Rattle.std.specs.Option.{option_map}
 use Rattle.dia_breaking_ways.specs.Walks.{PlainExits, PlainLevel, PlainNode}
 use Rattle.dia_breaking.specs.declared.exits.Exits.{Exits}

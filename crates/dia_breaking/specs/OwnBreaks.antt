@@ -17,8 +17,8 @@ use Rattle.dia_breaking.specs.Meanings.{IsReadAsOther}
 use Rattle.dia_breaking.specs.Sides.{Sides}
 use Rattle.dia_breaking.specs.Tried.{IsLeftOpenBy, IsRefusedBy}
 
--- AVPs of the key break so, and have this length at least, where a rule lists them; where A sees levels in them and the data fit, B takes any data, or
--- each level is an Address of B's; and it is known whether they are read as another format
+-- AVPs of the key break so, and have this length at least, where a rule lists them; where A sees levels in them and the data fit,
+-- B accepts any data, or each level is an Address of B's; and it is known whether they are read as another format
 pub record IsOwnBreaks (s : Sides) (length : Key → ℕ) (own : OwnBreaks) : Type 0 where
   pub least : own.least ≡ length own.key
   pub head : IsHeadBreak s.sender s.receiver s.sends s.unknown own.key own.breaks.head
@@ -26,7 +26,7 @@ pub record IsOwnBreaks (s : Sides) (length : Key → ℕ) (own : OwnBreaks) : Ty
   pub taken : IsSome (group_of s.sender own.key) → own.breaks.data ≡ Fits → TakesLevels s.sender s.receiver s.sends own.key
   pub other : IsTrue own.is_other ↔ IsReadAsOther s own.key
 
--- so do those of which there is something to tell
+-- so do those of which there is something to report
 pub record AreOwnBreaks (s : Sides) (length : Key → ℕ) (told : List Own) (own : List OwnBreaks) : Type 0 where
   pub keys : map (λ one. one.key) own ≡ map (λ one. one.key) told
   pub each : All (IsOwnBreaks s length) own
@@ -47,7 +47,7 @@ HasDataBreak s least lengths own = IsDataBreak s.sender s.receiver s.sends s.unk
 abbrev pub HaveDataBreaks : Sides → Least → List ℕ → List OwnBreaks → Type 0
 HaveDataBreaks s least lengths own = All (HasDataBreak s least lengths) own
 
--- ---- what lines tell of data
+-- ---- what lines report about data
 
 -- whether the data of an AVP of this length, whose head is a shortest one, have eight bytes
 abbrev pub leaves_eight : Key → ℕ → Bool
@@ -67,17 +67,19 @@ abbrev pub ReadsOpen : Sides → Key → Type 0
 ReadsOpen s key =
     IsDataBreak s.sender s.receiver s.sends s.unknown key Undecided × OfLeast s key (IsLeftOpenBy (IsAcceptedData s.receiver s.unknown key) key)
 
--- B reads levels as leaves, and refuses those of shortest AVPs: each ordinary level; or the empty one, where a level may be empty; or it reads leaves of
--- eight bytes, and those data have another length; or it isn't known whether it accepts all levels, and those data are tried and refused
+-- B reads levels as leaves, and refuses those of shortest AVPs: each ordinary level; or the empty one, where a level may be
+-- empty; or it reads leaves of eight bytes, and those data have another length; or it isn't known whether it accepts all levels,
+-- and those data are tried and refused
 abbrev pub RefusesShortest : Sides → Key → Type 0
 RefusesShortest s key = IsDataBreak s.sender s.receiver s.sends s.unknown key LeastLevel ⊎ (ReadsEight s key false ⊎ ReadsRefused s key)
 
--- B reads levels as leaves, and it isn't known whether it refuses any: the least ones have eight bytes, as its leaves; or it isn't known whether it accepts
--- all, and a shortest AVP is too long to be tried, or its data are accepted
+-- B reads levels as leaves, and it isn't known whether it refuses any: the least ones have eight bytes, as its leaves; or it
+-- isn't known whether it accepts all, and a shortest AVP is too long to be tried, or its data are accepted
 abbrev pub LeavesOpen : Sides → Key → Type 0
 LeavesOpen s key = ReadsEight s key true ⊎ ReadsOpen s key
 
--- the data that are told are shortest that break. Where none are told, B refuses those of shortest AVPs, or it isn't known whether it refuses any
+-- the reported data are shortest that break. Where none are reported, B refuses those of shortest AVPs, or it isn't known whether
+-- B refuses any
 abbrev pub TellsData : Sides → Cause → Type 0
 TellsData s (causes.Format key (Some found)) = IsDataBreak s.sender s.receiver s.sends s.unknown key (Data found)
 TellsData s (causes.Format key None) = RefusesShortest s key
@@ -92,11 +94,12 @@ TellData s lines = All (λ line. TellsData s line.cause) lines
 abbrev pub KeepsData : Sides → List Line → List Line → Type 0
 KeepsData s old new = TellData s old → TellData s new
 
--- what is found tells data that break, if those of the AVP do
+-- what is found reports data that break, if those of the AVP do
 abbrev pub TellsIfBreaks : Sides → Least → List ℕ → OwnBreaks → Option (Cause × ℕ) → Type 0
 TellsIfBreaks s least lengths own found = IsDataBreak s.sender s.receiver s.sends s.unknown own.key own.breaks.data → HasLeast s least lengths own
     → IfSome found (λ pair. TellsData s pair.0)
 
--- what is told of levels that are read as leaves of eight bytes: B refuses the data of a shortest AVP, unless these have eight bytes
+-- the cause for levels that are read as leaves of eight bytes: B refuses the data of a shortest AVP, unless these have eight
+-- bytes
 abbrev pub eight_cause : OwnBreaks → Cause
 eight_cause own = if leaves_eight own.key own.least then causes.LevelAsLeaf own.key else causes.Format own.key None

@@ -1,4 +1,4 @@
--- The keys of AVPs of which lines tell that they break by themselves: by their flags, or by their data.
+-- The keys of AVPs that lines report as breaking by themselves: by their flags, or by their data.
 use Rattle.std.specs.Prelude.{Option, Some, None}
 use Rattle.dia_wire.specs.declared.Key.{Key}
 use Rattle.dia_breaking.specs.declared.line.Cause.{Cause}

@@ -1,5 +1,5 @@
--- By which definitions of B the levels of a command are read: by that for the application of the messages; and where B refuses that
--- application, by the one that B alone names.
+-- By which definitions of B the levels of a command are read: by that for the application of the messages; and where B refuses
+-- that application, by the one that B alone names.
 use Rattle.std.specs.Prelude.{◌≡◌, ℕ, ◌==◌, nat_eq, Bool, false, not, ◌&&◌, if◌then◌else◌, List, [], ◌∷◌, ◌++◌, map, Option, Some, None, is_some, option_and_then, option_to_list, unwrap_or}
 use Rattle.std.specs.List.{filter_map}
 use Rattle.std.specs.Option.{option_eq, option_map, option_map_or}
@@ -55,7 +55,7 @@ as_other app other = record { app = app; read_as = other }
 abbrev pub reading_behind : Dictionary → Dictionary → Head → Option Reading
 reading_behind da db head = option_and_then (λ app. if is_some (selected db head.code head.class app) then None else option_map (as_other app) (one_other da db head)) head.app
 
--- the readings of a command with this head: its applications as they are sent, and the one behind
+-- the readings of a command with this head: its applications as they are sent, and the one after them
 abbrev pub AreReadings : Dictionary → Dictionary → BothApps → ℕ → Head → List Reading → Type 0
 AreReadings da db both c head readings = (apps : List ℕ) × AreToldApps da both c head apps × (readings ≡ map as_sent apps ++ option_to_list (reading_behind da db head))
 

@@ -4,7 +4,7 @@ use Rattle.std.specs.List.{list_any}
 use Rattle.dia_data.specs.Plain.{PlainFormat, Enumerated}
 use Rattle.dia_data.specs.Ranges.{covers}
 
--- a number before runs: it begins the first of them, if that one goes on behind it
+-- a number before runs: it begins the first of them, if that one begins right after it
 abbrev pub put_before : ℕ → List (ℕ × ℕ) → List (ℕ × ℕ)
 put_before n [] = (n, n) ∷ []
 put_before n (run ∷ runs) = if run.0 == suc n then (n, run.1) ∷ runs else (n, n) ∷ run ∷ runs
@@ -18,7 +18,7 @@ runs_of test n (suc count) = if test n then put_before n (runs_of test (suc n) c
 abbrev pub holds : List (ℕ × ℕ) → ℕ → Bool
 holds ranges n = list_any (covers n) ranges
 
--- a number behind all of the ranges
+-- a number above all of the ranges
 abbrev pub end_of : List (ℕ × ℕ) → ℕ
 end_of [] = 0
 end_of (range ∷ ranges) = max (suc range.1) (end_of ranges)

@@ -38,7 +38,8 @@ is_unknown d key = not (is_some (entry_of d key))
 abbrev pub keys_of_b_alone : Dictionary → Dictionary → List Key
 keys_of_b_alone da db = filter (is_unknown da) (entry_keys db)
 
--- the keys of the AVPs that A's side may send, in the order of their lines: those that A knows; and where it sends any, those that B alone knows, and the stranger
+-- the keys of the AVPs that A's side may send, in the order of their lines: those that A knows; and where it sends any, those
+-- that B alone knows, and the stranger
 abbrev pub AreSentInOrder : Dictionary → Dictionary → Sends → List Key → Type 0
 AreSentInOrder da db Any keys = (stranger : Key) × IsStranger da db stranger × (keys ≡ (entry_keys da ++ keys_of_b_alone da db) ++ stranger ∷ [])
 AreSentInOrder da db Known keys = keys ≡ entry_keys da

@@ -1,4 +1,5 @@
--- The message of a line shows what the line tells: at the line's site stands a level that breaks so, or one that has the AVP that does.
+-- The message of a line shows what the line reports: at the line's site is a level that breaks so, or one that has the AVP that
+-- does.
 use Rattle.std.specs.Prelude.{◌≡◌, ⊤, ℕ, ◌^◌, ◌<◌, ◌≤◌, Bool, List, ◌++◌, length, map, All, Contains, Some, None, slice_get, IfSome}
 use Rattle.dia_wire.specs.declared.Key.{Key}
 use Rattle.dia_wire.specs.Wire.{PlainAvp, SpellsAll, key_of}
@@ -33,8 +34,8 @@ use Rattle.dia_breaking.specs.Words.{path_to}
 
 -- ---- a level
 
--- the message has at the line's site a level that these definitions read; it is made of shortest AVPs by these parts, whose keys break the rules
--- of the second definition for the reason that is told, at the key that is told
+-- the message has at the line's site a level that these definitions read; it is made of shortest AVPs by these parts, whose keys
+-- break the rules of the second definition for the reported reason, at the reported key
 pub record ShowsTold (s : Sides) (k : Stock) (c : ℕ) (sites : List Site) (line : Line) (told : LevelLine) (bytes : List ℕ) : Type 0 where
   pub head : Head
   pub site : Site
@@ -62,11 +63,11 @@ pub record HasAvpAt (s : Sides) (k : Stock) (c : ℕ) (sites : List Site) (line 
   pub is_key : key_of avp ≡ key
   pub is_such : IsSuch avp
 
--- it has the M flag that is told, and B refuses its flags
+-- it has the reported M flag, and B refuses its flags
 abbrev pub HasRefusedFlags : Sides → Key → Bool → PlainAvp → Type 0
 HasRefusedFlags s key m v = HasThisM m v.flags × (¬ HasFlags s.receiver s.unknown key v.flags)
 
--- it has the data that are told, and B refuses them
+-- it has the reported data, and B refuses them
 abbrev pub HasRefusedData : Sides → Key → Witness → PlainAvp → Type 0
 HasRefusedData s key found v = (v.bytes ≡ witness_bytes found) × (¬ IsAcceptedData s.receiver s.unknown key v.bytes)
 
@@ -76,7 +77,7 @@ HasRefusedLevel s line key v = line.length ≤ most_checked → ¬ IsAcceptedDat
 
 -- ---- lines
 
--- what the message shows, by what the line tells. A line of the header is shown by the header alone
+-- what the message shows, by what the line reports. A line of the header is shown by the header alone
 abbrev pub ShowsCause : Sides → Stock → ℕ → List Site → Line → List ℕ → Cause → Type 0
 ShowsCause s k c sites line bytes (causes.Level told) = ShowsTold s k c sites line told bytes
 ShowsCause s k c sites line bytes (causes.Unknown key m) = HasAvpAt s k c sites line bytes key (HasRefusedFlags s key m)
@@ -85,17 +86,17 @@ ShowsCause s k c sites line bytes (causes.Format key (Some found)) = HasAvpAt s 
 ShowsCause s k c sites line bytes (causes.Format key None) = HasAvpAt s k c sites line bytes key (HasRefusedLevel s line key)
 ShowsCause s k c sites line bytes cause = ⊤
 
--- the line's message breaks as the line tells, and shows it
+-- the line's message breaks as the line reports, and shows it
 abbrev pub IsShown : Sides → Stock → ℕ → List Site → Line → Type 0
 IsShown s k c sites line = (bytes : List ℕ) × BreaksAsTold s k c sites line bytes × ShowsCause s k c sites line bytes line.cause
 
--- so it is with each line that is told as confirmed
+-- so it is with each line that is reported as confirmed
 abbrev pub EachIsShown : Sides → Stock → ℕ → List Site → List Line → Type 0
 EachIsShown s k c sites lines = All (λ line. line.standing ≡ Confirmed → IsShown s k c sites line) lines
 
 -- ---- keys of lines
 
--- fields can say the key of the AVP of which the line tells
+-- the key of the AVP that the line reports fits the fields of an AVP
 abbrev pub HasSpellableKey : Cause → Type 0
 HasSpellableKey cause = IfSome (flags_key cause) IsSpellable × IfSome (data_key cause) IsSpellable
 
@@ -104,7 +105,7 @@ HaveSpellableKeys lines = All (λ line. HasSpellableKey line.cause) lines
 
 -- ---- the law
 
--- where the lines are those of a command, each message that breaks as a line tells shows it
+-- where the lines are those of a command, each message that breaks as a line reports shows it
 abbrev pub LinesAreShown : Type 0
 LinesAreShown = (s : Sides) (k : Stock) (c : ℕ) (sites : List Site) (lines : List Line) (line : Line) (bytes : List ℕ)
     → IsDictionary s.sender → IsDictionary s.receiver → IsStock s k → length sites < 2 ^ 64 → AreTheLines s c sites (map tells lines) → Contains lines line

@@ -1,4 +1,4 @@
--- The two sides of an upgrade, and what is told of a command.
+-- The two sides of an upgrade, and what is reported of a command.
 use Rattle.std.specs.Prelude.{ℕ, List}
 use Rattle.dia_book.specs.Dictionary.{Dictionary}
 use Rattle.dia_policy.specs.declared.Sends.{Sends}
@@ -7,7 +7,8 @@ use Rattle.dia_breaking.specs.declared.line.Breaks.{Breaks}
 use Rattle.dia_breaking.specs.declared.line.Line.{Line}
 use Rattle.dia_breaking.specs.declared.line.Site.{Site}
 
--- the dictionaries of both sides, what the side of the first sends, and what that of the second does with AVPs that it doesn't know
+-- the dictionaries of both sides, what the side of the first sends, and what that of the second does with AVPs that it doesn't
+-- know
 pub record Sides : Type 0 where
   pub sender : Dictionary
   pub receiver : Dictionary

@@ -51,7 +51,7 @@ first_read sites = position (λ site. site.is_read) sites
 
 -- ---- groups
 
--- the number of the site of a level of the walk: the first that is read, where it starts, or one behind the `count` sites of the
+-- the number of the site of a level of the walk: the first that is read, where it starts, or one after the `count` sites of the
 -- command; it fits 64 bits
 abbrev pub site_number : ℕ → ℕ → ℕ → ℕ
 site_number first count level = if level == 0 then first else min (count + (level - 1)) 18446744073709551615

@@ -11,6 +11,7 @@ use Rattle.dia_breaking_avps.specs.Breaks.{TakesLevels}
 abbrev pub AreGroups : Dictionary → Dictionary → Key → Type 0
 AreGroups da db key = IsSome (group_of da key) × IsSome (group_of db key)
 
--- B accepts all data of AVPs of the key that A's side sends; and where A sees levels in them, B takes any data, or each level is an Address of B's
+-- B accepts all data of AVPs of the key that A's side sends; and where A sees levels in them, B accepts any data, or each level
+-- is an Address of B's
 abbrev pub IsDataTaken : Dictionary → Dictionary → Sends → Unknown → Key → Type 0
 IsDataTaken da db who u key = AreAccepted (IsSentData da who key) (IsAcceptedData db u key) × (IsSome (group_of da key) → TakesLevels da db who key)

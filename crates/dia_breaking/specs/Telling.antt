@@ -1,5 +1,5 @@
--- The keys of which there is something to tell: AVPs that break by themselves, in which both dictionaries see a level, or that are read as another
--- format.
+-- The keys of which there is something to report: AVPs that break by themselves, in which both dictionaries see a level, or that
+-- are read as another format.
 use Rattle.std.specs.Prelude.{◌≡◌, ◌⊎◌, ℕ, Bool, false, ◌&&◌, ◌||◌, if◌then◌else◌, List, [], ◌∷◌, ◌++◌, length, Some, None, is_some, IsSome, slice_get, Contains, All, map, filter, position, IsTrue, ◌↔◌}
 use Rattle.std.specs.HashMap.{get}
 use Rattle.dia_wire.specs.declared.Key.{Key}
@@ -23,16 +23,16 @@ pub record IsToldOf (s : Sides) (key : Key) (own : Own) : Type 0 where
   pub silent : own.breaks ≡ false → AcceptsFlags s.sender s.receiver s.sends s.unknown key × FitKeyAlone s.sender s.receiver s.sends s.unknown key
   pub group : own.is_group ≡ (is_some (group_of s.sender key) && is_some (group_of s.receiver key))
 
--- there is something to tell: it breaks by itself, has a level of both, or is read as another format
+-- there is something to report: it breaks by itself, has a level of both, or is read as another format
 abbrev pub is_news : Own → Bool
 is_news own = (own.breaks || own.is_group) || own.is_other
 
--- one more is told, if there is something to tell
+-- one more is recorded, if there is something to report
 pub record Adds (own : Own) (old new : Telling) : Type 0 where
   pub items : new.own.items ≡ (if is_news own then old.own.items ++ own ∷ [] else old.own.items)
   pub places : (key : Key) → get same_key new.places key ≡ (if is_news own && same_key own.key key then Some (length old.own.items) else get same_key old.places key)
 
--- of these keys all is told that there is to tell
+-- of these keys all is recorded that there is to report
 pub record AreTold (s : Sides) (keys : List Key) (telling : Telling) : Type 0 where
   pub placed : (key : Key) (place : ℕ) → get same_key telling.places key ≡ Some place → (own : Own) × (slice_get telling.own.items place ≡ Some own) × (own.key ≡ key)
   pub each : (own : Own) → Contains telling.own.items own → IsToldOf s own.key own
@@ -44,24 +44,26 @@ pub record AreTold (s : Sides) (keys : List Key) (telling : Telling) : Type 0 wh
 abbrev pub BreaksNothing : Dictionary → Dictionary → Sends → Unknown → Key → Type 0
 BreaksNothing da db who u key = AcceptsFlags da db who u key × (AreGroups da db key ⊎ IsDataTaken da db who u key)
 
--- what there is to tell of its key
+-- what there is to report of its key
 pub record IsExactlyOwn (s : Sides) (own : Own) : Type 0 where
   pub group : own.is_group ≡ (is_some (group_of s.sender own.key) && is_some (group_of s.receiver own.key))
   pub silent : (own.breaks ≡ false) ↔ BreaksNothing s.sender s.receiver s.sends s.unknown own.key
   pub other : IsTrue own.is_other ↔ IsReadAsOther s own.key
 
--- what there is to tell of each of these keys, in their order
+-- what there is to report of each of these keys, in their order
 abbrev pub AreOwnOf : Sides → List Key → List Own → Type 0
 AreOwnOf s keys all = (map (λ own. own.key) all ≡ keys) × All (IsExactlyOwn s) all
 
--- of these keys exactly that is told of which there is something to tell, in their order; what has a place is told, and what is told has a place
+-- the record has exactly those of these keys of which there is something to report, in their order; what has a place is recorded,
+-- and what is recorded has a place
 pub record AreExactlyTold (s : Sides) (keys : List Key) (telling : Telling) : Type 0 where
   pub all : List Own
   pub each : AreOwnOf s keys all
   pub told_are : telling.own.items ≡ filter is_news all
   pub have_places : (own : Own) → Contains telling.own.items own → IsSome (get same_key telling.places own.key)
 
--- of all keys of AVPs that A's side may send exactly that is told of which there is something to tell, in their order, and each key has its place
+-- the record has exactly those keys of AVPs that A's side may send of which there is something to report, in their order, with
+-- places
 pub record IsExactTelling (s : Sides) (telling : Telling) : Type 0 where
   pub keys : List Key
   pub all : List Own

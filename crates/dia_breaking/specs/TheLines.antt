@@ -1,4 +1,4 @@
--- The one list of lines that a command has.
+-- A command has one list of lines.
 use Rattle.std.specs.Prelude.{◌≡◌, ℕ, ◌^◌, ◌<◌, nat_le, Bool, true, false, List, [], ◌∷◌, length, map, Option, MatchOption, All, IfSome}
 use Rattle.dia_wire.specs.declared.Key.{Key}
 use Rattle.dia_book.specs.declared.DRule.{DRule}
@@ -44,12 +44,13 @@ AreLinesOf k sent accepted lines = AreLevelLines k.listed k.other k.others sent 
 abbrev pub HasLevelLines : Dictionary → Dictionary → Costs → Outlook → Type 0
 HasLevelLines da db k outlook = IfSome outlook.inner (λ inner. AreLinesOf k (group_rules da outlook.key) (group_rules db outlook.key) inner.lines.items)
 
--- of all that is told, in its order: where levels lead, and how they break B's rules
+-- of all that is recorded, in its order: where levels lead, and how they break B's rules
 pub record AreAllOutlooks (da db : Dictionary) (telling : Telling) (k : Costs) (outlooks : List Outlook) : Type 0 where
   pub exact : AreOutlooks da db telling k outlooks
   pub levels : All (HasLevelLines da db k) outlooks
 
--- the lengths of A's entries, the keys that a wildcard lets in, the AVPs of which there is something to tell, and what there is to tell of them
+-- the lengths of A's entries, the keys that a wildcard lets in, the AVPs of which there is something to report, and what there is
+-- to report of them
 pub record Facts : Type 0 where
   pub lengths : List ℕ
   pub others : List Key
@@ -76,8 +77,8 @@ pub record AreFacts (s : Sides) (f : Facts) : Type 0 where
 
 -- ---- the level of a command
 
--- how it breaks B's rules, where B's side reads a level of it or not, and A and B have these definitions for it: where no level is read, and
--- where A or B has no definition, nothing is told; else what breaks in the levels of the two
+-- how it breaks B's rules, where B's side reads a level of it or not, and A and B have these definitions for it: where no level
+-- is read, and where A or B has no definition, nothing is reported; else what breaks in the levels of the two
 abbrev pub AreLinesBetween : Dictionary → Dictionary → Costs → Bool → Option ℕ → Option ℕ → List LevelLine → Type 0
 AreLinesBetween da db k false a b lines = lines ≡ []
 AreLinesBetween da db k true a b lines = MatchOption a (lines ≡ []) (λ a. MatchOption b (lines ≡ []) (λ b. AreLinesOf k (rules_in da a) (rules_in db b) lines))
@@ -112,7 +113,7 @@ pub record IsStartOf (da db : Dictionary) (telling : Telling) (k : Costs) (c : �
 
 -- ---- the lines
 
--- these are the sites of the command c, and what is told of them
+-- these are the sites of the command c, and what is reported of them
 pub record AreListedFor (listed : Listed) (s : Sides) (c : ℕ) (sites : List Site) (told : List Told) : Type 0 where
   pub made : Facts
   pub start : Start
@@ -139,13 +140,13 @@ HasTheLines s answer = ∥ AreTheLines s answer.command answer.sites (map tells 
 
 -- ---- they are all
 
--- where an answer has the lines of a command, and its sites have numbers of 64 bits, each message of the command that A's side sends, and
--- that is free of the lines, is valid under B, also once its header is mended
+-- where an answer has the lines of a command, and its sites have numbers of 64 bits, each message of the command that A's side
+-- sends, and that is free of the lines, is valid under B, also once its header is fixed
 abbrev pub TheLinesAreAll : Type 0
 TheLinesAreAll = (s : Sides) (c : ℕ) (sites : List Site) (lines : List Line) → IsDictionary s.sender → IsDictionary s.receiver → length sites < 2 ^ 64
     → AreTheLines s c sites (map tells lines) → AreValidWhereFree s (answer c sites lines) × AreValidOnceMended s (answer c sites lines)
 
--- ---- there is one
+-- ---- they are unique
 
 -- two lists of sites and of lines of one command are the same
 abbrev pub TheLinesAreOne : Type 0

@@ -14,36 +14,37 @@ use Rattle.dia_breaking.specs.Mended.{IsLevelAt}
 use Rattle.dia_breaking.specs.Sides.{Sides, Answer}
 use Rattle.dia_breaking.specs.TheLines.{AreListedFor}
 
--- these are the sites of the command c, and the AVPs of its messages that are read as another format: each key once, at the site to which the
--- shortest way leads
+-- these are the sites of the command c, and the AVPs of its messages that are read as another format: each key once, at the site
+-- to which the shortest way leads
 abbrev pub AreTheMeanings : Sides → ℕ → List Site → List Told → Type 0
 AreTheMeanings s c sites told = AreListedFor meanings_of s c sites told
 
--- these lines tell them, with the sites of the answer
+-- these lines report them, with the sites of the answer
 abbrev pub AreMeaningsOf : Sides → Answer → List Line → Type 0
 AreMeaningsOf s answer meanings = ∥ AreTheMeanings s answer.command answer.sites (map tells meanings) ∥₁
 
 -- ---- they are all
 
--- an AVP of the key is told
+-- an AVP of the key is reported
 abbrev pub IsMeant : List Line → Key → Type 0
 IsMeant meanings key = (line : Line) × Contains meanings line × (line.cause ≡ causes.Meaning key)
 
--- of the AVPs of a level those are told that B's side reads as another format
+-- of the AVPs of a level those are reported that B's side reads as another format
 abbrev pub AreMeant : Sides → List Line → AboutLevels
 AreMeant s meanings x y avps = (v : PlainAvp) → Contains avps v → IsReadAsOther s (key_of v) → IsMeant meanings (key_of v)
 
--- B's side reads no AVP of a level as another format: no leaf, no group as a leaf, and no leaf as a group. Groups of both are levels of their own.
--- `IsReadAsOther` says what is left out
+-- B's side reads no AVP of a level as another format: no leaf, no group as a leaf, and no leaf as a group. Groups of both are
+-- levels of their own. `IsReadAsOther` says what is left out
 abbrev pub IsReadAsSent : Sides → AboutLevels
 IsReadAsSent s x y avps = (v : PlainAvp) → Contains avps v → ¬ IsReadAsOther s (key_of v)
 
--- in each message of the command that A's side sends, each level is so that both sides read by the definitions of a site of the command
+-- in each message of the command that A's side sends, each level is so that both sides read by the definitions of a site of the
+-- command
 abbrev pub HoldsOfLevels : Sides → Answer → AboutLevels → Type 0
 HoldsOfLevels s answer Asked = (bytes : List ℕ) (sent : IsSent s.sender s.sends bytes answer.command) (app : ℕ) (site : Site) (other : PlainDefinition)
     → IsLevelAt s answer.sites answer.command app site sent.command other → AreAsked s.sender s.receiver Asked sent.command other sent.avps
 
--- ---- they are one
+-- ---- they are unique
 
 -- two lists of sites and of meanings of one command are the same
 abbrev pub TheMeaningsAreOne : Type 0

@@ -18,7 +18,8 @@ abbrev pub IsLeastUnnamed : List ℕ → List ℕ → Option ℕ → Type 0
 IsLeastUnnamed first second found =
     MatchOption found ((app : ℕ) → app < 4294967296 → IsNamed first second app) (λ app. (app < 4294967296) × (¬ IsNamed first second app) × ((other : ℕ) → other < app → IsNamed first second other))
 
--- of a command without application: those that B names and for which A selects the command, in B's order, and the least that neither dictionary names
+-- of a command without application: those that B names and for which A selects the command, in B's order, and the least that
+-- neither dictionary names
 abbrev pub AreOpenApps : Dictionary → BothApps → ℕ → Head → List ℕ → Type 0
 AreOpenApps da both c head apps =
     (found : Option ℕ) × IsLeastUnnamed (apps_of both.first head.code head.class) (apps_of both.second head.code head.class) found

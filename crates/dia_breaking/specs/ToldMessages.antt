@@ -1,4 +1,4 @@
--- Lines whose messages were checked: the very message that is written for a line breaks as the line tells.
+-- Lines whose messages were checked: the very message that is written for a line breaks as the line reports.
 use Rattle.std.specs.Prelude.{◌≡◌, ◌↔◌, ⊤, ℕ, ◌+◌, true, List, [], ◌∷◌, length}
 use Rattle.dia_wire.specs.Lengths.{header_length}
 use Rattle.dia_breaking.specs.declared.line.Line.{Line}
@@ -10,8 +10,8 @@ use Rattle.dia_breaking.specs.Mended.{BreaksBehind}
 use Rattle.dia_breaking.specs.Messages.{IsLineMessage, Stock}
 use Rattle.dia_breaking.specs.Sides.{Sides}
 
--- the bytes are the message of the line, which has the length that is told; A's side sends it, and B's side refuses it, and, unless the line is of the
--- header, refuses it once its header is mended, too
+-- the bytes are the message of the line, and have the reported length; A's side sends it, and B's side refuses it, and, unless
+-- the line is about the header, refuses it also once its header is fixed
 pub record BreaksAsTold (s : Sides) (k : Stock) (c : ℕ) (sites : List Site) (line : Line) (bytes : List ℕ) : Type 0 where
   pub message : IsLineMessage s k c sites line bytes
   pub size : length bytes ≡ header_length + line.length

@@ -13,19 +13,19 @@ use Rattle.dia_breaking.specs.Words.{format_in}
 abbrev pub most_tried : ℕ
 most_tried = 65536
 
--- what stands behind the head of a shortest AVP of the key, which has these bytes
+-- what follows the head of a shortest AVP of the key, which has these bytes
 abbrev pub data_of : Key → List ℕ → List ℕ
 data_of key bytes = drop (shortest_head key) bytes
 
--- such an AVP, whose length is n, isn't too long to be tried, and its data aren't taken
+-- such an AVP, whose length is n, isn't too long to be tried, and its data are refused
 abbrev pub IsRefusedBy : (List ℕ → Type 0) → Key → List ℕ → ℕ → Type 0
 IsRefusedBy Takes key bytes n = (n ≤ most_tried) × (¬ Takes (data_of key bytes))
 
--- it is too long to be tried, or its data are taken
+-- it is too long to be tried, or its data are accepted
 abbrev pub IsLeftOpenBy : (List ℕ → Type 0) → Key → List ℕ → ℕ → Type 0
 IsLeftOpenBy Takes key bytes n = (most_tried < n) ⊎ Takes (data_of key bytes)
 
--- what a line tells of such an AVP: that its data are refused; else that levels are read as leaves
+-- what a line reports of such an AVP: that its data are refused; else that levels are read as leaves
 abbrev pub IsToldOfTry : (List ℕ → Type 0) → Key → List ℕ → ℕ → Cause → Type 0
 IsToldOfTry Takes key bytes n cause =
     ((cause ≡ causes.Format key None) × IsRefusedBy Takes key bytes n) ⊎ ((cause ≡ causes.LevelAsLeaf key) × IsLeftOpenBy Takes key bytes n)

@@ -40,7 +40,7 @@ module _ {A B : Type 0} {a : Reads A} {b : Reads B} where
   abbrev pub facts_of : Upgrade A B a b → Facts
   facts_of up = facts_by up.lengths.entries.items up.lengths.others.items up.telling.value up.outlooks.items up.own.items
 
-  -- where the old lines tell data that break, the new ones do, if all is as it is kept
+  -- where the old lines report data that break, the new ones do, if all is as it was
   abbrev pub KeepsIfKnown : Upgrade A B a b → List Line → List Line → Type 0
   KeepsIfKnown up old new = HaveDataBreaks (sides_of up) up.lengths.least up.lengths.entries.items up.own.items → KeepsData (sides_of up) old new
 

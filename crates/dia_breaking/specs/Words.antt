@@ -57,7 +57,7 @@ definition_name d def = option_map_or (λ x. x.name) (slice_get (definitions d) 
 
 -- ---- the path
 
--- the site whose level the level at the place stands in; none for the level of a command
+-- the site whose level holds the level at the place; none for the level of a command
 abbrev pub outer_of : Place → Option ℕ
 outer_of (places.Command app read_as is_told proxiable) = None
 outer_of (places.Group key outer) = Some outer
@@ -101,7 +101,7 @@ abbrev pub wild_bounds : Bool → DRule → Bounds
 wild_bounds true wildcard = record { min = 0; max = wildcard.max }
 wild_bounds false wildcard = no_bounds
 
--- how often A's rules let the AVP stand, or all that they don't list; `other` is what an AVP takes that the wildcard lets in
+-- how often A's rules let the AVP occur, or all that they don't list; `other` is what an AVP takes that the wildcard lets in
 abbrev pub sent_bounds : (Key → ℕ) → List DRule → Option Key → Bounds
 sent_bounds other rules None = bounds_of (wildcard_of rules)
 sent_bounds other rules (Some key) =
@@ -136,7 +136,7 @@ accepted_rules s c (places.Command app read_as is_told proxiable) =
     option_map_or (rules_in s.receiver) (option_and_then (λ head. selected s.receiver head.code head.class read_as) (head_at s.sender c)) []
 accepted_rules s c (places.Group key outer) = group_rules s.receiver key
 
--- of these counts, and of the AVP that stands before
+-- of these counts, and of the preceding AVP
 abbrev pub counts_text : Reason → Bounds → Bounds → List ℕ → List ℕ
 counts_text Missing sent accepted behind = bounds_text sent ++ codes " sent, " ++ bounds_text accepted ++ codes " accepted"
 counts_text TooMany sent accepted behind = bounds_text sent ++ codes " sent, " ++ bounds_text accepted ++ codes " accepted"
@@ -164,7 +164,7 @@ format_in d key = option_map (λ e. e.format) (known d key)
 abbrev pub range_text : ℕ × ℕ → List ℕ
 range_text range = if range.0 == range.1 then decimal range.0 else decimal range.0 ++ codes ".." ++ decimal range.1
 
--- each with a space behind it
+-- each followed by a space
 abbrev pub ranges_text : List (ℕ × ℕ) → List ℕ
 ranges_text ranges = flat_map (λ range. range_text range ++ codes " ") ranges
 
@@ -216,7 +216,7 @@ abbrev pub refused_application : Place → List ℕ
 refused_application (places.Command app read_as is_told proxiable) = codes "application " ++ decimal app ++ codes ": not accepted"
 refused_application (places.Group key outer) = []
 
--- where a line stands: the command, its sites, and the number of one
+-- where a line is: the command, its sites, and the number of one
 pub record Spot : Type 0 where
   pub command : ℕ
   pub sites : List Site

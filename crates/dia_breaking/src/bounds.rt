@@ -1,11 +1,11 @@
-//! How often AVPs may stand in a level.
+//! How often AVPs may occur in a level.
 ghost use Rattle.std.specs.Prelude.{◌≡◌, ◌++◌, OnOk};
 ghost use Rattle.dia_breaking.specs.Words.{bounds_of, bounds_text, max_text, no_bounds, rule_bounds, wild_bounds, Writes};
 
 use dia_book::DRule;
 use std::alloc::AllocError;
 
-/// How often an AVP may stand in a level.
+/// How often an AVP may occur in a level.
 #[derive(Clone, Copy)]
 pub(crate) struct Bounds {
     pub min: u32,
@@ -33,7 +33,7 @@ impl Bounds {
         }
     }
 
-    /// The bounds of a rule; where there is none, those of an AVP that never stands there.
+    /// The bounds of a rule; where there is none, those of an AVP that never occurs there.
     pub fn of_rule(rule: Option<DRule>) -> Bounds
         ensures { result ≡ bounds_of rule }
     {
@@ -43,7 +43,7 @@ impl Bounds {
         }
     }
 
-    /// The bounds of an AVP that only the wildcard lets in: none stands there if none is sent.
+    /// The bounds of an AVP that only the wildcard lets in: none occurs if none is sent.
     pub fn of_wildcard(is_sent: bool, wildcard: DRule) -> Bounds
         ensures { result ≡ wild_bounds is_sent wildcard }
     {

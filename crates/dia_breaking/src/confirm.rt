@@ -30,10 +30,10 @@ const MOST_CHECKED: u64 = 1 << 20;
 pub const MOST_CHECKED_TOGETHER: u64 = 1 << 26;
 
 impl<'a, A: Book, B: Book> Upgrade<'a, A, B> {
-    /// The message of a line (`IsLineMessage`), where it has the length that the line tells, and checks under both dictionaries
-    /// show that it is valid under A, as one of the command, and not under B; for a line that isn't of the header also not with
-    /// its header mended for B's definition. There is none, where the line's message doesn't break so. For `Listed` it is checked
-    /// only that A knows its AVPs, and not that its rules list them. The error comes only where memory was refused.
+    /// The message of a line (`IsLineMessage`), where it has the length that the line reports, and checks under both dictionaries
+    /// show that it is valid under A, as one of the command, and not under B; for a line that isn't about the header also not
+    /// with its header fixed for B's definition. None, where the line's message doesn't break so. For `Listed` the check requires
+    /// that A knows its AVPs, not that A's rules list them. The only error is an allocation failure.
     pub fn confirmed_message(
         &self,
         alloc: Global,
@@ -57,7 +57,7 @@ impl<'a, A: Book, B: Book> Upgrade<'a, A, B> {
         }
     }
 
-    /// Whether the message of a line breaks as the line tells.
+    /// Whether the message of a line breaks as the line reports.
     fn is_broken(&self, alloc: Global, breaks: &Breaks, line: &Line) -> Result<bool, AllocError>
         ensures { IfOk result (λ yes. IsTrue yes ↔ IsBroken (sides_of self.now) (stock_of self.now)
             breaks.now.command breaks.now.sites.items line.now) }
@@ -102,8 +102,8 @@ impl<'a, A: Book, B: Book> Upgrade<'a, A, B> {
         Ok(sent && !accepted)
     }
 
-    /// The lines with what is known of each. Where the lines stand, and what they tell, doesn't change. `left` is how many bytes
-    /// may be checked, and then how many of them weren't.
+    /// The lines with the status of each. Their sites and what they report don't change. `left` is how many bytes may be checked,
+    /// and then how many of them weren't.
     pub(crate) fn with_standings(
         &self,
         alloc: Global,
@@ -131,7 +131,7 @@ impl<'a, A: Book, B: Book> Upgrade<'a, A, B> {
         Ok(Breaks { lines, ..breaks })
     }
 
-    /// What is known of a line, where so many bytes are left to check.
+    /// The status of a line, where so many bytes are left to check.
     fn standing(
         &self,
         alloc: Global,
@@ -161,14 +161,14 @@ impl<'a, A: Book, B: Book> Upgrade<'a, A, B> {
     }
 }
 
-/// Whether a message has the length that its line tells.
+/// Whether a message has the length that its line reports.
 fn has_length(bytes: &[u8], size: u64) -> bool
     ensures { IsTrue result ↔ (length bytes.now ≡ header_length + size) }
 {
     bytes.len() >= HEADER_LENGTH && (bytes.len() - HEADER_LENGTH) as u64 == size
 }
 
-/// Whether no message is known that breaks as the line tells.
+/// Whether no message is known that breaks as the line reports.
 fn has_no_message(cause: &Cause) -> bool
     ensures { result ≡ has_no_message cause.now }
 {
@@ -182,7 +182,7 @@ fn is_checked(line: &Line, left: u64) -> bool
     !has_no_message(&line.cause) && (line.length <= MOST_CHECKED && line.length <= left)
 }
 
-/// What is left for the lines behind it.
+/// How many bytes are left for the lines after it.
 fn left_behind(line: &Line, left: u64) -> u64
     ensures { result ≡ left_behind left line.now }
 {
@@ -249,7 +249,7 @@ pub(crate) fn is_valid<B: Book>(
     }
 }
 
-/// Fields can say the key of the AVP of which a line tells.
+/// The key of the AVP that a line reports fits the fields of an AVP.
 fn spell_key(cause: &Cause)
     ensures { HasSpellableKey cause.now }
 {

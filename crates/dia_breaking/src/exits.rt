@@ -18,14 +18,14 @@ use dia_breaking_levels::{Costs, Line as LevelLine, level_lines};
 use dia_breaking_shortest::shortest_head;
 use std::alloc::{AllocError, Global};
 
-/// The AVPs of which there is something to tell, in the levels of a definition of A.
+/// The AVPs of which there is something to report, in the levels of a definition of A.
 #[derive(Drop)]
 pub(crate) struct Exits {
     /// The length of a least level.
     pub base: u64,
     /// The AVPs that a rule lists: the place of each in `Telling::own`, and the length of a least level that has one.
     pub listed: Vec<(usize, u64)>,
-    /// What a least level with an AVP that comes through the wildcard takes beside that AVP.
+    /// What a least level with an AVP that comes through the wildcard takes besides that AVP.
     pub beside: u64,
 }
 
@@ -75,7 +75,7 @@ fn push_exit(listed: &mut Vec<(usize, u64)>, exit: Option<(usize, u64)>) -> Resu
     Ok(())
 }
 
-/// The place of the rule's key, if there is something to tell of it, with the length of a least level that has one.
+/// The place of the rule's key, if there is something to report of it, with the length of a least level that has one.
 fn exit_by<A: Book>(
     rule: &DRule,
     telling: &Telling,
@@ -99,7 +99,7 @@ pub(crate) struct Inner {
     pub lines: Vec<LevelLine>,
 }
 
-/// An AVP of which there is something to tell.
+/// An AVP of which there is something to report.
 #[derive(Drop)]
 pub(crate) struct Outlook {
     pub key: Key,
@@ -108,7 +108,7 @@ pub(crate) struct Outlook {
     pub inner: Option<Inner>,
 }
 
-/// The AVPs of which there is something to tell, in the order of `Telling::own`.
+/// The AVPs of which there is something to report, in the order of `Telling::own`.
 pub(crate) fn outlooks<A: Book, B: Book>(
     alloc: Global,
     b: &B,

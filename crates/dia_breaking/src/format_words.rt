@@ -48,7 +48,7 @@ fn push_lacking(out: &mut String, numbers: &[(u32, u32)]) -> Result<(), AllocErr
     out.push_str("sent, not in the list")
 }
 
-/// Adds ranges, each with a space behind it.
+/// Adds ranges, each followed by a space.
 fn push_ranges(out: &mut String, ranges: &[(u32, u32)]) -> Result<(), AllocError>
     ensures { OnOk result (Writes out.old out.new (ranges_text ranges.now)) }
 {

@@ -34,7 +34,7 @@ pub(crate) fn unnamed_app(
     least_unnamed(alloc, &first, &second)
 }
 
-/// The least application that stands in neither list; none where they have all.
+/// The least application that is in neither list; none where they have all.
 fn least_unnamed(alloc: Global, first: &[u32], second: &[u32]) -> Result<Option<u32>, AllocError>
     ensures { IfOk result (IsLeastUnnamed first.now second.now) }
 {

@@ -1,5 +1,5 @@
 //! The keys of the AVPs that A's side may send: all that A knows, also those of which no message can hold an AVP. There is
-//! something to tell of AVPs that break by themselves, in which both dictionaries see a level, or that are read as another
+//! something to report of AVPs that break by themselves, in which both dictionaries see a level, or that are read as another
 //! format.
 ghost use Rattle.std.specs.Prelude.{◌≡◌, ◌≤◌, ◌<◌, ◌&&◌, ◌⊎◌, ℕ, false, [], None, Contains};
 ghost use Rattle.std.specs.Prelude.{◌++◌, ◌∷◌, ◌↔◌, IfOk, OnOk, filter, is_some};
@@ -22,7 +22,7 @@ use dia_policy::{Sends, Unknown};
 use std::alloc::{AllocError, Global};
 use std::collections::HashMap;
 
-/// The AVPs of a key of which there is something to tell.
+/// The AVPs of a key of which there is something to report.
 #[derive(Clone, Copy)]
 pub(crate) struct Own {
     pub key: Key,
@@ -34,7 +34,7 @@ pub(crate) struct Own {
     pub is_other: bool,
 }
 
-/// What there is to tell of a key.
+/// What there is to report of a key.
 fn own_of<A: Book, B: Book>(a: &A, b: &B, key: Key, sends: Sends, unknown: Unknown) -> Own
     ensures told { IsToldOf (sides (A.meaning a.now) (B.meaning b.now) sends unknown) key result }
     ensures exact { IsExactlyOwn (sides (A.meaning a.now) (B.meaning b.now) sends unknown) result }
@@ -164,7 +164,7 @@ fn least_beside(numbers: &[u32]) -> u32
     least
 }
 
-/// The AVPs of which there is something to tell, in the order of the lines, and their places by their keys.
+/// The AVPs of which there is something to report, in the order of the lines, and their places by their keys.
 #[derive(Drop)]
 pub(crate) struct Telling {
     pub own: Vec<Own>,
@@ -198,7 +198,7 @@ impl Telling {
         }
     }
 
-    /// Adds what there is to tell of these keys, where nothing is told yet.
+    /// Adds what there is to report of these keys to an empty record.
     fn add_all<A: Book, B: Book>(
         &mut self,
         a: &A,
@@ -218,7 +218,7 @@ impl Telling {
         Ok(())
     }
 
-    /// Adds what there is to tell of a key, if there is something.
+    /// Adds what there is to report of a key, if there is something.
     fn add(&mut self, own: Own) -> Result<(), AllocError>
         ensures { OnOk result (Adds own self.old self.new) }
     {

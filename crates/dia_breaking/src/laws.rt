@@ -9,19 +9,19 @@ ghost use Rattle.dia_breaking.specs.TheLines.{TheLinesAreAll, TheLinesAreOne};
 ghost use Rattle.dia_breaking.specs.TheMeanings.{TheMeaningsAreOne};
 
 /// Where a table shows inclusion, with the sender's own policy for unknown AVPs on both sides, no message breaks a command that
-/// it lists, and no line of such a command is told as confirmed.
+/// it lists, and no line of such a command is reported as confirmed.
 pub fn included_commands_break_nothing()
     ensures messages { IncludedBreakNothing }
     ensures lines { IncludedHaveNoLines }
 {}
 
-/// From one basis there is one list of sites, and one of lines.
+/// A basis determines the sites and the lines.
 pub fn listings_are_one()
     ensures { ListingsAreOne }
 {}
 
-/// There is one message that is written for a line, and its numbers are bytes. Two dictionaries, what is sent and the line's site
-/// and cause leave no choice of what it is made of.
+/// The message of a line is unique, and its numbers are bytes. The dictionaries, what is sent, and the line's site and cause
+/// determine what it is made of.
 pub fn line_messages_are_one()
     ensures one { LineMessagesAreOne }
     ensures some { EachLineHasAMessage }
@@ -29,31 +29,30 @@ pub fn line_messages_are_one()
     ensures stocks { StocksMakeOneMessage }
 {}
 
-/// The lines of a command tell all that breaks: what is free of them is valid under B, also once its header is mended.
+/// The lines of a command report all that breaks: what is free of them is valid under B, also once its header is fixed.
 pub fn the_lines_are_all()
     ensures { TheLinesAreAll }
 {}
 
-/// A line about data tells what breaks, and none is told for another: it names data exactly where the sender's AVPs are no groups, it
-/// is about the format exactly where the receiver is known to refuse the data of a shortest one, and it is undecided exactly where
+/// A line about data reports what breaks, by its own cause: it names data exactly where the sender's AVPs are no groups, it is
+/// about the format exactly where the receiver is known to refuse the data of a shortest one, and it is undecided exactly where
 /// the receiver isn't known to refuse any.
 pub fn data_lines_are_apart()
     ensures { DataLinesAreApart }
 {}
 
-/// Two dictionaries have one list of sites and one of lines for a command, by what is sent and by the receiver's policy.
+/// Two dictionaries, what is sent and the receiver's policy determine the sites and the lines of a command.
 pub fn the_lines_are_one()
     ensures { TheLinesAreOne }
 {}
 
-/// Two dictionaries have one list of AVPs that are read as another format for a command, by what is sent and by the receiver's
-/// policy.
+/// Two dictionaries, what is sent and the receiver's policy determine the AVPs of a command that are read as another format.
 pub fn the_meanings_are_one()
     ensures { TheMeaningsAreOne }
 {}
 
-/// The message of a line that breaks as the line tells shows it: at the line's site stands a level that breaks the rules of B's
-/// definition, as told, or one with an AVP whose flags or data are those that are told, and that B refuses.
+/// A message that breaks as its line reports shows it: at the line's site is a level that breaks the rules of B's definition as
+/// reported, or one with an AVP whose flags or data are the reported ones, and that B refuses.
 pub fn lines_are_shown()
     ensures { LinesAreShown }
 {}

@@ -1,4 +1,4 @@
-//! The words of lines about how often AVPs stand in a level, and in which order.
+//! The words of lines about how often AVPs occur in a level, and in which order.
 ghost use Rattle.std.specs.Prelude.{◌≡◌, ◌<◌, ◌++◌, [], OnOk, IfSome, codes, length, nat_lt};
 ghost use Rattle.std.specs.Prelude.{option_and_then};
 ghost use Rattle.std.specs.Option.{option_map_or};
@@ -71,8 +71,8 @@ impl<'a, A: Book, B: Book> Upgrade<'a, A, B> {
         write!(out, "behind {name} sent")
     }
 
-    /// How often A's definition lets the AVP stand in the level. Without a key, how often it lets the AVPs stand there that it
-    /// doesn't list.
+    /// How often A's definition lets the AVP occur in the level. Without a key, how often it lets the AVPs occur that it doesn't
+    /// list.
     fn sent_bounds(&self, command: DefId, place: Place, key: Option<Key>) -> Bounds
         requires { command < length (definitions (sides_of self.now).sender) }
         ensures { result ≡ sent_bounds (other_length_of self.now) (sent_rules (sides_of self.now).sender command place) key }
@@ -106,8 +106,8 @@ impl<'a, A: Book, B: Book> Upgrade<'a, A, B> {
         }
     }
 
-    /// How often B's definition lets the AVP stand in the level. Without a key, how often it lets the AVPs stand there that it
-    /// doesn't list.
+    /// How often B's definition lets the AVP occur in the level. Without a key, how often it lets the AVPs occur that it doesn't
+    /// list.
     fn accepted_bounds(&self, command: DefId, place: Place, key: Option<Key>) -> Bounds
         requires { command < length (definitions (sides_of self.now).sender) }
         ensures { result ≡ accepted_bounds (accepted_rules (sides_of self.now) command place) key }

@@ -1,4 +1,4 @@
-//! How long the levels of a definition of A are at least, where an AVP stands in them.
+//! How long the levels of a definition of A are at least if they hold an AVP.
 ghost use Rattle.std.specs.Prelude.{◌≡◌, ◌<◌, length, not, find};
 ghost use Rattle.dia_book.specs.Dictionary.{definitions};
 ghost use Rattle.dia_valid.specs.Valid.{is_listed};
@@ -16,7 +16,7 @@ use dia_breaking_levels::{Costs, TOO_LONG, length_least};
 pub(crate) struct LevelCost {
     /// The length of a least level.
     pub base: u64,
-    /// What a least level with an AVP that comes through the wildcard takes beside that AVP.
+    /// What a least level with an AVP that comes through the wildcard takes besides that AVP.
     pub beside: u64,
 }
 
@@ -52,7 +52,7 @@ impl LevelCost {
     }
 }
 
-/// What a least level takes beside an AVP that this wildcard lets in. A shortest one that it lets in has the length `filler`.
+/// What a least level takes besides an AVP that this wildcard lets in. A shortest one that it lets in has the length `filler`.
 fn beside(base: u64, filler: u64, wild: &DRule) -> u64
     ensures { result ≡ beside_of base filler wild.now }
 {

@@ -1,4 +1,4 @@
-//! The lines of a command, and the sites at which they stand.
+//! The lines of a command, and their sites.
 ghost use Rattle.std.specs.Prelude.{◌≡◌, IfOk};
 ghost use Rattle.dia_breaking.specs.Words.{outer_of, path_to};
 
@@ -16,8 +16,8 @@ pub enum Place {
         /// The application of B's definition: that of the messages; or, where B refuses that one, the one other that B alone
         /// names.
         read_as: u32,
-        /// Whether the path tells the application of B's definition: it is another one than that of the messages, or B's
-        /// definition is for one application alone, and A's for more.
+        /// Whether the path reports the application of B's definition: it differs from that of the messages, or B's definition is
+        /// for one application alone, and A's for more.
         is_told: bool,
         /// Whether P is set.
         proxiable: bool,
@@ -30,7 +30,7 @@ pub enum Place {
 }
 
 impl Place {
-    /// The site whose level the level at the place stands in. That of a command stands in none.
+    /// The site whose level holds the level at the place. No level holds that of a command.
     fn outer(&self) -> Option<usize>
         ensures { result ≡ outer_of self.now }
     {
@@ -41,7 +41,7 @@ impl Place {
     }
 }
 
-/// A place, and what a message with a level there takes at least around that level, without the message's header.
+/// A place, and the fewest bytes that a message needs around a level there, without its header.
 #[derive(Clone, Copy, PartialEq, Eq)]
 pub struct Site {
     pub place: Place,
@@ -59,7 +59,7 @@ pub enum Cause {
     Application,
     /// The P flag.
     Proxiable { set: bool },
-    /// How often AVPs stand in the level, or in which order.
+    /// How often AVPs occur in the level, or in which order.
     Level(LevelLine),
     /// B doesn't know the AVP, and refuses it with this M flag.
     Unknown { key: Key, m: bool },
@@ -67,20 +67,20 @@ pub enum Cause {
     MBit { key: Key, m: bool },
     /// B refuses the data. Without data here, it refuses the data of a shortest AVP.
     Format { key: Key, data: Option<Witness> },
-    /// The AVPs are Grouped for A, and leaves for B. Whether B accepts all data isn't known: it accepts those of a shortest AVP; or
-    /// they are UTF8String or Address for B, and a shortest AVP takes more than 65,536 bytes, and isn't tried.
+    /// The AVPs are Grouped for A, and leaves for B. Whether B accepts all data isn't known: it accepts those of a shortest AVP;
+    /// or they are UTF8String or Address for B, and a shortest AVP takes more than 65,536 bytes, and isn't tried.
     LevelAsLeaf { key: Key },
     /// Nothing breaks: B accepts all data of the AVP, and reads them as another format than A's.
     Meaning { key: Key },
 }
 
-/// What is known of a line.
+/// The status of a line.
 #[derive(Clone, Copy, PartialEq, Eq)]
 pub enum Standing {
     /// Its message was checked: it is valid under A, and B's side refuses it. For `Sends::Listed` it isn't checked that A's rules
     /// list each of its AVPs.
     Confirmed,
-    /// Its message wasn't checked: it is too long to be checked beside the others, or it is that of a meaning.
+    /// Its message wasn't checked: it is too long to be checked with the others, or it is that of a meaning.
     Unchecked,
     /// It has no message, or its message was checked and doesn't break.
     Undecided,

@@ -270,7 +270,7 @@ fn sort_by_site(lines: &mut Vec<Line>) -> Result<(), AllocError>
     Ok(())
 }
 
-/// Adds a line of which nothing is known.
+/// Adds an unchecked line.
 pub(crate) fn push_line(
     lines: &mut Vec<Line>,
     site: usize,
@@ -289,7 +289,7 @@ pub(crate) fn push_line(
     Ok(())
 }
 
-/// Adds a line of which nothing is known, if a message has room for it.
+/// Adds an unchecked line, if a message has room for it.
 pub(crate) fn push_with_room(
     lines: &mut Vec<Line>,
     site: usize,

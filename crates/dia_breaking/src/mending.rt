@@ -1,4 +1,4 @@
-//! Messages whose headers are mended: their P flag and their application are such as a definition of B takes.
+//! Messages whose headers are fixed: a definition of B accepts their P flag and their application.
 ghost use Rattle.std.specs.Prelude.{◌≡◌, ◌≢◌, ◌≤◌, ◌<◌, ◌↔◌, ℕ, IfOk, IfSome, IsTrue, List, None, Some, length, slice_get, take};
 ghost use Rattle.std.specs.Int.{IsBitSet};
 ghost use Rattle.dia_wire.specs.declared.Header.{Header as AnyHeader};
@@ -21,8 +21,8 @@ use dia_wire::{COMMAND_ERROR, COMMAND_PROXIABLE, COMMAND_REQUEST, Header, split_
 use std::alloc::{AllocError, Global};
 
 impl<'a, A: Book, B: Book> Upgrade<'a, A, B> {
-    /// Whether the message of a line, which B's side refuses, is refused once its header is mended, too. A line of the header
-    /// asks nothing more.
+    /// Whether the message of a line, which B's side refuses, is refused also once its header is fixed. A line about the header
+    /// requires nothing more.
     pub(crate) fn breaks_mended(
         &self,
         alloc: Global,
@@ -44,7 +44,7 @@ impl<'a, A: Book, B: Book> Upgrade<'a, A, B> {
         self.breaks_at(alloc, breaks.command, site.place, bytes)
     }
 
-    /// Whether it is refused once its header is mended for B's definition at a place of the command.
+    /// Whether it is refused once its header is fixed for B's definition at a place of the command.
     fn breaks_at(
         &self,
         alloc: Global,
@@ -66,8 +66,8 @@ impl<'a, A: Book, B: Book> Upgrade<'a, A, B> {
         Ok(!is_valid(alloc, self.b, self.unknown, &message)?)
     }
 
-    /// The header with a P flag and an application that B's definition at a place of the command takes; none, where no header
-    /// is so.
+    /// The header with a P flag and an application that B's definition at a place of the command accepts; none, where there is no
+    /// such header.
     fn mended_header(&self, command: DefId, place: Place, header: &Header) -> Option<Header>
         requires { command < length (definitions (sides_of self.now).sender) }
         ensures some { IfSome result (IsMendedAt (sides_of self.now) command place header.now) }
@@ -165,7 +165,7 @@ fn with_header(alloc: Global, bytes: &[u8], header: &Header) -> Result<Vec<u8>, 
     Ok(mended)
 }
 
-/// Whether the line tells of the header.
+/// Whether the line is about the header.
 fn is_of_header(cause: &Cause) -> bool
     ensures { result ≡ is_of_header cause.now }
 {

@@ -20,9 +20,9 @@ use std::alloc::{AllocError, Global};
 
 impl<'a, A: Book, B: Book> Upgrade<'a, A, B> {
     /// The message of a line of a command, or of one of its meanings: the levels around the line, from the command inwards, with
-    /// least AVPs beside them. There is one such message, and one choice of what it is made of (`line_messages_are_one`). That
-    /// none that breaks so is shorter isn't proved; nor that a meaning's breaks nothing. Where A has no such command, there are
-    /// no bytes. The error comes only where memory was refused.
+    /// least AVPs next to them. There is one such message, and one choice of what it is made of (`line_messages_are_one`). It
+    /// isn't proved that none that breaks so is shorter, nor that a meaning's breaks nothing. Where A has no such command, there
+    /// are no bytes. The only error is an allocation failure.
     pub fn message(
         &self,
         alloc: Global,
@@ -81,7 +81,7 @@ impl<'a, A: Book, B: Book> Upgrade<'a, A, B> {
         Ok(())
     }
 
-    /// Adds what stands before each group of the path, and its head. What stands behind is left, the last part first.
+    /// Adds what precedes each group of the path, and its head. What follows is returned, the last part first.
     fn push_fronts(
         &self,
         alloc: Global,
@@ -105,7 +105,7 @@ impl<'a, A: Book, B: Book> Upgrade<'a, A, B> {
         Ok(())
     }
 
-    /// Adds what stands in the outer level before the group of a site, and its head.
+    /// Adds what precedes the group of a site in the outer level, and its head.
     fn push_front(
         &self,
         alloc: Global,

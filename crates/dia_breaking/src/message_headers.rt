@@ -31,7 +31,7 @@ pub(crate) fn push_header(
     Ok(())
 }
 
-/// The P flag: as the line tells, and else as at the command's site.
+/// The P flag: as the line reports, and else as at the command's site.
 fn is_proxiable(cause: &Cause, site: Option<Site>) -> bool
     ensures { result ≡ line_p cause.now site }
 {

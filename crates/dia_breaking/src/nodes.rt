@@ -1,4 +1,4 @@
-//! The AVPs of which there is something to tell, as the nodes of a walk.
+//! The AVPs of which there is something to report, as the nodes of a walk.
 ghost use Rattle.std.specs.Prelude.{◌≡◌, IfOk, map};
 ghost use Rattle.dia_breaking_ways.specs.Walks.{plain_exits, plain_level, plain_node};
 ghost use Rattle.dia_breaking.specs.Nodes.{exits_in, level_in, node_in};

@@ -17,7 +17,7 @@ pub(crate) fn numbers_of(format: &Format) -> Option<&[(u32, u32)]>
     listed(format)
 }
 
-/// The numbers of the first format that the second lacks, where both have a list. The error comes only where memory was refused.
+/// The numbers of the first format that the second lacks, where both have a list. The only error is an allocation failure.
 pub(crate) fn lacking(
     alloc: Global,
     format: &Format,
@@ -46,7 +46,7 @@ fn listed(format: &Format) -> Option<&[(u32, u32)]>
     }
 }
 
-/// What is left of ranges where others are taken out. Both are in order, and none touch.
+/// The rest of ranges where others are taken out. Both are in order, and none touch.
 fn without(
     alloc: Global,
     ranges: &[(u32, u32)],
@@ -63,7 +63,7 @@ fn without(
     Ok(found)
 }
 
-/// Adds what is left of a range. Others that end before it are skipped by a binary search.
+/// Adds the rest of a range. Others that end before it are skipped by a binary search.
 fn push_without(
     found: &mut Vec<(u32, u32)>,
     low: u32,
@@ -78,7 +78,7 @@ fn push_without(
     push_gaps(found, low, high, &others[place..])
 }
 
-/// Adds what is left of a range, by one walk over the others.
+/// Adds the rest of a range, by one walk over the others.
 fn push_gaps(
     found: &mut Vec<(u32, u32)>,
     low: u32,
@@ -98,7 +98,7 @@ fn push_gaps(
     push(found, first, high)
 }
 
-/// Adds what is left in front of one of the others. The answer is where the numbers behind it begin, if any are left.
+/// Adds the rest before one of the others. The answer is where the numbers after it begin, if any are left.
 fn push_before(
     found: &mut Vec<(u32, u32)>,
     first: u32,
@@ -126,7 +126,7 @@ fn push_before(
     }
 }
 
-/// Adds the numbers from `low` on that stand before `from`.
+/// Adds the numbers from `low` on that precede `from`.
 fn push_front(found: &mut Vec<(u32, u32)>, low: u32, from: u32) -> Result<(), AllocError>
     ensures { OnOk result (found.new.items ≡ found.old.items ++ front low from) }
 {

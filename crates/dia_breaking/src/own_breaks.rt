@@ -1,4 +1,4 @@
-//! How the AVPs of which there is something to tell break by themselves.
+//! How the AVPs of which there is something to report break by themselves.
 ghost use Rattle.std.specs.Prelude.{◌≡◌, IfOk};
 ghost use Rattle.dia_breaking.specs.OwnBreaks.{AreOwnBreaks, IsOwnBreaks};
 ghost use Rattle.dia_breaking.specs.Sender.{costs_of, sender_in};
@@ -13,7 +13,7 @@ use dia_breaking_levels::Costs;
 use dia_policy::Unknown;
 use std::alloc::{AllocError, Global};
 
-/// An AVP of which there is something to tell.
+/// An AVP of which there is something to report.
 #[derive(Clone, Copy)]
 pub(crate) struct OwnBreaks {
     pub key: Key,

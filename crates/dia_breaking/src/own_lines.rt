@@ -29,7 +29,7 @@ use std::alloc::{AllocError, Global};
 /// The most bytes of a shortest AVP whose data are tried, where it is Grouped for A, and UTF8String or Address for B.
 const MOST_TRIED: u64 = 65_536;
 
-/// What is told of an AVP by itself. The lines of a site stand in this order.
+/// What is reported of an AVP by itself, in the order of the lines of a site.
 #[derive(Clone, Copy)]
 pub(crate) enum Kind {
     /// B doesn't know it.
@@ -241,7 +241,7 @@ fn with_data(own: &OwnBreaks, length: u64, found: &Witness) -> u64
         .min(TOO_LONG)
 }
 
-/// Whether the format refuses what stands behind so many bytes.
+/// Whether the format refuses what follows so many bytes.
 fn is_refused(format: &Format, bytes: &[u8], head: usize) -> bool
     ensures { MatchBool result (¬ IsLeafAnswer Leaf.Fine (plain_format format.now) (drop head bytes.now))
         (IsLeafAnswer Leaf.Fine (plain_format format.now) (drop head bytes.now)) }

@@ -1,4 +1,4 @@
-//! The parts of a level before an AVP of a key, and those behind it, as bytes.
+//! The parts of a level before an AVP of a key, and those after it, as bytes.
 ghost use Rattle.std.specs.Prelude.{◌≡◌, ◌≤◌, ◌++◌, IfOk, OnOk, length, position};
 ghost use Rattle.dia_book.specs.Keys.{same_key};
 ghost use Rattle.dia_breaking_shortest.specs.Bytes.{parts_bytes, repeated};
@@ -34,7 +34,7 @@ impl<'a, A: Book, B: Book> Upgrade<'a, A, B> {
     }
 }
 
-/// How many parts stand before the first of the key.
+/// How many parts precede the first of the key.
 fn parts_before(parts: &[Part], key: Key) -> usize
     ensures within { result ≤ length parts.now }
     ensures place { result ≡ parts_before key parts.now }
@@ -58,7 +58,7 @@ pub(crate) fn front_parts(parts: &[Part], key: Key) -> &[Part]
     &parts[..parts_before(parts, key)]
 }
 
-/// Those behind it: others of the key come first.
+/// Those after it: others of the key come first.
 pub(crate) fn rest_parts(alloc: Global, parts: &[Part], key: Key) -> Result<Vec<Part>, AllocError>
     ensures { IfOk result (λ rest. rest.items ≡ rest_parts key parts.now) }
 {

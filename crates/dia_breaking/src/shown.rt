@@ -1,4 +1,4 @@
-//! The AVP that a line tells of.
+//! The AVP that a line reports.
 ghost use Rattle.std.specs.Prelude.{◌≡◌, IfOk, Some};
 ghost use Rattle.std.specs.Option.{option_map};
 ghost use Rattle.dia_breaking_data.specs.Shortest.{witness_bytes};

@@ -43,7 +43,7 @@ pub struct Upgrade<'a, A: Book, B: Book> {
     pub(crate) telling: Box<Telling>,
     pub(crate) apps: Box<BothApps>,
     pub(crate) new_apps: Box<OtherApps>,
-    /// The AVPs of which there is something to tell, in the order of `Telling::own`.
+    /// The AVPs of which there is something to report, in the order of `Telling::own`.
     pub(crate) outlooks: Vec<Outlook>,
     /// The same AVPs as the nodes of a walk.
     pub(crate) nodes: Vec<Node>,
@@ -81,8 +81,7 @@ impl<'a, A: Book, B: Book> Upgrade<'a, A, B> {
     ghost use Rattle.dia_breaking.specs.ToldMessages.{AreConfirmedWhere};
     ghost use Rattle.dia_breaking.specs.Upgrades.{receiver_of, sender_of, sides_of, stock_of};
 
-    /// What A's side sends, read under B by a side that has this policy for AVPs that it doesn't know. The error comes only where
-    /// memory was refused.
+    /// Messages of A's side, read by B's side with this policy for unknown AVPs. The only error is an allocation failure.
     pub fn new(
         alloc: Global,
         a: &'a A,
@@ -123,29 +122,29 @@ impl<'a, A: Book, B: Book> Upgrade<'a, A, B> {
         self.lengths.book
     }
 
-    /// All that can break the messages of a command of A. Each message of the command that A's side sends, and that breaks in none
-    /// of the ways that the lines tell, is valid under B; so where there is no line, each is. A line of the header hides none of
-    /// the levels behind it: a message whose levels are free of the lines is valid under B once its P flag and its application are
-    /// such as B's definition takes.
+    /// All that can break the messages of a command of A. Each message of the command that A's side sends, and that breaks in
+    /// none of the ways that the lines report, is valid under B; so where there is no line, each is. A line about the header
+    /// hides none of the levels after it: a message whose levels are free of the lines is valid under B once B's definition
+    /// accepts its P flag and its application.
     ///
-    /// The sites, and the places, causes and lengths of the lines, are the one list that the dictionaries, the sender and the
-    /// policy have. Which data break a format is no part of that list.
+    /// The sites, and the places, causes and lengths of the lines, are unique for the dictionaries, the sender and the policy.
+    /// Which data break a format is not.
     ///
-    /// The standings are told line by line. A line without message is undecided; the message of another is checked, unless it
-    /// has more than 2^20 bytes, or more than are left. `left` is how many bytes may be checked, and then how many of them
-    /// weren't. A caller that goes over many commands begins with [`MOST_CHECKED_TOGETHER`](crate::MOST_CHECKED_TOGETHER), so
-    /// that the time for checks is bounded. A line is confirmed exactly where its message (`IsLineMessage`) is checked and breaks as
-    /// the line tells (`BreaksAsTold`): it has the length that is told, it is valid under A, as one of the command, and not under
-    /// B (`IsConfirmed`), and, unless the line is of the header, not once its header is mended, too (`BreaksBehind`).
+    /// Each line has its status. A line without message is undecided; the message of another is checked, unless it has more than
+    /// 2^20 bytes, or more than are left. `left` is how many bytes may be checked, and then how many of them weren't. A caller
+    /// that goes over many commands begins with [`MOST_CHECKED_TOGETHER`](crate::MOST_CHECKED_TOGETHER), so that the time for
+    /// checks is bounded. A line is confirmed exactly where its message (`IsLineMessage`) is checked and breaks as the line
+    /// reports (`BreaksAsTold`): it has the reported length, it is valid under A, as one of the command, and not under B
+    /// (`IsConfirmed`), and, unless the line is about the header, also not once its header is fixed (`BreaksBehind`).
     ///
-    /// The message of a confirmed line shows it (`ShowsCause`): at the line's site stands a level that breaks B's rules as the line
-    /// tells, or one with an AVP whose flags or data are those that are told, and that B refuses. Where no data are told, the level
-    /// has an AVP of the key whose data B refuses.
+    /// The message of a confirmed line shows it (`ShowsCause`): at the line's site is a level that breaks B's rules as the line
+    /// reports, or one with an AVP whose flags or data are the reported ones, and that B refuses. Where no data are reported, the
+    /// level has an AVP of the key whose data B refuses.
     ///
-    /// The meanings are the one list of AVPs that B's side reads as another format, though it accepts all of their data
-    /// (`AreTheMeanings`). Each key stands once, at the site to which the shortest way leads. They are no lines, and break
-    /// nothing; their messages aren't checked. They are all: each AVP of a level that both sides read, and that B's side reads as
-    /// another format, is among them. The error comes only where memory was refused.
+    /// The meanings are the AVPs that B's side reads as another format, though it accepts all of their data (`AreTheMeanings`).
+    /// Each key occurs once, at the site to which the shortest way leads. They are no lines, and break nothing; their messages
+    /// aren't checked. They are all: each AVP of a level that both sides read, and that B's side reads as another format, is
+    /// among them. The only error is an allocation failure.
     pub fn breaks(
         &self,
         alloc: Global,

@@ -19,7 +19,7 @@ use std::alloc::{AllocError, Global};
 
 impl<'a, A: Book, B: Book> Upgrade<'a, A, B> {
     /// Adds the words of a line of a command, as `T/G: missing X: 0..1 sent, 1 accepted`; nothing, where A has no such command.
-    /// The error comes only where memory was refused, and nothing was added then.
+    /// The only error is an allocation failure; nothing was added then.
     pub fn push_words(
         &self,
         alloc: Global,

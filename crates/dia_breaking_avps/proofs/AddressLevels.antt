@@ -56,7 +56,7 @@ by_front v front rest s are other =
 
 -- ---- the first AVP of a level
 
--- what stands first has a rule, or comes through a wildcard
+-- what comes first has a rule, or comes through a wildcard
 abbrev IsLetIn : List DRule → Key → Type 0
 IsLetIn rules key = ((rule : DRule) × IsIn rule rules × (rule.key ≡ Some key)) ⊎ ((is_listed rules key ≡ false) × IsTrue (has_wildcard rules))
 

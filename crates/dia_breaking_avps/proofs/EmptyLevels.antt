@@ -55,7 +55,7 @@ runs_ask (r ∷ rules) rest (run, after, parts, keys, bounds, later) =
     let size = ap length none.0 in
     (more.0, (omega (arith, low, size), more.1))
 
--- no AVP at all stands as the rules say, where each has 0 for its least count
+-- an empty level is as the rules say, where each has 0 for its least count
 pub placed_none : (rules : List DRule) → All (λ rule. rule.min ≡ 0) rules → Placed rules []
 placed_none rules all =
     let asks = each AsksNone rules all in

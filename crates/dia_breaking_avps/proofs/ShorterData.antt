@@ -1,4 +1,4 @@
--- Data that are shorter than the shortest that break are accepted. Whether data are those of a leaf can be told.
+-- Data that are shorter than the shortest that break are accepted. It is decidable whether data are those of a leaf.
 use Rattle.std.proofs.Common.{◌≡◌, ℕ, zero, suc, ◌<◌, ◌≤◌, Bool, true, false, List, [], ◌∷◌, length, map, take, Option, Some, None, refl, sym, ap, subst, arith, inl, inr}
 use Rattle.std.specs.Prelude.{◌⊎◌, All, Any, MatchOption, codes, option_and_then, drop, ⊤}
 use Rattle.std.specs.Char.{to_ascii_lowercase}
@@ -26,7 +26,7 @@ use Rattle.dia_breaking_sites.specs.Sent.{IsSentLevel, IsSentWithin}
 use Rattle.dia_breaking_avps.specs.Sent.{IsAcceptedData, IsSentData, IsShortestRefused, group_of}
 use Rattle.dia_breaking_avps.proofs.NoLevels.{eight_zeros, empty_level, is_uri, least_uri, no_family, not_empty, not_short, not_zeros, one_letter}
 
--- ---- what can be told
+-- ---- what is decidable
 
 abbrev Told : Type 0 → Type 0
 Told P = P ⊎ (¬ P)

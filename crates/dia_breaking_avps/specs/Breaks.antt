@@ -46,7 +46,7 @@ IsHeadBreak da db who u key found = MatchOption found (AcceptsFlags da db who u 
 abbrev pub IsLevelForLeaf : Dictionary → Dictionary → Key → (List DRule → PlainFormat → Type 0) → Type 0
 IsLevelForLeaf da db key P = IsSome (group_of da key) × ((e : DictEntry) × (known db key ≡ Some e) × (e.group ≡ None) × P (group_rules da key) e.format)
 
--- B takes any data of AVPs of the key; or they are Addresses, and so is each level of A's group
+-- B accepts any data of AVPs of the key; or they are Addresses, and so is each level of A's group
 abbrev pub TakesLevels : Dictionary → Dictionary → Sends → Key → Type 0
 TakesLevels da db who key = TakesAnyData db key ⊎ IsLevelForLeaf da db key (λ rules format. (format ≡ Address) × AreAddresses da who rules)
 

@@ -13,7 +13,7 @@ use Rattle.dia_policy.specs.declared.sends.Sends.TheVariants.{Any, Known, Listed
 abbrev pub graphic_length : ℕ
 graphic_length = 2171169
 
--- the level is empty, or an AVP that stands in it, or in a level within, is shorter than that
+-- the level is empty, or an AVP in it, or in a level within, is shorter than that
 pub data IsOrdinary : List PlainAvp → Type 0 where
   empty : IsOrdinary []
   short : (avps : List PlainAvp) (v : PlainAvp) → Contains avps v → avp_length v < graphic_length → IsOrdinary avps
@@ -32,7 +32,7 @@ HasEightBytes format = ⊥
 
 -- ---- Addresses
 
--- no AVP at all stands as the rules say
+-- an empty level is as the rules say
 abbrev pub AskForNone : List DRule → Type 0
 AskForNone rules = All (λ rule. rule.min ≡ 0) rules
 
@@ -40,12 +40,12 @@ AskForNone rules = All (λ rule. rule.min ≡ 0) rules
 abbrev pub first_family : ℕ
 first_family = 65536
 
--- the least code behind those whose first two bytes are 2, the family of IPv6: 0x00030000
+-- the least code after those whose first two bytes are 2, the family of IPv6: 0x00030000
 abbrev pub past_families : ℕ
 past_families = 196608
 
--- the first two bytes of the code are 1 or 2: read as an Address, such an AVP begins one of IPv4 or IPv6, of 6 or of 18 bytes (section 4.3.1). No level
--- has as many
+-- the first two bytes of the code are 1 or 2: read as an Address, such an AVP begins one of IPv4 or IPv6, of 6 or of 18 bytes
+-- (section 4.3.1). No level has as many
 abbrev pub IsFamily : ℕ → Type 0
 IsFamily code = (first_family ≤ code) × (code < past_families)
 

@@ -38,7 +38,7 @@ group_rules d key = option_map_or (λ group. group.rules) (group_of d key) []
 abbrev pub HasGroup : Dictionary → Key → ℕ → Type 0
 HasGroup d key number = (group : PlainDefinition) × (group_of d key ≡ Some group) × (slice_get (definitions d) number ≡ Some group)
 
--- the dictionary takes any data of AVPs of the key: it doesn't know them, or they are leaves of a format that has all data
+-- the dictionary accepts any data of AVPs of the key: it doesn't know them, or they are leaves of a format that has all data
 abbrev pub TakesAnyData : Dictionary → Key → Type 0
 TakesAnyData d key = (e : DictEntry) → known d key ≡ Some e → (e.group ≡ None) × ((bytes : List ℕ) → IsLeaf e.format bytes)
 

@@ -13,7 +13,7 @@ use dia_policy::Sends;
 /// The least code whose first two bytes are 1, the family of IPv4.
 const FIRST_FAMILY: u32 = 0x0001_0000;
 
-/// The least code behind those whose first two bytes are 2, the family of IPv6.
+/// The least code after those whose first two bytes are 2, the family of IPv6.
 const PAST_FAMILIES: u32 = 0x0003_0000;
 
 /// What breaks of levels of these rules that are read as Addresses.

@@ -14,8 +14,8 @@ use dia_book::{Book, Entry, Format, Key};
 use dia_policy::{Sends, Unknown};
 
 /// What an AVP of the key that A's side sends breaks by itself under B, with this policy for AVPs that B doesn't know. Where A
-/// doesn't know the key, and its side sends only AVPs that it knows, nothing breaks. Whether any message can hold an AVP of a key
-/// that A knows isn't asked.
+/// doesn't know the key, and its side sends only AVPs that it knows, nothing breaks. A message needn't have room for an AVP of a
+/// key that A knows.
 pub fn avp_breaks<A: Book, B: Book>(
     a: &A,
     b: &B,

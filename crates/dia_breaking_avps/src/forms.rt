@@ -97,7 +97,7 @@ fn shortest_no_level(format: &Format, rules: &[DRule]) -> Option<Witness>
     }
 }
 
-/// Whether no AVP at all stands as the rules say.
+/// Whether an empty level is as the rules say.
 pub(crate) fn asks_for_none(rules: &[DRule]) -> bool
     ensures { IsTrue result ↔ AskForNone rules.now }
 {

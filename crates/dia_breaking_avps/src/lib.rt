@@ -1,4 +1,4 @@
-//! Which AVPs of a key break by themselves: by their M flag or by their data, whatever stands around them.
+//! Which AVPs of a key break by themselves: by their M flag or by their data, whatever is around them.
 #![tactic(auto)]
 
 mod addresses;

@@ -19,7 +19,7 @@ of_set set (Some list) h = λ bytes. (
   λ k. (k.0, (same_any set list h.1 (number bytes)).0 k.1),
 )
 
--- the number behind the end of a range is in none that are apart
+-- the number after the end of a range is in none that are apart
 pub past_end : (rs : List (ℕ × ℕ)) (place : ℕ) (d : ℕ × ℕ) → AreApart rs → place < length rs → ¬ Any (IsWithin ((get_or rs place d).1 + 1)) rs
 past_end rs place d apart lt (k, x, short, is, w) =
     let here : get_or rs k d ≡ x = get_or_default rs k d x short ∙ is in
@@ -46,7 +46,7 @@ pub first_is : (rs : List (ℕ × ℕ)) (r : ℕ × ℕ) → Some r ≡ slice_ge
 first_is [] r e = absurd (let p : Some r ≡ None = e in cc)
 first_is (x ∷ xs) r e = (ap (λ (o : Option (ℕ × ℕ)). elim o [ None ↦ r | Some y ↦ y ]) e, omega arith)
 
--- the number behind the first range, if there is one
+-- the number after the first range, if there is one
 pub behind_first : (rs : List (ℕ × ℕ)) (r : ℕ × ℕ) (o : Option ℕ) (P : Type 0) → Some r ≡ slice_get rs 0 → AreApart rs → SomeIff o P (r.1 + 1) → IfSome o (λ n. ¬ Any (IsWithin n) rs)
 behind_first rs r None P e apart s = tt
 behind_first rs r (Some n) P e apart s =

@@ -1,4 +1,4 @@
--- The data that is kept for a format is shortest.
+-- The data that are retained for a format are shortest.
 use Rattle.std.proofs.Common.{◌≡◌, ℕ, zero, suc, ◌<◌, ◌≤◌, Bool, true, false, List, [], ◌∷◌, take, Option, Some, None, refl, sym, ap, subst, ◌∙◌, arith, inl, inr}
 use Rattle.std.specs.Prelude.{Any, nat_le, min, slice_index, if◌then◌else◌}
 use Rattle.std.specs.List.{list_any}
@@ -23,7 +23,7 @@ taken zero bs each = tt
 taken (suc n) [] each = tt
 taken (suc n) (b ∷ bs) each = (each 0, taken n bs (λ i. each (suc i)))
 
--- a value keeps bytes
+-- a value holds bytes
 pub witness_are_bytes : (witness : Witness) → AreBytes (witness_bytes witness)
 witness_are_bytes witness = taken witness.count witness.bytes witness.are_bytes
 

@@ -4,7 +4,7 @@ use Rattle.dia_data.specs.Plain.{PlainFormat}
 use Rattle.dia_data.specs.Leaf.{IsLeaf}
 use Rattle.dia_breaking_data.specs.declared.short_data.Witness.{Witness}
 
--- the bytes that a value keeps
+-- the bytes that a value holds
 abbrev pub witness_bytes : Witness → List ℕ
 witness_bytes witness = take witness.count witness.bytes
 

@@ -1,4 +1,4 @@
--- Which shortest data of a format is kept.
+-- Which shortest data of a format are retained.
 use Rattle.std.specs.Prelude.{ℕ, nat_le, min, if◌then◌else◌, List, [], ◌∷◌, Option, Some, None}
 use Rattle.std.specs.Option.{option_map, option_map_or}
 use Rattle.dia_data.specs.Plain.{PlainFormat, AnyBytes, FourBytes, EightBytes, Grouped, Address, Utf8String, DiameterIdentity, DiameterUri, Enumerated}
@@ -23,7 +23,8 @@ one_letter = 97 ∷ []
 abbrev pub one_letter_uri : List ℕ
 one_letter_uri = 97 ∷ 97 ∷ 97 ∷ 58 ∷ 47 ∷ 47 ∷ 97 ∷ []
 
--- a number is 0, or the least of its list; of text there is as little as there can be; and an address is of the family 0. Grouped has no leaf
+-- a number is 0, or the least of its list; of text there is as little as there can be; and an address is of the family 0. Grouped
+-- has no leaf
 abbrev pub the_data : PlainFormat → Option (List ℕ)
 the_data (AnyBytes name) = Some []
 the_data (FourBytes name) = Some four_zeros

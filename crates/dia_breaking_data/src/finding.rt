@@ -34,7 +34,7 @@ pub fn shortest(f: &Format) -> Option<Witness>
     data_of(kind_of(f))
 }
 
-/// The data that is kept for a kind.
+/// The data that are retained for a kind.
 fn data_of(kind: Kind<'_>) -> Option<Witness>
     ensures { option_map witness_bytes result ≡ kind_data (shown kind.entry) }
 {

@@ -10,8 +10,8 @@ use crate::kinds::Kind;
 use crate::short_data::Witness;
 use dia_data::Format;
 
-/// The numbers of two families of addresses, whose data are longer than 4 bytes, as the front of 4 bytes: from the first
-/// number of the one to the last of the other.
+/// The families of addresses whose data are longer than 4 bytes, as prefixes of 4 bytes: from the first number of the one to the
+/// last of the other.
 const FIRST_LONG_FAMILY: u32 = 0x1_0000;
 
 const LAST_LONG_FAMILY: u32 = 0x2_ffff;
@@ -100,8 +100,8 @@ fn unlisted(low: u32, high: u32, ranges: &[(u32, u32)]) -> Option<u32>
     }
 }
 
-/// The first number of the range whose 4 bytes the format doesn't accept. Of 256 numbers one after the other the last byte
-/// of one is ff, which stands in no text, so no more are looked at where the format accepts no other data than text.
+/// The first number of the range whose 4 bytes the format doesn't accept. Of 256 numbers in a row the last byte of one is ff,
+/// which no text contains, so no more are looked at where the format accepts no other data than text.
 fn first_refused_of(low: u32, high: u32, format: &Format) -> Option<u32>
     ensures some { IfSome result (λ n. IsWithin n (low, high)
         × (¬ IsLeaf (plain_format format.now) (four_bytes n))) }

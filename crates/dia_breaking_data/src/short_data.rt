@@ -1,4 +1,4 @@
-//! A few bytes, kept by value.
+//! A few bytes, held by value.
 ghost use Rattle.std.specs.Prelude.{◌≡◌, ◌<◌, ◌≤◌, ℕ, length, slice_index};
 
 /// Data of at most 8 bytes.

@@ -42,7 +42,7 @@ bounds_or rule n = by (nat_lt n rule.min) refl (max_or rule.max n)
     by false e (inl le) = inl (ltb-false n rule.min e, le)
     by false e (inr above) = inr (inr above)
 
--- a key with a lower one behind it
+-- a key with a lower one after it
 record IsAhead (rules : List DRule) (k : Key) (keys : List Key) : Type 0 where
   place : ℕ
   y : Key

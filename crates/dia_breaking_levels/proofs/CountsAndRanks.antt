@@ -127,7 +127,7 @@ rank_at (s ∷ rules) (suc i) r q distinct at e =
     later_rank s rules q (λ f. in_all (λ (x : DRule). (key : Key) → s.key ≡ Some key → x.key ≢ Some key) r rules distinct.0 (in_at rules i r at) q f e)
     ∙ ap suc (rank_at rules i r q distinct.1 at e)
 
--- a key of no rule ranks behind them all
+-- a key of no rule ranks after them all
 pub rank_of_none : (rules : List DRule) (q : Key) → ((r : DRule) → IsIn r rules → r.key ≢ Some q) → rank rules q ≡ length rules
 rank_of_none [] q none = refl
 rank_of_none (r ∷ rules) q none = later_rank r rules q (none r (inl refl)) ∙ ap suc (rank_of_none rules q (λ s i. none s (inr i)))
@@ -164,12 +164,12 @@ order_as rules others (k ∷ keys) alike o = (
   order_as rules others keys (λ x y i j. alike x y (inr i) (inr j)) o.1,
 )
 
--- keys behind a run
+-- keys after a run
 pub order_behind : (rules : List DRule) (run after : List Key) → InOrder rules (run ++ after) → InOrder rules after
 order_behind rules [] after o = o
 order_behind rules (k ∷ run) after o = order_behind rules run after o.1
 
--- a run of the first rule's key may stand in front
+-- a run of the first rule's key may precede
 order_run : (r : DRule) (rules : List DRule) (run after : List Key) → AllByRecursion (λ key. r.key ≡ Some key) run → InOrder (r ∷ rules) after → InOrder (r ∷ rules) (run ++ after)
 order_run r rules [] after all o = o
 order_run r rules (k ∷ run) after all o =
@@ -222,7 +222,7 @@ runs_loose rules keys rest r k sound runs i f e = runs_none (fixed_rules rules) 
     fixed_or_loose rules t r sound p.0 i (g ∙ sym e) p.1 f))
 
 module _ (rules : List DRule) (sound : AreSound rules) (keys : List Key) (placed : Placed rules keys) where
-  -- behind the runs no key is that of a fixed rule
+  -- after the runs no key is that of a fixed rule
   rest_free : AreFree (fixed_rules rules) placed.rest
   rest_free q r i j e = by (in_all (MayBeLoose rules) q placed.rest placed.loose i)
     where

@@ -199,7 +199,7 @@ module _ (wanted : ℕ) (steps : List Step) (c : ℕ) (cut : Cut) (left : ℕ) (
     own = λ none. absurd (omega (arith, none, here_more x.length steps x, own_one));
   }
 
--- so it goes on
+-- so it continues
 cut_all : (wanted : ℕ) (steps rest : List Step) (c : ℕ) (cut : Cut) (left : ℕ) → SoFar wanted steps c cut left → Rises c rest → IsCut wanted (steps ++ rest) (fold cut_step (cut, left) rest).0
 cut_all wanted steps [] c cut left now rises = subst (λ (all : List Step). IsCut wanted all cut) (sym (append-nil steps)) now.cutting
 cut_all wanted steps (x ∷ rest) c cut left now rises =

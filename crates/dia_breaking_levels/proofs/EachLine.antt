@@ -82,7 +82,7 @@ module _ (f : Floor) (most : ℕ) (listed other : Key → ℕ) (a b : List DRule
         (shows, le),
       )
 
-  -- ---- where the lines of a reason stand
+  -- ---- where the lines of a reason are
 
   in_missing : (line : Line) → IsIn line (lines_by Missing b) → IsIn line (lines_of f most listed other a b)
   in_missing line i =

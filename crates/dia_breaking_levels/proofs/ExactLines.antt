@@ -81,7 +81,7 @@ indexed rules x listed = by (position (lists_key x) rules) refl
         let lt = within i r.0 r.1 (nat_lt i (length rules)) refl in
         (r.0, ap (slice_get rules) same ∙ r.1, key_of x r.0.key r.2, omega (arith, same, lt))
 
--- that of another is behind them all
+-- that of another is after them all
 pub unindexed : (rules : List DRule) (x : Key) → is_listed rules x ≡ false → index rules x ≡ length rules
 unindexed rules x none = by (position (lists_key x) rules) refl
   where

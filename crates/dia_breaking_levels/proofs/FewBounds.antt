@@ -31,7 +31,8 @@ share_count s p (k ∷ keys) =
     step true c = refl
     step false c = refl
 
--- of the keys by the wildcard those that the other does not list are what is left beside what the rules need
+-- the keys by the wildcard that the other does not list, and those that the rules need, are no more than all that it does not
+-- list
 pub outside_most : (a b : List DRule) (keys : List Key) (w : DRule) → AreSound a → Placed a keys → IsIn w a → w.key ≡ None
     → needed b a + others_that a (λ q. not (is_listed b q)) keys ≤ strangers b keys
 outside_most a b keys w sound placed i e =

@@ -53,7 +53,7 @@ is_floor f listed other keys a b base inner second outer need shortest = record 
   needed = let all = needed_within b a in omega (arith, all, need);
 }
 
--- what is left of what is wanted, where the count of what is needed is capped
+-- the rest of what is wanted, where the count of what is needed is capped
 pub over_is : (listed : Key → ℕ) (f : Floor) (a b : List DRule) (max next wanted low n c : ℕ) (items : List Step) → max < 2 ^ 32 → f.needed ≡ needed_up b a → next ≡ max → wanted ≡ next + 1 - f.needed
     → low ≡ filler f
     → items ≡ steps listed low f.outer b wanted a → IsLeastTaken wanted items c → IsTakenInOrder wanted items c → n ≡ swapped f.base 0 c → IsLeastOver listed f a b max n
@@ -107,7 +107,7 @@ floor_is f listed other keys a b base inner first second outer need wild lets_in
         ∙ ap (λ (v : ℕ). floor_at b2 i2 f2 v o1 n1 w1 l1) es ∙ ap (λ (v : ℕ). floor_at b2 i2 f2 s2 v n1 w1 l1) eo ∙ ap (λ (v : ℕ). floor_at b2 i2 f2 s2 o2 v w1 l1) en
         ∙ ap (λ (v : Option DRule). floor_at b2 i2 f2 s2 o2 n2 v l1) ew ∙ ap (λ (v : Bool). floor_at b2 i2 f2 s2 o2 n2 w2 v) el
 
--- the lines of counts, and behind them those of the order
+-- the lines of counts, and after them those of the order
 pub lines_exact : (f : Floor) (most : ℕ) (listed other : Key → ℕ) (keys : List Key) (a b : List DRule) (outer : Option Key) (lines all : List Line) → f ≡ floor_between listed other keys a b
     → IsLeastMost listed f a b most
     → IsLongUnbounded b most → outer ≡ find (is_outside a b) keys → lines ≡ lines_of f most listed other a b → HasOrderLines f listed other a b outer lines all

@@ -28,7 +28,7 @@ record FirstRun (r : DRule) (keys : List Key) : Type 0 where
   all : AllByRecursion (λ key. r.key ≡ Some key) run
   no_more : (q : Key) → IsIn q after → r.key ≢ Some q
 
--- behind a key of another rule the first rule's key does not come
+-- after a key of another rule the first rule's key does not come
 none_behind : (r : DRule) (rules : List DRule) (k : Key) (keys : List Key) → InOrder (r ∷ rules) (k ∷ keys) → r.key ≢ Some k → (q : Key) → IsIn q (k ∷ keys) → r.key ≢ Some q
 none_behind r rules k keys o other q (inl same) e = other (e ∙ ap (λ (x : Key). Some x) same)
 none_behind r rules k keys o other q (inr i) e =
@@ -61,7 +61,7 @@ times_run r keys t k e =
     let zeros = none_of k t.after (λ q i same. t.no_more q i (e ∙ ap (λ (x : Key). Some x) (sym same))) in
     omega (arith, here, both, ones, zeros)
 
--- and another key as often as it does behind the run
+-- and another key as often as it does after the run
 times_after : (r : DRule) (keys : List Key) (t : FirstRun r keys) (k : Key) → r.key ≢ Some k → times k keys ≡ times k t.after
 times_after r keys t k other =
     let here = ap (times k) t.parts in
@@ -152,7 +152,7 @@ rank_fixed rules i r k sound at e = rank_at (fixed_rules rules) i r k (fixed_dis
 pub rank_other : (rules : List DRule) (k : Key) → ((r : DRule) → HasRule (fixed_rules rules) k r → ⊥) → rank (fixed_rules rules) k ≡ length (fixed_rules rules)
 rank_other rules k none = rank_of_none (fixed_rules rules) k (λ r i e. none r (contains_in (fixed_rules rules) r i, e))
 
--- where the fixed rules stand first, a fixed rule's key ranks by the rule's place among all
+-- where the fixed rules come first, a fixed rule's key ranks by the rule's place among all
 pub rank_rule : (rules : List DRule) (i : ℕ) (r : DRule) (k : Key) → AreRules rules → slice_get rules i ≡ Some r → is_fixed r ≡ true → r.key ≡ Some k → rank (fixed_rules rules) k ≡ i
 rank_rule rules i r k are at f e =
     let p = at_in (fixed_rules rules) r (into_filter is_fixed rules r (in_at rules i r at) f) in

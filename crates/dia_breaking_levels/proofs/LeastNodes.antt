@@ -9,7 +9,7 @@ use Rattle.dia_breaking_levels.specs.Offers.{nothing, weight, weight_at, lesser,
 abbrev pub MayFall : (ℕ → ℕ) → ℕ → ℕ → ℕ → Type 0
 MayFall f size node offer = (i : ℕ) → 2 ≤ i → i < size → (min (f (i / 2)) offer ≤ f i) × (i / 2 ≢ node → f (i / 2) ≤ f i)
 
--- the offer is put into the node, and goes on to the one above
+-- the offer is put into the node, and passed to the one above
 pub fall_step : (f g : ℕ → ℕ) (size node offer : ℕ) → 0 < node → MayFall f size node offer → g node ≡ min (f node) offer → ((i : ℕ) → i ≢ node → g i ≡ f i) → MayFall g size (node / 2) offer
 fall_step f g size node offer pos may at other i two within = by (i == node) refl (i / 2 == node) refl
   where
@@ -80,7 +80,7 @@ lesser_weight x y = by (nat_lt (weight y) (weight x)) refl
     by true e = let lt = ltb-true (weight y) (weight x) e in omega (arith, lt)
     by false e = let le = ltb-false (weight y) (weight x) e in omega (arith, le)
 
--- an offer that is put in front of another of more weight
+-- an offer that is put before another of more weight
 lesser_second : (x y offer : Offer) → lesser x offer ≡ offer → weight offer < weight x → weight x ≤ weight y → lesser y offer ≡ offer
 lesser_second x y offer is lt le = by (nat_lt (weight offer) (weight y)) refl
   where

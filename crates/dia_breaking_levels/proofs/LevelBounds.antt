@@ -1,4 +1,4 @@
--- What keys that are placed cost at least, where a key stands often or seldom.
+-- What keys that are placed cost at least, where a key occurs often or seldom.
 use Rattle.std.proofs.Common.{◌≡◌, ℕ, ◌+◌, ◌-◌, ◌*◌, ◌<◌, ◌≤◌, Bool, true, false, List, Option, Some, None, refl, sym, ap, subst, ◌∙◌, arith, inl, inr}
 use Rattle.std.specs.Prelude.{◌⊎◌, not, min, max, nat_le, ◌&&◌, IfSome, is_some, count_by, if◌then◌else◌}
 use Rattle.std.specs.Option.{option_map_or}
@@ -102,7 +102,7 @@ module _ (a : List DRule) (listed other : Key → ℕ) (filler : ℕ) (keys : Li
   pub listed_floor : (r : DRule) (k : Key) → r.key ≡ Some k → rule_floor listed filler r ≡ r.min * listed k
   listed_floor r k e = ap (λ (o : Option Key). r.min * option_map_or listed o filler) e
 
-  -- a listed key that stands m times
+  -- a listed key that occurs m times
   pub listed_more : (r : DRule) (k : Key) (m : ℕ) → IsIn r a → r.key ≡ Some k → m ≤ times k keys → floor + max m r.min * listed k ≤ total cost keys + r.min * listed k
   listed_more r k m i e some =
       let own = listed_floor r k e in

@@ -1,4 +1,4 @@
--- The lengths that are computed for a key that stands seldom or often are no more than what such keys cost.
+-- The lengths that are computed for a key that occurs seldom or often are no more than what such keys cost.
 use Rattle.std.proofs.Common.{◌≡◌, ◌≢◌, ℕ, ◌≤◌, Bool, true, false, List, Option, Some, None, refl, sym, ap, ◌∙◌, arith}
 use Rattle.std.specs.Prelude.{not, min, ◌&&◌, is_some, if◌then◌else◌}
 use Rattle.std.specs.Option.{option_eq, option_map_or}

@@ -1,4 +1,4 @@
--- The line of the order at a key is that of the first of the shortest levels in which another stands too early before it.
+-- The line of the order at a key is that of the first of the shortest levels in which another precedes it too early.
 use Rattle.std.proofs.Common.{◌≡◌, ℕ, ◌+◌, ◌-◌, ◌<◌, ◌≤◌, Bool, true, false, List, length, Option, Some, None, refl, sym, ap, ◌∙◌, arith, inl, inr}
 use Rattle.std.specs.Prelude.{◌⊎◌, min, ◌&&◌, ◌==◌, nat_le, nat_lt, position, slice_get, if◌then◌else◌}
 use Rattle.std.specs.Option.{option_map_or}
@@ -197,7 +197,7 @@ module _ (f : Floor) (listed other : Key → ℕ) (a b : List DRule) (y : Key) w
   -- ---- the line of the two kinds of offers
 
   module _ (outer : Option Key) (are_a : AreRules a) (are_b : AreRules b) where
-    -- the offer is nothing, or of a key of this kind that may stand before y
+    -- the offer is nothing, or of a key of this kind that may precede y
     abbrev pub IsOfKind : Bool → Offer → Type 0
     IsOfKind t o = (o ≡ nothing) ⊎ ((x : Key) × (o ≡ offer_of listed other a b x) × MayStandBefore a b outer y x × (is_listed a x ≡ t))
 
@@ -371,7 +371,7 @@ module _ (f : Floor) (listed other : Key → ℕ) (a b : List DRule) (y : Key) w
           let is = offered z may.0 (omega (arith, behind)) in
           omega (arith, own, is)
 
-      -- a key that the first definition lists as fixed stands behind none that it doesn't list
+      -- a key that the first definition lists as fixed follows none that it doesn't list
       pub none_other : (o : Offer) → place a y < length a → (z : Key) → MayStandBefore a b outer y z → is_listed a z ≡ false → pair_at 0 o.length ≤ pair_length f listed other a y z
       none_other o within z may e =
           let before = (turned_parts a b y z may.1).0 in

@@ -31,7 +31,7 @@ lines_same {X} {Y} h start out xs i d found within of is so_far =
 pub lines_all : {X Y : Type 0} (h : X → Option Y) (start out : List Y) (xs : List X) (i : ℕ) → length xs ≤ i → out ≡ start ++ filter_map h (take i xs) → out ≡ start ++ filter_map h xs
 lines_all {X} {Y} h start out xs i end so_far = so_far ∙ ap (λ (ts : List X). start ++ filter_map h ts) (take_all i xs end)
 
--- the cut goes on behind each rule
+-- the cut continues after each rule
 pub extras_more : (r : Reads) (wanted : ℕ) (cut next : Cut) (rules : List DRule) (i : ℕ) (d : DRule) (n : ℕ) (old new all : List ℕ) → i < length rules → n ≡ extra_of r wanted cut (get_or rules i d)
     → next ≡ cut_after r wanted cut (get_or rules i d) → new ≡ old ++ n ∷ [] → old ++ extras_of r wanted cut (drop i rules) ≡ all → new ++ extras_of r wanted next (drop (i + 1) rules) ≡ all
 extras_more r wanted cut next rules i d n old new all within extra behind is before =
@@ -49,7 +49,7 @@ steps_more {X} {Y} f old new xs i d within before is =
 pub steps_all : {X Y : Type 0} (f : X → List Y) (all : List Y) (xs : List X) (i : ℕ) → length xs ≤ i → all ≡ flat_map f (take i xs) → all ≡ flat_map f xs
 steps_all {X} {Y} f all xs i end is = is ∙ ap (flat_map f) (take_all i xs end)
 
--- the lines of each reason, one list behind the other
+-- the lines of each reason, one list after the other
 module _ (line : Reason → DRule → Option Line) (a b own_a own_b : List DRule) where
   six_lists : (none one two three four five six : List Line) → own_a ≡ a → own_b ≡ b → none ≡ [] → one ≡ none ++ filter_map (line Missing) own_b → two ≡ one ++ filter_map (line TooMany) own_b
       → three ≡ two ++ filter_map (line NotAllowed) own_a → four ≡ three ++ filter_map (line NotAllowedOther) own_a → five ≡ four ++ filter_map (line MissingOthers) own_b

@@ -42,7 +42,7 @@ needed_sum : (b rules : List DRule) → needed b rules ≡ sum_of (needs b) rule
 needed_sum b [] = refl
 needed_sum b (r ∷ rules) = let ih = needed_sum b rules in omega (arith, ih)
 
--- no more than d beside what each needs is enough for d in all
+-- no more than d besides what each needs is enough for d in all
 truncated : (x y : DRule → ℕ) (rules : List DRule) (d wanted : ℕ) → ((r : DRule) → IsIn r rules → y r ≤ x r) → sum_of y rules + wanted ≤ sum_of x rules → wanted ≤ d
     → sum_of y rules + wanted ≤ sum_of (λ r. min (x r) (y r + d)) rules
 truncated x y [] d wanted each all le = all

@@ -68,7 +68,7 @@ module _ (listed other : Key → ℕ) (a b : List DRule) (outer : Option Key) wh
           let apart : p ≢ place a x = eqb-false p (place a x) e in
           stays p (others (length a + 1 + p) (omega (arith, size)) (λ q. absurd (apart (omega (arith, q, at))))) old_one
 
-  -- of the others the lesser is kept
+  -- of the others the lesser is retained
   pub other_put : (from : ℕ) (old : Offer) (x : Key) → rule_of a x ≡ None → MayCome a b outer x → from ≤ place b x → IsOtherFrom listed other a b outer from old
       → IsOtherFrom listed other a b outer from (lesser old (offer_of listed other a b x))
   other_put from old x is may late before = by (nat_lt (weight (offer_of listed other a b x)) (weight old))
@@ -77,7 +77,7 @@ module _ (listed other : Key → ℕ) (a b : List DRule) (outer : Option Key) wh
       by true = inr (x, (refl, may, late), unruled_is a x is)
       by false = before
 
-  -- behind a place further in front
+  -- after an earlier place
   pub true_lower : (i : ℕ) (offers : Offers) → AreTrueFrom listed other a b outer (i + 1) offers → AreTrueFrom listed other a b outer i offers
   true_lower i offers before = (λ p within. leaf p (before.0 p within), others before.1)
     where
@@ -130,7 +130,7 @@ one_rule_more rules i d x P within before here e = by (is_listed (take i rules) 
     by true g h = before g
     by false g h = here (key_of x (get_or rules i d).key (sym (ap (λ (t : Bool). t || lists_key x (get_or rules i d)) g) ∙ h))
 
--- a key that a rule at the place is of, or one behind it
+-- a key that a rule at the place is of, or one after it
 pub offered_more : (listed other : Key → ℕ) (a b : List DRule) (outer : Option Key) (i : ℕ) (r : DRule) (new old : Offers) → slice_get b i ≡ Some r → i < length b → AreLess a new old
     → ((x : Key) → r.key ≡ Some x → place b x ≡ i → IsOffered listed other a b new x) → AreOfferedFrom listed other a b outer (i + 1) old → AreOfferedFrom listed other a b outer i new
 offered_more listed other a b outer i r new old at within less here before = λ x may from. by x may from (place b x == i) refl
@@ -192,7 +192,7 @@ module _ (f : Floor) (listed other : Key → ℕ) (a b : List DRule) (outer : Op
       behind None line there = there
       behind (Some first) line there = let within = there.1 in (suc there.0, omega (arith, within), there.2)
 
-  -- so each key that another may stand too early before has one that is no longer than their least level
+  -- so each key that another may precede too early has one that is no longer than their least level
   pub orders_shown : (lines all : List Line) → HasOrderLines f listed other a b outer lines all → HasOrdersFrom f listed other a b outer 0 all
   orders_shown lines all has = λ y x may from turned short.
       let behind = (turned_parts a b y x turned).1 in

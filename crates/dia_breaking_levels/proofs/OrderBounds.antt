@@ -1,4 +1,4 @@
--- What keys that are placed cost at least, where two certain ones stand.
+-- What keys that are placed cost at least, where two certain ones occur.
 use Rattle.std.proofs.Common.{◌≡◌, ◌≢◌, ℕ, ◌+◌, ◌-◌, ◌*◌, ◌≤◌, Bool, true, false, cond, List, [], ◌∷◌, Option, Some, None, refl, sym, ap, subst, ◌∙◌, arith, inl, inr}
 use Rattle.std.specs.Prelude.{◌⊎◌, not, min, max, ◌&&◌, is_some, count_by, if◌then◌else◌}
 use Rattle.std.specs.Option.{option_map_or}

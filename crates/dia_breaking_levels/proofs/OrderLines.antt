@@ -61,7 +61,7 @@ turned_test a b x y are_a are_b t =
     both_true (nat_le (place a x) (place a y)) (nat_lt (place b y) (place b x)) (le-leb (place a x) (place a y) (places_within a x y are_a t.first))
     (lt-ltb (place b y) (place b x) (places_below b x y are_b t.second))
 
--- a key that no rule lists stands behind them all
+-- a key that no rule lists comes after them all
 unlisted_last : (rules : List DRule) (k : Key) → AreRules rules → is_listed rules k ≡ false → place rules k ≡ length rules
 unlisted_last rules k are none = by (placing rules k are)
   where
@@ -79,7 +79,7 @@ unruled rules k none = by (rule_of rules k) refl
     by None e = e
     by (Some r) e = let own = is_rule rules k r e in absurd (not_both (is_listed rules k) (is_listed_by rules k r own.0 own.1) none)
 
--- ---- keys that neither lists stand for one another
+-- ---- keys that neither lists represent one another
 
 one_of_total : (cost : Key → ℕ) (keys : List Key) (x : Key) → IsIn x keys → cost x ≤ total cost keys
 one_of_total cost [] x i = absurd i

@@ -1,4 +1,4 @@
--- Where one definition places the keys and a key stands too late by the other, the ranks of two keys are turned.
+-- Where one definition places the keys and a key comes too late by the other, the ranks of two keys are turned.
 use Rattle.std.proofs.Common.{◌≢◌, ◌≤◌, List, ap, arith}
 use Rattle.dia_wire.specs.declared.Key.{Key}
 use Rattle.dia_book.specs.declared.DRule.{DRule}
@@ -8,7 +8,7 @@ use Rattle.dia_breaking_levels.specs.Breaches.{IsLate}
 use Rattle.dia_breaking_levels.specs.Orders.{StandsBefore, IsTurned}
 use Rattle.dia_breaking_levels.proofs.CountsAndRanks.{placed_order}
 
--- a key that stands before another ranks no higher
+-- a key that precedes another ranks no higher
 pub before_ranks : (rules : List DRule) (keys : List Key) (x y : Key) → AreSound rules → Placed rules keys → StandsBefore x y keys → rank (fixed_rules rules) x ≤ rank (fixed_rules rules) y
 before_ranks rules keys x y sound placed b = placed_order rules keys b.early b.late x y sound placed b.is_x b.is_y b.behind
 

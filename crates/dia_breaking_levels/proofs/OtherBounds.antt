@@ -1,4 +1,4 @@
--- What keys that are placed cost at least, where those by the wildcard stand often or seldom.
+-- What keys that are placed cost at least, where those by the wildcard occur often or seldom.
 use Rattle.std.proofs.Common.{◌≡◌, ℕ, ◌+◌, ◌-◌, ◌*◌, ◌≤◌, Bool, true, false, cond, List, [], ◌∷◌, Option, Some, None, refl, sym, ap, ◌∙◌, arith, inl, inr}
 use Rattle.std.specs.Prelude.{◌⊎◌, not, min, ◌&&◌, is_some, count_by, if◌then◌else◌}
 use Rattle.std.proofs.Math.Nat.{mul-le-mul_right}

@@ -1,4 +1,4 @@
--- What keys that are placed cost at least, where two of them stand.
+-- What keys that are placed cost at least, where two of them occur.
 use Rattle.std.proofs.Common.{◌≡◌, ◌≢◌, ℕ, ◌+◌, ◌*◌, ◌≤◌, Bool, true, false, cond, List, [], ◌∷◌, refl, sym, ap, subst, ◌∙◌, arith, inl, inr}
 use Rattle.std.specs.Prelude.{min, max, ◌&&◌, count_by}
 use Rattle.std.proofs.Math.Nat.{mul-le-mul_right, add-mul, one-mul}
@@ -59,7 +59,7 @@ share_three cost p t u c d e (k ∷ keys) low first second apart =
     (subst (λ (n : ℕ). (cond (p k) 1 0 + count_by p keys) * c + n * d + count_by (λ q. p q && u q) (k ∷ keys) * e ≤ cond (p k) (cost k) 0 + share cost p keys) (sym one)
     (subst (λ (n : ℕ). (cond (p k) 1 0 + count_by p keys) * c + (cond (p k && t k) 1 0 + count_by (λ q. p q && t q) keys) * d + n * e ≤ cond (p k) (cost k) 0 + share cost p keys) (sym two) step))
 
--- where one of each of two dearer kinds stands among them
+-- where one of each of two dearer kinds is among them
 pub both_of : (n w m h c d e length other share : ℕ) → length ≡ c + d → other ≡ c + e → w ≤ n → 1 ≤ m → 1 ≤ h → m + h ≤ n → n * c + m * d + h * e ≤ share
     → w * c + (length + other) ≤ share + min 2 w * c
 both_of n w m h c d e length other share is_one is_two enough one two within le =

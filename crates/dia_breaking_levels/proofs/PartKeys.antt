@@ -1,4 +1,4 @@
--- How often keys stand in the levels that parts make.
+-- How often keys occur in the levels that parts make.
 use Rattle.std.proofs.Common.{◌≡◌, ℕ, zero, suc, ◌+◌, ◌-◌, ◌^◌, Bool, true, false, cond, List, [], ◌∷◌, ◌++◌, length, filter, Option, Some, None, refl, sym, ap, ◌∙◌, append_assoc, arith}
 use Rattle.std.specs.Prelude.{not, min, max, ◌==◌, count_by, slice_get, if◌then◌else◌}
 use Rattle.std.specs.Option.{option_eq, option_map_or}

@@ -1,4 +1,4 @@
--- Parts of a level that are added one behind the other.
+-- Parts of a level that are added one after the other.
 use Rattle.std.proofs.Common.{◌≡◌, ℕ, ◌+◌, ◌<◌, Bool, List, [], ◌∷◌, ◌++◌, filter, get_or, length, take, Option, Some, None, sym, ap, ◌∙◌, add-one, append_assoc}
 use Rattle.std.specs.Prelude.{slice_get}
 use Rattle.std.specs.Option.{option_map_or}

@@ -20,7 +20,7 @@ use Rattle.dia_breaking_levels.proofs.KeysInPlace.{rank_rule, rank_other}
 use Rattle.dia_breaking_levels.proofs.LeastLevels.{not_both}
 use Rattle.dia_breaking_levels.proofs.LineBounds.{no_rule}
 
--- the place of a fixed rule, or behind them all, as the rank is
+-- the place of a fixed rule, or after them all, as the rank is
 abbrev pub Placing : List DRule → Key → Type 0
 Placing rules k =
     ((place rules k ≡ rank (fixed_rules rules) k) × (rank (fixed_rules rules) k < length (fixed_rules rules))) ⊎

@@ -80,7 +80,7 @@ share_one cost p c keys low =
 
 -- ---- numbers
 
--- where n of the keys stand, w at least, and m of them cost e more
+-- where n of the keys occur, w at least, and m of them cost e more
 pub more_of : (n m w have c e length share : ℕ) → length ≡ c + e → w ≤ n → m ≤ have → have ≤ n → n * c + have * e ≤ share → w * c + m * length ≤ share + min m w * c
 more_of n m w have c e length share is enough some within le =
     let all = mul-add m c e in
@@ -93,7 +93,7 @@ more_of n m w have c e length share is enough some within le =
     let right = add-mul w m c in
     omega (arith, all, l, dear, cheap, both, left, right, le)
 
--- where n of the keys stand, w at least, and all but m of them cost e more
+-- where n of the keys occur, w at least, and all but m of them cost e more
 pub less_of : (n dear m w c e length share : ℕ) → length ≡ c + e → w ≤ n → n ≤ m + dear → n * c + dear * e ≤ share → w * c + (w - m) * length ≤ share + (w - m) * c
 less_of n dear m w c e length share is enough most le =
     let l : (w - m) * length ≡ (w - m) * (c + e) = ap (λ (x : ℕ). (w - m) * x) is in
@@ -103,7 +103,7 @@ less_of n dear m w c e length share is enough most le =
     let cheap = mul-le-mul_right c enough in
     omega (arith, l, all, rest, cheap, le)
 
--- where n of the keys stand, the greater of m and w at least
+-- where n of the keys occur, the greater of m and w at least
 pub most_of : (n m w c share : ℕ) → w ≤ n → m ≤ n → n * c ≤ share → w * c + max m w * c ≤ share + w * c
 most_of n m w c share enough some le =
     let both : max m w ≤ n = omega (arith, enough, some) in

@@ -31,7 +31,7 @@ use Rattle.dia_breaking_levels.proofs.ShownFillers.{outer_found}
 
 -- ---- numbers
 
--- AVPs that fit beside others are no more than what they take
+-- AVPs that fit with others are no more than what they take
 fit_beside : (base out m length : ℕ) → 0 < length → swapped base out (many m length) < too_long → m < too_long
 fit_beside base out m length some short = let le = as_many m length some in omega (arith, short, le)
 
@@ -62,7 +62,7 @@ module _ (a : List DRule) where
       let one = one_of_sum (of_rule p a d 0) a s i in
       omega (arith, all, one)
 
-  -- a key that is wanted stands as often: by its rule
+  -- a key that is wanted occurs as often: by its rule
   pub wanted_listed : (key : Key) (m : ℕ) (second : Option Wanted) (rest : Option Key) (s : DRule) → IsIn s a → s.key ≡ Some key → m ≤ 2 ^ 32 - 1
       → m ≤ times key (level (demand (wants (Some key) m) second rest))
   wanted_listed key m second rest s i e within =

@@ -1,4 +1,4 @@
--- In the levels that are written for lines of the order the key of the line stands behind the other.
+-- In the levels that are written for lines of the order the key of the line follows the other.
 use Rattle.std.proofs.Common.{◌≡◌, ◌≢◌, ℕ, zero, suc, ◌+◌, ◌-◌, ◌^◌, ◌<◌, ◌≤◌, Bool, true, false, cond, List, [], ◌∷◌, ◌++◌, length, filter, Option, Some, None, refl, sym, ap, subst, ◌∙◌, arith, inl, inr}
 use Rattle.std.specs.Prelude.{◌⊎◌, not, min, max, nat_lt, option_and_then, position, slice_get, if◌then◌else◌}
 use Rattle.std.specs.Option.{option_map_or}
@@ -83,7 +83,7 @@ in_filtered k t (x ∷ xs) each i = by (in_append (copies x.count x.key) (part_k
         subst (λ (b : Bool). IsIn k (part_keys (cond b (x ∷ filter t xs) (filter t xs)))) (sym (each x (sym own.0))) (in_left (copies x.count x.key) (part_keys (filter t xs)) k j)
     by (inr j) ih = rest (t x) (ih j)
 
--- ---- where the parts of rules stand
+-- ---- where the parts of rules are
 
 module _ (a : List DRule) (d : PlainDemand) where
   -- the parts of this rule have the key
@@ -253,7 +253,7 @@ module _ (listed other : Key → ℕ) (keys : List Key) (a b : List DRule) (are_
           let all : of_wild (λ q. same_key q y) a d wild.0.min 0 ≡ of_other (λ q. same_key q y) a d.first + of_other (λ q. same_key q y) a (wants (Some y) 1) + 0 + rest = refl in
           other_place a (rules_sound a are_a) d y wild.0 wild.1 e (omega (arith, one, all))
 
-  -- ---- x stands before y
+  -- ---- x precedes y
 
   abbrev fixed_parts : List Part
   fixed_parts = kind_parts a d true
@@ -264,7 +264,7 @@ module _ (listed other : Key → ℕ) (keys : List Key) (a b : List DRule) (are_
   in_kind : (fixed : Bool) (k : Key) (w : IsWantedAt a d k fixed) → IsIn k (part_keys (kind_parts a d fixed))
   in_kind fixed k w = in_below a d fixed (length a) w.place_is k (slice_get_within a w.place_is w.rule w.at) (has_key a d fixed w.place_is w.rule k w.at w.kind refl w.some)
 
-  -- y is among the loose ones that aren't in front
+  -- y is among the loose ones that don't come first
   y_behind : x ≢ y → IsWantedAt a d y false → IsIn y (part_keys (filter (stands (Some x) false) loose_parts))
   y_behind apart w = in_filtered y (stands (Some x) false) loose_parts (λ part e. test part e (same_key x part.key) refl) (in_kind false y w)
     where

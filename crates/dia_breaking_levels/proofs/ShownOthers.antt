@@ -84,7 +84,7 @@ refilled_base base low length m (Some w) le short =
     let is : swapped base (many (w.min - m) low) (many (w.min - m) length) < too_long = short in
     omega (arith, more, is)
 
--- ---- what rules have beside what they need
+-- ---- what rules have besides what they need
 
 sums_needed : (b : List DRule) (g extra : DRule → ℕ) (rules : List DRule) → ((s : DRule) → IsIn s rules → g s ≤ needs b s + extra s) → sum_of g rules ≤ needed b rules + sum_of extra rules
 sums_needed b g extra [] each = omega arith

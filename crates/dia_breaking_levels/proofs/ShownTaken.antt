@@ -156,7 +156,7 @@ taken_long left sum t (x ∷ steps) within short few =
 
 -- ---- up to the cut
 
--- what of the steps is taken, one by one, and the cut behind them
+-- what of the steps is taken, one by one, and the cut after them
 abbrev pub takes : Cut → List Step → ℕ
 takes cut [] = 0
 takes cut (x ∷ steps) = taken_of cut x.length x.count + takes (cut_behind cut x.length x.count) steps
@@ -183,7 +183,7 @@ left_behind cut size n = by (size == cut.length)
     by true = refl
     by false = refl
 
--- the shorter ones whole, and of those of the cut's length what is left
+-- the shorter ones whole, and of those of the cut's length the rest
 takes_all : (cut : Cut) (t : ℕ) (steps : List Step) → cut.length ≡ t → shorter t steps + min cut.left (of_length t steps) ≤ takes cut steps
 takes_all cut t [] e = omega arith
 takes_all cut t (x ∷ steps) e =
@@ -219,7 +219,7 @@ takes_all cut t (x ∷ steps) e =
         step (inr (inl same)) = let ps = parts false true same.0 in omega (arith, ih, ps.0, ps.1, ps.2, ps.3)
         step (inr (inr more)) = let ps = parts false false more.0 in omega (arith, ih, ps.0, ps.1, ps.2, ps.3)
 
--- ---- the cut is behind as many as are wanted
+-- ---- the cut comes after as many as are wanted
 
 one_more : (t : ℕ) (steps : List Step) → shorter (t + 1) steps ≡ shorter t steps + of_length t steps
 one_more t [] = refl

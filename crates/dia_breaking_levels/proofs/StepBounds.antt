@@ -60,7 +60,7 @@ more_numbers wanted count sum each t rest saved_rest le low h =
     let both = add-mul (t - each) each count in
     omega (arith, h, same, parts, split, price, both, mul_comm count each)
 
--- what is left after a step
+-- the rest after a step
 abbrev left_over : ℕ → Step → ℕ
 left_over wanted s = wanted - s.count
 

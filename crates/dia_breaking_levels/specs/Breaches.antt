@@ -1,4 +1,4 @@
--- How the AVPs of a level fail to stand as the rules say (RFC 6733 section 3.2).
+-- How the AVPs of a level break the rules (RFC 6733 section 3.2).
 use Rattle.std.specs.Prelude.{◌≡◌, ℕ, ◌<◌, false, List, Some, slice_get, Contains}
 use Rattle.dia_wire.specs.declared.Key.{Key}
 use Rattle.dia_book.specs.declared.DRule.{DRule}
@@ -6,7 +6,7 @@ use Rattle.dia_valid.specs.Valid.{fixed_rules, is_listed, has_wildcard}
 use Rattle.dia_valid.specs.Rules.{HasRule, HasWildcard}
 use Rattle.dia_breaking_levels.specs.CountsAndRanks.{times, strangers, rank}
 
--- a fixed rule's key stands behind one of a greater rank
+-- a fixed rule's key follows one of a greater rank
 pub record IsLate (fixed : List DRule) (keys : List Key) : Type 0 where
   pub early : ℕ
   pub late : ℕ

@@ -1,5 +1,5 @@
--- The level that is written for a line: the least counts of its rules, and what the line demands beyond them, in the order of the rules (RFC 6733
--- section 3.2).
+-- The level that is written for a line: the least counts of its rules, and what the line demands beyond them, in the order of the
+-- rules (RFC 6733 section 3.2).
 use Rattle.std.specs.Prelude.{◌≡◌, ⊤, ℕ, zero, suc, ◌+◌, ◌-◌, ◌^◌, min, max, nat_le, nat_lt, Bool, true, false, not, ◌||◌, ◌==◌, if◌then◌else◌, List, [], ◌∷◌, ◌++◌, filter, find, length, Option, Some, None}
 use Rattle.std.specs.Prelude.{option_and_then, slice_get, unwrap_or}
 use Rattle.std.specs.Option.{option_eq, option_map, option_map_or}
@@ -23,10 +23,10 @@ use Rattle.dia_breaking_levels.specs.Steps.{room_above, steps}
 use Rattle.dia_breaking_levels.specs.Exact.{floor_between}
 use Rattle.dia_breaking_levels.specs.LevelTests.{too_long, filler, inner_length, is_outside}
 
--- ---- what a level is to have
+-- ---- what a level has to have
 
--- two keys that are wanted so often or more, the key of the rest by the wildcard, the key that stands in front of the other loose ones, how many
--- AVPs more each rule has, and the key of those that come so by the wildcard
+-- two keys that are wanted so often or more, the key of the rest by the wildcard, the key that precedes the other loose ones, how
+-- many AVPs more each rule has, and the key of those that come so by the wildcard
 pub record PlainDemand : Type 0 where
   pub first : Option Wanted
   pub second : Option Wanted
@@ -55,7 +55,7 @@ other_parts rules wanted = option_map_or (λ w. if is_listed rules w.key then []
 abbrev pub other_count : List DRule → Option Wanted → ℕ
 other_count rules wanted = option_map_or (λ w. if is_listed rules w.key then 0 else w.count) wanted 0
 
--- by the wildcard: the wanted keys, how many more there are, and what is left of its least count
+-- by the wildcard: the wanted keys, how many more there are, and the rest of its least count
 abbrev pub wild_parts : List DRule → PlainDemand → ℕ → ℕ → List Part
 wild_parts rules d n extra = other_parts rules d.first ++ other_parts rules d.second ++ parts_of d.outer extra
     ++ parts_of d.rest (n - other_count rules d.first - other_count rules d.second - extra)
@@ -88,11 +88,11 @@ parts_below rules d fixed (suc n) = parts_below rules d fixed n ++ parts_at rule
 abbrev pub kind_parts : List DRule → PlainDemand → Bool → List Part
 kind_parts rules d fixed = parts_below rules d fixed (length rules)
 
--- the part is of the key in front, or it isn't
+-- the part is of the key that comes first, or it isn't
 abbrev pub stands : Option Key → Bool → Part → Bool
 stands front in_front part = if option_eq same_key front (Some part.key) then in_front else not in_front
 
--- the fixed rules' AVPs, then those of the key in front, then the other loose ones
+-- the fixed rules' AVPs, then those of the first loose key, then the other loose ones
 abbrev pub level_parts : List DRule → PlainDemand → List Part
 level_parts rules d = kind_parts rules d true ++ filter (stands d.front true) (kind_parts rules d false) ++ filter (stands d.front false) (kind_parts rules d false)
 
@@ -112,7 +112,7 @@ filler_key keys a = find (λ key. not (is_listed a key)) keys
 abbrev pub least_parts : List Key → List DRule → List Part
 least_parts keys a = level_parts a (demand None None (filler_key keys a))
 
--- in which the key stands once or more
+-- in which the key occurs once or more
 abbrev pub parts_with : List Key → List DRule → Key → List Part
 parts_with keys a key = level_parts a (demand (wants (Some key) 1) None (filler_key keys a))
 
@@ -188,7 +188,7 @@ taken_of cut size n = if nat_lt size cut.length then n else if size == cut.lengt
 abbrev pub cut_behind : Cut → ℕ → ℕ → Cut
 cut_behind cut size n = if size == cut.length then record { length = cut.length; left = cut.left - min n cut.left } else cut
 
--- how many AVPs more the rule has, and the cut behind it
+-- how many AVPs more the rule has, and the cut after it
 abbrev pub extra_of : Reads → ℕ → Cut → DRule → ℕ
 extra_of r wanted cut rule = option_map_or (λ key. if is_listed r.accepted key then 0 else taken_of cut (r.listed key) (room_above wanted rule)) rule.key
     (min (taken_of cut (r.floor.outer - filler r.floor) rule.min + taken_of (cut_behind cut (r.floor.outer - filler r.floor) rule.min) r.floor.outer (room_above wanted rule)) (2 ^ 64 - 1))
@@ -209,7 +209,7 @@ wanted_others r = option_map_or (λ wild. unwrap_or wild.max (2 ^ 32 - 1)) (wild
 abbrev pub many_demand : Reads → Cut → PlainDemand
 many_demand r cut = record { first = None; second = None; rest = cheapest_key r; front = None; extras = extras_of r (wanted_others r) cut r.sent; outer = outer_key r }
 
--- one key behind another
+-- one key after another
 abbrev pub order_demand : Reads → Option Key → Option Key → PlainDemand
 order_demand r behind key = record { first = wants behind 1; second = wants key 1; rest = cheapest_key r; front = behind; extras = []; outer = None }
 
@@ -229,7 +229,7 @@ abbrev pub IsCutFor : Reads → Reason → Cut → Type 0
 IsCutFor r TooManyOthers cut = IsCut (wanted_others r) (steps_to r (wanted_others r)) cut
 IsCutFor r reason cut = ⊤
 
--- by the reason and the keys that are told
+-- by the reason and the keys that the line reports
 abbrev pub reason_demand : Reads → Cut → Reason → Option Key → Option Key → PlainDemand
 reason_demand r cut Missing key behind = missing_demand r key
 reason_demand r cut TooMany key behind = too_many_demand r key

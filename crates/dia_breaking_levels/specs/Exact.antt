@@ -1,4 +1,4 @@
--- The one list of lines that two definitions have (RFC 6733 section 3.2).
+-- Two definitions have one list of lines (RFC 6733 section 3.2).
 use Rattle.std.specs.Prelude.{◌≡◌, ℕ, ◌+◌, ◌<◌, ◌≤◌, min, nat_lt, true, ◌==◌, if◌then◌else◌, List, [], ◌∷◌, ◌++◌, length, Option, Some, None, find, option_and_then}
 use Rattle.dia_wire.specs.declared.Key.{Key}
 use Rattle.dia_book.specs.declared.DRule.{DRule}
@@ -44,11 +44,12 @@ AreCountLines listed other keys a b lines = (most : ℕ) × IsLeastMost listed (
 
 -- ---- the lines of the order
 
--- of keys whose levels are as long, those that the first definition lists come first, then those that the second lists, each in the order of the rules
+-- of keys whose levels are as long, those that the first definition lists come first, then those that the second lists, each in
+-- the order of the rules
 abbrev pub turn : List DRule → List DRule → Key → ℕ
 turn a b x = if is_listed a x then index a x else length a + index b x
 
--- the key may come, and may stand too early before y
+-- the key may come, and may precede y too early
 abbrev pub MayStandBefore : List DRule → List DRule → Option Key → Key → Key → Type 0
 MayStandBefore a b outer y x = MayCome a b outer x × (is_turned a b y x ≡ true)
 
@@ -68,7 +69,7 @@ abbrev pub IsOrderOf : Floor → (Key → ℕ) → (Key → ℕ) → List DRule 
 IsOrderOf f listed other a b outer None told = told ≡ None
 IsOrderOf f listed other a b outer (Some y) told = IsOrderAt f listed other a b outer y told
 
--- the line in front of others, if there is one
+-- the line before others, if there is one
 abbrev pub with_line : Option Line → List Line → List Line
 with_line None lines = lines
 with_line (Some line) lines = line ∷ lines
@@ -79,7 +80,7 @@ AreOrderLines f listed other a b outer [] lines = lines ≡ []
 AreOrderLines f listed other a b outer (rule ∷ rules) lines = (told : Option Line) × (rest : List Line) × IsOrderOf f listed other a b outer rule.key told
     × (lines ≡ with_line told rest) × AreOrderLines f listed other a b outer rules rest
 
--- these lines are in front, and those of the order behind them
+-- these lines come first, and after them those of the order
 abbrev pub HasOrderLines : Floor → (Key → ℕ) → (Key → ℕ) → List DRule → List DRule → Option Key → List Line → List Line → Type 0
 HasOrderLines f listed other a b outer lines all = (orders : List Line) × (all ≡ lines ++ orders) × AreOrderLines f listed other a b outer b orders
 
@@ -98,7 +99,7 @@ unless_long line = if nat_lt line.length too_long then Some line else None
 
 -- ---- both
 
--- the lines of counts, and behind them those of the order in the order of the second's rules
+-- the lines of counts, and after them those of the order in the order of the second's rules
 abbrev pub AreLevelLines : (Key → ℕ) → (Key → ℕ) → List Key → List DRule → List DRule → List Line → Type 0
 AreLevelLines listed other keys a b lines = (counts : List Line) × (orders : List Line) × (lines ≡ counts ++ orders) × AreCountLines listed other keys a b counts
     × AreOrderLines (floor_between listed other keys a b) listed other a b (find (is_outside a b) keys) b orders

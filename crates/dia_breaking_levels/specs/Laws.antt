@@ -16,11 +16,11 @@ use Rattle.dia_breaking_levels.specs.Exact.{AreLevelLines}
 abbrev pub DefinitionsAreSound : Type 0
 DefinitionsAreSound = (d : Dictionary) (def : PlainDefinition) → IsDictionary d → Contains (definitions d) def → AreSound def.rules
 
--- keys stand as rules say just where they come as often as these say, and in the order of the fixed ones
+-- keys are as rules say just where they come as often as these say, and in the order of the fixed ones
 abbrev pub PlacedIsInPlace : Type 0
 PlacedIsInPlace = (rules : List DRule) (keys : List Key) → AreSound rules → Placed rules keys ↔ AreInPlace rules keys
 
--- keys stand as rules say, or they break them in one of six ways
+-- keys are as rules say, or they break them in one of six ways
 abbrev pub PlacedOrBreach : Type 0
 PlacedOrBreach = (rules : List DRule) (keys : List Key) → AreSound rules → Placed rules keys ⊎ Breach rules keys
 
@@ -28,7 +28,7 @@ PlacedOrBreach = (rules : List DRule) (keys : List Key) → AreSound rules → P
 abbrev pub BreachIsUnplaced : Type 0
 BreachIsUnplaced = (rules : List DRule) (keys : List Key) → AreSound rules → Breach rules keys → Placed rules keys → ⊥
 
--- each rule's key as often as its min, and the filler for the wildcard, stand as the rules say
+-- each rule's key as often as its min, and the filler for the wildcard, are as the rules say
 abbrev pub PlanIsPlaced : Type 0
 PlanIsPlaced = (rules : List DRule) (filler : Key) → AreRules rules → IsFiller 0 rules filler → Placed rules (plan filler rules)
 

@@ -12,7 +12,7 @@ use Rattle.dia_breaking_levels.specs.declared.line.Reason.{Reason}
 use Rattle.dia_breaking_levels.specs.declared.line.Reason.TheVariants.{Missing, TooMany, NotAllowed, NotAllowedOther, MissingOthers, TooManyOthers, Order}
 use Rattle.dia_breaking_levels.specs.Strangers.{needs}
 
--- one byte more than the AVPs of a message may have together. It stands for all lengths from there on
+-- one byte more than the AVPs of a message may have together. It represents all lengths from there on
 abbrev pub too_long : ℕ
 too_long = 16777193
 
@@ -39,21 +39,21 @@ rule_floor listed filler rule = rule.min * option_map_or listed rule.key filler
 abbrev pub many : ℕ → ℕ → ℕ
 many n length = capped (n * length)
 
--- the rule's AVP stands at least m times
+-- the rule's AVP occurs at least m times
 abbrev pub listed_at_least : ℕ → ℕ → ℕ → DRule → ℕ
 listed_at_least base length m rule = if has_room m rule.max then swapped base (many rule.min length) (many (max m rule.min) length) else too_long
 
--- AVPs of this length stand at least m times by the wildcard, where the least by it has the length `filler`
+-- AVPs of this length occur at least m times by the wildcard, where the least by it has the length `filler`
 abbrev pub other_at_least : ℕ → ℕ → ℕ → ℕ → Option DRule → ℕ
 other_at_least base filler length m None = too_long
 other_at_least base filler length m (Some wild) = if has_room m wild.max then swapped base (many (min m wild.min) filler) (many m length) else too_long
 
--- of the least AVPs by the wildcard at most m stand there, and the others have this length at least
+-- of the least AVPs by the wildcard at most m occur, and the others have this length at least
 abbrev pub refilled : ℕ → ℕ → ℕ → ℕ → Option DRule → ℕ
 refilled base filler length m None = base
 refilled base filler length m (Some wild) = swapped base (many (wild.min - m) filler) (many (wild.min - m) length)
 
--- the rule's AVP stands at most m times
+-- the rule's AVP occurs at most m times
 abbrev pub listed_at_most : ℕ → ℕ → DRule → ℕ
 listed_at_most base m rule = if nat_le rule.min m then base else too_long
 
@@ -90,7 +90,7 @@ filler f = min f.inner f.outer
 abbrev pub next_length : Floor → Key → ℕ
 next_length f key = if option_eq same_key f.first (Some key) then min f.second f.outer else filler f
 
--- ---- the least level where a key stands often or seldom, by its rule and the wildcard
+-- ---- the least level where a key occurs often or seldom, by its rule and the wildcard
 
 abbrev pub at_least : Floor → (Key → ℕ) → (Key → ℕ) → Key → ℕ → Option DRule → Option DRule → ℕ
 at_least f listed other key m None wild = other_at_least f.base (filler f) (other key) m wild
@@ -113,7 +113,7 @@ least_filler other keys a = option_map_or other (find (λ key. not (is_listed a 
 abbrev pub least_length : (Key → ℕ) → (Key → ℕ) → List Key → List DRule → ℕ
 least_length listed other keys a = base_length listed (least_filler other keys a) a
 
--- the key, whose rule is this, stands once or more
+-- the key, whose rule is this, occurs once or more
 abbrev pub once : (Key → ℕ) → (Key → ℕ) → ℕ → ℕ → Key → Option DRule → Option DRule → ℕ
 once listed other base filler key None wild = other_at_least base filler (other key) 1 wild
 once listed other base filler key (Some rule) wild = listed_at_least base (listed key) 1 rule

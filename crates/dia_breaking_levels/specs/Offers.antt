@@ -1,4 +1,4 @@
--- What is offered before a key, and the lines that tell of it (RFC 6733 section 3.2).
+-- What is offered before a key, and the lines that report it (RFC 6733 section 3.2).
 use Rattle.std.specs.Prelude.{◌≡◌, ◌⊎◌, ℕ, ◌+◌, ◌*◌, ◌/◌, ◌<◌, ◌≤◌, nat_lt, true, false, if◌then◌else◌, List, length, vec_len, Option, Some, None, slice_index_or, Contains}
 use Rattle.std.specs.Option.{option_map_or}
 use Rattle.dia_wire.specs.declared.Key.{Key}
@@ -57,7 +57,7 @@ AreAttained nodes = (i : ℕ) → 0 < i → i + i + 1 < length nodes → (node_a
 abbrev pub IsOneWithin : List Offer → ℕ → ℕ → Offer → Type 0
 IsOneWithin nodes from to offer = (offer ≡ nothing) ⊎ ((i : ℕ) × (from ≤ i) × (i < to) × (offer ≡ node_at nodes i))
 
--- a leaf for each place of the definition, and one for the place behind them all
+-- a leaf for each place of the definition, and one for the place after them all
 abbrev pub AreOffers : List DRule → Offers → Type 0
 AreOffers a offers = (vec_len offers.nodes ≡ length a + 1 + (length a + 1)) × AreLeast offers.nodes.items × AreAttained offers.nodes.items
 
@@ -75,15 +75,15 @@ IsOffered listed other a b offers x = weight (held a offers x) ≤ weight (offer
 abbrev pub AreLess : List DRule → Offers → Offers → Type 0
 AreLess a new old = (x : Key) → weight (held a new x) ≤ weight (held a old x)
 
--- a rule of either definition lists the key, or it is the one that stands for all others
+-- a rule of either definition lists the key, or it is the one that represents all others
 abbrev pub MayCome : List DRule → List DRule → Option Key → Key → Type 0
 MayCome a b outer x = (is_listed a x ≡ true) ⊎ (is_listed b x ≡ true) ⊎ (outer ≡ Some x)
 
--- each key is offered that the second definition wants at this place or behind it
+-- each key is offered that the second definition wants at this place or after it
 abbrev pub AreOfferedFrom : (Key → ℕ) → (Key → ℕ) → List DRule → List DRule → Option Key → ℕ → Offers → Type 0
 AreOfferedFrom listed other a b outer from offers = (x : Key) → MayCome a b outer x → from ≤ place b x → IsOffered listed other a b offers x
 
--- the offer of a key that the second definition wants at this place or behind it
+-- the offer of a key that the second definition wants at this place or after it
 abbrev pub IsOfOne : (Key → ℕ) → (Key → ℕ) → List DRule → List DRule → Option Key → ℕ → Offer → Key → Type 0
 IsOfOne listed other a b outer from offer x = (offer ≡ offer_of listed other a b x) × MayCome a b outer x × (from ≤ place b x)
 
@@ -105,7 +105,8 @@ AreTrueFrom listed other a b outer from offers = AreHeldFrom listed other a b ou
 abbrev pub HasLine : List Line → Key → ℕ → Type 0
 HasLine lines y n = (line : Line) × Contains lines line × (line.reason ≡ Order) × (line.key ≡ Some y) × (line.length ≤ n)
 
--- of the keys from this place of the second definition on, each has a line no longer than any level in which another stands too early before it
+-- of the keys from this place of the second definition on, each has a line no longer than any level in which another precedes it
+-- too early
 abbrev pub HasOrdersFrom : Floor → (Key → ℕ) → (Key → ℕ) → List DRule → List DRule → Option Key → ℕ → List Line → Type 0
 HasOrdersFrom f listed other a b outer from lines =
     (y x : Key) → MayCome a b outer x → from ≤ place b y → is_turned a b y x ≡ true → pair_length f listed other a y x < too_long → HasLine lines y (pair_length f listed other a y x)

@@ -7,7 +7,7 @@ use Rattle.dia_breaking_levels.specs.declared.floor.Floor.{Floor}
 use Rattle.dia_breaking_levels.specs.Places.{place}
 use Rattle.dia_breaking_levels.specs.LevelTests.{too_long, capped, has_room, swapped, many, filler}
 
--- the first definition lets x stand before y, and the second wants y in front
+-- the first definition lets x precede y, and the second wants y first
 abbrev pub is_turned : List DRule → List DRule → Key → Key → Bool
 is_turned a b y x = nat_le (place a x) (place a y) && nat_lt (place b y) (place b x)
 

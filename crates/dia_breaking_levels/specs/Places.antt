@@ -11,7 +11,7 @@ place_of last (Fixed i) = i
 place_of last (Loose i) = last
 place_of last Unlisted = last
 
--- the place of the key's fixed rule, or one behind them all
+-- the place of the key's fixed rule, or one after them all
 abbrev pub place : List DRule → Key → ℕ
 place rules key = place_of (length rules) (slot_of rules key)
 
@@ -20,7 +20,7 @@ index_of last (Fixed i) = i
 index_of last (Loose i) = i
 index_of last Unlisted = last
 
--- the place of the key's rule, or one behind them all
+-- the place of the key's rule, or one after them all
 abbrev pub index : List DRule → Key → ℕ
 index rules key = index_of (length rules) (slot_of rules key)
 

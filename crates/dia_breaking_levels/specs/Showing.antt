@@ -11,7 +11,7 @@ use Rattle.dia_breaking_levels.specs.LeastLevels.{copies}
 use Rattle.dia_breaking_levels.specs.LevelTests.{price, too_long}
 use Rattle.dia_breaking_levels.specs.Levels.{ShowsAt}
 
--- the keys of the AVPs that parts stand for, in their order
+-- the keys of the AVPs of parts, in their order
 abbrev pub part_keys : List Part → List Key
 part_keys [] = []
 part_keys (part ∷ parts) = copies part.count part.key ++ part_keys parts

@@ -24,11 +24,11 @@ steps_of listed filler outer b wanted rule = option_map_or
 abbrev pub steps : (Key → ℕ) → ℕ → ℕ → List DRule → ℕ → List DRule → List Step
 steps listed filler outer b wanted a = flat_map (steps_of listed filler outer b wanted) a
 
--- how many AVPs are still wanted, and what those taken are long
+-- how many AVPs are still wanted, and the length of those taken
 abbrev pub take_step : ℕ × ℕ → Step → ℕ × ℕ
 take_step taken step = (taken.0 - step.count, capped (taken.1 + many (min taken.0 step.count) step.length))
 
--- what the wanted AVPs are long, from the first step on
+-- the length of the wanted AVPs, from the first step on
 abbrev pub length_taken : ℕ × ℕ → ℕ
 length_taken taken = if taken.0 == 0 then taken.1 else too_long
 
@@ -51,7 +51,8 @@ IsTakenInOrder wanted steps n = (order : List Step) × IsPermutation steps order
 abbrev pub greatest : List DRule → Option ℕ
 greatest rules = option_and_then (λ w. w.max) (wildcard_of rules)
 
--- no level of the first definition has more than so many AVPs that the second does not list, and is shorter; one is as long, if a message has room for it
+-- no level of the first definition has more than so many AVPs that the second does not list, and is shorter; one is as long, if a
+-- message has room for it
 abbrev pub IsLeastOver : (Key → ℕ) → Floor → List DRule → List DRule → ℕ → ℕ → Type 0
 IsLeastOver listed f a b max n = (c : ℕ) × (n ≡ swapped f.base 0 c) × IsLeastTaken (max + 1 - needed b a) (steps listed (filler f) f.outer b (max + 1 - needed b a) a) c
     × IsTakenInOrder (max + 1 - needed b a) (steps listed (filler f) f.outer b (max + 1 - needed b a) a) c

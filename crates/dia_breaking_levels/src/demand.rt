@@ -18,21 +18,21 @@ use crate::steps::all_steps;
 use dia_book::{Book, DRule, Key};
 use std::alloc::{AllocError, Global};
 
-/// A key that is to stand so many times or more.
+/// A key that has to occur so many times or more.
 #[derive(Clone, Copy)]
 pub(crate) struct Wanted {
     pub key: Key,
     pub count: u64,
 }
 
-/// What a level is to have beyond the least counts of its rules.
+/// What a level has to have beyond the least counts of its rules.
 #[derive(Drop)]
 pub(crate) struct Demand {
     pub first: Option<Wanted>,
     pub second: Option<Wanted>,
     /// The key that fills the wildcard's least count.
     pub rest: Option<Key>,
-    /// The key whose AVPs stand in front of the other loose ones.
+    /// The key whose AVPs precede the other loose ones.
     pub front: Option<Key>,
     /// How many AVPs more each rule of `a` has, if any has more; those of the wildcard are of the key `outer`.
     pub extras: Vec<u64>,
@@ -235,7 +235,7 @@ fn of_too_many_others<A: Book, B: Book, C: Costs>(
     })
 }
 
-/// What a level with one key behind another has.
+/// What a level with one key after another has.
 fn of_order<A: Book, B: Book, C: Costs>(
     alloc: Global,
     a: &Rules<'_, A>,

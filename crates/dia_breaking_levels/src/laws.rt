@@ -1,21 +1,21 @@
-//! What holds of the levels of definitions: by it a level is looked at as counts of keys and one order.
+//! Laws of the levels of definitions: they reduce a level to the counts of its keys and one order.
 ghost use Rattle.dia_breaking_levels.specs.Laws.{DefinitionsAreSound, PlacedIsInPlace, PlacedOrBreach};
 ghost use Rattle.dia_breaking_levels.specs.Laws.{BreachIsUnplaced, PlanIsPlaced, PlanIsLeast, OnceIsLeast};
 ghost use Rattle.dia_breaking_levels.specs.Chosen.{EachLineHasALevel, LineLevelsAreOne};
 ghost use Rattle.dia_breaking_levels.specs.Laws.{LinesAreOne};
 ghost use Rattle.dia_breaking_levels.specs.Showing.{LinesAreShown, LinesHaveRoom};
 
-/// The rules of a dictionary's definitions are as the other laws want them.
+/// The rules of a dictionary's definitions meet the conditions of the other laws.
 pub fn definitions_are_sound()
     ensures { DefinitionsAreSound }
 {}
 
-/// AVPs stand as rules say just where they come as often as these say, and in the order of the fixed ones.
+/// AVPs are as rules say just where they come as often as these say, and in the order of the fixed ones.
 pub fn placed_is_in_place()
     ensures { PlacedIsInPlace }
 {}
 
-/// AVPs that don't stand as rules say break them in one of six ways.
+/// AVPs that aren't as rules say break them in one of six ways.
 pub fn breaches_are_all()
     ensures either { PlacedOrBreach }
     ensures never_both { BreachIsUnplaced }
@@ -27,17 +27,17 @@ pub fn plan_is_least()
     ensures least { PlanIsLeast }
 {}
 
-/// The least level in which a key stands once or more is computed from the rules, and the cheapest AVP by the wildcard.
+/// The least level in which a key occurs once or more is computed from the rules, and the cheapest AVP by the wildcard.
 pub fn once_is_least()
     ensures { OnceIsLeast }
 {}
 
-/// The lines of two definitions are one list: their order, their lengths, and which key each is told with.
+/// The lines of two definitions are unique: their order, their lengths, and which key each reports.
 pub fn lines_are_one()
     ensures { LinesAreOne }
 {}
 
-/// There is one level that is written for a line: which AVPs it has, and their order.
+/// The level that is written for a line is unique: its AVPs and their order.
 pub fn line_levels_are_one()
     ensures one { LineLevelsAreOne }
     ensures some { EachLineHasALevel }

@@ -1,4 +1,4 @@
-//! Lengths of levels, and the least ones where an AVP stands often or seldom.
+//! Lengths of levels, and the least ones where an AVP occurs often or seldom.
 ghost use Rattle.std.specs.Prelude.{◌≡◌};
 ghost use Rattle.dia_breaking_levels.specs.LevelTests.{capped, has_room, swapped, many};
 ghost use Rattle.dia_breaking_levels.specs.LevelTests.{listed_at_least, listed_at_most};
@@ -6,7 +6,7 @@ ghost use Rattle.dia_breaking_levels.specs.LevelTests.{other_at_least, refilled}
 
 use dia_book::DRule;
 
-/// One byte more than the AVPs of a message may have together. It stands for all lengths from there on.
+/// One byte more than the AVPs of a message may have together. It represents all lengths from there on.
 pub const TOO_LONG: u64 = 16_777_193;
 
 pub(crate) fn capped(length: u64) -> u64
@@ -39,7 +39,7 @@ pub(crate) fn has_room(count: u64, max: Option<u32>) -> bool
     }
 }
 
-/// The least level in which the rule's AVP, of this length, stands `count` times or more.
+/// The least level in which the rule's AVP, of this length, occurs `count` times or more.
 pub(crate) fn listed_at_least(base: u64, length: u64, count: u64, rule: &DRule) -> u64
     ensures { result ≡ listed_at_least base length count rule.now }
 {
@@ -50,7 +50,7 @@ pub(crate) fn listed_at_least(base: u64, length: u64, count: u64, rule: &DRule) 
     swapped(base, many(min, length), many(count.max(min), length))
 }
 
-/// The least level in which the rule's AVP stands at most `count` times.
+/// The least level in which the rule's AVP occurs at most `count` times.
 pub(crate) fn listed_at_most(base: u64, count: u64, rule: &DRule) -> u64
     ensures { result ≡ listed_at_most base count rule.now }
 {
@@ -61,7 +61,7 @@ pub(crate) fn listed_at_most(base: u64, count: u64, rule: &DRule) -> u64
     }
 }
 
-/// The least level in which AVPs of this length stand `count` times or more by the wildcard. The least that it lets in has the
+/// The least level in which AVPs of this length occur `count` times or more by the wildcard. The least that it lets in has the
 /// length `filler`.
 pub(crate) fn other_at_least(
     base: u64,
@@ -84,7 +84,7 @@ pub(crate) fn other_at_least(
     }
 }
 
-/// The least level in which of the least AVPs by the wildcard, whose length is `filler`, at most `count` stand, and the others
+/// The least level in which of the least AVPs by the wildcard, whose length is `filler`, at most `count` occur, and the others
 /// have at least this length.
 pub(crate) fn refilled(
     base: u64,

@@ -34,7 +34,7 @@ impl Floor {
         }
     }
 
-    /// The least level in which the key, whose rule is this, stands at most `count` times.
+    /// The least level in which the key, whose rule is this, occurs at most `count` times.
     fn at_most(&self, key: Key, count: u64, rule: Option<DRule>) -> u64
         ensures { result ≡ at_most self.now key count rule self.now.wild }
     {
@@ -85,7 +85,7 @@ impl Floor {
     }
 }
 
-/// The length of the least level with too many AVPs by the wildcard of B's definition, told at the wildcard.
+/// The length of the least level with too many AVPs by the wildcard of B's definition, reported at the wildcard.
 fn too_many_others(most: u64, rule: &DRule) -> u64
     ensures { result ≡ too_many_others_length most rule.now }
 {
@@ -108,7 +108,7 @@ pub(crate) struct Level<'a, A: Book, B: Book, C: Costs> {
 }
 
 impl<'a, A: Book, B: Book, C: Costs> Level<'a, A, B, C> {
-    /// The least level in which the key, whose rule is this, stands `count` times or more.
+    /// The least level in which the key, whose rule is this, occurs `count` times or more.
     fn at_least(&self, key: Key, count: u64, rule: Option<DRule>) -> u64
         ensures { result ≡ at_least self.now.floor (C.listed_length self.now.costs.now)
             (C.other_length self.now.costs.now) key count rule self.now.floor.wild }

@@ -18,8 +18,8 @@ use dia_book::{Book, DefId};
 use std::alloc::{AllocError, Global};
 
 /// The lines of the levels of a definition of `a` that break the rules of one of `b`: by reasons, and those of a reason in the
-/// order of the rules. A level that breaks them shows a line whose length is no more than its own. Two definitions have one list
-/// of lines (`lines_are_one`).
+/// order of the rules. A level that breaks them shows a line whose length is no more than its own. The list is unique
+/// (`lines_are_one`).
 pub fn level_lines<A: Book, B: Book, C: Costs>(
     alloc: Global,
     a: &A,
@@ -61,7 +61,7 @@ pub fn level_lines<A: Book, B: Book, C: Costs>(
     lines_at(alloc, &level)
 }
 
-/// The lines of counts, and behind them those of the order.
+/// The lines of counts, and after them those of the order.
 fn lines_at<A: Book, B: Book, C: Costs>(
     alloc: Global,
     level: &Level<'_, A, B, C>,
@@ -93,7 +93,7 @@ fn both_sound<A: Book, B: Book>(a: &A, a_def: DefId, b: &B, b_def: DefId)
     is_sound(b, b_def);
 }
 
-/// The rules of the definitions of a dictionary are as the laws want them.
+/// The rules of the definitions of a dictionary meet the conditions of the laws.
 pub(crate) fn is_sound<B: Book>(book: &B, def: DefId)
     ensures { AreRules (rules_in (B.meaning book.now) def) }
 {}

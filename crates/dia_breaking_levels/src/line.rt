@@ -20,7 +20,7 @@ pub enum Reason {
     MissingOthers,
     /// There are too many of these.
     TooManyOthers,
-    /// One of a key that the definition lists as fixed comes behind one that the definition wants behind it.
+    /// One of a key that the definition lists as fixed follows one that the definition wants after it.
     Order,
 }
 
@@ -50,15 +50,15 @@ fn word(reason: Reason) -> &'static str
 #[derive(Clone, Copy, PartialEq, Eq)]
 pub struct Line {
     pub reason: Reason,
-    /// The key of the AVP that is told, and none where the wildcard counts.
+    /// The key of the reported AVP, and none where the wildcard counts.
     pub key: Option<Key>,
-    /// The key that stands before it, where the reason is the order.
+    /// The key that precedes it, where the reason is the order.
     pub behind: Option<Key>,
     /// What such a level takes at least, in bytes.
     pub length: u64,
 }
 
-/// AVPs of one key that stand in a row.
+/// AVPs of one key in a row.
 #[derive(Clone, Copy, PartialEq, Eq)]
 pub struct Part {
     pub key: Key,

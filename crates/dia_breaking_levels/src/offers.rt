@@ -1,4 +1,4 @@
-//! AVPs that may stand before others, by the places of their keys: a tree of which each node holds the least of its two below.
+//! AVPs that may precede others, by the places of their keys: a tree of which each node holds the least of its two below.
 ghost use Rattle.std.specs.Prelude.{◌≡◌, ◌≢◌, ◌⊎◌, ◌+◌, ◌<◌, ◌≤◌, ℕ, length, vec_len, IfOk};
 ghost use Rattle.dia_breaking_levels.specs.Offers.{nothing, weight, lesser, node_at, weight_at};
 ghost use Rattle.dia_breaking_levels.specs.Offers.{AreLeast, AreAttained, IsOneWithin};
@@ -7,7 +7,7 @@ use crate::lengths::TOO_LONG;
 use dia_book::Key;
 use std::alloc::{AllocError, Global};
 
-/// One AVP more, of a key that may stand before another.
+/// One AVP more, of a key that may precede another.
 #[derive(Clone, Copy)]
 pub(crate) struct Offer {
     /// What it takes beyond the least level.
@@ -38,7 +38,7 @@ fn no_offer() -> Offer
     }
 }
 
-/// Nothing is offered at so many places.
+/// No offers at so many places.
 pub(crate) fn no_offers(alloc: Global, places: usize) -> Result<Offers, AllocError>
     ensures size { IfOk result (λ offers. vec_len offers.nodes ≡ places + places) }
     ensures tree { IfOk result (λ offers. AreLeast offers.nodes.items) }

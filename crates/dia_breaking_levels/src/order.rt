@@ -364,7 +364,7 @@ impl<'a, A: Book, B: Book, C: Costs> Level<'a, A, B, C> {
     }
 }
 
-/// The line, if the level that it tells of isn't too long.
+/// The line, if the level that it reports isn't too long.
 fn unless_long(line: Line) -> Option<Line>
     ensures { result ≡ unless_long line }
 {

@@ -66,7 +66,7 @@ fn other_count<A: Book>(a: &Rules<'_, A>, wanted: Option<Wanted>) -> u64
     }
 }
 
-/// Adds what stands by the wildcard.
+/// Adds what comes by the wildcard.
 #[tactic(auto, using(crate::proofs::PartsOfLevels::four_parts))]
 fn push_others<A: Book>(
     parts: &mut Vec<Part>,
@@ -88,7 +88,7 @@ fn push_others<A: Book>(
     push_part(parts, demand.rest, left)
 }
 
-/// Adds what stands by a rule.
+/// Adds what comes by a rule.
 fn push_rule<A: Book>(
     parts: &mut Vec<Part>,
     a: &Rules<'_, A>,
@@ -120,7 +120,7 @@ fn is_of_kind(rule: &DRule, fixed: bool) -> bool
     }
 }
 
-/// Adds what stands by the rule, if it is of this kind.
+/// Adds what comes by the rule, if it is of this kind.
 fn push_kind<A: Book>(
     parts: &mut Vec<Part>,
     a: &Rules<'_, A>,
@@ -149,7 +149,7 @@ fn extra_at(demand: &Demand, index: usize) -> u64
     }
 }
 
-/// Adds what stands by the rule at a place, if it is of this kind.
+/// Adds what comes by the rule at a place, if it is of this kind.
 fn push_at<A: Book>(
     parts: &mut Vec<Part>,
     a: &Rules<'_, A>,
@@ -166,7 +166,7 @@ fn push_at<A: Book>(
     }
 }
 
-/// What stands by the fixed rules, or by the others, in the order of the rules.
+/// What comes by the fixed rules, or by the others, in the order of the rules.
 fn kind_parts<A: Book>(
     alloc: Global,
     a: &Rules<'_, A>,

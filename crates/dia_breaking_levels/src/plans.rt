@@ -91,7 +91,7 @@ fn least_length<A: Book, C: Costs>(a: &Rules<'_, A>, costs: &C) -> u64
     base_length(costs, filler_length(a, costs), a.list())
 }
 
-/// The length of the least level in which the key stands once or more.
+/// The length of the least level in which the key occurs once or more.
 fn length_once<A: Book, C: Costs>(a: &Rules<'_, A>, costs: &C, key: Key) -> u64
     ensures { result ≡ length_once (C.listed_length costs.now) (C.other_length costs.now)
         (C.other_keys costs.now) (rules_in (A.meaning a.now.book.now) a.now.def) key }
@@ -124,7 +124,7 @@ pub fn length_least<A: Book, C: Costs>(a: &A, a_def: DefId, costs: &C) -> u64
     least_length(&a, costs)
 }
 
-/// The length of the least level of a definition in which the key stands once or more.
+/// The length of the least level of a definition in which the key occurs once or more.
 pub fn length_with<A: Book, C: Costs>(a: &A, a_def: DefId, costs: &C, key: Key) -> u64
     requires { a_def < length (definitions (A.meaning a.now)) }
     ensures { OtherIsShortest (C.other_length costs.now) (C.other_keys costs.now)
@@ -159,7 +159,7 @@ pub fn level_least<A: Book, C: Costs>(
     level_parts(alloc, &a, &demand)
 }
 
-/// The AVPs of a least level of a definition in which the key stands once or more, in their order.
+/// The AVPs of a least level of a definition in which the key occurs once or more, in their order.
 pub fn level_with<A: Book, C: Costs>(
     alloc: Global,
     a: &A,

@@ -35,7 +35,7 @@ impl<'a, B: Book> Rules<'a, B> {
         }
     }
 
-    /// The place of the key's fixed rule, or one behind them all.
+    /// The place of the key's fixed rule, or one after them all.
     pub fn place(&self, key: Key) -> usize
         ensures { result ≡ place (rules_in (B.meaning self.now.book.now) self.now.def) key }
     {
@@ -45,7 +45,7 @@ impl<'a, B: Book> Rules<'a, B> {
         }
     }
 
-    /// The place of the key's rule, or one behind all.
+    /// The place of the key's rule, or one after all.
     pub fn index(&self, key: Key) -> usize
         ensures { result ≡ index (rules_in (B.meaning self.now.book.now) self.now.def) key }
     {

@@ -84,7 +84,7 @@ pub(crate) fn all_steps<B: Book, C: Costs>(
     Ok(steps)
 }
 
-/// What so many AVPs are long, taken from the first step on.
+/// The length of so many AVPs, taken from the first step on.
 fn taken(wanted: u64, steps: &[Step]) -> u64
     ensures { result ≡ taken wanted steps.now }
 {

@@ -121,7 +121,7 @@ module _ (d : Dictionary) (least : Least) (order : List Ranked) (kept : AreKept 
   ranked key h = in_contains order (rank (length_in d least) h.entry) (Contains-permutation (map (rank (length_in d least)) d.entries) order (rank (length_in d least) h.entry) are.all
       (contains_in (map (rank (length_in d least)) d.entries) (rank (length_in d least) h.entry) (in_map (rank (length_in d least)) d.entries h.entry (in_at d.entries h.place h.entry h.at))))
 
-  -- no length is above what stands for none, nor below a head
+  -- no length is above the one that means none, nor below a head
   low : (sends : Sends) (key : Key) → 8 ≤ unknown_length sends key
   low Any key = by key.vendor
     where

@@ -1,4 +1,4 @@
--- The data that are kept for a leaf are as long as any shortest ones.
+-- The data that are retained for a leaf are as long as any shortest ones.
 use Rattle.std.proofs.Common.{◌≡◌, ℕ, ◌≤◌, Bool, true, false, List, [], ◌∷◌, length, Option, Some, None, refl, sym, ap, ◌∙◌, arith}
 use Rattle.std.specs.Prelude.{Any, min, nat_le, if◌then◌else◌}
 use Rattle.std.specs.List.{list_any}

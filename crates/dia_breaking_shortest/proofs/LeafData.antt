@@ -23,7 +23,7 @@ kept_last [] x (suc e) is = absurd (omega (arith, is))
 kept_last (y ∷ xs) x zero is = absurd (omega (arith, is))
 kept_last (y ∷ xs) x (suc e) is = kept_last xs x e (omega (arith, is))
 
--- what is kept for the first entries
+-- what is retained for the first entries
 abbrev pub AreKeptBelow : {X : Type 0} → (ℕ → Option X → Type 0) → List (Option X) → ℕ → Type 0
 AreKeptBelow is kept n = (e : ℕ) → e < n → is e (kept_at kept e)
 

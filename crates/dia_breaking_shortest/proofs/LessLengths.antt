@@ -1,4 +1,4 @@
--- A pass makes lengths less, and keeps what holds of them.
+-- A pass makes lengths less, and preserves what holds of them.
 use Rattle.std.proofs.Common.{◌≡◌, ℕ, zero, suc, ◌+◌, ◌<◌, ◌≤◌, Bool, true, false, List, [], ◌∷◌, ◌++◌, length, Some, None, get_or, refl, sym, ap, subst, ◌∙◌, arith, inl, inr}
 use Rattle.std.specs.Prelude.{◌⊎◌, slice_get, slice_set, nat_lt, sum_by, IfSome, OnOk, Result, Ok, Err, if◌then◌else◌}
 use Rattle.std.proofs.lemmas.Bool.{cases_eq, cases_lt, ltb-true, ltb-false}
@@ -113,7 +113,7 @@ less_and_less d old mid new a b c x y some none = record {
     by (inl e) = let first = x.less e in let second = y.total in omega (arith, first, second)
     by (inr e) = let first = x.total in let second = y.less e in omega (arith, first, second)
 
--- what is kept stays so
+-- what is retained stays so
 pub kept_on : (d : Dictionary) (old new : Least) (changed : Bool) → AreKept d old → IsLess d old new changed → AreKept d new
 kept_on d old new changed kept less = record {
   whole = less.whole;

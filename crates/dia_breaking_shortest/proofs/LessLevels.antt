@@ -45,7 +45,7 @@ level_less f g a b s t n (r ∷ rules) le short within most each =
     let here = many_less r.min (option_map_or f r.key a) (option_map_or g r.key b) n short (omega (arith, taken)) (each r.key) in
     level_less f g a b (capped (s + many r.min (option_map_or f r.key a))) (capped (t + many r.min (option_map_or g r.key b))) n rules (omega (arith, le, here)) short (omega arith) most each
 
--- a level below what stands for none, if no length that it asks for becomes more
+-- a level below the length that means none, if no length that it asks for becomes more
 pub base_less : (f g : Key → ℕ) (a b : ℕ) (rules : List DRule) → base_length g b rules < too_long
     → ((o : Option Key) → option_map_or g o b ≤ base_length g b rules → option_map_or f o a ≤ option_map_or g o b) → base_length f a rules ≤ base_length g b rules
 base_less f g a b rules short each = level_less f g a b 0 0 (base_length g b rules) rules (omega arith) short (omega arith) (omega arith) each

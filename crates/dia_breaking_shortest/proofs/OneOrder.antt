@@ -1,4 +1,4 @@
--- A list in the order of numbers, in which those of one number stand as in another list, is one.
+-- A list in the order of numbers, in which those of one number have the order of another list, is unique.
 use Rattle.std.proofs.Common.{◌≡◌, ℕ, suc, ◌≤◌, Bool, true, false, cond, get_or, List, [], ◌∷◌, filter, Some, refl, sym, ap, ◌∙◌, arith, rules}
 use Rattle.std.specs.Prelude.{slice_get}
 use Rattle.std.specs.List.Sorted.{IsNonDecreasingBy, IsStableByKey, ties}

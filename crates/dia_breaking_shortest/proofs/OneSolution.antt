@@ -26,7 +26,7 @@ leaf_no_more entry n m (inl (own, are, leaf, least, is)) (inr (is', none)) = abs
 leaf_no_more entry n m (inr (is, none)) (inl (others, are', leaf', least', is')) = absurd (none others are' leaf')
 leaf_no_more entry n m (inr (is, none)) (inr (is', none')) = omega (arith, is, is')
 
--- no length is above what stands for none
+-- no length is above the one that means none
 short : (d : Dictionary) (sends : Sends) (lengths : List ℕ) → AreExact d sends lengths → (e : ℕ) → entry_length lengths e ≤ too_long
 short d sends lengths exact e = by (cases_lt e (length d.entries))
   where

@@ -165,7 +165,7 @@ head_four key = by key.vendor
 no_padding : (n : ℕ) → n % 4 ≡ 0 → padding n ≡ []
 no_padding n even = ap (λ (k : ℕ). take ((4 - k) % 4) (0 ∷ 0 ∷ 0 ∷ [])) even
 
--- a head in front of AVPs is a group
+-- a head before AVPs is a group
 group_whole : (rules : List DRule) (key : Key) (m : Bool) (n size : ℕ) (content : List ℕ) → length content ≡ size → length content % 4 ≡ 0 → IsSpelled content
     → (((r : DRule) → IsIn r rules → r.min ≡ 0) → content ≡ []) → n ≡ capped (padded (shortest_head key + size)) → n < too_long → IsGroup rules key n (head_bytes key m n ++ content)
 group_whole rules key m n size content is even spelled nothing all short =
@@ -217,7 +217,7 @@ module _ (d : Dictionary) (who : Sends) (least : Least) (is : IsLeastOf d who le
   unknown_whole Known key short = absurd (omega (arith, short))
   unknown_whole Listed key short = absurd (omega (arith, short))
 
-  -- a leaf: its data are kept
+  -- a leaf: its data are retained
   entry_leaf : (key : Key) (m : Bool) (n : ℕ) (entry : DictEntry) (found : Option Witness) → entry.key ≡ key → option_map witness_bytes found ≡ the_data entry.format → IsLeafLength entry n
       → n < too_long → IsWhole key n (leaf_bytes key m (option_map witness_bytes found) ++ [])
   entry_leaf key m n entry found own kept (inl (bytes, are, leaf, least_one, size)) short =

@@ -1,4 +1,4 @@
--- Bytes that spell AVPs, one behind another.
+-- Bytes that spell AVPs, one after another.
 use Rattle.std.proofs.Common.{ℕ, zero, suc, List, [], ◌∷◌, ◌++◌, sym, ap, subst, ◌∙◌, append_assoc, append-nil, refl, inl, inr}
 use Rattle.dia_wire.specs.declared.Key.{Key}
 use Rattle.dia_wire.specs.Wire.{PlainAvp, Spells, SpellsAll}

@@ -28,7 +28,7 @@ avp_flags vendor m = if vendor == 0 then (if m then 64 else 0) else (if m then 1
 abbrev pub length_bytes : ℕ → List ℕ
 length_bytes n = drop 5 (to_be_bytes w64 n)
 
--- no Vendor-ID stands for the vendor 0
+-- no Vendor-ID for the vendor 0
 abbrev pub vendor_bytes : ℕ → List ℕ
 vendor_bytes vendor = if vendor == 0 then [] else to_be_bytes w32 vendor
 
@@ -97,7 +97,7 @@ avp_within d least (suc n) key = front_bytes d least key ++ parts_bytes (avp_wit
 abbrev pub is_short : Dictionary → Least → Key → Bool
 is_short d least key = option_map_or (λ e. nat_lt (entry_length least.lengths.items e) too_long) (entry_of d key) true
 
--- the bytes of a shortest AVP of the key; none where no message has room for one. No group stands in itself there, so there are no more levels
--- than the dictionary has entries
+-- the bytes of a shortest AVP of the key; none where no message has room for one. No group contains itself there, so there are no
+-- more levels than the dictionary has entries
 abbrev pub least_avp : Dictionary → Least → Key → List ℕ
 least_avp d least key = if is_short d least key then avp_within d least (suc (vec_len least.lengths)) key else []

@@ -23,7 +23,8 @@ shortest_head key = head_length (vendor_field key.vendor)
 abbrev pub padded : ℕ → ℕ
 padded n = (n + 3) / 4 * 4
 
--- each floor is at most what the head and any data that is sent take: none where the AVP is unknown, a leaf, or AVPs that stand as the rules say
+-- each floor is at most what the head and any data that is sent take: none where the AVP is unknown, a leaf, or AVPs that are as
+-- the rules say
 pub record AreFloors (d : Dictionary) (sends : Sends) (floor : Key → ℕ) : Type 0 where
   pub unknown : (key : Key) → known d key ≡ None → sends ≡ Any → floor key ≤ shortest_head key
   pub leaves : (key : Key) (entry : DictEntry) (bytes : List ℕ) → known d key ≡ Some entry → entry.group ≡ None → AreBytes bytes → IsLeaf entry.format bytes

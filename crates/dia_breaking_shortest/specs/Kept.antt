@@ -1,11 +1,11 @@
--- What is kept for the entries of a dictionary.
+-- What is retained for the entries of a dictionary.
 use Rattle.std.specs.Prelude.{◌≡◌, ℕ, List, Option, Some, slice_get, option_and_then, MatchOption}
 use Rattle.dia_breaking_data.specs.declared.short_data.Witness.{Witness}
 use Rattle.dia_breaking_data.specs.Shortest.{AreBytes, IsShortestLeaf, witness_bytes}
 use Rattle.dia_data.specs.Leaf.{IsLeaf}
 use Rattle.dia_book.specs.Dictionary.{Dictionary, DictEntry}
 
--- what is kept for an entry, if anything
+-- what is retained for an entry, if anything
 abbrev pub kept_at : {X : Type 0} → List (Option X) → ℕ → Option X
 kept_at kept e = option_and_then (λ x. x) (slice_get kept e)
 

@@ -29,7 +29,8 @@ abbrev pub NoMessageIsShorter : Type 0
 NoMessageIsShorter = (d : Dictionary) (sends : Sends) (floor : Key → ℕ) → AreFloors d sends floor → (bytes : List ℕ) (c : ℕ) (sent : IsSent d sends bytes c)
     → header_length + total floor (map key_of sent.avps) ≤ length bytes
 
--- a leaf is attained by any data of its format, an AVP that is unknown by none, and a group by any AVPs that are attained and stand as its rules say
+-- a leaf is attained by any data of its format, an AVP that is unknown by none, and a group by any AVPs that are attained and are
+-- as its rules say
 abbrev pub LeafIsAttained : Type 0
 LeafIsAttained = (d : Dictionary) (sends : Sends) (key : Key) (entry : DictEntry) (bytes : List ℕ) → IsSpellable key → known d key ≡ Some entry → entry.group ≡ None → IsLeaf entry.format bytes
     → shortest_head key + length bytes < three_bytes → IsAttained d sends key (padded (shortest_head key + length bytes))
@@ -46,7 +47,7 @@ GroupIsAttained = (d : Dictionary) (sends : Sends) (cost : Key → ℕ) (key : K
 abbrev pub LengthsAreOne : Type 0
 LengthsAreOne = (d : Dictionary) (sends : Sends) (xs ys : List ℕ) → AreExact d sends xs → AreExact d sends ys → xs ≡ ys
 
--- and each length of it is attained, but for the one that stands for none
+-- and each length of it is attained, but for the one that means none
 abbrev pub LengthIsAttained : Type 0
 LengthIsAttained = (d : Dictionary) (sends : Sends) (lengths : List ℕ) → IsDictionary d → AreSpellable d → AreExact d sends lengths
     → (key : Key) → IsSpellable key → length_of d sends lengths key < too_long → IsAttained d sends key (length_of d sends lengths key)
@@ -69,7 +70,8 @@ abbrev pub LeastAvpsAreSpelled : Type 0
 LeastAvpsAreSpelled = (d : Dictionary) (who : Sends) (least : Least) → IsLeastOf d who least → (key : Key) → IsSpellable key → length_of d who least.lengths.items key < too_long
     → IsOneAvp key (length_of d who least.lengths.items key) (least_avp d least key)
 
--- the bytes spell an AVP of the key of this length, whose data are a level: they spell AVPs, and there are none where the rules ask for none
+-- the bytes spell an AVP of the key of this length, whose data are a level: they spell AVPs, and there are none where the rules
+-- ask for none
 pub record IsOneGroup (rules : List DRule) (key : Key) (n : ℕ) (bytes : List ℕ) : Type 0 where
   pub avp : PlainAvp
   pub avps : List PlainAvp

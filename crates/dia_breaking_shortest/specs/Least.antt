@@ -1,4 +1,4 @@
--- What shortest AVPs are made of: one choice for each dictionary and what its side sends (RFC 6733 sections 3.2, 4.1 and 4.4).
+-- What shortest AVPs are made of: each dictionary and what its side sends determine it (RFC 6733 sections 3.2, 4.1 and 4.4).
 use Rattle.std.specs.Prelude.{◌≡◌, ℕ, ◌<◌, ◌≤◌, List, length, Option, Some, None, option_and_then, slice_get}
 use Rattle.std.specs.Option.{option_map}
 use Rattle.dia_wire.specs.declared.Key.{Key}
@@ -20,7 +20,8 @@ pub record IsFirstUnknown (d : Dictionary) (key : Key) : Type 0 where
   pub vendor : key.vendor ≡ 0
   pub least : (other : Key) → entry_of d other ≡ None → other.vendor ≡ 0 → key.code ≤ other.code
 
--- the key that a group's wildcard's least count is met with: the unknown one, or the first in this order that the group doesn't list
+-- the key that a group's wildcard's least count is met with: the unknown one, or the first in this order that the group doesn't
+-- list
 abbrev pub entry_filler : Dictionary → Sends → Key → List Ranked → ℕ → Option Key
 entry_filler d who unknown order e = option_and_then (λ def. option_map (λ r. r.key) (filler_of who unknown order (rules_in d def))) (group_place d e)
 

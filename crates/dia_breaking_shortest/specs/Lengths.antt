@@ -1,4 +1,4 @@
--- The lengths that are kept for the entries of a dictionary, and what a level takes by them (RFC 6733 sections 3.2 and 4.1).
+-- The lengths that are retained for the entries of a dictionary, and what a level takes by them (RFC 6733 sections 3.2 and 4.1).
 use Rattle.std.specs.Prelude.{◌≡◌, ◌⊎◌, ℕ, ◌+◌, ◌≤◌, Bool, not, List, map, find, length, Option, Some, None, slice_get}
 use Rattle.std.specs.List.Sorted.{IsPermutation, IsNonDecreasingBy, IsStableByKey}
 use Rattle.std.specs.Ordering.{nat_cmp}

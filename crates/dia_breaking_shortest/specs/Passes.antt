@@ -59,7 +59,7 @@ pub record IsLess (d : Dictionary) (old new : Least) (changed : Bool) : Type 0 w
   pub leaves : (e : ℕ) (entry : DictEntry) → slice_get d.entries e ≡ Some entry → entry.group ≡ None → entry_length new.lengths.items e ≡ entry_length old.lengths.items e
   pub above : AreAbove d old.sends old.lengths.items → AreAbove d new.sends new.lengths.items
 
--- no length is less than a head or more than what stands for none, those of leaves are exact, and those of groups are enough
+-- no length is less than a head or more than the one that means none, those of leaves are exact, and those of groups are enough
 pub record AreKept (d : Dictionary) (least : Least) : Type 0 where
   pub whole : IsWhole d least
   pub unknown : IsFirstUnknown d least.unknown

@@ -28,9 +28,9 @@ const KEYS: u32 = 16_385;
 
 /// How long the shortest AVPs are that a side sends by this dictionary.
 ///
-/// The groups are gone through as Dijkstra's search settles them, the shortest first. Then passes over all groups look for
-/// shorter ones until one finds none, which is the first. The dictionary and what is sent leave no choice of what the shortest
-/// AVPs are made of (`IsLeastOf`).
+/// The groups are settled as in Dijkstra's search, the shortest first. Then passes over all groups look for shorter ones until
+/// one finds none, which is the first. The dictionary and what is sent determine what the shortest AVPs are made of
+/// (`IsLeastOf`).
 pub fn least_lengths<B: Book>(alloc: Global, book: &B, sends: Sends) -> Result<Least, AllocError>
     ensures sends { IfOk result (λ least. least.sends ≡ sends) }
     ensures floors { IfOk result (λ least. AreFloors (B.meaning book.now) sends
@@ -173,7 +173,7 @@ fn unknown_key<B: Book>(book: &B) -> Key
     unreachable!()
 }
 
-/// Makes the lengths of groups less by their least levels, and says whether some are.
+/// Makes the lengths of groups less by their least levels, and returns whether any became less.
 fn lower_all<B: Book>(least: &mut Least, book: &B, order: &[Ranked]) -> bool
     requires whole { IsWhole (B.meaning book.now) least.old }
     requires ranks { AreNoShorter (length_in (B.meaning book.now) least.old) order.now }
@@ -209,7 +209,7 @@ pub(crate) fn lower<B: Book>(least: &mut Least, book: &B, order: &[Ranked], inde
     }
 }
 
-/// Takes the length for an entry, if it is less than what it was.
+/// Records the length for an entry, if it is less than before.
 fn improve(least: &mut Least, index: usize, shorter: u64) -> bool
     requires { index < length least.old.lengths.items }
     ensures sends { least.new.sends ≡ least.old.sends }

@@ -23,12 +23,12 @@ pub fn unknown_is_attained()
     ensures { UnknownIsAttained }
 {}
 
-/// AVPs that are sent, and stand as the rules of a group say, make a group that is sent.
+/// AVPs that are sent, and are as the rules of a group say, make a group that is sent.
 pub fn group_is_attained()
     ensures { GroupIsAttained }
 {}
 
-/// The lengths of shortest AVPs are one list: no other solves their equations.
+/// The lengths of shortest AVPs are the only solution of their equations.
 pub fn lengths_are_one()
     ensures { LengthsAreOne }
 {}
@@ -38,14 +38,14 @@ pub fn length_is_attained()
     ensures { LengthIsAttained }
 {}
 
-/// A dictionary and what its side sends have one shortest AVP of each key that is written, whatever found what it is made of.
+/// A dictionary and what its side sends determine the shortest AVP of each key that is written.
 pub fn least_avps_are_one()
     ensures one { LeastAvpsAreOne }
     ensures bytes { LeastAvpsAreBytes }
 {}
 
-/// The bytes of a shortest AVP spell one AVP of its key, which has the length that is computed, where a message has room for it. Its
-/// data spell AVPs, where it is a group.
+/// The bytes of a shortest AVP spell one AVP of its key, which has the length that is computed, where a message has room for it.
+/// Its data spell AVPs, where it is a group.
 pub fn least_avps_are_spelled()
     ensures one { LeastAvpsAreSpelled }
     ensures level { LeastLevelsAreSpelled }

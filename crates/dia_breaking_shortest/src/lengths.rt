@@ -1,4 +1,4 @@
-//! Lengths of AVPs in bytes. From `TOO_LONG` on they are one.
+//! Lengths of AVPs in bytes. All from `TOO_LONG` on count as equal.
 ghost use Rattle.std.specs.Prelude.{◌≡◌, ◌+◌};
 ghost use Rattle.dia_breaking_levels.specs.LevelTests.{capped, many};
 ghost use Rattle.dia_breaking_shortest.specs.Floors.{padded, shortest_head};

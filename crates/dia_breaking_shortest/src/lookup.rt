@@ -52,7 +52,7 @@ impl Least {
         }
     }
 
-    /// The data that are kept for a leaf.
+    /// The data that are retained for a leaf.
     pub(crate) fn data_at(&self, entry: Entry) -> Option<Witness>
         ensures { result ≡ kept_at self.now.leaf_data.items entry }
     {

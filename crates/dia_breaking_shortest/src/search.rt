@@ -43,7 +43,7 @@ impl Wants {
         Ok(wants)
     }
 
-    /// Takes down what the entry at a place wants, if it is a group.
+    /// Records what the entry at a place wants, if it is a group.
     fn group<B: Book>(&mut self, book: &B, sends: Sends, index: usize) -> Result<usize, AllocError>
         requires { index < length (B.meaning book.now).entries }
     {
@@ -59,7 +59,7 @@ impl Wants {
         Ok(missing)
     }
 
-    /// Takes down what a rule wants, and says whether it is anything.
+    /// Records what a rule wants, and returns whether it is anything.
     fn rule<B: Book>(
         &mut self,
         book: &B,

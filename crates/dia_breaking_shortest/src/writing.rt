@@ -17,7 +17,7 @@ use dia_breaking_levels::{Part, TOO_LONG};
 use dia_wire::{AVP_MANDATORY, AVP_VENDOR};
 use std::alloc::{AllocError, Global};
 
-/// AVPs that are still to be written, each with at most so many levels of groups in one another.
+/// AVPs that are still to be written, each with at most so many nested levels of groups.
 #[derive(Clone, Copy)]
 pub(crate) struct Waiting {
     part: Part,
@@ -27,7 +27,7 @@ pub(crate) struct Waiting {
 /// Adds a shortest AVP of the key that is sent; nothing where none is. M is set only where the dictionary demands it. Of a key
 /// that it doesn't know, the AVP is a head without data.
 ///
-/// The groups that are open wait in a list, so depth costs memory and no stack.
+/// Open groups wait in a list, so depth costs heap and no stack.
 pub fn push_least<B: Book>(
     out: &mut Vec<u8>,
     book: &B,
@@ -62,7 +62,7 @@ fn is_short<B: Book>(book: &B, least: &Least, key: Key) -> bool
     }
 }
 
-/// Adds the first of these AVPs, but for the AVPs within it: they wait, and behind them the others.
+/// Adds the first of these AVPs, but for the AVPs within it: they wait, before the others.
 fn push_next<B: Book>(
     alloc: Global,
     out: &mut Vec<u8>,
@@ -185,7 +185,7 @@ fn push_vendor(out: &mut Vec<u8>, vendor: u32) -> Result<(), AllocError>
     }
 }
 
-/// Adds the zero bytes behind data of this length.
+/// Adds the zero bytes after data of this length.
 fn push_padding(out: &mut Vec<u8>, length: usize) -> Result<(), AllocError>
     ensures { OnOk result (out.new.items ≡ out.old.items ++ padding length) }
 {

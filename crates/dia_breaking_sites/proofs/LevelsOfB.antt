@@ -1,4 +1,4 @@
--- Levels that stand as B's rules say, and whose AVPs fit B by themselves, are levels of B's at every depth.
+-- Levels that are as B's rules say, and whose AVPs fit B by themselves, are levels of B's at every depth.
 use Rattle.std.proofs.Common.{ℕ, zero, suc, List, map}
 use Rattle.std.specs.List.{AllByRecursion}
 use Rattle.dia_wire.specs.Wire.{PlainAvp, key_of}

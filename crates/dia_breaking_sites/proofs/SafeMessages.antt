@@ -143,7 +143,7 @@ module _ (da db : Dictionary) (who : Sends) (u : Unknown) (Asked : AboutLevels) 
       by (inl h) = allowed h
       by (inr h) = absurd (h.0 (asked.proxiable m.other here h.1))
 
-  -- B selects a definition for the message, which is asked for where it's told that it refuses one
+  -- B selects a definition for the message; where it is reported that B refuses some header, this is assumed
   valid_of : (bytes : List ℕ) (c : ℕ) (s : IsSent da who bytes c) → IsAsked da db Asked Refuses Forbids s.header s.command s.avps
       → IsMet db sites Refuses Forbids s.command s.header.code (class_of s.header.flags) s.header.app → IsValid db u levels.Any bytes
   valid_of bytes c s asked m =

@@ -15,11 +15,11 @@ use Rattle.dia_policy.specs.declared.sends.Sends.{Sends}
 use Rattle.dia_breaking_sites.specs.Sent.{IsSent}
 use Rattle.dia_breaking_sites.specs.Sites.{Site, HasSite, AboutLevels, AreAsked}
 
--- the most bytes of a message behind its header: Message Length is of three bytes and a multiple of four (RFC 6733 section 3)
+-- the most bytes of a message after its header: Message Length is of three bytes and a multiple of four (RFC 6733 section 3)
 abbrev pub max_body : ℕ
 max_body = 16777192
 
--- what may be told of a definition of B and of P flags: that it forbids them
+-- what may be reported of a definition of B and of P flags: that it forbids them
 abbrev pub AboutFlags : Type 1
 AboutFlags = PlainDefinition → ℕ → Type 0
 
@@ -30,15 +30,15 @@ FlagTest = PlainDefinition → ℕ → Bool
 abbrev pub IsForbidden : FlagTest → AboutFlags
 IsForbidden test other flags = IsTrue (test other flags)
 
--- of the P flags that the command allows, B's definition of this number allows each, and then the site of the two is one of these;
--- or it is told that it forbids them
+-- of the P flags that the command allows, B's definition of this number allows each, and then the site of the two is one of
+-- these; or it is reported that it forbids them
 pub record IsMetAt (db : Dictionary) (sites : List Site) (Forbids : AboutFlags) (command : PlainDefinition) (number : ℕ) : Type 0 where
   pub other : PlainDefinition
   pub is_other : slice_get (definitions db) number ≡ Some other
   pub each : (flags : ℕ) → AllowsP command.head flags
       → (AllowsP other.head flags × HasSite sites command other max_body) ⊎ ((¬ AllowsP other.head flags) × Forbids other flags)
 
--- for this header B selects a definition, or it is told that it refuses one; and any that it selects is met
+-- for this header B selects a definition, or it is reported that it refuses one; and any that it selects is met
 pub record IsMet (db : Dictionary) (sites : List Site) (Refuses : Type 0) (Forbids : AboutFlags) (command : PlainDefinition) (code : ℕ) (class : Class) (app : ℕ) : Type 0 where
   pub selects : IsSome (selected db code class app) ⊎ Refuses
   pub each : (number : ℕ) → selected db code class app ≡ Some number → IsMetAt db sites Forbids command number
@@ -52,7 +52,7 @@ AreMet da db sites Refuses Forbids c command = (code : ℕ) (class : Class) (app
 abbrev pub NamesApp : Dictionary → ℕ → Class → ℕ → Type 0
 NamesApp d code class app = (x : PlainDefinition) × Contains d.commands x × IsTrue (is_command code class (Some app) x.head)
 
--- the headers that tell of all, by the command's head: that of its application; without one, those of the applications that B
+-- the headers that represent all, by the command's head: that of its application; without one, those of the applications that B
 -- alone names, and that of one that neither names; and for errors any one
 abbrev pub IsMetBy : Dictionary → Dictionary → List Site → Type 0 → AboutFlags → PlainDefinition → DefHead → Type 0
 IsMetBy da db sites Refuses Forbids command (Group key) = ⊥
@@ -66,8 +66,8 @@ IsMetBy da db sites Refuses Forbids command (Error p) = (code : ℕ) × (app : �
 abbrev pub IsSelected : Dictionary → Header → PlainDefinition → Type 0
 IsSelected db header other = (number : ℕ) × (selected db header.code (class_of header.flags) header.app ≡ Some number) × (slice_get (definitions db) number ≡ Some other)
 
--- the message is as asked: B doesn't refuse its header, though that is told of headers; it allows the P flag, though that is told of
--- others; and each level of it is as asked
+-- the message is as asked: where it is reported that B refuses headers, B doesn't refuse this one; where it is reported that B
+-- forbids P flags, B allows this one; and each level of it is as asked
 pub record IsAsked (da db : Dictionary) (Asked : AboutLevels) (Refuses : Type 0) (Forbids : AboutFlags) (header : Header) (command : PlainDefinition) (avps : List PlainAvp) : Type 0 where
   pub selects : Refuses → IsSome (selected db header.code (class_of header.flags) header.app)
   pub proxiable : (other : PlainDefinition) → IsSelected db header other → Forbids other header.flags → AllowsP other.head header.flags

@@ -19,21 +19,21 @@ own_policy sends.Any = Kept
 own_policy sends.Known = Refused
 own_policy sends.Listed = Refused
 
--- each AVP stands by a rule of its own, and none through the wildcard
+-- each AVP comes by a rule of its own, and none through the wildcard
 abbrev pub AreListed : List DRule → List Key → Type 0
 AreListed rules keys = AllByRecursion (λ key. IsTrue (is_listed rules key)) keys
 
--- the keys of a level stand as the sender's side sends them
+-- the keys of a level are as the sender's side sends them
 abbrev pub StandAsSent : Sends → List DRule → List Key → Type 0
 StandAsSent sends.Any rules keys = Placed rules keys
 StandAsSent sends.Known rules keys = Placed rules keys
 StandAsSent sends.Listed rules keys = Placed rules keys × AreListed rules keys
 
--- the bytes are AVPs that stand so, and each has P
+-- the bytes are AVPs that are sent so, and each has P
 abbrev pub IsSentLevel : Sends → (PlainAvp → Type 0) → List DRule → List ℕ → Type 0
 IsSentLevel who P rules bytes = (avps : List PlainAvp) × SpellsAll avps bytes × StandAsSent who rules (map key_of avps) × AllByRecursion P avps
 
--- the AVP can be sent, with at most n levels of groups in one another (RFC 6733 section 4.4)
+-- the AVP can be sent, with at most n nested levels of groups (RFC 6733 section 4.4)
 abbrev pub IsSentWithin : Dictionary → Sends → ℕ → PlainAvp → Type 0
 IsSentWithin d who zero v = FitsBy d (own_policy who) (λ rules bytes. ⊥) v
 IsSentWithin d who (suc n) v = FitsBy d (own_policy who) (IsSentLevel who (IsSentWithin d who n)) v
@@ -63,6 +63,6 @@ pub record IsSent (d : Dictionary) (who : Sends) (bytes : List ℕ) (c : ℕ) : 
   pub stand : StandAsSent who command.rules (map key_of avps)
   pub sent : AreSentAvps d who avps
 
--- such a message that isn't valid under the receiver's dictionary, which has this policy for AVPs that it doesn't know
+-- such a message that isn't valid under the receiver's dictionary, with this policy for unknown AVPs
 abbrev pub Breaks : Dictionary → Dictionary → Sends → Unknown → List ℕ → ℕ → Type 0
 Breaks da db who u bytes c = IsSent da who bytes c × (¬ IsValid db u levels.Any bytes)

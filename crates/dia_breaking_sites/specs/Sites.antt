@@ -54,7 +54,7 @@ pub data LiesIn (da db : Dictionary) (a b : PlainDefinition) (inner : List Plain
 abbrev pub AreAsked : Dictionary → Dictionary → AboutLevels → PlainDefinition → PlainDefinition → List PlainAvp → Type 0
 AreAsked da db Asked x y avps = (a b : PlainDefinition) (inner : List PlainAvp) → LiesIn da db a b inner x y avps → Asked a b inner
 
--- the level stands as B's rules say, and by itself each AVP of it fits B
+-- the level is as B's rules say, and by itself each AVP of it fits B
 abbrev pub IsReadAlone : Dictionary → Dictionary → Unknown → AboutLevels
 IsReadAlone da db u x y avps = Placed y.rules (map key_of avps) × ((v : PlainAvp) → Contains avps v → FitsAlone da db u v)
 

@@ -63,7 +63,7 @@ fn check_row(rt: &(impl AllocGlobal + Abort), names: &Names, row: &Row<'_>) -> R
     Ok(())
 }
 
-/// The standings of the lines of all commands, and what is left.
+/// The standings of the lines of all commands, and how many bytes are left.
 fn standings_of<A: Book, B: Book>(
     alloc: Global,
     upgrade: &Upgrade<'_, A, B>,

@@ -18,7 +18,7 @@ use dia_rows::{Names, Row, field};
 use std::process::Abort;
 use std::test::Fail;
 
-/// The 16 formats. Those that accept the same data stand together.
+/// The 16 formats. Those that accept the same data are together.
 const FORMATS: &str = r"
 let D = %avp X 9002
 let E = $D Enumerated any

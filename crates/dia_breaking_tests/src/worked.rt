@@ -1,4 +1,4 @@
-//! What breaks between worked pairs of dictionaries: the lines, as `breaking` writes them, with a message behind each. The lines
+//! What breaks between worked pairs of dictionaries: the lines, as `breaking` writes them, each followed by a message. The lines
 //! and the messages were worked out from the rules alone, by hand and by a program that shares nothing with this one. Where
 //! another message is as short, it would be right, too.
 //!
@@ -6,8 +6,8 @@
 //! SENDS | A | B => LINES
 //! ```
 //!
-//! SENDS is `any`, `known` or `listed`; unknown AVPs are kept by the side of B. Blanks in a message count for nothing, and a long
-//! one isn't made, but told by its length. Each row is asked of each pair of books.
+//! SENDS is `any`, `known` or `listed`; the side of B accepts unknown AVPs. Blanks in a message count for nothing, and a long one
+//! isn't made, but given by its length. Each row is asked of each pair of books.
 
 use crate::books::{indexed_of, plain_of, same, sends_of};
 use dia_breaking::{Breaks, Line, MOST_CHECKED_TOGETHER, Sends, Unknown, Upgrade};
@@ -128,7 +128,7 @@ any | %avp X 9002 Enumerated any ( 0..127 ) $T { X } | $TEXT $T { X } => nothing
 /// Bytes of the longest message that is made, without its header.
 const LONGEST: u64 = 1_000;
 
-/// Which lines of an answer are told.
+/// Which lines of an answer are reported.
 #[derive(Clone, Copy)]
 pub enum Asked {
     Breaks,
@@ -143,7 +143,7 @@ impl Asked {
         }
     }
 
-    /// What is told where there are none.
+    /// What is reported where there are none.
     fn none(self) -> &'static str {
         match self {
             Asked::Breaks => "nothing breaks\n",
@@ -152,7 +152,7 @@ impl Asked {
     }
 }
 
-/// What the side of A sends, and what is told then, for the dictionaries of a row.
+/// What the side of A sends, and what is then reported, for the dictionaries of a row.
 #[derive(Clone, Copy)]
 struct Task<'a> {
     asked: Asked,
@@ -194,7 +194,7 @@ fn check_row(
     check_senders(rt, names, task)
 }
 
-/// Checks what is told of both books of A.
+/// Checks what is reported for both books of A.
 fn check_senders(
     rt: &(impl AllocGlobal + Abort),
     names: &Names,
@@ -206,7 +206,7 @@ fn check_senders(
     check_receivers(rt, names, &*indexed, task)
 }
 
-/// Checks what is told of a book of A and both books of B.
+/// Checks what is reported for a book of A and both books of B.
 fn check_receivers<A: Book>(
     rt: &(impl AllocGlobal + Abort),
     names: &Names,
@@ -219,7 +219,7 @@ fn check_receivers<A: Book>(
     check_pair(rt, a, &*indexed, task)
 }
 
-/// Checks what is told of two books.
+/// Checks what is reported for two books.
 fn check_pair<A: Book, B: Book>(
     rt: &(impl AllocGlobal + Abort),
     a: &A,

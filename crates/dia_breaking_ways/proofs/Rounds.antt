@@ -65,7 +65,7 @@ exits_of g steps (suc i) stage e =
 
 -- ---- steps that agree
 
--- the steps by ways below this stand at the same places in both lists
+-- the steps by ways below this are at the same places in both lists
 abbrev pub Agree : ℕ → List Step → List Step → Type 0
 Agree m S T = (i : ℕ) (s : Step) → s.way < m → (slice_get S i ≡ Some s → slice_get T i ≡ Some s) × (slice_get T i ≡ Some s → slice_get S i ≡ Some s)
 
@@ -82,7 +82,7 @@ module _ (g : Graph) (S T : List Step) (m : ℕ) where
       ap (option_and_then (λ (step : Step). stage_of g step.place step.way)) there ∙ l.is_stage
 
 module _ (g : Graph) (shorter : AreLevelsShorter g) where
-  -- what is around a level is longer than what is around the level that it stands in
+  -- what is around a level is longer than what is around the level that holds it
   outer_less : (S : List Step) (p number total : ℕ) (level : PlainLevel) → level_of g p ≡ Some level → (r : IsReached g S p number total) → r.stage.way < total - level.least
   outer_less S p number total level is r =
       let less = shorter r.stage.exits p r.inner level (exits_of g S number r.stage r.is_stage) r.leads is in

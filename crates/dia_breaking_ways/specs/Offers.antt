@@ -18,7 +18,7 @@ pub record HasOne (best : List (Option Reach)) (place level total : ℕ) : Type 
   pub known : slice_get best place ≡ Some (Some reach)
   pub no_later : IsNoLater reach level total
 
--- of two ways to a place the one that is no later is kept
+-- of two ways to a place the one that is no later is retained
 pub record IsOffered (best after : List (Option Reach)) (place : ℕ) (reach : Reach) : Type 0 where
   pub each : length after ≡ length best
   pub from : (p : ℕ) (r : Reach) → slice_get after p ≡ Some (Some r) → (slice_get best p ≡ Some (Some r)) ⊎ ((p ≡ place) × (r ≡ reach))

@@ -29,7 +29,7 @@ pub record AreOpenings (room : ℕ) (stages : List OwnStage) (n : ℕ) (openings
   pub all : (level : ℕ) (own : OwnStage) → level < n → slice_get stages level ≡ Some own → own.way + own.exits.now.beside ≤ room → Contains openings (opening_of level own)
   pub each : (opening : Opening) → Contains openings opening → (own : OwnStage) × (slice_get stages opening.level ≡ Some own) × (opening ≡ opening_of opening.level own)
 
--- they stand in the order of their levels, which are among the first n
+-- they are in the order of their levels, which are among the first n
 pub record AreNumbered (n : ℕ) (openings : List Opening) : Type 0 where
   pub rising : (i j : ℕ) (x y : Opening) → i < j → slice_get openings i ≡ Some x → slice_get openings j ≡ Some y → x.level < y.level
   pub below : (i : ℕ) (x : Opening) → slice_get openings i ≡ Some x → x.level < n

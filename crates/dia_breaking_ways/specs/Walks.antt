@@ -8,7 +8,8 @@ use Rattle.dia_breaking_ways.specs.declared.graph.Reach.{Reach}
 
 -- ---- graphs
 
--- where a level leads: the places that a rule lists, each with the length of a least level that has one, and what a least level takes beside an AVP through the wildcard
+-- where a level leads: the places that a rule lists, each with the length of a least level that has one, and what a least level
+-- takes besides an AVP through the wildcard
 pub record PlainExits : Type 0 where
   pub listed : List (ℕ × ℕ)
   pub beside : ℕ
@@ -82,7 +83,7 @@ abbrev pub AreLevelsShorter : Graph → Type 0
 AreLevelsShorter graph = (exits : PlainExits) (place length : ℕ) (level : PlainLevel) → HasExits graph exits → Leads graph.nodes exits place length → level_of graph place ≡ Some level
     → level.least < length
 
--- in the level with a number stands an AVP of the place, in a message of a length
+-- the level with a number holds an AVP of the place, in a message of a length
 pub record IsReached (graph : Graph) (steps : List Step) (place number total : ℕ) : Type 0 where
   pub stage : Stage
   pub inner : ℕ

@@ -5,7 +5,7 @@
 pub struct Exits {
     /// The AVPs that a rule lists, by their places among the nodes, and the length of a least level that has one.
     pub listed: Vec<(usize, u64)>,
-    /// What a least level takes beside an AVP that comes through the wildcard. It is above the room if there is no wildcard.
+    /// What a least level takes besides an AVP that comes through the wildcard. It is above the room if there is no wildcard.
     pub beside: u64,
 }
 
@@ -17,7 +17,7 @@ pub struct Level {
     pub exits: Exits,
 }
 
-/// An AVP of which there is something to tell. It is named by its place in the list of nodes.
+/// An AVP of which there is something to report. It is named by its place in the list of nodes.
 #[derive(Drop)]
 pub struct Node {
     /// The length of a shortest one that comes through a wildcard.
@@ -39,7 +39,7 @@ pub struct Step {
 /// A shortest way to an AVP.
 #[derive(Clone, Copy, PartialEq, Eq)]
 pub struct Reach {
-    /// The level in which the AVP stands, numbered as in `Step`.
+    /// The level that holds the AVP, numbered as in `Step`.
     pub level: usize,
     /// What the AVPs of a shortest message with one take.
     pub length: u64,

@@ -28,7 +28,7 @@ fn is_earlier(known: Option<Reach>, reach: Reach) -> bool
     }
 }
 
-/// Keeps a way to an AVP, unless one that is no later is kept.
+/// Records a way to an AVP, unless one that is no later is recorded.
 pub(crate) fn offer(best: &mut Vec<Option<Reach>>, place: usize, reach: Reach)
     ensures { IsOffered best.old.items best.new.items place reach }
 {
@@ -37,7 +37,7 @@ pub(crate) fn offer(best: &mut Vec<Option<Reach>>, place: usize, reach: Reach)
     }
 }
 
-/// Takes the ways to the AVPs that the rules of a level list.
+/// Records the ways to the AVPs that the rules of a level list.
 pub(crate) fn offer_listed(
     best: &mut Vec<Option<Reach>>,
     room: u64,

@@ -10,7 +10,7 @@ use std::alloc::{AllocError, Global};
 /// A level with a wildcard.
 #[derive(Clone, Copy)]
 pub(crate) struct Opening {
-    /// What a message takes beside an AVP that comes through it.
+    /// What a message takes besides an AVP that comes through it.
     pub length: u64,
     pub level: usize,
 }

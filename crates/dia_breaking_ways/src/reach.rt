@@ -21,7 +21,7 @@ fn no_ways(alloc: Global, nodes: &[Node]) -> Result<Vec<Option<Reach>>, AllocErr
     Ok(best)
 }
 
-/// Takes the ways to the AVPs that rules list.
+/// Records the ways to the AVPs that rules list.
 fn reach_listed(room: u64, stages: &[Stage<'_>], best: &mut Vec<Option<Reach>>)
     ensures { AreListed room stages.now (length stages.now) best.old.items best.new.items }
 {
@@ -31,7 +31,7 @@ fn reach_listed(room: u64, stages: &[Stage<'_>], best: &mut Vec<Option<Reach>>)
     }
 }
 
-/// Takes the ways to the AVPs that come through wildcards.
+/// Records the ways to the AVPs that come through wildcards.
 fn reach_others(
     ways: Ways<'_>,
     stages: &[Stage<'_>],

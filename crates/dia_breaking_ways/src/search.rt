@@ -1,12 +1,12 @@
-//! A search for the levels that messages have room for, those with the shortest way first.
-//! It promises nothing: rounds go on from what it finds until nothing changes.
+//! A search for the levels that messages have room for, those with the shortest way first. Nothing is proved of its result:
+//! rounds begin with it and run until nothing changes.
 use crate::graph::{Exits, Level, Step, Ways};
 use std::alloc::{AllocError, Global};
 use std::cmp::Reverse;
 use std::collections::{BinaryHeap, HashMap, HashSet};
 use std::mem;
 
-/// What a search comes to next. A level is named by the place of its group, or `None` for the start.
+/// An event of a search. A level is named by the place of its group, or `None` for the start.
 #[derive(Clone, Copy)]
 enum Event {
     /// The level of a group.
@@ -19,9 +19,9 @@ enum Event {
 #[derive(Drop)]
 struct Search<'a> {
     ways: Ways<'a>,
-    /// The length of the shortest way that is known to each AVP, and the group in whose level the AVP stands then.
+    /// The length of the shortest way that is known to each AVP, and the group whose level then holds the AVP.
     nearest: Vec<Option<(u64, Option<usize>)>>,
-    /// The levels that were come to, with their ways. Their `outer` says nothing yet.
+    /// The levels that were visited, with their ways. Their `outer` isn't set yet.
     steps: Vec<Step>,
     entered: HashSet<usize>,
     /// The places of the AVPs that no wildcard has let in yet.
@@ -57,7 +57,7 @@ impl<'a> Search<'a> {
         })
     }
 
-    /// Goes on until nothing is left to come to.
+    /// Runs until no event is left.
     fn finish(&mut self, alloc: Global) -> Result<(), AllocError> {
         for _ in 0..u64::MAX {
             let Some(Reverse((length, number))) = self.waiting.pop() else {
@@ -93,7 +93,7 @@ impl<'a> Search<'a> {
         }
     }
 
-    /// Lets an event come at a length, if a message has room for it.
+    /// Schedules an event at a length, if a message has room for it.
     fn expect(&mut self, length: u64, event: Event) -> Result<(), AllocError> {
         if length <= self.ways.room {
             self.waiting.push(Reverse((length, self.events.len())))?;
@@ -102,7 +102,7 @@ impl<'a> Search<'a> {
         Ok(())
     }
 
-    /// Comes to the level of a group, unless it was come to before.
+    /// Visits the level of a group, unless it was visited before.
     fn enter(&mut self, place: usize, way: u64) -> Result<(), AllocError> {
         if !self.entered.insert(place)? {
             return Ok(());
@@ -115,7 +115,7 @@ impl<'a> Search<'a> {
         self.go_through(way, Some(place))
     }
 
-    /// Comes to the AVPs that the rules of a level list, and expects those that come through its wildcard.
+    /// Visits the AVPs that the rules of a level list, and schedules those that come through its wildcard.
     fn go_through(&mut self, way: u64, group: Option<usize>) -> Result<(), AllocError> {
         let Some(exits) = self.exits_of(group) else {
             return Ok(());
@@ -138,7 +138,7 @@ impl<'a> Search<'a> {
         nodes.get(place)?.level.as_ref()
     }
 
-    /// Comes to an AVP in the level of a group, if a message has room for it there, and leads into its own level.
+    /// Visits an AVP in the level of a group, if a message has room for it there, and schedules its own level.
     fn come_to(
         &mut self,
         place: usize,
@@ -154,7 +154,7 @@ impl<'a> Search<'a> {
         }
     }
 
-    /// Whether a way to the AVP is shorter than what was known. It is then known.
+    /// Records a way to the AVP if it is shorter than the known one. Answers whether it is.
     fn is_nearer(&mut self, place: usize, length: u64, group: Option<usize>) -> bool {
         let Some(known) = self.nearest.get_mut(place) else {
             return false;
@@ -169,7 +169,7 @@ impl<'a> Search<'a> {
         is_nearer
     }
 
-    /// Comes to the AVPs that come through the wildcard of a level. `length` is what a message takes beside one.
+    /// Visits the AVPs that come through the wildcard of a level. `length` is what a message takes besides one.
     fn open(&mut self, alloc: Global, group: Option<usize>, length: u64) -> Result<(), AllocError> {
         if self.rest.is_empty() {
             return Ok(());
@@ -197,7 +197,7 @@ impl<'a> Search<'a> {
         Ok(listed)
     }
 
-    /// Comes to an AVP that a wildcard lets in.
+    /// Visits an AVP that a wildcard lets in.
     fn come_to_other(
         &mut self,
         place: usize,

@@ -10,8 +10,8 @@ use crate::search::search_levels;
 use crate::steps::{are_outer_first, steps_by, within_room};
 use std::alloc::{AllocError, Global};
 
-/// The levels of groups in messages of a length up to the room, and the shortest ways to the AVPs in them. There is a walk
-/// wherever an AVP is longer than the level in it, and so is a level with the AVP.
+/// The levels of groups in messages of a length up to the room, and the shortest ways to the AVPs in them. There is a walk if
+/// each level with an AVP is longer than the level in the AVP.
 pub fn walk(
     alloc: Global,
     nodes: &[Node],
@@ -35,8 +35,8 @@ pub fn walk(
     }
 }
 
-/// Goes on from round to round until the steps stay the same. Where they are right, that is the first round; in each round
-/// those by ways that are one byte longer get right at least.
+/// Runs rounds until the steps stay the same: one round if they are right. Each round makes at least the steps right whose ways
+/// are one byte longer than those before.
 fn settle(alloc: Global, ways: Ways<'_>, rough: Vec<Step>) -> Result<Option<Walk>, AllocError>
     requires levels { HaveLevels (graph_in ways) rough.items }
     requires within { AreWithin (graph_in ways) rough.items }
@@ -57,7 +57,7 @@ fn settle(alloc: Global, ways: Ways<'_>, rough: Vec<Step>) -> Result<Option<Walk
     Ok(None)
 }
 
-/// The shortest ways through the levels of some steps, and the steps by these ways. A walk's steps stay the same.
+/// The shortest ways through the levels of some steps, and the steps by these ways. A round doesn't change a walk's steps.
 fn round(alloc: Global, ways: Ways<'_>, steps: &[Step]) -> Result<Option<Walk>, AllocError>
     ensures ways { IfOk result (λ found. IfSome found (λ walk.
         IsRound (graph_in ways.entry) steps.now walk.reached.items walk.steps.items)) }

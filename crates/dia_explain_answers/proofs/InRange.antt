@@ -1,4 +1,4 @@
--- Where the definitions of groups stand that a dictionary answers.
+-- The definitions of groups that a dictionary answers are in range.
 use Rattle.std.proofs.Common.{◌≡◌, ℕ, ◌<◌, length, Option, Some, ◌∙◌}
 use Rattle.std.specs.Prelude.{IfSome}
 use Rattle.std.proofs.lemmas.Option.{slice_get_within}

@@ -1,4 +1,4 @@
-//! What is told of an answer that isn't yes.
+//! The diagnostic of an answer that isn't yes.
 
 use crate::checking::push_check;
 use crate::comparing::push_compare;
@@ -7,7 +7,7 @@ use crate::refuting::push_refute;
 use dia_explain_places::{InputTexts, Note};
 use dia_report::Report;
 
-/// Adds the reason of an answer that isn't yes. Of inputs that are refused nothing is told here.
+/// Adds the reason of an answer that isn't yes. Refused inputs have no diagnostic here.
 pub fn push_answer(note: &mut Note, texts: &InputTexts<'_>, report: &Report) {
     match report {
         Report::Cut(listing) => push_show(note, texts, listing),

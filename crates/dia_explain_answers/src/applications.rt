@@ -13,7 +13,7 @@ pub struct Application {
 
 /// The application with this Application-ID, if there is a dictionary for it.
 pub fn application_of(id: u32) -> Option<Application> {
-    // its name and, behind a line feed, the dictionary
+    // its name and, after a line feed, the dictionary
     let named = match id {
         0 => "the base\nrfc6733.txt",
         1 => "NASREQ\nnas.txt",

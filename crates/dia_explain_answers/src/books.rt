@@ -44,7 +44,7 @@ impl Scene for Known<'_> {
 }
 
 impl Known<'_> {
-    /// What a word about the format or the rule stands for.
+    /// The value of a word about the format or the rule.
     pub fn declared_word(&self, word: Word) -> &'static str {
         match word {
             Word::Format => self.format.word(),
@@ -55,7 +55,7 @@ impl Known<'_> {
                 MRule::MustNot => ": it is sent without the M flag",
                 MRule::Any => ": it may be sent with the M flag, and without",
             },
-            // the M flag of AVPs that are taken
+            // the M flag of AVPs that are accepted
             Word::Takes => match self.rule {
                 MRule::Must => ": without the M flag it is refused",
                 MRule::MustNot => ": with the M flag it is refused",

@@ -1,4 +1,4 @@
-//! How messages are checked, and what is told of one that isn't valid.
+//! How messages are checked, and the diagnostic of one that isn't valid.
 
 use crate::faults::{Message, push_refusal};
 use crate::sides::Side;

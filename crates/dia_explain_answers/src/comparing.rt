@@ -1,4 +1,4 @@
-//! What is told of a pair that fails a test.
+//! The diagnostic of a pair that fails a test.
 
 mod pair;
 mod pairing;
@@ -14,7 +14,7 @@ use pairing::{Pairing, place_of_pair};
 use parts::push_lines;
 use reasons::{lines_of, more_of};
 
-/// Adds the note of the first pair of a table that fails a test: its place, what the test asks, and why it fails.
+/// Adds the diagnostic of the first pair of a table that fails a test: its place, what the test asks, and why it fails.
 pub fn push_compare(note: &mut Note, texts: &InputTexts<'_>, found: &Compared) {
     let Answer::No { kind, pair, reason } = found.answer else {
         return;
@@ -56,7 +56,7 @@ fn asked_by(test: Test, kind: PairKind) -> &'static str {
     }
 }
 
-/// Adds what shows that a pair fails the test, and what to do. Of names that a dictionary doesn't have nothing is told here.
+/// Adds what shows that a pair fails the test, and the hint. Unknown names are not reported here.
 fn push_pair(
     note: &mut Note,
     pairing: &Pairing<'_>,

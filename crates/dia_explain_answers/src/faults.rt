@@ -1,4 +1,4 @@
-//! What is told of a message that isn't valid.
+//! The diagnostic of a message that isn't valid.
 
 mod avp;
 mod avp_bytes;
@@ -42,7 +42,7 @@ impl<'a> Message<'a> {
         }
     }
 
-    /// Begins a note: the place of a byte in the text, and the byte.
+    /// Begins a diagnostic: the place of a byte in the text, and the byte.
     fn push_spot(&self, note: &mut Note, byte: usize) {
         note.put_start(self.name, self.text, place_of_byte(self.text, byte));
         note.put("byte ");
@@ -51,8 +51,8 @@ impl<'a> Message<'a> {
     }
 }
 
-/// Adds the fault of a message that isn't valid, and that a request looks like an answer, where it may be the cause. Of bytes that
-/// are no message nothing is told here.
+/// Adds the fault of a message that isn't valid, and that a request looks like an answer, where this may be the cause. Bytes that
+/// are no message are not reported here.
 pub fn push_refusal(
     note: &mut Note,
     side: &Side<'_>,

@@ -1,7 +1,7 @@
-//! Reasons: what is told on standard error of an answer that isn't yes.
+//! Reasons: diagnostics of answers that aren't yes.
 //!
-//! A reason tells the place in the message or in the table, what is wrong there, where the dictionaries say otherwise, and what
-//! to do.
+//! A reason reports the place in the message or in the table, what is wrong there, where the dictionaries say otherwise, and the
+//! hint.
 #![tactic(auto)]
 
 mod answers;

@@ -1,4 +1,4 @@
-//! What is told of messages that stand a line each, and aren't kept: how one is explained by itself.
+//! Diagnostics of messages that come one per line and aren't retained: how to explain one by itself.
 
 use crate::checking::{Asked, push_options};
 use dia_explain_places::Note;
@@ -24,7 +24,7 @@ pub fn push_refute_alone(
     push_alone(note, messages, "refute", asked, &words)
 }
 
-/// Adds a command that explains one line: its name, its options, and the words behind them.
+/// Adds a command that explains one line: its name, its options, and the words after them.
 fn push_alone(note: &mut Note, messages: &str, command: &str, asked: &Asked, words: &[&str]) {
     let is_input = messages == STANDARD_INPUT;
     if is_input {

@@ -1,4 +1,4 @@
-//! What is told of a message that refutes nothing.
+//! The diagnostic of a message that refutes nothing.
 
 use crate::books::{Level, definition, name_of};
 use crate::checking::{Asked, policy_words};
@@ -11,8 +11,8 @@ use dia_explain_places::{InputTexts, Note};
 use dia_report::Unrefuting;
 use dia_wire::read_header;
 
-/// Adds that a message isn't valid under the first dictionary, its fault, and where the second accepts it, that; or that it is
-/// valid under both.
+/// Adds that a message isn't valid under the first dictionary, with its fault and, where the second accepts it, that; or that it
+/// is valid under both.
 pub fn push_refute(note: &mut Note, texts: &InputTexts<'_>, found: &Unrefuting) {
     match &found.under_first {
         Ok(_) => push_text(note, &ValidInBoth { texts, found }, BOTH),
@@ -30,7 +30,7 @@ pub fn push_refute(note: &mut Note, texts: &InputTexts<'_>, found: &Unrefuting) 
     }
 }
 
-/// What is told of a message that is valid under both dictionaries.
+/// The diagnostic of a message that is valid under both dictionaries.
 const BOTH: &str =
     "{message}: the message is valid under both dictionaries: {left} in {a}, {right} in {b}\n\
     hint: `diacmd breaking --messages{policy} {a} {b} {left}` lists what breaks, each with a message that shows it\n";

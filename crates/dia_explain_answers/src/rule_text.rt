@@ -19,7 +19,7 @@ pub fn push_rule(note: &mut Note, side: &Side<'_>, rule: &DRule) {
     note.put(close)
 }
 
-/// Adds `{ X } for < X >`: what to write for a fixed rule so that its AVPs may stand anywhere.
+/// Adds `{ X } for < X >`: what to write for a fixed rule so that its AVPs may be anywhere.
 pub fn push_loose(note: &mut Note, side: &Side<'_>, rule: &DRule) {
     let kind = RuleKind::Required;
     push_rule(note, side, &DRule { kind, ..*rule });
@@ -81,7 +81,7 @@ pub fn widened(rule: &DRule, other: &DRule) -> DRule {
     }
 }
 
-/// Adds a code, and behind it the vendor, where there is one. `between` is the word between the two.
+/// Adds a code, followed by the vendor, where there is one. `between` is the word between the two.
 pub fn push_key(note: &mut Note, key: Key, between: &str) {
     let Key { code, vendor } = key;
     note.put_number(code as u64);

@@ -1,4 +1,4 @@
-//! Dictionaries with the texts that they were read from, and where the parts of these stand.
+//! Dictionaries with the texts that they were read from, and the places of their parts in these.
 
 use crate::books::avp_of;
 use crate::texts::{Scene, push_text};

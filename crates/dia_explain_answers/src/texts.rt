@@ -1,8 +1,8 @@
-//! Texts with words in braces, which stand for values of what the text is about.
+//! Texts with words in braces, which are replaced by values.
 
 use dia_explain_places::Note;
 
-/// A word of a text. In front of a line of `comparing` it is the part that the line is about.
+/// A word of a text. At the start of a line of `comparing` it is the part that the line is about.
 #[derive(Clone, Copy)]
 pub enum Word {
     A,
@@ -161,7 +161,7 @@ pub fn word_named(name: &str) -> Option<Word> {
 
 /// What a text is about.
 pub trait Scene {
-    /// Adds what a word stands for.
+    /// Adds the value of a word.
     fn push_word(&self, note: &mut Note, word: Word);
 }
 
@@ -172,7 +172,7 @@ pub fn push_text<S: Scene>(note: &mut Note, scene: &S, text: &str) {
     }
 }
 
-/// Adds the value of a word, and the text behind it, or the text in front of the first word.
+/// Adds the value of a word, and the text after it, or the text before the first word.
 fn push_piece<S: Scene>(note: &mut Note, scene: &S, piece: &str) {
     let Some((name, rest)) = piece.split_once('}') else {
         return note.put(piece);
@@ -183,7 +183,7 @@ fn push_piece<S: Scene>(note: &mut Note, scene: &S, piece: &str) {
     note.put(rest)
 }
 
-/// Adds what to do.
+/// Adds a hint.
 pub fn push_hint<S: Scene>(note: &mut Note, scene: &S, text: &str) {
     note.put("hint: ");
     push_text(note, scene, text);

@@ -1,4 +1,4 @@
--- The first of what is told of a dictionary, and its line.
+-- The first finding reported of a dictionary, and its line.
 use Rattle.std.proofs.Common.{◌≡◌, ℕ, ◌+◌, ◌<◌, ◌≤◌, List, [], ◌∷◌, ◌++◌, length, map, take, drop, Option, Some, None, slice_get, refl, sym, ap, subst, ◌∙◌, append_assoc, ⊎_elim, arith}
 use Rattle.std.proofs.lemmas.Bool.{cases_order}
 use Rattle.std.proofs.lemmas.List.{take-append-drop, take-take}
@@ -37,7 +37,7 @@ not_before ts k j a b below = a.here (let w = b.within in omega arith) (CanBegin
 one_place : (ts : List Token) (k j : ℕ) → IsFirstFault ts k → IsFirstFault ts j → k ≡ j
 one_place ts k j a b = ⊎_elim (λ same. same) (⊎_elim (λ below. absurd (not_before ts k j a b below)) (λ above. absurd (not_before ts j k b a above))) (cases_order k j)
 
--- the line that is told is that of the first fault
+-- the reported line is that of the first fault
 line_of_fault : (text : List ℕ) (f : CcfFault) (n k : ℕ) → IsFault text f → told_line f ≡ Some n → IsFirstFault (tokens text) k → line_of text k ≡ n
 line_of_fault text (fault.Syntax t l) n k (j, token, line, first, number, limit) told here =
     let same : l ≡ n = cc in ap (line_of text) (one_place (tokens text) k j here first) ∙ sym line ∙ same
@@ -50,26 +50,26 @@ line_of_fault text fault.NoMemory n k is told here = absurd cc
 pub misfit_line : (text : List ℕ) (m : Misfit) (n : ℕ) → IsMisfit text m → told_line m.fault ≡ Some n → line_at text m.at ≡ n
 misfit_line text m n is told = ap (line_at text) is.place ∙ line_of_fault text m.fault n is.token is.told told is.first
 
--- ---- what a note gains
+-- ---- what a diagnostic gains
 
 gains_none : (old new : Option (List ℕ)) (text : List ℕ) → new ≡ None → Gains old new text
 gains_none None new text none = none
 gains_none (Some before) new text none = subst (λ (o : Option (List ℕ)). IfSome o (λ now. now ≡ before ++ text)) (sym none) tt
 
--- ---- how a note begins
+-- ---- how a diagnostic begins
 
--- where memory is refused, it begins as any text does
+-- where an allocation failed, it begins as any text does
 begins_none : (front : List ℕ) (old new : Option (List ℕ)) → new ≡ None → BeginsWith front old new
 begins_none front old new none = record { rest = []; added = gains_none old new (front ++ []) none }
 
--- with more behind it, it begins as before
+-- with more after it, it begins as before
 pub begins_more : (front more : List ℕ) (old mid new : Option (List ℕ)) → BeginsWith front old mid → Gains mid new more → BeginsWith front old new
 begins_more front more old mid new begins then = record {
   rest = begins.rest ++ more;
   added = subst (λ (xs : List ℕ). Gains old new xs) (append_assoc front begins.rest more) (gains_more old mid new (front ++ begins.rest) more begins.added then);
 }
 
--- a note about a place begins with it
+-- a diagnostic about a place begins with it
 pub begins_note : (name text told : List ℕ) (at : ℕ) (old new : Option (List ℕ)) → Gains old new (note_text name text at told) → BeginsWith (place_text name text at) old new
 begins_note name text told at old new gains = record {
   rest = (told ++ codes "\n") ++ excerpt text at;
@@ -81,13 +81,13 @@ pub line_begins : (name text : List ℕ) (n at : ℕ) (old new : Option (List �
     → BeginsWith (place_text name text at) old new → LineBegins name text n old new
 line_begins name text n at old new there begins k within here = record { at = at; on_line = there k within here; begins = begins }
 
--- and one about a text that the grammar refuses on the line that is told
+-- and one about a text that the grammar refuses on the reported line
 pub misfit_begins : (name text : List ℕ) (m : Misfit) (old new : Option (List ℕ)) → BeginsWith (place_text name text m.at) old new → MisfitBegins name text m old new
 misfit_begins name text m old new begins n is told = record { at = m.at; on_line = misfit_line text m n is told; begins = begins }
 
 -- ---- the first finding
 
--- where memory is refused, the note of it begins as any text does
+-- where an allocation failed, its diagnostic begins as any text does
 first_none : (all : List PlainFinding) (front : Option Part → List ℕ) (old new : Option (List ℕ)) → new ≡ None → IfSome (slice_get all 0) (λ g. BeginsWith (front g.part) old new)
 first_none [] front old new none = tt
 first_none (g ∷ gs) front old new none = begins_none (front g.part) old new none
@@ -103,7 +103,7 @@ tells_first : (name text : List ℕ) (w : WrongSource) (all : List PlainFinding)
 tells_first name text w [] old new are told begins = absurd cc
 tells_first name text w (g ∷ gs) old new are told begins = record { finding = g; first = ap (λ xs. slice_get xs 0) (sym are); same = cc; begins = begins }
 
--- the first of a source's findings is told
+-- the first of a source's findings is reported
 pub tells_found : (name text : List ℕ) (w : WrongSource) (findings : List Finding) (old new : Option (List ℕ)) → map plain_finding findings ≡ all_findings (plain_source w.source.value)
     → IfSome (slice_get findings 0) (λ f. BeginsWith (start_text name text (part_place text w.source.value f.part)) old new) → TellsFirst name text w old new
 tells_found name text w findings old new are begins =

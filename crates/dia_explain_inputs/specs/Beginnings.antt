@@ -1,4 +1,4 @@
--- How a note begins: about what standard output tells of the input that is refused.
+-- How a diagnostic begins: with what standard output reports of the refused input.
 use Rattle.std.specs.Prelude.{◌≡◌, ℕ, ◌≤◌, ◌==◌, if◌then◌else◌, List, ◌++◌, length, Option, Some, None, slice_get, string_bytes, codes, ⊤}
 use Rattle.std.specs.Str.{IsUtf8}
 use Rattle.dia_ccf.specs.declared.CcfFault.{CcfFault}
@@ -20,36 +20,36 @@ use Rattle.dia_explain_places.specs.Notes.{Gains}
 use Rattle.dia_explain_places.specs.Parts.{part_place}
 use Rattle.dia_explain_places.specs.Places.{line_at, place_text, start_text, excerpt}
 
--- a note about a place: what is told of it, and its line
+-- a diagnostic about a place: what is reported of it, and its line
 abbrev pub note_text : List ℕ → List ℕ → ℕ → List ℕ → List ℕ
 note_text name text at told = place_text name text at ++ told ++ codes "\n" ++ excerpt text at
 
--- what a note has gained begins with this
+-- what a diagnostic has gained begins with this
 pub record BeginsWith (front : List ℕ) (old new : Option (List ℕ)) : Type 0 where
   pub rest : List ℕ
   pub added : Gains old new (front ++ rest)
 
--- a note begins with the place of a finding: the first of a source, which is what standard output tells
+-- a diagnostic begins with the place of a finding: the first of a source, which is what standard output reports
 pub record TellsFirst (name text : List ℕ) (w : WrongSource) (old new : Option (List ℕ)) : Type 0 where
   pub finding : PlainFinding
   pub first : slice_get (all_findings (plain_source w.source.value)) 0 ≡ Some finding
   pub same : finding.wrong ≡ wrong w.kind (string_bytes w.name) (string_bytes w.slot)
   pub begins : BeginsWith (start_text name text (part_place text w.source.value finding.part)) old new
 
--- a note begins with a place on a line of the text
+-- a diagnostic begins with a place on a line of the text
 pub record BeginsOnLine (name text : List ℕ) (n : ℕ) (old new : Option (List ℕ)) : Type 0 where
   pub at : ℕ
   pub on_line : line_at text at ≡ n
   pub begins : BeginsWith (place_text name text at) old new
 
--- the line that standard output tells of a text that the grammar refuses
+-- the line that standard output reports for a text that the grammar refuses
 abbrev pub told_line : CcfFault → Option ℕ
 told_line (fault.Syntax token n) = Some n
 told_line (fault.Number n) = Some n
 told_line (fault.Limit n) = Some n
 told_line fault.NoMemory = None
 
--- a note begins on that line
+-- a diagnostic begins on that line
 abbrev pub MisfitBegins : List ℕ → List ℕ → Misfit → Option (List ℕ) → Option (List ℕ) → Type 0
 MisfitBegins name text misfit old new = (n : ℕ) → IsMisfit text misfit → told_line misfit.fault ≡ Some n → BeginsOnLine name text n old new
 
@@ -71,7 +71,7 @@ TableBegins name text why old new = ⊤
 abbrev pub dictionary_text : InputTexts → ℕ → NamedText
 dictionary_text texts number = if number == 1 then texts.first else texts.second
 
--- the note of an input that is refused
+-- the diagnostic of a refused input
 abbrev pub NoteBegins : InputTexts → BadInput → Option (List ℕ) → Option (List ℕ) → Type 0
 NoteBegins texts (Dictionary number why) old new = let input = dictionary_text texts number in
     IsUtf8 input.text.now → DictionaryBegins input.name.now input.text.now why old new

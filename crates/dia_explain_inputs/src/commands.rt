@@ -9,7 +9,7 @@ use dia_report::BothBooks;
 /// The most commands of a dictionary that are listed.
 const MOST_LISTED: usize = 30;
 
-/// The most names that are told, and that are looked for in the second dictionary.
+/// The most names that are reported, and that are looked for in the second dictionary.
 const MOST: usize = 50;
 
 /// Adds the names that no command of the first dictionary has, what may be meant, and how to list the commands.
@@ -32,7 +32,7 @@ pub fn push_unknown_commands(
     }
 }
 
-/// Adds the first names that no command has. Answers how many these are.
+/// Adds the first names that no command has. Returns how many these are.
 fn push_all_missing(note: &mut Note, known: &Vocabulary<'_>, names: &[String]) -> usize {
     let dictionary = known.dictionary.name;
     let instead = "an AVP there, and commands are asked for";

@@ -1,4 +1,4 @@
-//! What is told of a dictionary that is refused, and of one that says nothing.
+//! The diagnostic of a dictionary that is refused, and of one that has no entries.
 
 ghost use Rattle.std.specs.Prelude.{◌≡◌};
 ghost use Rattle.std.specs.Str.{IsUtf8};
@@ -26,7 +26,7 @@ const NO_LINES: &str = "@none";
 const CAPTURED: &str =
     "the dictionary comes before the messages, and docs/CAPTURES.md says how to take these out of a capture";
 
-/// Adds the note of a dictionary that is refused for this.
+/// Adds the diagnostic of a dictionary that is refused for this reason.
 pub fn push_dictionary(note: &mut Note, dictionary: &NamedText<'_>, why: &BadDictionary)
     ensures { IsUtf8 dictionary.now.text.now
         → DictionaryBegins dictionary.now.name.now dictionary.now.text.now why.now note.old note.new }
@@ -42,7 +42,7 @@ pub fn push_dictionary(note: &mut Note, dictionary: &NamedText<'_>, why: &BadDic
     }
 }
 
-/// Adds the note of a text that spells a source which names no dictionary.
+/// Adds the diagnostic of a text that spells a source which names no dictionary.
 fn push_wrong(note: &mut Note, dictionary: &NamedText<'_>, wrong: &WrongSource)
     ensures { IsUtf8 dictionary.now.text.now
         → TellsFirst dictionary.now.name.now dictionary.now.text.now wrong.now note.old note.new }
@@ -65,7 +65,7 @@ fn push_long(note: &mut Note, name: &str) {
     note.put_hint("if this is a message or a capture: the dictionary comes before it");
 }
 
-/// Adds the note of a text that the grammar doesn't derive: the token, what was expected, its line, and a hint.
+/// Adds the diagnostic of a text that the grammar doesn't derive: the token, what was expected, its line, and a hint.
 fn push_syntax(note: &mut Note, dictionary: &NamedText<'_>, misfit: &Misfit)
     ensures { MisfitBegins dictionary.now.name.now dictionary.now.text.now misfit.now note.old note.new }
 {
@@ -74,7 +74,7 @@ fn push_syntax(note: &mut Note, dictionary: &NamedText<'_>, misfit: &Misfit)
     push_made(note, dictionary, Some(misfit.at), told);
 }
 
-/// What is told of the place of a fault: what is wrong, its line, and what to do.
+/// The diagnostic of a fault's place: what is wrong, its line, and the hint.
 fn syntax_told(alloc: Global, scene: &Scene<'_>) -> Result<String, AllocError> {
     let mut told = Note::new(alloc);
     scene.push_fault(&mut told);
@@ -83,8 +83,8 @@ fn syntax_told(alloc: Global, scene: &Scene<'_>) -> Result<String, AllocError> {
     told.finish()
 }
 
-/// Ends what is told of a fault, and adds its line. Where a fixed rule behind others was read as the name of a definition, and
-/// stands on a line before, its place and its line are told.
+/// Ends a fault's diagnostic, and adds its line. Where a fixed rule after others was read as the name of a definition on an
+/// earlier line, the place and the line of that name are added.
 fn push_line(told: &mut Note, scene: &Scene<'_>) {
     let shown = match scene.late_name() {
         Some(name) => {
@@ -98,8 +98,8 @@ fn push_line(told: &mut Note, scene: &Scene<'_>) {
     told.put_excerpt(scene.text, shown);
 }
 
-/// Adds that a dictionary's text has neither declarations nor definitions, or that a comment takes its rest. Of an input that
-/// isn't there nothing is told, nor of the dictionary without lines.
+/// Adds that a dictionary's text has neither declarations nor definitions, or that the rest of it is a comment. A missing input
+/// and the dictionary without lines add nothing.
 pub fn push_empty(note: &mut Note, dictionary: &NamedText<'_>) {
     let NamedText { name, text } = *dictionary;
     if name.is_empty() || name == NO_LINES {

@@ -1,4 +1,4 @@
-//! What is told of a text of many messages whose front shows that it is none.
+//! The diagnostic of a text of many messages whose first bytes show that it is none.
 
 use crate::kinds::{first_bad, first_line, is_capture};
 use crate::messages::{bytes_of, dump_of, push_bad};
@@ -6,10 +6,10 @@ use crate::notes::push_whole;
 use dia_explain_places::{NamedText, Note, count_digits};
 use std::alloc::{AllocError, Global};
 
-/// How many bytes of a header tell the version and the Message Length.
+/// How many bytes of a header hold the version and the Message Length.
 const LENGTH_END: usize = 4;
 
-/// Adds what a text is, where its front shows that it has no messages, or none in lines.
+/// Adds what a text is, where its first bytes show that it has no messages, or none in lines.
 pub fn push_front(note: &mut Note, name: &str, front: &[u8], in_lines: bool) {
     let input = NamedText { name, text: front };
     if count_digits(front) == 0 && (front.is_empty() || !in_lines) {

@@ -1,15 +1,14 @@
-//! What to do about what stands in the place of something else: a row for each hint.
+//! Hints about what is found in the place of something else: a row for each.
 //!
-//! `PLACE: SIGN => HINT`: at this place the hint is told where the sign is seen. A row has several places with a space between
-//! them, and several signs with ` or `. The first row that fits is told. A line with `#` in front says what the rows below it are
-//! about.
-//!
+//! `PLACE: SIGN => HINT`: at this place the hint is given where the sign is seen. A row has several places with a space between
+//! them, and several signs with ` or `. The first row that fits is used. A line that begins with `#` says what the rows below it
+//! are about.
 //! | Sign | Is seen where |
 //! |---|---|
-//! | `WORD` | this word stands, in either letter case, or something of this kind, as `a name` or `the end` |
-//! | `anything` | a word stands |
-//! | `after WORD` | this word stands before it |
-//! | `FRONT..` | the text goes on with this |
+//! | `WORD` | this word is there, in either letter case, or something of this kind, as `a name` or `the end` |
+//! | `anything` | there is a word |
+//! | `after WORD` | this word precedes it |
+//! | `FRONT..` | the text continues with this |
 //! | `..PART..` | the word has this in it |
 
 use crate::kinds::has_part;
@@ -185,7 +184,7 @@ static HINTS: &str = "\
     Prose: anything => this looks like a page header or footer of an RFC, or like prose: take it out, or put ; before it\n\
     ";
 
-/// What stands at a place of a text.
+/// What is at a place of a text.
 #[derive(Clone, Copy)]
 pub struct Sight<'a> {
     /// What it is, as signs name it.

@@ -1,10 +1,10 @@
-//! What a text is, by what stands in it.
+//! What a text is, by its contents.
 
 use crate::hints::{Sight, hint_of};
 use dia_explain_places::back;
 use dia_terms::is_white;
 
-/// What to do about lines that end in CR alone.
+/// The hint about lines that end in CR alone.
 pub const RETURNS: &str = "the lines end in CR alone, and a comment ends at a line feed: \
     `tr '\\r' '\\n'` writes line feeds";
 
@@ -19,7 +19,7 @@ pub fn is_capture(bytes: &[u8]) -> bool {
     )
 }
 
-/// What is told of a whole text at the place of an input.
+/// The hint about a whole text at the place of an input.
 pub fn hint_of_text(place: &str, text: &[u8]) -> Option<&'static str> {
     let rest = without_blanks(text);
     let none = b"".as_slice();
@@ -65,7 +65,7 @@ pub fn kind_of_byte(character: &[u8]) -> &'static str {
     }
 }
 
-/// Whether a line of a table stands at the front.
+/// Whether a text begins with a line of a table.
 fn begins_pair(text: &[u8]) -> bool {
     let line = first_line(text);
     (line.starts_with(b"command ") || line.starts_with(b"avp ")) && line.contains(&b'=')
@@ -100,7 +100,7 @@ fn is_base64(text: &[u8]) -> bool {
     text.len() >= 16 && others > text.len() / 8
 }
 
-/// Whether a part stands in a text.
+/// Whether a text contains a part.
 pub fn has_part(text: &[u8], part: &[u8]) -> bool {
     for front in text.windows(part.len().max(1)) {
         if front == part {
@@ -119,7 +119,7 @@ pub fn first_line(text: &[u8]) -> &[u8] {
     text
 }
 
-/// Whether the lines of a text end in CR alone, and a comment begins in it: all behind this is of the comment.
+/// Whether the lines of a text end in CR alone, and a comment begins in it: the rest is all comment.
 pub fn is_cut_by_comment(text: &[u8]) -> bool {
     text.contains(&b'\r') && !text.contains(&b'\n') && text.contains(&b';')
 }

@@ -1,6 +1,6 @@
-//! Notes: what is told on standard error of inputs that are refused.
+//! Diagnostics of inputs that are refused.
 //!
-//! A note tells the place, what stands there, what was expected, and what to do.
+//! A diagnostic reports the place, what was found and what was expected there, and the hint.
 #![tactic(auto)]
 
 mod commands;

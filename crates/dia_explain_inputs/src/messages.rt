@@ -1,4 +1,4 @@
-//! What is told of a message that is refused.
+//! The diagnostic of a message that is refused.
 
 use crate::hints::{Sight, hint_of};
 use crate::kinds::{first_bad, first_line, hint_of_text, is_capture, kind_of_byte};
@@ -14,14 +14,14 @@ use std::alloc::{AllocError, Global};
 
 const CAPTURED: &str = "docs/CAPTURES.md says how to take the messages out of a capture";
 
-/// What to do about a dump with offsets, and about one of `xxd`.
+/// The hints about a dump with offsets, and about one of `xxd`.
 const NUMBERED: &str = "the lines begin with offsets, as those of a dump do: \
     `xxd -p FILE` writes one without, and so does wireshark's Copy as a Hex Stream";
 
 const DUMPED: &str =
     "this is a dump with offsets: `xxd -p FILE` writes one without, and `xxd -r DUMP | xxd -p` turns this one";
 
-/// Adds the note of a message that is refused for this.
+/// Adds the diagnostic of a message that is refused for this reason.
 pub fn push_message(note: &mut Note, message: &NamedText<'_>, why: &BadMessage) {
     let NamedText { name, text } = *message;
     match why {
@@ -43,7 +43,7 @@ pub fn push_message(note: &mut Note, message: &NamedText<'_>, why: &BadMessage) 
     }
 }
 
-/// Adds what stands at a place for a digit, or what the text is.
+/// Adds what is at a place for a digit, or what the text is.
 pub fn push_bad(note: &mut Note, message: &NamedText<'_>, wanted: &str, at: usize) {
     let text = message.text;
     if is_capture(text) {
@@ -56,7 +56,7 @@ pub fn push_bad(note: &mut Note, message: &NamedText<'_>, wanted: &str, at: usiz
     }
 }
 
-/// Adds that an input is a file of packets, and what to do.
+/// Adds that an input is a file of packets, and the hint.
 pub fn push_capture(note: &mut Note, name: &str, wanted: &str, hint: &str) {
     let told = ": this is a capture file (pcap), and not ";
     note.put_all(&[name, told, wanted, "\nhint: ", hint, "\n"]);
@@ -99,7 +99,7 @@ fn push_binary(note: &mut Note, message: &NamedText<'_>) {
     ]);
 }
 
-/// What to do about a character that is no digit.
+/// The hint about a character that is no digit.
 fn hint_at(text: &[u8], at: usize) -> Option<&'static str> {
     if let Some(hint) = dump_of(text) {
         return Some(hint);
@@ -118,8 +118,8 @@ fn hint_at(text: &[u8], at: usize) -> Option<&'static str> {
     hint_of(&["digit"], &sight)
 }
 
-/// What to do about a dump with offsets: the text begins with a small offset, and a colon or two spaces stand behind it, or its
-/// second line begins with an offset, too.
+/// The hint about a dump with offsets: the text begins with a small offset, followed by a colon or two spaces, or its second line
+/// begins with an offset, too.
 pub fn dump_of(text: &[u8]) -> Option<&'static str> {
     let digits = front_digits(text);
     let rest = back(text, digits);
@@ -135,7 +135,7 @@ pub fn dump_of(text: &[u8]) -> Option<&'static str> {
     }
 }
 
-/// How many hexadecimal digits stand at the front.
+/// How many of the first bytes are hexadecimal digits.
 fn front_digits(text: &[u8]) -> usize {
     for (at, byte) in text.iter().enumerate() {
         if !byte.is_ascii_hexdigit() {
@@ -145,7 +145,7 @@ fn front_digits(text: &[u8]) -> usize {
     text.len()
 }
 
-/// Adds the note of a text whose bytes are no message, or are more or fewer than one.
+/// Adds the diagnostic of a text whose bytes are no message, or are more or fewer than one.
 pub fn push_length(note: &mut Note, message: &NamedText<'_>, bytes: &[u8]) {
     let name = message.name;
     if let Some(hint) = dump_of(message.text) {
@@ -172,7 +172,7 @@ pub fn push_length(note: &mut Note, message: &NamedText<'_>, bytes: &[u8]) {
     }
 }
 
-/// Begins a note: how many bytes an input has.
+/// Begins a diagnostic: how many bytes an input has.
 fn push_count(note: &mut Note, name: &str, count: usize) {
     note.put_all(&[name, ": "]);
     note.put_number(count as u64);

@@ -74,8 +74,8 @@ impl<'a> Vocabulary<'a> {
         names.binary_search(&name).is_ok()
     }
 
-    /// Adds what is meant by a name that isn't there, and tells whether that is known. `instead` says what it is where it is one
-    /// of the other names.
+    /// Adds what is meant by an unknown name, and returns whether that is known. `instead` says what it is where it is one of the
+    /// other names.
     pub fn push_meant(&self, note: &mut Note, named: Named, name: &str, instead: &str) -> bool {
         let other = match named {
             Named::Command => Named::Avp,

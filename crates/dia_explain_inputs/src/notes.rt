@@ -1,4 +1,4 @@
-//! What all notes are made of.
+//! What all diagnostics are made of.
 
 ghost use Rattle.dia_explain_places.specs.Notes.{Gains};
 ghost use Rattle.dia_explain_places.specs.Places.{place_text, start_text};
@@ -7,10 +7,10 @@ ghost use Rattle.dia_explain_inputs.specs.Beginnings.{BeginsWith, note_text};
 use dia_explain_places::{NamedText, Note, Place};
 use std::alloc::AllocError;
 
-/// What to do about a text that isn't UTF-8.
+/// The hint about a text that isn't UTF-8.
 pub const SAVE: &str = "save the file as UTF-8";
 
-/// Adds what is told of a whole input, and what to do.
+/// Adds the diagnostic of a whole input, and the hint.
 pub fn push_whole(note: &mut Note, input: &NamedText<'_>, told: &str, hint: &str) {
     note.put_all(&[input.name, ": ", told, "\nhint: ", hint, "\n"]);
 }
@@ -22,7 +22,7 @@ pub fn push_too_long(note: &mut Note, name: &str, limit: usize) {
     note.put(" bytes\n");
 }
 
-/// Adds what is told of a place, and the line of the place.
+/// Adds the diagnostic of a place, and the line of the place.
 pub fn push_told(note: &mut Note, input: &NamedText<'_>, at: usize, told: &str)
     ensures { Gains note.old note.new (note_text input.now.name.now input.now.text.now at told.now) }
 {
@@ -32,7 +32,7 @@ pub fn push_told(note: &mut Note, input: &NamedText<'_>, at: usize, told: &str)
     note.put_excerpt(input.text, at);
 }
 
-/// Adds what is told of a place, the line of the place, and what to do, if that is known.
+/// Adds the diagnostic of a place, the line of the place, and the hint, if there is one.
 pub fn push_noted(note: &mut Note, input: &NamedText<'_>, at: usize, told: &str, hint: Option<&str>)
     ensures { BeginsWith (place_text input.now.name.now input.now.text.now at) note.old note.new }
 {
@@ -42,7 +42,7 @@ pub fn push_noted(note: &mut Note, input: &NamedText<'_>, at: usize, told: &str,
     }
 }
 
-/// Adds a place of an input, or the whole input, and behind it what was made to be told of it.
+/// Adds a place of an input, or the whole input, and after it the diagnostic that was made for it.
 pub fn push_made(
     note: &mut Note,
     input: &NamedText<'_>,
@@ -60,7 +60,7 @@ pub fn push_made(
     }
 }
 
-/// Adds the note of a text that isn't UTF-8 from a place on.
+/// Adds the diagnostic of a text that isn't UTF-8 from a place on.
 pub fn push_not_text(note: &mut Note, input: &NamedText<'_>, at: usize) {
     push_told(note, input, at, "these bytes aren't UTF-8");
     let more = if input.text.contains(&0) {

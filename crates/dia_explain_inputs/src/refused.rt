@@ -1,4 +1,4 @@
-//! What is told of an input that is refused.
+//! The diagnostic of an input that is refused.
 
 ghost use Rattle.dia_explain_inputs.specs.Beginnings.{NoteBegins};
 
@@ -8,8 +8,8 @@ use crate::tables::push_table;
 use dia_explain_places::{InputTexts, Note};
 use dia_report::BadInput;
 
-/// Adds the note of an input that is refused. It begins with what standard output tells: the line of its fault, or the first
-/// finding of a source.
+/// Adds the diagnostic of an input that is refused. It begins with what standard output reports: the line of its fault, or the
+/// first finding of a source.
 pub fn push_refused(note: &mut Note, texts: &InputTexts<'_>, bad: &BadInput)
     ensures { NoteBegins texts.now bad.now note.old note.new }
 {

@@ -6,10 +6,10 @@ use dia_explain_places::{InputTexts, NamedText, Note, line_from};
 use dia_report::BothBooks;
 use dia_tables::words_of;
 
-/// The most names that are told of a side.
+/// The most names that are reported for a side.
 const MOST: usize = 50;
 
-/// A name of a pair that the dictionary of its side doesn't have, and its place.
+/// A name of a pair that is unknown in the dictionary of its side, and its place.
 #[derive(Clone, Copy)]
 struct Stranger<'a> {
     named: Named,
@@ -17,14 +17,14 @@ struct Stranger<'a> {
     at: usize,
 }
 
-/// How many names the dictionary doesn't have, and whether one that is told is like no other.
+/// How many names are unknown, and whether a reported one is like no other.
 #[derive(Clone, Copy)]
 struct Strangers {
     count: usize,
     is_odd: bool,
 }
 
-/// Adds the names of a table that its dictionaries don't have, and what to do about those that are like no other.
+/// Adds the names of a table that its dictionaries don't have, and the hint about those that are like no other.
 pub fn push_strangers(note: &mut Note, texts: &InputTexts<'_>, books: &BothBooks) {
     let table = &texts.table;
     let of_first = push_side_of(note, table, true, &first_of(texts, books));
@@ -37,7 +37,7 @@ pub fn push_strangers(note: &mut Note, texts: &InputTexts<'_>, books: &BothBooks
     }
 }
 
-/// Adds the names of one side of a table that its dictionary doesn't have. Answers whether one is like no other.
+/// Adds the unknown names of one side of a table. Returns whether one is like no other.
 fn push_side_of(
     note: &mut Note,
     table: &NamedText<'_>,
@@ -86,7 +86,7 @@ fn push_side(
     strangers
 }
 
-/// Adds a name behind others, if there aren't too many. Answers what they are with it.
+/// Adds a name after others, if there aren't too many. Returns the new counts.
 fn push_next(
     note: &mut Note,
     table: &NamedText<'_>,
@@ -113,7 +113,7 @@ fn push_next(
     Strangers { count, is_odd }
 }
 
-/// The name of a side on the line that begins at a place, if the dictionary doesn't have it.
+/// The name of a side on the line that begins at a place, if it is unknown.
 fn stranger_on_line<'a>(
     text: &'a [u8],
     start: usize,

@@ -1,4 +1,4 @@
-//! What is told of a table that is refused.
+//! The diagnostic of a table that is refused.
 
 ghost use Rattle.dia_explain_inputs.specs.Beginnings.{TableBegins, LineBegins};
 
@@ -10,13 +10,13 @@ use dia_report::BadTable;
 use dia_tables::{MAX_NAME, MAX_PAIRS, MAX_TABLE, PairPart, Table};
 use std::alloc::{AllocError, Global};
 
-/// How many bytes of a word are told.
+/// How many bytes of a word are shown.
 const SHOWN: usize = 60;
 
-/// A place of a line, as hints name it, and what can stand there.
+/// A place of a line, as hints name it, and what may come there.
 type Slot = (&'static str, &'static str);
 
-/// Adds the note of a table that is refused for this.
+/// Adds the diagnostic of a table that is refused for this reason.
 pub fn push_table(note: &mut Note, table: &NamedText<'_>, why: &BadTable)
     ensures { TableBegins table.now.name.now table.now.text.now why.now note.old note.new }
 {
@@ -28,7 +28,7 @@ pub fn push_table(note: &mut Note, table: &NamedText<'_>, why: &BadTable)
     }
 }
 
-/// Adds the first word of a line that can't stand there.
+/// Adds the first word of a line that isn't allowed at its place.
 fn push_syntax(note: &mut Note, table: &NamedText<'_>, line: u32)
     ensures { LineBegins table.now.name.now table.now.text.now line note.old note.new }
 {
@@ -37,7 +37,7 @@ fn push_syntax(note: &mut Note, table: &NamedText<'_>, line: u32)
     push_made(note, table, Some(word.at), told);
 }
 
-/// What is told of a word that can't stand where it stands.
+/// The diagnostic of a word that isn't allowed at its place.
 fn syntax_told(alloc: Global, text: &[u8], word: &RefusedWord<'_>) -> Result<String, AllocError> {
     let (place, wanted) = slot_of(word.part);
     let mut told = Note::new(alloc);
@@ -55,7 +55,7 @@ fn syntax_told(alloc: Global, text: &[u8], word: &RefusedWord<'_>) -> Result<Str
     told.finish()
 }
 
-/// The place of a part, and what can stand there.
+/// The place of a part, and what may come there.
 fn slot_of(part: PairPart) -> Slot {
     match part {
         PairPart::Kind => (
@@ -94,7 +94,7 @@ fn is_number(word: &[u8]) -> bool {
     true
 }
 
-/// Adds which limit a line passes.
+/// Adds which limit a line exceeds.
 fn push_limit(note: &mut Note, table: &NamedText<'_>, line: u32)
     ensures { LineBegins table.now.name.now table.now.text.now line note.old note.new }
 {
@@ -103,7 +103,7 @@ fn push_limit(note: &mut Note, table: &NamedText<'_>, line: u32)
     push_made(note, table, Some(word.at), told);
 }
 
-/// What is told of a word by which a line passes a limit.
+/// The diagnostic of a word by which a line exceeds a limit.
 fn limit_told(alloc: Global, text: &[u8], word: &RefusedWord<'_>) -> Result<String, AllocError> {
     let mut told = Note::new(alloc);
     if word.part == PairPart::Kind {

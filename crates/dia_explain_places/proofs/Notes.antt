@@ -1,4 +1,4 @@
--- What a note gains bit by bit.
+-- What a diagnostic gains bit by bit.
 use Rattle.std.proofs.Common.{◌≡◌, ℕ, ◌+◌, ◌<◌, List, [], ◌∷◌, ◌++◌, length, take, flat_map, Option, Some, None, IfSome, sym, ap, subst, ◌∙◌, append_assoc, append-nil, suc, arith}
 use Rattle.std.proofs.lemmas.Grind.{flat_map-append}
 use Rattle.std.proofs.lemmas.List.Concat.{flat_map-cons}

@@ -7,7 +7,7 @@ use Rattle.std.proofs.lemmas.List.{get_or-drop}
 use Rattle.std.proofs.lemmas.List.Sums.{prefix_len_passes, prefix_len-le-length, count_by_more_no}
 use Rattle.dia_explain_places.specs.Places.{line_at}
 
--- the byte behind a place, where no line feed stands up to it
+-- the byte after a place, where no line feed precedes it
 no_feed : (text : List ℕ) (from k : ℕ) → k < prefix_len (λ c. not (c == 10)) (drop from text) → (get_or text (from + k) 0 == 10) ≡ false
 no_feed text from k below =
     ap (λ c. c == 10) (sym (get_or-drop from text k 0)) ∙ not-true (get_or (drop from text) k 0 == 10) (prefix_len_passes (λ c. not (c == 10)) (drop from text) k 0 below)

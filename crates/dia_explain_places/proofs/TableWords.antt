@@ -1,4 +1,4 @@
--- Where a line of a table begins, and where its words stand.
+-- Where a line of a table begins, and where its words are.
 use Rattle.std.proofs.Common.{◌≡◌, ◌∙◌, ℕ, ◌+◌, ◌<◌, ◌≤◌, ◌^◌, List, length, get_or, refl, sym, ap, ap₂, subst, arith}
 use Rattle.std.specs.Prelude.{◌==◌, Bool, not, true, false}
 use Rattle.std.specs.List.{prefix_len, range_with_len}
@@ -11,7 +11,7 @@ use Rattle.dia_tables.specs.declared.PairPart.TheVariants.{Kind, First, Sign, Se
 use Rattle.dia_explain_places.specs.Places.{line_at}
 use Rattle.dia_explain_places.specs.Tables.{line_from, place_on_line, start_of_line, words_of_line}
 
--- ---- the beginning of a line
+-- ---- the start of a line
 
 differs : (m n : ℕ) → ¬ (m ≡ n) → not (m == n) ≡ true
 differs m n other = by (m == n) refl
@@ -64,7 +64,7 @@ place_is text line n start words which part at is is_start is_part =
     at_is text line start words part at is
     ∙ ap₂ (λ (s k : ℕ). s + k) is_start (ap (λ (p : PairPart). (word_of words p).at) is_part ∙ ap (λ (w : PlainWords). (word_of w (which w)).at) all)
 
--- it stands on that line
+-- it is on that line
 pub on_line : (text line : List ℕ) (start : ℕ) (words : PlainWords) (part : PairPart) (at : ℕ) → IsWordAt text line start words part at
     → ((k : ℕ) → k ≤ length line → line_at text (start + k) ≡ line_at text start) → line_at text at ≡ line_at text start
 on_line text line start words part at is same =

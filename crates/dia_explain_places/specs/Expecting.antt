@@ -1,4 +1,4 @@
--- What can stand at a place of a dictionary's text, as a reader is told it: a word or a few for each.
+-- What may come at a place of a dictionary's text, as it is reported to a reader: a word or a few for each.
 use Rattle.std.specs.Prelude.{ℕ, Bool, true, false, List, [], ◌∷◌, codes}
 use Rattle.dia_ccf.specs.declared.wanted.Wanted.{Wanted}
 use Rattle.dia_ccf.specs.declared.wanted.Wanted.TheVariants.{Item, Declaration, Definition, Head, Rules}
@@ -33,7 +33,7 @@ expected_in_definition definition.Close = codes "> after the name" ∷ []
 expected_in_definition definition.Assign = codes "::= after the name of a definition" ∷ []
 expected_in_definition definition.Head = codes "< Diameter Header: .. >" ∷ codes "< AVP Header: .. >" ∷ []
 
--- behind the Command Code and some flags: REQ was read, PXY was, and a comma
+-- after the Command Code and some flags: REQ was read, PXY was, and a comma
 abbrev pub flags_at : (request pxy comma : Bool) → List (List ℕ)
 flags_at request true false = codes "the Application-ID" ∷ codes ">" ∷ []
 flags_at request true true = codes "the Application-ID, a number below 2^32" ∷ []
@@ -79,7 +79,7 @@ expected_in_rules (rules.LooseName kind) = codes "the name of an AVP" ∷ codes 
 expected_in_rules (rules.LooseClose Optional) = codes "] after the name" ∷ []
 expected_in_rules (rules.LooseClose kind) = codes "} after the name" ∷ []
 
--- what can stand at a place
+-- what may come at a place
 abbrev pub expected : Wanted → List (List ℕ)
 expected Item = codes "%avp" ∷ codes "the name of a definition" ∷ codes "the end of the text" ∷ []
 expected (Declaration place) = expected_in_declaration place

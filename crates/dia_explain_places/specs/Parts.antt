@@ -1,4 +1,4 @@
--- Where the parts of a dictionary stand in the text that spells it.
+-- Where the parts of a dictionary are in the text that spells it.
 use Rattle.std.specs.Prelude.{ℕ, List, Option, Some, None, slice_get}
 use Rattle.std.specs.Option.{option_map, option_and_then}
 use Rattle.dia_ccf.specs.declared.source.Source.{Source}
@@ -20,6 +20,6 @@ start_of source p = elim p.kind [
   | part.Command ↦ option_and_then (λ d. start_in d p.rule) (slice_get source.commands.items p.index)
 ]
 
--- where a part is told: at its first name
+-- the reported place of a part: that of its first name
 abbrev pub part_place : List ℕ → Source → Option Part → Option ℕ
 part_place text source p = option_map (name_place text) (option_and_then (start_of source) p)

@@ -13,7 +13,7 @@ abbrev pub unreturned : List ℕ → Option ℕ → List ℕ
 unreturned line None = line
 unreturned line (Some c) = if c == 13 then take (length line - 1) line else line
 
--- what stands on a line from a place on
+-- the rest of a line from a place on
 abbrev pub line_from : List ℕ → ℕ → List ℕ
 line_from text at = let line = take_while (λ c. not (c == 10)) (drop at text) in unreturned line (slice_get line (length line - 1))
 
@@ -30,7 +30,7 @@ words_of_line text n = words_in (line_from text (start_of_line text n))
 abbrev pub place_on_line : List ℕ → ℕ → PairPart → ℕ
 place_on_line text n part = start_of_line text n + (word_of (words_of_line text n) part).at
 
--- the first part of a line that is no pair whose word can't stand there
+-- the first part of a line that is no pair whose word isn't allowed there
 abbrev pub syntax_part : List ℕ → ℕ → PairPart
 syntax_part text n = unwrap_or (wrong_part (words_of_line text n)) Behind
 

@@ -1,4 +1,4 @@
-//! What can stand at a place of a dictionary's text, in words.
+//! What may come at a place of a dictionary's text, in words.
 
 ghost use Rattle.std.specs.Prelude.{◌≡◌, map};
 ghost use Rattle.dia_explain_places.specs.Expecting.{expected, expected_in_declaration, expected_in_definition};
@@ -7,7 +7,7 @@ ghost use Rattle.dia_explain_places.specs.Expecting.{expected_in_head, expected_
 use dia_ccf::{InDeclaration, InDefinition, InHead, InRules, RuleKind, Wanted};
 use dia_terms::{format_words, vendor_or_format_words};
 
-/// What can stand at a place: a word or a few for each.
+/// What may come at a place: a word or a few for each.
 pub fn expected(wanted: Wanted) -> &'static [&'static str]
     ensures { map (λ item. item.now) result.now ≡ expected wanted }
 {
@@ -80,7 +80,7 @@ fn expected_in_head(place: InHead) -> &'static [&'static str]
     }
 }
 
-/// What can stand behind the Command Code and some flags.
+/// What may come after the Command Code and some flags.
 fn flags_at(request: bool, pxy: bool, comma: bool) -> &'static [&'static str]
     ensures { map (λ item. item.now) result.now ≡ flags_at request pxy comma }
 {

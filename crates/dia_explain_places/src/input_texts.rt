@@ -7,7 +7,7 @@ pub struct NamedText<'a> {
     pub text: &'a [u8],
 }
 
-/// The texts of the inputs. One that isn't there, or is too long, is empty.
+/// The texts of the inputs. A missing or too long one is empty.
 #[derive(Clone, Copy)]
 pub struct InputTexts<'a> {
     pub first: NamedText<'a>,

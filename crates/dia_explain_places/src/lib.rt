@@ -1,7 +1,7 @@
-//! Places of texts: where the parts of a dictionary, of a table and of a message stand in the texts that spell them.
+//! Places of texts: where the parts of a dictionary, of a table and of a message are in the texts that spell them.
 //!
-//! A place counts the bytes in front of it. A reader is told it as line and column, with the line of the text and a caret
-//! below it.
+//! A place is the offset of a byte. It is reported to a reader as line and column, with the line of the text and a caret below
+//! it.
 #![tactic(auto)]
 
 mod digits;

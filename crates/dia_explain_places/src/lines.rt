@@ -1,4 +1,4 @@
-//! The lines of a text: where one begins, and what stands on it.
+//! The lines of a text: where one begins, and what is on it.
 
 ghost use Rattle.std.specs.Prelude.{◌≡◌, ◌<◌, ◌≤◌, ◌+◌, ◌-◌, ◌^◌, ℕ, length, slice_get};
 ghost use Rattle.dia_explain_places.specs.Places.{line_at};
@@ -7,7 +7,7 @@ ghost use Rattle.dia_explain_places.specs.Tables.{line_from, start_of_line, unre
 use crate::place::{back, front};
 use crate::runs::{Kind, run_length};
 
-/// What stands on a line from a place on, without the end of the line.
+/// The rest of a line from a place on, without the end of the line.
 pub fn line_from(text: &[u8], from: usize) -> &[u8]
     ensures line { result.now ≡ line_from text.entry.now from }
     ensures within { from + length result.now < 2 ^ 64 }

@@ -2,7 +2,7 @@
 
 use crate::place::back;
 
-/// How much of two names may differ, between a common beginning and a common end.
+/// How much of two names may differ, between a common prefix and a common suffix.
 const MOST: usize = 2;
 
 /// The name that is nearest, if it is near enough: less than a third of the longer of the two differs.
@@ -59,7 +59,7 @@ fn is_short_for(a: &[u8], b: &[u8]) -> bool {
     count >= 2 && !has_capital(rest)
 }
 
-/// What stands behind the first capital of a name, if it is this one.
+/// What follows the first capital of a name, if it is this one.
 fn behind_capital(name: &[u8], wanted: u8) -> Option<&[u8]> {
     for (at, byte) in name.iter().enumerate() {
         if byte.is_ascii_uppercase() {
@@ -82,8 +82,8 @@ fn has_capital(name: &[u8]) -> bool {
     false
 }
 
-/// How many bytes of the longer name differ, between what both have at the beginning and what both have at the end. The case
-/// of letters doesn't count, unless all else is alike.
+/// How many bytes of the longer name differ, between the prefix and the suffix that both have. The case of letters doesn't count,
+/// unless all else is equal.
 fn distance(a: &[u8], b: &[u8]) -> usize {
     let front = common_front(a, b);
     let a_rest = back(a, front);
@@ -93,7 +93,7 @@ fn distance(a: &[u8], b: &[u8]) -> usize {
     longer.saturating_sub(behind)
 }
 
-/// How many of the first bytes are alike but for the case of letters.
+/// How many of the first bytes are equal but for the case of letters.
 fn common_front(a: &[u8], b: &[u8]) -> usize {
     for count in 0..a.len() {
         if !is_alike(a.get(count), b.get(count)) {
@@ -103,7 +103,7 @@ fn common_front(a: &[u8], b: &[u8]) -> usize {
     a.len()
 }
 
-/// How many of the last bytes are alike but for the case of letters.
+/// How many of the last bytes are equal but for the case of letters.
 fn common_back(a: &[u8], b: &[u8]) -> usize {
     for count in 0..a.len() {
         if !is_alike(from_end(a, count), from_end(b, count)) {
@@ -113,7 +113,7 @@ fn common_back(a: &[u8], b: &[u8]) -> usize {
     a.len()
 }
 
-/// The byte in front of the last ones, as many as this.
+/// The byte before the last `count` ones.
 fn from_end(bytes: &[u8], count: usize) -> Option<&u8> {
     bytes.get(bytes.len().checked_sub(count)?.checked_sub(1)?)
 }

@@ -1,4 +1,4 @@
-//! A note as it grows.
+//! A diagnostic as it grows.
 
 ghost use Rattle.std.specs.Prelude.{◌≡◌, ◌++◌, ℕ, List, [], Option, Some, None, IfOk, OnOk, OnErr, codes, flat_map, string_bytes};
 ghost use Rattle.std.specs.Fmt.{decimal};
@@ -9,8 +9,8 @@ use crate::place::{push_excerpt, push_place, push_shown, push_start};
 use std::alloc::{AllocError, Global};
 use std::marker::Model;
 
-/// What is told on standard error. Where memory for it is refused, the note is refused for good, and `finish` says so: what adds
-/// to a note has no error to hand on.
+/// A text for standard error. After an allocation failure it stays refused, and `finish` reports that: what adds to it returns no
+/// error.
 #[derive(Drop)]
 pub struct Note {
     text: String,
@@ -41,7 +41,7 @@ impl Note {
         self.keep(done);
     }
 
-    /// Adds texts, one behind the other.
+    /// Adds texts, one after the other.
     pub fn put_all(&mut self, texts: &[&str])
         ensures { Gains self.old self.new (flat_map (λ text. text.now) texts.now) }
     {
@@ -50,7 +50,7 @@ impl Note {
         }
     }
 
-    /// Adds a text that was made for the note, if memory was there for it.
+    /// Adds a text that was made for the diagnostic, or records that its allocation failed.
     pub fn put_made(&mut self, made: Result<String, AllocError>)
         ensures text { IfOk made (λ text. Gains self.old self.new (string_bytes text)) }
         ensures refused { OnErr made (self.new ≡ None) }
@@ -61,7 +61,7 @@ impl Note {
         }
     }
 
-    /// Where memory was refused for what the note tells, the note is refused.
+    /// Records an allocation failure of work for the diagnostic.
     pub fn keep(&mut self, done: Result<(), AllocError>)
         ensures kept { OnOk done (self.new ≡ self.old) }
         ensures refused { OnErr done (self.new ≡ None) }
@@ -79,7 +79,7 @@ impl Note {
         self.keep(done);
     }
 
-    /// Adds what to do.
+    /// Adds a hint.
     pub fn put_hint(&mut self, hint: &str)
         ensures { Gains self.old self.new (codes "hint: " ++ hint.now ++ codes "\n") }
     {
@@ -119,12 +119,12 @@ impl Note {
         self.keep(done);
     }
 
-    /// The memory that the note grows in.
+    /// The allocator of the diagnostic.
     pub fn allocator(&self) -> Global {
         *self.text.allocator()
     }
 
-    /// The text. The error comes only where memory was refused.
+    /// The text. The only error is an allocation failure.
     pub fn finish(self) -> Result<String, AllocError>
         ensures text { IfOk result (λ text. self ≡ Some (string_bytes text)) }
         ensures refused { OnErr result (self ≡ None) }

@@ -6,7 +6,7 @@ use crate::place::back;
 /// An AVP that has no padding, though its length is no multiple of four.
 #[derive(Clone, Copy)]
 pub struct Unpadded {
-    /// How many bytes of the level stand in front of it.
+    /// How many bytes of the level precede it.
     pub at: usize,
     pub code: u32,
     pub length: usize,
@@ -19,8 +19,8 @@ struct Head {
     length: usize,
 }
 
-/// The first AVP of a level behind which the next AVP, or the end of the level, stands without padding. `None` where each AVP up
-/// to the first that can't be read is padded.
+/// The first AVP of a level that the next AVP, or the end of the level, follows without padding. `None` where each AVP up to the
+/// first that can't be read is padded.
 pub fn find_unpadded(level: &[u8]) -> Option<Unpadded> {
     let mut rest = level;
     for _ in level {
@@ -40,13 +40,13 @@ pub fn find_unpadded(level: &[u8]) -> Option<Unpadded> {
     None
 }
 
-/// Whether a level may go on with these bytes behind an AVP: it ends, or an AVP begins.
+/// Whether a level may continue with these bytes after an AVP: it ends, or an AVP begins.
 fn may_follow(rest: &[u8], is_within: bool) -> bool {
     is_within && (rest.is_empty() || head_of(rest).is_some())
 }
 
-/// The head of the AVP at the front of some bytes, if it looks like one: no reserved flag is set, and the length is that of
-/// an AVP which ends among these bytes.
+/// The head of the AVP at the start of some bytes, if it looks like one: no reserved flag is set, and the length is that of an
+/// AVP which ends among these bytes.
 fn head_of(rest: &[u8]) -> Option<Head> {
     let [a, b, c, d, flags, e, f, g, ..] = rest else {
         return None;

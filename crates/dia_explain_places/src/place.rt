@@ -45,7 +45,7 @@ fn line_before(text: &[u8], at: usize) -> &[u8]
     back(before, before.len().saturating_sub(behind_feed(before)))
 }
 
-/// How many bytes stand behind the last line feed.
+/// How many bytes follow the last line feed.
 fn behind_feed(bytes: &[u8]) -> usize
     ensures { result ≡ suffix_len (λ c. not (c == 10)) bytes.now }
 {
@@ -77,7 +77,7 @@ pub fn place_of(text: &[u8], at: usize) -> Place
     }
 }
 
-/// Begins a note: `NAME:LINE:COLUMN: `.
+/// Begins a diagnostic: `NAME:LINE:COLUMN: `.
 pub(crate) fn push_place(
     out: &mut String,
     name: &str,

@@ -1,4 +1,4 @@
-//! Kinds of bytes, and how many of a kind stand in a text or at its front.
+//! Kinds of bytes, and how many of a kind are in a text or at its start.
 
 ghost use Rattle.std.specs.Prelude.{◌≡◌, ◌≤◌, count_by, length};
 ghost use Rattle.std.specs.List.{prefix_len};
@@ -19,7 +19,7 @@ pub(crate) enum Kind {
     Digit,
     /// The first byte of a character of UTF-8.
     First,
-    /// A byte of UTF-8 that goes on with a character.
+    /// A byte of UTF-8 that continues a character.
     Inner,
 }
 
@@ -38,7 +38,7 @@ impl Kind {
     }
 }
 
-/// How many bytes of a kind stand at the front.
+/// How many of the first bytes are of a kind.
 pub(crate) fn run_length(bytes: &[u8], kind: Kind) -> usize
     ensures count { result ≡ prefix_len (is_of kind) bytes.now }
     ensures within { result ≤ length bytes.now }

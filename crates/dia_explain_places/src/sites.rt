@@ -1,4 +1,4 @@
-//! Where the names of a dictionary's parts stand in its text.
+//! Where the names of a dictionary's parts are in its text.
 
 ghost use Rattle.std.specs.Prelude.{◌≡◌, slice_get};
 ghost use Rattle.std.specs.Option.{option_map, option_and_then};

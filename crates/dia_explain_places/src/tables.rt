@@ -11,14 +11,14 @@ use dia_tables::{PairPart, PairWords, words_of};
 /// A word of a table's line, which is empty where the line has no more words.
 #[derive(Clone, Copy)]
 pub struct RefusedWord<'a> {
-    /// The part of `command A = B` in whose place it stands.
+    /// The part of `command A = B` in whose place it is.
     pub part: PairPart,
     pub text: &'a [u8],
-    /// How many bytes of the table's text stand before it.
+    /// How many bytes of the table's text precede it.
     pub at: usize,
 }
 
-/// Of the line of this number, which is no pair, the first word that can't stand where it stands.
+/// Of the line of this number, which is no pair, the first word that isn't allowed at its place.
 pub fn syntax_word(text: &[u8], line: u32) -> RefusedWord<'_>
     ensures part { result.part ≡ syntax_part text.entry.now line }
     ensures text { result.text.now ≡ (word_of (words_of_line text.entry.now line) result.part).text }

@@ -1,4 +1,4 @@
--- How often our messages have each AVP, and that they stand as the rules of the base dictionary say.
+-- How often our messages have each AVP, and that their AVPs are as the rules of the base dictionary say.
 use Rattle.std.proofs.Common.{◌≡◌, ℕ, zero, suc, ◌+◌, ◌≤◌, Bool, true, false, cond, List, [], ◌∷◌, ◌++◌, length, map, Option, Some, None, inl, inr, refl, ap, ◌∙◌, arith}
 use Rattle.std.specs.Prelude.{count_by, slice_get, ⊤, IsTrue}
 use Rattle.std.specs.List.{AllByRecursion}
@@ -87,11 +87,11 @@ module _ (c : PlainConfig) (front : List PlainAvp) where
   abbrev two : List PlainAvp
   two = avp32 266 c.vendor ∷ avp 269 0 c.product ∷ []
 
-  -- a CER or, behind its result, a CEA
+  -- a CER or, after its result, a CEA
   abbrev exchange : List PlainAvp
   exchange = front ++ (origin c ++ capabilities c ++ applications c)
 
-  -- a DWR or, behind its result, a DWA
+  -- a DWR or, after its result, a DWA
   abbrev watchdog : List PlainAvp
   watchdog = front ++ (origin c ++ if_some (avp32 278) c.state_id)
 
@@ -158,7 +158,7 @@ or_empty (Some d) = d
 abbrev pub definition : ℕ → PlainDefinition
 definition n = or_empty (slice_get (definitions base) n)
 
--- where there is a wildcard and nothing is fixed, each key may stand anywhere
+-- where there is a wildcard and nothing is fixed, each key may be anywhere
 may_stand : (rules : List DRule) → loose_rules rules ≡ rules → IsTrue (has_wildcard rules) → (key : Key) (b : Bool) → is_listed rules key ≡ b → MayBeLoose rules key
 may_stand rules same wild key true e = inl (ap (λ (rs : List DRule). is_listed rs key) same ∙ e)
 may_stand rules same wild key false e = inr (e, wild)

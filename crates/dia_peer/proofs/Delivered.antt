@@ -78,7 +78,7 @@ use Rattle.dia_peer.proofs.SpelledMessages.{one_message, has_length}
 use Rattle.dia_peer.proofs.Advertised.{Held, quiet_front, quiet_answer, from_advertised, into_advertised, vendor_code, plain_code, three_cases, code_same, byte_sum}
 use Rattle.dia_peer.proofs.Moves.{MaySend, asks, accepts_it, refuses_it, watches, is_there, leaves, lets_go}
 
--- ---- the code stands behind the flags
+-- ---- the code follows the flags
 
 pub code_in : (h : Header) (n : ℕ) (head body b : List ℕ) → b ≡ head ++ body → IsHead h n head → number (take 3 (drop 5 b)) ≡ h.code
 code_in h n head body b parts s =

@@ -127,7 +127,7 @@ turned manner a b pairs s p =
     let x = map pair_of a.apps in let y = map pair_of b.apps in
     ((λ m. common_turns (relays manner y) (relays manner x) y x p ((s p).0 m)), (λ h. (s p).1 (common_turns (relays manner x) (relays manner y) x y p h)))
 
--- the responder took a CER, and has sent its answer
+-- the responder accepted a CER, and has sent its answer
 record Took (b : PlainConfig) (e : End) : Type 0 where
   taken : PlainTaken
   is_taken : e.core.taken ≡ Some taken
@@ -246,7 +246,7 @@ module _ (a : PlainConfig) (m : Manner) (b : PlainConfig) (n : Manner) (an : Num
   runs w [] v hold run = subst (Holds a m b n) (sym run) hold
   runs w (e ∷ events) v hold (mid, first, later) = runs mid events v (goes w e.0 e.1 mid hold first) later
 
--- ---- the CER that was taken comes again
+-- ---- the CER that was accepted comes again
 
 starts_self : (xs : List ℕ) → starts_with nat_eq xs xs ≡ true
 starts_self [] = refl

@@ -1,4 +1,4 @@
--- A level that is gone through AVP by AVP.
+-- A level that is read AVP by AVP.
 use Rattle.std.proofs.Common.{◌≡◌, ℕ, ◌<◌, true, false, List, [], ◌∷◌, ◌++◌, length, Option, Some, None, Result, Ok, Err, ◌⊎◌, inl, inr, ⊎_elim, refl, sym, ap, subst, ◌∙◌, arith}
 use Rattle.std.specs.Prelude.{◌↔◌, IsSome, IfSome, MatchOption}
 use Rattle.std.specs.List.{AllByRecursion}
@@ -62,7 +62,7 @@ into_said says [] p v m h = absurd m
 into_said says (w ∷ vs) p v (inl e) h = inl (subst (λ (x : PlainAvp). says x p) (sym e) h)
 into_said says (w ∷ vs) p v (inr m) h = inr (into_said says vs p v m h)
 
--- how far a level of these AVPs was gone through: what is left, and what was found
+-- how far a level of these AVPs was read: the rest, and what was found
 pub record Walk {Q : Type 0} (good : PlainAvp → Type 0) (says : PlainAvp → Q → Type 0) (avps : List PlainAvp) (start now : Q → Type 0) (rest : List ℕ) : Type 0 where
   pub left : List PlainAvp
   pub spells : SpellsAll left rest

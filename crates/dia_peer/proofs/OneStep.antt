@@ -148,7 +148,7 @@ data Status (b : List ℕ) (what : Received) : Type 0 where
   invalid : what ≡ Invalid → HasLength b (length b) → IsOurCode (number (take 3 (drop 5 b))) → ¬ IsValid base Kept Any b → Status b what
   is_good : Reading b what → Status b what
 
--- a valid message that tells no applications
+-- a valid message that names no applications
 simple : (b : List ℕ) (what : Received) (code : ℕ) (request error : Bool) (ids : Ids) (avps : List PlainAvp) → IsGood b code request error ids avps → IsOurCode code
     → (error ≡ false → (code == 257) ≡ true → ⊥) → what ≡ told b error (code == 257) request (code == 280) ids 0 [] → Status b what
 simple b what code request error ids avps g ours none is = is_good (record {

@@ -36,7 +36,7 @@ all_at test (q ∷ ps) p h (inr m) = all_at test ps p ((both_hold (test q) (list
 abbrev Within : List Pair → List Pair → Type 0
 Within ps qs = (p : Pair) → IsIn ps p → IsIn qs p
 
--- what comes behind the first is behind the first of the other
+-- what follows the first is after the first of the other
 rest_within : (p : Pair) (ps qs : List Pair) → list_all (comes_before p) ps ≡ true → Within (p ∷ ps) (p ∷ qs) → Within ps qs
 rest_within p ps qs h same x m = by (same x (inr m))
   where

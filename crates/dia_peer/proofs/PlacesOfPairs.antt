@@ -30,12 +30,12 @@ module _ (x : Kind × ℕ) where
   put [] = refl
   put (y ∷ ys) = put_before (behind y) y ys (position_or_len behind ys) (insert_pair (the_pair x) (pairs_of ys)) (put ys)
 
-  -- a pair that is put before the first that comes behind it, or at the end
+  -- a pair that is put before the first that follows it, or at the end
   pub put_in_place : (items : List (Kind × ℕ)) → pairs_of (insert items (unwrap_or (position behind items) (length items)) x) ≡ insert_pair (the_pair x) (pairs_of items)
   put_in_place items =
       ap (λ (n : ℕ). pairs_of (insert items n x)) (or_length (position_or_len behind items) (length items) (prefix_len-le-length (λ y. not (behind y)) items)) ∙ put items
 
--- ---- pairs that stand once
+-- ---- pairs that occur once
 
 any_apps : (p : Pair) (apps : List App) → list_any (λ other. same_pair p (pair_of other)) apps ≡ list_any (same_pair p) (map pair_of apps)
 any_apps p [] = refl
@@ -47,7 +47,7 @@ among p apps e = any_in p (map pair_of apps) (sym (any_apps p apps) ∙ sym e)
 not_among : (p : Pair) (apps : List App) → false ≡ list_any (λ other. same_pair p (pair_of other)) apps → ¬ IsIn (map pair_of apps) p
 not_among p apps e m = let t : false ≡ true = e ∙ any_apps p apps ∙ in_any p (map pair_of apps) m in absurd cc
 
--- each is of another kind and number than those behind it
+-- each is of another kind and number than those after it
 abbrev pub StandOnce : List App → Type 0
 StandOnce [] = ⊤
 StandOnce (a ∷ apps) = (¬ IsIn (map pair_of apps) (pair_of a)) × StandOnce apps
@@ -94,6 +94,6 @@ decides_all apps d = once_index apps (d.now.1 tt)
 
 -- ---- the applications so far
 
--- the pairs in order of the applications up to some place, where they go on with these
+-- the pairs in order of the applications up to some place, where they continue with these
 abbrev pub Sorts : List Pair → List Pair → List Pair → Type 0
 Sorts all sorted rest = fold put_onto sorted rest ≡ sorted_pairs all

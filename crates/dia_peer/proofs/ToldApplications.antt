@@ -1,4 +1,4 @@
--- What the AVPs of a valid CER or CEA tell, in the words of the table.
+-- What the AVPs of a valid CER or CEA name, in the words of the table.
 use Rattle.std.proofs.Common.{◌≡◌, ℕ, ◌-◌, List, length, take, drop, Option, Some, None, ◌⊎◌, inl, inr, ⊎_elim, refl, sym, ap, subst, ◌∙◌, arith}
 use Rattle.std.specs.Prelude.{◌↔◌, IsTrue, IsSome}
 use Rattle.std.specs.Option.{option_map}
@@ -18,7 +18,7 @@ use Rattle.dia_peer.proofs.LevelWalks.{said, into_said}
 use Rattle.dia_peer.proofs.ApplicationNumbers.{from_listed, into_listed}
 use Rattle.dia_peer.proofs.ValidMessageAvps.{both_same, kind_cases, the_key}
 
--- what is behind a header
+-- what follows a header
 pub rest_of : (b : List ℕ) → take (length b - 20) (drop 20 b) ≡ drop 20 b
 rest_of b = take_all (length b - 20) (drop 20 b) (omega (arith, length-drop 20 b))
 

@@ -1,4 +1,4 @@
--- What one end of a connection keeps.
+-- The state of one end of a connection.
 use Rattle.std.specs.Prelude.{◌≡◌, ℕ, ◌^◌, ◌<◌, ◌≤◌, ◌⊎◌, ◌&&◌, ◌||◌, nat_lt, ◌==◌, Bool, true, false, IsTrue, if◌then◌else◌, List, [], ◌∷◌, length, map, filter, Option, Some, None, slice_get, string_bytes, All}
 use Rattle.std.specs.List.{list_any, list_all, fold, AllByRecursion}
 use Rattle.dia_data.specs.Leaf.{IsGraphic}
@@ -75,7 +75,7 @@ pub record AreApps (apps : List App) : Type 0 where
   pub numbers : AllByRecursion (λ a. a.id < 2 ^ 32) apps
   pub distinct : AreDistinct apps
 
--- as many bytes as the family wants
+-- as many bytes as the family has
 abbrev pub IsIp : Ip → Type 0
 IsIp (V4 bytes) = length bytes ≡ 4
 IsIp (V6 bytes) = length bytes ≡ 16
@@ -166,7 +166,7 @@ pub record Sent : Type 0 where
   pub header : Header
   pub avps : List PlainAvp
 
--- the CER that was taken: its bytes, and the identifiers that its CEA repeats
+-- the CER that was accepted: its bytes, and the identifiers that its CEA repeats
 pub record PlainTaken : Type 0 where
   pub bytes : List ℕ
   pub ids : Ids

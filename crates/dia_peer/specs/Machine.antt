@@ -54,5 +54,5 @@ IsRefusedAs manner c fault.Realm = IsIdentity c.host × ¬ IsIdentity c.realm
 IsRefusedAs manner c fault.Product = IsIdentity c.host × IsIdentity c.realm × (NAME_LIMIT < length c.product)
 IsRefusedAs manner c fault.Address = IsIdentity c.host × IsIdentity c.realm × (length c.product ≤ NAME_LIMIT) × ((c.addresses ≡ []) ⊎ (ADDRESS_LIMIT < length c.addresses))
 IsRefusedAs manner c fault.Application = IsIdentity c.host × IsIdentity c.realm × (length c.product ≤ NAME_LIMIT) × (0 < length c.addresses) × (length c.addresses ≤ ADDRESS_LIMIT) × (¬ (AreApps c.apps × MayHold manner c.apps))
--- memory is taken where nothing else is wrong
+-- memory is allocated where nothing else is wrong
 IsRefusedAs manner c fault.NoMemory = IsAccepted manner c

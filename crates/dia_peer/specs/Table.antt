@@ -70,7 +70,7 @@ accepts c ids bytes (Some (p ∷ ps)) = record {
   deeds = Sends (cea c.config ids SUCCESS) ∷ [];
 }
 
--- the CER that was taken comes again
+-- the CER that was accepted comes again
 abbrev pub repeated : PlainCore → List ℕ → Option PlainTaken → Outcome
 repeated c bytes None = nothing c
 repeated c bytes (Some taken) = if same_bytes bytes taken.bytes then record { core = c; deeds = Sends (cea c.config taken.ids SUCCESS) ∷ [] } else nothing c

@@ -50,8 +50,8 @@ pub(crate) fn is_relay(id: u32) -> bool
     id == RELAY
 }
 
-/// Whether no two applications are of one kind and number. It takes no memory, and at most 1,024 times 1,024 steps, once for
-/// each core.
+/// Whether no two applications are of one kind and number. It allocates nothing, and takes at most 1,024 times 1,024 steps,
+/// once for each core.
 pub(crate) fn are_distinct(apps: &[App]) -> bool
     ensures { IsTrue result ↔ AreDistinct apps.now }
 {
@@ -63,7 +63,7 @@ pub(crate) fn are_distinct(apps: &[App]) -> bool
     true
 }
 
-/// Whether an application behind the one at a place is of its kind and number.
+/// Whether an application after the one at a place is of its kind and number.
 fn stands_again(apps: &[App], place: usize) -> bool
     requires { place < length apps.now }
     ensures { (app : AnyApp) → slice_get apps.now place ≡ Some app
@@ -94,7 +94,7 @@ pub(crate) fn sorted(alloc: Global, apps: &[App]) -> Result<Vec<(Kind, u32)>, Al
     Ok(pairs)
 }
 
-/// The place of the first application that comes behind this one.
+/// The place of the first application that follows this one in the order.
 fn place_of(pair: (Kind, u32), pairs: &[(Kind, u32)]) -> Option<usize>
     ensures place { result ≡ position
         (λ other. comes_before (the_pair pair) (the_pair other)) pairs.now }

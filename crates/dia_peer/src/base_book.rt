@@ -25,7 +25,7 @@ impl BaseBook {
         Ok(BaseBook { book })
     }
 
-    /// Whether the bytes are a valid message, where AVPs that the dictionary doesn't know are kept.
+    /// Whether the bytes are a valid message, where unknown AVPs are accepted.
     pub(crate) fn is_valid(&self, alloc: Global, bytes: &[u8]) -> Result<bool, AllocError>
         ensures { IfOk result (λ valid. IsTrue valid ↔ IsValid base Kept Any bytes.now) }
     {

@@ -23,7 +23,7 @@ pub struct App {
     pub kind: Kind,
     /// The Application-ID.
     pub id: u32,
-    /// Where it is there, the application stands in a Vendor-Specific-Application-Id with this Vendor-Id.
+    /// If present, the application is in a Vendor-Specific-Application-Id with this Vendor-Id.
     pub vendor: Option<u32>,
 }
 
@@ -57,7 +57,7 @@ pub struct Config {
     pub e2e: u32,
 }
 
-/// What a core does beyond a connection of two nodes that aren't agents. Each is chosen for itself.
+/// What a core does beyond a connection of two nodes that aren't agents.
 #[derive(Clone, Copy, PartialEq, Eq)]
 pub struct Manner {
     /// The application 4294967295 says that an end relays (RFC 6733 sections 2.4 and 5.3): it has all applications of the
@@ -65,7 +65,7 @@ pub struct Manner {
     pub relays: bool,
 }
 
-/// Why a configuration is refused: the first that stands, in this order.
+/// Why a configuration is refused: the first that applies, in this order.
 #[derive(Clone, Copy, Debug, PartialEq, Eq, Error)]
 pub enum ConfigFault {
     #[error("the host is no DiameterIdentity of at most 255 bytes")]

@@ -16,7 +16,7 @@ use std::marker::Model;
 
 /// One end of a connection.
 ///
-/// It is told what happens by `step`, which answers what is to be done. It has no socket and no clock.
+/// `step` passes it an event and answers what is to be done. It has no socket and no clock.
 #[derive(Drop)]
 pub struct Core {
     node: Node,
@@ -68,9 +68,9 @@ impl Core {
       ticks_open,
     };
 
-    /// A core before its first event. The base dictionary is made ready for it once.
+    /// A core before its first event. It prepares the base dictionary once.
     ///
-    /// The first of the faults of a configuration that stands is told. The error `NoMemory` comes only where memory was refused.
+    /// The first fault of a configuration, in the order of `ConfigFault`, is reported. `NoMemory` means an allocation failure.
     pub fn new(alloc: Global, config: Config, role: Role) -> Result<Core, ConfigFault>
         ensures ok { IfOk result (λ core. IsAccepted plain (plain_config config)
             × (core ≡ idle (plain_config config) role plain)) }
@@ -109,7 +109,7 @@ impl Core {
         })
     }
 
-    /// Where the connection stands. Takes no memory.
+    /// The state of the connection. Allocates nothing.
     pub fn state(&self) -> State
         ensures { result ≡ self.now.state }
     {
@@ -117,7 +117,7 @@ impl Core {
     }
 
     /// The applications that both ends have in common, Auth first and then by number: none before the connection is
-    /// open, and kept from then on. Between two relays it is 4294967295 alone, which stands for all. Takes no memory.
+    /// open, and unchanged from then on. Between two relays it is 4294967295 alone, which means all. Allocates nothing.
     pub fn common(&self) -> &[(Kind, u32)]
         ensures { pairs_of result.now ≡ self.now.common }
     {
@@ -125,16 +125,16 @@ impl Core {
     }
 
     /// Whether messages of an application are for this connection: those of the base protocol (0) always, the others where
-    /// both ends have the application in common. Takes no memory.
+    /// both ends have the application in common. Allocates nothing.
     pub fn serves(&self, id: u32) -> bool
         ensures { IsTrue result ↔ Serves self.now.common id }
     {
         id == 0 || is_among(id, &self.common)
     }
 
-    /// What is to be done at an event, in order. On an error, which comes only where memory was refused, nothing has changed.
+    /// What is to be done at an event, in order. On an error, which is an allocation failure, nothing has changed.
     ///
-    /// The bytes of a message are checked once, and gone through once more where they are a CER or a CEA.
+    /// The bytes of a message are checked once, and those of a CER or a CEA are read once more.
     pub fn step(&mut self, event: Event<'_>) -> Result<Vec<Output>, AllocError>
         ensures ok { IfOk result (λ outputs. IsStep self.old event.entry outputs.items self.new) }
         ensures valid { IfOk result (λ outputs. All IsSound outputs.items) }
@@ -287,7 +287,7 @@ impl Core {
     }
 }
 
-/// Whether the application is among those in common, of which that of relays stands for all.
+/// Whether the application is among those in common, of which that of relays means all.
 fn is_among(id: u32, common: &[(Kind, u32)]) -> bool
     ensures { result ≡ list_any (λ app. (app.1 == RELAY) || (app.1 == id)) common.now }
 {

@@ -60,7 +60,7 @@ pub(crate) fn result_code(body: &[u8]) -> Option<u32>
     None
 }
 
-/// Adds the application that an AVP names, and those that stand directly inside it.
+/// Adds the application that an AVP names, and those that are directly inside it.
 fn add_told(named: &mut NamedApps, avp: &Avp<'_>) -> Result<(), AllocError>
     ensures { OnOk result
         (IsReadable (plain_avp avp.now) → (p : Pair) → Has named.new p

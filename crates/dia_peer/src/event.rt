@@ -1,6 +1,6 @@
-//! What happens to a core, and what it wants done.
+//! What happens to a core, and what it asks for.
 
-/// Where one end of a connection stands.
+/// The state of one end of a connection.
 #[derive(Debug, Clone, Copy, PartialEq, Eq)]
 pub enum State {
     /// Before `Event::Start`.
@@ -29,7 +29,7 @@ pub enum Cause {
 
 #[derive(Clone, Copy)]
 pub enum Event<'a> {
-    /// The transport connection is there.
+    /// The transport connection is open.
     Start,
     /// One whole message came.
     Bytes(&'a [u8]),
@@ -64,6 +64,6 @@ pub enum Why {
 pub enum Output {
     /// Send these bytes, which are one message.
     Send(Vec<u8>),
-    /// Close the transport connection, behind what was sent.
+    /// Close the transport connection, after what was sent.
     Close(Why),
 }

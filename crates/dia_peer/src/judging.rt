@@ -9,7 +9,7 @@ use crate::codes::{ADDRESS_LIMIT, APP_LIMIT, NAME_LIMIT};
 use crate::config::{Config, ConfigFault, Ip, Manner};
 use dia_book::{Format, Leaf, accepts};
 
-/// Tells the first thing that is wrong with a configuration. It takes no memory.
+/// Reports the first thing that is wrong with a configuration. It allocates nothing.
 pub(crate) fn judge(config: &Config, manner: Manner) -> Result<(), ConfigFault>
     ensures ok { IfOk result (λ _. IsAccepted manner (plain_config config.now)) }
     ensures err { IfErr result (IsRefusedAs manner (plain_config config.now)) }

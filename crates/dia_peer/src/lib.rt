@@ -1,8 +1,8 @@
 //! One connection between two Diameter nodes, without sockets and clocks (RFC 6733 section 5).
 //!
-//! A `Core` is one end. It is told what happens by `step`, which answers the messages that are to be sent, and
-//! whether the connection is to be closed. Two ends, where `told` gives an event to a core and keeps the messages
-//! that it sends, `delivered` does so for each message of a queue, and `exchanged` delivers in both directions:
+//! A `Core` is one end. `step` passes it an event, and answers the messages that are to be sent, and whether the
+//! connection is to be closed. Two ends, where `told` gives an event to a core and collects the messages that it sends,
+//! `delivered` does so for each message of a queue, and `exchanged` delivers in both directions:
 //!
 //! ```text
 //! let mut initiator = Core::new(alloc, ours, Role::Initiator)?;
@@ -17,7 +17,7 @@
 //! // No message came for a time: a watchdog and its answer.
 //! exchanged(alloc, &mut initiator, Event::Tick, &mut responder)?;
 //!
-//! // The initiator goes.
+//! // The initiator closes.
 //! let cause = Event::Stop(Cause::Rebooting);
 //! exchanged(alloc, &mut initiator, cause, &mut responder)?;
 //! assert_eq!(rt; initiator.state(), State::Closed);

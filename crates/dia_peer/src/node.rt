@@ -129,7 +129,7 @@ impl Node {
     }
 }
 
-/// The application that stands for all.
+/// The application that means all.
 fn all(alloc: Global) -> Result<Vec<(Kind, u32)>, AllocError>
     ensures { IfOk result (λ pairs. pairs_of pairs.items ≡ all) }
 {

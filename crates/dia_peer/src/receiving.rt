@@ -19,7 +19,7 @@ use dia_wire::{HEADER_LENGTH, Header, split_message};
 use std::alloc::{AllocError, Global};
 
 impl Node {
-    /// What the bytes are. They are checked once, and the AVPs of a CER and a CEA are gone through.
+    /// What the bytes are. They are checked once, and the AVPs of a CER and a CEA are read once more.
     pub(crate) fn received(&self, bytes: &[u8]) -> Result<Incoming, AllocError>
         ensures { IfOk result (λ what. IsReceived bytes.now (received_of bytes.now what)) }
     {

@@ -1,4 +1,4 @@
-//! A pair that fails a test, and what the words of its hints stand for.
+//! A pair that fails a test, and the values of the words in its hints.
 
 use crate::books::{
     Known, Level, Wanted, avp_of, command_at, definition, find_avp, find_command, name_of, rule_at,
@@ -19,8 +19,8 @@ use dia_inclusion::{Failing, PairKind};
 pub struct Pair<'a> {
     pub pairing: &'a Pairing<'a>,
     pub failing: Failing,
-    /// The definitions of the commands, or of AVPs that are groups. Where a command of the second isn't beside that of the first,
-    /// it is the second here.
+    /// The definitions of the commands, or of AVPs that are groups. Where a command of the second doesn't match that of the
+    /// first, it is the second here.
     pub x: Option<&'a Definition>,
     pub y: Option<&'a Definition>,
     /// The AVPs of a pair of AVPs.
@@ -70,7 +70,7 @@ impl<'a> Pair<'a> {
         }
     }
 
-    /// The places of the rules that lines and hints speak of, in the first's definition and in the second's.
+    /// The places of the rules that lines and hints name, in the first's definition and in the second's.
     pub fn places(&self) -> (Option<usize>, Option<usize>) {
         match self.failing {
             Failing::Fixed { first, second } | Failing::WildcardLeast { first, second } => (
@@ -124,7 +124,7 @@ impl<'a> Pair<'a> {
         }
     }
 
-    /// The name or the option that a word stands for.
+    /// The name or the option that is the value of a word.
     fn text_for(&self, word: Word) -> &str {
         let pairing = self.pairing;
         match word {
@@ -159,7 +159,7 @@ impl<'a> Pair<'a> {
         }
     }
 
-    /// Adds what a word about the AVP of the failing stands for: its code and vendor, or its name in one of the dictionaries.
+    /// Adds the value of a word about the AVP of the failing: its code and vendor, or its name in one of the dictionaries.
     fn push_key_word(&self, note: &mut Note, word: Word) {
         let Some(key) = self.key() else {
             return;
@@ -171,7 +171,7 @@ impl<'a> Pair<'a> {
         }
     }
 
-    /// Adds what a word about two AVPs stands for: the rule of the second's M flag, or a value that it doesn't accept.
+    /// Adds the value of a word about two AVPs: the rule of the second's M flag, or a value that it doesn't accept.
     fn push_avp_word(&self, note: &mut Note, word: Word) {
         let (Some(first), Some(second)) = (self.first_avp, self.second_avp) else {
             return;

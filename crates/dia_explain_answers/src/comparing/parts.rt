@@ -46,7 +46,7 @@ fn push_of_definition(note: &mut Note, pair: &Pair<'_>, part: Word, told: &str) 
     }
 }
 
-/// Adds a line about an AVP, or about a dictionary that doesn't have it.
+/// Adds a line about an AVP, or about a dictionary that doesn't know it.
 fn push_of_avp(note: &mut Note, pair: &Pair<'_>, part: Word, told: &str) {
     let side = match part {
         Word::Own | Word::A => &pair.pairing.a,

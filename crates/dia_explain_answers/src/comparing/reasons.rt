@@ -1,6 +1,6 @@
-//! What is told of each failing: a line for each part of the dictionaries that shows it, and what to do.
+//! The diagnostic of each failing: a line for each part of the dictionaries that shows it, and the hint.
 //!
-//! A line is `PART: TEXT`, and is told where there is such a part:
+//! A line is `PART: TEXT`, and is reported where there is such a part:
 //!
 //! | Part | Is |
 //! |---|---|
@@ -10,7 +10,7 @@
 //! | `taken` | the rule of `y` that the failing is about |
 //! | `wildcard` | the rule of `y` for AVP |
 //! | `own`, `other` | the AVP that the failing is about, in the first dictionary and in the second |
-//! | `lack` | the second dictionary, if it doesn't have that AVP |
+//! | `lack` | the second dictionary, if it doesn't know that AVP |
 //! | `a`, `b` | the two AVPs of a pair of AVPs |
 //! | `hint` | what to do |
 
@@ -20,7 +20,7 @@ use dia_breaking_data::witness;
 use dia_check::Unknown;
 use dia_inclusion::Failing;
 
-/// The lines about a failing, with what to do where this is the same for all of its kind: here of the tests N1 to N5.
+/// The lines about a failing, with the hint where it is the same for all of its kind: here of the tests N1 to N5.
 pub fn lines_of(failing: Failing) -> &'static str {
     match failing {
         Failing::Fixed { .. } => "sent: {name} sends {counts} of {counted}, by {rule}\n\
@@ -104,7 +104,7 @@ fn lines_of_heads(failing: Failing) -> &'static str {
     }
 }
 
-/// What is told behind these lines: of kinds of failing whose lines or hints aren't all the same.
+/// What follows these lines: for kinds of failing whose lines or hints aren't all the same.
 pub fn more_of(pair: &Pair<'_>) -> &'static str {
     match pair.failing {
         Failing::Fixed { first, second } => hint_of_fixed(pair, first, second),

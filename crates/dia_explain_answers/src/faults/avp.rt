@@ -1,4 +1,4 @@
-//! What is told of an AVP by itself: its length, its flags, and its data.
+//! The diagnostic of an AVP by itself: its length, its flags, and its data.
 
 use crate::books::{Known, Wanted, find_avp};
 use crate::faults::avp_bytes::{flags_of, part, push_hex};
@@ -11,7 +11,7 @@ use dia_explain_places::Note;
 use dia_terms::{FormatName, format_words};
 use dia_wire::{AVP_MANDATORY, next_avp};
 
-/// What is wrong with data that its format doesn't accept, and on the line behind it what to do.
+/// What is wrong with data that its format doesn't accept, and on the next line the hint.
 pub fn text_of_value(format: &Format, data: &[u8]) -> &'static str {
     match format {
         Format::Enumerated(_) => "{subject} has the value {value}, which isn't in its list\n\
@@ -47,7 +47,7 @@ pub fn data_of<'a>(scene: &InBody<'a>) -> &'a [u8] {
     }
 }
 
-/// Adds what a word about the AVP of a fault stands for, or about the bytes of it.
+/// Adds the value of a word about the AVP of a fault, or about the bytes of it.
 pub fn push_avp_word(note: &mut Note, scene: &InBody<'_>, word: Word) {
     let Some(key) = scene.key() else {
         return;
@@ -71,7 +71,7 @@ fn push_other_vendor(note: &mut Note, scene: &InBody<'_>) {
     }
 }
 
-/// What the M flag of the AVP at the front of some bytes is.
+/// What the M flag of the AVP at the start of some bytes is.
 fn flag_word(own: &[u8]) -> &'static str {
     if flags_of(own) & AVP_MANDATORY != 0 {
         "set"
@@ -80,7 +80,7 @@ fn flag_word(own: &[u8]) -> &'static str {
     }
 }
 
-/// Adds what a word about the declaration of that AVP stands for, or about data that isn't as it says.
+/// Adds the value of a word about the declaration of that AVP, or about data that isn't as it says.
 pub fn push_declared_word(note: &mut Note, scene: &InBody<'_>, word: Word) {
     let Some(avp) = scene.avp() else {
         return;
@@ -112,7 +112,7 @@ fn push_bad_bytes(note: &mut Note, format: &Format, data: &[u8], count: usize) {
     push_hex(note, part(data, bad, bad.saturating_add(count)))
 }
 
-/// How many bytes at the front of some data a format of characters accepts.
+/// How many of the first bytes of some data a format of characters accepts.
 fn accepted_front(format: &Format, data: &[u8]) -> usize {
     match (format, str::from_utf8(data)) {
         (Format::Utf8String, Err(error)) => error.valid_up_to(),
@@ -120,7 +120,7 @@ fn accepted_front(format: &Format, data: &[u8]) -> usize {
     }
 }
 
-/// How many bytes at the front are characters of ASCII without spaces.
+/// How many of the first bytes are characters of ASCII without spaces.
 fn graphic_front(data: &[u8]) -> usize {
     for (at, byte) in data.iter().enumerate() {
         if !byte.is_ascii_graphic() {

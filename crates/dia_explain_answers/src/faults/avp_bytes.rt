@@ -17,14 +17,14 @@ static FLAGS: [(u8, &str); 3] = [
     (AVP_PROTECTED, " P"),
 ];
 
-/// The place of an AVP in a message, its bytes, and what may stand behind it.
+/// The place of an AVP in a message, its bytes, and what may follow it.
 #[derive(Clone, Copy)]
 struct AvpBytes<'a> {
     at: usize,
     bytes: &'a [u8],
 }
 
-/// Adds a line with the place of an AVP and its fields, as far as they are there: in decimal, and in hexadecimal.
+/// Adds a line with the place of an AVP and its fields, as far as they are present: in decimal, and in hexadecimal.
 pub fn push_avp(note: &mut Note, at: usize, bytes: &[u8]) {
     let fields = if bytes.len() < FLAGS_END {
         "  at {at}: bytes {bytes}\n"
@@ -96,12 +96,12 @@ fn value_of(bytes: &[u8]) -> u32 {
     value
 }
 
-/// The AVP Length of the AVP at the front of some bytes.
+/// The AVP Length of the AVP at the start of some bytes.
 pub fn length_of(own: &[u8]) -> usize {
     value_of(part(own, 5, 8)) as usize
 }
 
-/// The Vendor-ID of the AVP at the front of some bytes, or 0.
+/// The Vendor-ID of the AVP at the start of some bytes, or 0.
 pub fn vendor_of(own: &[u8]) -> u32 {
     if head_of(own) == VENDOR_AVP_HEAD_LENGTH {
         value_of(part(own, 8, 12))
@@ -110,7 +110,7 @@ pub fn vendor_of(own: &[u8]) -> u32 {
     }
 }
 
-/// How many bytes the AVP at the front of some bytes has before its data.
+/// How many bytes the AVP at the start of some bytes has before its data.
 pub fn head_of(own: &[u8]) -> usize {
     if flags_of(own) & AVP_VENDOR != 0 {
         VENDOR_AVP_HEAD_LENGTH
@@ -119,7 +119,7 @@ pub fn head_of(own: &[u8]) -> usize {
     }
 }
 
-/// The flags of the AVP at the front of some bytes, or 0.
+/// The flags of the AVP at the start of some bytes, or 0.
 pub fn flags_of(own: &[u8]) -> u8 {
     match own.get(4) {
         Some(flags) => *flags,
@@ -127,7 +127,7 @@ pub fn flags_of(own: &[u8]) -> u8 {
     }
 }
 
-/// The bytes from one place up to another, as far as they are there.
+/// The bytes from one place up to another, as far as they are present.
 pub fn part(bytes: &[u8], from: usize, to: usize) -> &[u8] {
     let end = to.min(bytes.len());
     bytes.get(from..end).unwrap_or(b"".as_slice())

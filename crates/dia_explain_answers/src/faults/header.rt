@@ -1,4 +1,4 @@
-//! What is told of a message whose header has a fault.
+//! The diagnostic of a message whose header has a fault.
 
 use crate::applications::application_of;
 use crate::books::{Level, Wanted, command_at, definition, find_command, name_of};
@@ -11,7 +11,7 @@ use dia_check::{Reason, class_of};
 use dia_explain_places::Note;
 use dia_wire::{COMMAND_ERROR, COMMAND_PROXIABLE, COMMAND_REQUEST, COMMAND_RETRANSMITTED, Header};
 
-/// How many applications are told.
+/// How many applications are reported.
 const TOLD: usize = 5;
 
 /// The fields by which a command is found.
@@ -29,7 +29,7 @@ static FLAGS: [(u8, &str); 4] = [
     (COMMAND_RETRANSMITTED, " T"),
 ];
 
-/// A header, and a command that its texts speak of.
+/// A header, and a command that its texts name.
 #[derive(Clone, Copy)]
 struct InHeader<'a> {
     side: &'a Side<'a>,
@@ -37,7 +37,7 @@ struct InHeader<'a> {
     command: Option<&'a Definition>,
 }
 
-/// Adds what is wrong with a header, its fields, where the dictionary says otherwise, and what to do.
+/// Adds what is wrong with a header, its fields, where the dictionary says otherwise, and the hint.
 pub fn push_header_fault(note: &mut Note, side: &Side<'_>, header: &Header, reason: Reason) {
     let command = match reason {
         Reason::Command => find_command(side.book, Wanted::Code(header.code)),
@@ -121,7 +121,7 @@ impl InHeader<'_> {
         }
     }
 
-    /// The text that a word stands for.
+    /// The text that is the value of a word.
     fn text_for(&self, word: Word) -> &str {
         match word {
             Word::Class => match class_of(self.header) {

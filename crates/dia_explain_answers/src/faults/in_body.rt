@@ -16,7 +16,7 @@ use dia_book::Key;
 use dia_check::{Fault, Levels, Reason, Subject};
 use dia_explain_places::Note;
 
-/// How many groups are told at each end of a long way.
+/// How many groups are reported at each end of a long way.
 const TOLD: usize = 4;
 
 /// A fault in the body of a message.
@@ -27,7 +27,7 @@ pub struct InBody<'a> {
     pub asked: &'a Asked,
     pub fault: &'a Fault,
     pub body: Level,
-    /// The name of what the outermost group stands in.
+    /// The name of what contains the outermost group.
     pub outermost: &'a str,
     /// The groups around the level of the fault, the outermost first.
     pub groups: &'a [Group],
@@ -64,7 +64,7 @@ impl<'a> InBody<'a> {
         }
     }
 
-    /// Adds what is wrong, where in the message and in the dictionary, and what to do.
+    /// Adds what is wrong, where in the message and in the dictionary, and the hint.
     pub fn push(&self, note: &mut Note) {
         let text = text_in_body(self);
         let (fault, hint) = text.split_once('\n').unwrap_or((text, ""));

@@ -1,4 +1,4 @@
-//! What is told of a place where no AVP begins.
+//! The diagnostic of a place where no AVP begins.
 
 use crate::faults::avp_bytes::{head_of, length_of, part, vendor_of};
 use crate::faults::in_body::InBody;
@@ -6,7 +6,7 @@ use crate::texts::Word;
 use dia_book::Key;
 use dia_explain_places::{Note, Unpadded, find_unpadded};
 
-/// Adds what a word about the lengths of AVPs stands for.
+/// Adds the value of a word about the lengths of AVPs.
 pub fn push_length_word(note: &mut Note, scene: &InBody<'_>, word: Word) {
     let own = scene.own();
     match word {
@@ -14,7 +14,7 @@ pub fn push_length_word(note: &mut Note, scene: &InBody<'_>, word: Word) {
         Word::Longest => note.put_number((own.len() / 4 * 4) as u64),
         Word::Length => note.put_number(length_of(own) as u64),
         Word::Head => note.put_number(head_of(own) as u64),
-        // what to do about a length, by the AVP without padding that may have led here
+        // the hint about a length, by the AVP without padding that may have led here
         _ => match find_unpadded(scene.bytes().1) {
             Some(found) => push_unpadded(note, scene, &found),
             None => note.put(

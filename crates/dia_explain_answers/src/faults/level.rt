@@ -8,8 +8,7 @@ use dia_check::{Reason, Subject};
 use dia_dict::IndexedBook;
 use dia_wire::{Avps, HEADER_LENGTH, key, next_avp};
 
-/// A rule that counts the AVP of a fault: its place in the definition, the rule, and how many AVPs in front of the fault it
-/// counts.
+/// A rule that counts the AVP of a fault: its place in the definition, the rule, and how many AVPs before the fault it counts.
 #[derive(Clone, Copy)]
 pub struct Counting {
     pub place: usize,
@@ -47,8 +46,8 @@ impl<'a> InBody<'a> {
         definition(self.side.book, self.level().0)
     }
 
-    /// This fault, inside those of the open groups that are around its level: that goes on behind the place, or it ends there and
-    /// lacks the AVP of the fault.
+    /// This fault in the innermost of its open groups that continues after the place, or ends there and lacks the AVP of the
+    /// fault; else in the body.
     pub fn in_level(&self) -> Self {
         let place = self.fault.place as usize;
         let mut fault = *self;
@@ -65,7 +64,7 @@ impl<'a> InBody<'a> {
         fault
     }
 
-    /// The rule that counts the AVP of the fault in the level. An AVP that no rule names goes by the wildcard's.
+    /// The rule that counts the AVP of the fault in the level. For an AVP that no rule names it is the wildcard's.
     fn rule(&self) -> Option<Counting> {
         let (level, begin, _) = self.level();
         let own = match self.key() {
@@ -85,7 +84,7 @@ impl<'a> InBody<'a> {
         })
     }
 
-    /// Whether the level has fewer AVPs than the rule for the AVP of the fault wants.
+    /// Whether the level has fewer AVPs than the rule for the AVP of the fault requires.
     fn lacks(&self) -> bool {
         match self.counting {
             Some(Counting { rule, found, .. }) if self.fault.reason == Reason::Missing => {
@@ -108,7 +107,7 @@ fn count(book: &IndexedBook, level: Level, own: Slot, avps: &[u8]) -> u32 {
     found
 }
 
-/// How many bytes stand in front of the first AVP with one of these keys, and its key.
+/// How many bytes precede the first AVP with one of these keys, and its key.
 pub fn find_key(avps: &[u8], keys: &[Key]) -> Option<(usize, Key)> {
     let mut rest = avps;
     for _ in avps {
@@ -124,8 +123,7 @@ pub fn find_key(avps: &[u8], keys: &[Key]) -> Option<(usize, Key)> {
     None
 }
 
-/// How many bytes stand in front of the first AVP that the dictionary doesn't have, of the code of a key and another vendor; and
-/// this vendor.
+/// How many bytes precede the first unknown AVP of the code of a key and another vendor; and this vendor.
 pub fn find_other_vendor(book: &IndexedBook, avps: &[u8], wanted: Key) -> Option<(usize, u32)> {
     let mut rest = avps;
     for _ in avps {

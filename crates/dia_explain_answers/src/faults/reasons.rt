@@ -1,5 +1,5 @@
-//! What is told of each reason: what its texts are about, and the texts. A text has what is wrong, and on the line behind it
-//! what to do. What the words in braces stand for, the other files here say.
+//! The diagnostic of each reason: what its texts are about, and the texts. A text says what is wrong and, on the next line, has
+//! the hint. The values of the words in braces are in the other files here.
 
 use crate::faults::avp::{data_of, same_code, text_of_value};
 use crate::faults::avp_bytes::{head_of, length_of};
@@ -13,7 +13,7 @@ use dia_wire::{AVP_HEAD_LENGTH, Header};
 /// What the texts of a reason are about.
 #[derive(Clone, Copy)]
 pub enum Topic {
-    /// Bytes that are no message, of which other notes tell.
+    /// Bytes that are no message, which other diagnostics report.
     Bytes,
     /// The flags of a header.
     Flags,
@@ -95,7 +95,7 @@ fn text_of_length(scene: &InBody<'_>) -> &'static str {
     }
 }
 
-/// Of AVPs that don't stand as the rules of their level say.
+/// Of AVPs that aren't as the rules of their level say.
 fn text_of_rule(scene: &InBody<'_>) -> &'static str {
     let Some(Counting { rule, .. }) = scene.counting else {
         return match scene.avp() {

@@ -1,4 +1,4 @@
-//! What is told of a request that looks like an answer.
+//! The diagnostic of a request that looks like an answer.
 
 use crate::books::{Level, slot};
 use crate::faults::level::find_key;

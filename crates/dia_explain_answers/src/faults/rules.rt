@@ -1,4 +1,4 @@
-//! What is told where AVPs don't stand as the rules of a definition say.
+//! The diagnostic of AVPs that aren't as the rules of a definition say.
 
 use crate::faults::in_body::InBody;
 use crate::faults::level::{Counting, find_key, find_other_vendor};
@@ -7,22 +7,21 @@ use crate::texts::Word;
 use dia_book::{DRule, RuleKind};
 use dia_explain_places::Note;
 
-/// Where the AVP that is missing stands.
+/// The place of the AVP that is missing, if one follows the fault.
 pub fn place_behind(scene: &InBody<'_>) -> Option<usize> {
     let key = scene.key()?;
     let (behind, _) = find_key(scene.own(), &[key])?;
     Some((scene.fault.place as usize).saturating_add(behind))
 }
 
-/// The place of an AVP in the level that the dictionary doesn't have, of the code of the one that is missing and another vendor; and
-/// this vendor.
+/// The place of an unknown AVP in the level, of the code of the one that is missing and another vendor; and this vendor.
 pub fn other_vendor(scene: &InBody<'_>) -> Option<(usize, u32)> {
     let (begin, bytes) = scene.bytes();
     let (at, vendor) = find_other_vendor(scene.side.book, bytes, scene.key()?)?;
     Some((begin.saturating_add(at), vendor))
 }
 
-/// Adds what a word about the AVP of that code stands for.
+/// Adds the value of a word about the AVP of that code.
 pub fn push_other_word(note: &mut Note, scene: &InBody<'_>, word: Word) {
     let Some((at, vendor)) = other_vendor(scene) else {
         return;
@@ -33,7 +32,7 @@ pub fn push_other_word(note: &mut Note, scene: &InBody<'_>, word: Word) {
     }
 }
 
-/// Adds what a word about the rule that counts the AVP of a fault stands for.
+/// Adds the value of a word about the rule that counts the AVP of a fault.
 pub fn push_rule_word(note: &mut Note, scene: &InBody<'_>, word: Word) {
     let Some(Counting { rule, found, .. }) = &scene.counting else {
         return;
@@ -52,7 +51,7 @@ pub fn push_rule_word(note: &mut Note, scene: &InBody<'_>, word: Word) {
     }
 }
 
-/// Adds how many AVPs a rule wants.
+/// Adds how many AVPs a rule requires.
 fn push_wanted(note: &mut Note, rule: &DRule) {
     if rule.max != Some(rule.min) {
         note.put("at least ");
@@ -60,7 +59,7 @@ fn push_wanted(note: &mut Note, rule: &DRule) {
     note.put_number(u64::from(rule.min))
 }
 
-/// Adds how many AVPs may stand.
+/// Adds how many AVPs are allowed.
 fn push_most(note: &mut Note, max: Option<u32>) {
     match max {
         Some(most) if most > 0 => {

@@ -1,4 +1,4 @@
-//! What is told of a message whose listing ends at a place where no AVP begins.
+//! The diagnostic of a message whose listing ends at a place where no AVP begins.
 
 use crate::applications::application_of;
 use crate::books::Level;
@@ -51,8 +51,8 @@ pub fn push_show(note: &mut Note, texts: &InputTexts<'_>, cut: &CutListing) {
     }
 }
 
-/// Adds how all AVPs of a message are named, where the base dictionary, by which it was shown, doesn't have each of them. `sign`
-/// is what stands for a name.
+/// Adds how all AVPs of a message are named, where the base dictionary, by which it was shown, doesn't know each of them. `sign`
+/// is shown in place of a name.
 pub fn push_unnamed(note: &mut Note, message: &[u8], sign: &str) {
     let Ok((header, _)) = read_header(message) else {
         return;

@@ -21,7 +21,7 @@ pub struct Walk {
     pub groups: Vec<Group>,
     /// The place: the message was read up to here.
     pub at: usize,
-    /// Whether the dictionary lacks an AVP in front of the place.
+    /// Whether the dictionary lacks an AVP before the place.
     pub has_unnamed: bool,
 }
 
@@ -47,7 +47,7 @@ pub fn walk_to<B: Book>(
 }
 
 impl Walk {
-    /// Goes past the next AVP, into a group, or out of one that is at its end. Answers whether the walk goes on.
+    /// Goes past the next AVP, into a group, or out of one that is at its end. Answers whether the walk continues.
     fn advance<B: Book>(&mut self, book: &B, message: &[u8]) -> Result<bool, AllocError> {
         let end = match self.groups.last() {
             Some(group) => group.end,
@@ -63,7 +63,7 @@ impl Walk {
         }
     }
 
-    /// Goes past an AVP, behind which the level goes on at `behind`, or into it.
+    /// Goes past an AVP, after which the level continues at `behind`, or into it.
     fn pass<B: Book>(&mut self, book: &B, avp: &Avp<'_>, behind: usize) -> Result<(), AllocError> {
         let key = key(avp);
         let place = self.at;

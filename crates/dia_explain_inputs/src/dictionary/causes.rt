@@ -1,4 +1,4 @@
-//! What to do about a token that is refused, where the cause is a common one.
+//! Hints about a token that is refused, where the cause is a common one.
 
 use crate::dictionary::scene::Scene;
 use crate::hints::hint_of;
@@ -12,7 +12,7 @@ const DICTIONARY: &str =
     "a dictionary has lines %avp NAME CODE [vendor N] FORMAT RULE, and definitions <NAME> ::= < .. > \
     with their rules: `diacmd render @base` prints one";
 
-/// Adds what to do about the token, if that is known.
+/// Adds the hint about the token, if there is one.
 pub fn push_cause(note: &mut Note, scene: &Scene<'_>) {
     if let Some(hint) = hint_of_text("dictionary", scene.text) {
         note.put_hint(hint);
@@ -25,7 +25,7 @@ pub fn push_cause(note: &mut Note, scene: &Scene<'_>) {
     }
 }
 
-/// The format that is meant, where one is wanted and another word stands.
+/// The format that is meant, where one is wanted and another word is found.
 fn format_meant(scene: &Scene<'_>) -> Option<&'static str> {
     if scene.place != "Format" && scene.place != "VendorOrFormat" {
         return None;
@@ -48,7 +48,7 @@ fn hint_at(scene: &Scene<'_>) -> Option<&'static str> {
     }
 }
 
-/// Which hints go before those of the place: a comment stands before it in a header, a longer word than %avp before a name where
+/// Which hints precede those of the place: a comment comes before it in a header, a longer word than %avp before a name where
 /// the code is wanted, a format before the code, or the words must and not.
 fn before(scene: &Scene<'_>) -> &'static str {
     let (Some(earlier), Some(last)) = (scene.earlier, scene.last) else {
@@ -68,7 +68,7 @@ fn before(scene: &Scene<'_>) -> &'static str {
     }
 }
 
-/// Whether a format stands at the place, and behind it a number that no format follows.
+/// Whether a format is at the place, followed by a number that no format follows.
 fn is_format_first(scene: &Scene<'_>) -> bool {
     let number = scene.behind(scene.token);
     is_format(scene, scene.token)
@@ -76,7 +76,7 @@ fn is_format_first(scene: &Scene<'_>) -> bool {
         && !is_format(scene, behind_code(scene, number))
 }
 
-/// The token behind a code, and behind a vendor, if one is told.
+/// The token after a code, and after a vendor, if there is one.
 fn behind_code(scene: &Scene<'_>, code: Option<Lexeme>) -> Option<Lexeme> {
     let next = scene.behind(code);
     if scene.word(next) == b"vendor".as_slice() {
@@ -93,7 +93,7 @@ fn is_format(scene: &Scene<'_>, token: Option<Lexeme>) -> bool {
     }
 }
 
-/// Which hints go behind those of the place: what a text seems to be where a token stands behind a name that begins a definition.
+/// Which hints follow those of the place: what a text seems to be where a token follows a name that begins a definition.
 fn behind(scene: &Scene<'_>) -> &'static str {
     let sight = scene.sight();
     if scene.place != "Assign" {
@@ -107,8 +107,8 @@ fn behind(scene: &Scene<'_>) -> &'static str {
     }
 }
 
-/// Adds where the last word stands that was taken, if it stands on another line: at the end of the text, and where the bracket
-/// behind a name is wanted.
+/// Adds where the last accepted word is, if it is on another line: at the end of the text, and where the bracket after a name is
+/// wanted.
 fn push_last(note: &mut Note, scene: &Scene<'_>) {
     let Some(last) = scene.last else {
         return;

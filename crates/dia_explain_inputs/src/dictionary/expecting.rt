@@ -1,10 +1,10 @@
-//! What can stand at a place, as it is told, and how hints name the place.
+//! What may come at a place, as it is reported, and how hints name the place.
 
 use dia_ccf::{InDeclaration, InDefinition, InHead, InRules, Wanted};
 use dia_explain_places::{Note, expected};
 use dia_terms::format_words;
 
-/// Which number can stand at a place where other tokens can, too.
+/// Which number may come at a place where other tokens may, too.
 pub fn number_at(wanted: Wanted) -> Option<&'static str> {
     Some(match wanted {
         Wanted::Rules(InRules::Rule { .. } | InRules::Angled { .. }) => "a least count below 2^32",
@@ -17,7 +17,7 @@ pub fn number_at(wanted: Wanted) -> Option<&'static str> {
     })
 }
 
-/// Adds what can stand at a place.
+/// Adds what may come at a place.
 pub fn push_expected(note: &mut Note, wanted: Wanted) {
     // The items, and what they have in common, if they are words of a sort.
     let (sort, items) = match wanted {
@@ -35,7 +35,7 @@ pub fn push_expected(note: &mut Note, wanted: Wanted) {
     push_items(note, items, last);
 }
 
-/// Adds items, with this in front of the last of several.
+/// Adds items, with `last` before the last of several.
 fn push_items(note: &mut Note, items: &[&str], last: &str) {
     let mut left = items.len();
     let mut between = "";

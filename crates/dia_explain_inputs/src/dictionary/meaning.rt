@@ -1,4 +1,4 @@
-//! What is told of a dictionary text that is well formed, and names no dictionary.
+//! The diagnostic of a dictionary text that is well formed, and names no dictionary.
 
 ghost use Rattle.std.specs.Prelude.{IfSome, slice_get};
 ghost use Rattle.dia_explain_places.specs.Parts.{part_place};
@@ -20,7 +20,7 @@ use std::alloc::{AllocError, Global};
 use texts::{push_filled, text_of};
 use told::{ToldFault, told_faults};
 
-/// The most faults that are told.
+/// The most faults that are reported.
 const MOST: usize = 50;
 
 /// The most names that are listed where they are too many for a fault each.
@@ -38,7 +38,7 @@ pub fn push_meaning(note: &mut Note, name: &str, text: &str, wrong: &WrongSource
     }
 }
 
-/// Adds these faults, behind the place of the first.
+/// Adds these faults, after the place of the first.
 fn push_findings(note: &mut Note, parts: &Parts<'_>, findings: &[Finding<'_>])
     ensures { IfSome (slice_get findings.now 0) (λ first. BeginsWith (start_text parts.now.name.now parts.now.text.now
         (part_place parts.now.text.now parts.now.source.now first.part)) note.old note.new) }
@@ -54,7 +54,7 @@ fn push_findings(note: &mut Note, parts: &Parts<'_>, findings: &[Finding<'_>])
     push_made(note, &input, parts.at(first.part), told);
 }
 
-/// What is told of all faults, behind the place of the first.
+/// The diagnostic of all faults, after the place of the first.
 fn told_of<'a>(
     alloc: Global,
     parts: &Parts<'a>,
@@ -68,7 +68,7 @@ fn told_of<'a>(
     told.finish()
 }
 
-/// Adds the first faults one by one, the place of the very first left out. What helps with each fault of a kind is told once.
+/// Adds the first faults one by one, without the place of the very first. The hint for each kind of fault is given once.
 fn push_first(note: &mut Note, parts: &Parts<'_>, names: &[&str], faults: &[ToldFault<'_>]) {
     let mut advised = None;
     let mut is_first = true;
@@ -82,7 +82,7 @@ fn push_first(note: &mut Note, parts: &Parts<'_>, names: &[&str], faults: &[Told
     }
 }
 
-/// Adds a fault with the place of what it doesn't go with, and what helps, unless faults of the kind have it already. Answers the
+/// Adds a fault with the place of what it doesn't match, and the hint, unless faults of the kind have it already. Answers the
 /// kind that has it.
 fn push_fault(
     note: &mut Note,
@@ -114,12 +114,12 @@ fn push_place(note: &mut Note, place: Option<Place>) {
     note.put("\n");
 }
 
-/// Whether what helps with faults of a kind is told, where it is the same for all of them.
+/// Whether the hint for faults of a kind is given, where it is the same for all of them.
 fn is_advised(kind: DictKind, advised: Option<DictKind>) -> bool {
     kind != DictKind::NoGroupFormat && advised == Some(kind)
 }
 
-/// Adds where an undefined name may come from, the base dictionary or a slip, and tells whether that is known.
+/// Adds where an undefined name may come from, the base dictionary or a slip, and returns whether that is known.
 fn push_meant(note: &mut Note, names: &[&str], fault: &ToldFault<'_>) -> bool {
     let told = &fault.finding.told;
     if !matches!(told.kind, DictKind::UndefinedName) {
@@ -137,7 +137,7 @@ fn push_meant(note: &mut Note, names: &[&str], fault: &ToldFault<'_>) -> bool {
     }
 }
 
-/// Adds that the base dictionary has an AVP of this name, and tells whether it has.
+/// Adds that the base dictionary has an AVP of this name, and returns whether it has.
 fn push_of_base(note: &mut Note, name: &str) -> bool {
     if let Some(line) = line_of_base("%avp ", name, " ") {
         note.put_all(&["hint: the base dictionary declares it: ", line, "\n"]);
@@ -150,7 +150,7 @@ fn push_of_base(note: &mut Note, name: &str) -> bool {
     is_group
 }
 
-/// The line of the base dictionary that has this in front of a name, and this behind it.
+/// The line of the base dictionary that has `front` before a name, and `behind` after it.
 fn line_of_base(front: &str, name: &str, behind: &str) -> Option<&'static str> {
     for line in base_text().lines() {
         if is_line_of(line, front, name, behind) {
@@ -170,7 +170,7 @@ fn is_line_of(line: &str, front: &str, name: &str, behind: &str) -> bool {
     }
 }
 
-/// Adds how many faults more there are, and which names are undefined besides.
+/// Adds how many faults more there are, and which other names are undefined.
 fn push_rest(note: &mut Note, name: &str, faults: &[ToldFault<'_>]) {
     let Some(rest) = faults.get(MOST..) else {
         return;
@@ -190,7 +190,7 @@ fn push_rest(note: &mut Note, name: &str, faults: &[ToldFault<'_>]) {
     }
 }
 
-/// Adds the first undefined names of faults. Answers how many these are.
+/// Adds the first undefined names of faults. Returns how many these are.
 fn push_undefined(note: &mut Note, faults: &[ToldFault<'_>]) -> usize {
     let mut count = 0usize;
     let mut between = "hint: these names aren't defined either: ";

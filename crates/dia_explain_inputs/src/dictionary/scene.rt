@@ -7,7 +7,7 @@ use crate::notes::push_quoted;
 use dia_ccf::{CcfFault, InRules, Kind, Lexeme, Misfit, Wanted, next_lexeme};
 use dia_explain_places::{Note, back, place_of as place_in};
 
-/// How many bytes of a token are told.
+/// How many bytes of a token are shown.
 const SHOWN: usize = 60;
 
 /// A text that is refused.
@@ -15,7 +15,7 @@ const SHOWN: usize = 60;
 pub struct Scene<'a> {
     pub text: &'a [u8],
     pub misfit: &'a Misfit,
-    /// What could stand at the place, as hints name it.
+    /// What could come at the place, as hints name it.
     pub place: &'static str,
     /// The token at the place, or none at the end of the text.
     pub token: Option<Lexeme>,
@@ -50,12 +50,12 @@ impl<'a> Scene<'a> {
         bytes.unwrap_or(b"".as_slice())
     }
 
-    /// The token behind another.
+    /// The token after another.
     pub fn behind(&self, token: Option<Lexeme>) -> Option<Lexeme> {
         next_lexeme(str::from_utf8(self.text).ok()?, token?.end)
     }
 
-    /// The name in angle brackets that was read as that of a definition, where `::=` is wanted behind it on a later line.
+    /// The name in angle brackets that was read as that of a definition, where `::=` is wanted after it on a later line.
     pub fn late_name(&self) -> Option<Lexeme> {
         let name = self.earlier?;
         match self.misfit.wanted {
@@ -67,7 +67,7 @@ impl<'a> Scene<'a> {
         }
     }
 
-    /// The token, as signs of hints speak of it.
+    /// The token, as signs of hints name it.
     pub fn sight(&self) -> Sight<'a> {
         let word = self.word(self.token);
         let kind = match self.token {
@@ -112,7 +112,7 @@ impl<'a> Scene<'a> {
         }
     }
 
-    /// Adds the token in quotes, if there is one. Of a character that no text has all bytes are told.
+    /// Adds the token in quotes, if there is one. Of a character that no text has all bytes are shown.
     fn push_token(&self, note: &mut Note) {
         let Sight { word, rest, .. } = self.sight();
         if word.is_empty() {

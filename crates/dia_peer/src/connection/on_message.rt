@@ -179,7 +179,7 @@ impl Core {
         }
     }
 
-    /// The CER that was taken gets its CEA again.
+    /// The CER that was accepted gets its CEA again.
     fn repeats(&self, bytes: &[u8]) -> Result<Vec<Output>, AllocError>
         ensures { IfOk result
             (λ outputs. Does (repeated self.now bytes.now self.now.taken) outputs.items self.now) }

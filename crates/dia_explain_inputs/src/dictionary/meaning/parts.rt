@@ -1,4 +1,4 @@
-//! The parts of a dictionary text, and where they stand in it.
+//! The parts of a dictionary text, and where they are in it.
 
 ghost use Rattle.std.specs.Prelude.{◌≡◌};
 ghost use Rattle.dia_explain_places.specs.Parts.{part_place};

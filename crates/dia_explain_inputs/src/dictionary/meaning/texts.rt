@@ -1,4 +1,4 @@
-//! What is told of each fault of meaning, and on the line behind it what helps. A word between two `$` stands for a value of the
+//! The diagnostic of each fault of meaning and, on the next line, the hint. A word between two `$` is replaced by a value of the
 //! fault.
 
 use super::parts::Parts;

@@ -1,14 +1,14 @@
-//! The faults as they are told: each undefined name once.
+//! The faults as they are reported: each undefined name once.
 
 use dia_dict::{DictKind, Finding, Part};
 use std::alloc::{AllocError, Global};
 
 /// A fault. Of the rules for an undefined name it is the first, `more` is how many more there are, and the first of those is what
-/// it doesn't go with.
+/// it doesn't match.
 #[derive(Clone, Copy)]
 pub struct ToldFault<'a> {
     pub finding: &'a Finding<'a>,
-    /// What the fault doesn't go with, which for an undefined name the finding doesn't say.
+    /// What the fault doesn't match, which for an undefined name the finding doesn't say.
     pub other: Option<Part>,
     pub more: usize,
 }

@@ -1,4 +1,4 @@
-//! What the words of the texts on faults of meaning stand for.
+//! The values of the words in texts on faults of meaning.
 
 use super::parts::Parts;
 use super::told::ToldFault;
@@ -55,7 +55,7 @@ pub fn word_named(name: &str) -> Option<Word> {
     None
 }
 
-/// Adds what a word stands for.
+/// Adds the value of a word.
 pub fn push_value(note: &mut Note, parts: &Parts<'_>, fault: &ToldFault<'_>, word: Word) {
     let finding = fault.finding;
     match word {
@@ -68,7 +68,7 @@ pub fn push_value(note: &mut Note, parts: &Parts<'_>, fault: &ToldFault<'_>, wor
     }
 }
 
-/// Adds what a word about the part at fault stands for.
+/// Adds the value of a word about the part at fault.
 fn push_part_value(note: &mut Note, parts: &Parts<'_>, part: Option<Part>, word: Word) {
     match word {
         Word::Key => push_coded(note, parts.key(part)),
@@ -79,7 +79,7 @@ fn push_part_value(note: &mut Note, parts: &Parts<'_>, part: Option<Part>, word:
     }
 }
 
-/// The count or the limit that a word stands for.
+/// The count or the limit that is the value of a word.
 fn count_of(parts: &Parts<'_>, part: Option<Part>, word: Word) -> usize {
     let (low, high) = counts_of(parts.rule(part));
     let (rules, limit) = match parts.def(part) {

@@ -6,7 +6,7 @@ use Rattle.dia_peer.specs.declared.config.Kind.TheVariants.{Auth}
 use Rattle.dia_peer.proofs.PlacesOfPairs.{Decides, decides_at, decides_more, decides_none, decides_all}
 use Rattle.dia_peer.proofs.applications.are_distinct.Goals as goal
 
--- what stands behind the list
+-- what follows the list
 abbrev none : App
 none = record { kind = Auth; id = 0; vendor = None }
 

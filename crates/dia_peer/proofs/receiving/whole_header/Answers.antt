@@ -8,7 +8,7 @@ use Rattle.dia_wire.proofs.OneHeader.{head_says}
 use Rattle.dia_check.specs.Faults.{HasLength}
 use Rattle.dia_peer.proofs.receiving.whole_header.Goals as goal
 
--- bytes of which a fault is told are not as many as a Message Length
+-- bytes with a fault are not as many as a Message Length
 no_length : (b : List ℕ) (e : MessageFault) → (e ≡ Short → length b < 20) → (e ≡ Version → (20 ≤ length b) × (slice_index b 0 ≢ 1))
     → (e ≡ Length → (20 ≤ length b) × (slice_index b 0 ≡ 1) × ¬ IsMessageLength (number (take 3 (drop 1 b))))
     → (e ≡ Truncated → (n : ℕ) × BeginsMessage b n × (length b < n)) → (e ≡ Trailing → (n : ℕ) × BeginsMessage b n × (n < length b)) → ¬ HasLength b (length b)

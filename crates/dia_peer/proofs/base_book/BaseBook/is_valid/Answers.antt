@@ -8,7 +8,7 @@ use Rattle.dia_check.specs.declared.Refusal.TheVariants as refusal
 use Rattle.dia_valid.specs.Valid.{IsValid, IsValidOf}
 use Rattle.dia_peer.proofs.base_book.BaseBook.is_valid.Goals as goal
 
--- a valid message is refused for no other reason than memory
+-- a valid message is refused only by an allocation failure
 refused : (d : Dictionary) (bytes : List ℕ) (e : Refusal) → d ≡ base → e ≢ refusal.NoMemory → ((c : ℕ) → IsValidOf d Kept Any bytes c → e ≡ refusal.NoMemory)
     → IsTrue false ↔ IsValid base Kept Any bytes
 refused d bytes e is other only = (λ (f : IsTrue false). absurd cc, λ valid. absurd (other (only valid.0 (subst (λ (x : Dictionary). IsValidOf x Kept Any bytes valid.0) (sym is) valid.1))))
