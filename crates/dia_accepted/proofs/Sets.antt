@@ -13,7 +13,7 @@ use Rattle.std.proofs.lemmas.List.Folds.{list_any-append}
 use Rattle.indexmap.specs.IndexMap.{insert_entry}
 use Rattle.dia_accepted.specs.declared.accepting.Accepting.{Accepting}
 use Rattle.dia_accepted.specs.declared.list.Entry.{Entry}
-use Rattle.dia_accepted.specs.Accepted.{PlainEntry, PlainTold, accepts, is_about, plain_entry, unused_of}
+use Rattle.dia_accepted.specs.Accepted.{PlainEntry, PlainRecorded, accepts, is_about, plain_entry, unused_of}
 use Rattle.dia_accepted.specs.Seen.{HasSeen, entry_with, mark, unmarked}
 use Rattle.dia_accepted.specs.Sets.{bytes_of, found, has}
 use Rattle.dia_accepted.specs.Words.{anywhere, command_in, counted}
@@ -82,8 +82,8 @@ is_text x e = bytes_eq x e.counted
 abbrev mark_by : List PlainEntry → (List ℕ → Bool) → List ℕ → Option Bool
 mark_by list m x = cond (list_any (is_text x) list) (Some (m x)) None
 
-abbrev told_as : List PlainTold → List ℕ → Bool
-told_as told x = list_any (λ t. accepts t.words (entry_with x)) told
+abbrev recorded_as : List PlainRecorded → List ℕ → Bool
+recorded_as recorded x = list_any (λ t. accepts t.words (entry_with x)) recorded
 
 has_mark : (list : List PlainEntry) (m : List ℕ → Bool) (x : List ℕ) → is_some (mark_by list m x) ≡ list_any (is_text x) list
 has_mark list m x = by (list_any (is_text x) list)
@@ -143,15 +143,15 @@ regrouped false false true = refl
 regrouped false false false = refl
 
 -- both texts of a line are marked
-pub line_marked : (list : List PlainEntry) (told : List PlainTold) (t : PlainTold) (own any : List ℕ) (old mid new : List (Vec ℕ × Bool)) → own ≡ counted t.words → any ≡ anywhere t.words
-    → ((x : List ℕ) → found old x ≡ mark list told x) → ((x : List ℕ) → found mid x ≡ cond (has old own && bytes_eq x own) (Some true) (found old x))
-    → ((x : List ℕ) → found new x ≡ cond (has mid any && bytes_eq x any) (Some true) (found mid x)) → (x : List ℕ) → found new x ≡ mark list (told ++ t ∷ []) x
-line_marked list told t own any old mid new own_is any_is before first second x =
-    text_marked list (λ y. told_as told y || bytes_eq y own) mid new any (text_marked list (told_as told) old mid own before first) second x
+pub line_marked : (list : List PlainEntry) (recorded : List PlainRecorded) (t : PlainRecorded) (own any : List ℕ) (old mid new : List (Vec ℕ × Bool)) → own ≡ counted t.words → any ≡ anywhere t.words
+    → ((x : List ℕ) → found old x ≡ mark list recorded x) → ((x : List ℕ) → found mid x ≡ cond (has old own && bytes_eq x own) (Some true) (found old x))
+    → ((x : List ℕ) → found new x ≡ cond (has mid any && bytes_eq x any) (Some true) (found mid x)) → (x : List ℕ) → found new x ≡ mark list (recorded ++ t ∷ []) x
+line_marked list recorded t own any old mid new own_is any_is before first second x =
+    text_marked list (λ y. recorded_as recorded y || bytes_eq y own) mid new any (text_marked list (recorded_as recorded) old mid own before first) second x
     ∙ ap (λ (b : Bool). cond (list_any (is_text x) list) (Some b) None) (
-    (λ j. (told_as told x || bytes_eq x (own_is j)) || bytes_eq x (any_is j)) ∙ regrouped (told_as told x) (bytes_eq x (counted t.words)) (bytes_eq x (anywhere t.words))
-    ∙ (λ j. told_as told x || ((same_either_way x (counted t.words) j || same_either_way x (anywhere t.words) j) || false))
-    ∙ sym (list_any-append (λ (s : PlainTold). accepts s.words (entry_with x)) told (t ∷ []))
+    (λ j. (recorded_as recorded x || bytes_eq x (own_is j)) || bytes_eq x (any_is j)) ∙ regrouped (recorded_as recorded x) (bytes_eq x (counted t.words)) (bytes_eq x (anywhere t.words))
+    ∙ (λ j. recorded_as recorded x || ((same_either_way x (counted t.words) j || same_either_way x (anywhere t.words) j) || false))
+    ∙ sym (list_any-append (λ (s : PlainRecorded). accepts s.words (entry_with x)) recorded (t ∷ []))
     )
 
 any_either : (a b : List ℕ) (list : List PlainEntry) → (list_any (is_text a) list || list_any (is_text b) list) ≡ list_any (λ (e : PlainEntry). bytes_eq a e.counted || bytes_eq b e.counted) list
@@ -166,12 +166,12 @@ any_either a b (e ∷ list) =
     swapped false false c d = refl
 
 -- a line is accepted where the list has one of its two texts
-pub accepted_by : (list : List PlainEntry) (told : List PlainTold) (words own any : List ℕ) (old mid : List (Vec ℕ × Bool)) (first second known : Bool) → own ≡ counted words → any ≡ anywhere words
-    → ((x : List ℕ) → found old x ≡ mark list told x) → ((x : List ℕ) → found mid x ≡ cond (has old own && bytes_eq x own) (Some true) (found old x))
+pub accepted_by : (list : List PlainEntry) (recorded : List PlainRecorded) (words own any : List ℕ) (old mid : List (Vec ℕ × Bool)) (first second known : Bool) → own ≡ counted words → any ≡ anywhere words
+    → ((x : List ℕ) → found old x ≡ mark list recorded x) → ((x : List ℕ) → found mid x ≡ cond (has old own && bytes_eq x own) (Some true) (found old x))
     → first ≡ has old own → second ≡ has mid any → known ≡ (first || second) → known ≡ list_any (accepts words) list
-accepted_by list told words own any old mid first second known own_is any_is before marked is_first is_second is =
-    let one = is_first ∙ ap is_some (before own) ∙ has_mark list (told_as told) own in
-    let two = is_second ∙ ap is_some (text_marked list (told_as told) old mid own before marked any) ∙ has_mark list (λ y. told_as told y || bytes_eq y own) any in
+accepted_by list recorded words own any old mid first second known own_is any_is before marked is_first is_second is =
+    let one = is_first ∙ ap is_some (before own) ∙ has_mark list (recorded_as recorded) own in
+    let two = is_second ∙ ap is_some (text_marked list (recorded_as recorded) old mid own before marked any) ∙ has_mark list (λ y. recorded_as recorded y || bytes_eq y own) any in
     is ∙ (λ j. (one j || two j)) ∙ any_either own any list ∙ (λ j. list_any (λ (e : PlainEntry). bytes_eq (own_is j) e.counted || bytes_eq (any_is j) e.counted) list)
 
 -- ---- lines that accept nothing
@@ -186,19 +186,19 @@ each_in front (e ∷ list) = (
   subst (λ (l : List PlainEntry). AllByRecursion (λ x. list_any (is_text x.counted) l ≡ true) list) (append_assoc front (e ∷ []) list) (each_in (front ++ e ∷ []) list),
 )
 
-unmarked_unused : (all list : List PlainEntry) (told : List PlainTold) (es : List (Vec ℕ × Bool)) → ((x : List ℕ) → found es x ≡ mark all told x)
-    → AllByRecursion (λ e. list_any (is_text e.counted) all ≡ true) list → unmarked es list ≡ unused_of list told
-unmarked_unused all [] told es marks inside = refl
-unmarked_unused all (e ∷ list) told es marks (here, inside) =
-    let known : unwrap_or (found es e.counted) false ≡ told_as told e.counted =
-    ap (λ (o : Option Bool). unwrap_or o false) (marks e.counted ∙ ap (λ (b : Bool). cond b (Some (told_as told e.counted)) None) here) in
+unmarked_unused : (all list : List PlainEntry) (recorded : List PlainRecorded) (es : List (Vec ℕ × Bool)) → ((x : List ℕ) → found es x ≡ mark all recorded x)
+    → AllByRecursion (λ e. list_any (is_text e.counted) all ≡ true) list → unmarked es list ≡ unused_of list recorded
+unmarked_unused all [] recorded es marks inside = refl
+unmarked_unused all (e ∷ list) recorded es marks (here, inside) =
+    let known : unwrap_or (found es e.counted) false ≡ recorded_as recorded e.counted =
+    ap (λ (o : Option Bool). unwrap_or o false) (marks e.counted ∙ ap (λ (b : Bool). cond b (Some (recorded_as recorded e.counted)) None) here) in
     ap (λ (b : Bool). cond (not b) (e ∷ unmarked es list) (unmarked es list)) known
-    ∙ ap (λ (es : List PlainEntry). cond (not (told_as told e.counted)) (e ∷ es) es) (unmarked_unused all list told es marks inside)
+    ∙ ap (λ (es : List PlainEntry). cond (not (recorded_as recorded e.counted)) (e ∷ es) es) (unmarked_unused all list recorded es marks inside)
 
-pub unused_by : (accepting : Accepting) (list : List PlainEntry) (told : List PlainTold) (entries : List PlainEntry) → entries ≡ unmarked accepting.texts.entries (map plain_entry accepting.list.now)
-    → HasSeen accepting list told → entries ≡ unused_of list told
-unused_by accepting list told entries is seen =
-    is ∙ ap (unmarked accepting.texts.entries) seen.list_is ∙ unmarked_unused list list told accepting.texts.entries seen.marks_are (each_in [] list)
+pub unused_by : (accepting : Accepting) (list : List PlainEntry) (recorded : List PlainRecorded) (entries : List PlainEntry) → entries ≡ unmarked accepting.texts.entries (map plain_entry accepting.list.now)
+    → HasSeen accepting list recorded → entries ≡ unused_of list recorded
+unused_by accepting list recorded entries is seen =
+    is ∙ ap (unmarked accepting.texts.entries) seen.list_is ∙ unmarked_unused list list recorded accepting.texts.entries seen.marks_are (each_in [] list)
 
 -- one entry of the list more
 pub filtered_more : (keeps : PlainEntry → Bool) (list : List Entry) (i : ℕ) (e : Entry) (known : Bool) → i < length list → e ≡ get_or list i e → known ≡ not (keeps (plain_entry e))
@@ -259,9 +259,9 @@ about_by names all known is are list = by names all is are list
 -- ---- the order in which lines come
 
 -- lines may follow those of the first list
-pub seen_between : (accepting : Accepting) (list : List PlainEntry) (told others : List PlainTold) (t : PlainTold) → HasSeen accepting list ((told ++ others) ++ t ∷ [])
-    → HasSeen accepting list ((told ++ t ∷ []) ++ others)
-seen_between accepting list told others t seen =
+pub seen_between : (accepting : Accepting) (list : List PlainEntry) (recorded others : List PlainRecorded) (t : PlainRecorded) → HasSeen accepting list ((recorded ++ others) ++ t ∷ [])
+    → HasSeen accepting list ((recorded ++ t ∷ []) ++ others)
+seen_between accepting list recorded others t seen =
     record { list_is = seen.list_is; marks_are = λ x. seen.marks_are x ∙ ap (λ (b : Bool). cond (list_any (is_text x) list) (Some b) None) (same x) }
   where
     moved : (a b c : Bool) → ((a || b) || c) ≡ ((a || c) || b)
@@ -271,14 +271,14 @@ seen_between accepting list told others t seen =
     moved false false true = refl
     moved false false false = refl
 
-    same : (x : List ℕ) → told_as ((told ++ others) ++ t ∷ []) x ≡ told_as ((told ++ t ∷ []) ++ others) x
+    same : (x : List ℕ) → recorded_as ((recorded ++ others) ++ t ∷ []) x ≡ recorded_as ((recorded ++ t ∷ []) ++ others) x
     same x =
-        let test = λ (s : PlainTold). accepts s.words (entry_with x) in
-        list_any-append test (told ++ others) (t ∷ []) ∙ ap (λ (b : Bool). b || list_any test (t ∷ [])) (list_any-append test told others)
-        ∙ moved (list_any test told) (list_any test others) (list_any test (t ∷ []))
-        ∙ sym (list_any-append test (told ++ t ∷ []) others ∙ ap (λ (b : Bool). b || list_any test others) (list_any-append test told (t ∷ [])))
+        let test = λ (s : PlainRecorded). accepts s.words (entry_with x) in
+        list_any-append test (recorded ++ others) (t ∷ []) ∙ ap (λ (b : Bool). b || list_any test (t ∷ [])) (list_any-append test recorded others)
+        ∙ moved (list_any test recorded) (list_any test others) (list_any test (t ∷ []))
+        ∙ sym (list_any-append test (recorded ++ t ∷ []) others ∙ ap (λ (b : Bool). b || list_any test others) (list_any-append test recorded (t ∷ [])))
 
 -- and all
-pub seen_behind : (accepting : Accepting) (list : List PlainEntry) (told others : List PlainTold) (t : PlainTold) → HasSeen accepting list ((told ++ others) ++ t ∷ [])
-    → HasSeen accepting list (told ++ (others ++ t ∷ []))
-seen_behind accepting list told others t seen = subst (HasSeen accepting list) (append_assoc told others (t ∷ [])) seen
+pub seen_after : (accepting : Accepting) (list : List PlainEntry) (recorded others : List PlainRecorded) (t : PlainRecorded) → HasSeen accepting list ((recorded ++ others) ++ t ∷ [])
+    → HasSeen accepting list (recorded ++ (others ++ t ∷ []))
+seen_after accepting list recorded others t seen = subst (HasSeen accepting list) (append_assoc recorded others (t ∷ [])) seen

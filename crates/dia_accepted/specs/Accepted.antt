@@ -7,7 +7,7 @@ use Rattle.std.specs.Str.Lines.{lines}
 use Rattle.dia_accepted.specs.declared.list.Entry.{Entry}
 use Rattle.dia_accepted.specs.declared.list.ListFault.{ListFault}
 use Rattle.dia_accepted.specs.declared.list.ListFault.TheVariants.{Syntax, Limit}
-use Rattle.dia_accepted.specs.declared.told.Told.{Told}
+use Rattle.dia_accepted.specs.declared.recorded.Recorded.{Recorded}
 use Rattle.dia_accepted.specs.Words.{anywhere, command_in, counted, entry_text, entry_words, fault_offset, has_form, has_once_form, is_skipped}
 
 -- ---- the text of the list
@@ -63,40 +63,40 @@ plain_entry e = record { line = e.line; words = string_bytes e.words; counted = 
 -- ---- the lines of an answer
 
 -- a line with the place of its command among those of A, and with its message, if it has one
-pub record PlainTold : Type 0 where
+pub record PlainRecorded : Type 0 where
   pub command : ℕ
   pub words : List ℕ
   pub message : List ℕ
 
-abbrev pub plain_told : Told → PlainTold
-plain_told t = record { command = t.command; words = string_bytes t.words; message = string_bytes t.message }
+abbrev pub plain_recorded : Recorded → PlainRecorded
+plain_recorded t = record { command = t.command; words = string_bytes t.words; message = string_bytes t.message }
 
 -- the same line without its message
-abbrev pub bare : PlainTold → PlainTold
+abbrev pub bare : PlainRecorded → PlainRecorded
 bare t = record { command = t.command; words = t.words; message = [] }
 
 -- what is recorded of a line for its cause: its message only for `--once`
-abbrev pub kept : Bool → PlainTold → PlainTold
+abbrev pub kept : Bool → PlainRecorded → PlainRecorded
 kept is_once t = if is_once then t else bare t
 
 -- a line of the list accepts one of the answer: what counts of the two is the same, or its path is `*` and the rest is the same
 abbrev pub accepts : List ℕ → PlainEntry → Bool
 accepts words e = bytes_eq (counted words) e.counted || bytes_eq (anywhere words) e.counted
 
-abbrev pub is_accepted : List PlainEntry → PlainTold → Bool
-is_accepted list told = list_any (accepts told.words) list
+abbrev pub is_accepted : List PlainEntry → PlainRecorded → Bool
+is_accepted list recorded = list_any (accepts recorded.words) list
 
 -- the lines that the list doesn't accept
-abbrev pub left_of : List PlainEntry → List PlainTold → List PlainTold
-left_of list told = filter (λ t. not (is_accepted list t)) told
+abbrev pub left_of : List PlainEntry → List PlainRecorded → List PlainRecorded
+left_of list recorded = filter (λ t. not (is_accepted list t)) recorded
 
 -- it accepts none of these
-abbrev pub is_unused : List PlainTold → PlainEntry → Bool
-is_unused told e = not (list_any (λ t. accepts t.words e) told)
+abbrev pub is_unused : List PlainRecorded → PlainEntry → Bool
+is_unused recorded e = not (list_any (λ t. accepts t.words e) recorded)
 
 -- the entries that accept none of these
-abbrev pub unused_of : List PlainEntry → List PlainTold → List PlainEntry
-unused_of list told = filter (is_unused told) list
+abbrev pub unused_of : List PlainEntry → List PlainRecorded → List PlainEntry
+unused_of list recorded = filter (is_unused recorded) list
 
 -- the entry is about a command of these names; about any, where there is no name
 abbrev pub is_about : List (List ℕ) → PlainEntry → Bool

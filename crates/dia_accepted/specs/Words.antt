@@ -17,13 +17,13 @@ abbrev pub cause_of : List ℕ → List ℕ
 cause_of words = drop (prefix_len is_of_path words) words
 
 -- a text without the space (32) that it begins with
-abbrev pub behind_space : List ℕ → List ℕ
-behind_space [] = []
-behind_space (c ∷ cs) = if c == 32 then cs else c ∷ cs
+abbrev pub after_space : List ℕ → List ℕ
+after_space [] = []
+after_space (c ∷ cs) = if c == 32 then cs else c ∷ cs
 
 -- `REASON SUBJECT: DETAIL`
 abbrev pub cause_text : List ℕ → List ℕ
-cause_text words = behind_space (after_first (λ c. c == 58) words)
+cause_text words = after_space (after_first (λ c. c == 58) words)
 
 -- no `/` (47), and no `[` (91), after which the path says for which application B has the command
 abbrev pub is_of_command : ℕ → Bool
@@ -119,8 +119,8 @@ abbrev pub first_word : List ℕ → List ℕ
 first_word text = take (prefix_len is_of_word text) text
 
 -- what follows the first word and a space
-abbrev pub behind_word : List ℕ → List ℕ
-behind_word text = drop 1 (drop (prefix_len is_of_word text) text)
+abbrev pub after_word : List ℕ → List ℕ
+after_word text = drop 1 (drop (prefix_len is_of_word text) text)
 
 -- the reasons of `breaking`
 abbrev pub reasons : List (List ℕ)
@@ -140,19 +140,19 @@ has_subject text = nat_lt 0 (prefix_len is_name_byte text) && (begins (drop (pre
 
 -- `REASON SUBJECT: DETAIL`
 abbrev pub has_reason : List ℕ → Bool
-has_reason text = is_reason (first_word text) && has_subject (behind_word text)
+has_reason text = is_reason (first_word text) && has_subject (after_word text)
 
 -- or `undecided SUBJECT: DETAIL`, or `undecided REASON SUBJECT: DETAIL`
 abbrev pub has_cause : List ℕ → Bool
-has_cause text = has_reason text || (is_undecided (first_word text) && (has_subject (behind_word text) || has_reason (behind_word text)))
+has_cause text = has_reason text || (is_undecided (first_word text) && (has_subject (after_word text) || has_reason (after_word text)))
 
 -- a colon and a space, and then a cause
-abbrev pub has_cause_behind : List ℕ → Bool
-has_cause_behind rest = begins rest (codes ": ") && has_cause (drop 2 rest)
+abbrev pub has_cause_after : List ℕ → Bool
+has_cause_after rest = begins rest (codes ": ") && has_cause (drop 2 rest)
 
 -- `PATH: REASON SUBJECT: DETAIL`, where PATH may be `*`
 abbrev pub has_form : List ℕ → Bool
-has_form words = has_path words && has_cause_behind (cause_of words)
+has_form words = has_path words && has_cause_after (cause_of words)
 
 -- no comma (44)
 abbrev pub is_of_part : ℕ → Bool
@@ -181,16 +181,16 @@ abbrev pub is_placing : List ℕ → Bool
 is_placing part = begins part (codes " first in ") && is_path (drop 10 part)
 
 -- the cause in a line of `--once`
-abbrev pub told_once : List ℕ → List ℕ
-told_once words = before_last (before_last words)
+abbrev pub recorded_once : List ℕ → List ℕ
+recorded_once words = before_last (before_last words)
 
 -- `REASON SUBJECT: DETAIL, in N commands, first in PATH`
 abbrev pub has_once_form : List ℕ → Bool
-has_once_form words = is_placing (last_part words) && (is_counting (last_part (before_last words)) && has_cause (told_once words))
+has_once_form words = is_placing (last_part words) && (is_counting (last_part (before_last words)) && has_cause (recorded_once words))
 
 -- what an entry means: one of `--once` its cause with `*` as path
 abbrev pub entry_words : List ℕ → List ℕ
-entry_words words = if has_form words then words else codes "*: " ++ told_once words
+entry_words words = if has_form words then words else codes "*: " ++ recorded_once words
 
 -- ---- where an entry has no form: the entry from the fault on
 
@@ -201,11 +201,11 @@ abbrev pub subject_fault : List ℕ → List ℕ
 subject_fault text = if nat_lt 0 (prefix_len is_name_byte text) then detail_fault (drop (prefix_len is_name_byte text) text) else text
 
 abbrev pub undecided_fault : List ℕ → List ℕ
-undecided_fault text = if is_reason (first_word text) then subject_fault (behind_word text) else subject_fault text
+undecided_fault text = if is_reason (first_word text) then subject_fault (after_word text) else subject_fault text
 
 abbrev pub cause_fault : List ℕ → List ℕ
-cause_fault text = if is_reason (first_word text) then subject_fault (behind_word text)
-    else (if is_undecided (first_word text) then undecided_fault (behind_word text) else text)
+cause_fault text = if is_reason (first_word text) then subject_fault (after_word text)
+    else (if is_undecided (first_word text) then undecided_fault (after_word text) else text)
 
 abbrev pub colon_fault : List ℕ → List ℕ
 colon_fault rest = if begins rest (codes ": ") then cause_fault (drop 2 rest) else rest

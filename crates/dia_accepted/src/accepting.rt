@@ -27,7 +27,7 @@ impl Drop for Accepting<'_> {
 impl<'l> Accepting<'l> {
     ghost use Rattle.std.specs.Prelude.{◌≡◌, ◌++◌, ◌∷◌, List, [], IfOk, OnOk, map};
     ghost use Rattle.std.specs.List.{list_any};
-    ghost use Rattle.dia_accepted.specs.Accepted.{PlainEntry, PlainTold, accepts, plain_entry, unused_of};
+    ghost use Rattle.dia_accepted.specs.Accepted.{PlainEntry, PlainRecorded, accepts, plain_entry, unused_of};
     ghost use Rattle.dia_accepted.specs.Seen.{HasSeen};
 
     /// No line has come.
@@ -40,10 +40,10 @@ impl<'l> Accepting<'l> {
 
     /// Whether the list accepts a line, which has come from now on.
     pub fn accepts(&mut self, alloc: Global, words: &str) -> Result<bool, AllocError>
-        ensures accepted { IfOk result (λ known. (list : List PlainEntry) (told : List PlainTold) → HasSeen self.old list told
+        ensures accepted { IfOk result (λ known. (list : List PlainEntry) (recorded : List PlainRecorded) → HasSeen self.old list recorded
             → known ≡ list_any (accepts words.now) list) }
-        ensures come { OnOk result ((list : List PlainEntry) (told : List PlainTold) (t : PlainTold) → t.words ≡ words.now
-            → HasSeen self.old list told → HasSeen self.new list (told ++ t ∷ [])) }
+        ensures come { OnOk result ((list : List PlainEntry) (recorded : List PlainRecorded) (t : PlainRecorded) → t.words ≡ words.now
+            → HasSeen self.old list recorded → HasSeen self.new list (recorded ++ t ∷ [])) }
     {
         if self.list.is_empty() {
             return Ok(false);
@@ -56,8 +56,8 @@ impl<'l> Accepting<'l> {
 
     /// The entries that accept none of the lines that have come, in their order.
     pub fn unused(&self, alloc: Global) -> Result<Vec<Entry>, AllocError>
-        ensures { IfOk result (λ unused. (list : List PlainEntry) (told : List PlainTold) → HasSeen self.now list told
-            → map plain_entry unused.items ≡ unused_of list told) }
+        ensures { IfOk result (λ unused. (list : List PlainEntry) (recorded : List PlainRecorded) → HasSeen self.now list recorded
+            → map plain_entry unused.items ≡ unused_of list recorded) }
     {
         unmarked(alloc, self.list, &self.texts)
     }

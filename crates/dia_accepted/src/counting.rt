@@ -1,14 +1,14 @@
 //! The causes of lines that come one by one, and the lines of `--once`.
 ghost use Rattle.std.specs.Prelude.{◌≡◌, ◌||◌, IfOk, List, OnOk, if◌then◌else◌, map, string_bytes, ℕ};
 ghost use Rattle.std.specs.Str.{bytes_eq};
-ghost use Rattle.dia_accepted.specs.Accepted.{plain_told};
+ghost use Rattle.dia_accepted.specs.Accepted.{plain_recorded};
 ghost use Rattle.dia_accepted.specs.Causes.{noun, once_line, once_words};
 ghost use Rattle.dia_accepted.specs.Seen.{next_count};
 ghost use Rattle.dia_accepted.specs.Sets.{has, tally};
 ghost use Rattle.dia_accepted.specs.Words.{cause_text};
 
 use crate::accepting::push_unless;
-use crate::told::Told;
+use crate::recorded::Recorded;
 use crate::words::path_and_cause;
 use indexmap::{IndexMap, IndexSet};
 use std::alloc::{AllocError, Global};
@@ -16,7 +16,7 @@ use std::alloc::{AllocError, Global};
 /// The causes of the lines that have come: of each the first line, and how many commands have it.
 pub struct Causes {
     /// The first line of each cause, in their order.
-    pub(crate) firsts: Vec<Told>,
+    pub(crate) firsts: Vec<Recorded>,
     /// How many commands have each cause.
     pub(crate) counts: IndexMap<Vec<u8>, usize>,
     /// The causes of the commands that aren't forgotten.
@@ -37,7 +37,7 @@ impl Drop for Causes {
 impl Causes {
     ghost use Rattle.std.specs.Prelude.{◌≡◌, ◌<◌, ◌^◌, ◌+◌, ◌++◌, ◌∷◌, ◌⊎◌, List, ℕ, [], IfOk, OnOk, map, string_bytes, Bool, true, false};
     ghost use Rattle.std.specs.List.{list_any};
-    ghost use Rattle.dia_accepted.specs.Accepted.{PlainTold, plain_told};
+    ghost use Rattle.dia_accepted.specs.Accepted.{PlainRecorded, plain_recorded};
     ghost use Rattle.dia_accepted.specs.Causes.{has_cause, once_of};
     ghost use Rattle.dia_accepted.specs.Seen.{AreCauses, is_command};
     ghost use Rattle.dia_accepted.specs.Words.{cause_text};
@@ -55,8 +55,8 @@ impl Causes {
 
     /// Begins with the lines of a command. `forgets` says whether none of the commands so far comes again.
     pub fn begin(&mut self, forgets: bool)
-        ensures { (told : List PlainTold) (before command visits : ℕ) → (forgets ≡ true → list_any (is_command command) told ≡ false)
-            → AreCauses forgets self.old told before visits → AreCauses forgets self.new told command (visits + 1) }
+        ensures { (recorded : List PlainRecorded) (before command visits : ℕ) → (forgets ≡ true → list_any (is_command command) recorded ≡ false)
+            → AreCauses forgets self.old recorded before visits → AreCauses forgets self.new recorded command (visits + 1) }
     {
         if forgets {
             self.own.clear();
@@ -65,8 +65,8 @@ impl Causes {
 
     /// Whether a line has come with the cause of these words.
     pub fn has(&self, words: &str) -> bool
-        ensures { (forgets : Bool) (told : List PlainTold) (command visits : ℕ) → AreCauses forgets self.now told command visits
-            → result ≡ list_any (has_cause (cause_text words.now)) told }
+        ensures { (forgets : Bool) (recorded : List PlainRecorded) (command visits : ℕ) → AreCauses forgets self.now recorded command visits
+            → result ≡ list_any (has_cause (cause_text words.now)) recorded }
     {
         self.counts.contains_key(cause_of(words).as_bytes())
     }
@@ -79,20 +79,20 @@ impl Causes {
         words: &str,
         message: String,
     ) -> Result<(), AllocError>
-        ensures { OnOk result ((forgets : Bool) (told : List PlainTold) (t : PlainTold) (visits : ℕ) → visits < 2 ^ 63
+        ensures { OnOk result ((forgets : Bool) (recorded : List PlainRecorded) (t : PlainRecorded) (visits : ℕ) → visits < 2 ^ 63
             → t.command ≡ command → t.words ≡ words.now
-            → (t.message ≡ string_bytes message) ⊎ (list_any (has_cause (cause_text words.now)) told ≡ true)
-            → AreCauses forgets self.old told command visits → AreCauses forgets self.new (told ++ t ∷ []) command visits) }
+            → (t.message ≡ string_bytes message) ⊎ (list_any (has_cause (cause_text words.now)) recorded ≡ true)
+            → AreCauses forgets self.old recorded command visits → AreCauses forgets self.new (recorded ++ t ∷ []) command visits) }
     {
         let cause = cause_of(words).as_bytes();
         let known = self.counts.contains_key(cause);
         let words = String::from_str(alloc, words)?;
-        let told = Told {
+        let recorded = Recorded {
             command,
             words,
             message,
         };
-        push_unless(&mut self.firsts, told, known)?;
+        push_unless(&mut self.firsts, recorded, known)?;
         let key = (command, Vec::from_slice(alloc, cause)?);
         let is_new = self.own.insert(key)?;
         count_cause(alloc, &mut self.counts, cause, is_new)?;
@@ -100,9 +100,9 @@ impl Causes {
     }
 
     /// A line for each cause, in the order of the first places, with how many commands have it.
-    pub fn lines(&self, alloc: Global) -> Result<Vec<Told>, AllocError>
-        ensures { IfOk result (λ once. (forgets : Bool) (told : List PlainTold) (command visits : ℕ)
-            → AreCauses forgets self.now told command visits → map plain_told once.items ≡ once_of told) }
+    pub fn lines(&self, alloc: Global) -> Result<Vec<Recorded>, AllocError>
+        ensures { IfOk result (λ once. (forgets : Bool) (recorded : List PlainRecorded) (command visits : ℕ)
+            → AreCauses forgets self.now recorded command visits → map plain_recorded once.items ≡ once_of recorded) }
     {
         once_lines(alloc, &self.counts, self.firsts.as_slice())
     }
@@ -157,10 +157,10 @@ fn cause_of(words: &str) -> &str
 fn once_lines(
     alloc: Global,
     counts: &IndexMap<Vec<u8>, usize>,
-    lines: &[Told],
-) -> Result<Vec<Told>, AllocError>
-    ensures { IfOk result (λ once. map plain_told once.items
-        ≡ map (λ t. once_line (tally counts.now.entries (cause_text t.words)) t) (map plain_told lines.now)) }
+    lines: &[Recorded],
+) -> Result<Vec<Recorded>, AllocError>
+    ensures { IfOk result (λ once. map plain_recorded once.items
+        ≡ map (λ t. once_line (tally counts.now.entries (cause_text t.words)) t) (map plain_recorded lines.now)) }
 {
     let mut once = Vec::new(alloc);
     for line in lines {
@@ -174,15 +174,15 @@ fn once_lines(
 fn once_line(
     alloc: Global,
     counts: &IndexMap<Vec<u8>, usize>,
-    line: &Told,
-) -> Result<Told, AllocError>
-    ensures { IfOk result (λ made. plain_told made
-        ≡ once_line (tally counts.now.entries (cause_text (string_bytes line.now.words))) (plain_told line.now)) }
+    line: &Recorded,
+) -> Result<Recorded, AllocError>
+    ensures { IfOk result (λ made. plain_recorded made
+        ≡ once_line (tally counts.now.entries (cause_text (string_bytes line.now.words))) (plain_recorded line.now)) }
 {
     let commands = count_of(counts, cause_of(line.words.as_str()).as_bytes());
     let words = once_words(alloc, commands, line.words.as_str())?;
     let message = String::from_str(alloc, line.message.as_str())?;
-    Ok(Told {
+    Ok(Recorded {
         command: line.command,
         words,
         message,

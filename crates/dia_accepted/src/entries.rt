@@ -2,13 +2,13 @@
 ghost use Rattle.std.specs.Prelude.{◌≡◌, ◌≤◌, IfOk, drop, length, reverse};
 ghost use Rattle.std.specs.Char.{is_ascii_digit};
 ghost use Rattle.std.specs.List.{prefix_len};
-ghost use Rattle.dia_accepted.specs.Words.{before_hash, before_last, behind_word, counted, ends_blank, entry_text, entry_words};
-ghost use Rattle.dia_accepted.specs.Words.{first_word, has_cause, has_cause_behind, has_form, has_once_form, has_path};
+ghost use Rattle.dia_accepted.specs.Words.{before_hash, before_last, after_word, counted, ends_blank, entry_text, entry_words};
+ghost use Rattle.dia_accepted.specs.Words.{first_word, has_cause, has_cause_after, has_form, has_once_form, has_path};
 ghost use Rattle.dia_accepted.specs.Words.{has_reason, has_subject, is_count, is_counting, is_name_byte, is_noun};
 ghost use Rattle.dia_accepted.specs.Words.{is_of_part, is_of_word, is_path, is_path_byte, is_placing, is_reason};
-ghost use Rattle.dia_accepted.specs.Words.{is_undecided, last_part, told_once};
+ghost use Rattle.dia_accepted.specs.Words.{is_undecided, last_part, recorded_once};
 
-use crate::words::{begins, behind, cause_of, counted, path_of};
+use crate::words::{begins, cause_of, counted, following, path_of};
 use std::alloc::{AllocError, Global};
 
 /// The entry of a line: what precedes a comment, without the white space at its end.
@@ -42,7 +42,7 @@ fn ends_blank(text: &str) -> bool
 pub(crate) fn has_form(words: &[u8]) -> bool
     ensures { result ≡ has_form words.now }
 {
-    has_path(words) && has_cause_behind(cause_of(words))
+    has_path(words) && has_cause_after(cause_of(words))
 }
 
 /// What counts of an entry, which has the form of a line of an answer or of one with `--once`.
@@ -53,7 +53,7 @@ pub(crate) fn counted_of_entry(alloc: Global, words: &[u8]) -> Result<Vec<u8>, A
         return counted(alloc, words);
     }
     let mut everywhere = Vec::from_slice(alloc, b"*: ")?;
-    everywhere.extend_from_slice(told_once(words))?;
+    everywhere.extend_from_slice(recorded_once(words))?;
     counted(alloc, &everywhere)
 }
 
@@ -63,7 +63,7 @@ pub(crate) fn has_once_form(words: &[u8]) -> bool
 {
     is_placing(last_part(words))
         && is_counting(last_part(before_last(words)))
-        && has_cause(told_once(words))
+        && has_cause(recorded_once(words))
 }
 
 /// Whether an entry begins with `*` or a path.
@@ -81,31 +81,31 @@ fn is_path(text: &[u8]) -> bool
 }
 
 /// Whether a colon and a space come, and then a cause.
-fn has_cause_behind(rest: &[u8]) -> bool
-    ensures { result ≡ has_cause_behind rest.now }
+fn has_cause_after(rest: &[u8]) -> bool
+    ensures { result ≡ has_cause_after rest.now }
 {
-    begins(rest, b": ") && has_cause(behind(rest, 2))
+    begins(rest, b": ") && has_cause(following(rest, 2))
 }
 
 /// Whether a text is the cause of a line.
 pub(crate) fn has_cause(text: &[u8]) -> bool
     ensures { result ≡ has_cause text.now }
 {
-    let rest = behind_word(text);
+    let rest = after_word(text);
     has_reason(text) || is_undecided(first_word(text)) && (has_subject(rest) || has_reason(rest))
 }
 
 fn has_reason(text: &[u8]) -> bool
     ensures { result ≡ has_reason text.now }
 {
-    is_reason(first_word(text)) && has_subject(behind_word(text))
+    is_reason(first_word(text)) && has_subject(after_word(text))
 }
 
 fn has_subject(text: &[u8]) -> bool
     ensures { result ≡ has_subject text.now }
 {
-    let rest = behind(text, name_len(text));
-    name_len(text) > 0 && begins(rest, b": ") && behind(rest, 2).len() > 0
+    let rest = following(text, name_len(text));
+    name_len(text) > 0 && begins(rest, b": ") && following(rest, 2).len() > 0
 }
 
 /// Whether a word is a reason of `breaking`.
@@ -139,21 +139,21 @@ pub(crate) fn first_word(text: &[u8]) -> &[u8]
 }
 
 /// What follows the first word and a space.
-pub(crate) fn behind_word(text: &[u8]) -> &[u8]
-    ensures { result.now ≡ behind_word text.now }
+pub(crate) fn after_word(text: &[u8]) -> &[u8]
+    ensures { result.now ≡ after_word text.now }
 {
-    behind_one(behind(text, word_len(text)))
+    after_one(following(text, word_len(text)))
 }
 
-fn behind_one(text: &[u8]) -> &[u8]
+fn after_one(text: &[u8]) -> &[u8]
     ensures { result.now ≡ drop 1 text.now }
 {
     if text.is_empty() { text } else { &text[1..] }
 }
 
 /// The cause in an entry of `--once`.
-fn told_once(words: &[u8]) -> &[u8]
-    ensures { result.now ≡ told_once words.now }
+fn recorded_once(words: &[u8]) -> &[u8]
+    ensures { result.now ≡ recorded_once words.now }
 {
     before_last(before_last(words))
 }
@@ -161,20 +161,20 @@ fn told_once(words: &[u8]) -> &[u8]
 fn is_placing(part: &[u8]) -> bool
     ensures { result ≡ is_placing part.now }
 {
-    begins(part, b" first in ") && is_path(behind(part, 10))
+    begins(part, b" first in ") && is_path(following(part, 10))
 }
 
 fn is_counting(part: &[u8]) -> bool
     ensures { result ≡ is_counting part.now }
 {
-    begins(part, b" in ") && is_count(behind(part, 4))
+    begins(part, b" in ") && is_count(following(part, 4))
 }
 
 fn is_count(text: &[u8]) -> bool
     ensures { result ≡ is_count text.now }
 {
     let digits = digits_len(text);
-    digits > 0 && is_noun(behind(text, digits))
+    digits > 0 && is_noun(following(text, digits))
 }
 
 fn is_noun(text: &[u8]) -> bool
@@ -187,7 +187,7 @@ fn is_noun(text: &[u8]) -> bool
 fn last_part(words: &[u8]) -> &[u8]
     ensures { result.now ≡ last_part words.now }
 {
-    behind(words, words.len() - last_part_len(words))
+    following(words, words.len() - last_part_len(words))
 }
 
 /// What precedes the last comma.

@@ -4,9 +4,9 @@ ghost use Rattle.dia_accepted.specs.Words.{answer_fault, begins_once, cause_faul
 ghost use Rattle.dia_accepted.specs.Words.{form_fault, once_fault, path_fault, subject_fault, undecided_fault};
 
 use crate::entries::{
-    behind_word, first_word, has_cause, has_path, is_reason, is_undecided, name_len, names_len,
+    after_word, first_word, has_cause, has_path, is_reason, is_undecided, name_len, names_len,
 };
-use crate::words::{begins, behind, cause_of};
+use crate::words::{begins, cause_of, following};
 
 /// The bytes before the fault of an entry.
 pub(crate) fn fault_offset(words: &[u8]) -> usize
@@ -58,9 +58,9 @@ fn path_fault(words: &[u8]) -> &[u8]
     ensures { result.now ≡ path_fault words.now }
 {
     if begins(words, b"*") {
-        behind(words, 1)
+        following(words, 1)
     } else if name_len(words) > 0 {
-        behind(words, names_len(words))
+        following(words, names_len(words))
     } else {
         words
     }
@@ -70,7 +70,7 @@ fn colon_fault(rest: &[u8]) -> &[u8]
     ensures { result.now ≡ colon_fault rest.now }
 {
     if begins(rest, b": ") {
-        cause_fault(behind(rest, 2))
+        cause_fault(following(rest, 2))
     } else {
         rest
     }
@@ -81,9 +81,9 @@ fn cause_fault(text: &[u8]) -> &[u8]
 {
     let word = first_word(text);
     if is_reason(word) {
-        subject_fault(behind_word(text))
+        subject_fault(after_word(text))
     } else if is_undecided(word) {
-        undecided_fault(behind_word(text))
+        undecided_fault(after_word(text))
     } else {
         text
     }
@@ -93,7 +93,7 @@ fn undecided_fault(text: &[u8]) -> &[u8]
     ensures { result.now ≡ undecided_fault text.now }
 {
     if is_reason(first_word(text)) {
-        subject_fault(behind_word(text))
+        subject_fault(after_word(text))
     } else {
         subject_fault(text)
     }
@@ -103,7 +103,7 @@ fn subject_fault(text: &[u8]) -> &[u8]
     ensures { result.now ≡ subject_fault text.now }
 {
     if name_len(text) > 0 {
-        detail_fault(behind(text, name_len(text)))
+        detail_fault(following(text, name_len(text)))
     } else {
         text
     }
@@ -113,7 +113,7 @@ fn detail_fault(rest: &[u8]) -> &[u8]
     ensures { result.now ≡ detail_fault rest.now }
 {
     if begins(rest, b": ") {
-        behind(rest, 2)
+        following(rest, 2)
     } else {
         rest
     }

@@ -8,11 +8,11 @@ mod counting;
 mod entries;
 mod faults;
 mod list;
-mod told;
+mod recorded;
 mod words;
 
 pub use accepting::Accepting;
 pub use choosing::about;
 pub use counting::Causes;
 pub use list::{Entry, ListFault, MAX_LINES, MAX_LIST, read_list};
-pub use told::Told;
+pub use recorded::Recorded;

@@ -48,7 +48,7 @@ fn scoped(alloc: Global, path: &[u8], cause: &[u8]) -> Result<Vec<u8>, AllocErro
 pub(crate) fn cause_of(words: &[u8]) -> &[u8]
     ensures { result.now ≡ cause_of words.now }
 {
-    behind(words, path_len(words))
+    following(words, path_len(words))
 }
 
 /// The command of what counts of an entry; `*` for all.
@@ -75,7 +75,7 @@ fn command_of(path: &[u8]) -> &[u8]
 fn last_of(path: &[u8]) -> &[u8]
     ensures { result.now ≡ last_of path.now }
 {
-    behind(path, path.len() - last_len(path))
+    following(path, path.len() - last_len(path))
 }
 
 fn is_of_level(cause: &[u8]) -> bool
@@ -109,7 +109,7 @@ pub(crate) fn begins(words: &[u8], front: &[u8]) -> bool
 }
 
 /// What follows so many bytes.
-pub(crate) fn behind(bytes: &[u8], count: usize) -> &[u8]
+pub(crate) fn following(bytes: &[u8], count: usize) -> &[u8]
     ensures { result.now ≡ drop count bytes.now }
 {
     if count <= bytes.len() {

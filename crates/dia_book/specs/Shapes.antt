@@ -6,7 +6,7 @@ use Rattle.dia_book.specs.Rules.{is_fixed}
 
 -- the first rule from a place on that has a least count, or the number of rules where none has
 pub record IsFirstWanted (rules : List DRule) (from place : ℕ) : Type 0 where
-  pub behind : from ≤ place
+  pub following : from ≤ place
   pub within : place ≤ length rules
   pub none_before : (i : ℕ) (rule : DRule) → from ≤ i → i < place → slice_get rules i ≡ Some rule → rule.min ≡ 0
   pub wanted : (rule : DRule) → slice_get rules place ≡ Some rule → 1 ≤ rule.min

@@ -37,12 +37,12 @@ use Rattle.dia_breaking.specs.declared.own_lines.Kind.{Kind}
 use Rattle.dia_breaking.specs.declared.own_lines.Kind.TheVariants as kinds
 use Rattle.dia_breaking.specs.declared.readings.Reading.{Reading}
 use Rattle.dia_breaking.specs.declared.start.Start.{Start}
-use Rattle.dia_breaking.specs.Free.{AreValidWhereFree, HasThisP, IsFree, IsFreeLevel, IsReadBy, TellsFlags}
-use Rattle.dia_breaking.specs.Headers.{HasHead, IsCommandPlace, TellsRefusal, allows, head_in}
+use Rattle.dia_breaking.specs.Free.{AreValidWhereFree, HasThisP, IsFree, IsFreeLevel, IsReadBy, RecordsFlags}
+use Rattle.dia_breaking.specs.Headers.{HasHead, IsCommandPlace, RecordsRefusal, allows, head_in}
 use Rattle.dia_breaking.specs.LevelCosts.{PicksShortest}
 use Rattle.dia_breaking.specs.Lengths.{Costs}
-use Rattle.dia_breaking.specs.Listing.{Told, Basis, IsListing, IsWalkFrom, basis_of, command_levels, flag_causes, header_causes, header_line, header_lines, own_lines, refusal, start_of, tells}
-use Rattle.dia_breaking.specs.Mended.{AreValidOnceMended, IsLevelAt, IsMendedFor}
+use Rattle.dia_breaking.specs.Listing.{Recorded, Basis, IsListing, IsWalkFrom, basis_of, command_levels, flag_causes, header_causes, header_line, header_lines, own_lines, refusal, start_of, records}
+use Rattle.dia_breaking.specs.Corrected.{AreValidOnceCorrected, IsLevelAt, IsCorrectedFor}
 use Rattle.dia_breaking.specs.Readings.{AreReadings}
 use Rattle.dia_breaking.specs.Sites.{command_site, command_sites, group_sites, other_head, read_site, refused_site}
 use Rattle.dia_breaking.specs.TheLines.{AreFacts, AreIfRoom, AreLinesBetween, AreLinesOf, Facts, IsCommandLevel, IsStartOf, costs_in}
@@ -56,17 +56,17 @@ use Rattle.dia_breaking.proofs.LevelCosts.{one_is_shortest}
 use Rattle.dia_breaking.proofs.Lists.{contains_at}
 use Rattle.dia_breaking.proofs.LookedHeaders.{IsLookedAt, looked_at, reading_of, reading_sent}
 use Rattle.dia_breaking.proofs.OwnFits.{IsOfLines, each_fits}
-use Rattle.dia_breaking.proofs.PlacedLevels.{group_placed, level_placed, level_told, rules_of_def, sound_rules}
+use Rattle.dia_breaking.proofs.PlacedLevels.{group_placed, level_placed, level_recorded, rules_of_def, sound_rules}
 use Rattle.dia_breaking.proofs.ReadLevels.{AtLevel, IsReadAt, each_level}
 use Rattle.dia_breaking.proofs.Shortest.{first_is_shortest}
-use Rattle.dia_breaking.proofs.ToldHeaders.{allows_head, allows_holds, head_allows, holds_allows, is_set, read_at}
-use Rattle.dia_breaking.proofs.ToldLines.{AllTold, IsToldIn, cause_is, from_data, from_flags, from_groups, from_heads, from_levels, from_unknown, in_each, told_of}
+use Rattle.dia_breaking.proofs.RecordedHeaders.{allows_head, allows_holds, head_allows, holds_allows, is_set, read_at}
+use Rattle.dia_breaking.proofs.RecordedLines.{AllRecorded, IsRecordedIn, cause_is, from_data, from_flags, from_groups, from_heads, from_levels, from_unknown, in_each, recorded_of}
 use Rattle.dia_breaking.proofs.TopLevels.{top_level}
 use Rattle.dia_breaking.proofs.SitesOfReadings.{levels_at, command_head, place_of, read_by, IsReadingOf}
 
 module _ (da db : Dictionary) (who : Sends) (u : Unknown) (made : Facts) (start : Start) (c : ℕ) (sites : List Site) (lines : List Line) (sa : IsDictionary da) (sb : IsDictionary db)
     (facts : AreFacts (sides da db who u) made) (floors : AreFloors da who (costs_in (sides da db who u) made).listed) (head_is : HasHead da c start.head)
-    (is_start : IsStartOf da db made.telling (costs_in (sides da db who u) made) c start) (listing : IsListing db (basis_of start made.own made.outlooks) sites (map tells lines))
+    (is_start : IsStartOf da db made.recording (costs_in (sides da db who u) made) c start) (listing : IsListing db (basis_of start made.own made.outlooks) sites (map records lines))
     (few : length sites ≤ 18446744073709551615) where
   abbrev basis : Basis
   basis = basis_of start made.own made.outlooks
@@ -92,14 +92,14 @@ module _ (da db : Dictionary) (who : Sends) (u : Unknown) (made : Facts) (start 
   shortest : PicksShortest da db k
   shortest = first_is_shortest da db who made.lengths made.others sa sb facts.are_others
 
-  told_here : (told : Told) → AllTold db basis from count listing.steps listing.reached told → IsToldIn lines told
-  told_here told i = told_of db basis from count listing.steps listing.reached lines listing.lines_are told i
+  recorded_here : (recorded : Recorded) → AllRecorded db basis from count listing.steps listing.reached recorded → IsRecordedIn lines recorded
+  recorded_here recorded i = recorded_of db basis from count listing.steps listing.reached lines listing.lines_are recorded i
 
-  own_told_here : (kind : Kind) (t : Told) → IsOfLines kind → IsIn t (own_lines kind from count made.own listing.reached) → IsToldIn lines t
-  own_told_here kinds.Unknown t of i = told_here t (from_unknown db basis from count listing.steps listing.reached t i)
-  own_told_here kinds.MBit t of i = told_here t (from_flags db basis from count listing.steps listing.reached t i)
-  own_told_here kinds.Data t of i = told_here t (from_data db basis from count listing.steps listing.reached t i)
-  own_told_here kinds.Meaning t of i = absurd of
+  own_recorded_here : (kind : Kind) (t : Recorded) → IsOfLines kind → IsIn t (own_lines kind from count made.own listing.reached) → IsRecordedIn lines t
+  own_recorded_here kinds.Unknown t of i = recorded_here t (from_unknown db basis from count listing.steps listing.reached t i)
+  own_recorded_here kinds.MBit t of i = recorded_here t (from_flags db basis from count listing.steps listing.reached t i)
+  own_recorded_here kinds.Data t of i = recorded_here t (from_data db basis from count listing.steps listing.reached t i)
+  own_recorded_here kinds.Meaning t of i = absurd of
 
   module _ (bytes : List ℕ) (sent : IsSent da who bytes c) where
     abbrev x : PlainDefinition
@@ -159,7 +159,7 @@ module _ (da db : Dictionary) (who : Sends) (u : Unknown) (made : Facts) (start 
           (begins db basis from count listing.steps r.reading.read_as sites site listing.sites_are (contains_at sites r.place site at_site) is_read is_place) listing.is_walk
 
       abbrev LevelHere : PlainDefinition → PlainDefinition → List PlainAvp → Type 0
-      LevelHere a b avps = AtLevel da db who u made.lengths made.others made.telling made.outlooks facts.is_telling facts.are_outlooks sa shortest floors (plain_exits start.exits) listing.steps
+      LevelHere a b avps = AtLevel da db who u made.lengths made.others made.recording made.outlooks facts.is_recording facts.are_outlooks sa shortest floors (plain_exits start.exits) listing.steps
           listing.reached x y a b avps
 
       abbrev Free : PlainDefinition → PlainDefinition → List PlainAvp → Type 0
@@ -182,9 +182,9 @@ module _ (da db : Dictionary) (who : Sends) (u : Unknown) (made : Facts) (start 
       top_placed avps level free =
           let (found, at, exact) = own_levels in
           level_placed da db who u made facts sa sb shortest floors x y c r.number sent.is_command r.is_other found exact 0 (omega arith) avps level (λ line inside room shows.
-          let told : Told = record { site = r.place; cause = causes.Level line; length = 0 + line.length } in
-          let there = in_each command_levels basis.levels r.place found told at (level_told r.place 0 found line inside room) in
-          let t = told_here told (from_levels db basis from count listing.steps listing.reached told there) in
+          let recorded : Recorded = record { site = r.place; cause = causes.Level line; length = 0 + line.length } in
+          let there = in_each command_levels basis.levels r.place found recorded at (level_recorded r.place 0 found line inside room) in
+          let t = recorded_here recorded (from_levels db basis from count listing.steps listing.reached recorded there) in
           free.level t.line line t.inside (cause_is t.line.cause (causes.Level line) t.cause refl) (site, ap (λ (n : ℕ). slice_get sites n) t.site ∙ at_site, read_here) shows)
 
       at_top : (way : ℕ) (a b : PlainDefinition) (avps : List PlainAvp) → way ≡ 0 → a ≡ x → b ≡ y → IsLevelOf da who a.rules (max_body - way) avps → Free a b avps → Placed b.rules (map key_of avps)
@@ -196,57 +196,57 @@ module _ (da db : Dictionary) (who : Sends) (u : Unknown) (made : Facts) (start 
       placed_at : (a b : PlainDefinition) (avps : List PlainAvp) → LevelHere a b avps → Free a b avps → Placed b.rules (map key_of avps)
       placed_at a b avps l free = by l.number l.is_read
         where
-          by : (n : ℕ) → IsReadAt da db who u made.lengths made.others made.telling made.outlooks facts.is_telling facts.are_outlooks sa shortest floors (plain_exits start.exits) listing.steps
+          by : (n : ℕ) → IsReadAt da db who u made.lengths made.others made.recording made.outlooks facts.is_recording facts.are_outlooks sa shortest floors (plain_exits start.exits) listing.steps
               listing.reached x y n l.stage.way a b → Placed b.rules (map key_of avps)
           by zero (none, same_a, same_b) = at_top l.stage.way a b avps none same_a same_b l.level free
           by (suc j) s =
               group_placed da db who u made facts sa sb shortest floors (plain_exits start.exits) listing.steps listing.reached x y walk sites lines c from count own
-              (length-map readings (command_site db head)) listing.sites_are few (λ t i. told_here t (from_groups db basis from count listing.steps listing.reached t i)) j l.stage.way a b avps l.within
+              (length-map readings (command_site db head)) listing.sites_are few (λ t i. recorded_here t (from_groups db basis from count listing.steps listing.reached t i)) j l.stage.way a b avps l.within
               l.level s free
 
       read_alone : (a b : PlainDefinition) (avps : List PlainAvp) → LevelHere a b avps → Free a b avps → IsReadAlone da db u a b avps
       read_alone a b avps l free = (
         placed_at a b avps l free,
-        λ v comes. each_fits da db who u made facts sa shortest floors (plain_exits start.exits) listing.steps listing.reached x y walk sites lines c from count own_told_here a b avps l free v comes,
+        λ v comes. each_fits da db who u made facts sa shortest floors (plain_exits start.exits) listing.steps listing.reached x y walk sites lines c from count own_recorded_here a b avps l free v comes,
       )
 
       all_read : AreAsked da db Free x y sent.avps → Placed y.rules (map key_of sent.avps) × AllFit db u levels.Any sent.avps
       all_read asked = levels_read da db who u x y sent.avps sent.sent (λ a b inner lies.
-          each_level da db who u made.lengths made.others made.telling made.outlooks facts.is_telling facts.are_outlooks sa shortest floors (plain_exits start.exits) listing.steps listing.reached x y walk
+          each_level da db who u made.lengths made.others made.recording made.outlooks facts.is_recording facts.are_outlooks sa shortest floors (plain_exits start.exits) listing.steps listing.reached x y walk
           (λ p q avps. Free p q avps → IsReadAlone da db u p q avps) read_alone a b inner x y sent.avps lies
           (top_level da db who u made start c sa facts floors is_start shortest listing.steps listing.reached bytes sent y) (asked a b inner lies))
 
     -- ---- the header
 
     -- what is reported for a reading
-    head_told : (i : ℕ) (r : Reading) → slice_get readings i ≡ Some r → (cause : Cause) → IsIn cause (header_causes db head r.read_as)
-        → IsToldIn lines (header_line start.base i cause)
-    head_told i r at cause inside =
-        told_here (header_line start.base i cause) (from_heads db basis from count listing.steps listing.reached (header_line start.base i cause)
+    head_recorded : (i : ℕ) (r : Reading) → slice_get readings i ≡ Some r → (cause : Cause) → IsIn cause (header_causes db head r.read_as)
+        → IsRecordedIn lines (header_line start.base i cause)
+    head_recorded i r at cause inside =
+        recorded_here (header_line start.base i cause) (from_heads db basis from count listing.steps listing.reached (header_line start.base i cause)
         (in_each (header_lines db head start.base) readings i r (header_line start.base i cause) at (in_map (header_line start.base i) (header_causes db head r.read_as) cause inside)))
 
     module _ (i : ℕ) (r : Reading) (at : slice_get readings i ≡ Some r) where
       -- where B selects no definition
-      refused : selected db head.code head.class r.read_as ≡ None → TellsRefusal lines
+      refused : selected db head.code head.class r.read_as ≡ None → RecordsRefusal lines
       refused none = by (has_command db head.code head.class) refl
         where
           other_none : other_head db head r.read_as ≡ None
           other_none = ap (λ (o : Option ℕ). option_and_then (head_at db) o) none
 
-          told : IsToldIn lines (header_line start.base i (refusal db head))
-          told = head_told i r at (refusal db head)
+          recorded : IsRecordedIn lines (header_line start.base i (refusal db head))
+          recorded = head_recorded i r at (refusal db head)
               (subst (λ (o : Option Head). IsIn (refusal db head) (option_map_or (λ other. flag_causes head other false ++ flag_causes head other true) o (refusal db head ∷ []))) (sym other_none) (inl refl))
 
-          by : (b : Bool) → has_command db head.code head.class ≡ b → TellsRefusal lines
+          by : (b : Bool) → has_command db head.code head.class ≡ b → RecordsRefusal lines
           by true is = let e = ap (λ (b : Bool). if b then causes.Application else causes.Command) is in
-              (told.line, told.inside, inr (cause_is told.line.cause causes.Application (told.cause ∙ e) refl))
+              (recorded.line, recorded.inside, inr (cause_is recorded.line.cause causes.Application (recorded.cause ∙ e) refl))
           by false is = let e = ap (λ (b : Bool). if b then causes.Application else causes.Command) is in
-              (told.line, told.inside, inl (cause_is told.line.cause causes.Command (told.cause ∙ e) refl))
+              (recorded.line, recorded.inside, inl (cause_is recorded.line.cause causes.Command (recorded.cause ∙ e) refl))
 
     -- where B's definition forbids the P flag
-    flags_told : (y : PlainDefinition) (r : IsReadingOf db head readings y) (set : Bool) → HasThisP set sent.header.flags → allows r.its.p set ≡ false
-        → TellsFlags da db sites lines c y sent.header.flags
-    flags_told y r set has none =
+    flags_recorded : (y : PlainDefinition) (r : IsReadingOf db head readings y) (set : Bool) → HasThisP set sent.header.flags → allows r.its.p set ≡ false
+        → RecordsFlags da db sites lines c y sent.header.flags
+    flags_recorded y r set has none =
         (t.line, set, x, t.inside, cause_is t.line.cause (causes.Proxiable set) t.cause refl, (site y r, ap (λ (n : ℕ). slice_get sites n) t.site ∙ at_site y r, read_here y r), has)
       where
         may : allows head.p set ≡ true
@@ -262,18 +262,18 @@ module _ (da db : Dictionary) (who : Sends) (u : Unknown) (made : Facts) (start 
         both false i = in_left (flag_causes head r.its false) (flag_causes head r.its true) (causes.Proxiable set) i
         both true i = in_right (flag_causes head r.its false) (flag_causes head r.its true) (causes.Proxiable set) i
 
-        t : IsToldIn lines (header_line start.base r.place (causes.Proxiable set))
-        t = head_told r.place r.reading r.at (causes.Proxiable set)
+        t : IsRecordedIn lines (header_line start.base r.place (causes.Proxiable set))
+        t = head_recorded r.place r.reading r.at (causes.Proxiable set)
             (subst (λ (o : Option Head). IsIn (causes.Proxiable set) (option_map_or (λ other. flag_causes head other false ++ flag_causes head other true) o (refusal db head ∷ []))) (sym (other_is y r))
             (both set here))
 
     -- B's definition allows it, where what is reported of it doesn't hold
-    allowed : (y : PlainDefinition) → IsReadingOf db head readings y → (TellsFlags da db sites lines c y sent.header.flags → AllowsP y.head sent.header.flags) → AllowsP y.head sent.header.flags
+    allowed : (y : PlainDefinition) → IsReadingOf db head readings y → (RecordsFlags da db sites lines c y sent.header.flags → AllowsP y.head sent.header.flags) → AllowsP y.head sent.header.flags
     allowed y r asked = by (is_set sent.header.flags)
       where
         of : (set : Bool) → HasThisP set sent.header.flags → (b : Bool) → allows r.its.p set ≡ b → AllowsP y.head sent.header.flags
         of set has true may = allows_head y.head r.its sent.header.flags r.is_its (allows_holds r.its.p set sent.header.flags has may)
-        of set has false none = asked (flags_told y r set has none)
+        of set has false none = asked (flags_recorded y r set has none)
 
         by : HasP sent.header.flags ⊎ (¬ HasP sent.header.flags) → AllowsP y.head sent.header.flags
         by (inl has) = of true has (allows r.its.p true) refl
@@ -337,9 +337,9 @@ module _ (da db : Dictionary) (who : Sends) (u : Unknown) (made : Facts) (start 
             let (its, is_its) = command_head db sb head.code head.class r.read_as n y here at_y in
             record { place = a.place; reading = r; at = at; number = n; select = here; is_other = at_y; its = its; is_its = is_its }
 
-    valid_mended : (mended : List ℕ) (app : ℕ) (site : Site) (y : PlainDefinition) (header : Header) → IsLevelAt (sides da db who u) sites c app site x y
-        → AreAsked da db (IsFreeLevel da db u sites lines c) x y sent.avps → IsMendedFor db y sent.header header → IsMessage header sent.avps mended → IsValid db u levels.Any mended
-    valid_mended mended app site y header level asked mends message =
+    valid_corrected : (corrected : List ℕ) (app : ℕ) (site : Site) (y : PlainDefinition) (header : Header) → IsLevelAt (sides da db who u) sites c app site x y
+        → AreAsked da db (IsFreeLevel da db u sites lines c) x y sent.avps → IsCorrectedFor db y sent.header header → IsMessage header sent.avps corrected → IsValid db u levels.Any corrected
+    valid_corrected corrected app site y header level asked mends message =
         let (n, select, at_y) = mends.selected in
         let read = all_read y (reading_at app site y level) asked in (
           n,
@@ -361,5 +361,5 @@ module _ (da db : Dictionary) (who : Sends) (u : Unknown) (made : Facts) (start 
   pub lines_free : AreValidWhereFree (sides da db who u) (answer c sites lines)
   lines_free bytes sent free = valid_free bytes sent free
 
-  pub lines_mended : AreValidOnceMended (sides da db who u) (answer c sites lines)
-  lines_mended bytes mended sent app site other header level asked mends message = valid_mended bytes sent mended app site other header level asked mends message
+  pub lines_corrected : AreValidOnceCorrected (sides da db who u) (answer c sites lines)
+  lines_corrected bytes corrected sent app site other header level asked mends message = valid_corrected bytes sent corrected app site other header level asked mends message

@@ -17,7 +17,7 @@ use Rattle.dia_breaking_ways.specs.declared.graph.Step.{Step}
 use Rattle.dia_breaking_ways.specs.declared.graph.Reach.{Reach}
 use Rattle.dia_breaking.specs.declared.exits.Outlook.{Outlook}
 use Rattle.dia_breaking.specs.declared.keys.Own.{Own}
-use Rattle.dia_breaking.specs.declared.keys.Telling.{Telling}
+use Rattle.dia_breaking.specs.declared.keys.Recording.{Recording}
 use Rattle.dia_breaking.specs.declared.line.Cause.TheVariants as causes
 use Rattle.dia_breaking.specs.declared.line.Line.{Line}
 use Rattle.dia_breaking.specs.declared.line.Site.{Site}
@@ -28,12 +28,12 @@ use Rattle.dia_breaking.specs.Exits.{AreOutlooks}
 use Rattle.dia_breaking.specs.Headers.{IsCommandPlace}
 use Rattle.dia_breaking.specs.Lengths.{costs_by}
 use Rattle.dia_breaking.specs.LevelCosts.{PicksShortest}
-use Rattle.dia_breaking.specs.Listing.{Told, Basis, AreMeanings, IsWalkFrom, basis_of, own_cause, own_lines, sites_of, start_of, tells}
+use Rattle.dia_breaking.specs.Listing.{Recorded, Basis, AreMeanings, IsWalkFrom, basis_of, own_cause, own_lines, sites_of, start_of, records}
 use Rattle.dia_breaking.specs.Meanings.{IsReadAsOther}
 use Rattle.dia_breaking.specs.Orders.{IsInOrderOf}
 use Rattle.dia_breaking.specs.OwnBreaks.{AreOwnBreaks, IsOwnBreaks}
 use Rattle.dia_breaking.specs.Sites.{command_sites, group_site, group_sites, site_number}
-use Rattle.dia_breaking.specs.Telling.{IsExactTelling}
+use Rattle.dia_breaking.specs.Recording.{IsExactRecording}
 use Rattle.dia_breaking.specs.TheLines.{AreFacts, Facts, IsStartOf, costs_in}
 use Rattle.dia_breaking.specs.TheMeanings.{AreMeant, HoldsOfLevels, IsMeant, IsReadAsSent}
 use Rattle.dia_breaking.specs.Sides.{sides, answer}
@@ -41,36 +41,36 @@ use Rattle.dia_breaking.proofs.SentLevels.{sent_keys}
 use Rattle.dia_breaking.proofs.ReadLevels.{AtLevel, each_level, way_of}
 use Rattle.dia_breaking.proofs.Reached.{Kept, listed, other_kept}
 use Rattle.dia_breaking.proofs.Shortest.{first_is_shortest}
-use Rattle.dia_breaking.proofs.ToldLines.{cause_is, in_sorted, own_told, told_in}
+use Rattle.dia_breaking.proofs.RecordedLines.{cause_is, in_sorted, own_recorded, recorded_in}
 use Rattle.dia_breaking.proofs.TopLevels.{top_level}
 
 -- ---- what lines report
 
-meant_by : (meanings : List Line) (key : Key) (told : Told) → IsIn told (map tells meanings) → told.cause ≡ causes.Meaning key → IsMeant meanings key
-meant_by meanings key told i is = let t = told_in meanings told i in (t.line, t.inside, cause_is t.line.cause (causes.Meaning key) (t.cause ∙ is) refl)
+meant_by : (meanings : List Line) (key : Key) (recorded : Recorded) → IsIn recorded (map records meanings) → recorded.cause ≡ causes.Meaning key → IsMeant meanings key
+meant_by meanings key recorded i is = let t = recorded_in meanings recorded i in (t.line, t.inside, cause_is t.line.cause (causes.Meaning key) (t.cause ∙ is) refl)
 
-module _ (da db : Dictionary) (who : Sends) (u : Unknown) (lengths : List ℕ) (others : List Key) (telling : Telling) (outlooks : List Outlook) (tells_all : IsExactTelling (sides da db who u) telling)
-    (are : AreOutlooks da db telling (costs_by da who lengths others) outlooks) (owns : List OwnBreaks)
-    (are_own : AreOwnBreaks (sides da db who u) (listed da db who u lengths others telling outlooks tells_all are) telling.own.items owns) (first count : ℕ) (reached : List (Option Reach))
-    (told : List Told) (order : IsInOrderOf (λ (line : Told). line.site) (own_lines kinds.Meaning first count owns reached) told) where
+module _ (da db : Dictionary) (who : Sends) (u : Unknown) (lengths : List ℕ) (others : List Key) (recording : Recording) (outlooks : List Outlook) (records_all : IsExactRecording (sides da db who u) recording)
+    (are : AreOutlooks da db recording (costs_by da who lengths others) outlooks) (owns : List OwnBreaks)
+    (are_own : AreOwnBreaks (sides da db who u) (listed da db who u lengths others recording outlooks records_all are) recording.own.items owns) (first count : ℕ) (reached : List (Option Reach))
+    (recorded : List Recorded) (order : IsInOrderOf (λ (line : Recorded). line.site) (own_lines kinds.Meaning first count owns reached) recorded) where
   -- what is reached of an AVP that is read as another format is reported
-  meaning_told : (key : Key) (p : Kept da db who u lengths others telling outlooks tells_all are key) → IsReadAsOther (sides da db who u) key → (reach : Reach)
-      → slice_get reached p.place ≡ Some (Some reach) → reach.length ≤ max_body → (line : Told) × IsIn line told × (line.cause ≡ causes.Meaning key)
-  meaning_told key p is reach at room =
+  meaning_recorded : (key : Key) (p : Kept da db who u lengths others recording outlooks records_all are key) → IsReadAsOther (sides da db who u) key → (reach : Reach)
+      → slice_get reached p.place ≡ Some (Some reach) → reach.length ≤ max_body → (line : Recorded) × IsIn line recorded × (line.cause ≡ causes.Meaning key)
+  meaning_recorded key p is reach at room =
       let (one, here, same) = at_map (λ (one : OwnBreaks). one.key) owns p.place p.own.key (subst (λ (xs : List Key). slice_get xs p.place ≡ Some p.own.key) (sym are_own.keys)
       (own_key_at p.place p.own p.is_own)) in
       let its : one.key ≡ key = same ∙ p.own_key in
-      let own = all_of (IsOwnBreaks (sides da db who u) (listed da db who u lengths others telling outlooks tells_all are)) owns one are_own.each (in_at owns p.place one here) in
+      let own = all_of (IsOwnBreaks (sides da db who u) (listed da db who u lengths others recording outlooks records_all are)) owns one are_own.each (in_at owns p.place one here) in
       let reads = own.other.1 (subst (λ (q : Key). IsReadAsOther (sides da db who u) q) (sym its) is) in
       let site : ℕ = site_number first count reach.level in
-      let line : Told = record { site = site; cause = causes.Meaning one.key; length = reach.length } in
+      let line : Recorded = record { site = site; cause = causes.Meaning one.key; length = reach.length } in
       let cause : own_cause kinds.Meaning one reach.length ≡ Some (causes.Meaning one.key, reach.length) =
       ap (λ (b : Bool). if b then Some (causes.Meaning one.key, reach.length) else None) reads in
-      let inside = own_told kinds.Meaning first count owns reached p.place one reach (causes.Meaning one.key) reach.length here at cause room in
-      (line, in_sorted (λ (line : Told). line.site) (own_lines kinds.Meaning first count owns reached) told line order inside, ap (λ (q : Key). causes.Meaning q) its)
+      let inside = own_recorded kinds.Meaning first count owns reached p.place one reach (causes.Meaning one.key) reach.length here at cause room in
+      (line, in_sorted (λ (line : Recorded). line.site) (own_lines kinds.Meaning first count owns reached) recorded line order inside, ap (λ (q : Key). causes.Meaning q) its)
     where
-      own_key_at : (place : ℕ) (own : Own) → slice_get telling.own.items place ≡ Some own → slice_get (map (λ (own : Own). own.key) telling.own.items) place ≡ Some own.key
-      own_key_at place own at = into_map (λ (own : Own). own.key) telling.own.items place own at
+      own_key_at : (place : ℕ) (own : Own) → slice_get recording.own.items place ≡ Some own → slice_get (map (λ (own : Own). own.key) recording.own.items) place ≡ Some own.key
+      own_key_at place own at = into_map (λ (own : Own). own.key) recording.own.items place own at
 
 -- ---- the walk begins
 
@@ -101,7 +101,7 @@ module _ (db : Dictionary) (basis : Basis) (at count : ℕ) (steps : List Step) 
 
 module _ (da db : Dictionary) (who : Sends) (u : Unknown) (made : Facts) (start : Start) (c : ℕ) (sites : List Site) (lines meanings : List Line) (sa : IsDictionary da) (sb : IsDictionary db)
     (facts : AreFacts (sides da db who u) made) (floors : AreFloors da who (costs_in (sides da db who u) made).listed)
-    (is_start : IsStartOf da db made.telling (costs_in (sides da db who u) made) c start) (listing : AreMeanings db (basis_of start made.own made.outlooks) sites (map tells meanings)) where
+    (is_start : IsStartOf da db made.recording (costs_in (sides da db who u) made) c start) (listing : AreMeanings db (basis_of start made.own made.outlooks) sites (map records meanings)) where
   abbrev basis : Basis
   basis = basis_of start made.own made.outlooks
 
@@ -118,7 +118,7 @@ module _ (da db : Dictionary) (who : Sends) (u : Unknown) (made : Facts) (start 
 
   pub all_meant : HoldsOfLevels (sides da db who u) (answer c sites lines) (AreMeant (sides da db who u) meanings)
   all_meant bytes sent app site other level a b inner lies =
-      each_level da db who u made.lengths made.others made.telling made.outlooks facts.is_telling facts.are_outlooks sa shortest floors (plain_exits start.exits) listing.steps listing.reached sent.command other walk
+      each_level da db who u made.lengths made.others made.recording made.outlooks facts.is_recording facts.are_outlooks sa shortest floors (plain_exits start.exits) listing.steps listing.reached sent.command other walk
       (AreMeant (sides da db who u) meanings) meant a b inner sent.command other sent.avps lies
       (top_level da db who u made start c sa facts floors is_start shortest listing.steps listing.reached bytes sent other)
     where
@@ -130,19 +130,19 @@ module _ (da db : Dictionary) (who : Sends) (u : Unknown) (made : Facts) (start 
           (begins db basis from (length basis.readings) listing.steps app sites site listing.sites_are level.inside level.is_read level.place) listing.is_walk
 
       meant : (x y : PlainDefinition) (avps : List PlainAvp)
-          → AtLevel da db who u made.lengths made.others made.telling made.outlooks facts.is_telling facts.are_outlooks sa shortest floors (plain_exits start.exits) listing.steps listing.reached sent.command other x y avps
+          → AtLevel da db who u made.lengths made.others made.recording made.outlooks facts.is_recording facts.are_outlooks sa shortest floors (plain_exits start.exits) listing.steps listing.reached sent.command other x y avps
           → AreMeant (sides da db who u) meanings x y avps
       meant x y avps l v comes is =
           let key = key_of v in
-          let p = other_kept da db who u made.lengths made.others made.telling made.outlooks facts.is_telling facts.are_outlooks key (known_here key is) is in
-          let w = way_of da db who u made.lengths made.others made.telling made.outlooks facts.is_telling facts.are_outlooks sa shortest floors (plain_exits start.exits) listing.steps listing.reached sent.command other walk
+          let p = other_kept da db who u made.lengths made.others made.recording made.outlooks facts.is_recording facts.are_outlooks key (known_here key is) is in
+          let w = way_of da db who u made.lengths made.others made.recording made.outlooks facts.is_recording facts.are_outlooks sa shortest floors (plain_exits start.exits) listing.steps listing.reached sent.command other walk
           x y avps l v comes p in
           let le = w.2 in
           let keep = sent_keys da db who u (costs_in (sides da db who u) made).listed floors x.rules (max_body - l.stage.way) avps l.level in
           let room = keep.1 in
           let fits = l.within in
-          let t = meaning_told da db who u made.lengths made.others made.telling made.outlooks facts.is_telling facts.are_outlooks made.own facts.are_own from (length basis.readings) listing.reached
-          (map tells meanings) listing.lines_are key p is w.0 w.1 (omega (arith, le, room, fits)) in
+          let t = meaning_recorded da db who u made.lengths made.others made.recording made.outlooks facts.is_recording facts.are_outlooks made.own facts.are_own from (length basis.readings) listing.reached
+          (map records meanings) listing.lines_are key p is w.0 w.1 (omega (arith, le, room, fits)) in
           meant_by meanings key t.0 t.1 t.2
 
 -- where none is reported, none is read so

@@ -196,13 +196,13 @@ of_key : (s : Sides) (own key : Key) (cause : Cause) → Some own ≡ Some key �
 of_key s own key cause e is = subst (λ (k : Key). IsLineOfData s k cause) (same_Some own key e) is
 
 pub apart : DataLinesAreApart
-apart s key (causes.Format own (Some found)) is tells = of_key s own key _ is (of_leaf s own found tells)
-apart s key (causes.Format own None) is tells = of_key s own key _ is (of_refused s own tells)
-apart s key (causes.LevelAsLeaf own) is tells = of_key s own key _ is (of_open s own tells)
-apart s key causes.Command is tells = absurd (none-some key is)
-apart s key causes.Application is tells = absurd (none-some key is)
-apart s key (causes.Proxiable set) is tells = absurd (none-some key is)
-apart s key (causes.Level line) is tells = absurd (none-some key is)
-apart s key (causes.Unknown own m) is tells = absurd (none-some key is)
-apart s key (causes.MBit own m) is tells = absurd (none-some key is)
-apart s key (causes.Meaning own) is tells = absurd (none-some key is)
+apart s key (causes.Format own (Some found)) is records = of_key s own key _ is (of_leaf s own found records)
+apart s key (causes.Format own None) is records = of_key s own key _ is (of_refused s own records)
+apart s key (causes.LevelAsLeaf own) is records = of_key s own key _ is (of_open s own records)
+apart s key causes.Command is records = absurd (none-some key is)
+apart s key causes.Application is records = absurd (none-some key is)
+apart s key (causes.Proxiable set) is records = absurd (none-some key is)
+apart s key (causes.Level line) is records = absurd (none-some key is)
+apart s key (causes.Unknown own m) is records = absurd (none-some key is)
+apart s key (causes.MBit own m) is records = absurd (none-some key is)
+apart s key (causes.Meaning own) is records = absurd (none-some key is)

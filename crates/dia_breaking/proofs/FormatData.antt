@@ -29,13 +29,13 @@ use Rattle.dia_breaking.specs.declared.own_breaks.OwnBreaks.{OwnBreaks}
 use Rattle.dia_breaking.specs.declared.own_lines.Kind.{Kind}
 use Rattle.dia_breaking.specs.declared.own_lines.Kind.TheVariants as kinds
 use Rattle.dia_breaking.specs.declared.readings.Reading.{Reading}
-use Rattle.dia_breaking.specs.Listing.{Told, command_levels, flag_causes, group_levels, head_cause, header_causes, header_line, header_lines, level_lines, new_line, refusal, subject, tells, unchecked, with_room}
+use Rattle.dia_breaking.specs.Listing.{Recorded, command_levels, flag_causes, group_levels, head_cause, header_causes, header_line, header_lines, level_lines, new_line, refusal, subject, records, unchecked, with_room}
 use Rattle.dia_breaking.specs.Orders.{IsInOrderOf, joined, of_each}
 use Rattle.dia_breaking.specs.Lengths.{IsLeastFor, listed_length}
-use Rattle.dia_breaking.specs.OwnBreaks.{HasLeast, HaveDataBreaks, IsOwnBreaks, OfLeast, TellData, TellsData, eight_cause, leaves_eight}
+use Rattle.dia_breaking.specs.OwnBreaks.{HasLeast, HaveDataBreaks, IsOwnBreaks, OfLeast, ReportData, RecordsData, eight_cause, leaves_eight}
 use Rattle.dia_breaking.specs.Sites.{other_head}
 use Rattle.dia_breaking.specs.Sides.{sides}
-use Rattle.dia_breaking.specs.Tried.{IsRefusedBy, IsToldOfTry, TakesAsLeaf, data_of}
+use Rattle.dia_breaking.specs.Tried.{IsRefusedBy, IsRecordedOfTry, TakesAsLeaf, data_of}
 use Rattle.dia_breaking.proofs.Lists.{all_in, all_more, contains_at, same_image}
 use Rattle.dia_breaking.proofs.Tried.{accepted_taken, left_open}
 
@@ -75,8 +75,8 @@ all_each {X} {Y} P f each xs = all_joined P (λ i. option_map_or (f i) (slice_ge
 abbrev IsOther : Cause → Type 0
 IsOther cause = (key : Key) → cause ≡ causes.Format key None → ⊥
 
-abbrev IsPlain : Told → Type 0
-IsPlain told = IsOther told.cause
+abbrev IsPlain : Recorded → Type 0
+IsPlain recorded = IsOther recorded.cause
 
 one_other : (cause : Cause) → IsOther cause → All IsOther (cause ∷ [])
 one_other cause own = All-push IsOther [] cause (All-nil IsOther) own
@@ -97,9 +97,9 @@ module _ (db : Dictionary) (head : Head) where
   header_plain : (base site : ℕ) (reading : Reading) → All IsPlain (header_lines db head base site reading)
   header_plain base site reading = All-map IsPlain (header_line base site) (header_causes db head reading.read_as) (header_other (other_head db head reading.read_as))
 
-room_plain : (told : Told) → IsPlain told → (b : Bool) → IfSome (if b then Some told else None) IsPlain
-room_plain told own true = own
-room_plain told own false = tt
+room_plain : (recorded : Recorded) → IsPlain recorded → (b : Bool) → IfSome (if b then Some recorded else None) IsPlain
+room_plain recorded own true = own
+room_plain recorded own false = tt
 
 levels_plain : (site way : ℕ) (lines : List LevelLine) → All IsPlain (level_lines site way lines)
 levels_plain site way lines = all_filter_map IsPlain (λ (line : LevelLine). with_room site (way + line.length) (causes.Level line)) (λ line. room_plain _ (λ key e. absurd cc) _) lines
@@ -123,10 +123,10 @@ found_plain db head base readings levels groups count steps =
 -- ---- lines
 
 module _ (da db : Dictionary) (who : Sends) (u : Unknown) where
-  abbrev Tells : Line → Type 0
-  Tells line = TellsData (sides da db who u) line.cause
+  abbrev Records : Line → Type 0
+  Records line = RecordsData (sides da db who u) line.cause
 
-  plain : (cause : Cause) → IsOther (subject cause) → TellsData (sides da db who u) cause
+  plain : (cause : Cause) → IsOther (subject cause) → RecordsData (sides da db who u) cause
   plain (causes.Format key found) other = absurd (other key refl)
   plain (causes.LevelAsLeaf key) other = absurd (other key refl)
   plain causes.Command other = tt
@@ -138,44 +138,44 @@ module _ (da db : Dictionary) (who : Sends) (u : Unknown) where
   plain (causes.Meaning key) other = tt
 
   -- where nothing is reported about data
-  pub plain_lines : (lines : List Line) (told : List Told) → map tells lines ≡ told → All IsPlain told → TellData (sides da db who u) lines
-  plain_lines lines told is all i d within =
-      let same = get_or-map tells lines i d (tells d) within in
-      plain (get_or lines i d).cause (subst IsPlain same (subst (All IsPlain) (sym is) all i (tells d) (omega (arith, within, length-map lines tells))))
+  pub plain_lines : (lines : List Line) (recorded : List Recorded) → map records lines ≡ recorded → All IsPlain recorded → ReportData (sides da db who u) lines
+  plain_lines lines recorded is all i d within =
+      let same = get_or-map records lines i d (records d) within in
+      plain (get_or lines i d).cause (subst IsPlain same (subst (All IsPlain) (sym is) all i (records d) (omega (arith, within, length-map lines records))))
 
   -- one line more, or none
-  pub data_more : (old new : List Line) (site : ℕ) (cause : Cause) (takes : ℕ) → (new ≡ old) ⊎ (new ≡ old ++ new_line site cause takes ∷ []) → TellsData (sides da db who u) cause
-      → TellData (sides da db who u) old → TellData (sides da db who u) new
-  data_more old new site cause takes (inl same) own all = subst (All Tells) (sym same) all
-  data_more old new site cause takes (inr adds) own all = all_more Tells old (new_line site cause takes) new adds all own
+  pub data_more : (old new : List Line) (site : ℕ) (cause : Cause) (takes : ℕ) → (new ≡ old) ⊎ (new ≡ old ++ new_line site cause takes ∷ []) → RecordsData (sides da db who u) cause
+      → ReportData (sides da db who u) old → ReportData (sides da db who u) new
+  data_more old new site cause takes (inl same) own all = subst (All Records) (sym same) all
+  data_more old new site cause takes (inr adds) own all = all_more Records old (new_line site cause takes) new adds all own
 
-  pub data_in_order : (all sorted : List Line) → IsInOrderOf (λ (line : Line). line.site) all sorted → TellData (sides da db who u) all → TellData (sides da db who u) sorted
-  data_in_order all sorted order have = all_in_order Tells (λ (line : Line). line.site) all sorted order have
+  pub data_in_order : (all sorted : List Line) → IsInOrderOf (λ (line : Line). line.site) all sorted → ReportData (sides da db who u) all → ReportData (sides da db who u) sorted
+  data_in_order all sorted order have = all_in_order Records (λ (line : Line). line.site) all sorted order have
 
   -- where only what is known of lines changes
-  pub data_kept : (old new : List Line) → map unchecked new ≡ map unchecked old → TellData (sides da db who u) old → TellData (sides da db who u) new
-  data_kept old new same all = all_from Tells new (λ i line at.
+  pub data_kept : (old new : List Line) → map unchecked new ≡ map unchecked old → ReportData (sides da db who u) old → ReportData (sides da db who u) new
+  data_kept old new same all = all_from Records new (λ i line at.
       let r = same_image unchecked new old line same (contains_at new i line at) in
-      subst (TellsData (sides da db who u)) (ap (λ (l : Line). l.cause) r.2) (all_in Tells old r.0 all r.1))
+      subst (RecordsData (sides da db who u)) (ap (λ (l : Line). l.cause) r.2) (all_in Records old r.0 all r.1))
 
   -- ---- what AVPs break by themselves
 
-  pub head_tells : (kind : Kind) (key : Key) (found : HeadBreak) → IfSome (head_cause kind key found) (TellsData (sides da db who u))
-  head_tells kinds.Unknown key (head_breaks.Unknown m) = tt
-  head_tells kinds.Unknown key (head_breaks.MBit m) = tt
-  head_tells kinds.MBit key (head_breaks.Unknown m) = tt
-  head_tells kinds.MBit key (head_breaks.MBit m) = tt
-  head_tells kinds.Data key (head_breaks.Unknown m) = tt
-  head_tells kinds.Data key (head_breaks.MBit m) = tt
-  head_tells kinds.Meaning key (head_breaks.Unknown m) = tt
-  head_tells kinds.Meaning key (head_breaks.MBit m) = tt
+  pub head_records : (kind : Kind) (key : Key) (found : HeadBreak) → IfSome (head_cause kind key found) (RecordsData (sides da db who u))
+  head_records kinds.Unknown key (head_breaks.Unknown m) = tt
+  head_records kinds.Unknown key (head_breaks.MBit m) = tt
+  head_records kinds.MBit key (head_breaks.Unknown m) = tt
+  head_records kinds.MBit key (head_breaks.MBit m) = tt
+  head_records kinds.Data key (head_breaks.Unknown m) = tt
+  head_records kinds.Data key (head_breaks.MBit m) = tt
+  head_records kinds.Meaning key (head_breaks.Unknown m) = tt
+  head_records kinds.Meaning key (head_breaks.MBit m) = tt
 
   -- that data are read as another format reports no data that break
-  pub meaning_tells : (key : Key) (found : Option (Cause × ℕ)) → IfSome found (λ (pair : Cause × ℕ). pair.0 ≡ causes.Meaning key) → IfSome found (λ (pair : Cause × ℕ). TellsData (sides da db who u) pair.0)
-  meaning_tells key None is = tt
-  meaning_tells key (Some pair) is = subst (TellsData (sides da db who u)) (sym is) tt
+  pub meaning_records : (key : Key) (found : Option (Cause × ℕ)) → IfSome found (λ (pair : Cause × ℕ). pair.0 ≡ causes.Meaning key) → IfSome found (λ (pair : Cause × ℕ). RecordsData (sides da db who u) pair.0)
+  meaning_records key None is = tt
+  meaning_records key (Some pair) is = subst (RecordsData (sides da db who u)) (sym is) tt
 
-  pub with_size : (o : Option Cause) (size : ℕ) → IfSome o (TellsData (sides da db who u)) → IfSome (option_map (λ (cause : Cause). (cause, size)) o) (λ (pair : Cause × ℕ). TellsData (sides da db who u) pair.0)
+  pub with_size : (o : Option Cause) (size : ℕ) → IfSome o (RecordsData (sides da db who u)) → IfSome (option_map (λ (cause : Cause). (cause, size)) o) (λ (pair : Cause × ℕ). RecordsData (sides da db who u) pair.0)
   with_size None size own = tt
   with_size (Some cause) size own = own
 
@@ -184,26 +184,26 @@ module _ (da db : Dictionary) (who : Sends) (u : Unknown) where
   have_data least lengths is_least own all i d within = let is = all i d within in (is.content, (is_least, is.least))
 
   -- of a level that B reads as a leaf, where the data of a shortest AVP may have been tried
-  pub tried_tells : (least : Least) (lengths : List ℕ) (own : OwnBreaks) (cause : Cause)
-      → IsToldOfTry (TakesAsLeaf db own.key) own.key (least_avp da least own.key) (listed_length da who lengths own.key) cause → IsDataBreak da db who u own.key Undecided
-      → HasLeast (sides da db who u) least lengths own → TellsData (sides da db who u) cause
-  tried_tells least lengths own cause (inl (is, (short, not))) content of =
+  pub tried_records : (least : Least) (lengths : List ℕ) (own : OwnBreaks) (cause : Cause)
+      → IsRecordedOfTry (TakesAsLeaf db own.key) own.key (least_avp da least own.key) (listed_length da who lengths own.key) cause → IsDataBreak da db who u own.key Undecided
+      → HasLeast (sides da db who u) least lengths own → RecordsData (sides da db who u) cause
+  tried_records least lengths own cause (inl (is, (short, not))) content of =
       let refused : IsRefusedBy (IsAcceptedData db u own.key) own.key (least_avp da least own.key) (listed_length da who lengths own.key) =
       (short, λ accepted. not (accepted_taken da db who u own.key content (data_of own.key (least_avp da least own.key)) accepted)) in
-      subst (TellsData (sides da db who u)) (sym is) (inr (inr (content, (least, lengths, of.0, refused))))
-  tried_tells least lengths own cause (inr (is, left)) content of =
+      subst (RecordsData (sides da db who u)) (sym is) (inr (inr (content, (least, lengths, of.0, refused))))
+  tried_records least lengths own cause (inr (is, left)) content of =
       let unsure = left_open da db who u own.key content (least_avp da least own.key) (listed_length da who lengths own.key) left in
-      subst (TellsData (sides da db who u)) (sym is) (inr (content, (least, lengths, of.0, unsure)))
+      subst (RecordsData (sides da db who u)) (sym is) (inr (content, (least, lengths, of.0, unsure)))
 
   -- of a level that B reads as a leaf of eight bytes
-  pub eight_tells : (least : Least) (lengths : List ℕ) (own : OwnBreaks) (cause : Cause) → cause ≡ eight_cause own → IsDataBreak da db who u own.key EightBytes
-      → HasLeast (sides da db who u) least lengths own → TellsData (sides da db who u) cause
-  eight_tells least lengths own cause is content of = subst (TellsData (sides da db who u)) (sym is) (by (leaves_eight own.key own.least) refl)
+  pub eight_records : (least : Least) (lengths : List ℕ) (own : OwnBreaks) (cause : Cause) → cause ≡ eight_cause own → IsDataBreak da db who u own.key EightBytes
+      → HasLeast (sides da db who u) least lengths own → RecordsData (sides da db who u) cause
+  eight_records least lengths own cause is content of = subst (RecordsData (sides da db who u)) (sym is) (by (leaves_eight own.key own.least) refl)
     where
       has : (b : Bool) → leaves_eight own.key own.least ≡ b → OfLeast (sides da db who u) own.key (λ bytes n. leaves_eight own.key n ≡ b)
       has b e = (least, lengths, of.0, ap (leaves_eight own.key) (sym of.1) ∙ e)
 
-      by : (b : Bool) → leaves_eight own.key own.least ≡ b → TellsData (sides da db who u) (if b then causes.LevelAsLeaf own.key else causes.Format own.key None)
+      by : (b : Bool) → leaves_eight own.key own.least ≡ b → RecordsData (sides da db who u) (if b then causes.LevelAsLeaf own.key else causes.Format own.key None)
       by true e = inl (content, has true e)
       by false e = inr (inl (content, has false e))
 

@@ -7,7 +7,7 @@ use Rattle.std.specs.List.{list_any}
 use Rattle.std.specs.Option.{option_eq}
 use Rattle.dia_book.specs.Dictionary.{Dictionary, selected}
 use Rattle.dia_breaking.specs.declared.heads.Head.{Head}
-use Rattle.dia_breaking.specs.ToldApps.{IsLeastUnnamed, IsNamed, selects}
+use Rattle.dia_breaking.specs.RecordedApps.{IsLeastUnnamed, IsNamed, selects}
 use Rattle.dia_breaking.proofs.Lists.{one_more}
 use Rattle.dia_breaking.proofs.LeastNumbers.{named_of, of_named}
 

@@ -13,7 +13,7 @@ use Rattle.dia_valid.specs.Rules.{rules_in}
 use Rattle.dia_breaking.specs.declared.exits.Inner.{Inner}
 use Rattle.dia_breaking.specs.declared.exits.Outlook.{Outlook}
 use Rattle.dia_breaking.specs.declared.keys.Own.{Own}
-use Rattle.dia_breaking.specs.declared.keys.Telling.{Telling}
+use Rattle.dia_breaking.specs.declared.keys.Recording.{Recording}
 use Rattle.dia_breaking.specs.Exits.{AreExits, AreOutlooks, IsInner, IsOutlook}
 use Rattle.dia_breaking.specs.Outlooks.{group_rules}
 use Rattle.dia_breaking.specs.Taken.{AreGroups}
@@ -37,30 +37,30 @@ pub groups_of : (da db : Dictionary) (key : Key) (first second : Option ℕ) (a 
     → AreGroups da db key
 groups_of da db key first second a b is_a is_b some_a some_b = (sym some_a ∙ ap (λ (o : Option ℕ). is_some o) is_a, sym some_b ∙ ap (λ (o : Option ℕ). is_some o) is_b)
 
-pub inner_found : (da : Dictionary) (telling : Telling) (k : Costs) (key : Key) (def : ℕ) (inner : Inner) → rules_in da def ≡ group_rules da key
+pub inner_found : (da : Dictionary) (recording : Recording) (k : Costs) (key : Key) (def : ℕ) (inner : Inner) → rules_in da def ≡ group_rules da key
     → inner.least ≡ k.listed key - shortest_head key
-    → AreExits telling k (rules_in da def) inner.exits → IsInner da telling k key inner
-inner_found da telling k key def inner are least exits = record {
+    → AreExits recording k (rules_in da def) inner.exits → IsInner da recording k key inner
+inner_found da recording k key def inner are least exits = record {
   least = least;
-  exits = subst (λ (rules : List DRule). AreExits telling k rules inner.exits) are exits;
+  exits = subst (λ (rules : List DRule). AreExits recording k rules inner.exits) are exits;
 }
 
 -- ---- one outlook more
 
 -- the outlooks of the first of what is recorded
-abbrev pub AreFirstOutlooks : Dictionary → Dictionary → Telling → Costs → ℕ → List Outlook → Type 0
-AreFirstOutlooks da db telling k i outlooks =
-    (map (λ (o : Outlook). o.key) outlooks ≡ map (λ (own : Own). own.key) (take i telling.own.items)) × All (IsOutlook da db telling k) outlooks
+abbrev pub AreFirstOutlooks : Dictionary → Dictionary → Recording → Costs → ℕ → List Outlook → Type 0
+AreFirstOutlooks da db recording k i outlooks =
+    (map (λ (o : Outlook). o.key) outlooks ≡ map (λ (own : Own). own.key) (take i recording.own.items)) × All (IsOutlook da db recording k) outlooks
 
-module _ (da db : Dictionary) (telling : Telling) (k : Costs) (i : ℕ) where
-  pub one_outlook_more : (own : Own) (outlook : Outlook) (old new : List Outlook) → new ≡ old ++ outlook ∷ [] → slice_get telling.own.items i ≡ Some own → outlook.key ≡ own.key
-      → AreFirstOutlooks da db telling k i old → IsOutlook da db telling k outlook → AreFirstOutlooks da db telling k (i + 1) new
+module _ (da db : Dictionary) (recording : Recording) (k : Costs) (i : ℕ) where
+  pub one_outlook_more : (own : Own) (outlook : Outlook) (old new : List Outlook) → new ≡ old ++ outlook ∷ [] → slice_get recording.own.items i ≡ Some own → outlook.key ≡ own.key
+      → AreFirstOutlooks da db recording k i old → IsOutlook da db recording k outlook → AreFirstOutlooks da db recording k (i + 1) new
   one_outlook_more own outlook old new is at same (keys, each) found = (
     ap (map (λ (o : Outlook). o.key)) is ∙ map-append (λ (o : Outlook). o.key) old (outlook ∷ []) ∙ ap (λ (ks : List Key). ks ++ outlook.key ∷ []) keys
-        ∙ ap (λ (q : Key). map (λ (own : Own). own.key) (take i telling.own.items) ++ q ∷ []) same
-        ∙ sym (ap (map (λ (own : Own). own.key)) (one_more telling.own.items i own at) ∙ map-append (λ (own : Own). own.key) (take i telling.own.items) (own ∷ [])),
-    subst (All (IsOutlook da db telling k)) (sym is) (All-push (IsOutlook da db telling k) old outlook each found),
+        ∙ ap (λ (q : Key). map (λ (own : Own). own.key) (take i recording.own.items) ++ q ∷ []) same
+        ∙ sym (ap (map (λ (own : Own). own.key)) (one_more recording.own.items i own at) ∙ map-append (λ (own : Own). own.key) (take i recording.own.items) (own ∷ [])),
+    subst (All (IsOutlook da db recording k)) (sym is) (All-push (IsOutlook da db recording k) old outlook each found),
   )
 
-  pub all_outlooks : (outlooks : List Outlook) → length telling.own.items ≤ i → AreFirstOutlooks da db telling k i outlooks → AreOutlooks da db telling k outlooks
-  all_outlooks outlooks past (keys, each) = (keys ∙ ap (map (λ (own : Own). own.key)) (take_all i telling.own.items past), each)
+  pub all_outlooks : (outlooks : List Outlook) → length recording.own.items ≤ i → AreFirstOutlooks da db recording k i outlooks → AreOutlooks da db recording k outlooks
+  all_outlooks outlooks past (keys, each) = (keys ∙ ap (map (λ (own : Own). own.key)) (take_all i recording.own.items past), each)

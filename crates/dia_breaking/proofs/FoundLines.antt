@@ -9,7 +9,7 @@ use Rattle.dia_breaking.specs.declared.line.Line.{Line}
 use Rattle.dia_breaking.specs.declared.line.Site.{Site}
 use Rattle.dia_breaking.specs.declared.start.Start.{Start}
 use Rattle.dia_breaking.specs.Headers.{HasHead, head_in}
-use Rattle.dia_breaking.specs.Listing.{Told, Listed, AreMeanings, IsListing, IsListingOf, basis_of, lines_of, meanings_of, tells}
+use Rattle.dia_breaking.specs.Listing.{Recorded, Listed, AreMeanings, IsListing, IsListingOf, basis_of, lines_of, meanings_of, records}
 use Rattle.dia_breaking.specs.TheLines.{AreFacts, Facts, AreListedFor, HasTheLines, IsStartOf, costs_in}
 use Rattle.dia_breaking.specs.TheMeanings.{AreMeaningsOf}
 use Rattle.dia_breaking.specs.Words.{head_at}
@@ -28,14 +28,14 @@ none_there {X} P o none = subst (λ (r : Option X). IfSome r P) (sym none) tt
 -- ---- the one list
 
 module _ (s : Sides) (c : ℕ) (made : Facts) (start : Start) (head : Head) (sites : List Site) (shown : ∥ AreFacts s made ∥₁) (same : start.head ≡ head) where
-  the_listed : (listed : Listed) (told : List Told) → IsStartOf s.sender s.receiver made.telling (costs_in s made) c start → HasHead s.sender c head
-      → IsListingOf listed s.receiver (basis_of start made.own made.outlooks) sites told → ∥ AreListedFor listed s c sites told ∥₁
-  the_listed listed told is_start (x, at, is) listing = ∥∥₁_map shown (λ facts. record { made = made; start = start; facts = facts; head_is = (x, at, is ∙ ap Some (sym same)); is_start = is_start; is_listing = listing })
+  the_listed : (listed : Listed) (recorded : List Recorded) → IsStartOf s.sender s.receiver made.recording (costs_in s made) c start → HasHead s.sender c head
+      → IsListingOf listed s.receiver (basis_of start made.own made.outlooks) sites recorded → ∥ AreListedFor listed s c sites recorded ∥₁
+  the_listed listed recorded is_start (x, at, is) listing = ∥∥₁_map shown (λ facts. record { made = made; start = start; facts = facts; head_is = (x, at, is ∙ ap Some (sym same)); is_start = is_start; is_listing = listing })
 
-  pub lines_found : (lines : List Line) → IsStartOf s.sender s.receiver made.telling (costs_in s made) c start → HasHead s.sender c head
-      → IsListing s.receiver (basis_of start made.own made.outlooks) sites (map tells lines) → HasTheLines s (answer c sites lines)
-  lines_found lines begins in_a all = the_listed lines_of (map tells lines) begins in_a all
+  pub lines_found : (lines : List Line) → IsStartOf s.sender s.receiver made.recording (costs_in s made) c start → HasHead s.sender c head
+      → IsListing s.receiver (basis_of start made.own made.outlooks) sites (map records lines) → HasTheLines s (answer c sites lines)
+  lines_found lines begins in_a all = the_listed lines_of (map records lines) begins in_a all
 
-  pub meanings_found : (lines meanings : List Line) → IsStartOf s.sender s.receiver made.telling (costs_in s made) c start → HasHead s.sender c head
-      → AreMeanings s.receiver (basis_of start made.own made.outlooks) sites (map tells meanings) → AreMeaningsOf s (answer c sites lines) meanings
-  meanings_found lines meanings begins in_a all = the_listed meanings_of (map tells meanings) begins in_a all
+  pub meanings_found : (lines meanings : List Line) → IsStartOf s.sender s.receiver made.recording (costs_in s made) c start → HasHead s.sender c head
+      → AreMeanings s.receiver (basis_of start made.own made.outlooks) sites (map records meanings) → AreMeaningsOf s (answer c sites lines) meanings
+  meanings_found lines meanings begins in_a all = the_listed meanings_of (map records meanings) begins in_a all

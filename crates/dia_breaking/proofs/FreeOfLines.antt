@@ -11,10 +11,10 @@ use Rattle.dia_breaking.specs.declared.line.Cause.{Cause}
 use Rattle.dia_breaking.specs.declared.line.Cause.TheVariants as causes
 use Rattle.dia_breaking.specs.declared.line.Line.{Line}
 use Rattle.dia_breaking.specs.declared.line.Site.{Site}
-use Rattle.dia_breaking.specs.Confirmed.{told_of}
-use Rattle.dia_breaking.specs.Free.{IsLineOf, IsFreeLevel, TellsFlags, IsFree, AreValidWhereFree}
-use Rattle.dia_breaking.specs.Headers.{TellsRefusal}
-use Rattle.dia_breaking.specs.Mended.{AreValidOnceMended, IsUnsent}
+use Rattle.dia_breaking.specs.Confirmed.{recorded_of}
+use Rattle.dia_breaking.specs.Free.{IsLineOf, IsFreeLevel, RecordsFlags, IsFree, AreValidWhereFree}
+use Rattle.dia_breaking.specs.Headers.{RecordsRefusal}
+use Rattle.dia_breaking.specs.Corrected.{AreValidOnceCorrected, IsUnsent}
 use Rattle.dia_breaking.specs.OwnKeys.{data_key, flags_key}
 use Rattle.dia_breaking.specs.Sides.{sides, answer}
 use Rattle.dia_breaking.proofs.Lists.{same_image}
@@ -23,13 +23,13 @@ no_member : (lines : List Line) (line : Line) → lines ≡ [] → Contains line
 no_member lines line none (i, within, is) = absurd (let e : length lines ≡ 0 = ap length none in omega (arith, within, e))
 
 -- where nothing is reported, each message is free
-pub nothing_told : (da db : Dictionary) (who : Sends) (u : Unknown) (sites : List Site) (lines : List Line) (c : ℕ) → AreValidWhereFree (sides da db who u) (answer c sites lines) → lines ≡ [] → AreValid da db who u c
-nothing_told da db who u sites lines c valid none bytes sent =
+pub nothing_recorded : (da db : Dictionary) (who : Sends) (u : Unknown) (sites : List Site) (lines : List Line) (c : ℕ) → AreValidWhereFree (sides da db who u) (answer c sites lines) → lines ≡ [] → AreValid da db who u c
+nothing_recorded da db who u sites lines c valid none bytes sent =
     valid bytes sent (record {
-      selects = λ told. absurd (no_member lines told.0 none told.1);
-      proxiable = λ other is told. absurd (no_member lines told.0 none told.3);
+      selects = λ recorded. absurd (no_member lines recorded.0 none recorded.1);
+      proxiable = λ other is recorded. absurd (no_member lines recorded.0 none recorded.3);
       levels = λ other is a b inner lies. record {
-        level = λ line told inside. absurd (no_member lines line none inside);
+        level = λ line recorded inside. absurd (no_member lines line none inside);
         flags = λ line key v inside. absurd (no_member lines line none inside);
         content = λ line key v inside. absurd (no_member lines line none inside);
       };
@@ -43,13 +43,13 @@ all_valid da db who u sites lines c valid bytes sent free = valid bytes sent
 pub unsent_valid : (da db : Dictionary) (who : Sends) (u : Unknown) (c : ℕ) → IsUnsent (sides da db who u) c → AreValid da db who u c
 unsent_valid da db who u c unsent bytes sent = absurd (unsent bytes sent)
 
-pub unsent_mended : (da db : Dictionary) (who : Sends) (u : Unknown) (sites : List Site) (lines : List Line) (c : ℕ) → IsUnsent (sides da db who u) c
-    → AreValidOnceMended (sides da db who u) (answer c sites lines)
-unsent_mended da db who u sites lines c unsent bytes mended sent app site other header level asked mends message = absurd (unsent bytes sent)
+pub unsent_corrected : (da db : Dictionary) (who : Sends) (u : Unknown) (sites : List Site) (lines : List Line) (c : ℕ) → IsUnsent (sides da db who u) c
+    → AreValidOnceCorrected (sides da db who u) (answer c sites lines)
+unsent_corrected da db who u sites lines c unsent bytes corrected sent app site other header level asked mends message = absurd (unsent bytes sent)
 
 -- ---- lines of which something else is known
 
-module _ (da db : Dictionary) (u : Unknown) (sites : List Site) (old new : List Line) (c : ℕ) (same : map told_of new ≡ map told_of old) where
+module _ (da db : Dictionary) (u : Unknown) (sites : List Site) (old new : List Line) (c : ℕ) (same : map recorded_of new ≡ map recorded_of old) where
   -- a line of these sites and these causes
   record There (line : Line) : Type 0 where
     other : Line
@@ -59,7 +59,7 @@ module _ (da db : Dictionary) (u : Unknown) (sites : List Site) (old new : List 
 
   there : (line : Line) → Contains old line → There line
   there line inside =
-      let r = same_image told_of old new line (sym same) inside in
+      let r = same_image recorded_of old new line (sym same) inside in
       record { other = r.0; inside = r.1; site = ap (λ (p : ℕ × Cause). p.0) r.2; cause = ap (λ (p : ℕ × Cause). p.1) r.2 }
 
   its_levels : (line : Line) (t : There line) (x y : PlainDefinition) → IsLineOf da db sites c line x y → IsLineOf da db sites c t.other x y
@@ -67,31 +67,31 @@ module _ (da db : Dictionary) (u : Unknown) (sites : List Site) (old new : List 
 
   free_level : (x y : PlainDefinition) (avps : List PlainAvp) → IsFreeLevel da db u sites new c x y avps → IsFreeLevel da db u sites old c x y avps
   free_level x y avps free = record {
-    level = λ line told inside cause of. let t = there line inside in free.level t.other told t.inside (t.cause ∙ cause) (its_levels line t x y of);
+    level = λ line recorded inside cause of. let t = there line inside in free.level t.other recorded t.inside (t.cause ∙ cause) (its_levels line t x y of);
     flags = λ line key v inside is. let t = there line inside in free.flags t.other key v t.inside (ap flags_key t.cause ∙ is);
     content = λ line key v inside is. let t = there line inside in free.content t.other key v t.inside (ap data_key t.cause ∙ is);
   }
 
-  refusal : TellsRefusal old → TellsRefusal new
+  refusal : RecordsRefusal old → RecordsRefusal new
   refusal (line, inside, cause) = let t = there line inside in (t.other, t.inside, by t cause)
     where
       by : (t : There line) → (line.cause ≡ causes.Command) ⊎ (line.cause ≡ causes.Application) → (t.other.cause ≡ causes.Command) ⊎ (t.other.cause ≡ causes.Application)
       by t (inl e) = inl (t.cause ∙ e)
       by t (inr e) = inr (t.cause ∙ e)
 
-  flags_told : (other : PlainDefinition) (flags : ℕ) → TellsFlags da db sites old c other flags → TellsFlags da db sites new c other flags
-  flags_told other flags (line, set, x, inside, cause, of, has) = let t = there line inside in (t.other, set, x, t.inside, t.cause ∙ cause, its_levels line t x other of, has)
+  flags_recorded : (other : PlainDefinition) (flags : ℕ) → RecordsFlags da db sites old c other flags → RecordsFlags da db sites new c other flags
+  flags_recorded other flags (line, set, x, inside, cause, of, has) = let t = there line inside in (t.other, set, x, t.inside, t.cause ∙ cause, its_levels line t x other of, has)
 
   still_free : (header : Header) (command : PlainDefinition) (avps : List PlainAvp) → IsFree da db u sites new c header command avps → IsFree da db u sites old c header command avps
   still_free header command avps free = record {
-    selects = λ told. free.selects (refusal told);
-    proxiable = λ other is told. free.proxiable other is (flags_told other header.flags told);
+    selects = λ recorded. free.selects (refusal recorded);
+    proxiable = λ other is recorded. free.proxiable other is (flags_recorded other header.flags recorded);
     levels = λ other is a b inner lies. free_level a b inner (free.levels other is a b inner lies);
   }
 
   pub still_valid : (who : Sends) → AreValidWhereFree (sides da db who u) (answer c sites old) → AreValidWhereFree (sides da db who u) (answer c sites new)
   still_valid who valid bytes sent free = valid bytes sent (still_free sent.header sent.command sent.avps free)
 
-  pub still_mended : (who : Sends) → AreValidOnceMended (sides da db who u) (answer c sites old) → AreValidOnceMended (sides da db who u) (answer c sites new)
-  still_mended who valid bytes mended sent app site other header level asked mends message =
-      valid bytes mended sent app site other header level (λ a b inner lies. free_level a b inner (asked a b inner lies)) mends message
+  pub still_corrected : (who : Sends) → AreValidOnceCorrected (sides da db who u) (answer c sites old) → AreValidOnceCorrected (sides da db who u) (answer c sites new)
+  still_corrected who valid bytes corrected sent app site other header level asked mends message =
+      valid bytes corrected sent app site other header level (λ a b inner lies. free_level a b inner (asked a b inner lies)) mends message

@@ -61,11 +61,11 @@ inside k r from to = and_from (leb r.0 k) (leb k r.1) (le-leb r.0 k from) (le-le
 before : (k : ℕ) (r : ℕ × ℕ) → k < r.0 → covers k r ≡ false
 before k r lt = ap (λ (b : Bool). b && leb k r.1) (lt-leb r.0 k lt)
 
-behind : (k : ℕ) (r : ℕ × ℕ) → r.1 < k → covers k r ≡ false
-behind k r lt = and_no (leb r.0 k) (leb k r.1) (lt-leb k r.1 lt)
+following : (k : ℕ) (r : ℕ × ℕ) → r.1 < k → covers k r ≡ false
+following k r lt = and_no (leb r.0 k) (leb k r.1) (lt-leb k r.1 lt)
 
 empty : (k : ℕ) (r : ℕ × ℕ) → r.1 < r.0 → covers k r ≡ false
-empty k r lt = elim (cases_lt k r.0) [ inl first ↦ before k r first | inr from ↦ behind k r (omega (arith, lt, from)) ]
+empty k r lt = elim (cases_lt k r.0) [ inl first ↦ before k r first | inr from ↦ following k r (omega (arith, lt, from)) ]
 
 -- ---- ranges in order and apart, from n on
 
@@ -145,7 +145,7 @@ runs_are test (suc count) n e (r ∷ rs) is from below same =
           elim (cases_order n r.1) [
             | inl last ↦ (
                 let ih : rest ≡ rs = runs_are test count (suc n) e rs is' (from_less (suc n) (r.1 + 2) rs (omega (arith, last)) from.2) below.1
-                (λ k le lt. same k (omega (arith, le)) lt ∙ ap (λ (b : Bool). b || holds rs k) (behind k r (omega (arith, last, le)))) in
+                (λ k le lt. same k (omega (arith, le)) lt ∙ ap (λ (b : Bool). b || holds rs k) (following k r (omega (arith, last, le)))) in
                 on (test n) (put_before n rest) rest passes ∙ ap (put_before n) ih ∙ put_apart n rs (from_less (n + 2) (r.1 + 2) rs (omega (arith, last)) from.2)
                 ∙ ap (λ (x : ℕ × ℕ). x ∷ rs) (range_is n n r here last))
             | inr (inl more) ↦ (
@@ -211,7 +211,7 @@ around low high r rest tail reach begins some from are = (
             let parts = and_parts (covers k (suc r.1, high)) (not (holds rest k)) (sym (are.2 k) ∙ last) in
             let w = within k (suc r.1, high) parts.0 in
             and_from (covers k (low, high)) (not (holds (r ∷ rest) k)) (inside k (low, high) (omega (arith, w.0, reach)) w.1)
-            (ap (λ (b : Bool). not (b || holds rest k)) (behind k r (omega (arith, w.0))) ∙ parts.1))
+            (ap (λ (b : Bool). not (b || holds rest k)) (following k r (omega (arith, w.0))) ∙ parts.1))
       ])
       (λ t. (
       let parts = and_parts (covers k (low, high)) (not (holds (r ∷ rest) k)) t in
@@ -235,7 +235,7 @@ passed_gaps low high r rest found past are = (
   are.0,
   are.1,
   λ k. are.2 k ∙ and_same (covers k (low, high)) (not (holds rest k)) (not (holds (r ∷ rest) k))
-      (λ t. ap not (sym (ap (λ (b : Bool). b || holds rest k) (behind k r (omega (arith, (within k (low, high) t).0, past)))))),
+      (λ t. ap not (sym (ap (λ (b : Bool). b || holds rest k) (following k r (omega (arith, (within k (low, high) t).0, past)))))),
 )
 
 whole_gap : (low high : ℕ) (r : ℕ × ℕ) (rest : List (ℕ × ℕ)) → low ≤ high → high < r.0 → r.0 ≤ r.1 → IsFrom (r.1 + 2) rest → AreGaps low high (r ∷ rest) ((low, high) ∷ [])

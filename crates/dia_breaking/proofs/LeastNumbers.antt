@@ -6,7 +6,7 @@ use Rattle.std.proofs.lemmas.List.Sorted.{Contains-permutation}
 use Rattle.std.proofs.lemmas.Bool.{cases_lt}
 use Rattle.std.proofs.lemmas.List.{get_or-take, get_or_default, length-take, take_all, take_more}
 use Rattle.std.proofs.lemmas.List.Elements.{Contains-append_left, Contains-append_right, Contains-append_cases, Contains-get_or, Contains-push_cases}
-use Rattle.dia_breaking.specs.ToldApps.{IsNamed}
+use Rattle.dia_breaking.specs.RecordedApps.{IsNamed}
 
 -- all numbers below are there; and the number itself is not among these, or it is the greatest of 32 bits
 abbrev pub IsLeastBeside : List ℕ → List ℕ → ℕ → Type 0

@@ -14,7 +14,7 @@ pub mod OtherReadings
 pub mod OneSolution
 mod OrderedKeys
 mod Starts
-mod TellingPlaces
+mod RecordingPlaces
 mod LeastNumbers
 mod FoundApps
 mod FoundExits
@@ -27,20 +27,20 @@ pub mod SentLevels
 pub mod Lists
 pub mod Outlooks
 pub mod OpenCommands
-pub mod ToldHeaders
+pub mod RecordedHeaders
 pub mod TooLong
-mod MendedHeaders
-mod MendedLines
+mod CorrectedHeaders
+mod CorrectedLines
 mod Nested
 mod OneMessage
 pub mod SomeMessages
 pub mod MessageBytes
-mod OnceMended
+mod OnceCorrected
 pub mod FreeOfLines
 mod Paths
 mod ValueTexts
 pub mod InOrder
-pub mod ToldLists
+pub mod RecordedLists
 pub mod OneListing
 mod FoundLines
 pub mod Listings
@@ -48,7 +48,7 @@ pub mod OneOwn
 pub mod OneStart
 pub mod TheOneList
 mod OneStock
-pub mod ToldLines
+pub mod RecordedLines
 pub mod EachLevelLine
 pub mod LookedHeaders
 pub mod Reached
@@ -64,11 +64,11 @@ mod Fronts
 mod GapsInRanges
 mod LackingNumbers
 mod CostsOfSides
-mod ToldLevels
+mod RecordedLevels
 mod ReadNumbers
 mod RefusedLevels
 mod ShownLevels
-mod OwnTold
+mod OwnRecorded
 mod SpelledLevels
 mod ShownAvps
 mod EachShown

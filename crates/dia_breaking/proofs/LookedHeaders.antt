@@ -21,8 +21,8 @@ use Rattle.dia_breaking.specs.declared.apps.Apps.{Apps}
 use Rattle.dia_breaking.specs.declared.heads.Head.{Head}
 use Rattle.dia_breaking.specs.declared.readings.Reading.{Reading}
 use Rattle.dia_breaking.specs.Headers.{AreApps, app_row, apps_of, head_in, row_app, rows_of}
-use Rattle.dia_breaking.specs.Readings.{AreReadings, as_other, as_sent, one_other, reading_behind}
-use Rattle.dia_breaking.specs.ToldApps.{IsLeastUnnamed, IsNamed, selects}
+use Rattle.dia_breaking.specs.Readings.{AreReadings, as_other, as_sent, one_other, reading_after}
+use Rattle.dia_breaking.specs.RecordedApps.{IsLeastUnnamed, IsNamed, selects}
 use Rattle.dia_breaking.proofs.FoundApps.{selects_it}
 use Rattle.dia_breaking.proofs.OpenCommands.{named_listed}
 
@@ -215,18 +215,18 @@ module _ (da db : Dictionary) (first second : Apps) (in_a : AreApps da first) (i
   abbrev AreOpenHere : Type 0
   AreOpenHere = (found : Option ℕ) × IsLeastUnnamed named_a named_b found × (apps ≡ filter (selects da c head) named_b ++ option_to_list found)
 
-  abbrev AreToldHere : Type 0
-  AreToldHere = MatchOption head.app AreOpenHere (λ app. apps ≡ app ∷ [])
+  abbrev AreRecordedHere : Type 0
+  AreRecordedHere = MatchOption head.app AreOpenHere (λ app. apps ≡ app ∷ [])
 
-  one : AreToldHere → head.app ≡ Some own → apps ≡ own ∷ []
-  one told is = subst (λ (o : Option ℕ). MatchOption o AreOpenHere (λ app. apps ≡ app ∷ [])) is told
+  one : AreRecordedHere → head.app ≡ Some own → apps ≡ own ∷ []
+  one recorded is = subst (λ (o : Option ℕ). MatchOption o AreOpenHere (λ app. apps ≡ app ∷ [])) is recorded
 
-  open_told : AreToldHere → head.app ≡ None → AreOpenHere
-  open_told told is = subst (λ (o : Option ℕ). MatchOption o AreOpenHere (λ app. apps ≡ app ∷ [])) is told
+  open_recorded : AreRecordedHere → head.app ≡ None → AreOpenHere
+  open_recorded recorded is = subst (λ (o : Option ℕ). MatchOption o AreOpenHere (λ app. apps ≡ app ∷ [])) is recorded
 
   -- one that B selects the same for is looked at
-  pub told_app : AreToldHere → (app : ℕ) × IsIn app apps × (selected db head.code head.class app ≡ selected db head.code head.class own)
-  told_app told = by how
+  pub recorded_app : AreRecordedHere → (app : ℕ) × IsIn app apps × (selected db head.code head.class app ≡ selected db head.code head.class own)
+  recorded_app recorded = by how
     where
       into : (app : ℕ) (all : List ℕ) → apps ≡ all → IsIn app all → IsIn app apps
       into app all are i = subst (λ (xs : List ℕ). IsIn app xs) (sym are) i
@@ -255,12 +255,12 @@ module _ (da db : Dictionary) (first second : Apps) (in_a : AreApps da first) (i
       by_open other none_a few (found, least, are) (inr n) = unnamed_by other none_a few (unnamed db head.code head.class own n) found least are
 
       by : (head.app ≡ Some own) ⊎ IsOpen da head own → (app : ℕ) × IsIn app apps × (selected db head.code head.class app ≡ selected db head.code head.class own)
-      by (inl is) = (own, into own (own ∷ []) (one told is) (inl refl), refl)
-      by (inr (none, other, none_a, few)) = by_open other none_a few (open_told told none) (found_or_not (is_own db head.code head.class own) db.commands)
+      by (inl is) = (own, into own (own ∷ []) (one recorded is) (inl refl), refl)
+      by (inr (none, other, none_a, few)) = by_open other none_a few (open_recorded recorded none) (found_or_not (is_own db head.code head.class own) db.commands)
 
   -- A selects the command for each of them
-  pub told_sent : AreToldHere → (app : ℕ) → IsIn app apps → selected da head.code head.class app ≡ Some c
-  told_sent told app i = by how
+  pub recorded_sent : AreRecordedHere → (app : ℕ) → IsIn app apps → selected da head.code head.class app ≡ Some c
+  recorded_sent recorded app i = by how
     where
       by_open : (other : head.class ≢ classes.Error) → ¬ NamesApp da head.code head.class own → AreOpenHere → selected da head.code head.class app ≡ Some c
       by_open other none_a (found, least, are) = part (in_append (filter (selects da c head) named_b) (option_to_list found) app (subst (λ (xs : List ℕ). IsIn app xs) are i))
@@ -281,8 +281,8 @@ module _ (da db : Dictionary) (first second : Apps) (in_a : AreApps da first) (i
       by_one (inr j) = absurd j
 
       by : (head.app ≡ Some own) ⊎ IsOpen da head own → selected da head.code head.class app ≡ Some c
-      by (inl is) = by_one (subst (λ (xs : List ℕ). IsIn app xs) (one told is) i)
-      by (inr (none, other, none_a, few)) = by_open other none_a (open_told told none)
+      by (inl is) = by_one (subst (λ (xs : List ℕ). IsIn app xs) (one recorded is) i)
+      by (inr (none, other, none_a, few)) = by_open other none_a (open_recorded recorded none)
 
 -- ---- readings
 
@@ -290,7 +290,7 @@ module _ (da db : Dictionary) (first second : Apps) (in_a : AreApps da first) (i
     (how : (head.app ≡ Some own) ⊎ IsOpen da head own) (readings : List Reading) (are : AreReadings da db (record { first = first; second = second }) c head readings) where
   -- a reading is of messages for which A selects the command
   pub reading_sent : (i : ℕ) (r : Reading) → slice_get readings i ≡ Some r → selected da head.code head.class r.app ≡ Some c
-  reading_sent i r at = by (at_append (map as_sent are.0) (option_to_list (reading_behind da db head)) i r (ap (λ (rs : List Reading). slice_get rs i) (sym are.2) ∙ at))
+  reading_sent i r at = by (at_append (map as_sent are.0) (option_to_list (reading_after da db head)) i r (ap (λ (rs : List Reading). slice_get rs i) (sym are.2) ∙ at))
     where
       by_app : (a : Option ℕ) → head.app ≡ a
           → option_and_then (λ app. if is_some (selected db head.code head.class app) then None else option_map (as_other app) (one_other da db head)) a ≡ Some r
@@ -308,25 +308,25 @@ module _ (da db : Dictionary) (first second : Apps) (in_a : AreApps da first) (i
           by_read false (Some other) e =
               ap (λ (q : Reading). selected da head.code head.class q.app) (sym (same_Some (as_other app other) r e)) ∙ ap (λ (n : ℕ). selected da head.code head.class n) (its how) ∙ sent
 
-      behind : (o : Option Reading) (j : ℕ) → reading_behind da db head ≡ o → slice_get (option_to_list o) j ≡ Some r → reading_behind da db head ≡ Some r
-      behind None j is here = absurd (none-some r here)
-      behind (Some q) zero is here = is ∙ here
-      behind (Some q) (suc j) is here = absurd (none-some r here)
+      following : (o : Option Reading) (j : ℕ) → reading_after da db head ≡ o → slice_get (option_to_list o) j ≡ Some r → reading_after da db head ≡ Some r
+      following None j is here = absurd (none-some r here)
+      following (Some q) zero is here = is ∙ here
+      following (Some q) (suc j) is here = absurd (none-some r here)
 
-      by : (slice_get (map as_sent are.0) i ≡ Some r) ⊎ ((j : ℕ) × (i ≡ length (map as_sent are.0) + j) × (slice_get (option_to_list (reading_behind da db head)) j ≡ Some r))
+      by : (slice_get (map as_sent are.0) i ≡ Some r) ⊎ ((j : ℕ) × (i ≡ length (map as_sent are.0) + j) × (slice_get (option_to_list (reading_after da db head)) j ≡ Some r))
           → selected da head.code head.class r.app ≡ Some c
       by (inl here) =
           let (app, there, same) = at_map as_sent are.0 i r here in
-          ap (λ (q : Reading). selected da head.code head.class q.app) (sym same) ∙ told_sent da db first second in_a in_b c head own sent how are.0 are.1 app (in_at are.0 i app there)
-      by (inr (j, is, here)) = by_app head.app refl (behind (reading_behind da db head) j refl here)
+          ap (λ (q : Reading). selected da head.code head.class q.app) (sym same) ∙ recorded_sent da db first second in_a in_b c head own sent how are.0 are.1 app (in_at are.0 i app there)
+      by (inr (j, is, here)) = by_app head.app refl (following (reading_after da db head) j refl here)
 
   -- one reads what the header selects
   pub reading_of : (i : ℕ) × (r : Reading) × (slice_get readings i ≡ Some r) × (selected db head.code head.class r.read_as ≡ selected db head.code head.class own)
   reading_of =
-      let (app, there, same) = told_app da db first second in_a in_b c head own sent how are.0 are.1 in
+      let (app, there, same) = recorded_app da db first second in_a in_b c head own sent how are.0 are.1 in
       let a = at_in are.0 app there in (
         a.place,
         as_sent app,
-        ap (λ (rs : List Reading). slice_get rs a.place) are.2 ∙ into_left (map as_sent are.0) (option_to_list (reading_behind da db head)) a.place (as_sent app) (into_map as_sent are.0 a.place app a.at),
+        ap (λ (rs : List Reading). slice_get rs a.place) are.2 ∙ into_left (map as_sent are.0) (option_to_list (reading_after da db head)) a.place (as_sent app) (into_map as_sent are.0 a.place app a.at),
         same,
       )

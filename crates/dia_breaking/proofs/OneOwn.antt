@@ -29,7 +29,7 @@ use Rattle.dia_breaking.specs.declared.own_breaks.OwnBreaks.{OwnBreaks}
 use Rattle.dia_breaking.specs.declared.own_lines.Kind.{Kind}
 use Rattle.dia_breaking.specs.declared.own_lines.Kind.TheVariants as kinds
 use Rattle.dia_breaking.specs.declared.sites.Numbers.{Numbers}
-use Rattle.dia_breaking.specs.Listing.{Told, Basis, Listed, IsListingOf, start_of, sites_of, lines_of, meanings_of, own_cause, own_line, own_lines, data_length, head_cause, reach_at, reached_line, with_room, numbers}
+use Rattle.dia_breaking.specs.Listing.{Recorded, Basis, Listed, IsListingOf, start_of, sites_of, lines_of, meanings_of, own_cause, own_line, own_lines, data_length, head_cause, reach_at, reached_line, with_room, numbers}
 use Rattle.dia_breaking.specs.Listing.{header_lines, command_levels, group_levels}
 use Rattle.dia_breaking.specs.Meanings.{IsReadAsOther}
 use Rattle.dia_breaking.specs.Orders.{IsInOrderOf, joined, of_each}
@@ -187,7 +187,7 @@ module _ (own others : List OwnBreaks) (are : AreAlike own others) (first count 
   same_line kind reached place x y a =
       let line : own_line kind first count x ≡ own_line kind first count y =
       λ j reach. option_and_then (λ (found : Cause × ℕ). with_room (site_number first count reach.level) found.1 found.0) (a.1 kind reach.length j) in
-      ap (λ (line : Reach → Option Told). option_to_list (option_and_then line (reach_at reached place))) line
+      ap (λ (line : Reach → Option Recorded). option_to_list (option_and_then line (reach_at reached place))) line
 
   same_lines : (kind : Kind) (reached : List (Option Reach)) → own_lines kind first count own reached ≡ own_lines kind first count others reached
   same_lines kind reached =
@@ -224,9 +224,9 @@ lines_alike db basis others are n steps reached =
 pub meanings_alike : IsListedAlike meanings_of
 meanings_alike db basis others are n steps reached = same_lines basis.own others are n.first n.count kinds.Meaning reached
 
-pub listing_by : (listed : Listed) → IsListedAlike listed → (db : Dictionary) (basis : Basis) (others : List OwnBreaks) (sites : List Site) (told : List Told) → AreAlike basis.own others
-    → IsListingOf listed db basis sites told → IsListingOf listed db (record basis { own = others }) sites told
-listing_by listed listed_alike db basis others sites told are is =
+pub listing_by : (listed : Listed) → IsListedAlike listed → (db : Dictionary) (basis : Basis) (others : List OwnBreaks) (sites : List Site) (recorded : List Recorded) → AreAlike basis.own others
+    → IsListingOf listed db basis sites recorded → IsListingOf listed db (record basis { own = others }) sites recorded
+listing_by listed listed_alike db basis others sites recorded are is =
     let first = unwrap_or (start_of db basis) 0 in
     let count = length basis.readings in
     let next : Basis = record basis { own = others } in
@@ -237,5 +237,5 @@ listing_by listed listed_alike db basis others sites told are is =
       reached = is.reached;
       is_walk = is.is_walk;
       sites_are = is.sites_are ∙ sites_same;
-      lines_are = subst (λ (all : List Told). IsInOrderOf (λ (line : Told). line.site) all told) (listed_alike db basis others are (numbers first count) is.steps is.reached) is.lines_are;
+      lines_are = subst (λ (all : List Recorded). IsInOrderOf (λ (line : Recorded). line.site) all recorded) (listed_alike db basis others are (numbers first count) is.steps is.reached) is.lines_are;
     }

@@ -13,12 +13,12 @@ use Rattle.dia_policy.specs.declared.Sends.TheVariants.{Any, Known, Listed}
 use Rattle.dia_breaking.specs.declared.apps.Apps.{Apps}
 use Rattle.dia_breaking.specs.declared.heads.Head.{Head}
 use Rattle.dia_breaking.specs.declared.keys.Own.{Own}
-use Rattle.dia_breaking.specs.declared.keys.Telling.{Telling}
+use Rattle.dia_breaking.specs.declared.keys.Recording.{Recording}
 use Rattle.dia_breaking.specs.Headers.{apps_of, both_apps}
 use Rattle.dia_breaking.specs.Lengths.{AreExactlyOthers, listed_length}
 use Rattle.dia_breaking.specs.SentKeys.{AreSentInOrder, IsStranger, entry_keys, keys_of_b_alone}
-use Rattle.dia_breaking.specs.Telling.{AreOwnOf, IsExactlyOwn, IsExactTelling, is_news}
-use Rattle.dia_breaking.specs.ToldApps.{AreOpenApps, AreToldApps, IsLeastUnnamed, selects}
+use Rattle.dia_breaking.specs.Recording.{AreOwnOf, IsExactlyOwn, IsExactRecording, is_news}
+use Rattle.dia_breaking.specs.RecordedApps.{AreOpenApps, AreRecordedApps, IsLeastUnnamed, selects}
 use Rattle.dia_breaking.specs.Sides.{sides}
 use Rattle.dia_breaking_shortest.proofs.OneOrder.{one_sorted}
 
@@ -78,15 +78,15 @@ module _ (da db : Dictionary) (who : Sends) (u : Unknown) where
       let rest : all ≡ others = one_list all others (ap rest_keys same) (All-tail P own all each) (All-tail P other others each_other) in
       λ i. here i ∷ rest i
 
-  pub one_list_told : (keys : List Key) (all others : List Own) → AreOwnOf (sides da db who u) keys all → AreOwnOf (sides da db who u) keys others → all ≡ others
-  one_list_told keys all others are are_other = one_list all others (are.0 ∙ sym are_other.0) are.1 are_other.1
+  pub one_list_recorded : (keys : List Key) (all others : List Own) → AreOwnOf (sides da db who u) keys all → AreOwnOf (sides da db who u) keys others → all ≡ others
+  one_list_recorded keys all others are are_other = one_list all others (are.0 ∙ sym are_other.0) are.1 are_other.1
 
-  pub one_telling : (telling other : Telling) → IsExactTelling (sides da db who u) telling → IsExactTelling (sides da db who u) other
-      → (telling.own.items ≡ other.own.items) × ((key : Key) → get same_key telling.places key ≡ get same_key other.places key)
-  one_telling telling other is are =
+  pub one_recording : (recording other : Recording) → IsExactRecording (sides da db who u) recording → IsExactRecording (sides da db who u) other
+      → (recording.own.items ≡ other.own.items) × ((key : Key) → get same_key recording.places key ≡ get same_key other.places key)
+  one_recording recording other is are =
       let keys = one_list_sent da db who is.keys are.keys is.sent are.sent in
-      let all = one_list_told are.keys is.all are.all (subst (λ (ks : List Key). AreOwnOf (sides da db who u) ks is.all) keys is.each) are.each in
-      let items : telling.own.items ≡ other.own.items = is.told_are ∙ ap (filter is_news) all ∙ sym are.told_are in
+      let all = one_list_recorded are.keys is.all are.all (subst (λ (ks : List Key). AreOwnOf (sides da db who u) ks is.all) keys is.each) are.each in
+      let items : recording.own.items ≡ other.own.items = is.recorded_are ∙ ap (filter is_news) all ∙ sym are.recorded_are in
       (items, λ key. is.places key ∙ ap (position (λ (own : Own). same_key own.key key)) items ∙ sym (are.places key))
 
 -- ---- the applications of a command
@@ -102,7 +102,7 @@ one_unnamed first second (Some app) (Some other) least least_other = by (cases_o
     by (inr (inl lt)) = absurd (least.1 (least_other.2 app lt))
     by (inr (inr gt)) = absurd (least_other.1 (least.2 other gt))
 
-pub one_list_of_apps : (da : Dictionary) (first second : Apps) (c : ℕ) (head : Head) (apps others : List ℕ) → AreToldApps da (both_apps first second) c head apps → AreToldApps da (both_apps first second) c head others
+pub one_list_of_apps : (da : Dictionary) (first second : Apps) (c : ℕ) (head : Head) (apps others : List ℕ) → AreRecordedApps da (both_apps first second) c head apps → AreRecordedApps da (both_apps first second) c head others
     → apps ≡ others
 one_list_of_apps da first second c head apps others are are_other = by head.app are are_other
   where

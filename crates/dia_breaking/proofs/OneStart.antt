@@ -20,7 +20,7 @@ use Rattle.dia_breaking.specs.declared.exits.Exits.{Exits}
 use Rattle.dia_breaking.specs.declared.exits.Inner.{Inner}
 use Rattle.dia_breaking.specs.declared.exits.Outlook.{Outlook}
 use Rattle.dia_breaking.specs.declared.heads.Head.{Head}
-use Rattle.dia_breaking.specs.declared.keys.Telling.{Telling}
+use Rattle.dia_breaking.specs.declared.keys.Recording.{Recording}
 use Rattle.dia_breaking.specs.declared.readings.Reading.{Reading}
 use Rattle.dia_breaking.specs.declared.start.Start.{Start}
 use Rattle.dia_breaking.specs.Exits.{AreExits, IsInnerOrNone, IsOutlook, exit_by}
@@ -30,14 +30,14 @@ use Rattle.dia_breaking.specs.LevelCosts.{cost_of, with_listed}
 use Rattle.dia_breaking.specs.Listing.{lines_in}
 use Rattle.dia_breaking.specs.Nodes.{exits_in, level_in, node_in}
 use Rattle.dia_breaking.specs.Outlooks.{group_rules}
-use Rattle.dia_breaking.specs.Readings.{AreReadings, as_sent, reading_behind}
+use Rattle.dia_breaking.specs.Readings.{AreReadings, as_sent, reading_after}
 use Rattle.dia_breaking.specs.TheLines.{AreLinesOf, AreIfRoom, AreLevels, AreLinesBetween, HasLevelLines, IsCommandLevel, IsStartOf}
-use Rattle.dia_breaking.specs.ToldApps.{AreToldApps, IsLeastUnnamed, selects}
+use Rattle.dia_breaking.specs.RecordedApps.{AreRecordedApps, IsLeastUnnamed, selects}
 use Rattle.dia_breaking.proofs.OneSolution.{first_key, one_list_of_apps, rest_keys}
 
 -- ---- where levels lead
 
-module _ (k : Costs) (t next : Telling) (places : (key : Key) → get same_key t.places key ≡ get same_key next.places key) where
+module _ (k : Costs) (t next : Recording) (places : (key : Key) → get same_key t.places key ≡ get same_key next.places key) where
   pub one_exits : (rules : List DRule) (x y : Exits) → AreExits t k rules x → AreExits next k rules y → (x.base ≡ y.base) × (exits_in x ≡ exits_in y)
   one_exits rules x y is are =
       let cost = cost_of k.listed k.other k.others rules in
@@ -67,8 +67,8 @@ module _ (k : Costs) (t next : Telling) (places : (key : Key) → get same_key t
         let same = lines_one k.listed k.other k.others (group_rules da key) (group_rules db key) x.lines.items y.lines.items lines more in
         (λ i. Some (record { least = least i; exits = exits.1 i }), same)
 
-    abbrev IsKept : Telling → Outlook → Type 0
-    IsKept telling outlook = IsOutlook da db telling k outlook
+    abbrev IsKept : Recording → Outlook → Type 0
+    IsKept recording outlook = IsOutlook da db recording k outlook
 
     abbrev HasKeptLines : Outlook → Type 0
     HasKeptLines outlook = HasLevelLines da db k outlook
@@ -102,22 +102,22 @@ module _ (da : Dictionary) (c : ℕ) (head : Head) (apps : List ℕ) where
   abbrev AreOpenBy : List ℕ → List ℕ → Type 0
   AreOpenBy first second = (found : Option ℕ) × IsLeastUnnamed first second found × (apps ≡ filter (selects da c head) second ++ option_to_list found)
 
-  abbrev AreToldBy : List ℕ → List ℕ → Type 0
-  AreToldBy first second = MatchOption head.app (AreOpenBy first second) (λ app. apps ≡ app ∷ [])
+  abbrev AreRecordedBy : List ℕ → List ℕ → Type 0
+  AreRecordedBy first second = MatchOption head.app (AreOpenBy first second) (λ app. apps ≡ app ∷ [])
 
-  told_by : (x y first second : Apps) → apps_of x head.code head.class ≡ apps_of first head.code head.class → apps_of y head.code head.class ≡ apps_of second head.code head.class
-      → AreToldApps da (both_apps x y) c head apps → AreToldApps da (both_apps first second) c head apps
-  told_by x y first second p q are =
-      subst (λ (named : List ℕ). AreToldBy (apps_of first head.code head.class) named) q
-      (subst (λ (named : List ℕ). AreToldBy named (apps_of y head.code head.class)) p are)
+  recorded_by : (x y first second : Apps) → apps_of x head.code head.class ≡ apps_of first head.code head.class → apps_of y head.code head.class ≡ apps_of second head.code head.class
+      → AreRecordedApps da (both_apps x y) c head apps → AreRecordedApps da (both_apps first second) c head apps
+  recorded_by x y first second p q are =
+      subst (λ (named : List ℕ). AreRecordedBy (apps_of first head.code head.class) named) q
+      (subst (λ (named : List ℕ). AreRecordedBy named (apps_of y head.code head.class)) p are)
 
 module _ (da db : Dictionary) (x y first second : Apps) (a : AreApps da x) (b : AreApps db y) (a_too : AreApps da first) (b_too : AreApps db second) (c : ℕ) (head : Head) where
   one_room : (has_room : Bool) (readings others : List Reading) → AreIfRoom has_room (AreReadings da db (both_apps x y) c head) readings
       → AreIfRoom has_room (AreReadings da db (both_apps first second) c head) others → readings ≡ others
-  one_room true readings others (apps, told, is) (more, told_too, are) =
-      let same : apps ≡ more = one_list_of_apps da x y c head apps more told
-      (told_by da c head more first second x y (same_apps da first x a_too a head.code head.class) (same_apps db second y b_too b head.code head.class) told_too) in
-      is ∙ ap (λ (apps : List ℕ). map as_sent apps ++ option_to_list (reading_behind da db head)) same ∙ sym are
+  one_room true readings others (apps, recorded, is) (more, recorded_too, are) =
+      let same : apps ≡ more = one_list_of_apps da x y c head apps more recorded
+      (recorded_by da c head more first second x y (same_apps da first x a_too a head.code head.class) (same_apps db second y b_too b head.code head.class) recorded_too) in
+      is ∙ ap (λ (apps : List ℕ). map as_sent apps ++ option_to_list (reading_after da db head)) same ∙ sym are
   one_room false readings others is are = is ∙ sym are
 
 -- ---- the levels of a command
@@ -155,7 +155,7 @@ pub record AreSame (s r : Start) : Type 0 where
   pub readings : s.readings.items ≡ r.readings.items
   pub levels : levels_in s ≡ levels_in r
 
-module _ (da db : Dictionary) (k : Costs) (t next : Telling) (places : (key : Key) → get same_key t.places key ≡ get same_key next.places key) (c : ℕ) where
+module _ (da db : Dictionary) (k : Costs) (t next : Recording) (places : (key : Key) → get same_key t.places key ≡ get same_key next.places key) (c : ℕ) where
   pub one_start : (s r : Start) → s.head ≡ r.head → IsStartOf da db t k c s → IsStartOf da db next k c r → AreSame s r
   one_start s r head is are =
       let both = one_exits k t next places (rules_in da c) is.exits are.exits is.are_exits are.are_exits in

@@ -23,7 +23,7 @@ use Rattle.dia_breaking_avps.specs.Breaks.{AcceptsFlags, RefusesFlag, IsDataBrea
 use Rattle.dia_breaking_avps.specs.Levels.{empty, AreAddresses, HasEightBytes, IsUndecided, RefusesLeastLevel}
 use Rattle.dia_breaking_avps.specs.Sent.{HasGroup, group_of, group_rules}
 use Rattle.dia_breaking.specs.Taken.{AreGroups, IsDataTaken}
-use Rattle.dia_breaking.specs.Telling.{BreaksNothing}
+use Rattle.dia_breaking.specs.Recording.{BreaksNothing}
 
 pub has_group : (d : Dictionary) (key : Key) (n : ℕ) → HasGroup d key n → IsSome (group_of d key)
 has_group d key n (group, is, at) = ap (λ (o : Option PlainDefinition). is_some o) is

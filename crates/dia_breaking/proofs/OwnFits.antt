@@ -44,14 +44,14 @@ use Rattle.dia_breaking.specs.declared.line.Site.{Site}
 use Rattle.dia_breaking.specs.declared.own_breaks.OwnBreaks.{OwnBreaks}
 use Rattle.dia_breaking.specs.declared.own_lines.Kind.{Kind}
 use Rattle.dia_breaking.specs.declared.own_lines.Kind.TheVariants as kinds
-use Rattle.dia_breaking.specs.Free.{IsFreeLevel, StandsIn}
+use Rattle.dia_breaking.specs.Free.{IsFreeLevel, OccursIn}
 use Rattle.dia_breaking.specs.LevelCosts.{PicksShortest}
-use Rattle.dia_breaking.specs.Listing.{Told, data_length, head_cause, own_cause, own_lines, with_data}
+use Rattle.dia_breaking.specs.Listing.{Recorded, data_length, head_cause, own_cause, own_lines, with_data}
 use Rattle.dia_breaking.specs.OwnBreaks.{IsOwnBreaks}
 use Rattle.dia_breaking.specs.OwnKeys.{data_key, flags_key}
 use Rattle.dia_breaking.specs.SentKeys.{AreSentKeys, IsStrange}
 use Rattle.dia_breaking.specs.Taken.{AreGroups, IsDataTaken}
-use Rattle.dia_breaking.specs.Telling.{BreaksNothing}
+use Rattle.dia_breaking.specs.Recording.{BreaksNothing}
 use Rattle.dia_breaking.specs.TheLines.{AreFacts, Facts, costs_in}
 use Rattle.dia_breaking.specs.Sides.{sides}
 use Rattle.dia_breaking.proofs.SentPrices.{strange_least}
@@ -62,7 +62,7 @@ use Rattle.dia_breaking.proofs.SentKeys.{sent_of}
 use Rattle.dia_breaking.proofs.Shortest.{unlisted}
 use Rattle.dia_breaking.proofs.OwnBreaks.{has_group}
 use Rattle.dia_breaking.proofs.Tellings.{any_data, strange_flags}
-use Rattle.dia_breaking.proofs.ToldLines.{IsToldIn, own_told, subject_data, subject_flags}
+use Rattle.dia_breaking.proofs.RecordedLines.{IsRecordedIn, own_recorded, subject_data, subject_flags}
 
 -- an AVP whose flags B accepts, and whose data it accepts, or in which both dictionaries see a level, fits alone
 module _ (da db : Dictionary) (u : Unknown) (v : PlainAvp) where
@@ -98,23 +98,23 @@ sends_any d who key bytes none sent =
 module _ (da db : Dictionary) (who : Sends) (u : Unknown) (made : Facts) (facts : AreFacts (sides da db who u) made) (sa : IsDictionary da)
     (shortest : PicksShortest da db (costs_in (sides da db who u) made)) (floors : AreFloors da who (costs_in (sides da db who u) made).listed) (start : PlainExits) (steps : List Step)
     (reached : List (Option Reach)) (top under : PlainDefinition)
-    (walk : IsWalk (graph da db who u made.lengths made.others made.telling made.outlooks facts.is_telling facts.are_outlooks sa shortest floors start steps reached top under) steps reached)
-    (sites : List Site) (lines : List Line) (c first count : ℕ) (told : (kind : Kind) (t : Told) → IsOfLines kind → IsIn t (own_lines kind first count made.own reached) → IsToldIn lines t) where
+    (walk : IsWalk (graph da db who u made.lengths made.others made.recording made.outlooks facts.is_recording facts.are_outlooks sa shortest floors start steps reached top under) steps reached)
+    (sites : List Site) (lines : List Line) (c first count : ℕ) (recorded : (kind : Kind) (t : Recorded) → IsOfLines kind → IsIn t (own_lines kind first count made.own reached) → IsRecordedIn lines t) where
   abbrev floor : Key → ℕ
   floor = (costs_in (sides da db who u) made).listed
 
   abbrev KeptHere : Key → Type 0
-  KeptHere key = Kept da db who u made.lengths made.others made.telling made.outlooks facts.is_telling facts.are_outlooks key
+  KeptHere key = Kept da db who u made.lengths made.others made.recording made.outlooks facts.is_recording facts.are_outlooks key
 
   abbrev FoundHere : Key → Type 0
-  FoundHere key = Found da db who u made.lengths made.others made.telling made.outlooks facts.is_telling facts.are_outlooks key
+  FoundHere key = Found da db who u made.lengths made.others made.recording made.outlooks facts.is_recording facts.are_outlooks key
 
   abbrev pub LevelHere : PlainDefinition → PlainDefinition → List PlainAvp → Type 0
   LevelHere x y avps =
-      AtLevel da db who u made.lengths made.others made.telling made.outlooks facts.is_telling facts.are_outlooks sa shortest floors start steps reached top under x y avps
+      AtLevel da db who u made.lengths made.others made.recording made.outlooks facts.is_recording facts.are_outlooks sa shortest floors start steps reached top under x y avps
 
-  keys_sent : AreSentKeys da db who facts.is_telling.keys
-  keys_sent = sent_of da db who facts.is_telling.keys facts.is_telling.sent
+  keys_sent : AreSentKeys da db who facts.is_recording.keys
+  keys_sent = sent_of da db who facts.is_recording.keys facts.is_recording.sent
 
   -- how it breaks is recorded, too
   record KeptOwn (key : Key) (place : ℕ) : Type 0 where
@@ -126,7 +126,7 @@ module _ (da db : Dictionary) (who : Sends) (u : Unknown) (made : Facts) (facts 
   kept_own : (key : Key) (p : KeptHere key) → KeptOwn key p.place
   kept_own key p =
       let (one, here, same) = at_map (λ (one : OwnBreaks). one.key) made.own p.place p.own.key
-      (subst (λ (xs : List Key). slice_get xs p.place ≡ Some p.own.key) (sym facts.are_own.keys) (into_map (λ (own : Own). own.key) made.telling.own.items p.place p.own p.is_own)) in
+      (subst (λ (xs : List Key). slice_get xs p.place ≡ Some p.own.key) (sym facts.are_own.keys) (into_map (λ (own : Own). own.key) made.recording.own.items p.place p.own p.is_own)) in
       record { one = one; at = here; is_key = same ∙ p.own_key; is = all_of (IsOwnBreaks (sides da db who u) floor) made.own one facts.are_own.each (in_at made.own p.place one here) }
 
   module _ (x y : PlainDefinition) (avps : List PlainAvp) (l : LevelHere x y avps) (free : IsFreeLevel da db u sites lines c x y avps) (v : PlainAvp) (comes : Contains avps v) where
@@ -152,19 +152,19 @@ module _ (da db : Dictionary) (who : Sends) (u : Unknown) (made : Facts) (facts 
     HasDataHere = IsAcceptedData db u key v.bytes
 
     -- where it is reported that flags of an AVP that is reached break, they don't here
-    flags_told : (q : Key) (place : ℕ) (o : KeptOwn q place) (reach : Reach) → slice_get reached place ≡ Some (Some reach) → StandsIn da db key q → (kind : Kind) → IsOfLines kind → (cause : Cause) (n : ℕ)
+    flags_recorded : (q : Key) (place : ℕ) (o : KeptOwn q place) (reach : Reach) → slice_get reached place ≡ Some (Some reach) → OccursIn da db key q → (kind : Kind) → IsOfLines kind → (cause : Cause) (n : ℕ)
         → own_cause kind o.one reach.length ≡ Some (cause, n) → n ≤ max_body → flags_key cause ≡ Some o.one.key → HasFlagsHere
-    flags_told q place o reach at stands kind of cause n is room its =
-        let t = told kind _ of (own_told kind first count made.own reached place o.one reach cause n o.at at is room) in
-        free.flags t.line q v t.inside (sym (subject_flags t.line.cause) ∙ ap flags_key t.cause ∙ its ∙ ap (λ (k : Key). Some k) o.is_key) comes stands
+    flags_recorded q place o reach at occurs kind of cause n is room its =
+        let t = recorded kind _ of (own_recorded kind first count made.own reached place o.one reach cause n o.at at is room) in
+        free.flags t.line q v t.inside (sym (subject_flags t.line.cause) ∙ ap flags_key t.cause ∙ its ∙ ap (λ (k : Key). Some k) o.is_key) comes occurs
 
-    flags_here : (q : Key) (place : ℕ) (o : KeptOwn q place) (reach : Reach) → slice_get reached place ≡ Some (Some reach) → reach.length ≤ max_body → StandsIn da db key q
+    flags_here : (q : Key) (place : ℕ) (o : KeptOwn q place) (reach : Reach) → slice_get reached place ≡ Some (Some reach) → reach.length ≤ max_body → OccursIn da db key q
         → (found : HeadBreak) → o.one.breaks.head ≡ Some found → HasFlagsHere
-    flags_here q place o reach at room stands (head_breaks.Unknown m) is =
-        flags_told q place o reach at stands kinds.Unknown tt (causes.Unknown o.one.key m) reach.length
+    flags_here q place o reach at room occurs (head_breaks.Unknown m) is =
+        flags_recorded q place o reach at occurs kinds.Unknown tt (causes.Unknown o.one.key m) reach.length
         (ap (λ (h : Option HeadBreak). option_map {U = Cause × ℕ} (λ (cause : Cause). (cause, reach.length)) (option_and_then (head_cause kinds.Unknown o.one.key) h)) is) room refl
-    flags_here q place o reach at room stands (head_breaks.MBit m) is =
-        flags_told q place o reach at stands kinds.MBit tt (causes.MBit o.one.key m) reach.length
+    flags_here q place o reach at room occurs (head_breaks.MBit m) is =
+        flags_recorded q place o reach at occurs kinds.MBit tt (causes.MBit o.one.key m) reach.length
         (ap (λ (h : Option HeadBreak). option_map {U = Cause × ℕ} (λ (cause : Cause). (cause, reach.length)) (option_and_then (head_cause kinds.MBit o.one.key) h)) is) room refl
 
     -- where nothing is reported of its flags, B accepts them all
@@ -187,11 +187,11 @@ module _ (da db : Dictionary) (who : Sends) (u : Unknown) (made : Facts) (facts 
       breaks r is = subst (λ (k : Key). IsDataBreak da db who u k r) o.is_key (subst (λ (d : DataBreak). IsDataBreak da db who u o.one.key d) is o.is.content)
 
       -- where it is reported that its data break, they don't here
-      data_told : (n : ℕ) → data_length o.one reach.length o.one.breaks.data ≡ Some n → n ≤ max_body → HasDataHere
-      data_told n is fits =
+      data_recorded : (n : ℕ) → data_length o.one reach.length o.one.breaks.data ≡ Some n → n ≤ max_body → HasDataHere
+      data_recorded n is fits =
           let cause = causes.Format o.one.key None in
           let made_of = ap (λ (h : Option ℕ). option_map {U = Cause × ℕ} (λ (m : ℕ). (causes.Format o.one.key None, m)) h) is in
-          let t = told kinds.Data _ tt (own_told kinds.Data first count made.own reached p.place o.one reach cause n o.at at made_of fits) in
+          let t = recorded kinds.Data _ tt (own_recorded kinds.Data first count made.own reached p.place o.one reach cause n o.at at made_of fits) in
           free.content t.line key v t.inside (sym (subject_data t.line.cause) ∙ ap data_key t.cause ∙ ap (λ (k : Key). Some k) o.is_key) comes refl
 
       -- where a message has no room for the shortest data that break, those of this AVP are shorter
@@ -212,13 +212,13 @@ module _ (da db : Dictionary) (who : Sends) (u : Unknown) (made : Facts) (facts 
       data_here : (r : DataBreak) → o.one.breaks.data ≡ r → IsRead da db u v
       data_here Fits is = inl (breaks Fits is v.bytes are data_sent)
       data_here (Groups a b) is = let both = breaks (Groups a b) is in inr (has_group da key a both.0, has_group db key b both.1)
-      data_here LeastLevel is = inl (data_told reach.length (ap (data_length o.one reach.length) is) room)
-      data_here EightBytes is = inl (data_told reach.length (ap (data_length o.one reach.length) is) room)
-      data_here Undecided is = inl (data_told reach.length (ap (data_length o.one reach.length) is) room)
+      data_here LeastLevel is = inl (data_recorded reach.length (ap (data_length o.one reach.length) is) room)
+      data_here EightBytes is = inl (data_recorded reach.length (ap (data_length o.one reach.length) is) room)
+      data_here Undecided is = inl (data_recorded reach.length (ap (data_length o.one reach.length) is) room)
       data_here (Data w) is = inl (by (cases_lt max_body (with_data o.one reach.length w)))
         where
           by : (max_body < with_data o.one reach.length w) ⊎ (with_data o.one reach.length w ≤ max_body) → HasDataHere
-          by (inr fits) = data_told (with_data o.one reach.length w) (ap (data_length o.one reach.length) is) fits
+          by (inr fits) = data_recorded (with_data o.one reach.length w) (ap (data_length o.one reach.length) is) fits
           by (inl over) =
               let h = breaks (Data w) is in
               shorter_accepted da db who u key (witness_bytes w) v.bytes h.0 h.1 data_sent (shorter (witness_bytes w) (omega (arith, over)))
@@ -229,8 +229,8 @@ module _ (da db : Dictionary) (who : Sends) (u : Unknown) (made : Facts) (facts 
         o : KeptOwn key p.place
         o = kept_own key p
 
-        w : Reaches da db who u made.lengths made.others made.telling made.outlooks facts.is_telling facts.are_outlooks sa shortest floors start steps reached top under walk x y avps l p.place
-        w = way_of da db who u made.lengths made.others made.telling made.outlooks facts.is_telling facts.are_outlooks sa shortest floors start steps reached top under walk x y avps l v comes p
+        w : Reaches da db who u made.lengths made.others made.recording made.outlooks facts.is_recording facts.are_outlooks sa shortest floors start steps reached top under walk x y avps l p.place
+        w = way_of da db who u made.lengths made.others made.recording made.outlooks facts.is_recording facts.are_outlooks sa shortest floors start steps reached top under walk x y avps l v comes p
 
         by : (h : Option HeadBreak) → o.one.breaks.head ≡ h → HasFlagsHere
         by None is = silent_flags key p.place o is v.flags flags_sent
@@ -248,7 +248,7 @@ module _ (da db : Dictionary) (who : Sends) (u : Unknown) (made : Facts) (facts 
     by_found f = by f.own.breaks refl
       where
         by : (b : Bool) → f.own.breaks ≡ b → FitsAlone da db u v
-        by true e = own_fits (own_kept da db who u made.lengths made.others made.telling made.outlooks facts.is_telling facts.are_outlooks key f e)
+        by true e = own_fits (own_kept da db who u made.lengths made.others made.recording made.outlooks facts.is_recording facts.are_outlooks key f e)
         by false e = silent_fits (subst (λ (k : Key). BreaksNothing da db who u k) f.own_key (f.exact.silent.0 e))
 
     -- ---- a key that neither knows: another represents it
@@ -271,8 +271,8 @@ module _ (da db : Dictionary) (who : Sends) (u : Unknown) (made : Facts) (facts 
           o : KeptOwn q p.place
           o = kept_own q p
 
-          w : Reaches da db who u made.lengths made.others made.telling made.outlooks facts.is_telling facts.are_outlooks sa shortest floors start steps reached top under walk x y avps l p.place
-          w = way_beside da db who u made.lengths made.others made.telling made.outlooks facts.is_telling facts.are_outlooks sa shortest floors start steps reached top under walk x y avps l v comes
+          w : Reaches da db who u made.lengths made.others made.recording made.outlooks facts.is_recording facts.are_outlooks sa shortest floors start steps reached top under walk x y avps l p.place
+          w = way_beside da db who u made.lengths made.others made.recording made.outlooks facts.is_recording facts.are_outlooks sa shortest floors start steps reached top under walk x y avps l v comes
               (not_listed key none_a) q p (not_listed q strange.0) (strange_least da who made.lengths q key strange.0 vendor none_a)
 
           by : (h : Option HeadBreak) → o.one.breaks.head ≡ h → FitsAlone da db u v
@@ -283,13 +283,13 @@ module _ (da db : Dictionary) (who : Sends) (u : Unknown) (made : Facts) (facts 
       by_stranger f = by f.own.breaks refl
         where
           by : (b : Bool) → f.own.breaks ≡ b → FitsAlone da db u v
-          by true e = stranger_fits (own_kept da db who u made.lengths made.others made.telling made.outlooks facts.is_telling facts.are_outlooks q f e)
+          by true e = stranger_fits (own_kept da db who u made.lengths made.others made.recording made.outlooks facts.is_recording facts.are_outlooks q f e)
           by false e = by_accepted (subst (λ (k : Key). BreaksNothing da db who u k) f.own_key (f.exact.silent.0 e)).0
 
     -- ---- each
 
-    found_in : (q : Key) → Contains facts.is_telling.keys q → FoundHere q
-    found_in q there = found da db who u made.lengths made.others made.telling made.outlooks facts.is_telling facts.are_outlooks q there
+    found_in : (q : Key) → Contains facts.is_recording.keys q → FoundHere q
+    found_in q there = found da db who u made.lengths made.others made.recording made.outlooks facts.is_recording facts.are_outlooks q there
 
     pub each_fits : FitsAlone da db u v
     each_fits = by (entry_of da key) refl (entry_of db key) refl

@@ -36,7 +36,7 @@ use Rattle.dia_breaking.specs.SentLevels.{IsSentKeys}
 use Rattle.dia_breaking.specs.LevelCosts.{PicksShortest}
 use Rattle.dia_breaking.specs.Lengths.{Costs}
 use Rattle.dia_breaking.specs.Nodes.{node_in}
-use Rattle.dia_breaking.specs.Listing.{Told, group_levels, level_lines, lines_in, with_room}
+use Rattle.dia_breaking.specs.Listing.{Recorded, group_levels, level_lines, lines_in, with_room}
 use Rattle.dia_breaking.specs.Orders.{of_each}
 use Rattle.dia_breaking.specs.Outlooks.{group_rules}
 use Rattle.dia_breaking.specs.Sites.{group_site, group_sites}
@@ -47,7 +47,7 @@ use Rattle.dia_breaking.proofs.SentLevels.{sent_keys}
 use Rattle.dia_breaking.proofs.EachLevelLine.{exact_each}
 use Rattle.dia_breaking.proofs.Lists.{all_in, contains_at}
 use Rattle.dia_breaking.proofs.ReadLevels.{IsStepTo, def_of, graph}
-use Rattle.dia_breaking.proofs.ToldLines.{IsToldIn, cause_is, in_each, with_enough}
+use Rattle.dia_breaking.proofs.RecordedLines.{IsRecordedIn, cause_is, in_each, with_enough}
 
 -- ---- lists
 
@@ -68,9 +68,9 @@ pub sound_rules : (d : Dictionary) (def : ℕ) (x : PlainDefinition) → IsDicti
 sound_rules d def x sound at = all_in (λ (y : PlainDefinition). AreRules y.rules) (definitions d) x sound.rules (contains_at (definitions d) def x at)
 
 -- the line of a level is reported, if a message has room for it
-pub level_told : (site way : ℕ) (found : List LevelLine) (line : LevelLine) → Contains found line → way + line.length ≤ max_body
+pub level_recorded : (site way : ℕ) (found : List LevelLine) (line : LevelLine) → Contains found line → way + line.length ≤ max_body
     → IsIn (record { site = site; cause = causes.Level line; length = way + line.length }) (level_lines site way found)
-level_told site way found line inside room =
+level_recorded site way found line inside room =
     in_filter_map (λ (l : LevelLine). with_room site (way + l.length) (causes.Level l)) found line (record { site = site; cause = causes.Level line; length = way + line.length }) (in_contains found line inside)
     (with_enough site (way + line.length) (causes.Level line) room)
 
@@ -116,9 +116,9 @@ module _ (da db : Dictionary) (who : Sends) (u : Unknown) (made : Facts) (facts 
       (subst (λ (ks : List Key). slice_get ks place ≡ Some outlook.key) keys (into_map (λ (o : Outlook). o.key) made.outlooks place outlook at))
 
   module _ (start : PlainExits) (steps : List Step) (reached : List (Option Reach)) (top under : PlainDefinition)
-      (walk : IsWalk (graph da db who u made.lengths made.others made.telling made.outlooks facts.is_telling facts.are_outlooks sa shortest floors start steps reached top under) steps reached)
+      (walk : IsWalk (graph da db who u made.lengths made.others made.recording made.outlooks facts.is_recording facts.are_outlooks sa shortest floors start steps reached top under) steps reached)
       (sites : List Site) (lines : List Line) (c first count : ℕ) (own : List Site) (is_count : length own ≡ count) (sites_are : sites ≡ own ++ group_sites made.own first count steps) (few : length sites ≤ 18446744073709551615)
-      (told : (t : Told) → IsIn t (of_each (group_levels count (map lines_in made.outlooks)) steps) → IsToldIn lines t) where
+      (recorded : (t : Recorded) → IsIn t (of_each (group_levels count (map lines_in made.outlooks)) steps) → IsRecordedIn lines t) where
     abbrev here : Step → Option Site
     here step = option_map (λ (one : OwnBreaks). group_site first count step one.key) (slice_get made.own step.place)
 
@@ -145,7 +145,7 @@ module _ (da db : Dictionary) (who : Sends) (u : Unknown) (made : Facts) (facts 
         ap (λ (n : ℕ). slice_get sites n) number ∙ whole
 
     module _ (j way : ℕ) (x y : PlainDefinition) (avps : List PlainAvp) (way_fits : way ≤ max_body) (level : IsLevelOf da who x.rules (max_body - way) avps)
-        (s : IsStepTo da db who u made.lengths made.others made.telling made.outlooks facts.is_telling facts.are_outlooks sa shortest steps j way x y)
+        (s : IsStepTo da db who u made.lengths made.others made.recording made.outlooks facts.is_recording facts.are_outlooks sa shortest steps j way x y)
         (free : IsFreeLevel da db u sites lines c x y avps) where
       abbrev found : List LevelLine
       found = s.inner.lines.items
@@ -173,16 +173,16 @@ module _ (da db : Dictionary) (who : Sends) (u : Unknown) (made : Facts) (facts 
       read : IsReadBy da db c site.place x y
       read = (ap (λ (key : Key). group_of da key) one.2 ∙ s.is_sent, ap (λ (key : Key). group_of db key) one.2 ∙ s.is_read)
 
-      line_told : (line : LevelLine) → Contains found line → way + line.length ≤ max_body
-          → IsToldIn lines (record { site = min (count + j) 18446744073709551615; cause = causes.Level line; length = s.step.way + line.length })
-      line_told line inside room =
+      line_recorded : (line : LevelLine) → Contains found line → way + line.length ≤ max_body
+          → IsRecordedIn lines (record { site = min (count + j) 18446744073709551615; cause = causes.Level line; length = s.step.way + line.length })
+      line_recorded line inside room =
           let number = min (count + j) 18446744073709551615 in
-          let line_here : Told = record { site = number; cause = causes.Level line; length = s.step.way + line.length } in
+          let line_here : Recorded = record { site = number; cause = causes.Level line; length = s.step.way + line.length } in
           let way_is = s.is_way in
-          let whole = level_told number s.step.way found line inside (omega (arith, way_is, room)) in
+          let whole = level_recorded number s.step.way found line inside (omega (arith, way_is, room)) in
           let at_place : slice_get (map lines_in made.outlooks) s.step.place ≡ Some found = into_map lines_in made.outlooks s.step.place s.outlook s.is_outlook ∙ ap (λ (ls : List LevelLine). Some ls) found_is in
           let part = subst (λ (o : Option (List LevelLine)). IsIn line_here (option_map_or (level_lines number s.step.way) o [])) (sym at_place) whole in
-          told line_here (in_each (group_levels count (map lines_in made.outlooks)) steps j s.step line_here s.at part)
+          recorded line_here (in_each (group_levels count (map lines_in made.outlooks)) steps j s.step line_here s.at part)
 
       pub group_placed : Placed y.rules (map key_of avps)
       group_placed =
@@ -190,5 +190,5 @@ module _ (da db : Dictionary) (who : Sends) (u : Unknown) (made : Facts) (facts 
           let b = def_of db s.outlook.key y s.is_read in
           level_placed x y a.0 b.0 a.1 b.1 found exact way way_fits avps level
           (λ line inside room shows.
-          let t = line_told line inside room in
+          let t = line_recorded line inside room in
           free.level t.line line t.inside (cause_is t.line.cause (causes.Level line) t.cause refl) (site, ap (λ (n : ℕ). slice_get sites n) t.site ∙ site_at j s.step site s.at is_here, read) shows)

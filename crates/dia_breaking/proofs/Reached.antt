@@ -26,7 +26,7 @@ use Rattle.dia_breaking_ways.specs.Walks.{Leads, By_rule, By_wildcard, IsUnliste
 use Rattle.dia_breaking.specs.declared.exits.Exits.{Exits}
 use Rattle.dia_breaking.specs.declared.exits.Outlook.{Outlook}
 use Rattle.dia_breaking.specs.declared.keys.Own.{Own}
-use Rattle.dia_breaking.specs.declared.keys.Telling.{Telling}
+use Rattle.dia_breaking.specs.declared.keys.Recording.{Recording}
 use Rattle.dia_breaking.specs.declared.levels.LevelCost.{LevelCost}
 use Rattle.dia_breaking.specs.Exits.{AreOutlooks, IsOutlook, exit_by}
 use Rattle.dia_breaking.specs.Lengths.{Costs, costs_by, listed_length, other_length}
@@ -34,7 +34,7 @@ use Rattle.dia_breaking.specs.LevelCosts.{IsCostOf, PicksShortest, cost_of, with
 use Rattle.dia_breaking.specs.Meanings.{IsReadAsOther}
 use Rattle.dia_breaking.specs.Nodes.{exits_in, node_in}
 use Rattle.dia_breaking.specs.Taken.{AreGroups}
-use Rattle.dia_breaking.specs.Telling.{IsExactlyOwn, IsExactTelling, is_news}
+use Rattle.dia_breaking.specs.Recording.{IsExactlyOwn, IsExactRecording, is_news}
 use Rattle.dia_breaking.specs.Sides.{sides}
 use Rattle.dia_breaking.proofs.SentPrices.{stand_placed, stand_price}
 use Rattle.dia_breaking.proofs.LevelCosts.{cost_of as is_cost, one_is_shortest}
@@ -56,8 +56,8 @@ by_other true c d e = refl
 by_other false true d e = refl
 by_other false false d e = e
 
-module _ (da db : Dictionary) (who : Sends) (u : Unknown) (lengths : List ℕ) (others : List Key) (telling : Telling) (outlooks : List Outlook) (tells : IsExactTelling (sides da db who u) telling)
-    (are : AreOutlooks da db telling (costs_by da who lengths others) outlooks) where
+module _ (da db : Dictionary) (who : Sends) (u : Unknown) (lengths : List ℕ) (others : List Key) (recording : Recording) (outlooks : List Outlook) (records : IsExactRecording (sides da db who u) recording)
+    (are : AreOutlooks da db recording (costs_by da who lengths others) outlooks) where
   abbrev pub listed : Key → ℕ
   listed = listed_length da who lengths
 
@@ -77,61 +77,61 @@ module _ (da db : Dictionary) (who : Sends) (u : Unknown) (lengths : List ℕ) (
     pub place : ℕ
     pub own : Own
     pub outlook : Outlook
-    pub is_place : get same_key telling.places key ≡ Some place
-    pub is_own : slice_get telling.own.items place ≡ Some own
+    pub is_place : get same_key recording.places key ≡ Some place
+    pub is_own : slice_get recording.own.items place ≡ Some own
     pub own_key : own.key ≡ key
     pub is_outlook : slice_get outlooks place ≡ Some outlook
     pub outlook_key : outlook.key ≡ key
-    pub has : IsOutlook da db telling k outlook
+    pub has : IsOutlook da db recording k outlook
 
-  pub key_at : (place : ℕ) (q : Key) (own : Own) → get same_key telling.places q ≡ Some place → slice_get telling.own.items place ≡ Some own → own.key ≡ q
+  pub key_at : (place : ℕ) (q : Key) (own : Own) → get same_key recording.places q ≡ Some place → slice_get recording.own.items place ≡ Some own → own.key ≡ q
   key_at place q own at is =
-      let (x, here, same) = at_position (λ (o : Own). same_key o.key q) telling.own.items place (sym (tells.places q) ∙ at) in
+      let (x, here, same) = at_position (λ (o : Own). same_key o.key q) recording.own.items place (sym (records.places q) ∙ at) in
       let one : x ≡ own = same_Some x own (sym here ∙ is) in
       ap (λ (o : Own). o.key) (sym one) ∙ same_key-true x.key q same
 
   -- what is reported has its place
-  placed : (key : Key) (x : Own) → IsIn x telling.own.items → x.key ≡ key → Kept key
+  placed : (key : Key) (x : Own) → IsIn x recording.own.items → x.key ≡ key → Kept key
   placed key x inside same =
       let has_key : Own → Bool = λ o. same_key o.key key in
-      let a = at_in telling.own.items x inside in
-      let (place, e) = some_of (position has_key telling.own.items) (position-is_some has_key telling.own.items a.place x a.at (same_key-equal x.key key same)) in
-      let (own, here, t) = at_position has_key telling.own.items place e in
+      let a = at_in recording.own.items x inside in
+      let (place, e) = some_of (position has_key recording.own.items) (position-is_some has_key recording.own.items a.place x a.at (same_key-equal x.key key same)) in
+      let (own, here, t) = at_position has_key recording.own.items place e in
       let own_key : own.key ≡ key = same_key-true own.key key t in
       let o = at_map (λ (outlook : Outlook). outlook.key) outlooks place own.key
-      (subst (λ (xs : List Key). slice_get xs place ≡ Some own.key) (sym are.0) (into_map (λ (own : Own). own.key) telling.own.items place own here)) in
+      (subst (λ (xs : List Key). slice_get xs place ≡ Some own.key) (sym are.0) (into_map (λ (own : Own). own.key) recording.own.items place own here)) in
       record {
         place = place;
         own = own;
         outlook = o.0;
-        is_place = tells.places key ∙ e;
+        is_place = records.places key ∙ e;
         is_own = here;
         own_key = own_key;
         is_outlook = o.1;
         outlook_key = o.2 ∙ own_key;
-        has = all_in (IsOutlook da db telling k) outlooks o.0 are.1 (contains_at outlooks place o.0 o.1);
+        has = all_in (IsOutlook da db recording k) outlooks o.0 are.1 (contains_at outlooks place o.0 o.1);
       }
 
   -- what is found of each key that is sent
   pub record Found (key : Key) : Type 0 where
     pub own : Own
-    pub inside : IsIn own tells.all
+    pub inside : IsIn own records.all
     pub own_key : own.key ≡ key
     pub exact : IsExactlyOwn (sides da db who u) own
 
-  pub found : (key : Key) → Contains tells.keys key → Found key
+  pub found : (key : Key) → Contains records.keys key → Found key
   found key there =
-      let a = at_Contains tells.keys key there in
-      let (x, at, same) = at_map (λ (own : Own). own.key) tells.all a.place key (subst (λ (xs : List Key). slice_get xs a.place ≡ Some key) (sym tells.each.0) a.at) in
-      let inside = in_at tells.all a.place x at in
-      record { own = x; inside = inside; own_key = same; exact = all_of (IsExactlyOwn (sides da db who u)) tells.all x tells.each.1 inside }
+      let a = at_Contains records.keys key there in
+      let (x, at, same) = at_map (λ (own : Own). own.key) records.all a.place key (subst (λ (xs : List Key). slice_get xs a.place ≡ Some key) (sym records.each.0) a.at) in
+      let inside = in_at records.all a.place x at in
+      record { own = x; inside = inside; own_key = same; exact = all_of (IsExactlyOwn (sides da db who u)) records.all x records.each.1 inside }
 
   -- that of which there is something to report is recorded
   news_kept : (key : Key) (f : Found key) → is_news f.own ≡ true → Kept key
-  news_kept key f news = placed key f.own (subst (λ (xs : List Own). IsIn f.own xs) (sym tells.told_are) (into_filter is_news tells.all f.own f.inside news)) f.own_key
+  news_kept key f news = placed key f.own (subst (λ (xs : List Own). IsIn f.own xs) (sym records.recorded_are) (into_filter is_news records.all f.own f.inside news)) f.own_key
 
   kept : (key : Key) → IsSome (entry_of da key) → ((own : Own) → IsExactlyOwn (sides da db who u) own → own.key ≡ key → is_news own ≡ true) → Kept key
-  kept key known news = let f = found key ((sent_of da db who tells.keys tells.sent).own key known) in news_kept key f (news f.own f.exact f.own_key)
+  kept key known news = let f = found key ((sent_of da db who records.keys records.sent).own key known) in news_kept key f (news f.own f.exact f.own_key)
 
   pub own_kept : (key : Key) (f : Found key) → f.own.breaks ≡ true → Kept key
   own_kept key f breaks = news_kept key f (by_own f.own.breaks f.own.is_group f.own.is_other breaks)
@@ -147,22 +147,22 @@ module _ (da db : Dictionary) (who : Sends) (u : Unknown) (lengths : List ℕ) (
 
   -- ---- where levels lead
 
-  exit_key : (c : LevelCost) (rule : DRule) (place n : ℕ) → exit_by telling listed c rule ≡ Some (place, n) → (q : Key) × (rule.key ≡ Some q) × (get same_key telling.places q ≡ Some place)
+  exit_key : (c : LevelCost) (rule : DRule) (place n : ℕ) → exit_by recording listed c rule ≡ Some (place, n) → (q : Key) × (rule.key ≡ Some q) × (get same_key recording.places q ≡ Some place)
   exit_key c rule place n e = by rule.key refl e
     where
-      by_place : (q : Key) → rule.key ≡ Some q → (o : Option ℕ) → get same_key telling.places q ≡ o → option_map {U = ℕ × ℕ} (λ (m : ℕ). (m, with_listed c rule (listed q))) o ≡ Some (place, n)
-          → (q : Key) × (rule.key ≡ Some q) × (get same_key telling.places q ≡ Some place)
+      by_place : (q : Key) → rule.key ≡ Some q → (o : Option ℕ) → get same_key recording.places q ≡ o → option_map {U = ℕ × ℕ} (λ (m : ℕ). (m, with_listed c rule (listed q))) o ≡ Some (place, n)
+          → (q : Key) × (rule.key ≡ Some q) × (get same_key recording.places q ≡ Some place)
       by_place q is None at e = absurd (none-some (place, n) e)
       by_place q is (Some m) at e = (q, is, at ∙ ap (λ (p : ℕ × ℕ). Some p.0) (same_Some (m, with_listed c rule (listed q)) (place, n) e))
 
       by : (o : Option Key) → rule.key ≡ o
-          → option_and_then (λ (q : Key). option_map {U = ℕ × ℕ} (λ (m : ℕ). (m, with_listed c rule (listed q))) (get same_key telling.places q)) o ≡ Some (place, n)
-          → (q : Key) × (rule.key ≡ Some q) × (get same_key telling.places q ≡ Some place)
+          → option_and_then (λ (q : Key). option_map {U = ℕ × ℕ} (λ (m : ℕ). (m, with_listed c rule (listed q))) (get same_key recording.places q)) o ≡ Some (place, n)
+          → (q : Key) × (rule.key ≡ Some q) × (get same_key recording.places q ≡ Some place)
       by None is e = absurd (none-some (place, n) e)
-      by (Some q) is e = by_place q is (get same_key telling.places q) refl e
+      by (Some q) is e = by_place q is (get same_key recording.places q) refl e
 
   -- by a cost of levels that is no more than they take
-  module _ (rules : List DRule) (exits : Exits) (c : LevelCost) (listed_are : exits.listed.items ≡ filter_map (exit_by telling listed c) rules) (beside_is : exits.beside ≡ c.beside)
+  module _ (rules : List DRule) (exits : Exits) (c : LevelCost) (listed_are : exits.listed.items ≡ filter_map (exit_by recording listed c) rules) (beside_is : exits.beside ≡ c.beside)
       (costs : IsCostOf listed other rules c) (keys : List Key) (stand : StandAsSent who rules keys) (room : total listed keys ≤ max_body) (key : Key) (comes : Contains keys key) where
     abbrev pub Led : ℕ → Type 0
     Led place = (inner : ℕ) × Leads (map node_in outlooks) (exits_in exits) place inner × (inner ≤ total listed keys)
@@ -171,10 +171,10 @@ module _ (da db : Dictionary) (who : Sends) (u : Unknown) (lengths : List ℕ) (
     by_rule p e =
         let (rule, i, l) = any_in (lists_key key) rules e in
         let is : rule.key ≡ Some key = lists_some key rule l in
-        let exit : exit_by telling listed c rule ≡ Some (p.place, with_listed c rule (listed key)) =
-        ap (λ (o : Option Key). option_and_then (λ (q : Key). option_map {U = ℕ × ℕ} (λ (m : ℕ). (m, with_listed c rule (listed q))) (get same_key telling.places q)) o) is
+        let exit : exit_by recording listed c rule ≡ Some (p.place, with_listed c rule (listed key)) =
+        ap (λ (o : Option Key). option_and_then (λ (q : Key). option_map {U = ℕ × ℕ} (λ (m : ℕ). (m, with_listed c rule (listed q))) (get same_key recording.places q)) o) is
         ∙ ap (λ (o : Option ℕ). option_map {U = ℕ × ℕ} (λ (m : ℕ). (m, with_listed c rule (listed key))) o) p.is_place in
-        let inside = in_filter_map (exit_by telling listed c) rules rule (p.place, with_listed c rule (listed key)) i exit in
+        let inside = in_filter_map (exit_by recording listed c) rules rule (p.place, with_listed c rule (listed key)) i exit in
         let lists : Contains exits.listed.items (p.place, with_listed c rule (listed key)) =
         contains_in exits.listed.items (p.place, with_listed c rule (listed key)) (subst (λ (xs : List (ℕ × ℕ)). IsIn (p.place, with_listed c rule (listed key)) xs) (sym listed_are) inside) in
         let least = costs.listed_within key rule (contains_in rules rule i, is) keys (stand_placed who rules keys stand) comes in
@@ -184,7 +184,7 @@ module _ (da db : Dictionary) (who : Sends) (u : Unknown) (lengths : List ℕ) (
     unlisted : (q : Key) (p : Kept q) → is_listed rules q ≡ false → IsUnlisted exits.listed.items p.place
     unlisted q p e n inside =
         let a = at_Contains exits.listed.items (p.place, n) inside in
-        let (j, rule, at, is) = at_filter_map (exit_by telling listed c) rules a.place (p.place, n) (subst (λ (xs : List (ℕ × ℕ)). slice_get xs a.place ≡ Some (p.place, n)) listed_are a.at) in
+        let (j, rule, at, is) = at_filter_map (exit_by recording listed c) rules a.place (p.place, n) (subst (λ (xs : List (ℕ × ℕ)). slice_get xs a.place ≡ Some (p.place, n)) listed_are a.at) in
         let (key, is_key, at_key) = exit_key c rule p.place n is in
         let alike : key ≡ q = sym (key_at p.place key p.own at_key p.is_own) ∙ p.own_key in
         let lists : lists_key q rule ≡ true = ap (λ (o : Option Key). option_map_or (same_key q) o false) (is_key ∙ ap (λ (k : Key). Some k) alike) ∙ same_key-refl q in

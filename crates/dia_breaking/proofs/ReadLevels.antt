@@ -32,14 +32,14 @@ use Rattle.dia_breaking_ways.specs.declared.graph.Reach.{Reach}
 use Rattle.dia_breaking.specs.declared.exits.Exits.{Exits}
 use Rattle.dia_breaking.specs.declared.exits.Inner.{Inner}
 use Rattle.dia_breaking.specs.declared.exits.Outlook.{Outlook}
-use Rattle.dia_breaking.specs.declared.keys.Telling.{Telling}
+use Rattle.dia_breaking.specs.declared.keys.Recording.{Recording}
 use Rattle.dia_breaking.specs.Exits.{AreExits, AreOutlooks, IsInner, IsInnerOrNone}
 use Rattle.dia_breaking.specs.Lengths.{costs_by, other_length}
 use Rattle.dia_breaking.specs.LevelCosts.{PicksShortest}
 use Rattle.dia_breaking.specs.Nodes.{exits_in, level_in, node_in}
 use Rattle.dia_breaking.specs.Outlooks.{group_rules}
 use Rattle.dia_breaking.specs.Taken.{AreGroups}
-use Rattle.dia_breaking.specs.Telling.{IsExactTelling}
+use Rattle.dia_breaking.specs.Recording.{IsExactRecording}
 use Rattle.dia_breaking.specs.Sides.{sides}
 use Rattle.dia_breaking.proofs.SentLevels.{group_within, key_contained, sent_keys}
 use Rattle.dia_breaking.proofs.Reached.{Kept, by_wildcard, cost, costs_at, group_kept, led, listed}
@@ -92,13 +92,13 @@ total_has f [] key i = absurd i
 total_has f (q ∷ keys) key (inl e) = let same : f key ≡ f q = ap f e in omega (arith, same)
 total_has f (q ∷ keys) key (inr i) = let more = total_has f keys key i in omega (arith, more)
 
-module _ (da db : Dictionary) (who : Sends) (u : Unknown) (lengths : List ℕ) (others : List Key) (telling : Telling) (outlooks : List Outlook) (tells : IsExactTelling (sides da db who u) telling)
-    (are : AreOutlooks da db telling (costs_by da who lengths others) outlooks) (sa : IsDictionary da) (shortest : PicksShortest da db (costs_by da who lengths others)) where
+module _ (da db : Dictionary) (who : Sends) (u : Unknown) (lengths : List ℕ) (others : List Key) (recording : Recording) (outlooks : List Outlook) (records : IsExactRecording (sides da db who u) recording)
+    (are : AreOutlooks da db recording (costs_by da who lengths others) outlooks) (sa : IsDictionary da) (shortest : PicksShortest da db (costs_by da who lengths others)) where
   abbrev floor : Key → ℕ
-  floor = listed da db who u lengths others telling outlooks tells are
+  floor = listed da db who u lengths others recording outlooks records are
 
   abbrev KeptAt : Key → Type 0
-  KeptAt key = Kept da db who u lengths others telling outlooks tells are key
+  KeptAt key = Kept da db who u lengths others recording outlooks records are key
 
   -- A knows the key of a group
   has_entry : (key : Key) (x : PlainDefinition) → group_of da key ≡ Some x → IsSome (entry_of da key)
@@ -139,7 +139,7 @@ module _ (da db : Dictionary) (who : Sends) (u : Unknown) (lengths : List ℕ) (
       pub stage_exits : stage.exits ≡ exits_in exits
       pub at_def : slice_get (definitions da) def ≡ Some x
       pub is_read : IsReadAt number stage.way x y
-      pub are_exits : AreExits telling (costs_by da who lengths others) x.rules exits
+      pub are_exits : AreExits recording (costs_by da who lengths others) x.rules exits
       pub within : stage.way ≤ max_body
       pub level : IsLevelOf da who x.rules (max_body - stage.way) avps
 
@@ -191,16 +191,16 @@ module _ (da db : Dictionary) (who : Sends) (u : Unknown) (lengths : List ℕ) (
         pub way_of : (v : PlainAvp) → Contains avps v → (p : KeptAt (key_of v)) → Reaches x y avps l p.place
         way_of v comes p =
             way_by (key_of v) p
-            (led da db who u lengths others telling outlooks tells are x.rules l.exits (cost da db who u lengths others telling outlooks tells are x.rules) l.are_exits.listed_are l.are_exits.beside
-            (costs_at da db who u lengths others telling outlooks tells are sa shortest l.def x l.at_def) keys sent_here.0 room_here (key_of v) (key_contained avps v comes) p)
+            (led da db who u lengths others recording outlooks records are x.rules l.exits (cost da db who u lengths others recording outlooks records are x.rules) l.are_exits.listed_are l.are_exits.beside
+            (costs_at da db who u lengths others recording outlooks records are sa shortest l.def x l.at_def) keys sent_here.0 room_here (key_of v) (key_contained avps v comes) p)
 
         -- so is another that could come through the wildcard in the place of one
         pub way_beside : (v : PlainAvp) → Contains avps v → is_listed x.rules (key_of v) ≡ false → (q : Key) (p : KeptAt q) → is_listed x.rules q ≡ false
             → other_length da who lengths q ≤ other_length da who lengths (key_of v) → Reaches x y avps l p.place
         way_beside v comes none q p unlisted le =
             way_by q p
-            (by_wildcard da db who u lengths others telling outlooks tells are x.rules l.exits (cost da db who u lengths others telling outlooks tells are x.rules) l.are_exits.listed_are l.are_exits.beside
-            (costs_at da db who u lengths others telling outlooks tells are sa shortest l.def x l.at_def) keys sent_here.0 room_here (key_of v) (key_contained avps v comes) none q p unlisted le)
+            (by_wildcard da db who u lengths others recording outlooks records are x.rules l.exits (cost da db who u lengths others recording outlooks records are x.rules) l.are_exits.listed_are l.are_exits.beside
+            (costs_at da db who u lengths others recording outlooks records are sa shortest l.def x l.at_def) keys sent_here.0 room_here (key_of v) (key_contained avps v comes) none q p unlisted le)
 
       -- ---- the level in a group
 
@@ -213,7 +213,7 @@ module _ (da db : Dictionary) (who : Sends) (u : Unknown) (lengths : List ℕ) (
         both = (ap (λ (o : Option PlainDefinition). is_some o) is_g, ap (λ (o : Option PlainDefinition). is_some o) is_h)
 
         p : KeptAt key
-        p = group_kept da db who u lengths others telling outlooks tells are key (has_entry key g is_g) both
+        p = group_kept da db who u lengths others recording outlooks records are key (has_entry key g is_g) both
 
         way : Reaches x y avps l p.place
         way = way_of x y avps l v comes p
@@ -239,7 +239,7 @@ module _ (da db : Dictionary) (who : Sends) (u : Unknown) (lengths : List ℕ) (
             }
 
         -- by the level that is recorded of it
-        by_inner : (inner : Inner) → p.outlook.inner ≡ Some inner → IsInner da telling (costs_by da who lengths others) p.outlook.key inner → AtLevel g h next
+        by_inner : (inner : Inner) → p.outlook.inner ≡ Some inner → IsInner da recording (costs_by da who lengths others) p.outlook.key inner → AtLevel g h next
         by_inner inner is_inner is =
             let reach = way.0 in
             let level : PlainLevel = level_in inner in
@@ -280,7 +280,7 @@ module _ (da db : Dictionary) (who : Sends) (u : Unknown) (lengths : List ℕ) (
                 is_sent = ap (λ (q : Key). group_of da q) p.outlook_key ∙ is_g;
                 is_read = ap (λ (q : Key). group_of db q) p.outlook_key ∙ is_h;
               };
-              are_exits = subst (λ (rs : List DRule). AreExits telling (costs_by da who lengths others) rs inner.exits) rules is.exits;
+              are_exits = subst (λ (rs : List DRule). AreExits recording (costs_by da who lengths others) rs inner.exits) rules is.exits;
               within = omega (arith, taken, shorter, room, fits);
               level = next_level (max_body - step.way) (omega (arith, taken, least, shorter, room, fits, beside, has));
             }
@@ -288,7 +288,7 @@ module _ (da db : Dictionary) (who : Sends) (u : Unknown) (lengths : List ℕ) (
         pub level_inside : AtLevel g h next
         level_inside = by p.outlook.inner refl p.has.inner_is
           where
-            by : (o : Option Inner) → p.outlook.inner ≡ o → IsInnerOrNone da db telling (costs_by da who lengths others) p.outlook.key o → AtLevel g h next
+            by : (o : Option Inner) → p.outlook.inner ≡ o → IsInnerOrNone da db recording (costs_by da who lengths others) p.outlook.key o → AtLevel g h next
             by None e none = absurd (none (subst (λ (q : Key). AreGroups da db q) (sym p.outlook_key) both))
             by (Some inner) e (groups, is) = by_inner inner e is
 

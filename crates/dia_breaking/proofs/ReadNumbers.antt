@@ -45,10 +45,10 @@ read_by_numbers s c (places.Group key outer) sent read is_sent is_read =
     let (x, x_group, x_at) = group_read s.sender key sent is_sent in
     let (y, y_group, y_at) = group_read s.receiver key read is_read in
     record { own = x; other = y; are_read = (x_group, y_group); own_rules = rules_of_def s.sender sent x x_at; other_rules = rules_of_def s.receiver read y y_at }
-read_by_numbers s c (places.Command app read_as told proxiable) sent read is_sent is_read = by_own (slice_get (definitions s.sender) c) refl is_read
+read_by_numbers s c (places.Command app read_as recorded proxiable) sent read is_sent is_read = by_own (slice_get (definitions s.sender) c) refl is_read
   where
     by_head : (x : PlainDefinition) → slice_get (definitions s.sender) c ≡ Some x → (o : Option Head) → head_in x.head ≡ o → option_and_then (λ (head : Head). selected s.receiver head.code head.class read_as) o ≡ Some read
-        → AreRead s c (places.Command app read_as told proxiable) sent read
+        → AreRead s c (places.Command app read_as recorded proxiable) sent read
     by_head x at None e is = absurd (none-some read is)
     by_head x at (Some head) e is =
         let within = subst (λ (o : Option ℕ). IfSome o (λ n. n < length (definitions s.receiver))) is
@@ -65,6 +65,6 @@ read_by_numbers s c (places.Command app read_as told proxiable) sent read is_sen
 
     by_own : (o : Option PlainDefinition) → slice_get (definitions s.sender) c ≡ o
         → option_and_then (λ (head : Head). selected s.receiver head.code head.class read_as) (option_and_then (λ (x : PlainDefinition). head_in x.head) o) ≡ Some read
-        → AreRead s c (places.Command app read_as told proxiable) sent read
+        → AreRead s c (places.Command app read_as recorded proxiable) sent read
     by_own None at is = absurd (none-some read is)
     by_own (Some x) at is = by_head x at (head_in x.head) refl is

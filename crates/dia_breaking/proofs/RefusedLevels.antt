@@ -127,7 +127,7 @@ module _ (s : Sides) (least : Least) (lengths : List ℕ) (are : IsLeastFor s.se
       true≢false (sym (eq-eqb (listed_length s.sender s.sends others key - shortest_head key) 8 left) ∙ not_eight)
   refused small (inr (inr (undecided, (other, others, its, (low, not))))) accepted =
       let same = one_least_avp s.sender s.sends other least its.is_least are.is_least key in
-      not (subst (IsAcceptedData s.receiver s.unknown key) (sym (ap (λ (bs : List ℕ). drop (shortest_head key) bs) same ∙ one.behind)) accepted)
+      not (subst (IsAcceptedData s.receiver s.unknown key) (sym (ap (λ (bs : List ℕ). drop (shortest_head key) bs) same ∙ one.following)) accepted)
 
 -- ---- groups that a line reports
 

@@ -23,16 +23,16 @@ use Rattle.dia_breaking.specs.declared.line.Cause.TheVariants as causes
 use Rattle.dia_breaking.specs.declared.line.Line.{Line}
 use Rattle.dia_breaking.specs.declared.line.Site.{Site}
 use Rattle.dia_breaking.specs.Lengths.{AreEntryLengths, IsLeastFor, listed_length}
-use Rattle.dia_breaking.specs.Listing.{subject, tells}
-use Rattle.dia_breaking.specs.Mended.{BreaksOnceMended, is_of_header}
+use Rattle.dia_breaking.specs.Listing.{subject, records}
+use Rattle.dia_breaking.specs.Corrected.{BreaksOnceCorrected, is_of_header}
 use Rattle.dia_breaking.specs.Messages.{IsAlone, IsInnermost, IsMessageFor, Shown, Stock, command_head, header_bytes, level_round, levels_on, shortest_avp, shown, shown_avp, wants_m, with_m}
-use Rattle.dia_breaking.specs.OwnBreaks.{RefusesShortest, TellsData}
+use Rattle.dia_breaking.specs.OwnBreaks.{RefusesShortest, RecordsData}
 use Rattle.dia_breaking.specs.ShownLines.{HasAvpAt, HasRefusedData, HasRefusedFlags, HasRefusedLevel, HasSpellableKey}
 use Rattle.dia_breaking.specs.Sides.{Sides}
 use Rattle.dia_breaking.specs.TheLines.{AreFacts, AreTheLines, Facts}
-use Rattle.dia_breaking.specs.ToldMessages.{BreaksAsTold}
+use Rattle.dia_breaking.specs.RecordedMessages.{BreaksAsRecorded}
 use Rattle.dia_breaking.specs.Words.{path_to}
-use Rattle.dia_breaking.proofs.OwnTold.{IsOwnLine, RefusesTold, own_key, own_told}
+use Rattle.dia_breaking.proofs.OwnRecorded.{IsOwnLine, RefusesRecorded, own_key, own_recorded}
 use Rattle.dia_breaking.proofs.Paths.{none_below}
 use Rattle.dia_breaking.proofs.RefusedLevels.{on_long, refused, refused_group, round_long}
 use Rattle.dia_breaking.proofs.SpelledLevels.{data_spelled, flag_spelled, flags_have, round_spelled, short_there}
@@ -45,18 +45,18 @@ site_there sites n first at = by (cases_lt n (length sites))
     by (inl lt) = there_is sites n lt
     by (inr le) = absurd (none-some first (sym (ap (λ (path : List Site). slice_get path 0) (none_below sites (length sites) n le)) ∙ at))
 
-module _ (s : Sides) (k : Stock) (c : ℕ) (sites : List Site) (line : Line) (bytes : List ℕ) (broken : BreaksAsTold s k c sites line bytes) (lengths : List ℕ)
+module _ (s : Sides) (k : Stock) (c : ℕ) (sites : List Site) (line : Line) (bytes : List ℕ) (broken : BreaksAsRecorded s k c sites line bytes) (lengths : List ℕ)
     (least : IsLeastFor s.sender s.sends k.least lengths) where
   -- the message has the AVP that these bytes spell
   avp_at : is_of_header line.cause ≡ false → (key : Key) (avp : List ℕ) → shown_avp s k line.cause ≡ Some (shown key avp) → (v : PlainAvp) → Spells v avp → key_of v ≡ key
       → (IsSuch : PlainAvp → Type 0) → (length avp ≤ length bytes → IsSuch v) → HasAvpAt s k c sites line bytes key IsSuch
   avp_at inner_line key avp is v spells its_key IsSuch such = by (command_head s.sender c) broken.message
     where
-      behind : (site : Site) × (slice_get (path_to sites line.site) 0 ≡ Some site) × BreaksOnceMended s c site.place bytes
-      behind = broken.behind inner_line
+      following : (site : Site) × (slice_get (path_to sites line.site) 0 ≡ Some site) × BreaksOnceCorrected s c site.place bytes
+      following = broken.following inner_line
 
       here : (site : Site) × (slice_get sites line.site ≡ Some site)
-      here = site_there sites line.site behind.0 behind.1
+      here = site_there sites line.site following.0 following.1
 
       of_message : (head : Head) → IsMessageFor s k c sites line head bytes → HasAvpAt s k c sites line bytes key IsSuch
       of_message head (level, innermost, bytes_are) =
@@ -109,7 +109,7 @@ module _ (s : Sides) (k : Stock) (c : ℕ) (sites : List Site) (line : Line) (by
       let short = short_there s k least.is_least lengths least key (omega (arith, room)) in
       let one = levels_spelled s.sender s.sends k.least least.is_least key own.entry own.group own.knows own.some short in
       let within = length-drop (shortest_head key) (shortest_avp s k key) in
-      let rest = ap length one.behind in
+      let rest = ap length one.following in
       avp_at inner_line key (shortest_avp s k key) is one.avp one.spells (one.is_key small) (HasRefusedLevel s line key) (λ fits checked.
       let size = broken.size in
       refused s k.least lengths least key own.entry own.group own.knows own.some short one (omega (arith, fits, checked, size, within, rest)) refuses)
@@ -122,35 +122,35 @@ least_for s k lengths made least facts = record {
       (lengths_are_one s.sender s.sends facts.least k.least.lengths.items facts.are_least least.is_least.lengths) facts.are_lengths;
 }
 
-module _ (s : Sides) (k : Stock) (c : ℕ) (sites : List Site) (lines : List Line) (line : Line) (bytes : List ℕ) (broken : BreaksAsTold s k c sites line bytes) (lengths : List ℕ)
-    (made_least : IsLeastFor s.sender s.sends k.least lengths) (all : AreTheLines s c sites (map tells lines)) (inside : Contains lines line) where
+module _ (s : Sides) (k : Stock) (c : ℕ) (sites : List Site) (lines : List Line) (line : Line) (bytes : List ℕ) (broken : BreaksAsRecorded s k c sites line bytes) (lengths : List ℕ)
+    (made_least : IsLeastFor s.sender s.sends k.least lengths) (all : AreTheLines s c sites (map records lines)) (inside : Contains lines line) where
   least : IsLeastFor s.sender s.sends k.least all.made.lengths
   least = least_for s k lengths all.made made_least all.facts
 
   own : (key : Key) → own_key (subject line.cause) ≡ Some key → IsOwnLine s all.made (subject line.cause) key
-  own key is = own_told s.sender s.receiver s.sends s.unknown all.made all.start c sites (map tells lines) all.facts all.is_start all.is_listing (tells line) key
-      (in_map tells lines line (in_contains lines line inside)) is
+  own key is = own_recorded s.sender s.receiver s.sends s.unknown all.made all.start c sites (map records lines) all.facts all.is_start all.is_listing (records line) key
+      (in_map records lines line (in_contains lines line inside)) is
 
   pub unknown_shown : (key : Key) (m : Bool) → line.cause ≡ causes.Unknown key m → HasSpellableKey line.cause → HasAvpAt s k c sites line bytes key (HasRefusedFlags s key m)
   unknown_shown key m is spellable =
       let small = subst HasSpellableKey is spellable in
-      let told = own key (ap (λ (q : Cause). own_key (subject q)) is) in
-      flag_at s k c sites line bytes broken all.made.lengths least key m (ap is_of_header is) (ap (shown_avp s k) is) small.0 told.room (subst (λ (q : Cause). RefusesTold s (subject q)) is told.refuses)
+      let recorded = own key (ap (λ (q : Cause). own_key (subject q)) is) in
+      flag_at s k c sites line bytes broken all.made.lengths least key m (ap is_of_header is) (ap (shown_avp s k) is) small.0 recorded.room (subst (λ (q : Cause). RefusesRecorded s (subject q)) is recorded.refuses)
 
   pub m_bit_shown : (key : Key) (m : Bool) → line.cause ≡ causes.MBit key m → HasSpellableKey line.cause → HasAvpAt s k c sites line bytes key (HasRefusedFlags s key m)
   m_bit_shown key m is spellable =
       let small = subst HasSpellableKey is spellable in
-      let told = own key (ap (λ (q : Cause). own_key (subject q)) is) in
-      flag_at s k c sites line bytes broken all.made.lengths least key m (ap is_of_header is) (ap (shown_avp s k) is) small.0 told.room (subst (λ (q : Cause). RefusesTold s (subject q)) is told.refuses)
+      let recorded = own key (ap (λ (q : Cause). own_key (subject q)) is) in
+      flag_at s k c sites line bytes broken all.made.lengths least key m (ap is_of_header is) (ap (shown_avp s k) is) small.0 recorded.room (subst (λ (q : Cause). RefusesRecorded s (subject q)) is recorded.refuses)
 
-  pub data_shown : (key : Key) (found : Witness) → line.cause ≡ causes.Format key (Some found) → HasSpellableKey line.cause → TellsData s line.cause
+  pub data_shown : (key : Key) (found : Witness) → line.cause ≡ causes.Format key (Some found) → HasSpellableKey line.cause → RecordsData s line.cause
       → HasAvpAt s k c sites line bytes key (HasRefusedData s key found)
-  data_shown key found is spellable told =
+  data_shown key found is spellable recorded =
       let small = subst HasSpellableKey is spellable in
-      data_at s k c sites line bytes broken all.made.lengths least key found (ap is_of_header is) (ap (shown_avp s k) is) small.1 (subst (TellsData s) is told).1.refused
+      data_at s k c sites line bytes broken all.made.lengths least key found (ap is_of_header is) (ap (shown_avp s k) is) small.1 (subst (RecordsData s) is recorded).1.refused
 
-  pub format_shown : (key : Key) → line.cause ≡ causes.Format key None → HasSpellableKey line.cause → TellsData s line.cause → HasAvpAt s k c sites line bytes key (HasRefusedLevel s line key)
-  format_shown key is spellable tells_data =
+  pub format_shown : (key : Key) → line.cause ≡ causes.Format key None → HasSpellableKey line.cause → RecordsData s line.cause → HasAvpAt s k c sites line bytes key (HasRefusedLevel s line key)
+  format_shown key is spellable records_data =
       let small = subst HasSpellableKey is spellable in
-      let told = own key (ap (λ (q : Cause). own_key (subject q)) is) in
-      least_at s k c sites line bytes broken all.made.lengths least key (ap is_of_header is) (ap (shown_avp s k) is) small.1 told.room (subst (TellsData s) is tells_data)
+      let recorded = own key (ap (λ (q : Cause). own_key (subject q)) is) in
+      least_at s k c sites line bytes broken all.made.lengths least key (ap is_of_header is) (ap (shown_avp s k) is) small.1 recorded.room (subst (RecordsData s) is records_data)

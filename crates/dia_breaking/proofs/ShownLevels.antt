@@ -47,18 +47,18 @@ use Rattle.dia_breaking.specs.declared.start.Start.{Start}
 use Rattle.dia_breaking.specs.Exits.{IsOutlook, IsInnerOrNone}
 use Rattle.dia_breaking.specs.Headers.{HasHead, head_in}
 use Rattle.dia_breaking.specs.Lengths.{Costs}
-use Rattle.dia_breaking.specs.Listing.{Told, Basis, IsListing, IsWalkFrom, basis_of, command_levels, group_levels, header_causes, header_line, header_lines, level_lines, lines_in, lines_of, numbers, own_lines, start_of, subject, tells}
-use Rattle.dia_breaking.specs.Mended.{BreaksOnceMended, is_of_header}
+use Rattle.dia_breaking.specs.Listing.{Recorded, Basis, IsListing, IsWalkFrom, basis_of, command_levels, group_levels, header_causes, header_line, header_lines, level_lines, lines_in, lines_of, numbers, own_lines, start_of, subject, records}
+use Rattle.dia_breaking.specs.Corrected.{BreaksOnceCorrected, is_of_header}
 use Rattle.dia_breaking.specs.Messages.{AreParts, IsAlone, IsInnermost, IsMessageFor, IsShowingLevel, Stock, command_head, group_number, header_bytes, levels_on, read_number, sent_number, shortest_avp}
 use Rattle.dia_breaking.specs.Nodes.{node_in}
 use Rattle.dia_breaking.specs.Orders.{of_each}
 use Rattle.dia_breaking.specs.Outlooks.{group_rules}
 use Rattle.dia_breaking.specs.Readings.{AreReadings}
-use Rattle.dia_breaking.specs.ShownLines.{ShowsTold}
+use Rattle.dia_breaking.specs.ShownLines.{ShowsRecorded}
 use Rattle.dia_breaking.specs.Sides.{Sides, sides}
 use Rattle.dia_breaking.specs.Sites.{command_site, command_sites, group_site, group_sites, other_head, read_site, refused_site}
 use Rattle.dia_breaking.specs.TheLines.{AreFacts, AreIfRoom, AreLevels, AreLinesBetween, AreLinesOf, AreTheLines, Facts, HasLevelLines, IsCommandLevel, IsStartOf, costs_in}
-use Rattle.dia_breaking.specs.ToldMessages.{BreaksAsTold}
+use Rattle.dia_breaking.specs.RecordedMessages.{BreaksAsRecorded}
 use Rattle.dia_breaking.specs.Words.{head_at, path_to}
 use Rattle.dia_breaking.proofs.CostsOfSides.{AreCostsOf, have_listed, have_other, one_costs}
 use Rattle.dia_breaking.proofs.Lists.{all_in, contains_at}
@@ -66,7 +66,7 @@ use Rattle.dia_breaking.proofs.LookedHeaders.{IsLookedAt, looked_at, reading_sen
 use Rattle.dia_breaking.proofs.Outlooks.{rules_of_group}
 use Rattle.dia_breaking.proofs.PlacedLevels.{at_kept}
 use Rattle.dia_breaking.proofs.ReadNumbers.{read_by_numbers}
-use Rattle.dia_breaking.proofs.ToldLevels.{from_each, from_sorted, level_in, no_head_level, no_own_level, of_levels}
+use Rattle.dia_breaking.proofs.RecordedLevels.{from_each, from_sorted, level_in, no_head_level, no_own_level, of_levels}
 use Rattle.dia_breaking.proofs.TooLong.{app_says}
 
 -- ---- groups
@@ -108,9 +108,9 @@ level_reading P (q ∷ readings) [] are i found at = absurd are
 level_reading P (q ∷ readings) (ls ∷ all) are zero found at = (q, refl, subst (P q) (same_Some ls found at) are.0)
 level_reading P (q ∷ readings) (ls ∷ all) are (suc i) found at = level_reading P readings all are.1 i found at
 
-module _ (da db : Dictionary) (who : Sends) (u : Unknown) (made : Facts) (start : Start) (c : ℕ) (sites : List Site) (told : List Told)
+module _ (da db : Dictionary) (who : Sends) (u : Unknown) (made : Facts) (start : Start) (c : ℕ) (sites : List Site) (recorded : List Recorded)
     (facts : AreFacts (sides da db who u) made) (head_is : HasHead da c start.head)
-    (is_start : IsStartOf da db made.telling (costs_in (sides da db who u) made) c start) (listing : IsListing db (basis_of start made.own made.outlooks) sites told)
+    (is_start : IsStartOf da db made.recording (costs_in (sides da db who u) made) c start) (listing : IsListing db (basis_of start made.own made.outlooks) sites recorded)
     (few : length sites ≤ 18446744073709551615) (code : ℕ) (class : Class) (app : ℕ) (looked : IsLookedAt da db c start.head code class app) where
   abbrev s : Sides
   s = sides da db who u
@@ -210,9 +210,9 @@ module _ (da db : Dictionary) (who : Sends) (u : Unknown) (made : Facts) (start 
       let one = own_at step.place there.0 there.1 in
       ap (λ (o : Option OwnBreaks). is_some (option_map (λ (one : OwnBreaks). group_site from count step one.key) o)) one.1
 
-  of_group : (j : ℕ) (step : Step) (t : Told) (line : LevelLine) → slice_get listing.steps j ≡ Some step → IsIn t (group_levels count (map lines_in made.outlooks) j step)
+  of_group : (j : ℕ) (step : Step) (t : Recorded) (line : LevelLine) → slice_get listing.steps j ≡ Some step → IsIn t (group_levels count (map lines_in made.outlooks) j step)
       → level_in t.cause ≡ Some line → HasLevelLine s k c sites t.site line
-  of_group j step t line at i tells_it = by (slice_get (map lines_in made.outlooks) step.place) refl i
+  of_group j step t line at i records_it = by (slice_get (map lines_in made.outlooks) step.place) refl i
     where
       place : ℕ
       place = min (count + j) 18446744073709551615
@@ -224,8 +224,8 @@ module _ (da db : Dictionary) (who : Sends) (u : Unknown) (made : Facts) (start 
           let all = all_in (HasLevelLines da db k) made.outlooks outlook facts.have_lines (contains_at made.outlooks step.place outlook here) in
           let exact : AreLinesOf k (group_rules da outlook.key) (group_rules db outlook.key) inner.lines.items =
           subst (λ (o : Option Inner). IfSome o (λ inner. AreLinesOf k (group_rules da outlook.key) (group_rules db outlook.key) inner.lines.items)) e all in
-          let is = all_in (IsOutlook da db made.telling k) made.outlooks outlook facts.are_outlooks.1 (contains_at made.outlooks step.place outlook here) in
-          let groups = (subst (λ (o : Option Inner). IsInnerOrNone da db made.telling k outlook.key o) e is.inner_is).0 in
+          let is = all_in (IsOutlook da db made.recording k) made.outlooks outlook facts.are_outlooks.1 (contains_at made.outlooks step.place outlook here) in
+          let groups = (subst (λ (o : Option Inner). IsInnerOrNone da db made.recording k outlook.key o) e is.inner_is).0 in
           let x = some_of (group_of da outlook.key) groups.0 in
           let y = some_of (group_of db outlook.key) groups.1 in
           let (a, a_is, a_rules) = numbered_group da outlook.key x.0 x.1 in
@@ -256,29 +256,29 @@ module _ (da db : Dictionary) (who : Sends) (u : Unknown) (made : Facts) (start 
       by None e h = absurd h
       by (Some found) e h =
           let (outlook, here, same) = at_map lines_in made.outlooks step.place found e in
-          let parts = of_levels place step.way found t line h tells_it in
+          let parts = of_levels place step.way found t line h records_it in
           at_inner outlook outlook.inner refl here parts.0 (subst (IsIn line) (sym same) parts.1)
 
   -- ---- of all
 
-  level_of : (t : Told) (line : LevelLine) → IsIn t told → level_in t.cause ≡ Some line → HasLevelLine s k c sites t.site line
-  level_of t line i tells_it =
-      own_data (in_append _ (by kinds.Data) t (from_sorted (λ (x : Told). x.site) (lines_of db basis (numbers from count) listing.steps listing.reached) told t listing.lines_are i))
+  level_of : (t : Recorded) (line : LevelLine) → IsIn t recorded → level_in t.cause ≡ Some line → HasLevelLine s k c sites t.site line
+  level_of t line i records_it =
+      own_data (in_append _ (by kinds.Data) t (from_sorted (λ (x : Recorded). x.site) (lines_of db basis (numbers from count) listing.steps listing.reached) recorded t listing.lines_are i))
     where
-      heads : List Told
+      heads : List Recorded
       heads = of_each (header_lines db head start.base) readings
 
-      own_levels : List Told
+      own_levels : List Recorded
       own_levels = of_each command_levels basis.levels
 
-      inner : List Told
+      inner : List Recorded
       inner = of_each (group_levels count (map lines_in made.outlooks)) listing.steps
 
-      by : Kind → List Told
+      by : Kind → List Recorded
       by kind = own_lines kind from count made.own listing.reached
 
       none : level_in t.cause ≡ None → HasLevelLine s k c sites t.site line
-      none e = absurd (none-some line (sym e ∙ tells_it))
+      none e = absurd (none-some line (sym e ∙ records_it))
 
       of_own : (kind : Kind) → IsIn t (by kind) → HasLevelLine s k c sites t.site line
       of_own kind j = none (no_own_level kind from count made.own listing.reached t j)
@@ -288,20 +288,20 @@ module _ (da db : Dictionary) (who : Sends) (u : Unknown) (made : Facts) (start 
           let (n, r, at, h) = from_each (header_lines db head start.base) readings t j in
           let p = at_in (header_lines db head start.base n r) t h in
           let (cause, here, same) = at_map (header_line start.base n) (header_causes db head r.read_as) p.place t p.at in
-          none (ap (λ (x : Told). level_in x.cause) (sym same) ∙ no_head_level db head r.read_as cause (in_at (header_causes db head r.read_as) p.place cause here))
+          none (ap (λ (x : Recorded). level_in x.cause) (sym same) ∙ no_head_level db head r.read_as cause (in_at (header_causes db head r.read_as) p.place cause here))
 
       at_levels : IsIn t heads ⊎ IsIn t own_levels → HasLevelLine s k c sites t.site line
       at_levels (inl j) = at_head j
       at_levels (inr j) =
           let (n, found, at, h) = from_each command_levels basis.levels t j in
-          let parts = of_levels n 0 found t line h tells_it in
+          let parts = of_levels n 0 found t line h records_it in
           subst (λ (m : ℕ). HasLevelLine s k c sites m line) (sym parts.0) (of_command n found line at parts.1)
 
       at_inner : IsIn t (heads ++ own_levels) ⊎ IsIn t inner → HasLevelLine s k c sites t.site line
       at_inner (inl j) = at_levels (in_append heads own_levels t j)
       at_inner (inr j) =
           let (n, step, at, h) = from_each (group_levels count (map lines_in made.outlooks)) listing.steps t j in
-          of_group n step t line at h tells_it
+          of_group n step t line at h records_it
 
       unknown : IsIn t (heads ++ own_levels ++ inner) ⊎ IsIn t (by kinds.Unknown) → HasLevelLine s k c sites t.site line
       unknown (inl j) = at_inner (in_append (heads ++ own_levels) inner t j)
@@ -317,16 +317,16 @@ module _ (da db : Dictionary) (who : Sends) (u : Unknown) (made : Facts) (start 
 
 -- ---- the message
 
-pub level_lines_shown : (s : Sides) (k : Stock) (c : ℕ) (sites : List Site) (lines : List Line) (line : Line) (told : LevelLine) (bytes : List ℕ)
-    → IsDictionary s.sender → IsDictionary s.receiver → length sites < 2 ^ 64 → AreTheLines s c sites (map tells lines) → AreCostsOf s k.costs
-    → Contains lines line → line.cause ≡ causes.Level told → AreBytes bytes → BreaksAsTold s k c sites line bytes → ShowsTold s k c sites line told bytes
-level_lines_shown s k c sites lines line told bytes sa sb few all costs inside cause are broken = by (command_head s.sender c) broken.message
+pub level_lines_shown : (s : Sides) (k : Stock) (c : ℕ) (sites : List Site) (lines : List Line) (line : Line) (recorded : LevelLine) (bytes : List ℕ)
+    → IsDictionary s.sender → IsDictionary s.receiver → length sites < 2 ^ 64 → AreTheLines s c sites (map records lines) → AreCostsOf s k.costs
+    → Contains lines line → line.cause ≡ causes.Level recorded → AreBytes bytes → BreaksAsRecorded s k c sites line bytes → ShowsRecorded s k c sites line recorded bytes
+level_lines_shown s k c sites lines line recorded bytes sa sb few all costs inside cause are broken = by (command_head s.sender c) broken.message
   where
-    behind : (site : Site) × (slice_get (path_to sites line.site) 0 ≡ Some site) × BreaksOnceMended s c site.place bytes
-    behind = broken.behind (ap is_of_header cause)
+    following : (site : Site) × (slice_get (path_to sites line.site) 0 ≡ Some site) × BreaksOnceCorrected s c site.place bytes
+    following = broken.following (ap is_of_header cause)
 
     sent : IsValidOf s.sender (own_policy s.sends) levels.Any bytes c
-    sent = behind.2.sent
+    sent = following.2.sent
 
     is_head : head_in sent.command.head ≡ Some all.start.head
     is_head = ap (λ (y : PlainDefinition). head_in y.head) (same_Some sent.command all.head_is.0 (sym sent.is_command ∙ all.head_is.1)) ∙ all.head_is.2
@@ -335,31 +335,31 @@ level_lines_shown s k c sites lines line told bytes sa sb few all costs inside c
     looked = looked_at s.sender s.receiver sa sb c sent.command sent.is_command all.start.head is_head sent.header.code (class_of sent.header.flags) sent.header.app sent.select
         (app_says sent.header sent.avps bytes sent.message are)
 
-    here : HasLevelLine s (costs_in s all.made) c sites line.site told
-    here = level_of s.sender s.receiver s.sends s.unknown all.made all.start c sites (map tells lines) all.facts all.head_is all.is_start all.is_listing (omega (arith, few)) sent.header.code
-        (class_of sent.header.flags) sent.header.app looked (tells line) told (in_map tells lines line (in_contains lines line inside)) (ap (λ (q : Cause). level_in (subject q)) cause)
+    here : HasLevelLine s (costs_in s all.made) c sites line.site recorded
+    here = level_of s.sender s.receiver s.sends s.unknown all.made all.start c sites (map records lines) all.facts all.head_is all.is_start all.is_listing (omega (arith, few)) sent.header.code
+        (class_of sent.header.flags) sent.header.app looked (records line) recorded (in_map records lines line (in_contains lines line inside)) (ap (λ (q : Cause). level_in (subject q)) cause)
 
     costs_are : k.costs ≡ costs_in s all.made
     costs_are = one_costs s all.made k.costs all.facts costs
 
     shown : (parts : List Part)
-        → IsLineLevel (reads_between (rules_in s.sender here.sent) (rules_in s.receiver here.read) k.costs.listed k.costs.other k.costs.others) told parts
-        → ShowsAt (rules_in s.sender here.sent) (rules_in s.receiver here.read) (part_keys parts) told.reason told.key
+        → IsLineLevel (reads_between (rules_in s.sender here.sent) (rules_in s.receiver here.read) k.costs.listed k.costs.other k.costs.others) recorded parts
+        → ShowsAt (rules_in s.sender here.sent) (rules_in s.receiver here.read) (part_keys parts) recorded.reason recorded.key
     shown parts level =
         let made = all.made in
         let costs_here = costs_in s made in
-        let moved : IsLineLevel (reads_between (rules_in s.sender here.sent) (rules_in s.receiver here.read) costs_here.listed costs_here.other costs_here.others) told parts =
-        subst (λ (q : Costs). IsLineLevel (reads_between (rules_in s.sender here.sent) (rules_in s.receiver here.read) q.listed q.other q.others) told parts) costs_are level in
-        lines_shown costs_here.listed costs_here.other costs_here.others (rules_in s.sender here.sent) (rules_in s.receiver here.read) here.found told parts
+        let moved : IsLineLevel (reads_between (rules_in s.sender here.sent) (rules_in s.receiver here.read) costs_here.listed costs_here.other costs_here.others) recorded parts =
+        subst (λ (q : Costs). IsLineLevel (reads_between (rules_in s.sender here.sent) (rules_in s.receiver here.read) q.listed q.other q.others) recorded parts) costs_are level in
+        lines_shown costs_here.listed costs_here.other costs_here.others (rules_in s.sender here.sent) (rules_in s.receiver here.read) here.found recorded parts
         (rules_in_are s.sender here.sent sa) (rules_in_are s.receiver here.read sb) (have_listed s.sender s.sends made.lengths) (have_other s.sender s.sends made.lengths) here.exact
-        (contains_in here.found told here.inside) moved
+        (contains_in here.found recorded here.inside) moved
 
-    of_parts : (head : Head) (inner : List ℕ) (parts : List Part) → AreParts s k c here.site.place here.sent (causes.Level told) parts → inner ≡ parts_bytes (shortest_avp s k) parts
-        → bytes ≡ header_bytes head line (slice_get (path_to sites line.site) 0) ++ levels_on s k c line.length (path_to sites line.site) inner → ShowsTold s k c sites line told bytes
+    of_parts : (head : Head) (inner : List ℕ) (parts : List Part) → AreParts s k c here.site.place here.sent (causes.Level recorded) parts → inner ≡ parts_bytes (shortest_avp s k) parts
+        → bytes ≡ header_bytes head line (slice_get (path_to sites line.site) 0) ++ levels_on s k c line.length (path_to sites line.site) inner → ShowsRecorded s k c sites line recorded bytes
     of_parts head inner parts made inner_is bytes_are =
         let numbers = read_by_numbers s c here.site.place here.sent here.read here.is_sent here.is_read in
         let shows = shown parts (subst (λ (o : Option ℕ). MatchOption o (parts ≡ least_parts k.costs.others (rules_in s.sender here.sent))
-        (λ other. IsLineLevel (reads_between (rules_in s.sender here.sent) (rules_in s.receiver other) k.costs.listed k.costs.other k.costs.others) told parts)) here.is_read made) in
+        (λ other. IsLineLevel (reads_between (rules_in s.sender here.sent) (rules_in s.receiver other) k.costs.listed k.costs.other k.costs.others) recorded parts)) here.is_read made) in
         record {
           head = head;
           site = here.site;
@@ -369,18 +369,18 @@ level_lines_shown s k c sites lines line told bytes sa sb few all costs inside c
           is_site = here.is_site;
           are_read = numbers.are_read;
           message = bytes_are ∙ ap (λ (xs : List ℕ). header_bytes head line (slice_get (path_to sites line.site) 0) ++ levels_on s k c line.length (path_to sites line.site) xs) inner_is;
-          shows = subst (λ (rs : List DRule). ShowsAt rs numbers.other.rules (part_keys parts) told.reason told.key) numbers.own_rules
-              (subst (λ (rs : List DRule). ShowsAt (rules_in s.sender here.sent) rs (part_keys parts) told.reason told.key) numbers.other_rules shows);
+          shows = subst (λ (rs : List DRule). ShowsAt rs numbers.other.rules (part_keys parts) recorded.reason recorded.key) numbers.own_rules
+              (subst (λ (rs : List DRule). ShowsAt (rules_in s.sender here.sent) rs (part_keys parts) recorded.reason recorded.key) numbers.other_rules shows);
         }
 
-    of_message : (head : Head) → IsMessageFor s k c sites line head bytes → ShowsTold s k c sites line told bytes
+    of_message : (head : Head) → IsMessageFor s k c sites line head bytes → ShowsRecorded s k c sites line recorded bytes
     of_message head (inner, innermost, bytes_are) =
         let at = subst (λ (o : Option Site). IsInnermost s k c line.cause o inner) here.is_site innermost in
-        let alone : IsAlone s k c here.site.place (causes.Level told) inner = subst (λ (q : Cause). IsShowingLevel s k c q here.site.place inner) cause at in
+        let alone : IsAlone s k c here.site.place (causes.Level recorded) inner = subst (λ (q : Cause). IsShowingLevel s k c q here.site.place inner) cause at in
         let (parts, made, inner_is) = subst (λ (o : Option ℕ). MatchOption o (inner ≡ [])
-        (λ def. (parts : List Part) × AreParts s k c here.site.place def (causes.Level told) parts × (inner ≡ parts_bytes (shortest_avp s k) parts))) here.is_sent alone in
+        (λ def. (parts : List Part) × AreParts s k c here.site.place def (causes.Level recorded) parts × (inner ≡ parts_bytes (shortest_avp s k) parts))) here.is_sent alone in
         of_parts head inner parts made inner_is bytes_are
 
-    by : (o : Option Head) → MatchOption o (bytes ≡ []) (λ head. IsMessageFor s k c sites line head bytes) → ShowsTold s k c sites line told bytes
+    by : (o : Option Head) → MatchOption o (bytes ≡ []) (λ head. IsMessageFor s k c sites line head bytes) → ShowsRecorded s k c sites line recorded bytes
     by None none = let size = broken.size in let empty : length bytes ≡ 0 = ap length none in absurd (omega (arith, size, empty))
     by (Some head) message = of_message head message

@@ -10,7 +10,7 @@ use Rattle.dia_breaking_ways.specs.Walks.{plain_exits}
 use Rattle.dia_breaking.specs.declared.apps.BothApps.{BothApps}
 use Rattle.dia_breaking.specs.declared.exits.Exits.{Exits}
 use Rattle.dia_breaking.specs.declared.heads.Head.{Head}
-use Rattle.dia_breaking.specs.declared.keys.Telling.{Telling}
+use Rattle.dia_breaking.specs.declared.keys.Recording.{Recording}
 use Rattle.dia_breaking.specs.declared.readings.Reading.{Reading}
 use Rattle.dia_breaking.specs.declared.start.Start.{Start}
 use Rattle.dia_breaking.specs.Exits.{AreExits}
@@ -24,8 +24,8 @@ use Rattle.dia_breaking.proofs.Lists.{one_more}
 -- ---- readings
 
 pub with_room : (Are : List Reading → Type 0) (readings : List Reading) (room : Bool) → room ≡ true → Are readings → AreIfRoom room Are readings
-with_room Are readings true e told = told
-with_room Are readings false e told = absurd (true≢false (sym e))
+with_room Are readings true e recorded = recorded
+with_room Are readings false e recorded = absurd (true≢false (sym e))
 
 -- ---- how levels break for a reading
 
@@ -46,10 +46,10 @@ module _ (da db : Dictionary) (k : Costs) where
 
 -- ---- the start
 
-module _ (da db : Dictionary) (telling : Telling) (k : Costs) (c : ℕ) (start : Start) (both : BothApps) (exits : Exits) where
-  pub start_found : AreApps da both.first → AreApps db both.second → AreExits telling k (rules_in da c) exits → start.base ≡ exits.base → plain_exits start.exits ≡ exits_in exits
+module _ (da db : Dictionary) (recording : Recording) (k : Costs) (c : ℕ) (start : Start) (both : BothApps) (exits : Exits) where
+  pub start_found : AreApps da both.first → AreApps db both.second → AreExits recording k (rules_in da c) exits → start.base ≡ exits.base → plain_exits start.exits ≡ exits_in exits
       → AreIfRoom (nat_le exits.base max_body) (AreReadings da db both c start.head) start.readings.items
-      → AreLevels (IsCommandLevel da db k start.head) start.readings.items (map (λ lines. lines.items) start.levels.items) → IsStartOf da db telling k c start
+      → AreLevels (IsCommandLevel da db k start.head) start.readings.items (map (λ lines. lines.items) start.levels.items) → IsStartOf da db recording k c start
   start_found in_a in_b are_exits base_is exits_are readings levels = record {
     both = both;
     exits = exits;

@@ -21,9 +21,9 @@ use Rattle.dia_breaking_avps.specs.Breaks.{AcceptsFlags, IsHeadBreak, IsSilent}
 use Rattle.dia_breaking_avps.specs.Laws.{FitKeyAlone}
 use Rattle.dia_valid.proofs.Members.{IsIn, in_contains, contains_in, in_append}
 use Rattle.dia_breaking.specs.declared.keys.Own.{Own}
-use Rattle.dia_breaking.specs.declared.keys.Telling.{Telling}
+use Rattle.dia_breaking.specs.declared.keys.Recording.{Recording}
 use Rattle.dia_breaking.specs.SentKeys.{IsStrange}
-use Rattle.dia_breaking.specs.Telling.{Adds, AreTold, IsToldOf, is_news}
+use Rattle.dia_breaking.specs.Recording.{Adds, AreRecorded, IsRecordedOf, is_news}
 use Rattle.dia_breaking.specs.Sides.{sides}
 
 -- ---- keys that a dictionary doesn't know
@@ -60,9 +60,9 @@ silent_of da db who u key breaks is_head alone silent = (subst (λ (o : Option H
 -- ---- one key after the other
 
 module _ (da db : Dictionary) (who : Sends) (u : Unknown) where
-  module _ (keys : List Key) (key : Key) (own : Own) (old new : Telling) (told : AreTold (sides da db who u) keys old) (is : IsToldOf (sides da db who u) key own) (adds : Adds own old new) where
-    own_alike : IsToldOf (sides da db who u) own.key own
-    own_alike = subst (λ (k : Key). IsToldOf (sides da db who u) k own) (sym is.key_is) is
+  module _ (keys : List Key) (key : Key) (own : Own) (old new : Recording) (recorded : AreRecorded (sides da db who u) keys old) (is : IsRecordedOf (sides da db who u) key own) (adds : Adds own old new) where
+    own_alike : IsRecordedOf (sides da db who u) own.key own
+    own_alike = subst (λ (k : Key). IsRecordedOf (sides da db who u) k own) (sym is.key_is) is
 
     placed_more : (q : Key) (place : ℕ) → (b c : Bool) → new.own.items ≡ (if b then old.own.items ++ own ∷ [] else old.own.items) → same_key own.key q ≡ c
         → (if b && c then Some (length old.own.items) else get same_key old.places q) ≡ Some place → (o : Own) × (slice_get new.own.items place ≡ Some o) × (o.key ≡ q)
@@ -79,22 +79,22 @@ module _ (da db : Dictionary) (who : Sends) (u : Unknown) where
         at_last (y ∷ xs) x zero e = absurd (let bad : suc (length xs) ≡ 0 = e in omega (arith, bad))
         at_last (y ∷ xs) x (suc n) e = at_last xs x n (let same : suc (length xs) ≡ suc n = e in omega (arith, same))
     placed_more q place true false items same e =
-        let (o, at, k) = told.placed q place e in
+        let (o, at, k) = recorded.placed q place e in
         (o, ap (λ xs. slice_get xs place) items ∙ at_front old.own.items (own ∷ []) place o at, k)
       where
         at_front : (xs ys : List Own) (n : ℕ) (o : Own) → slice_get xs n ≡ Some o → slice_get (xs ++ ys) n ≡ Some o
         at_front [] ys n o at = absurd (none-some o at)
         at_front (x ∷ xs) ys zero o at = at
         at_front (x ∷ xs) ys (suc n) o at = at_front xs ys n o at
-    placed_more q place false c items same e = let (o, at, k) = told.placed q place e in (o, ap (λ xs. slice_get xs place) items ∙ at, k)
+    placed_more q place false c items same e = let (o, at, k) = recorded.placed q place e in (o, ap (λ xs. slice_get xs place) items ∙ at, k)
 
-    each_more : (b : Bool) → new.own.items ≡ (if b then old.own.items ++ own ∷ [] else old.own.items) → (o : Own) → Contains new.own.items o → IsToldOf (sides da db who u) o.key o
-    each_more false items o i = told.each o (subst (λ xs. Contains xs o) items i)
+    each_more : (b : Bool) → new.own.items ≡ (if b then old.own.items ++ own ∷ [] else old.own.items) → (o : Own) → Contains new.own.items o → IsRecordedOf (sides da db who u) o.key o
+    each_more false items o i = recorded.each o (subst (λ xs. Contains xs o) items i)
     each_more true items o i = by (in_append old.own.items (own ∷ []) o (in_contains (old.own.items ++ own ∷ []) o (subst (λ xs. Contains xs o) items i)))
       where
-        by : IsIn o old.own.items ⊎ IsIn o (own ∷ []) → IsToldOf (sides da db who u) o.key o
-        by (inl j) = told.each o (contains_in old.own.items o j)
-        by (inr (inl e)) = subst (λ (x : Own). IsToldOf (sides da db who u) x.key x) (sym e) own_alike
+        by : IsIn o old.own.items ⊎ IsIn o (own ∷ []) → IsRecordedOf (sides da db who u) o.key o
+        by (inl j) = recorded.each o (contains_in old.own.items o j)
+        by (inr (inl e)) = subst (λ (x : Own). IsRecordedOf (sides da db who u) x.key x) (sym e) own_alike
         by (inr (inr j)) = absurd j
 
     -- a key that has no place had none
@@ -103,22 +103,22 @@ module _ (da db : Dictionary) (who : Sends) (u : Unknown) where
     had_none q true false e = (e, refl)
     had_none q false c e = (e, refl)
 
-    rest_more : (q : Key) → Contains (keys ++ key ∷ []) q → get same_key new.places q ≡ None → (o : Own) × IsToldOf (sides da db who u) q o × (is_news o ≡ false)
+    rest_more : (q : Key) → Contains (keys ++ key ∷ []) q → get same_key new.places q ≡ None → (o : Own) × IsRecordedOf (sides da db who u) q o × (is_news o ≡ false)
     rest_more q i e = by (in_append keys (key ∷ []) q (in_contains (keys ++ key ∷ []) q i)) (had_none q (is_news own) (same_key own.key q) (sym (adds.places q) ∙ e))
       where
-        by : IsIn q keys ⊎ IsIn q (key ∷ []) → (get same_key old.places q ≡ None) × ((is_news own && same_key own.key q) ≡ false) → (o : Own) × IsToldOf (sides da db who u) q o × (is_news o ≡ false)
-        by (inl j) none = told.rest q (contains_in keys q j) none.0
+        by : IsIn q keys ⊎ IsIn q (key ∷ []) → (get same_key old.places q ≡ None) × ((is_news own && same_key own.key q) ≡ false) → (o : Own) × IsRecordedOf (sides da db who u) q o × (is_news o ≡ false)
+        by (inl j) none = recorded.rest q (contains_in keys q j) none.0
         by (inr (inr j)) none = absurd j
         by (inr (inl same)) none =
             let alike : same_key own.key q ≡ true = ap (same_key own.key) (same ∙ sym is.key_is) ∙ same_key-refl own.key in
-            (own, subst (λ (k : Key). IsToldOf (sides da db who u) k own) (sym same) is, untold (is_news own) (same_key own.key q) alike none.1)
+            (own, subst (λ (k : Key). IsRecordedOf (sides da db who u) k own) (sym same) is, unrecorded (is_news own) (same_key own.key q) alike none.1)
           where
-            untold : (b c : Bool) → c ≡ true → (b && c) ≡ false → b ≡ false
-            untold false c e h = refl
-            untold true c e h = absurd (both_ways c h e)
+            unrecorded : (b c : Bool) → c ≡ true → (b && c) ≡ false → b ≡ false
+            unrecorded false c e h = refl
+            unrecorded true c e h = absurd (both_ways c h e)
 
-    pub one_more_told : AreTold (sides da db who u) (keys ++ key ∷ []) new
-    one_more_told = record {
+    pub one_more_recorded : AreRecorded (sides da db who u) (keys ++ key ∷ []) new
+    one_more_recorded = record {
       placed = λ q place e. placed_more q place (is_news own) (same_key own.key q) adds.items refl (sym (adds.places q) ∙ e);
       each = λ o i. each_more (is_news own) adds.items o i;
       rest = rest_more;

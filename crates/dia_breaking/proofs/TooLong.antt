@@ -17,7 +17,7 @@ use Rattle.dia_breaking_sites.specs.Sent.{AreBytes}
 use Rattle.dia_breaking_sites.specs.Selection.{max_body}
 use Rattle.dia_breaking_sites.proofs.Members.{all_parts}
 use Rattle.dia_breaking.specs.Headers.{head_in}
-use Rattle.dia_breaking.specs.Mended.{IsUnsent}
+use Rattle.dia_breaking.specs.Corrected.{IsUnsent}
 use Rattle.dia_breaking.specs.Sides.{sides}
 
 -- ---- how long a message is

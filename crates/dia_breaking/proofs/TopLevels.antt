@@ -20,12 +20,12 @@ use Rattle.dia_breaking.proofs.ReadLevels.{AtLevel}
 use Rattle.dia_breaking.proofs.TooLong.{body_bytes, body_within}
 
 module _ (da db : Dictionary) (who : Sends) (u : Unknown) (made : Facts) (start : Start) (c : ℕ) (sa : IsDictionary da) (facts : AreFacts (sides da db who u) made)
-    (floors : AreFloors da who (costs_in (sides da db who u) made).listed) (is_start : IsStartOf da db made.telling (costs_in (sides da db who u) made) c start)
+    (floors : AreFloors da who (costs_in (sides da db who u) made).listed) (is_start : IsStartOf da db made.recording (costs_in (sides da db who u) made) c start)
     (shortest : PicksShortest da db (costs_in (sides da db who u) made)) (steps : List Step) (reached : List (Option Reach)) (bytes : List ℕ) (sent : IsSent da who bytes c) (other : PlainDefinition) where
   rules : rules_in da c ≡ sent.command.rules
   rules = ap (λ (o : Option PlainDefinition). option_map_or (λ (y : PlainDefinition). y.rules) o []) sent.is_command
 
-  pub top_level : AtLevel da db who u made.lengths made.others made.telling made.outlooks facts.is_telling facts.are_outlooks sa shortest floors (plain_exits start.exits) steps reached sent.command other
+  pub top_level : AtLevel da db who u made.lengths made.others made.recording made.outlooks facts.is_recording facts.are_outlooks sa shortest floors (plain_exits start.exits) steps reached sent.command other
       sent.command other sent.avps
   top_level = record {
     number = 0;
@@ -36,7 +36,7 @@ module _ (da db : Dictionary) (who : Sends) (u : Unknown) (made : Facts) (start 
     stage_exits = is_start.exits_are;
     at_def = sent.is_command;
     is_read = (refl, refl, refl);
-    are_exits = subst (λ (rs : List DRule). AreExits made.telling (costs_in (sides da db who u) made) rs is_start.exits) rules is_start.are_exits;
+    are_exits = subst (λ (rs : List DRule). AreExits made.recording (costs_in (sides da db who u) made) rs is_start.exits) rules is_start.are_exits;
     within = omega arith;
     level = record {
       bytes = sent.message.body;

@@ -71,14 +71,14 @@ module _ (da db : Dictionary) (who : Sends) (u : Unknown) (key : Key) where
 
 -- where the dictionary has this format for AVPs of the key, and one has the bytes `least`
 module _ (d : Dictionary) (key : Key) (format : PlainFormat) (has : format_in d key ≡ Some format) (head : ℕ) (bytes least : List ℕ) (head_is : head ≡ shortest_head key) (bytes_are : bytes ≡ least) where
-  behind : drop head bytes ≡ data_of key least
-  behind = ap (λ (n : ℕ). drop n bytes) head_is ∙ ap (drop (shortest_head key)) bytes_are
+  following : drop head bytes ≡ data_of key least
+  following = ap (λ (n : ℕ). drop n bytes) head_is ∙ ap (drop (shortest_head key)) bytes_are
 
   abbrev FineBy : Option PlainFormat → Type 0
   FineBy o = IfSome o (λ f. IsLeafAnswer Fine f (data_of key least))
 
   pub takes_fine : IsLeafAnswer Fine format (drop head bytes) → TakesAsLeaf d key (data_of key least)
-  takes_fine fine = subst FineBy (sym has) (subst (IsLeafAnswer Fine format) behind fine)
+  takes_fine fine = subst FineBy (sym has) (subst (IsLeafAnswer Fine format) following fine)
 
   pub takes_none : ¬ IsLeafAnswer Fine format (drop head bytes) → ¬ TakesAsLeaf d key (data_of key least)
-  takes_none bad takes = bad (subst (IsLeafAnswer Fine format) (sym behind) (subst FineBy has takes))
+  takes_none bad takes = bad (subst (IsLeafAnswer Fine format) (sym following) (subst FineBy has takes))

@@ -22,14 +22,14 @@ use Rattle.dia_breaking.specs.declared.exits.Exits.{Exits}
 use Rattle.dia_breaking.specs.declared.exits.Inner.{Inner}
 use Rattle.dia_breaking.specs.declared.exits.Outlook.{Outlook}
 use Rattle.dia_breaking.specs.declared.keys.Own.{Own}
-use Rattle.dia_breaking.specs.declared.keys.Telling.{Telling}
+use Rattle.dia_breaking.specs.declared.keys.Recording.{Recording}
 use Rattle.dia_breaking.specs.declared.levels.LevelCost.{LevelCost}
 use Rattle.dia_breaking.specs.Exits.{AreExits, AreOutlooks, IsInner, IsInnerOrNone, IsOutlook, exit_by}
 use Rattle.dia_breaking.specs.Lengths.{Costs, costs_by, length_of_entry, listed_length, other_length}
 use Rattle.dia_breaking.specs.LevelCosts.{with_listed}
 use Rattle.dia_breaking.specs.Nodes.{exits_in, level_in, node_in}
 use Rattle.dia_breaking.specs.Outlooks.{group_rules}
-use Rattle.dia_breaking.specs.Telling.{IsExactTelling}
+use Rattle.dia_breaking.specs.Recording.{IsExactRecording}
 use Rattle.dia_breaking.specs.Sides.{sides}
 use Rattle.dia_breaking.proofs.Lists.{all_in, contains_at}
 use Rattle.dia_breaking.proofs.Reached.{cost, key_at}
@@ -108,8 +108,8 @@ with_more c rule length le base = by (option_eq nat_eq rule.max (Some 0) || nat_
     by false true is = base (ltb-true 0 rule.min is)
     by false false is = omega (arith, le)
 
-module _ (da db : Dictionary) (who : Sends) (u : Unknown) (lengths : List ℕ) (others : List Key) (telling : Telling) (outlooks : List Outlook) (tells : IsExactTelling (sides da db who u) telling)
-    (are : AreOutlooks da db telling (costs_by da who lengths others) outlooks) where
+module _ (da db : Dictionary) (who : Sends) (u : Unknown) (lengths : List ℕ) (others : List Key) (recording : Recording) (outlooks : List Outlook) (records : IsExactRecording (sides da db who u) recording)
+    (are : AreOutlooks da db recording (costs_by da who lengths others) outlooks) where
   abbrev length_of : Key → ℕ
   length_of = listed_length da who lengths
 
@@ -117,7 +117,7 @@ module _ (da db : Dictionary) (who : Sends) (u : Unknown) (lengths : List ℕ) (
   costs = costs_by da who lengths others
 
   abbrev level_cost : List DRule → LevelCost
-  level_cost rules = cost da db who u lengths others telling outlooks tells are rules
+  level_cost rules = cost da db who u lengths others recording outlooks records are rules
 
   with_own : (rules : List DRule) (rule : DRule) (q : Key) → IsIn rule rules → rule.key ≡ Some q → length_of q ≤ with_listed (level_cost rules) rule (length_of q)
   with_own rules rule q i is =
@@ -137,9 +137,9 @@ module _ (da db : Dictionary) (who : Sends) (u : Unknown) (lengths : List ℕ) (
     is_outlook : slice_get outlooks place ≡ Some outlook
     inner : Inner
     is_level : level_in inner ≡ level
-    is_inner : IsInner da telling costs outlook.key inner
+    is_inner : IsInner da recording costs outlook.key inner
 
-  by_inner : (place : ℕ) (level : PlainLevel) (outlook : Outlook) → slice_get outlooks place ≡ Some outlook → IsOutlook da db telling costs outlook → (o : Option Inner) → outlook.inner ≡ o
+  by_inner : (place : ℕ) (level : PlainLevel) (outlook : Outlook) → slice_get outlooks place ≡ Some outlook → IsOutlook da db recording costs outlook → (o : Option Inner) → outlook.inner ≡ o
       → option_map level_in o ≡ Some level → LevelAt place level
   by_inner place level outlook at has None is e = absurd (none-some level e)
   by_inner place level outlook at has (Some inner) is e = record {
@@ -147,13 +147,13 @@ module _ (da db : Dictionary) (who : Sends) (u : Unknown) (lengths : List ℕ) (
     is_outlook = at;
     inner = inner;
     is_level = same_Some (level_in inner) level e;
-    is_inner = (subst (λ (o : Option Inner). IsInnerOrNone da db telling costs outlook.key o) is has.inner_is).1;
+    is_inner = (subst (λ (o : Option Inner). IsInnerOrNone da db recording costs outlook.key o) is has.inner_is).1;
   }
 
   by_outlook : (place : ℕ) (level : PlainLevel) (o : Option Outlook) → slice_get outlooks place ≡ o → option_and_then (λ (node : PlainNode). node.level) (option_map node_in o) ≡ Some level → LevelAt place level
   by_outlook place level None at e = absurd (none-some level e)
   by_outlook place level (Some outlook) at e =
-      by_inner place level outlook at (all_in (IsOutlook da db telling costs) outlooks outlook are.1 (contains_at outlooks place outlook at)) outlook.inner refl e
+      by_inner place level outlook at (all_in (IsOutlook da db recording costs) outlooks outlook are.1 (contains_at outlooks place outlook at)) outlook.inner refl e
 
   level_kept : (place : ℕ) (level : PlainLevel) → option_and_then (λ (node : PlainNode). node.level) (slice_get (map node_in outlooks) place) ≡ Some level → LevelAt place level
   level_kept place level e =
@@ -176,10 +176,10 @@ module _ (da db : Dictionary) (who : Sends) (u : Unknown) (lengths : List ℕ) (
     key : Key
     is_rule : IsIn rule rules
     is_key : rule.key ≡ Some key
-    is_place : get same_key telling.places key ≡ Some place
+    is_place : get same_key recording.places key ≡ Some place
     is_length : with_listed (level_cost rules) rule (length_of key) ≡ n
 
-  by_place : (rules : List DRule) (place n : ℕ) (rule : DRule) → IsIn rule rules → (q : Key) → rule.key ≡ Some q → (o : Option ℕ) → get same_key telling.places q ≡ o
+  by_place : (rules : List DRule) (place n : ℕ) (rule : DRule) → IsIn rule rules → (q : Key) → rule.key ≡ Some q → (o : Option ℕ) → get same_key recording.places q ≡ o
       → option_map {U = ℕ × ℕ} (λ (m : ℕ). (m, with_listed (level_cost rules) rule (length_of q))) o ≡ Some (place, n) → RuleOf rules place n
   by_place rules place n rule i q is None at e = absurd (none-some (place, n) e)
   by_place rules place n rule i q is (Some m) at e =
@@ -187,26 +187,26 @@ module _ (da db : Dictionary) (who : Sends) (u : Unknown) (lengths : List ℕ) (
       record { rule = rule; key = q; is_rule = i; is_key = is; is_place = at ∙ ap (λ (p : ℕ × ℕ). Some p.0) same; is_length = ap (λ (p : ℕ × ℕ). p.1) same }
 
   by_key : (rules : List DRule) (place n : ℕ) (rule : DRule) → IsIn rule rules → (o : Option Key) → rule.key ≡ o
-      → option_and_then (λ (q : Key). option_map {U = ℕ × ℕ} (λ (m : ℕ). (m, with_listed (level_cost rules) rule (length_of q))) (get same_key telling.places q)) o ≡ Some (place, n) → RuleOf rules place n
+      → option_and_then (λ (q : Key). option_map {U = ℕ × ℕ} (λ (m : ℕ). (m, with_listed (level_cost rules) rule (length_of q))) (get same_key recording.places q)) o ≡ Some (place, n) → RuleOf rules place n
   by_key rules place n rule i None is e = absurd (none-some (place, n) e)
-  by_key rules place n rule i (Some q) is e = by_place rules place n rule i q is (get same_key telling.places q) refl e
+  by_key rules place n rule i (Some q) is e = by_place rules place n rule i q is (get same_key recording.places q) refl e
 
-  rule_of_place : (rules : List DRule) (own : Exits) → AreExits telling costs rules own → (place n : ℕ) → Contains own.listed.items (place, n) → RuleOf rules place n
+  rule_of_place : (rules : List DRule) (own : Exits) → AreExits recording costs rules own → (place n : ℕ) → Contains own.listed.items (place, n) → RuleOf rules place n
   rule_of_place rules own exits place n inside =
       let a = at_Contains own.listed.items (place, n) inside in
-      let (j, rule, at, is) = at_filter_map (exit_by telling length_of (level_cost rules)) rules a.place (place, n)
+      let (j, rule, at, is) = at_filter_map (exit_by recording length_of (level_cost rules)) rules a.place (place, n)
       (subst (λ (xs : List (ℕ × ℕ)). slice_get xs a.place ≡ Some (place, n)) exits.listed_are a.at) in
       by_key rules place n rule (in_at rules j rule at) rule.key refl is
 
   -- the key at a place is that of its outlook
-  same_keys : (place : ℕ) (q : Key) (outlook : Outlook) → get same_key telling.places q ≡ Some place → slice_get outlooks place ≡ Some outlook → outlook.key ≡ q
+  same_keys : (place : ℕ) (q : Key) (outlook : Outlook) → get same_key recording.places q ≡ Some place → slice_get outlooks place ≡ Some outlook → outlook.key ≡ q
   same_keys place q outlook at is =
-      let (own, here, alike) = at_map (λ (own : Own). own.key) telling.own.items place outlook.key
+      let (own, here, alike) = at_map (λ (own : Own). own.key) recording.own.items place outlook.key
       (subst (λ (xs : List Key). slice_get xs place ≡ Some outlook.key) are.0 (into_map (λ (o : Outlook). o.key) outlooks place outlook is)) in
-      sym alike ∙ key_at da db who u lengths others telling outlooks tells are place q own at here
+      sym alike ∙ key_at da db who u lengths others recording outlooks records are place q own at here
 
   -- an AVP takes no more than a level that has it
-  takes : (rules : List DRule) (own : Exits) → AreExits telling costs rules own → (place n : ℕ) (outlook : Outlook) → slice_get outlooks place ≡ Some outlook
+  takes : (rules : List DRule) (own : Exits) → AreExits recording costs rules own → (place n : ℕ) (outlook : Outlook) → slice_get outlooks place ≡ Some outlook
       → Leads (map node_in outlooks) (exits_in own) place n → length_of outlook.key ≤ n
   takes rules own exits place n outlook at (By_rule lists) =
       let r = rule_of_place rules own exits place n lists in
@@ -217,7 +217,7 @@ module _ (da db : Dictionary) (who : Sends) (u : Unknown) (lengths : List ℕ) (
   takes rules own exits place n outlook at (By_wildcard node is_node unlisted is_length) =
       let (found, here, alike) = at_map node_in outlooks place node is_node in
       let one : found ≡ outlook = same_Some found outlook (sym here ∙ at) in
-      let has = all_in (IsOutlook da db telling costs) outlooks found are.1 (contains_at outlooks place found here) in
+      let has = all_in (IsOutlook da db recording costs) outlooks found are.1 (contains_at outlooks place found here) in
       let its : found.other ≡ other_length da who lengths found.key = has.other_is in
       let own_other : found.other ≡ node.other = ap (λ (x : PlainNode). x.other) alike in
       let key : length_of found.key ≡ length_of outlook.key = ap (λ (o : Outlook). length_of o.key) one in
@@ -225,7 +225,7 @@ module _ (da db : Dictionary) (who : Sends) (u : Unknown) (lengths : List ℕ) (
       omega (arith, is_length, its, own_other, key, more)
 
   -- also one to which a level of the graph leads
-  pub lead_takes : (rules : List DRule) (first : Exits) (start from : PlainExits) (room place n : ℕ) (outlook : Outlook) → AreExits telling costs rules first → start ≡ exits_in first
+  pub lead_takes : (rules : List DRule) (first : Exits) (start from : PlainExits) (room place n : ℕ) (outlook : Outlook) → AreExits recording costs rules first → start ≡ exits_in first
       → HasExits (record { nodes = map node_in outlooks; start = start; room = room }) from → Leads (map node_in outlooks) from place n → slice_get outlooks place ≡ Some outlook
       → length_of outlook.key ≤ n
   lead_takes rules first start from room place n outlook exits is has leads at = by has
@@ -239,7 +239,7 @@ module _ (da db : Dictionary) (who : Sends) (u : Unknown) (lengths : List ℕ) (
           let l = level_kept p outer at_p in
           takes (group_rules da l.outlook.key) l.inner.exits l.is_inner.exits place n outlook at (led l.inner.exits (e ∙ ap (λ (x : PlainLevel). x.exits) (sym l.is_level)))
 
-  pub levels_shorter : (rules : List DRule) (first : Exits) (start : PlainExits) (room : ℕ) → AreExits telling costs rules first → start ≡ exits_in first
+  pub levels_shorter : (rules : List DRule) (first : Exits) (start : PlainExits) (room : ℕ) → AreExits recording costs rules first → start ≡ exits_in first
       → AreLevelsShorter (record { nodes = map node_in outlooks; start = start; room = room })
   levels_shorter rules first start room exits is from place n level has leads at =
       let l = level_kept place level at in

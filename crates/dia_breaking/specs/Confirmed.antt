@@ -29,8 +29,8 @@ abbrev pub EachConfirmedBreaks : Sides → ℕ → List Line → Type 0
 EachConfirmedBreaks s c lines = All (λ line. line.standing ≡ Confirmed → (bytes : List ℕ) × IsConfirmed s bytes c) lines
 
 -- what a line reports, whatever its status: its site, and what breaks
-abbrev pub told_of : Line → ℕ × Cause
-told_of line = (line.site, line.cause)
+abbrev pub recorded_of : Line → ℕ × Cause
+recorded_of line = (line.site, line.cause)
 
 -- none of the lines is reported as confirmed
 abbrev pub NoneConfirmed : List Line → Type 0
@@ -56,13 +56,13 @@ abbrev pub is_checked : ℕ → Line → Bool
 is_checked left line = not (has_no_message line.cause) && (nat_le line.length most_checked && nat_le line.length left)
 
 -- how many bytes are left for the lines after it
-abbrev pub left_behind : ℕ → Line → ℕ
-left_behind left line = if is_checked left line then left - line.length else left
+abbrev pub left_following : ℕ → Line → ℕ
+left_following left line = if is_checked left line then left - line.length else left
 
 -- how many bytes are left after all of these
 abbrev pub left_after : ℕ → List Line → ℕ
 left_after left [] = left
-left_after left (line ∷ lines) = left_after (left_behind left line) lines
+left_after left (line ∷ lines) = left_after (left_following left line) lines
 
 -- a line without message is undecided; one whose message is checked has been; and one whose message is too long hasn't
 pub record IsStandingOf (left : ℕ) (line : Line) (standing : Standing) : Type 0 where
@@ -73,7 +73,7 @@ pub record IsStandingOf (left : ℕ) (line : Line) (standing : Standing) : Type 
 -- so it is with each line, from the first on
 abbrev pub HaveStandings : ℕ → List Line → Type 0
 HaveStandings left [] = ⊤
-HaveStandings left (line ∷ lines) = IsStandingOf left line line.standing × HaveStandings (left_behind left line) lines
+HaveStandings left (line ∷ lines) = IsStandingOf left line line.standing × HaveStandings (left_following left line) lines
 
 -- ---- a command that a table lists
 

@@ -7,7 +7,7 @@ use Rattle.dia_breaking_avps.specs.Sent.{group_of}
 use Rattle.dia_breaking_avps.specs.declared.breaking.DataBreak.TheVariants.{LeastLevel, EightBytes, Undecided}
 use Rattle.dia_breaking.specs.declared.line.Cause.{Cause}
 use Rattle.dia_breaking.specs.declared.line.Cause.TheVariants as causes
-use Rattle.dia_breaking.specs.OwnBreaks.{LeavesOpen, RefusesShortest, TellsData}
+use Rattle.dia_breaking.specs.OwnBreaks.{LeavesOpen, RefusesShortest, RecordsData}
 use Rattle.dia_breaking.specs.OwnKeys.{data_key}
 use Rattle.dia_breaking.specs.Sides.{Sides}
 
@@ -27,4 +27,4 @@ pub record IsLineOfData (s : Sides) (key : Key) (cause : Cause) : Type 0 where
 
 -- so it is with each line of data that reports what breaks
 abbrev pub DataLinesAreApart : Type 0
-DataLinesAreApart = (s : Sides) (key : Key) (cause : Cause) → data_key cause ≡ Some key → TellsData s cause → IsLineOfData s key cause
+DataLinesAreApart = (s : Sides) (key : Key) (cause : Cause) → data_key cause ≡ Some key → RecordsData s cause → IsLineOfData s key cause

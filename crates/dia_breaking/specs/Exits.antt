@@ -11,7 +11,7 @@ use Rattle.dia_breaking_shortest.specs.Floors.{shortest_head}
 use Rattle.dia_breaking.specs.declared.exits.Exits.{Exits}
 use Rattle.dia_breaking.specs.declared.exits.Inner.{Inner}
 use Rattle.dia_breaking.specs.declared.exits.Outlook.{Outlook}
-use Rattle.dia_breaking.specs.declared.keys.Telling.{Telling}
+use Rattle.dia_breaking.specs.declared.keys.Recording.{Recording}
 use Rattle.dia_breaking.specs.declared.levels.LevelCost.{LevelCost}
 use Rattle.dia_breaking.specs.Lengths.{Costs}
 use Rattle.dia_breaking.specs.LevelCosts.{cost_of, with_listed}
@@ -19,29 +19,29 @@ use Rattle.dia_breaking.specs.Outlooks.{group_rules}
 use Rattle.dia_breaking.specs.Taken.{AreGroups}
 
 -- the place of the rule's key in the record, if it is there, and the length of a least level that has an AVP of it
-abbrev pub exit_by : Telling → (Key → ℕ) → LevelCost → DRule → Option (ℕ × ℕ)
-exit_by telling listed cost rule = option_and_then (λ key. option_map (λ place. (place, with_listed cost rule (listed key))) (get same_key telling.places key)) rule.key
+abbrev pub exit_by : Recording → (Key → ℕ) → LevelCost → DRule → Option (ℕ × ℕ)
+exit_by recording listed cost rule = option_and_then (λ key. option_map (λ place. (place, with_listed cost rule (listed key))) (get same_key recording.places key)) rule.key
 
 -- those of the rules, in their order, with the costs of their levels
-pub record AreExits (telling : Telling) (k : Costs) (rules : List DRule) (exits : Exits) : Type 0 where
+pub record AreExits (recording : Recording) (k : Costs) (rules : List DRule) (exits : Exits) : Type 0 where
   pub base : exits.base ≡ (cost_of k.listed k.other k.others rules).base
-  pub listed_are : exits.listed.items ≡ filter_map (exit_by telling k.listed (cost_of k.listed k.other k.others rules)) rules
+  pub listed_are : exits.listed.items ≡ filter_map (exit_by recording k.listed (cost_of k.listed k.other k.others rules)) rules
   pub beside : exits.beside ≡ (cost_of k.listed k.other k.others rules).beside
 
 -- of a group of both: what its least level takes, and where A's levels lead
-pub record IsInner (da : Dictionary) (telling : Telling) (k : Costs) (key : Key) (inner : Inner) : Type 0 where
+pub record IsInner (da : Dictionary) (recording : Recording) (k : Costs) (key : Key) (inner : Inner) : Type 0 where
   pub least : inner.least ≡ k.listed key - shortest_head key
-  pub exits : AreExits telling k (group_rules da key) inner.exits
+  pub exits : AreExits recording k (group_rules da key) inner.exits
 
 -- a group of both has such a level, and no other AVP has one
-abbrev pub IsInnerOrNone : Dictionary → Dictionary → Telling → Costs → Key → Option Inner → Type 0
-IsInnerOrNone da db telling k key inner = MatchOption inner (¬ AreGroups da db key) (λ inner. AreGroups da db key × IsInner da telling k key inner)
+abbrev pub IsInnerOrNone : Dictionary → Dictionary → Recording → Costs → Key → Option Inner → Type 0
+IsInnerOrNone da db recording k key inner = MatchOption inner (¬ AreGroups da db key) (λ inner. AreGroups da db key × IsInner da recording k key inner)
 
 -- of an AVP of which there is something to report: its least length through a wildcard, and its group, if it is one for both
-pub record IsOutlook (da db : Dictionary) (telling : Telling) (k : Costs) (outlook : Outlook) : Type 0 where
+pub record IsOutlook (da db : Dictionary) (recording : Recording) (k : Costs) (outlook : Outlook) : Type 0 where
   pub other_is : outlook.other ≡ k.other outlook.key
-  pub inner_is : IsInnerOrNone da db telling k outlook.key outlook.inner
+  pub inner_is : IsInnerOrNone da db recording k outlook.key outlook.inner
 
 -- of all that is recorded, in its order
-abbrev pub AreOutlooks : Dictionary → Dictionary → Telling → Costs → List Outlook → Type 0
-AreOutlooks da db telling k outlooks = (map (λ outlook. outlook.key) outlooks ≡ map (λ own. own.key) telling.own.items) × All (IsOutlook da db telling k) outlooks
+abbrev pub AreOutlooks : Dictionary → Dictionary → Recording → Costs → List Outlook → Type 0
+AreOutlooks da db recording k outlooks = (map (λ outlook. outlook.key) outlooks ≡ map (λ own. own.key) recording.own.items) × All (IsOutlook da db recording k) outlooks

@@ -20,7 +20,7 @@ use Rattle.dia_breaking.specs.declared.line.Line.{Line}
 use Rattle.dia_breaking.specs.declared.line.Place.{Place}
 use Rattle.dia_breaking.specs.declared.line.Place.TheVariants as places
 use Rattle.dia_breaking.specs.declared.line.Site.{Site}
-use Rattle.dia_breaking.specs.Headers.{head_in, TellsRefusal}
+use Rattle.dia_breaking.specs.Headers.{head_in, RecordsRefusal}
 use Rattle.dia_breaking.specs.OwnKeys.{data_key, flags_key}
 use Rattle.dia_breaking.specs.SentKeys.{IsStrange}
 use Rattle.dia_breaking.specs.Sides.{Sides, Answer}
@@ -33,7 +33,7 @@ IsSelectedFor db h app y = (head : Head) × (number : ℕ) × (head_in h ≡ Som
 
 -- the level at the place is read by these definitions, in messages of the command c
 abbrev pub IsReadBy : Dictionary → Dictionary → ℕ → Place → PlainDefinition → PlainDefinition → Type 0
-IsReadBy da db c (places.Command app read_as is_told proxiable) x y = (slice_get (definitions da) c ≡ Some x) × IsSelectedFor db x.head read_as y
+IsReadBy da db c (places.Command app read_as is_recorded proxiable) x y = (slice_get (definitions da) c ≡ Some x) × IsSelectedFor db x.head read_as y
 IsReadBy da db c (places.Group key outer) x y = (group_of da key ≡ Some x) × (group_of db key ≡ Some y)
 
 -- the line has a site whose level is read so
@@ -43,16 +43,16 @@ IsLineOf da db sites c line x y = (site : Site) × (slice_get sites line.site �
 -- ---- levels
 
 -- the first key represents the other: they are equal, or neither dictionary knows either
-abbrev pub StandsIn : Dictionary → Dictionary → Key → Key → Type 0
-StandsIn da db key own = (key ≡ own) ⊎ (IsStrange da db own × IsStrange da db key)
+abbrev pub OccursIn : Dictionary → Dictionary → Key → Key → Type 0
+OccursIn da db key own = (key ≡ own) ⊎ (IsStrange da db own × IsStrange da db key)
 
 -- a level that these definitions read breaks in none of the ways that lines of such levels report. Where a line reports the flags
 -- of AVPs of a key, B accepts the flags of the level's AVPs whose keys represent it. Where one reports their data, B accepts the
 -- data of the level's AVPs of the key
 pub record IsFreeLevel (da db : Dictionary) (u : Unknown) (sites : List Site) (lines : List Line) (c : ℕ) (x y : PlainDefinition) (avps : List PlainAvp) : Type 0 where
-  pub level : (line : Line) (told : LevelLine) → Contains lines line → line.cause ≡ causes.Level told → IsLineOf da db sites c line x y
-      → ¬ ShowsAt x.rules y.rules (map key_of avps) told.reason told.key
-  pub flags : (line : Line) (key : Key) (v : PlainAvp) → Contains lines line → flags_key line.cause ≡ Some key → Contains avps v → StandsIn da db (key_of v) key
+  pub level : (line : Line) (recorded : LevelLine) → Contains lines line → line.cause ≡ causes.Level recorded → IsLineOf da db sites c line x y
+      → ¬ ShowsAt x.rules y.rules (map key_of avps) recorded.reason recorded.key
+  pub flags : (line : Line) (key : Key) (v : PlainAvp) → Contains lines line → flags_key line.cause ≡ Some key → Contains avps v → OccursIn da db (key_of v) key
       → HasFlags db u (key_of v) v.flags
   pub content : (line : Line) (key : Key) (v : PlainAvp) → Contains lines line → data_key line.cause ≡ Some key → Contains avps v → key_of v ≡ key
       → IsAcceptedData db u key v.bytes
@@ -65,8 +65,8 @@ HasThisP true flags = HasP flags
 HasThisP false flags = ¬ HasP flags
 
 -- a line reports that this definition of B forbids the P flag of these flags
-abbrev pub TellsFlags : Dictionary → Dictionary → List Site → List Line → ℕ → AboutFlags
-TellsFlags da db sites lines c other flags = (line : Line) × (set : Bool) × (x : PlainDefinition) × Contains lines line × (line.cause ≡ causes.Proxiable set)
+abbrev pub RecordsFlags : Dictionary → Dictionary → List Site → List Line → ℕ → AboutFlags
+RecordsFlags da db sites lines c other flags = (line : Line) × (set : Bool) × (x : PlainDefinition) × Contains lines line × (line.cause ≡ causes.Proxiable set)
     × IsLineOf da db sites c line x other × HasThisP set flags
 
 -- ---- messages
@@ -74,7 +74,7 @@ TellsFlags da db sites lines c other flags = (line : Line) × (set : Bool) × (x
 -- B selects a definition, and allows the P flag, also where lines report others; and each level that both dictionaries see in the
 -- message is free of the lines
 abbrev pub IsFree : Dictionary → Dictionary → Unknown → List Site → List Line → ℕ → Header → PlainDefinition → List PlainAvp → Type 0
-IsFree da db u sites lines c header command avps = IsAsked da db (IsFreeLevel da db u sites lines c) (TellsRefusal lines) (TellsFlags da db sites lines c) header command avps
+IsFree da db u sites lines c header command avps = IsAsked da db (IsFreeLevel da db u sites lines c) (RecordsRefusal lines) (RecordsFlags da db sites lines c) header command avps
 
 -- each message of the command that A's side sends is valid under B
 abbrev pub AllAreValid : Sides → ℕ → Type 0

@@ -57,12 +57,12 @@ abbrev pub HasHead : Dictionary → ℕ → Head → Type 0
 HasHead d c head = (x : PlainDefinition) × (slice_get (definitions d) c ≡ Some x) × (head_in x.head ≡ Some head)
 
 -- a line reports that B selects no definition
-abbrev pub TellsRefusal : List Line → Type 0
-TellsRefusal lines = (line : Line) × Contains lines line × ((line.cause ≡ causes.Command) ⊎ (line.cause ≡ causes.Application))
+abbrev pub RecordsRefusal : List Line → Type 0
+RecordsRefusal lines = (line : Line) × Contains lines line × ((line.cause ≡ causes.Command) ⊎ (line.cause ≡ causes.Application))
 
 -- the place is the command's own level, and B's definition for this application reads it
 abbrev pub IsCommandPlace : ℕ → Place → Type 0
-IsCommandPlace app (places.Command own read_as is_told proxiable) = read_as ≡ app
+IsCommandPlace app (places.Command own read_as is_recorded proxiable) = read_as ≡ app
 IsCommandPlace app (places.Group key outer) = ⊥
 
 -- whether the P flag may have this value

@@ -8,7 +8,7 @@ pub mod Lengths
 pub mod LevelCosts
 pub mod Listing
 pub mod Meanings
-pub mod Mended
+pub mod Corrected
 pub mod Messages
 pub mod Nested
 pub mod Nodes
@@ -24,11 +24,11 @@ pub mod Sides
 pub mod Sites
 pub mod Stocks
 pub mod Taken
-pub mod Telling
+pub mod Recording
 pub mod TheLines
 pub mod TheMeanings
-pub mod ToldApps
-pub mod ToldMessages
+pub mod RecordedApps
+pub mod RecordedMessages
 pub mod Tried
 pub mod Upgrades
 pub mod Words

@@ -38,7 +38,7 @@ use Rattle.dia_breaking.specs.Sites.{other_head, command_sites, first_read, site
 -- ---- what a line reports
 
 -- the number of its site, what breaks, and the length of its message
-pub record Told : Type 0 where
+pub record Recorded : Type 0 where
   pub site : ℕ
   pub cause : Cause
   pub length : ℕ
@@ -53,12 +53,12 @@ abbrev pub subject_with : Cause × ℕ → Cause × ℕ
 subject_with found = (subject found.0, found.1)
 
 -- also without the status of the line
-abbrev pub tells : Line → Told
-tells line = record { site = line.site; cause = subject line.cause; length = line.length }
+abbrev pub records : Line → Recorded
+records line = record { site = line.site; cause = subject line.cause; length = line.length }
 
 -- the lines of the second list are those of the first, followed by some that report this
-abbrev pub AddsTold : List Line → List Line → List Told → Type 0
-AddsTold old new told = map tells new ≡ map tells old ++ told
+abbrev pub AddsRecorded : List Line → List Line → List Recorded → Type 0
+AddsRecorded old new recorded = map records new ≡ map records old ++ recorded
 
 -- an unchecked line
 abbrev pub new_line : ℕ → Cause → ℕ → Line
@@ -90,28 +90,28 @@ abbrev pub header_causes : Dictionary → Head → ℕ → List Cause
 header_causes db head app = option_map_or (λ other. flag_causes head other false ++ flag_causes head other true) (other_head db head app) (refusal db head ∷ [])
 
 -- a least level of the command is `base` long
-abbrev pub header_line : ℕ → ℕ → Cause → Told
+abbrev pub header_line : ℕ → ℕ → Cause → Recorded
 header_line base site cause = record { site = site; cause = cause; length = base }
 
 -- for a reading
-abbrev pub header_lines : Dictionary → Head → ℕ → ℕ → Reading → List Told
+abbrev pub header_lines : Dictionary → Head → ℕ → ℕ → Reading → List Recorded
 header_lines db head base site reading = map (header_line base site) (header_causes db head reading.read_as)
 
 -- ---- levels
 
 -- a line, if a message has room for it
-abbrev pub with_room : ℕ → ℕ → Cause → Option Told
+abbrev pub with_room : ℕ → ℕ → Cause → Option Recorded
 with_room site size cause = if nat_le size max_body then Some (record { site = site; cause = cause; length = size }) else None
 
 -- of a level around which a message takes so much at least
-abbrev pub level_lines : ℕ → ℕ → List LevelLine → List Told
+abbrev pub level_lines : ℕ → ℕ → List LevelLine → List Recorded
 level_lines site way lines = filter_map (λ line. with_room site (way + line.length) (causes.Level line)) lines
 
 -- of levels of the command, and of a group
-abbrev pub command_levels : ℕ → List LevelLine → List Told
+abbrev pub command_levels : ℕ → List LevelLine → List Recorded
 command_levels site lines = level_lines site 0 lines
 
-abbrev pub group_levels : ℕ → List (List LevelLine) → ℕ → Step → List Told
+abbrev pub group_levels : ℕ → List (List LevelLine) → ℕ → Step → List Recorded
 group_levels count groups i step = option_map_or (level_lines (min (count + i) 18446744073709551615) step.way) (slice_get groups step.place) []
 
 -- ---- AVPs by themselves
@@ -140,7 +140,7 @@ own_cause kinds.Data own size = option_map (λ n. (causes.Format own.key None, n
 own_cause kinds.Meaning own size = if own.is_other then Some (causes.Meaning own.key, size) else None
 own_cause kind own size = option_map (λ cause. (cause, size)) (option_and_then (head_cause kind own.key) own.breaks.head)
 
-abbrev pub own_line : Kind → ℕ → ℕ → OwnBreaks → Reach → Option Told
+abbrev pub own_line : Kind → ℕ → ℕ → OwnBreaks → Reach → Option Recorded
 own_line kind first count own reach = option_and_then (λ found. with_room (site_number first count reach.level) found.1 found.0) (own_cause kind own reach.length)
 
 -- the shortest way to the AVP at a place
@@ -148,11 +148,11 @@ abbrev pub reach_at : List (Option Reach) → ℕ → Option Reach
 reach_at reached place = option_and_then (λ reach. reach) (slice_get reached place)
 
 -- what of one kind breaks of it
-abbrev pub reached_line : Kind → ℕ → ℕ → List (Option Reach) → ℕ → OwnBreaks → List Told
+abbrev pub reached_line : Kind → ℕ → ℕ → List (Option Reach) → ℕ → OwnBreaks → List Recorded
 reached_line kind first count reached place own = option_to_list (option_and_then (own_line kind first count own) (reach_at reached place))
 
 -- all of one kind, by the places of the AVPs
-abbrev pub own_lines : Kind → ℕ → ℕ → List OwnBreaks → List (Option Reach) → List Told
+abbrev pub own_lines : Kind → ℕ → ℕ → List OwnBreaks → List (Option Reach) → List Recorded
 own_lines kind first count own reached = of_each (reached_line kind first count reached) own
 
 -- ---- all
@@ -180,22 +180,22 @@ sites_of db basis first count steps = command_sites db basis.head basis.readings
 abbrev pub numbers : ℕ → ℕ → Numbers
 numbers first count = record { first = first; count = count }
 
-abbrev pub lines_of : Dictionary → Basis → Numbers → List Step → List (Option Reach) → List Told
+abbrev pub lines_of : Dictionary → Basis → Numbers → List Step → List (Option Reach) → List Recorded
 lines_of db basis n steps reached =
     of_each (header_lines db basis.head basis.base) basis.readings ++ of_each command_levels basis.levels ++ of_each (group_levels n.count basis.groups) steps
     ++ own_lines kinds.Unknown n.first n.count basis.own reached ++ own_lines kinds.MBit n.first n.count basis.own reached ++ own_lines kinds.Data n.first n.count basis.own reached
 
 -- what is read as another format. That breaks nothing
-abbrev pub meanings_of : Dictionary → Basis → Numbers → List Step → List (Option Reach) → List Told
+abbrev pub meanings_of : Dictionary → Basis → Numbers → List Step → List (Option Reach) → List Recorded
 meanings_of db basis n steps reached = own_lines kinds.Meaning n.first n.count basis.own reached
 
 -- what is reported of a basis, by a walk
 abbrev pub Listed : Type 0
-Listed = Dictionary → Basis → Numbers → List Step → List (Option Reach) → List Told
+Listed = Dictionary → Basis → Numbers → List Step → List (Option Reach) → List Recorded
 
 -- what is reported is in the order of the sites
-abbrev pub AreInOrder : List Told → List Told → Type 0
-AreInOrder all told = IsInOrderOf (λ (line : Told). line.site) all told
+abbrev pub AreInOrder : List Recorded → List Recorded → Type 0
+AreInOrder all recorded = IsInOrderOf (λ (line : Recorded). line.site) all recorded
 
 -- a walk begins only where B's side reads a level of the command
 abbrev pub IsWalkFrom : Bool → Graph → List Step → List (Option Reach) → Type 0
@@ -203,23 +203,23 @@ IsWalkFrom true graph steps reached = IsWalk graph steps reached
 IsWalkFrom false graph steps reached = (steps ≡ []) × (reached ≡ [])
 
 -- the sites and what is reported of them by a walk, in the order of the sites
-pub record IsListingOf (listed : Listed) (db : Dictionary) (basis : Basis) (sites : List Site) (told : List Told) : Type 0 where
+pub record IsListingOf (listed : Listed) (db : Dictionary) (basis : Basis) (sites : List Site) (recorded : List Recorded) : Type 0 where
   pub steps : List Step
   pub reached : List (Option Reach)
   pub is_walk : IsWalkFrom (is_some (start_of db basis)) basis.graph steps reached
   pub sites_are : sites ≡ sites_of db basis (unwrap_or (start_of db basis) 0) (length basis.readings) steps
-  pub lines_are : AreInOrder (listed db basis (numbers (unwrap_or (start_of db basis) 0) (length basis.readings)) steps reached) told
+  pub lines_are : AreInOrder (listed db basis (numbers (unwrap_or (start_of db basis) 0) (length basis.readings)) steps reached) recorded
 
-abbrev pub IsListing : Dictionary → Basis → List Site → List Told → Type 0
-IsListing db basis sites told = IsListingOf lines_of db basis sites told
+abbrev pub IsListing : Dictionary → Basis → List Site → List Recorded → Type 0
+IsListing db basis sites recorded = IsListingOf lines_of db basis sites recorded
 
-abbrev pub AreMeanings : Dictionary → Basis → List Site → List Told → Type 0
-AreMeanings db basis sites told = IsListingOf meanings_of db basis sites told
+abbrev pub AreMeanings : Dictionary → Basis → List Site → List Recorded → Type 0
+AreMeanings db basis sites recorded = IsListingOf meanings_of db basis sites recorded
 
 -- a basis determines the sites and the lines
 abbrev pub ListingsAreOne : Type 0
-ListingsAreOne = (db : Dictionary) (basis : Basis) (sites others : List Site) (told lines : List Told) → IsListing db basis sites told → IsListing db basis others lines
-    → (sites ≡ others) × (told ≡ lines)
+ListingsAreOne = (db : Dictionary) (basis : Basis) (sites others : List Site) (recorded lines : List Recorded) → IsListing db basis sites recorded → IsListing db basis others lines
+    → (sites ≡ others) × (recorded ≡ lines)
 
 -- ---- by two dictionaries
 

@@ -105,11 +105,11 @@ abbrev pub group_number : Dictionary → Key → Option ℕ
 group_number d key = option_and_then (group_place d) (entry_of d key)
 
 abbrev pub sent_number : Sides → ℕ → Place → Option ℕ
-sent_number s c (places.Command app read_as is_told proxiable) = Some c
+sent_number s c (places.Command app read_as is_recorded proxiable) = Some c
 sent_number s c (places.Group key outer) = group_number s.sender key
 
 abbrev pub read_number : Sides → ℕ → Place → Option ℕ
-read_number s c (places.Command app read_as is_told proxiable) = option_and_then (λ head. selected s.receiver head.code head.class read_as) (head_at s.sender c)
+read_number s c (places.Command app read_as is_recorded proxiable) = option_and_then (λ head. selected s.receiver head.code head.class read_as) (head_at s.sender c)
 read_number s c (places.Group key outer) = group_number s.receiver key
 
 -- the shortest level of the sender's definition that has an AVP of the key; nothing, where there is no definition
@@ -139,7 +139,7 @@ level_round s k c place key bytes =
 -- ---- the path
 
 abbrev pub key_at : Place → Option Key
-key_at (places.Command app read_as is_told proxiable) = None
+key_at (places.Command app read_as is_recorded proxiable) = None
 key_at (places.Group key outer) = Some key
 
 -- a group with these data. What is around the level at its site takes `way`, and all AVPs take `size`
@@ -188,11 +188,11 @@ command_flags classes.Answer p = if p then 64 else 0
 command_flags classes.Error p = if p then 96 else 32
 
 abbrev pub app_at : Place → ℕ
-app_at (places.Command app read_as is_told proxiable) = app
+app_at (places.Command app read_as is_recorded proxiable) = app
 app_at (places.Group key outer) = 0
 
 abbrev pub p_at : Place → Bool
-p_at (places.Command app read_as is_told proxiable) = proxiable
+p_at (places.Command app read_as is_recorded proxiable) = proxiable
 p_at (places.Group key outer) = false
 
 -- P as the line reports, and else as at the command's site

@@ -27,8 +27,8 @@ pub record IsOwnBreaks (s : Sides) (length : Key → ℕ) (own : OwnBreaks) : Ty
   pub other : IsTrue own.is_other ↔ IsReadAsOther s own.key
 
 -- so do those of which there is something to report
-pub record AreOwnBreaks (s : Sides) (length : Key → ℕ) (told : List Own) (own : List OwnBreaks) : Type 0 where
-  pub keys : map (λ one. one.key) own ≡ map (λ one. one.key) told
+pub record AreOwnBreaks (s : Sides) (length : Key → ℕ) (recorded : List Own) (own : List OwnBreaks) : Type 0 where
+  pub keys : map (λ one. one.key) own ≡ map (λ one. one.key) recorded
   pub each : All (IsOwnBreaks s length) own
 
 -- so it is with the bytes of a shortest AVP of the key that the sender's side sends, and with its length, where a rule lists it
@@ -80,24 +80,24 @@ LeavesOpen s key = ReadsEight s key true ⊎ ReadsOpen s key
 
 -- the reported data are shortest that break. Where none are reported, B refuses those of shortest AVPs, or it isn't known whether
 -- B refuses any
-abbrev pub TellsData : Sides → Cause → Type 0
-TellsData s (causes.Format key (Some found)) = IsDataBreak s.sender s.receiver s.sends s.unknown key (Data found)
-TellsData s (causes.Format key None) = RefusesShortest s key
-TellsData s (causes.LevelAsLeaf key) = LeavesOpen s key
-TellsData s cause = ⊤
+abbrev pub RecordsData : Sides → Cause → Type 0
+RecordsData s (causes.Format key (Some found)) = IsDataBreak s.sender s.receiver s.sends s.unknown key (Data found)
+RecordsData s (causes.Format key None) = RefusesShortest s key
+RecordsData s (causes.LevelAsLeaf key) = LeavesOpen s key
+RecordsData s cause = ⊤
 
 -- so each line does
-abbrev pub TellData : Sides → List Line → Type 0
-TellData s lines = All (λ line. TellsData s line.cause) lines
+abbrev pub ReportData : Sides → List Line → Type 0
+ReportData s lines = All (λ line. RecordsData s line.cause) lines
 
 -- where the old ones do, the new ones do
 abbrev pub KeepsData : Sides → List Line → List Line → Type 0
-KeepsData s old new = TellData s old → TellData s new
+KeepsData s old new = ReportData s old → ReportData s new
 
 -- what is found reports data that break, if those of the AVP do
-abbrev pub TellsIfBreaks : Sides → Least → List ℕ → OwnBreaks → Option (Cause × ℕ) → Type 0
-TellsIfBreaks s least lengths own found = IsDataBreak s.sender s.receiver s.sends s.unknown own.key own.breaks.data → HasLeast s least lengths own
-    → IfSome found (λ pair. TellsData s pair.0)
+abbrev pub RecordsIfBreaks : Sides → Least → List ℕ → OwnBreaks → Option (Cause × ℕ) → Type 0
+RecordsIfBreaks s least lengths own found = IsDataBreak s.sender s.receiver s.sends s.unknown own.key own.breaks.data → HasLeast s least lengths own
+    → IfSome found (λ pair. RecordsData s pair.0)
 
 -- the cause for levels that are read as leaves of eight bytes: B refuses the data of a shortest AVP, unless these have eight
 -- bytes

@@ -15,7 +15,7 @@ use Rattle.dia_breaking.specs.declared.readings.OtherApps.{OtherApps}
 use Rattle.dia_breaking.specs.declared.readings.Reading.{Reading}
 use Rattle.dia_breaking.specs.Headers.{head_in}
 use Rattle.dia_breaking.specs.Sites.{other_head}
-use Rattle.dia_breaking.specs.ToldApps.{AreToldApps}
+use Rattle.dia_breaking.specs.RecordedApps.{AreRecordedApps}
 
 -- ---- the applications that B alone names
 
@@ -52,12 +52,12 @@ abbrev pub as_other : ℕ → ℕ → Reading
 as_other app other = record { app = app; read_as = other }
 
 -- where the head names an application and B selects no definition for it: messages of it are read by the one other
-abbrev pub reading_behind : Dictionary → Dictionary → Head → Option Reading
-reading_behind da db head = option_and_then (λ app. if is_some (selected db head.code head.class app) then None else option_map (as_other app) (one_other da db head)) head.app
+abbrev pub reading_after : Dictionary → Dictionary → Head → Option Reading
+reading_after da db head = option_and_then (λ app. if is_some (selected db head.code head.class app) then None else option_map (as_other app) (one_other da db head)) head.app
 
 -- the readings of a command with this head: its applications as they are sent, and the one after them
 abbrev pub AreReadings : Dictionary → Dictionary → BothApps → ℕ → Head → List Reading → Type 0
-AreReadings da db both c head readings = (apps : List ℕ) × AreToldApps da both c head apps × (readings ≡ map as_sent apps ++ option_to_list (reading_behind da db head))
+AreReadings da db both c head readings = (apps : List ℕ) × AreRecordedApps da both c head apps × (readings ≡ map as_sent apps ++ option_to_list (reading_after da db head))
 
 -- ---- as they are found
 

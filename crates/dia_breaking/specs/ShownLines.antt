@@ -22,21 +22,21 @@ use Rattle.dia_breaking.specs.declared.line.Site.{Site}
 use Rattle.dia_breaking.specs.declared.line.Standing.TheVariants.{Confirmed}
 use Rattle.dia_breaking.specs.Confirmed.{most_checked}
 use Rattle.dia_breaking.specs.Free.{IsReadBy}
-use Rattle.dia_breaking.specs.Listing.{tells}
+use Rattle.dia_breaking.specs.Listing.{records}
 use Rattle.dia_breaking.specs.Messages.{Stock, header_bytes, levels_on, shortest_avp}
-use Rattle.dia_breaking.specs.OwnBreaks.{TellsData}
+use Rattle.dia_breaking.specs.OwnBreaks.{RecordsData}
 use Rattle.dia_breaking.specs.OwnKeys.{data_key, flags_key}
 use Rattle.dia_breaking.specs.Sides.{Sides}
 use Rattle.dia_breaking.specs.Stocks.{IsStock}
 use Rattle.dia_breaking.specs.TheLines.{AreTheLines}
-use Rattle.dia_breaking.specs.ToldMessages.{BreaksAsTold}
+use Rattle.dia_breaking.specs.RecordedMessages.{BreaksAsRecorded}
 use Rattle.dia_breaking.specs.Words.{path_to}
 
 -- ---- a level
 
 -- the message has at the line's site a level that these definitions read; it is made of shortest AVPs by these parts, whose keys
 -- break the rules of the second definition for the reported reason, at the reported key
-pub record ShowsTold (s : Sides) (k : Stock) (c : ℕ) (sites : List Site) (line : Line) (told : LevelLine) (bytes : List ℕ) : Type 0 where
+pub record ShowsRecorded (s : Sides) (k : Stock) (c : ℕ) (sites : List Site) (line : Line) (recorded : LevelLine) (bytes : List ℕ) : Type 0 where
   pub head : Head
   pub site : Site
   pub own : PlainDefinition
@@ -45,7 +45,7 @@ pub record ShowsTold (s : Sides) (k : Stock) (c : ℕ) (sites : List Site) (line
   pub is_site : slice_get sites line.site ≡ Some site
   pub are_read : IsReadBy s.sender s.receiver c site.place own other
   pub message : bytes ≡ header_bytes head line (slice_get (path_to sites line.site) 0) ++ levels_on s k c line.length (path_to sites line.site) (parts_bytes (shortest_avp s k) parts)
-  pub shows : ShowsAt own.rules other.rules (part_keys parts) told.reason told.key
+  pub shows : ShowsAt own.rules other.rules (part_keys parts) recorded.reason recorded.key
 
 -- ---- an AVP
 
@@ -79,7 +79,7 @@ HasRefusedLevel s line key v = line.length ≤ most_checked → ¬ IsAcceptedDat
 
 -- what the message shows, by what the line reports. A line of the header is shown by the header alone
 abbrev pub ShowsCause : Sides → Stock → ℕ → List Site → Line → List ℕ → Cause → Type 0
-ShowsCause s k c sites line bytes (causes.Level told) = ShowsTold s k c sites line told bytes
+ShowsCause s k c sites line bytes (causes.Level recorded) = ShowsRecorded s k c sites line recorded bytes
 ShowsCause s k c sites line bytes (causes.Unknown key m) = HasAvpAt s k c sites line bytes key (HasRefusedFlags s key m)
 ShowsCause s k c sites line bytes (causes.MBit key m) = HasAvpAt s k c sites line bytes key (HasRefusedFlags s key m)
 ShowsCause s k c sites line bytes (causes.Format key (Some found)) = HasAvpAt s k c sites line bytes key (HasRefusedData s key found)
@@ -88,7 +88,7 @@ ShowsCause s k c sites line bytes cause = ⊤
 
 -- the line's message breaks as the line reports, and shows it
 abbrev pub IsShown : Sides → Stock → ℕ → List Site → Line → Type 0
-IsShown s k c sites line = (bytes : List ℕ) × BreaksAsTold s k c sites line bytes × ShowsCause s k c sites line bytes line.cause
+IsShown s k c sites line = (bytes : List ℕ) × BreaksAsRecorded s k c sites line bytes × ShowsCause s k c sites line bytes line.cause
 
 -- so it is with each line that is reported as confirmed
 abbrev pub EachIsShown : Sides → Stock → ℕ → List Site → List Line → Type 0
@@ -108,5 +108,5 @@ HaveSpellableKeys lines = All (λ line. HasSpellableKey line.cause) lines
 -- where the lines are those of a command, each message that breaks as a line reports shows it
 abbrev pub LinesAreShown : Type 0
 LinesAreShown = (s : Sides) (k : Stock) (c : ℕ) (sites : List Site) (lines : List Line) (line : Line) (bytes : List ℕ)
-    → IsDictionary s.sender → IsDictionary s.receiver → IsStock s k → length sites < 2 ^ 64 → AreTheLines s c sites (map tells lines) → Contains lines line
-    → TellsData s line.cause → HasSpellableKey line.cause → BreaksAsTold s k c sites line bytes → ∥ ShowsCause s k c sites line bytes line.cause ∥₁
+    → IsDictionary s.sender → IsDictionary s.receiver → IsStock s k → length sites < 2 ^ 64 → AreTheLines s c sites (map records lines) → Contains lines line
+    → RecordsData s line.cause → HasSpellableKey line.cause → BreaksAsRecorded s k c sites line bytes → ∥ ShowsCause s k c sites line bytes line.cause ∥₁

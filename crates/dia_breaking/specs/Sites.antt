@@ -27,8 +27,8 @@ abbrev pub refused_site : Head → Reading → Site
 refused_site head reading = record { place = places.Command reading.app reading.read_as false (not (allows head.p false)); way = 0; is_read = false }
 
 -- B's definition is for another application than that of the messages, or for one alone where A's is for more
-abbrev pub tells_app : Head → Reading → Head → Bool
-tells_app head reading other = not (nat_eq reading.app reading.read_as) || (is_none head.app && is_some other.app)
+abbrev pub records_app : Head → Reading → Head → Bool
+records_app head reading other = not (nat_eq reading.app reading.read_as) || (is_none head.app && is_some other.app)
 
 -- P is set where it can't be clear; where no P flag is allowed by both, it is one that A allows
 abbrev pub sets_p : Head → Head → Bool
@@ -37,7 +37,7 @@ sets_p head other = not (both_allow head other false) && (both_allow head other 
 -- B selects a definition with this head
 abbrev pub read_site : Head → Reading → Head → Site
 read_site head reading other =
-    record { place = places.Command reading.app reading.read_as (tells_app head reading other) (sets_p head other); way = 0; is_read = true }
+    record { place = places.Command reading.app reading.read_as (records_app head reading other) (sets_p head other); way = 0; is_read = true }
 
 abbrev pub command_site : Dictionary → Head → Reading → Site
 command_site db head reading = option_map_or (read_site head reading) (other_head db head reading.read_as) (refused_site head reading)

@@ -13,7 +13,7 @@ use Rattle.dia_breaking.specs.declared.apps.BothApps.{BothApps}
 use Rattle.dia_breaking.specs.declared.exits.Exits.{Exits}
 use Rattle.dia_breaking.specs.declared.exits.Outlook.{Outlook}
 use Rattle.dia_breaking.specs.declared.heads.Head.{Head}
-use Rattle.dia_breaking.specs.declared.keys.Telling.{Telling}
+use Rattle.dia_breaking.specs.declared.keys.Recording.{Recording}
 use Rattle.dia_breaking.specs.declared.line.Breaks.{Breaks}
 use Rattle.dia_breaking.specs.declared.line.Line.{Line}
 use Rattle.dia_breaking.specs.declared.line.Site.{Site}
@@ -24,15 +24,15 @@ use Rattle.dia_breaking.specs.Exits.{AreExits, AreOutlooks}
 use Rattle.dia_breaking.specs.Free.{AreValidWhereFree}
 use Rattle.dia_breaking.specs.Headers.{AreApps, HasHead}
 use Rattle.dia_breaking.specs.Lengths.{Costs, costs_by, AreEntryLengths, AreExactlyOthers}
-use Rattle.dia_breaking.specs.Listing.{Told, Listed, IsListingOf, basis_of, lines_of, tells}
-use Rattle.dia_breaking.specs.Mended.{AreValidOnceMended}
+use Rattle.dia_breaking.specs.Listing.{Recorded, Listed, IsListingOf, basis_of, lines_of, records}
+use Rattle.dia_breaking.specs.Corrected.{AreValidOnceCorrected}
 use Rattle.dia_breaking.specs.Nodes.{exits_in}
 use Rattle.dia_breaking.specs.Outlooks.{group_rules}
 use Rattle.dia_breaking.specs.OwnBreaks.{AreOwnBreaks}
 use Rattle.dia_breaking.specs.Readings.{AreReadings}
 use Rattle.dia_breaking.specs.Sides.{Sides, Answer, answer}
 use Rattle.dia_breaking.specs.Sites.{command_site}
-use Rattle.dia_breaking.specs.Telling.{IsExactTelling}
+use Rattle.dia_breaking.specs.Recording.{IsExactRecording}
 
 -- ---- what is the same for all commands
 
@@ -45,8 +45,8 @@ abbrev pub HasLevelLines : Dictionary → Dictionary → Costs → Outlook → T
 HasLevelLines da db k outlook = IfSome outlook.inner (λ inner. AreLinesOf k (group_rules da outlook.key) (group_rules db outlook.key) inner.lines.items)
 
 -- of all that is recorded, in its order: where levels lead, and how they break B's rules
-pub record AreAllOutlooks (da db : Dictionary) (telling : Telling) (k : Costs) (outlooks : List Outlook) : Type 0 where
-  pub exact : AreOutlooks da db telling k outlooks
+pub record AreAllOutlooks (da db : Dictionary) (recording : Recording) (k : Costs) (outlooks : List Outlook) : Type 0 where
+  pub exact : AreOutlooks da db recording k outlooks
   pub levels : All (HasLevelLines da db k) outlooks
 
 -- the lengths of A's entries, the keys that a wildcard lets in, the AVPs of which there is something to report, and what there is
@@ -54,12 +54,12 @@ pub record AreAllOutlooks (da db : Dictionary) (telling : Telling) (k : Costs) (
 pub record Facts : Type 0 where
   pub lengths : List ℕ
   pub others : List Key
-  pub telling : Telling
+  pub recording : Recording
   pub outlooks : List Outlook
   pub own : List OwnBreaks
 
-abbrev pub facts_by : List ℕ → List Key → Telling → List Outlook → List OwnBreaks → Facts
-facts_by lengths others telling outlooks own = record { lengths = lengths; others = others; telling = telling; outlooks = outlooks; own = own }
+abbrev pub facts_by : List ℕ → List Key → Recording → List Outlook → List OwnBreaks → Facts
+facts_by lengths others recording outlooks own = record { lengths = lengths; others = others; recording = recording; outlooks = outlooks; own = own }
 
 abbrev pub costs_in : Sides → Facts → Costs
 costs_in s f = costs_by s.sender s.sends f.lengths f.others
@@ -70,10 +70,10 @@ pub record AreFacts (s : Sides) (f : Facts) : Type 0 where
   pub are_least : AreExact s.sender s.sends least
   pub are_lengths : AreEntryLengths s.sender least f.lengths
   pub are_others : AreExactlyOthers s.sender s.receiver s.sends f.lengths f.others
-  pub is_telling : IsExactTelling s f.telling
-  pub are_outlooks : AreOutlooks s.sender s.receiver f.telling (costs_in s f) f.outlooks
+  pub is_recording : IsExactRecording s f.recording
+  pub are_outlooks : AreOutlooks s.sender s.receiver f.recording (costs_in s f) f.outlooks
   pub have_lines : All (HasLevelLines s.sender s.receiver (costs_in s f)) f.outlooks
-  pub are_own : AreOwnBreaks s (costs_in s f).listed f.telling.own.items f.own
+  pub are_own : AreOwnBreaks s (costs_in s f).listed f.recording.own.items f.own
 
 -- ---- the level of a command
 
@@ -100,12 +100,12 @@ AreIfRoom true Are readings = Are readings
 AreIfRoom false Are readings = readings ≡ []
 
 -- where the level of the command c leads, how it is read, and how it breaks B's rules
-pub record IsStartOf (da db : Dictionary) (telling : Telling) (k : Costs) (c : ℕ) (start : Start) : Type 0 where
+pub record IsStartOf (da db : Dictionary) (recording : Recording) (k : Costs) (c : ℕ) (start : Start) : Type 0 where
   pub both : BothApps
   pub exits : Exits
   pub are_first : AreApps da both.first
   pub are_second : AreApps db both.second
-  pub are_exits : AreExits telling k (rules_in da c) exits
+  pub are_exits : AreExits recording k (rules_in da c) exits
   pub base_is : start.base ≡ exits.base
   pub exits_are : plain_exits start.exits ≡ exits_in exits
   pub readings_are : AreIfRoom (nat_le start.base max_body) (AreReadings da db both c start.head) start.readings.items
@@ -114,17 +114,17 @@ pub record IsStartOf (da db : Dictionary) (telling : Telling) (k : Costs) (c : �
 -- ---- the lines
 
 -- these are the sites of the command c, and what is reported of them
-pub record AreListedFor (listed : Listed) (s : Sides) (c : ℕ) (sites : List Site) (told : List Told) : Type 0 where
+pub record AreListedFor (listed : Listed) (s : Sides) (c : ℕ) (sites : List Site) (recorded : List Recorded) : Type 0 where
   pub made : Facts
   pub start : Start
   pub facts : AreFacts s made
   pub head_is : HasHead s.sender c start.head
-  pub is_start : IsStartOf s.sender s.receiver made.telling (costs_in s made) c start
-  pub is_listing : IsListingOf listed s.receiver (basis_of start made.own made.outlooks) sites told
+  pub is_start : IsStartOf s.sender s.receiver made.recording (costs_in s made) c start
+  pub is_listing : IsListingOf listed s.receiver (basis_of start made.own made.outlooks) sites recorded
 
 -- these are the sites and the lines of the command c
-abbrev pub AreTheLines : Sides → ℕ → List Site → List Told → Type 0
-AreTheLines s c sites told = AreListedFor lines_of s c sites told
+abbrev pub AreTheLines : Sides → ℕ → List Site → List Recorded → Type 0
+AreTheLines s c sites recorded = AreListedFor lines_of s c sites recorded
 
 -- the answer is of a command with this head
 abbrev pub IsOfHead : Breaks → Head → Type 0
@@ -136,7 +136,7 @@ HaveSameSites old new = (new.command ≡ old.command) × (new.code ≡ old.code)
 
 -- an answer has the sites and the lines of its command
 abbrev pub HasTheLines : Sides → Answer → Type 0
-HasTheLines s answer = ∥ AreTheLines s answer.command answer.sites (map tells answer.lines) ∥₁
+HasTheLines s answer = ∥ AreTheLines s answer.command answer.sites (map records answer.lines) ∥₁
 
 -- ---- they are all
 
@@ -144,11 +144,11 @@ HasTheLines s answer = ∥ AreTheLines s answer.command answer.sites (map tells 
 -- sends, and that is free of the lines, is valid under B, also once its header is fixed
 abbrev pub TheLinesAreAll : Type 0
 TheLinesAreAll = (s : Sides) (c : ℕ) (sites : List Site) (lines : List Line) → IsDictionary s.sender → IsDictionary s.receiver → length sites < 2 ^ 64
-    → AreTheLines s c sites (map tells lines) → AreValidWhereFree s (answer c sites lines) × AreValidOnceMended s (answer c sites lines)
+    → AreTheLines s c sites (map records lines) → AreValidWhereFree s (answer c sites lines) × AreValidOnceCorrected s (answer c sites lines)
 
 -- ---- they are unique
 
 -- two lists of sites and of lines of one command are the same
 abbrev pub TheLinesAreOne : Type 0
-TheLinesAreOne = (s : Sides) (c : ℕ) (sites others : List Site) (told lines : List Told) → c < length (definitions s.sender)
-    → AreTheLines s c sites told → AreTheLines s c others lines → (sites ≡ others) × (told ≡ lines)
+TheLinesAreOne = (s : Sides) (c : ℕ) (sites others : List Site) (recorded lines : List Recorded) → c < length (definitions s.sender)
+    → AreTheLines s c sites recorded → AreTheLines s c others lines → (sites ≡ others) × (recorded ≡ lines)

@@ -8,20 +8,20 @@ use Rattle.dia_breaking_sites.specs.Sites.{AboutLevels, AreAsked}
 use Rattle.dia_breaking.specs.declared.line.Cause.TheVariants as causes
 use Rattle.dia_breaking.specs.declared.line.Line.{Line}
 use Rattle.dia_breaking.specs.declared.line.Site.{Site}
-use Rattle.dia_breaking.specs.Listing.{Told, meanings_of, tells}
+use Rattle.dia_breaking.specs.Listing.{Recorded, meanings_of, records}
 use Rattle.dia_breaking.specs.Meanings.{IsReadAsOther}
-use Rattle.dia_breaking.specs.Mended.{IsLevelAt}
+use Rattle.dia_breaking.specs.Corrected.{IsLevelAt}
 use Rattle.dia_breaking.specs.Sides.{Sides, Answer}
 use Rattle.dia_breaking.specs.TheLines.{AreListedFor}
 
 -- these are the sites of the command c, and the AVPs of its messages that are read as another format: each key once, at the site
 -- to which the shortest way leads
-abbrev pub AreTheMeanings : Sides → ℕ → List Site → List Told → Type 0
-AreTheMeanings s c sites told = AreListedFor meanings_of s c sites told
+abbrev pub AreTheMeanings : Sides → ℕ → List Site → List Recorded → Type 0
+AreTheMeanings s c sites recorded = AreListedFor meanings_of s c sites recorded
 
 -- these lines report them, with the sites of the answer
 abbrev pub AreMeaningsOf : Sides → Answer → List Line → Type 0
-AreMeaningsOf s answer meanings = ∥ AreTheMeanings s answer.command answer.sites (map tells meanings) ∥₁
+AreMeaningsOf s answer meanings = ∥ AreTheMeanings s answer.command answer.sites (map records meanings) ∥₁
 
 -- ---- they are all
 
@@ -48,5 +48,5 @@ HoldsOfLevels s answer Asked = (bytes : List ℕ) (sent : IsSent s.sender s.send
 
 -- two lists of sites and of meanings of one command are the same
 abbrev pub TheMeaningsAreOne : Type 0
-TheMeaningsAreOne = (s : Sides) (c : ℕ) (sites others : List Site) (told meanings : List Told) → c < length (definitions s.sender)
-    → AreTheMeanings s c sites told → AreTheMeanings s c others meanings → (sites ≡ others) × (told ≡ meanings)
+TheMeaningsAreOne = (s : Sides) (c : ℕ) (sites others : List Site) (recorded meanings : List Recorded) → c < length (definitions s.sender)
+    → AreTheMeanings s c sites recorded → AreTheMeanings s c others meanings → (sites ≡ others) × (recorded ≡ meanings)

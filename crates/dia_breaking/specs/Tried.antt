@@ -26,8 +26,8 @@ abbrev pub IsLeftOpenBy : (List ℕ → Type 0) → Key → List ℕ → ℕ →
 IsLeftOpenBy Takes key bytes n = (most_tried < n) ⊎ Takes (data_of key bytes)
 
 -- what a line reports of such an AVP: that its data are refused; else that levels are read as leaves
-abbrev pub IsToldOfTry : (List ℕ → Type 0) → Key → List ℕ → ℕ → Cause → Type 0
-IsToldOfTry Takes key bytes n cause =
+abbrev pub IsRecordedOfTry : (List ℕ → Type 0) → Key → List ℕ → ℕ → Cause → Type 0
+IsRecordedOfTry Takes key bytes n cause =
     ((cause ≡ causes.Format key None) × IsRefusedBy Takes key bytes n) ⊎ ((cause ≡ causes.LevelAsLeaf key) × IsLeftOpenBy Takes key bytes n)
 
 -- the dictionary's format for AVPs of the key, if it has one, accepts these data, or is that of levels

@@ -7,7 +7,7 @@ use Rattle.dia_breaking.specs.declared.start.Start.{Start}
 use Rattle.dia_breaking.specs.declared.line.Line.{Line}
 use Rattle.dia_breaking.specs.declared.sites.Numbers.{Numbers}
 use Rattle.dia_breaking_ways.specs.declared.graph.Walk.{Walk}
-use Rattle.dia_breaking.specs.Listing.{Basis, Told, basis_of, lines_of}
+use Rattle.dia_breaking.specs.Listing.{Basis, Recorded, basis_of, lines_of}
 use Rattle.dia_breaking.specs.Messages.{Stock, stock}
 use Rattle.dia_breaking.specs.OwnBreaks.{HaveDataBreaks, KeepsData}
 use Rattle.dia_breaking.specs.Sender.{costs_of, sender_in}
@@ -38,12 +38,12 @@ module _ {A B : Type 0} {a : Reads A} {b : Reads B} where
   basis_for up start = basis_of start up.own.items up.outlooks.items
 
   abbrev pub facts_of : Upgrade A B a b → Facts
-  facts_of up = facts_by up.lengths.entries.items up.lengths.others.items up.telling.value up.outlooks.items up.own.items
+  facts_of up = facts_by up.lengths.entries.items up.lengths.others.items up.recording.value up.outlooks.items up.own.items
 
   -- where the old lines report data that break, the new ones do, if all is as it was
   abbrev pub KeepsIfKnown : Upgrade A B a b → List Line → List Line → Type 0
   KeepsIfKnown up old new = HaveDataBreaks (sides_of up) up.lengths.least up.lengths.entries.items up.own.items → KeepsData (sides_of up) old new
 
   -- the lines that a walk finds from this start
-  abbrev pub lines_for : Upgrade A B a b → Start → Numbers → Walk → List Told
+  abbrev pub lines_for : Upgrade A B a b → Start → Numbers → Walk → List Recorded
   lines_for up start numbers walk = lines_of (b.meaning up.b.now) (basis_for up start) numbers walk.steps.items walk.reached.items

@@ -59,7 +59,7 @@ definition_name d def = option_map_or (λ x. x.name) (slice_get (definitions d) 
 
 -- the site whose level holds the level at the place; none for the level of a command
 abbrev pub outer_of : Place → Option ℕ
-outer_of (places.Command app read_as is_told proxiable) = None
+outer_of (places.Command app read_as is_recorded proxiable) = None
 outer_of (places.Group key outer) = Some outer
 
 abbrev pub with_outer : (ℕ → List Site) → Site → List Site
@@ -78,7 +78,7 @@ application_text true app = codes "[application " ++ decimal app ++ codes "]"
 application_text false app = []
 
 abbrev pub place_text : Sides → ℕ → Place → List ℕ
-place_text s c (places.Command app read_as is_told proxiable) = definition_name s.sender c ++ application_text is_told read_as
+place_text s c (places.Command app read_as is_recorded proxiable) = definition_name s.sender c ++ application_text is_recorded read_as
 place_text s c (places.Group key outer) = codes "/" ++ avp_name s key
 
 abbrev pub path_text : Sides → ℕ → List Site → List ℕ
@@ -124,7 +124,7 @@ bounds_text bounds = decimal bounds.min ++ max_text bounds.min bounds.max
 
 -- the rules of A by which the level at a place is read, in messages of the command c
 abbrev pub sent_rules : Dictionary → ℕ → Place → List DRule
-sent_rules da c (places.Command app read_as is_told proxiable) = rules_in da c
+sent_rules da c (places.Command app read_as is_recorded proxiable) = rules_in da c
 sent_rules da c (places.Group key outer) = group_rules da key
 
 abbrev pub head_at : Dictionary → ℕ → Option Head
@@ -132,23 +132,23 @@ head_at d def = option_and_then (λ x. head_in x.head) (slice_get (definitions d
 
 -- and those of B
 abbrev pub accepted_rules : Sides → ℕ → Place → List DRule
-accepted_rules s c (places.Command app read_as is_told proxiable) =
+accepted_rules s c (places.Command app read_as is_recorded proxiable) =
     option_map_or (rules_in s.receiver) (option_and_then (λ head. selected s.receiver head.code head.class read_as) (head_at s.sender c)) []
 accepted_rules s c (places.Group key outer) = group_rules s.receiver key
 
 -- of these counts, and of the preceding AVP
 abbrev pub counts_text : Reason → Bounds → Bounds → List ℕ → List ℕ
-counts_text Missing sent accepted behind = bounds_text sent ++ codes " sent, " ++ bounds_text accepted ++ codes " accepted"
-counts_text TooMany sent accepted behind = bounds_text sent ++ codes " sent, " ++ bounds_text accepted ++ codes " accepted"
-counts_text NotAllowed sent accepted behind = bounds_text sent ++ codes " sent"
-counts_text NotAllowedOther sent accepted behind = bounds_text sent ++ codes " sent"
-counts_text MissingOthers sent accepted behind = bounds_text accepted ++ codes " accepted"
-counts_text TooManyOthers sent accepted behind = bounds_text accepted ++ codes " accepted"
-counts_text Order sent accepted behind = codes "behind " ++ behind ++ codes " sent"
+counts_text Missing sent accepted following = bounds_text sent ++ codes " sent, " ++ bounds_text accepted ++ codes " accepted"
+counts_text TooMany sent accepted following = bounds_text sent ++ codes " sent, " ++ bounds_text accepted ++ codes " accepted"
+counts_text NotAllowed sent accepted following = bounds_text sent ++ codes " sent"
+counts_text NotAllowedOther sent accepted following = bounds_text sent ++ codes " sent"
+counts_text MissingOthers sent accepted following = bounds_text accepted ++ codes " accepted"
+counts_text TooManyOthers sent accepted following = bounds_text accepted ++ codes " accepted"
+counts_text Order sent accepted following = codes "behind " ++ following ++ codes " sent"
 
 abbrev pub level_detail : Sides → (Key → ℕ) → ℕ → LevelLine → Place → List ℕ
 level_detail s other c line place =
-    counts_text line.reason (sent_bounds other (sent_rules s.sender c place) line.key) (accepted_bounds (accepted_rules s c place) line.key) (subject_name s line.behind)
+    counts_text line.reason (sent_bounds other (sent_rules s.sender c place) line.key) (accepted_bounds (accepted_rules s c place) line.key) (subject_name s line.following)
 
 abbrev pub level_text : Sides → (Key → ℕ) → ℕ → Option Site → LevelLine → List ℕ
 level_text s other c site line = reason_word line.reason ++ codes " " ++ subject_name s line.key ++ codes ": "
@@ -213,7 +213,7 @@ abbrev pub meaning_text : Sides → Key → List ℕ
 meaning_text s key = codes "meaning " ++ avp_name s key ++ codes ": " ++ readings_text (format_in s.sender key) (format_in s.receiver key)
 
 abbrev pub refused_application : Place → List ℕ
-refused_application (places.Command app read_as is_told proxiable) = codes "application " ++ decimal app ++ codes ": not accepted"
+refused_application (places.Command app read_as is_recorded proxiable) = codes "application " ++ decimal app ++ codes ": not accepted"
 refused_application (places.Group key outer) = []
 
 -- where a line is: the command, its sites, and the number of one

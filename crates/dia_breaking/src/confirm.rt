@@ -6,13 +6,13 @@ ghost use Rattle.dia_valid.specs.Valid.{IsValid, IsValidOf};
 ghost use Rattle.dia_breaking_sites.specs.Sent.{own_policy};
 ghost use Rattle.dia_breaking_shortest.specs.Floors.{IsSpellable};
 ghost use Rattle.dia_breaking.specs.Confirmed.{EachConfirmedBreaks, HaveStandings, IsConfirmed};
-ghost use Rattle.dia_breaking.specs.Confirmed.{IsStandingOf, has_no_message, is_checked, left_after, left_behind};
+ghost use Rattle.dia_breaking.specs.Confirmed.{IsStandingOf, has_no_message, is_checked, left_after, left_following};
 ghost use Rattle.dia_breaking.specs.Listing.{unchecked};
-ghost use Rattle.dia_breaking.specs.Mended.{BreaksBehind, EachHasMessage, HasMessage};
+ghost use Rattle.dia_breaking.specs.Corrected.{BreaksAfter, EachHasMessage, HasMessage};
 ghost use Rattle.dia_breaking.specs.Messages.{IsLineMessage};
 ghost use Rattle.dia_breaking.specs.ShownLines.{HasSpellableKey, HaveSpellableKeys};
 ghost use Rattle.dia_breaking.specs.TheLines.{HaveSameSites};
-ghost use Rattle.dia_breaking.specs.ToldMessages.{AreConfirmedWhere, BreaksAsTold, IsBroken, IsConfirmedWhere};
+ghost use Rattle.dia_breaking.specs.RecordedMessages.{AreConfirmedWhere, BreaksAsRecorded, IsBroken, IsConfirmedWhere};
 ghost use Rattle.dia_breaking.specs.Upgrades.{sides_of, stock_of};
 
 use crate::line::{Breaks, Cause, Line, Standing};
@@ -42,15 +42,15 @@ impl<'a, A: Book, B: Book> Upgrade<'a, A, B> {
     ) -> Result<Option<Vec<u8>>, AllocError>
         ensures confirmed { IfOk result
             (λ found. IfSome found (λ bytes. IsConfirmed (sides_of self.now) bytes.items breaks.now.command)) }
-        ensures mended { IfOk result (λ found. IfSome found (λ bytes. BreaksBehind (sides_of self.now)
+        ensures corrected { IfOk result (λ found. IfSome found (λ bytes. BreaksAfter (sides_of self.now)
             breaks.now.command breaks.now.sites.items line.now bytes.items)) }
-        ensures told { IfOk result (λ found. IfSome found (λ bytes. BreaksAsTold (sides_of self.now) (stock_of self.now)
+        ensures recorded { IfOk result (λ found. IfSome found (λ bytes. BreaksAsRecorded (sides_of self.now) (stock_of self.now)
             breaks.now.command breaks.now.sites.items line.now bytes.items)) }
         ensures none { IfOk result (λ found. IfNone found (¬ IsBroken (sides_of self.now) (stock_of self.now)
             breaks.now.command breaks.now.sites.items line.now)) }
     {
         let bytes = self.message(alloc, breaks, line)?;
-        if self.breaks_as_told(alloc, breaks, line, &bytes)? {
+        if self.breaks_as_recorded(alloc, breaks, line, &bytes)? {
             Ok(Some(bytes))
         } else {
             Ok(None)
@@ -63,10 +63,10 @@ impl<'a, A: Book, B: Book> Upgrade<'a, A, B> {
             breaks.now.command breaks.now.sites.items line.now) }
     {
         let message = self.message(alloc, breaks, line)?;
-        self.breaks_as_told(alloc, breaks, line, &message)
+        self.breaks_as_recorded(alloc, breaks, line, &message)
     }
 
-    fn breaks_as_told(
+    fn breaks_as_recorded(
         &self,
         alloc: Global,
         breaks: &Breaks,
@@ -75,14 +75,14 @@ impl<'a, A: Book, B: Book> Upgrade<'a, A, B> {
     ) -> Result<bool, AllocError>
         requires { IsLineMessage (sides_of self.now) (stock_of self.now)
             breaks.now.command breaks.now.sites.items line.now bytes.now }
-        ensures { IfOk result (λ yes. IsTrue yes ↔ BreaksAsTold (sides_of self.now) (stock_of self.now)
+        ensures { IfOk result (λ yes. IsTrue yes ↔ BreaksAsRecorded (sides_of self.now) (stock_of self.now)
             breaks.now.command breaks.now.sites.items line.now bytes.now) }
     {
         if !has_length(bytes, line.length) {
             return Ok(false);
         }
         if self.is_confirmed(alloc, breaks.command, bytes)? {
-            self.breaks_mended(alloc, breaks, line, bytes)
+            self.breaks_corrected(alloc, breaks, line, bytes)
         } else {
             Ok(false)
         }
@@ -111,22 +111,22 @@ impl<'a, A: Book, B: Book> Upgrade<'a, A, B> {
         left: &mut u64,
     ) -> Result<Breaks, AllocError>
         ensures same { IfOk result (HaveSameSites breaks) }
-        ensures kept { IfOk result (λ told. map unchecked told.lines.items ≡ map unchecked breaks.lines.items) }
-        ensures each { IfOk result (λ told. EachConfirmedBreaks (sides_of self.now) breaks.command told.lines.items) }
-        ensures each_mended { IfOk result
-            (λ told. EachHasMessage (sides_of self.now) breaks.command breaks.sites.items told.lines.items) }
-        ensures standings { IfOk result (λ told. HaveStandings left.old told.lines.items) }
-        ensures exactly { IfOk result (λ told. AreConfirmedWhere (sides_of self.now) (stock_of self.now)
-            breaks.command breaks.sites.items left.old told.lines.items) }
-        ensures spellable { IfOk result (λ told. HaveSpellableKeys told.lines.items) }
-        ensures left { IfOk result (λ told. left.new ≡ left_after left.old told.lines.items) }
+        ensures kept { IfOk result (λ recorded. map unchecked recorded.lines.items ≡ map unchecked breaks.lines.items) }
+        ensures each { IfOk result (λ recorded. EachConfirmedBreaks (sides_of self.now) breaks.command recorded.lines.items) }
+        ensures each_corrected { IfOk result
+            (λ recorded. EachHasMessage (sides_of self.now) breaks.command breaks.sites.items recorded.lines.items) }
+        ensures standings { IfOk result (λ recorded. HaveStandings left.old recorded.lines.items) }
+        ensures exactly { IfOk result (λ recorded. AreConfirmedWhere (sides_of self.now) (stock_of self.now)
+            breaks.command breaks.sites.items left.old recorded.lines.items) }
+        ensures spellable { IfOk result (λ recorded. HaveSpellableKeys recorded.lines.items) }
+        ensures left { IfOk result (λ recorded. left.new ≡ left_after left.old recorded.lines.items) }
     {
         let mut lines = Vec::new(alloc);
         for line in &breaks.lines {
             let standing = self.standing(alloc, &breaks, line, *left)?;
             spell_key(&line.cause);
             lines.push(Line { standing, ..*line })?;
-            *left = left_behind(line, *left);
+            *left = left_following(line, *left);
         }
         Ok(Breaks { lines, ..breaks })
     }
@@ -141,7 +141,7 @@ impl<'a, A: Book, B: Book> Upgrade<'a, A, B> {
     ) -> Result<Standing, AllocError>
         ensures confirmed { IfOk result (λ standing. standing ≡ Standing.Confirmed
             → (bytes : List ℕ) × IsConfirmed (sides_of self.now) bytes breaks.now.command) }
-        ensures mended { IfOk result (λ standing. standing ≡ Standing.Confirmed
+        ensures corrected { IfOk result (λ standing. standing ≡ Standing.Confirmed
             → HasMessage (sides_of self.now) breaks.now.command breaks.now.sites.items line.now) }
         ensures standing { IfOk result (IsStandingOf left line.now) }
         ensures exactly { IfOk result (IsConfirmedWhere (sides_of self.now) (stock_of self.now)
@@ -183,8 +183,8 @@ fn is_checked(line: &Line, left: u64) -> bool
 }
 
 /// How many bytes are left for the lines after it.
-fn left_behind(line: &Line, left: u64) -> u64
-    ensures { result ≡ left_behind left line.now }
+fn left_following(line: &Line, left: u64) -> u64
+    ensures { result ≡ left_following left line.now }
 {
     if is_checked(line, left) {
         left.saturating_sub(line.length)

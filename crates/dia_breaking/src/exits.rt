@@ -10,7 +10,7 @@ ghost use Rattle.dia_breaking.specs.Sender.{costs_of, sender_in};
 ghost use Rattle.dia_breaking.specs.TheLines.{AreAllOutlooks, AreLinesOf};
 
 use crate::books::{group_of, rules_of};
-use crate::keys::Telling;
+use crate::keys::Recording;
 use crate::lengths::Lengths;
 use crate::levels::LevelCost;
 use dia_book::{Book, DRule, DefId, Key};
@@ -23,7 +23,7 @@ use std::alloc::{AllocError, Global};
 pub(crate) struct Exits {
     /// The length of a least level.
     pub base: u64,
-    /// The AVPs that a rule lists: the place of each in `Telling::own`, and the length of a least level that has one.
+    /// The AVPs that a rule lists: the place of each in `Recording::own`, and the length of a least level that has one.
     pub listed: Vec<(usize, u64)>,
     /// What a least level with an AVP that comes through the wildcard takes besides that AVP.
     pub beside: u64,
@@ -33,14 +33,20 @@ impl Exits {
     pub fn of<A: Book>(
         alloc: Global,
         def: DefId,
-        telling: &Telling,
+        recording: &Recording,
         lengths: &Lengths<'_, A>,
     ) -> Result<Self, AllocError>
         requires { def < length (definitions (sender_in lengths.now)) }
-        ensures { IfOk result (AreExits telling.now (costs_of lengths.now) (rules_in (sender_in lengths.now) def)) }
+        ensures { IfOk result (AreExits recording.now (costs_of lengths.now) (rules_in (sender_in lengths.now) def)) }
     {
         let cost = LevelCost::new(lengths.book, def, lengths);
-        let listed = exits_by(alloc, rules_of(lengths.book, def), telling, lengths, &cost)?;
+        let listed = exits_by(
+            alloc,
+            rules_of(lengths.book, def),
+            recording,
+            lengths,
+            &cost,
+        )?;
         Ok(Exits {
             base: cost.base,
             listed,
@@ -52,16 +58,16 @@ impl Exits {
 fn exits_by<A: Book>(
     alloc: Global,
     rules: &[DRule],
-    telling: &Telling,
+    recording: &Recording,
     lengths: &Lengths<'_, A>,
     cost: &LevelCost,
 ) -> Result<Vec<(usize, u64)>, AllocError>
     ensures { IfOk result (λ listed. listed.items
-        ≡ filter_map (exit_by telling.now (costs_of lengths.now).listed cost.now) rules.now) }
+        ≡ filter_map (exit_by recording.now (costs_of lengths.now).listed cost.now) rules.now) }
 {
     let mut listed = Vec::new(alloc);
     for rule in rules {
-        push_exit(&mut listed, exit_by(rule, telling, lengths, cost))?;
+        push_exit(&mut listed, exit_by(rule, recording, lengths, cost))?;
     }
     Ok(listed)
 }
@@ -78,14 +84,14 @@ fn push_exit(listed: &mut Vec<(usize, u64)>, exit: Option<(usize, u64)>) -> Resu
 /// The place of the rule's key, if there is something to report of it, with the length of a least level that has one.
 fn exit_by<A: Book>(
     rule: &DRule,
-    telling: &Telling,
+    recording: &Recording,
     lengths: &Lengths<'_, A>,
     cost: &LevelCost,
 ) -> Option<(usize, u64)>
-    ensures { result ≡ exit_by telling.now (costs_of lengths.now).listed cost.now rule.now }
+    ensures { result ≡ exit_by recording.now (costs_of lengths.now).listed cost.now rule.now }
 {
     let key = rule.key?;
-    let place = telling.places.get(&key).copied()?;
+    let place = recording.places.get(&key).copied()?;
     Some((place, cost.with_listed(rule, lengths.listed(key))))
 }
 
@@ -108,21 +114,21 @@ pub(crate) struct Outlook {
     pub inner: Option<Inner>,
 }
 
-/// The AVPs of which there is something to report, in the order of `Telling::own`.
+/// The AVPs of which there is something to report, in the order of `Recording::own`.
 pub(crate) fn outlooks<A: Book, B: Book>(
     alloc: Global,
     b: &B,
-    telling: &Telling,
+    recording: &Recording,
     lengths: &Lengths<'_, A>,
 ) -> Result<Vec<Outlook>, AllocError>
     requires { PicksShortest (sender_in lengths.now) (B.meaning b.now) (costs_of lengths.now) }
     ensures { IfOk result (λ outlooks. AreAllOutlooks
-        (sender_in lengths.now) (B.meaning b.now) telling.now (costs_of lengths.now) outlooks.items) }
+        (sender_in lengths.now) (B.meaning b.now) recording.now (costs_of lengths.now) outlooks.items) }
 {
     let mut outlooks = Vec::new(alloc);
-    for own in &telling.own {
+    for own in &recording.own {
         let key = own.key;
-        let inner = inner_of(alloc, b, key, telling, lengths)?;
+        let inner = inner_of(alloc, b, key, recording, lengths)?;
         outlooks.push(Outlook {
             key,
             other: lengths.other(key),
@@ -136,11 +142,11 @@ fn inner_of<A: Book, B: Book>(
     alloc: Global,
     b: &B,
     key: Key,
-    telling: &Telling,
+    recording: &Recording,
     lengths: &Lengths<'_, A>,
 ) -> Result<Option<Inner>, AllocError>
     requires { PicksShortest (sender_in lengths.now) (B.meaning b.now) (costs_of lengths.now) }
-    ensures exact { IfOk result (IsInnerOrNone (sender_in lengths.now) (B.meaning b.now) telling.now (costs_of lengths.now) key) }
+    ensures exact { IfOk result (IsInnerOrNone (sender_in lengths.now) (B.meaning b.now) recording.now (costs_of lengths.now) key) }
     ensures levels { IfOk result (λ inner. IfSome inner (λ inner. AreLinesOf (costs_of lengths.now)
         (group_rules (sender_in lengths.now) key) (group_rules (B.meaning b.now) key) inner.lines.items)) }
 {
@@ -152,7 +158,7 @@ fn inner_of<A: Book, B: Book>(
     };
     Ok(Some(Inner {
         least: lengths.listed(key).saturating_sub(shortest_head(key)),
-        exits: Exits::of(alloc, a_def, telling, lengths)?,
+        exits: Exits::of(alloc, a_def, recording, lengths)?,
         lines: level_lines(alloc, lengths.book, a_def, b, b_def, lengths)?,
     }))
 }

@@ -1,6 +1,6 @@
 //! The lines of a command's header.
 ghost use Rattle.std.specs.Prelude.{◌≡◌, OnOk, map};
-ghost use Rattle.dia_breaking.specs.Listing.{AddsTold, flag_causes, header_line, header_lines};
+ghost use Rattle.dia_breaking.specs.Listing.{AddsRecorded, flag_causes, header_line, header_lines};
 ghost use Rattle.dia_breaking.specs.Listing.{refusal};
 ghost use Rattle.dia_breaking.specs.Orders.{of_each};
 
@@ -19,7 +19,7 @@ pub(crate) fn push_header_lines<B: Book>(
     start: &Start,
     lines: &mut Vec<Line>,
 ) -> Result<(), AllocError>
-    ensures { OnOk result (AddsTold lines.old.items lines.new.items
+    ensures { OnOk result (AddsRecorded lines.old.items lines.new.items
         (of_each (header_lines (B.meaning b.now) start.now.head start.now.base) start.now.readings.items)) }
 {
     for (site, reading) in start.readings.iter().enumerate() {
@@ -37,7 +37,7 @@ fn push_header<B: Book>(
     reading: &Reading,
     lines: &mut Vec<Line>,
 ) -> Result<(), AllocError>
-    ensures { OnOk result (AddsTold lines.old.items lines.new.items
+    ensures { OnOk result (AddsRecorded lines.old.items lines.new.items
         (header_lines (B.meaning b.now) head.now base site reading.now)) }
 {
     match other_head(b, head, reading.read_as) {
@@ -69,7 +69,7 @@ fn push_flag(
     site: usize,
     set: bool,
 ) -> Result<(), AllocError>
-    ensures { OnOk result (AddsTold lines.old.items lines.new.items
+    ensures { OnOk result (AddsRecorded lines.old.items lines.new.items
         (map (header_line base site) (flag_causes head.now other.now set))) }
 {
     let is_sent = allows(head.p, set);

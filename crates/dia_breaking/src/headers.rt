@@ -2,7 +2,7 @@
 ghost use Rattle.std.specs.Prelude.{◌≡◌, ◌++◌, ◌||◌, nat_eq, IfOk};
 ghost use Rattle.std.specs.List.{list_any};
 ghost use Rattle.dia_breaking.specs.Headers.{apps_of};
-ghost use Rattle.dia_breaking.specs.ToldApps.{IsLeastUnnamed, selects};
+ghost use Rattle.dia_breaking.specs.RecordedApps.{IsLeastUnnamed, selects};
 
 use crate::apps::BothApps;
 use crate::heads::Head;

@@ -3,7 +3,7 @@ ghost use Rattle.std.specs.Prelude.{◌≡◌, ◌<◌, ◌++◌, ◌∷◌, [],
 ghost use Rattle.std.specs.Prelude.{IfOk, IfSome, OnOk, slice_get};
 ghost use Rattle.dia_book.specs.Dictionary.{definitions};
 ghost use Rattle.dia_breaking.specs.Headers.{allows, head_in};
-ghost use Rattle.dia_breaking.specs.ToldApps.{AreOpenApps, AreToldApps, selects};
+ghost use Rattle.dia_breaking.specs.RecordedApps.{AreOpenApps, AreRecordedApps, selects};
 
 use crate::apps::BothApps;
 use crate::headers::{selects, unnamed_app};
@@ -68,14 +68,14 @@ pub(crate) fn allows(p: Pxy, set: bool) -> bool
 
 /// The applications by which the messages of a command are looked at. Where the head names one, it is that one alone. Else they
 /// are the applications that B alone names, and the least application that neither dictionary names.
-pub(crate) fn told_apps<A: Book>(
+pub(crate) fn recorded_apps<A: Book>(
     alloc: Global,
     a: &A,
     both: &BothApps,
     command: DefId,
     head: &Head,
 ) -> Result<Vec<u32>, AllocError>
-    ensures { IfOk result (λ apps. AreToldApps (A.meaning a.now) both.now command head.now apps.items) }
+    ensures { IfOk result (λ apps. AreRecordedApps (A.meaning a.now) both.now command head.now apps.items) }
 {
     match head.app {
         Some(app) => {

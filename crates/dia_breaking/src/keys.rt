@@ -11,7 +11,7 @@ ghost use Rattle.dia_breaking_avps.specs.Breaks.{IsSilent, IsSilentData};
 ghost use Rattle.dia_breaking_avps.specs.Sent.{group_of};
 ghost use Rattle.dia_breaking.specs.SentKeys.{AreSentInOrder, entry_keys, is_unknown, keys_of_b_alone};
 ghost use Rattle.dia_breaking.specs.Sides.{sides};
-ghost use Rattle.dia_breaking.specs.Telling.{Adds, AreExactlyTold, AreTold, IsExactlyOwn, IsExactTelling, IsToldOf};
+ghost use Rattle.dia_breaking.specs.Recording.{Adds, AreExactlyRecorded, AreRecorded, IsExactlyOwn, IsExactRecording, IsRecordedOf};
 
 use crate::books::group_of;
 use crate::lengths::{keys_of, stranger};
@@ -36,7 +36,7 @@ pub(crate) struct Own {
 
 /// What there is to report of a key.
 fn own_of<A: Book, B: Book>(a: &A, b: &B, key: Key, sends: Sends, unknown: Unknown) -> Own
-    ensures told { IsToldOf (sides (A.meaning a.now) (B.meaning b.now) sends unknown) key result }
+    ensures recorded { IsRecordedOf (sides (A.meaning a.now) (B.meaning b.now) sends unknown) key result }
     ensures exact { IsExactlyOwn (sides (A.meaning a.now) (B.meaning b.now) sends unknown) result }
 {
     let breaks = avp_breaks(a, b, key, sends, unknown);
@@ -166,12 +166,12 @@ fn least_beside(numbers: &[u32]) -> u32
 
 /// The AVPs of which there is something to report, in the order of the lines, and their places by their keys.
 #[derive(Drop)]
-pub(crate) struct Telling {
+pub(crate) struct Recording {
     pub own: Vec<Own>,
     pub places: HashMap<Key, usize>,
 }
 
-impl Telling {
+impl Recording {
     pub fn new<A: Book, B: Book>(
         alloc: Global,
         a: &A,
@@ -179,20 +179,20 @@ impl Telling {
         sends: Sends,
         unknown: Unknown,
     ) -> Result<Box<Self>, AllocError>
-        ensures { IfOk result (λ telling.
-            IsExactTelling (sides (A.meaning a.now) (B.meaning b.now) sends unknown) telling.value) }
+        ensures { IfOk result (λ recording.
+            IsExactRecording (sides (A.meaning a.now) (B.meaning b.now) sends unknown) recording.value) }
     {
-        let mut telling = Box::new(alloc, Telling::empty(alloc))?;
+        let mut recording = Box::new(alloc, Recording::empty(alloc))?;
         let keys = sent_keys(alloc, a, b, sends)?;
-        telling.add_all(a, b, sends, unknown, &keys)?;
-        Ok(telling)
+        recording.add_all(a, b, sends, unknown, &keys)?;
+        Ok(recording)
     }
 
     fn empty(alloc: Global) -> Self
         ensures items { result.own.items ≡ [] }
         ensures places { (key : AnyKey) → get same_key result.places key ≡ None }
     {
-        Telling {
+        Recording {
             own: Vec::new(alloc),
             places: HashMap::new(alloc),
         }
@@ -207,10 +207,10 @@ impl Telling {
         unknown: Unknown,
         keys: &[Key],
     ) -> Result<(), AllocError>
-        requires told { AreTold (sides (A.meaning a.now) (B.meaning b.now) sends unknown) [] self.old }
-        requires exact { AreExactlyTold (sides (A.meaning a.now) (B.meaning b.now) sends unknown) [] self.old }
-        ensures told { OnOk result (AreTold (sides (A.meaning a.now) (B.meaning b.now) sends unknown) keys.now self.new) }
-        ensures exact { OnOk result (AreExactlyTold (sides (A.meaning a.now) (B.meaning b.now) sends unknown) keys.now self.new) }
+        requires recorded { AreRecorded (sides (A.meaning a.now) (B.meaning b.now) sends unknown) [] self.old }
+        requires exact { AreExactlyRecorded (sides (A.meaning a.now) (B.meaning b.now) sends unknown) [] self.old }
+        ensures recorded { OnOk result (AreRecorded (sides (A.meaning a.now) (B.meaning b.now) sends unknown) keys.now self.new) }
+        ensures exact { OnOk result (AreExactlyRecorded (sides (A.meaning a.now) (B.meaning b.now) sends unknown) keys.now self.new) }
     {
         for key in keys {
             self.add(own_of(a, b, *key, sends, unknown))?;

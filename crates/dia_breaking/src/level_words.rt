@@ -59,15 +59,15 @@ impl<'a, A: Book, B: Book> Upgrade<'a, A, B> {
             Reason::Missing | Reason::TooMany => push_both(out, sent, accepted),
             Reason::NotAllowed | Reason::NotAllowedOther => push_sent(out, sent),
             Reason::MissingOthers | Reason::TooManyOthers => push_accepted(out, accepted),
-            Reason::Order => self.push_behind(out, line.behind),
+            Reason::Order => self.push_after(out, line.following),
         }
     }
 
-    fn push_behind(&self, out: &mut String, behind: Option<Key>) -> Result<(), AllocError>
+    fn push_after(&self, out: &mut String, following: Option<Key>) -> Result<(), AllocError>
         ensures { OnOk result (Writes out.old out.new
-            (codes "behind " ++ subject_name (sides_of self.now) behind ++ codes " sent")) }
+            (codes "behind " ++ subject_name (sides_of self.now) following ++ codes " sent")) }
     {
-        let name = self.subject_name(behind);
+        let name = self.subject_name(following);
         write!(out, "behind {name} sent")
     }
 

@@ -18,7 +18,7 @@ pub enum Place {
         read_as: u32,
         /// Whether the path reports the application of B's definition: it differs from that of the messages, or B's definition is
         /// for one application alone, and A's for more.
-        is_told: bool,
+        is_recorded: bool,
         /// Whether P is set.
         proxiable: bool,
     },

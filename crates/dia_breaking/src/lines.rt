@@ -5,20 +5,20 @@ ghost use Rattle.std.specs.Option.{option_map_or};
 ghost use Rattle.dia_breaking.specs.Confirmed.{EachConfirmedBreaks, HaveStandings, left_after};
 ghost use Rattle.dia_breaking.specs.Free.{AreValidWhereFree};
 ghost use Rattle.dia_breaking.specs.Headers.{HasHead};
-ghost use Rattle.dia_breaking.specs.Listing.{AddsTold, AreMeanings, IsListing, IsWalkFrom};
+ghost use Rattle.dia_breaking.specs.Listing.{AddsRecorded, AreMeanings, IsListing, IsWalkFrom};
 ghost use Rattle.dia_breaking.specs.Listing.{command_levels, group_levels, level_lines};
 ghost use Rattle.dia_breaking.specs.Listing.{AreInOrder, AreUnchecked, lines_in, new_line, own_lines, subject};
-ghost use Rattle.dia_breaking.specs.Listing.{tells, with_room};
-ghost use Rattle.dia_breaking.specs.Mended.{AreValidOnceMended, EachHasMessage};
+ghost use Rattle.dia_breaking.specs.Listing.{records, with_room};
+ghost use Rattle.dia_breaking.specs.Corrected.{AreValidOnceCorrected, EachHasMessage};
 ghost use Rattle.dia_breaking.specs.Orders.{IsInOrderOf, of_each};
-ghost use Rattle.dia_breaking.specs.OwnBreaks.{TellData};
+ghost use Rattle.dia_breaking.specs.OwnBreaks.{ReportData};
 ghost use Rattle.dia_breaking.specs.ShownLines.{EachIsShown};
 ghost use Rattle.dia_breaking.specs.Sides.{answer_of};
 ghost use Rattle.dia_breaking.specs.Sites.{group_sites};
 ghost use Rattle.dia_breaking.specs.TheLines.{HasTheLines, IsOfHead, IsStartOf};
 ghost use Rattle.dia_breaking.specs.Sender.{costs_of};
 ghost use Rattle.dia_breaking.specs.TheMeanings.{AreMeaningsOf, AreMeant, HoldsOfLevels};
-ghost use Rattle.dia_breaking.specs.ToldMessages.{AreConfirmedWhere};
+ghost use Rattle.dia_breaking.specs.RecordedMessages.{AreConfirmedWhere};
 ghost use Rattle.dia_breaking.specs.Upgrades.{basis_for, lines_for, sides_of, stock_of};
 ghost use Rattle.dia_breaking.specs.declared.line.Line.{Line as AnyLine};
 
@@ -50,9 +50,9 @@ impl<'a, A: Book, B: Book> Upgrade<'a, A, B> {
         ensures command { IfOk result (λ breaks. breaks.command ≡ command) }
         ensures head { IfOk result (λ breaks. IsOfHead breaks head.now) }
         ensures free { IfOk result (λ breaks. ∥ AreValidWhereFree (sides_of self.now) (answer_of breaks) ∥₁) }
-        ensures mended { IfOk result (λ breaks. ∥ AreValidOnceMended (sides_of self.now) (answer_of breaks) ∥₁) }
+        ensures corrected { IfOk result (λ breaks. ∥ AreValidOnceCorrected (sides_of self.now) (answer_of breaks) ∥₁) }
         ensures each { IfOk result (λ breaks. EachConfirmedBreaks (sides_of self.now) command breaks.lines.items) }
-        ensures each_mended { IfOk result
+        ensures each_corrected { IfOk result
             (λ breaks. EachHasMessage (sides_of self.now) command breaks.sites.items breaks.lines.items) }
         ensures standings { IfOk result (λ breaks. HaveStandings left.old breaks.lines.items) }
         ensures exactly { IfOk result (λ breaks. AreConfirmedWhere (sides_of self.now) (stock_of self.now)
@@ -60,7 +60,7 @@ impl<'a, A: Book, B: Book> Upgrade<'a, A, B> {
         ensures shown { IfOk result (λ breaks. ∥ EachIsShown (sides_of self.now) (stock_of self.now)
             command breaks.sites.items breaks.lines.items ∥₁) }
         ensures left { IfOk result (λ breaks. left.new ≡ left_after left.old breaks.lines.items) }
-        ensures formats { IfOk result (λ breaks. ∥ TellData (sides_of self.now) breaks.lines.items ∥₁) }
+        ensures formats { IfOk result (λ breaks. ∥ ReportData (sides_of self.now) breaks.lines.items ∥₁) }
         ensures lines { IfOk result (λ breaks. HasTheLines (sides_of self.now) (answer_of breaks)) }
         ensures meanings { IfOk result
             (λ breaks. AreMeaningsOf (sides_of self.now) (answer_of breaks) breaks.meanings.items) }
@@ -79,14 +79,14 @@ impl<'a, A: Book, B: Book> Upgrade<'a, A, B> {
         ensures head { IfOk result (λ breaks. IsOfHead breaks head.now) }
         ensures few { IfOk result (λ breaks. length breaks.sites.items < 2 ^ 64) }
         ensures free { IfOk result (λ breaks. ∥ AreValidWhereFree (sides_of self.now) (answer_of breaks) ∥₁) }
-        ensures mended { IfOk result (λ breaks. ∥ AreValidOnceMended (sides_of self.now) (answer_of breaks) ∥₁) }
+        ensures corrected { IfOk result (λ breaks. ∥ AreValidOnceCorrected (sides_of self.now) (answer_of breaks) ∥₁) }
         ensures lines { IfOk result (λ breaks. HasTheLines (sides_of self.now) (answer_of breaks)) }
         ensures meanings { IfOk result
             (λ breaks. AreMeaningsOf (sides_of self.now) (answer_of breaks) breaks.meanings.items) }
         ensures all_meanings { IfOk result (λ breaks.
             ∥ HoldsOfLevels (sides_of self.now) (answer_of breaks) (AreMeant (sides_of self.now) breaks.meanings.items) ∥₁) }
         ensures unchecked { IfOk result (λ breaks. AreUnchecked breaks.meanings.items) }
-        ensures formats { IfOk result (λ breaks. ∥ TellData (sides_of self.now) breaks.lines.items ∥₁) }
+        ensures formats { IfOk result (λ breaks. ∥ ReportData (sides_of self.now) breaks.lines.items ∥₁) }
     {
         let start = Start::of(alloc, self, command, head)?;
         self.found_from(alloc, command, &start)
@@ -95,17 +95,17 @@ impl<'a, A: Book, B: Book> Upgrade<'a, A, B> {
     /// The lines that a walk from this start finds.
     fn found_from(&self, alloc: Global, command: DefId, start: &Start) -> Result<Breaks, AllocError>
         requires head { HasHead (sides_of self.now).sender command start.now.head }
-        requires start { IsStartOf (sides_of self.now).sender (sides_of self.now).receiver self.now.telling.value
+        requires start { IsStartOf (sides_of self.now).sender (sides_of self.now).receiver self.now.recording.value
             (costs_of self.now.lengths) command start.now }
         ensures command { IfOk result (λ breaks. breaks.command ≡ command) }
         ensures head { IfOk result (λ breaks. IsOfHead breaks start.now.head) }
         ensures few { IfOk result (λ breaks. length breaks.sites.items < 2 ^ 64) }
         ensures listing { IfOk result (λ breaks. IsListing (sides_of self.now).receiver
-            (basis_for self.now start.now) breaks.sites.items (map tells breaks.lines.items)) }
+            (basis_for self.now start.now) breaks.sites.items (map records breaks.lines.items)) }
         ensures meanings { IfOk result (λ breaks. AreMeanings (sides_of self.now).receiver
-            (basis_for self.now start.now) breaks.sites.items (map tells breaks.meanings.items)) }
+            (basis_for self.now start.now) breaks.sites.items (map records breaks.meanings.items)) }
         ensures unchecked { IfOk result (λ breaks. AreUnchecked breaks.meanings.items) }
-        ensures formats { IfOk result (λ breaks. ∥ TellData (sides_of self.now) breaks.lines.items ∥₁) }
+        ensures formats { IfOk result (λ breaks. ∥ ReportData (sides_of self.now) breaks.lines.items ∥₁) }
     {
         let sites = command_sites(alloc, self.b, &start.head, &start.readings)?;
         let first = first_read(&sites);
@@ -133,12 +133,12 @@ impl<'a, A: Book, B: Book> Upgrade<'a, A, B> {
             ≡ sites.items ++ group_sites self.now.own.items numbers.first numbers.count walk.now.steps.items) }
         ensures few { IfOk result (λ breaks. length breaks.sites.items < 2 ^ 64) }
         ensures lines { IfOk result
-            (λ breaks. AreInOrder (lines_for self.now start.now numbers walk.now) (map tells breaks.lines.items)) }
+            (λ breaks. AreInOrder (lines_for self.now start.now numbers walk.now) (map records breaks.lines.items)) }
         ensures meanings { IfOk result (λ breaks. AreInOrder
             (own_lines Kind.Meaning numbers.first numbers.count self.now.own.items walk.now.reached.items)
-            (map tells breaks.meanings.items)) }
+            (map records breaks.meanings.items)) }
         ensures unchecked { IfOk result (λ breaks. AreUnchecked breaks.meanings.items) }
-        ensures formats { IfOk result (λ breaks. ∥ TellData (sides_of self.now) breaks.lines.items ∥₁) }
+        ensures formats { IfOk result (λ breaks. ∥ ReportData (sides_of self.now) breaks.lines.items ∥₁) }
     {
         push_group_sites(&mut sites, &self.own, numbers, &walk.steps)?;
         count_sites(&sites);
@@ -157,7 +157,7 @@ impl<'a, A: Book, B: Book> Upgrade<'a, A, B> {
     /// The shortest ways from the level of the command, if B's side reads it.
     fn walk_from(&self, alloc: Global, start: &Start, is_read: bool) -> Result<Walk, AllocError>
         requires { (command : ℕ) × IsStartOf (sides_of self.now).sender (sides_of self.now).receiver
-            self.now.telling.value (costs_of self.now.lengths) command start.now }
+            self.now.recording.value (costs_of self.now.lengths) command start.now }
         ensures { IfOk result
             (λ walk. IsWalkFrom is_read (basis_for self.now start.now).graph walk.steps.items walk.reached.items) }
     {
@@ -181,8 +181,8 @@ impl<'a, A: Book, B: Book> Upgrade<'a, A, B> {
         numbers: Numbers,
         walk: &Walk,
     ) -> Result<Vec<Line>, AllocError>
-        ensures order { IfOk result (λ told. AreInOrder (lines_for self.now start.now numbers walk.now) (map tells told.items)) }
-        ensures formats { IfOk result (λ lines. ∥ TellData (sides_of self.now) lines.items ∥₁) }
+        ensures order { IfOk result (λ recorded. AreInOrder (lines_for self.now start.now numbers walk.now) (map records recorded.items)) }
+        ensures formats { IfOk result (λ lines. ∥ ReportData (sides_of self.now) lines.items ∥₁) }
     {
         let mut lines = Vec::new(alloc);
         push_header_lines(self.b, start, &mut lines)?;
@@ -202,10 +202,10 @@ impl<'a, A: Book, B: Book> Upgrade<'a, A, B> {
         numbers: Numbers,
         walk: &Walk,
     ) -> Result<Vec<Line>, AllocError>
-        ensures told { IfOk result (λ told. AreInOrder
+        ensures recorded { IfOk result (λ recorded. AreInOrder
             (own_lines Kind.Meaning numbers.first numbers.count self.now.own.items walk.now.reached.items)
-            (map tells told.items)) }
-        ensures unchecked { IfOk result (λ told. AreUnchecked told.items) }
+            (map records recorded.items)) }
+        ensures unchecked { IfOk result (λ recorded. AreUnchecked recorded.items) }
     {
         let mut meanings = Vec::new(alloc);
         self.push_own_lines(alloc, Kind::Meaning, numbers, &walk.reached, &mut meanings)?;
@@ -220,7 +220,7 @@ impl<'a, A: Book, B: Book> Upgrade<'a, A, B> {
         steps: &[Step],
         lines: &mut Vec<Line>,
     ) -> Result<(), AllocError>
-        ensures { OnOk result (AddsTold lines.old.items lines.new.items
+        ensures { OnOk result (AddsRecorded lines.old.items lines.new.items
             (of_each (group_levels count (map lines_in self.now.outlooks.items)) steps.now)) }
     {
         for (index, step) in steps.iter().enumerate() {
@@ -235,7 +235,7 @@ impl<'a, A: Book, B: Book> Upgrade<'a, A, B> {
         step: &Step,
         lines: &mut Vec<Line>,
     ) -> Result<(), AllocError>
-        ensures { OnOk result (AddsTold lines.old.items lines.new.items (option_map_or
+        ensures { OnOk result (AddsRecorded lines.old.items lines.new.items (option_map_or
             (level_lines site step.now.way) (slice_get (map lines_in self.now.outlooks.items) step.now.place) [])) }
     {
         match self.outlooks.get(step.place) {
@@ -278,7 +278,7 @@ pub(crate) fn push_line(
     takes: u64,
 ) -> Result<(), AllocError>
     ensures items { OnOk result (lines.new.items ≡ lines.old.items ++ new_line site cause takes ∷ []) }
-    ensures told { OnOk result (AddsTold lines.old.items lines.new.items (tells (new_line site cause takes) ∷ [])) }
+    ensures recorded { OnOk result (AddsRecorded lines.old.items lines.new.items (records (new_line site cause takes) ∷ [])) }
 {
     lines.push(Line {
         site,
@@ -296,8 +296,8 @@ pub(crate) fn push_with_room(
     cause: Cause,
     takes: u64,
 ) -> Result<(), AllocError>
-    ensures told { OnOk result
-        (AddsTold lines.old.items lines.new.items (option_to_list (with_room site takes (subject cause)))) }
+    ensures recorded { OnOk result
+        (AddsRecorded lines.old.items lines.new.items (option_to_list (with_room site takes (subject cause)))) }
     ensures items { OnOk result ((lines.new.items ≡ lines.old.items)
         ⊎ (lines.new.items ≡ lines.old.items ++ new_line site cause takes ∷ [])) }
 {
@@ -315,7 +315,7 @@ fn push_level_lines(
     way: u64,
     found: &[LevelLine],
 ) -> Result<(), AllocError>
-    ensures { OnOk result (AddsTold lines.old.items lines.new.items (level_lines site way found.now)) }
+    ensures { OnOk result (AddsRecorded lines.old.items lines.new.items (level_lines site way found.now)) }
 {
     for line in found {
         push_level_line(lines, site, way, line)?;
@@ -329,7 +329,7 @@ fn push_level_line(
     way: u64,
     line: &LevelLine,
 ) -> Result<(), AllocError>
-    ensures { OnOk result (AddsTold lines.old.items lines.new.items (level_lines site way (line.now ∷ []))) }
+    ensures { OnOk result (AddsRecorded lines.old.items lines.new.items (level_lines site way (line.now ∷ []))) }
 {
     let length = way.saturating_add(line.length);
     push_with_room(lines, site, Cause::Level(*line), length)
@@ -337,7 +337,7 @@ fn push_level_line(
 
 /// Adds how levels of the command break B's rules.
 fn push_command_levels(start: &Start, lines: &mut Vec<Line>) -> Result<(), AllocError>
-    ensures { OnOk result (AddsTold lines.old.items lines.new.items
+    ensures { OnOk result (AddsRecorded lines.old.items lines.new.items
         (of_each command_levels (map (λ found. found.items) start.now.levels.items))) }
 {
     for (site, found) in start.levels.iter().enumerate() {

@@ -73,11 +73,11 @@ impl<'a, A: Book, B: Book> Upgrade<'a, A, B> {
         ensures { OnOk result (out.new.items ≡ out.old.items
             ++ levels_on (sides_of self.now) (stock_of self.now) command size path.now inner.now) }
     {
-        let mut behind = Vec::new(alloc);
-        self.push_fronts(alloc, out, &mut behind, command, size, path)?;
+        let mut following = Vec::new(alloc);
+        self.push_fronts(alloc, out, &mut following, command, size, path)?;
         out.extend_from_slice(inner)?;
-        behind.reverse();
-        self.push_parts(out, behind.as_slice())?;
+        following.reverse();
+        self.push_parts(out, following.as_slice())?;
         Ok(())
     }
 
@@ -86,7 +86,7 @@ impl<'a, A: Book, B: Book> Upgrade<'a, A, B> {
         &self,
         alloc: Global,
         out: &mut Vec<u8>,
-        behind: &mut Vec<Part>,
+        following: &mut Vec<Part>,
         command: DefId,
         size: u64,
         path: &[Site],
@@ -94,12 +94,12 @@ impl<'a, A: Book, B: Book> Upgrade<'a, A, B> {
         requires { command < length (definitions (sides_of self.now).sender) }
         ensures fronts { OnOk result (out.new.items ≡ out.old.items
             ++ fronts (sides_of self.now) (stock_of self.now) command size None path.now) }
-        ensures rests { OnOk result (reverse behind.new.items
-            ≡ rests (sides_of self.now) (stock_of self.now) command None path.now ++ reverse behind.old.items) }
+        ensures rests { OnOk result (reverse following.new.items
+            ≡ rests (sides_of self.now) (stock_of self.now) command None path.now ++ reverse following.old.items) }
     {
         let mut outer = None;
         for site in path {
-            self.push_front(alloc, out, behind, command, size, outer, *site)?;
+            self.push_front(alloc, out, following, command, size, outer, *site)?;
             outer = Some(*site);
         }
         Ok(())
@@ -110,7 +110,7 @@ impl<'a, A: Book, B: Book> Upgrade<'a, A, B> {
         &self,
         alloc: Global,
         out: &mut Vec<u8>,
-        behind: &mut Vec<Part>,
+        following: &mut Vec<Part>,
         command: DefId,
         size: u64,
         outer: Option<Site>,
@@ -119,8 +119,8 @@ impl<'a, A: Book, B: Book> Upgrade<'a, A, B> {
         requires { command < length (definitions (sides_of self.now).sender) }
         ensures front { OnOk result (out.new.items ≡ out.old.items
             ++ site_front (sides_of self.now) (stock_of self.now) command size outer site) }
-        ensures rest { OnOk result (reverse behind.new.items
-            ≡ site_rest (sides_of self.now) (stock_of self.now) command outer site ++ reverse behind.old.items) }
+        ensures rest { OnOk result (reverse following.new.items
+            ≡ site_rest (sides_of self.now) (stock_of self.now) command outer site ++ reverse following.old.items) }
     {
         let Some(outer) = outer else {
             return Ok(());
@@ -128,7 +128,7 @@ impl<'a, A: Book, B: Book> Upgrade<'a, A, B> {
         match site.place {
             Place::Command { .. } => Ok(()),
             Place::Group { key, .. } => {
-                self.push_group(alloc, out, behind, command, size, outer.place, site, key)
+                self.push_group(alloc, out, following, command, size, outer.place, site, key)
             }
         }
     }
@@ -137,7 +137,7 @@ impl<'a, A: Book, B: Book> Upgrade<'a, A, B> {
         &self,
         alloc: Global,
         out: &mut Vec<u8>,
-        behind: &mut Vec<Part>,
+        following: &mut Vec<Part>,
         command: DefId,
         size: u64,
         outer: Place,
@@ -147,15 +147,15 @@ impl<'a, A: Book, B: Book> Upgrade<'a, A, B> {
         requires { command < length (definitions (sides_of self.now).sender) }
         ensures front { OnOk result (out.new.items ≡ out.old.items
             ++ group_front (sides_of self.now) (stock_of self.now) command size outer site key) }
-        ensures rest { OnOk result (reverse behind.new.items
-            ≡ group_rest (sides_of self.now) (stock_of self.now) command outer key ++ reverse behind.old.items) }
+        ensures rest { OnOk result (reverse following.new.items
+            ≡ group_rest (sides_of self.now) (stock_of self.now) command outer key ++ reverse following.old.items) }
     {
         let parts = self.parts_round(alloc, command, outer, key)?;
         self.push_parts(out, front_parts(&parts, key))?;
         self.push_group_head(out, size, site, key)?;
         let mut rest = rest_parts(alloc, &parts, key)?;
         rest.reverse();
-        behind.extend_from_slice(rest.as_slice())?;
+        following.extend_from_slice(rest.as_slice())?;
         Ok(())
     }
 

@@ -4,11 +4,11 @@ ghost use Rattle.std.specs.Option.{option_map, option_map_or};
 ghost use Rattle.dia_data.specs.Leaf.{IsLeafAnswer};
 ghost use Rattle.dia_data.specs.Plain.{plain_format};
 ghost use Rattle.dia_breaking_shortest.specs.Bytes.{least_avp};
-ghost use Rattle.dia_breaking.specs.Listing.{AddsTold, KeepsUnchecked, head_cause, own_cause, own_line};
+ghost use Rattle.dia_breaking.specs.Listing.{AddsRecorded, KeepsUnchecked, head_cause, own_cause, own_line};
 ghost use Rattle.dia_breaking.specs.Listing.{own_lines, reach_at, reached_line, subject, subject_with, with_data};
-ghost use Rattle.dia_breaking.specs.OwnBreaks.{HasDataBreak, KeepsData, TellsIfBreaks, eight_cause};
+ghost use Rattle.dia_breaking.specs.OwnBreaks.{HasDataBreak, KeepsData, RecordsIfBreaks, eight_cause};
 ghost use Rattle.dia_breaking.specs.Sender.{costs_of};
-ghost use Rattle.dia_breaking.specs.Tried.{IsToldOfTry, TakesAsLeaf};
+ghost use Rattle.dia_breaking.specs.Tried.{IsRecordedOfTry, TakesAsLeaf};
 ghost use Rattle.dia_breaking.specs.Upgrades.{KeepsIfKnown, sides_of};
 
 use crate::books::format_of;
@@ -52,7 +52,7 @@ impl<'a, A: Book, B: Book> Upgrade<'a, A, B> {
         reached: &[Option<Reach>],
         lines: &mut Vec<Line>,
     ) -> Result<(), AllocError>
-        ensures told { OnOk result (AddsTold lines.old.items lines.new.items
+        ensures recorded { OnOk result (AddsRecorded lines.old.items lines.new.items
             (own_lines kind numbers.first numbers.count self.now.own.items reached.now)) }
         ensures formats { OnOk result (KeepsIfKnown self.now lines.old.items lines.new.items) }
         ensures unchecked { OnOk result (KeepsUnchecked lines.old.items lines.new.items) }
@@ -72,7 +72,7 @@ impl<'a, A: Book, B: Book> Upgrade<'a, A, B> {
         place: usize,
         lines: &mut Vec<Line>,
     ) -> Result<(), AllocError>
-        ensures told { OnOk result (AddsTold lines.old.items lines.new.items (option_map_or
+        ensures recorded { OnOk result (AddsRecorded lines.old.items lines.new.items (option_map_or
             (reached_line kind numbers.first numbers.count reached.now place) (slice_get self.now.own.items place) [])) }
         ensures formats { OnOk result (KeepsIfKnown self.now lines.old.items lines.new.items) }
         ensures unchecked { OnOk result (KeepsUnchecked lines.old.items lines.new.items) }
@@ -96,7 +96,7 @@ impl<'a, A: Book, B: Book> Upgrade<'a, A, B> {
         reach: &Reach,
         lines: &mut Vec<Line>,
     ) -> Result<(), AllocError>
-        ensures told { OnOk result (AddsTold lines.old.items lines.new.items
+        ensures recorded { OnOk result (AddsRecorded lines.old.items lines.new.items
             (option_to_list (own_line kind numbers.first numbers.count own.now reach.now))) }
         ensures formats { OnOk result
             (HasDataBreak (sides_of self.now) self.now.lengths.least self.now.lengths.entries.items own.now
@@ -119,8 +119,8 @@ impl<'a, A: Book, B: Book> Upgrade<'a, A, B> {
         own: &OwnBreaks,
         length: u64,
     ) -> Result<Option<(Cause, u64)>, AllocError>
-        ensures told { IfOk result (λ found. option_map subject_with found ≡ own_cause kind own.now length) }
-        ensures formats { IfOk result (TellsIfBreaks (sides_of self.now)
+        ensures recorded { IfOk result (λ found. option_map subject_with found ≡ own_cause kind own.now length) }
+        ensures formats { IfOk result (RecordsIfBreaks (sides_of self.now)
             self.now.lengths.least self.now.lengths.entries.items own.now) }
     {
         match kind {
@@ -139,8 +139,8 @@ impl<'a, A: Book, B: Book> Upgrade<'a, A, B> {
         own: &OwnBreaks,
         length: u64,
     ) -> Result<Option<(Cause, u64)>, AllocError>
-        ensures told { IfOk result (λ found. option_map subject_with found ≡ own_cause Kind.Data own.now length) }
-        ensures formats { IfOk result (TellsIfBreaks (sides_of self.now)
+        ensures recorded { IfOk result (λ found. option_map subject_with found ≡ own_cause Kind.Data own.now length) }
+        ensures formats { IfOk result (RecordsIfBreaks (sides_of self.now)
             self.now.lengths.least self.now.lengths.entries.items own.now) }
     {
         let key = own.key;
@@ -165,8 +165,8 @@ impl<'a, A: Book, B: Book> Upgrade<'a, A, B> {
 
     /// Whether B's leaf refuses the data of a shortest AVP, if that isn't too long.
     fn tried(&self, alloc: Global, key: Key) -> Result<Cause, AllocError>
-        ensures told { IfOk result (λ cause. subject cause ≡ Cause.Format key None) }
-        ensures exact { IfOk result (IsToldOfTry (TakesAsLeaf (sides_of self.now).receiver key) key
+        ensures recorded { IfOk result (λ cause. subject cause ≡ Cause.Format key None) }
+        ensures exact { IfOk result (IsRecordedOfTry (TakesAsLeaf (sides_of self.now).receiver key) key
             (least_avp (sides_of self.now).sender self.now.lengths.least key) ((costs_of self.now.lengths).listed key)) }
     {
         let Some(format) = format_of(self.b, key) else {
@@ -188,7 +188,7 @@ impl<'a, A: Book, B: Book> Upgrade<'a, A, B> {
 
 /// What breaks of levels that are read as leaves of 8 bytes: the data of a shortest AVP, unless they have 8 bytes.
 fn eight_cause(own: &OwnBreaks) -> Cause
-    ensures told { subject result ≡ Cause.Format own.now.key None }
+    ensures recorded { subject result ≡ Cause.Format own.now.key None }
     ensures cause { result ≡ eight_cause own.now }
 {
     let key = own.key;
@@ -201,7 +201,7 @@ fn eight_cause(own: &OwnBreaks) -> Cause
 
 /// That the data are read as another format, in a message with a least AVP.
 fn meaning_cause(own: &OwnBreaks, length: u64) -> Option<(Cause, u64)>
-    ensures told { option_map subject_with result ≡ own_cause Kind.Meaning own.now length }
+    ensures recorded { option_map subject_with result ≡ own_cause Kind.Meaning own.now length }
     ensures cause { IfSome result (λ found. found.0 ≡ Cause.Meaning own.now.key) }
 {
     if own.is_other {
@@ -246,14 +246,14 @@ fn is_refused(format: &Format, bytes: &[u8], head: usize) -> bool
     ensures { MatchBool result (¬ IsLeafAnswer Leaf.Fine (plain_format format.now) (drop head bytes.now))
         (IsLeafAnswer Leaf.Fine (plain_format format.now) (drop head bytes.now)) }
 {
-    match accepts(format, behind(bytes, head)) {
+    match accepts(format, following(bytes, head)) {
         Leaf::Fine => false,
         Leaf::BadLength => true,
         Leaf::BadValue => true,
     }
 }
 
-fn behind(bytes: &[u8], head: usize) -> &[u8]
+fn following(bytes: &[u8], head: usize) -> &[u8]
     ensures { result.now ≡ drop head bytes.now }
 {
     bytes.get(head..).unwrap_or(b"".as_slice())

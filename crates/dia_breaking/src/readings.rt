@@ -5,11 +5,11 @@ ghost use Rattle.std.specs.List.{filter_map};
 ghost use Rattle.std.specs.Option.{option_map};
 ghost use Rattle.std.specs.HashMap.{get};
 ghost use Rattle.dia_breaking.specs.Readings.{AreOtherApps, AreReadings, apps_by, as_sent, names, new_app};
-ghost use Rattle.dia_breaking.specs.Readings.{new_apps, of_class, one_other, only, reading_behind};
+ghost use Rattle.dia_breaking.specs.Readings.{new_apps, of_class, one_other, only, reading_after};
 ghost use Rattle.dia_breaking.specs.Upgrades.{sides_of};
 
 use crate::books::command_of;
-use crate::heads::{Head, told_apps};
+use crate::heads::{Head, recorded_apps};
 use crate::sites::other_head;
 use crate::upgrade::Upgrade;
 use dia_book::{Book, Class, DefHead, DefId};
@@ -147,9 +147,9 @@ pub(crate) fn readings_of<A: Book, B: Book>(
     ensures { IfOk result (λ readings. AreReadings (sides_of upgrade.now).sender (sides_of upgrade.now).receiver
         upgrade.now.apps.value command head.now readings.items) }
 {
-    let apps = told_apps(alloc, upgrade.lengths.book, &upgrade.apps, command, head)?;
+    let apps = recorded_apps(alloc, upgrade.lengths.book, &upgrade.apps, command, head)?;
     let mut readings = all_as_sent(alloc, &apps)?;
-    push_behind(&mut readings, upgrade, head)?;
+    push_after(&mut readings, upgrade, head)?;
     Ok(readings)
 }
 
@@ -167,22 +167,22 @@ fn as_sent(app: u32) -> Reading
 }
 
 /// Adds that messages of the head's application are read by the one other, if B refuses them and there is one.
-fn push_behind<A: Book, B: Book>(
+fn push_after<A: Book, B: Book>(
     readings: &mut Vec<Reading>,
     upgrade: &Upgrade<'_, A, B>,
     head: &Head,
 ) -> Result<(), AllocError>
     ensures { OnOk result (readings.new.items ≡ readings.old.items
-        ++ option_to_list (reading_behind (sides_of upgrade.now).sender (sides_of upgrade.now).receiver head.now)) }
+        ++ option_to_list (reading_after (sides_of upgrade.now).sender (sides_of upgrade.now).receiver head.now)) }
 {
-    if let Some(reading) = reading_behind(upgrade, head) {
+    if let Some(reading) = reading_after(upgrade, head) {
         readings.push(reading)?;
     }
     Ok(())
 }
 
-fn reading_behind<A: Book, B: Book>(upgrade: &Upgrade<'_, A, B>, head: &Head) -> Option<Reading>
-    ensures { result ≡ reading_behind (sides_of upgrade.now).sender (sides_of upgrade.now).receiver head.now }
+fn reading_after<A: Book, B: Book>(upgrade: &Upgrade<'_, A, B>, head: &Head) -> Option<Reading>
+    ensures { result ≡ reading_after (sides_of upgrade.now).sender (sides_of upgrade.now).receiver head.now }
 {
     let app = head.app?;
     if command_of(upgrade.b, head.code, head.class, app).is_some() {

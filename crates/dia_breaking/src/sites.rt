@@ -1,7 +1,7 @@
 //! The sites of a command: its own level for each of its readings, and the groups that a walk reaches.
 ghost use Rattle.std.specs.Prelude.{◌≡◌, ◌++◌, ◌∷◌, [], IfOk, OnOk};
 ghost use Rattle.dia_breaking.specs.Sites.{both_allow, command_site, command_sites, first_read, group_site, group_sites};
-ghost use Rattle.dia_breaking.specs.Sites.{other_head, read_site, refused_site, sets_p, site_number, tells_app};
+ghost use Rattle.dia_breaking.specs.Sites.{other_head, read_site, refused_site, sets_p, site_number, records_app};
 
 use crate::books::command_of;
 use crate::heads::{Head, allows, head_of};
@@ -45,7 +45,7 @@ fn refused_site(head: &Head, reading: &Reading) -> Site
         place: Place::Command {
             app: reading.app,
             read_as: reading.read_as,
-            is_told: false,
+            is_recorded: false,
             proxiable: !allows(head.p, false),
         },
         way: 0,
@@ -62,7 +62,7 @@ fn read_site(head: &Head, reading: &Reading, other: &Head) -> Site
         place: Place::Command {
             app: reading.app,
             read_as: reading.read_as,
-            is_told: tells_app(head, reading, other),
+            is_recorded: records_app(head, reading, other),
             proxiable: sets_p(head, other),
         },
         way: 0,
@@ -71,8 +71,8 @@ fn read_site(head: &Head, reading: &Reading, other: &Head) -> Site
 }
 
 /// Whether B's definition is for another application than that of the messages, or for one alone where A's is for more.
-fn tells_app(head: &Head, reading: &Reading, other: &Head) -> bool
-    ensures { result ≡ tells_app head.now reading.now other.now }
+fn records_app(head: &Head, reading: &Reading, other: &Head) -> bool
+    ensures { result ≡ records_app head.now reading.now other.now }
 {
     reading.app != reading.read_as || (head.app.is_none() && other.app.is_some())
 }

@@ -46,9 +46,9 @@ impl Start {
         requires { HasHead (sides_of upgrade.now).sender command head.now }
         ensures head { IfOk result (λ start. start.head ≡ head.now) }
         ensures start { IfOk result (IsStartOf (sides_of upgrade.now).sender (sides_of upgrade.now).receiver
-            upgrade.now.telling.value (costs_of upgrade.now.lengths) command) }
+            upgrade.now.recording.value (costs_of upgrade.now.lengths) command) }
     {
-        let exits = Exits::of(alloc, command, &upgrade.telling, &upgrade.lengths)?;
+        let exits = Exits::of(alloc, command, &upgrade.recording, &upgrade.lengths)?;
         let readings = readings_with_room(alloc, upgrade, command, head, exits.base)?;
         let levels = levels_of(alloc, upgrade, head, &readings)?;
         Ok(Start {

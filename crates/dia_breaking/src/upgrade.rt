@@ -9,9 +9,9 @@ ghost use Rattle.dia_breaking.specs.Free.{AllAreValid, AreValidWhereFree};
 ghost use Rattle.dia_breaking.specs.Headers.{AreApps};
 ghost use Rattle.dia_breaking.specs.LevelCosts.{PicksShortest};
 ghost use Rattle.dia_breaking.specs.Listing.{AreUnchecked};
-ghost use Rattle.dia_breaking.specs.Mended.{AreValidOnceMended, EachHasMessage};
+ghost use Rattle.dia_breaking.specs.Corrected.{AreValidOnceCorrected, EachHasMessage};
 ghost use Rattle.dia_breaking.specs.Nodes.{node_in};
-ghost use Rattle.dia_breaking.specs.OwnBreaks.{TellData};
+ghost use Rattle.dia_breaking.specs.OwnBreaks.{ReportData};
 ghost use Rattle.dia_breaking.specs.Readings.{AreOtherApps};
 ghost use Rattle.dia_breaking.specs.Sender.{costs_of, sender_in};
 ghost use Rattle.dia_breaking.specs.Sides.{answer_of, sides};
@@ -22,7 +22,7 @@ ghost use Rattle.dia_breaking.specs.Words.{head_at};
 use crate::apps::BothApps;
 use crate::exits::{Outlook, outlooks};
 use crate::heads::head_of;
-use crate::keys::Telling;
+use crate::keys::Recording;
 use crate::lengths::Lengths;
 use crate::line::Breaks;
 use crate::nodes::nodes_of;
@@ -40,10 +40,10 @@ pub struct Upgrade<'a, A: Book, B: Book> {
     pub(crate) lengths: Lengths<'a, A>,
     pub(crate) b: &'a B,
     pub(crate) unknown: Unknown,
-    pub(crate) telling: Box<Telling>,
+    pub(crate) recording: Box<Recording>,
     pub(crate) apps: Box<BothApps>,
     pub(crate) new_apps: Box<OtherApps>,
-    /// The AVPs of which there is something to report, in the order of `Telling::own`.
+    /// The AVPs of which there is something to report, in the order of `Recording::own`.
     pub(crate) outlooks: Vec<Outlook>,
     /// The same AVPs as the nodes of a walk.
     pub(crate) nodes: Vec<Node>,
@@ -52,7 +52,7 @@ pub struct Upgrade<'a, A: Book, B: Book> {
     ghost shortest: { PicksShortest (sender_in lengths) (B.meaning b.now) (costs_of lengths) },
     ghost graph: { map plain_node nodes.items ≡ map node_in outlooks.items },
     ghost known: { ∥ AreFacts (sides (sender_in lengths) (B.meaning b.now) lengths.sends unknown)
-        (facts_by lengths.entries.items lengths.others.items telling.value outlooks.items own.items) ∥₁ },
+        (facts_by lengths.entries.items lengths.others.items recording.value outlooks.items own.items) ∥₁ },
     ghost first_apps: { AreApps (sender_in lengths) apps.value.first } by { Prim.hlevel props },
     ghost second_apps: { AreApps (B.meaning b.now) apps.value.second } by { Prim.hlevel props },
     ghost others: { AreOtherApps (sender_in lengths) (B.meaning b.now) new_apps.value } by { Prim.hlevel props },
@@ -65,7 +65,7 @@ impl<A: Book, B: Book> Drop for Upgrade<'_, A, B> {
             lengths: _,
             b: _,
             unknown: _,
-            telling: _,
+            recording: _,
             apps: _,
             new_apps: _,
             outlooks: _,
@@ -78,7 +78,7 @@ impl<A: Book, B: Book> Drop for Upgrade<'_, A, B> {
 impl<'a, A: Book, B: Book> Upgrade<'a, A, B> {
     ghost use Rattle.dia_breaking.specs.ShownLines.{EachIsShown};
     ghost use Rattle.dia_breaking.specs.Stocks.{IsStock};
-    ghost use Rattle.dia_breaking.specs.ToldMessages.{AreConfirmedWhere};
+    ghost use Rattle.dia_breaking.specs.RecordedMessages.{AreConfirmedWhere};
     ghost use Rattle.dia_breaking.specs.Upgrades.{receiver_of, sender_of, sides_of, stock_of};
 
     /// Messages of A's side, read by B's side with this policy for unknown AVPs. The only error is an allocation failure.
@@ -96,17 +96,17 @@ impl<'a, A: Book, B: Book> Upgrade<'a, A, B> {
     {
         let lengths = Lengths::new(alloc, a, b, sends)?;
         let book = lengths.book;
-        let telling = Telling::new(alloc, book, b, lengths.sends, unknown)?;
+        let recording = Recording::new(alloc, book, b, lengths.sends, unknown)?;
         let apps = BothApps::new(alloc, book, b)?;
         let new_apps = OtherApps::new(alloc, book, b)?;
-        let outlooks = outlooks(alloc, b, &telling, &lengths)?;
+        let outlooks = outlooks(alloc, b, &recording, &lengths)?;
         let nodes = nodes_of(alloc, &outlooks)?;
-        let own = own_breaks(alloc, b, &telling.own, &lengths, unknown)?;
+        let own = own_breaks(alloc, b, &recording.own, &lengths, unknown)?;
         Ok(Upgrade {
             lengths,
             b,
             unknown,
-            telling,
+            recording,
             apps,
             new_apps,
             outlooks,
@@ -134,8 +134,8 @@ impl<'a, A: Book, B: Book> Upgrade<'a, A, B> {
     /// 2^20 bytes, or more than are left. `left` is how many bytes may be checked, and then how many of them weren't. A caller
     /// that goes over many commands begins with [`MOST_CHECKED_TOGETHER`](crate::MOST_CHECKED_TOGETHER), so that the time for
     /// checks is bounded. A line is confirmed exactly where its message (`IsLineMessage`) is checked and breaks as the line
-    /// reports (`BreaksAsTold`): it has the reported length, it is valid under A, as one of the command, and not under B
-    /// (`IsConfirmed`), and, unless the line is about the header, also not once its header is fixed (`BreaksBehind`).
+    /// reports (`BreaksAsRecorded`): it has the reported length, it is valid under A, as one of the command, and not under B
+    /// (`IsConfirmed`), and, unless the line is about the header, also not once its header is fixed (`BreaksAfter`).
     ///
     /// The message of a confirmed line shows it (`ShowsCause`): at the line's site is a level that breaks B's rules as the line
     /// reports, or one with an AVP whose flags or data are the reported ones, and that B refuses. Where no data are reported, the
@@ -153,10 +153,10 @@ impl<'a, A: Book, B: Book> Upgrade<'a, A, B> {
     ) -> Result<Breaks, AllocError>
         requires { command < length (definitions (sides_of self.now).sender) }
         ensures free { IfOk result (λ breaks. ∥ AreValidWhereFree (sides_of self.now) (answer_of breaks) ∥₁) }
-        ensures mended { IfOk result (λ breaks. ∥ AreValidOnceMended (sides_of self.now) (answer_of breaks) ∥₁) }
+        ensures corrected { IfOk result (λ breaks. ∥ AreValidOnceCorrected (sides_of self.now) (answer_of breaks) ∥₁) }
         ensures all { IfOk result (λ breaks. breaks.lines.items ≡ [] → ∥ AllAreValid (sides_of self.now) command ∥₁) }
         ensures each { IfOk result (λ breaks. EachConfirmedBreaks (sides_of self.now) command breaks.lines.items) }
-        ensures each_mended { IfOk result
+        ensures each_corrected { IfOk result
             (λ breaks. EachHasMessage (sides_of self.now) command breaks.sites.items breaks.lines.items) }
         ensures standings { IfOk result (λ breaks. HaveStandings left.old breaks.lines.items) }
         ensures exactly { IfOk result (λ breaks. AreConfirmedWhere (sides_of self.now) (stock_of self.now)
@@ -165,7 +165,7 @@ impl<'a, A: Book, B: Book> Upgrade<'a, A, B> {
         ensures shown { IfOk result (λ breaks. ∥ EachIsShown (sides_of self.now) (stock_of self.now)
             command breaks.sites.items breaks.lines.items ∥₁) }
         ensures left { IfOk result (λ breaks. left.new ≡ left_after left.old breaks.lines.items) }
-        ensures formats { IfOk result (λ breaks. ∥ TellData (sides_of self.now) breaks.lines.items ∥₁) }
+        ensures formats { IfOk result (λ breaks. ∥ ReportData (sides_of self.now) breaks.lines.items ∥₁) }
         ensures command { IfOk result (λ breaks. breaks.command ≡ command) }
         ensures head { IfSome (head_at (sides_of self.now).sender command) (λ own. IfOk result (λ breaks. IsOfHead breaks own)) }
         ensures none { head_at (sides_of self.now).sender command ≡ None

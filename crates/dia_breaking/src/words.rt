@@ -66,11 +66,11 @@ impl<'a, A: Book, B: Book> Upgrade<'a, A, B> {
         match place {
             Place::Command {
                 read_as,
-                is_told,
+                is_recorded,
                 ..
             } => {
                 out.push_str(command_name(self.lengths.book, command))?;
-                push_application(out, is_told, read_as)
+                push_application(out, is_recorded, read_as)
             }
             Place::Group { key, .. } => {
                 out.push_str("/")?;
@@ -223,10 +223,10 @@ fn push_proxiable(out: &mut String, set: bool) -> Result<(), AllocError>
     out.push_str(" sent")
 }
 
-fn push_application(out: &mut String, is_told: bool, app: u32) -> Result<(), AllocError>
-    ensures { OnOk result (Writes out.old out.new (application_text is_told app)) }
+fn push_application(out: &mut String, is_recorded: bool, app: u32) -> Result<(), AllocError>
+    ensures { OnOk result (Writes out.old out.new (application_text is_recorded app)) }
 {
-    if is_told {
+    if is_recorded {
         write!(out, "[application {app}]")
     } else {
         Ok(())

@@ -34,8 +34,8 @@ aligned : (avps : List PlainAvp) (bytes : List ℕ) → SpellsAll avps bytes →
 aligned [] bytes h = let none = ap length h in omega (arith, none)
 aligned (v ∷ avps) bytes (front, rest, s, parts, later) =
     let here = s.aligned in
-    let behind = aligned avps rest later in
-    omega (arith, ap length parts, length-append front rest, here, behind)
+    let following = aligned avps rest later in
+    omega (arith, ap length parts, length-append front rest, here, following)
 
 -- so it is 8 where it is less than 12, and the level isn't empty
 eight : (avps : List PlainAvp) (bytes : List ℕ) → SpellsAll avps bytes → 0 < length bytes → length bytes < 12 → length bytes ≡ 8

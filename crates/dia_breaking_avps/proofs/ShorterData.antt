@@ -28,15 +28,15 @@ use Rattle.dia_breaking_avps.proofs.NoLevels.{eight_zeros, empty_level, is_uri, 
 
 -- ---- what is decidable
 
-abbrev Told : Type 0 → Type 0
-Told P = P ⊎ (¬ P)
+abbrev Recorded : Type 0 → Type 0
+Recorded P = P ⊎ (¬ P)
 
-both : {P Q : Type 0} → Told P → Told Q → Told (P × Q)
+both : {P Q : Type 0} → Recorded P → Recorded Q → Recorded (P × Q)
 both (inl p) (inl q) = inl (p, q)
 both (inr n) q = inr (λ h. n h.0)
 both (inl p) (inr n) = inr (λ h. n h.1)
 
-either : {P Q : Type 0} → Told P → Told Q → Told (P ⊎ Q)
+either : {P Q : Type 0} → Recorded P → Recorded Q → Recorded (P ⊎ Q)
 either (inl p) q = inl (inl p)
 either (inr n) (inl q) = inl (inr q)
 either {P} {Q} (inr n) (inr m) = inr neither
@@ -45,37 +45,37 @@ either {P} {Q} (inr n) (inr m) = inr neither
     neither (inl p) = n p
     neither (inr q) = m q
 
-same_told : (m n : ℕ) → Told (m ≡ n)
-same_told m n = by (cases_order m n)
+same_recorded : (m n : ℕ) → Recorded (m ≡ n)
+same_recorded m n = by (cases_order m n)
   where
-    by : (m ≡ n) ⊎ ((m < n) ⊎ (n < m)) → Told (m ≡ n)
+    by : (m ≡ n) ⊎ ((m < n) ⊎ (n < m)) → Recorded (m ≡ n)
     by (inl e) = inl e
     by (inr (inl lt)) = inr (λ e. omega (arith, lt, e))
     by (inr (inr gt)) = inr (λ e. omega (arith, gt, e))
 
-less_told : (m n : ℕ) → Told (m < n)
-less_told m n = by (cases_lt m n)
+less_recorded : (m n : ℕ) → Recorded (m < n)
+less_recorded m n = by (cases_lt m n)
   where
-    by : (m < n) ⊎ (n ≤ m) → Told (m < n)
+    by : (m < n) ⊎ (n ≤ m) → Recorded (m < n)
     by (inl lt) = inl lt
     by (inr le) = inr (λ lt. omega (arith, lt, le))
 
-within_told : (m n : ℕ) → Told (m ≤ n)
-within_told m n = by (cases_lt n m)
+within_recorded : (m n : ℕ) → Recorded (m ≤ n)
+within_recorded m n = by (cases_lt n m)
   where
-    by : (n < m) ⊎ (m ≤ n) → Told (m ≤ n)
+    by : (n < m) ⊎ (m ≤ n) → Recorded (m ≤ n)
     by (inl lt) = inr (λ le. omega (arith, lt, le))
     by (inr le) = inl le
 
-all_told : {X : Type 0} (P : X → Type 0) → ((x : X) → Told (P x)) → (xs : List X) → Told (All P xs)
-all_told P each [] = inl (λ k d lt. absurd (omega (arith, lt)))
-all_told {X} P each (x ∷ xs) = by (each x) (all_told P each xs)
+all_recorded : {X : Type 0} (P : X → Type 0) → ((x : X) → Recorded (P x)) → (xs : List X) → Recorded (All P xs)
+all_recorded P each [] = inl (λ k d lt. absurd (omega (arith, lt)))
+all_recorded {X} P each (x ∷ xs) = by (each x) (all_recorded P each xs)
   where
     cons : P x → All P xs → All P (x ∷ xs)
     cons h rest zero d lt = h
     cons h rest (suc k) d lt = rest k d (omega (arith, lt))
 
-    by : Told (P x) → Told (All P xs) → Told (All P (x ∷ xs))
+    by : Recorded (P x) → Recorded (All P xs) → Recorded (All P (x ∷ xs))
     by (inl h) (inl rest) = inl (cons h rest)
     by (inl h) (inr n) = inr (λ all. n (λ k d lt. all (suc k) d (omega (arith, lt))))
     by (inr n) rest = inr (λ all. n (all 0 x (omega arith)))
@@ -84,26 +84,26 @@ abbrev first_or : List ℕ → ℕ
 first_or [] = 0
 first_or (x ∷ xs) = x
 
-list_told : (xs ys : List ℕ) → Told (xs ≡ ys)
-list_told [] [] = inl refl
-list_told [] (y ∷ ys) = inr (λ e. let size = ap length e in omega (arith, size))
-list_told (x ∷ xs) [] = inr (λ e. let size = ap length e in omega (arith, size))
-list_told (x ∷ xs) (y ∷ ys) = by (same_told x y) (list_told xs ys)
+list_recorded : (xs ys : List ℕ) → Recorded (xs ≡ ys)
+list_recorded [] [] = inl refl
+list_recorded [] (y ∷ ys) = inr (λ e. let size = ap length e in omega (arith, size))
+list_recorded (x ∷ xs) [] = inr (λ e. let size = ap length e in omega (arith, size))
+list_recorded (x ∷ xs) (y ∷ ys) = by (same_recorded x y) (list_recorded xs ys)
   where
-    by : Told (x ≡ y) → Told (xs ≡ ys) → Told (x ∷ xs ≡ y ∷ ys)
+    by : Recorded (x ≡ y) → Recorded (xs ≡ ys) → Recorded (x ∷ xs ≡ y ∷ ys)
     by (inl e) (inl f) = inl (λ i. e i ∷ f i)
     by (inl e) (inr n) = inr (λ same. n (ap (drop 1) same))
     by (inr n) f = inr (λ same. n (ap first_or same))
 
 -- ---- leaves
 
-address_told : (bytes : List ℕ) → Told (IsAddress bytes)
-address_told bytes = by (within_told 2 (length bytes)) (same_told (number (take 2 bytes)) 1) (same_told (number (take 2 bytes)) 2) (same_told (length bytes) 6) (same_told (length bytes) 18)
+address_recorded : (bytes : List ℕ) → Recorded (IsAddress bytes)
+address_recorded bytes = by (within_recorded 2 (length bytes)) (same_recorded (number (take 2 bytes)) 1) (same_recorded (number (take 2 bytes)) 2) (same_recorded (length bytes) 6) (same_recorded (length bytes) 18)
   where
-    long : 2 ≤ length bytes → (number (take 2 bytes) ≡ 1 → length bytes ≡ 6) → (number (take 2 bytes) ≡ 2 → length bytes ≡ 18) → Told (IsAddress bytes)
+    long : 2 ≤ length bytes → (number (take 2 bytes) ≡ 1 → length bytes ≡ 6) → (number (take 2 bytes) ≡ 2 → length bytes ≡ 18) → Recorded (IsAddress bytes)
     long family ipv4 ipv6 = inl (address_from_long bytes (record { family = family; ipv4 = ipv4; ipv6 = ipv6 }))
 
-    by : Told (2 ≤ length bytes) → Told (number (take 2 bytes) ≡ 1) → Told (number (take 2 bytes) ≡ 2) → Told (length bytes ≡ 6) → Told (length bytes ≡ 18) → Told (IsAddress bytes)
+    by : Recorded (2 ≤ length bytes) → Recorded (number (take 2 bytes) ≡ 1) → Recorded (number (take 2 bytes) ≡ 2) → Recorded (length bytes ≡ 6) → Recorded (length bytes ≡ 18) → Recorded (IsAddress bytes)
     by (inr short) one two six eighteen = inr (λ a. short (long_from_address bytes a).family)
     by (inl le) (inl one) two (inl six) eighteen = long le (λ e. six) (λ e. absurd (omega (arith, one, e)))
     by (inl le) (inl one) two (inr other) eighteen = inr (λ a. other ((long_from_address bytes a).ipv4 one))
@@ -111,41 +111,41 @@ address_told bytes = by (within_told 2 (length bytes)) (same_told (number (take 
     by (inl le) (inr one) (inl two) six (inr other) = inr (λ a. other ((long_from_address bytes a).ipv6 two))
     by (inl le) (inr one) (inr two) six eighteen = long le (λ e. absurd (one e)) (λ e. absurd (two e))
 
-text_told : (bytes : List ℕ) → Told (IsUtf8 bytes)
-text_told bytes = by (is_utf8 bytes) refl
+text_recorded : (bytes : List ℕ) → Recorded (IsUtf8 bytes)
+text_recorded bytes = by (is_utf8 bytes) refl
   where
-    by : (b : Bool) → is_utf8 bytes ≡ b → Told (IsUtf8 bytes)
+    by : (b : Bool) → is_utf8 bytes ≡ b → Recorded (IsUtf8 bytes)
     by true e = inl (IsUtf8-from_is_utf8 bytes e)
     by false e = inr (λ text. absurd (both_ways (is_utf8 bytes) e (is_utf8-from_IsUtf8 bytes text)))
 
-graphic_told : (bytes : List ℕ) → Told (All IsGraphic bytes)
-graphic_told bytes = all_told IsGraphic (λ byte. both (within_told 33 byte) (within_told byte 126)) bytes
+graphic_recorded : (bytes : List ℕ) → Recorded (All IsGraphic bytes)
+graphic_recorded bytes = all_recorded IsGraphic (λ byte. both (within_recorded 33 byte) (within_recorded byte 126)) bytes
 
-scheme_told : (scheme bytes : List ℕ) → Told (NamesScheme scheme bytes)
-scheme_told scheme bytes = by (both (less_told (length scheme) (length bytes)) (list_told (map to_ascii_lowercase (take (length scheme) bytes)) (map to_ascii_lowercase scheme)))
+scheme_recorded : (scheme bytes : List ℕ) → Recorded (NamesScheme scheme bytes)
+scheme_recorded scheme bytes = by (both (less_recorded (length scheme) (length bytes)) (list_recorded (map to_ascii_lowercase (take (length scheme) bytes)) (map to_ascii_lowercase scheme)))
   where
-    by : Told ((length scheme < length bytes) × (map to_ascii_lowercase (take (length scheme) bytes) ≡ map to_ascii_lowercase scheme)) → Told (NamesScheme scheme bytes)
+    by : Recorded ((length scheme < length bytes) × (map to_ascii_lowercase (take (length scheme) bytes) ≡ map to_ascii_lowercase scheme)) → Recorded (NamesScheme scheme bytes)
     by (inl (less, same)) = inl (scheme_from_front scheme bytes less same)
     by (inr n) = inr (λ names. n (front_from_scheme scheme bytes names))
 
-listed_told : (ranges : Option (List (ℕ × ℕ))) (n : ℕ) → Told (IsListed ranges n)
-listed_told None n = inl tt
-listed_told (Some ranges) n = by (list_any (covers n) ranges) refl
+listed_recorded : (ranges : Option (List (ℕ × ℕ))) (n : ℕ) → Recorded (IsListed ranges n)
+listed_recorded None n = inl tt
+listed_recorded (Some ranges) n = by (list_any (covers n) ranges) refl
   where
-    by : (b : Bool) → list_any (covers n) ranges ≡ b → Told (Any (IsWithin n) ranges)
+    by : (b : Bool) → list_any (covers n) ranges ≡ b → Recorded (Any (IsWithin n) ranges)
     by true e = inl ((any_within n ranges).0 e)
     by false e = inr (λ any. absurd (both_ways (list_any (covers n) ranges) e ((any_within n ranges).1 any)))
 
-leaf_told : (f : PlainFormat) (bytes : List ℕ) → Told (IsLeaf f bytes)
-leaf_told (AnyBytes name) bytes = inl tt
-leaf_told (FourBytes name) bytes = same_told (length bytes) 4
-leaf_told (EightBytes name) bytes = same_told (length bytes) 8
-leaf_told Grouped bytes = inr (λ leaf. leaf)
-leaf_told Address bytes = address_told bytes
-leaf_told Utf8String bytes = text_told bytes
-leaf_told DiameterIdentity bytes = both (less_told 0 (length bytes)) (graphic_told bytes)
-leaf_told DiameterUri bytes = both (either (scheme_told (codes "aaa://") bytes) (scheme_told (codes "aaas://") bytes)) (graphic_told bytes)
-leaf_told (Enumerated ranges) bytes = both (same_told (length bytes) 4) (listed_told ranges (number bytes))
+leaf_recorded : (f : PlainFormat) (bytes : List ℕ) → Recorded (IsLeaf f bytes)
+leaf_recorded (AnyBytes name) bytes = inl tt
+leaf_recorded (FourBytes name) bytes = same_recorded (length bytes) 4
+leaf_recorded (EightBytes name) bytes = same_recorded (length bytes) 8
+leaf_recorded Grouped bytes = inr (λ leaf. leaf)
+leaf_recorded Address bytes = address_recorded bytes
+leaf_recorded Utf8String bytes = text_recorded bytes
+leaf_recorded DiameterIdentity bytes = both (less_recorded 0 (length bytes)) (graphic_recorded bytes)
+leaf_recorded DiameterUri bytes = both (either (scheme_recorded (codes "aaa://") bytes) (scheme_recorded (codes "aaas://") bytes)) (graphic_recorded bytes)
+leaf_recorded (Enumerated ranges) bytes = both (same_recorded (length bytes) 4) (listed_recorded ranges (number bytes))
 
 -- ---- data that are no level
 
@@ -212,9 +212,9 @@ module _ (da db : Dictionary) (who : Sends) (u : Unknown) (key : Key) (least byt
         (subst (λ (p : Option DictEntry). AcceptedBy p data_bytes) is h)
 
     by_leaf : e.group ≡ None → IsLeaf e.format bytes
-    by_leaf group = by (leaf_told e.format bytes)
+    by_leaf group = by (leaf_recorded e.format bytes)
       where
-        by : Told (IsLeaf e.format bytes) → IsLeaf e.format bytes
+        by : Recorded (IsLeaf e.format bytes) → IsLeaf e.format bytes
         by (inl leaf) = leaf
         by (inr never) = absurd (not_refused (λ h. never (in_entry bytes h None group)))
 
@@ -226,9 +226,9 @@ module _ (da db : Dictionary) (who : Sends) (u : Unknown) (key : Key) (least byt
       never_level never = not_refused (λ h. never (in_entry bytes h (Some x) group))
 
       by_none : bytes ≡ [] → IsLevelHere bytes
-      by_none empty = by (all_told (λ (rule : DRule). rule.min ≡ 0) (λ rule. same_told rule.min 0) x.rules)
+      by_none empty = by (all_recorded (λ (rule : DRule). rule.min ≡ 0) (λ rule. same_recorded rule.min 0) x.rules)
         where
-          by : Told (All (λ (rule : DRule). rule.min ≡ 0) x.rules) → IsLevelHere bytes
+          by : Recorded (All (λ (rule : DRule). rule.min ≡ 0) x.rules) → IsLevelHere bytes
           by (inl all) = subst IsLevelHere (sym empty) (empty_level db u x.rules all)
           by (inr asks) = absurd (never_level (λ h. not_empty db u x.rules asks (subst IsLevelHere empty h)))
 
@@ -257,9 +257,9 @@ module _ (da db : Dictionary) (who : Sends) (u : Unknown) (key : Key) (least byt
       empty_of (b ∷ more) e = absurd (omega (arith, e))
 
       by_level : IsLevelHere bytes
-      by_level = by (same_told (length bytes) 0) (within_told 8 (length bytes))
+      by_level = by (same_recorded (length bytes) 0) (within_recorded 8 (length bytes))
         where
-          by : Told (length bytes ≡ 0) → Told (8 ≤ length bytes) → IsLevelHere bytes
+          by : Recorded (length bytes ≡ 0) → Recorded (8 ≤ length bytes) → IsLevelHere bytes
           by (inl none) long = by_none (empty_of bytes none)
           by (inr some) (inl long) = by_long long
           by (inr some) (inr short) = absurd (never_level (not_short db u x.rules bytes (omega (arith, some)) (omega (arith, short))))

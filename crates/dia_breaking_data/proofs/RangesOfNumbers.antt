@@ -28,7 +28,7 @@ past_end rs place d apart lt (k, x, short, is, w) =
     elim (cases_order k place) [
       | inl same ↦ (let p = ap (λ (j : ℕ). (get_or rs j d).1) same in omega (arith, p, high, w.1))
       | inr (inl before) ↦ omega (arith, apart.1 k place d before lt, apart.0 place d lt, high, w.1)
-      | inr (inr behind) ↦ omega (arith, apart.1 place k d behind short, low, w.0)
+      | inr (inr following) ↦ omega (arith, apart.1 place k d following short, low, w.0)
     ]
 
 -- a number before the first range is in none
@@ -37,7 +37,7 @@ before_first rs d n apart less (k, x, short, is, w) =
     let here : get_or rs k d ≡ x = get_or_default rs k d x short ∙ is in
     let low = ap (λ (r : ℕ × ℕ). r.0) here in
     elim (cases_lt 0 k) [
-      | inl behind ↦ omega (arith, apart.1 0 k d behind short, apart.0 0 d (omega (arith, short)), low, less, w.0)
+      | inl following ↦ omega (arith, apart.1 0 k d following short, apart.0 0 d (omega (arith, short)), low, less, w.0)
       | inr first ↦ (let zero_is : k ≡ 0 = omega (arith, first) in let p = ap (λ (j : ℕ). (get_or rs j d).0) zero_is in omega (arith, p, low, less, w.0))
     ]
 
@@ -47,9 +47,9 @@ first_is [] r e = absurd (let p : Some r ≡ None = e in cc)
 first_is (x ∷ xs) r e = (ap (λ (o : Option (ℕ × ℕ)). elim o [ None ↦ r | Some y ↦ y ]) e, omega arith)
 
 -- the number after the first range, if there is one
-pub behind_first : (rs : List (ℕ × ℕ)) (r : ℕ × ℕ) (o : Option ℕ) (P : Type 0) → Some r ≡ slice_get rs 0 → AreApart rs → SomeIff o P (r.1 + 1) → IfSome o (λ n. ¬ Any (IsWithin n) rs)
-behind_first rs r None P e apart s = tt
-behind_first rs r (Some n) P e apart s =
+pub after_first : (rs : List (ℕ × ℕ)) (r : ℕ × ℕ) (o : Option ℕ) (P : Type 0) → Some r ≡ slice_get rs 0 → AreApart rs → SomeIff o P (r.1 + 1) → IfSome o (λ n. ¬ Any (IsWithin n) rs)
+after_first rs r None P e apart s = tt
+after_first rs r (Some n) P e apart s =
     let first = first_is rs r e in
     let end : n ≡ (get_or rs 0 r).1 + 1 = omega (arith, ap (λ (x : ℕ × ℕ). x.1) first.0, s.1) in
     subst (λ (m : ℕ). ¬ Any (IsWithin m) rs) (sym end) (past_end rs 0 r apart first.1)

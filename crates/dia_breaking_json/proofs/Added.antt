@@ -31,10 +31,10 @@ last_added (Ok u) xs ys old mid new first second = both_added xs ys old mid new 
 last_added (Err e) xs ys old mid new first second = tt
 
 -- and adds a member of which the text of the value is known
-pub field_added : {U E : Type 0} (r : Result U E) (xs : List Field) (name : List ℕ) (told : Data) (old mid new value : List ℕ) → mid ≡ old ++ fields_text xs → value ≡ compact_text told
-    → OnOk r ((d : Data) → value ≡ compact_text d → new ≡ mid ++ fields_text ((name, d) ∷ [])) → OnOk r (new ≡ old ++ fields_text (xs ++ ((name, told) ∷ [])))
-field_added (Ok u) xs name told old mid new value first is more = both_added xs ((name, told) ∷ []) old mid new first (more told is)
-field_added (Err e) xs name told old mid new value first is more = tt
+pub field_added : {U E : Type 0} (r : Result U E) (xs : List Field) (name : List ℕ) (recorded : Data) (old mid new value : List ℕ) → mid ≡ old ++ fields_text xs → value ≡ compact_text recorded
+    → OnOk r ((d : Data) → value ≡ compact_text d → new ≡ mid ++ fields_text ((name, d) ∷ [])) → OnOk r (new ≡ old ++ fields_text (xs ++ ((name, recorded) ∷ [])))
+field_added (Ok u) xs name recorded old mid new value first is more = both_added xs ((name, recorded) ∷ []) old mid new first (more recorded is)
+field_added (Err e) xs name recorded old mid new value first is more = tt
 
 -- either members or others
 pub chosen_added : {U E : Type 0} (r : Result U E) (by chosen : Bool) (xs ys zs : List Field) (old new : List ℕ) → by ≡ chosen → zs ≡ cond chosen xs ys → OnOk r (new ≡ old ++ fields_text zs)

@@ -39,12 +39,12 @@ abbrev is_slash : ℕ → Bool
 is_slash c = c == 47
 
 -- a name more
-pub more_groups : (all old new rest behind name : List ℕ) → behind ≡ after_first is_slash rest → position_or_len is_slash rest < length rest → name ≡ before_first is_slash behind
-    → new ≡ old ++ name_text name → old ++ flat_map name_text (groups_of rest) ≡ all → new ++ flat_map name_text (groups_of behind) ≡ all
-more_groups all old new rest behind name is_behind less is_name is before =
-    let first : groups_of rest ≡ slice_split is_slash behind = ap (drop 1) (slice_split_first is_slash rest 0 less) ∙ ap (slice_split is_slash) (sym is_behind) in
-    let names : groups_of rest ≡ name ∷ groups_of behind = first ∙ parted is_slash behind ∙ ap (λ (n : List ℕ). n ∷ groups_of behind) (sym is_name) in
-    ap (λ (t : List ℕ). t ++ flat_map name_text (groups_of behind)) is ∙ append_assoc old (name_text name) (flat_map name_text (groups_of behind))
+pub more_groups : (all old new rest following name : List ℕ) → following ≡ after_first is_slash rest → position_or_len is_slash rest < length rest → name ≡ before_first is_slash following
+    → new ≡ old ++ name_text name → old ++ flat_map name_text (groups_of rest) ≡ all → new ++ flat_map name_text (groups_of following) ≡ all
+more_groups all old new rest following name is_after less is_name is before =
+    let first : groups_of rest ≡ slice_split is_slash following = ap (drop 1) (slice_split_first is_slash rest 0 less) ∙ ap (slice_split is_slash) (sym is_after) in
+    let names : groups_of rest ≡ name ∷ groups_of following = first ∙ parted is_slash following ∙ ap (λ (n : List ℕ). n ∷ groups_of following) (sym is_name) in
+    ap (λ (t : List ℕ). t ++ flat_map name_text (groups_of following)) is ∙ append_assoc old (name_text name) (flat_map name_text (groups_of following))
     ∙ ap (λ (ns : List (List ℕ)). old ++ flat_map name_text ns) (sym names) ∙ before
 
 pub all_groups : (all written rest : List ℕ) → position_or_len is_slash rest ≡ length rest → written ++ flat_map name_text (groups_of rest) ≡ all → written ≡ all

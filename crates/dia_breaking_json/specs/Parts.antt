@@ -14,8 +14,8 @@ abbrev pub after : ℕ → List ℕ → List ℕ
 after sign text = after_first (λ c. c == sign) text
 
 -- what stands behind the first such byte and the next space
-abbrev pub behind : ℕ → List ℕ → List ℕ
-behind sign text = after 32 (after sign text)
+abbrev pub following : ℕ → List ℕ → List ℕ
+following sign text = after 32 (after sign text)
 
 abbrev pub first_word : List ℕ → List ℕ
 first_word text = before 32 text
@@ -31,7 +31,7 @@ without ending text = if ends_with nat_eq text ending then Some (take (length te
 
 -- `REASON SUBJECT: DETAIL`, and what stands behind it with `--once`
 abbrev pub cause_of : Bool → List ℕ → List ℕ
-cause_of once words = if once then words else behind 58 words
+cause_of once words = if once then words else following 58 words
 
 -- `undecided REASON SUBJECT`, `REASON SUBJECT`, or these without REASON
 abbrev pub head_of : Bool → List ℕ → List ℕ
@@ -55,19 +55,19 @@ subject_of once words = if has_reason (matter_of once words) then after 32 (matt
 
 -- the parts of DETAIL and of what stands behind it: there are four at most, with commas between
 abbrev pub detail_of : Bool → List ℕ → List ℕ
-detail_of once words = behind 58 (cause_of once words)
+detail_of once words = following 58 (cause_of once words)
 
 abbrev pub first_part : List ℕ → List ℕ
 first_part detail = before 44 detail
 
 abbrev pub second_part : List ℕ → List ℕ
-second_part detail = before 44 (behind 44 detail)
+second_part detail = before 44 (following 44 detail)
 
 abbrev pub third_part : List ℕ → List ℕ
-third_part detail = before 44 (behind 44 (behind 44 detail))
+third_part detail = before 44 (following 44 (following 44 detail))
 
 abbrev pub fourth_part : List ℕ → List ℕ
-fourth_part detail = behind 44 (behind 44 (behind 44 detail))
+fourth_part detail = following 44 (following 44 (following 44 detail))
 
 -- N of `in N commands`, which is the second part or the third
 abbrev pub count_of : List ℕ → List ℕ

@@ -130,11 +130,11 @@ fn is_counted(reason: &str) -> bool
 fn push_most(alloc: Global, out: &mut String, name: &str, text: &str) -> Result<(), AllocError>
     ensures { OnOk result (Adds out.old out.new (most_field name.now text.now)) }
 {
-    let behind = after(text, '.');
-    if behind.len() == 0 {
+    let following = after(text, '.');
+    if following.len() == 0 {
         return push_number(alloc, out, name, text);
     }
-    push_greatest(alloc, out, name, after(behind, '.'))
+    push_greatest(alloc, out, name, after(following, '.'))
 }
 
 fn push_greatest(alloc: Global, out: &mut String, name: &str, most: &str) -> Result<(), AllocError>

@@ -35,7 +35,7 @@ pub(crate) fn push_field(
     name: &str,
     value: &str,
 ) -> Result<(), AllocError>
-    ensures { OnOk result ((told : Data) → value.now ≡ compact_text told → Adds out.old out.new ((name.now, told) ∷ [])) }
+    ensures { OnOk result ((recorded : Data) → value.now ≡ compact_text recorded → Adds out.old out.new ((name.now, recorded) ∷ [])) }
 {
     let name = quoted(alloc, name)?;
     write!(out, ",{name}:{value}")

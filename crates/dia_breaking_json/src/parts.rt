@@ -5,7 +5,7 @@ ghost use Rattle.dia_breaking_json.specs.Parts.{cause_of, count_of, detail_of, f
 ghost use Rattle.dia_breaking_json.specs.Parts.{fourth_part, has_reason, matter_of, reason_of};
 ghost use Rattle.dia_breaking_json.specs.Parts.{second_part, subject_of, third_part};
 
-use crate::texts::{after, before, begins, behind, first_word};
+use crate::texts::{after, before, begins, first_word, following};
 
 /// What a line says behind its path: `undecided REASON SUBJECT: DETAIL`.
 #[derive(Clone, Copy)]
@@ -30,14 +30,14 @@ pub(crate) fn parts_of(words: &str, once: bool) -> Parts<'_>
         is_undecided: is_undecided(words, once),
         reason: reason_of(words, once),
         subject: subject_of(words, once),
-        detail: behind(cause, ':'),
+        detail: following(cause, ':'),
     }
 }
 
 fn cause_of(words: &str, once: bool) -> &str
     ensures { result.now ≡ cause_of once words.now }
 {
-    if once { words } else { behind(words, ':') }
+    if once { words } else { following(words, ':') }
 }
 
 fn head_of(words: &str, once: bool) -> &str
@@ -101,19 +101,19 @@ pub(crate) fn first_part(detail: &str) -> &str
 pub(crate) fn second_part(detail: &str) -> &str
     ensures { result.now ≡ second_part detail.now }
 {
-    before(behind(detail, ','), ',')
+    before(following(detail, ','), ',')
 }
 
 fn third_part(detail: &str) -> &str
     ensures { result.now ≡ third_part detail.now }
 {
-    before(behind(behind(detail, ','), ','), ',')
+    before(following(following(detail, ','), ','), ',')
 }
 
 fn fourth_part(detail: &str) -> &str
     ensures { result.now ≡ fourth_part detail.now }
 {
-    behind(behind(behind(detail, ','), ','), ',')
+    following(following(following(detail, ','), ','), ',')
 }
 
 /// How many commands have the cause of a line of `--once`.

@@ -3,7 +3,7 @@
 ghost use Rattle.std.specs.Prelude.{◌≡◌, ◌<◌};
 ghost use Rattle.std.specs.Option.{option_map};
 ghost use Rattle.std.specs.Str.{bytes_eq};
-ghost use Rattle.dia_breaking_json.specs.Parts.{after, before, begins, behind, first_word, without};
+ghost use Rattle.dia_breaking_json.specs.Parts.{after, before, begins, following, first_word, without};
 
 /// What stands before the first such character, and what behind it. It is one of ASCII.
 pub(crate) fn parted(text: &str, sign: char) -> (&str, &str)
@@ -32,9 +32,9 @@ pub(crate) fn after(text: &str, sign: char) -> &str
 }
 
 /// What stands behind the first such character and the next space.
-pub(crate) fn behind(text: &str, sign: char) -> &str
+pub(crate) fn following(text: &str, sign: char) -> &str
     requires { sign < 128 }
-    ensures { result.now ≡ behind sign text.now }
+    ensures { result.now ≡ following sign text.now }
 {
     after(after(text, sign), ' ')
 }

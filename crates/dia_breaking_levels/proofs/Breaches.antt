@@ -67,7 +67,7 @@ is_late rules k keys a =
       x = k;
       y = a.y;
       rule = r.0;
-      behind = omega arith;
+      following = omega arith;
       is_x = refl;
       is_y = a.at;
       has_rule = (contains_in rules r.0 r.1, r.2);
@@ -81,7 +81,7 @@ later_late rules k keys l = record {
   x = l.x;
   y = l.y;
   rule = l.rule;
-  behind = omega (arith, l.behind);
+  following = omega (arith, l.following);
   is_x = l.is_x;
   is_y = l.is_y;
   has_rule = l.has_rule;
@@ -171,4 +171,4 @@ breach_unplaced rules keys sound breach placed = by breach (placed-in_place rule
     by (Not_allowed k c none no_wild) p = absurd (let e : true ≡ false = sym (p.allowed k c none) ∙ no_wild in cc)
     by (Few_others w h lt) p = let bounds = p.others w h in omega (arith, lt, bounds.0)
     by (Many_others w max h e lt) p = above_max w.max max (strangers rules keys) e (p.others w h).1 lt
-    by (Late l) p = let le = order_at (fixed_rules rules) keys l.early l.late l.x l.y p.order l.is_x l.is_y l.behind in omega (arith, le, l.greater)
+    by (Late l) p = let le = order_at (fixed_rules rules) keys l.early l.late l.x l.y p.order l.is_x l.is_y l.following in omega (arith, le, l.greater)

@@ -165,9 +165,9 @@ order_as rules others (k ∷ keys) alike o = (
 )
 
 -- keys after a run
-pub order_behind : (rules : List DRule) (run after : List Key) → InOrder rules (run ++ after) → InOrder rules after
-order_behind rules [] after o = o
-order_behind rules (k ∷ run) after o = order_behind rules run after o.1
+pub order_following : (rules : List DRule) (run after : List Key) → InOrder rules (run ++ after) → InOrder rules after
+order_following rules [] after o = o
+order_following rules (k ∷ run) after o = order_following rules run after o.1
 
 -- a run of the first rule's key may precede
 order_run : (r : DRule) (rules : List DRule) (run after : List Key) → AllByRecursion (λ key. r.key ≡ Some key) run → InOrder (r ∷ rules) after → InOrder (r ∷ rules) (run ++ after)

@@ -7,16 +7,16 @@ use Rattle.dia_breaking_levels.specs.declared.line.Reason.{Reason}
 use Rattle.dia_breaking_levels.specs.declared.line.Reason.TheVariants.{TooManyOthers}
 use Rattle.dia_breaking_levels.specs.Chosen.{AreExtrasBy, IsCutFor, IsDemandOf, IsManyBy, PlainDemand, Reads, cheapest_key, extras_of, outer_key, reason_demand, wanted_others}
 
-pub told_demand : (r : Reads) (line : Line) (reason : Reason) (cut : Cut) (d : PlainDemand) → line.reason ≡ reason → IsCutFor r reason cut → d ≡ reason_demand r cut reason line.key line.behind → IsDemandOf r line d
-told_demand r line reason cut d e is same =
-    (cut, subst (λ (x : Reason). IsCutFor r x cut) (sym e) is, same ∙ ap (λ (x : Reason). reason_demand r cut x line.key line.behind) (sym e))
+pub recorded_demand : (r : Reads) (line : Line) (reason : Reason) (cut : Cut) (d : PlainDemand) → line.reason ≡ reason → IsCutFor r reason cut → d ≡ reason_demand r cut reason line.key line.following → IsDemandOf r line d
+recorded_demand r line reason cut d e is same =
+    (cut, subst (λ (x : Reason). IsCutFor r x cut) (sym e) is, same ∙ ap (λ (x : Reason). reason_demand r cut x line.key line.following) (sym e))
 
 -- where no cut counts
 abbrev pub no_cut : Cut
 no_cut = record { length = 0; left = 0 }
 
 pub many_demanded : (r : Reads) (line : Line) (d : PlainDemand) → line.reason ≡ TooManyOthers → (cut : Cut) × IsManyBy r cut d → IsDemandOf r line d
-many_demanded r line d e (cut, (is, same)) = told_demand r line TooManyOthers cut d e is same
+many_demanded r line d e (cut, (is, same)) = recorded_demand r line TooManyOthers cut d e is same
 
 pub many_is : (r : Reads) (rest outer : Option Key) (extras : List ℕ) → rest ≡ cheapest_key r → outer ≡ outer_key r → (cut : Cut) × AreExtrasBy r cut extras
     → (cut : Cut) × IsManyBy r cut (record { first = None; second = None; rest = rest; front = None; extras = extras; outer = outer })

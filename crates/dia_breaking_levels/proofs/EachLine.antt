@@ -71,14 +71,14 @@ module _ (f : Floor) (most : ℕ) (listed other : Key → ℕ) (a b : List DRule
       → ((line : Line) → IsIn line (lines_by reason rules) → IsIn line (lines_of f most listed other a b)) → ShowsAt a b keys reason r.key → shown keys
   line_in keys reason rules r room i le into shows =
       let short = lt-ltb (length_of reason f most listed other a b r) too_long (omega (arith, room, le)) in
-      let is_line : line_of reason f most listed other a b r ≡ Some (record { reason = reason; key = r.key; behind = None; length = length_of reason f most listed other a b r }) =
-      ap (λ (t : Bool). if t then Some (record { reason = reason; key = r.key; behind = None; length = length_of reason f most listed other a b r }) else None) short in
-      let there = in_filter_map (line_of reason f most listed other a b) rules r (record { reason = reason; key = r.key; behind = None; length = length_of reason f most listed other a b r }) i
+      let is_line : line_of reason f most listed other a b r ≡ Some (record { reason = reason; key = r.key; following = None; length = length_of reason f most listed other a b r }) =
+      ap (λ (t : Bool). if t then Some (record { reason = reason; key = r.key; following = None; length = length_of reason f most listed other a b r }) else None) short in
+      let there = in_filter_map (line_of reason f most listed other a b) rules r (record { reason = reason; key = r.key; following = None; length = length_of reason f most listed other a b r }) i
       is_line in (
-        record { reason = reason; key = r.key; behind = None; length = length_of reason f most listed other a b r },
+        record { reason = reason; key = r.key; following = None; length = length_of reason f most listed other a b r },
         contains_in (lines_of f most listed other a b)
-            (record { reason = reason; key = r.key; behind = None; length = length_of reason f most listed other a b r })
-            (into (record { reason = reason; key = r.key; behind = None; length = length_of reason f most listed other a b r }) there),
+            (record { reason = reason; key = r.key; following = None; length = length_of reason f most listed other a b r })
+            (into (record { reason = reason; key = r.key; following = None; length = length_of reason f most listed other a b r }) there),
         (shows, le),
       )
 

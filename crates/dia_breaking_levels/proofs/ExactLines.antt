@@ -147,24 +147,24 @@ module _ (f : Floor) (listed other : Key → ℕ) (a b : List DRule) (outer : Op
       let turns_too = two.1 (sym same) in
       turn_one a b outer x z may.0 may_too.0 (omega (arith, turns, turns_too))
 
-  order_one : (y : Key) (told told_too : Option Line) → IsOrderAt f listed other a b outer y told → IsOrderAt f listed other a b outer y told_too → told ≡ told_too
+  order_one : (y : Key) (recorded recorded_too : Option Line) → IsOrderAt f listed other a b outer y recorded → IsOrderAt f listed other a b outer y recorded_too → recorded ≡ recorded_too
   order_one y None None one two = refl
   order_one y None (Some line) one two = let long = one two.0 two.1 in let short = two.3 in absurd (omega (arith, long, short))
   order_one y (Some line) None one two = let long = two one.0 one.1 in let short = one.3 in absurd (omega (arith, long, short))
   order_one y (Some line) (Some line_too) one two =
       let same = key_one y one.0 two.0 one.1 two.1 one.2 two.2 in
-      ap (λ (l : Line). Some l) (one.4 ∙ ap (λ (x : Key). record { reason = Order; key = Some y; behind = Some x; length = pair_length f listed other a y x }) same ∙ sym two.4)
+      ap (λ (l : Line). Some l) (one.4 ∙ ap (λ (x : Key). record { reason = Order; key = Some y; following = Some x; length = pair_length f listed other a y x }) same ∙ sym two.4)
 
-  told_one : (key : Option Key) (told told_too : Option Line) → IsOrderOf f listed other a b outer key told → IsOrderOf f listed other a b outer key told_too → told ≡ told_too
-  told_one None told told_too one two = one ∙ sym two
-  told_one (Some y) told told_too one two = order_one y told told_too one two
+  recorded_one : (key : Option Key) (recorded recorded_too : Option Line) → IsOrderOf f listed other a b outer key recorded → IsOrderOf f listed other a b outer key recorded_too → recorded ≡ recorded_too
+  recorded_one None recorded recorded_too one two = one ∙ sym two
+  recorded_one (Some y) recorded recorded_too one two = order_one y recorded recorded_too one two
 
   pub orders_one : (rules : List DRule) (first second : List Line) → AreOrderLines f listed other a b outer rules first → AreOrderLines f listed other a b outer rules second → first ≡ second
   orders_one [] first second one two = one ∙ sym two
   orders_one (rule ∷ rules) first second one two =
-      let told = told_one rule.key one.0 two.0 one.2 two.2 in
+      let recorded = recorded_one rule.key one.0 two.0 one.2 two.2 in
       let rest = orders_one rules one.1 two.1 one.4 two.4 in
-      one.3 ∙ ap (λ (o : Option Line). with_line o one.1) told ∙ ap (with_line two.0) rest ∙ sym two.3
+      one.3 ∙ ap (λ (o : Option Line). with_line o one.1) recorded ∙ ap (with_line two.0) rest ∙ sym two.3
 
 -- ---- both
 

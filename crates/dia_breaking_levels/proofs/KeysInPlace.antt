@@ -18,7 +18,7 @@ use Rattle.dia_valid.proofs.Members.{in_at, at_in, contains_in, all_in, into_fil
 use Rattle.dia_breaking_levels.specs.CountsAndRanks.{AreSound, times, rank, InOrder, AreInPlace}
 use Rattle.dia_breaking_levels.proofs.CountsAndRanks.{rules_sound, key_of_test, lists, not_both, fixed_part, loose_part, into_loose}
 use Rattle.dia_breaking_levels.proofs.CountsAndRanks.{fixed_key, fixed_distinct, counted_key, counted_wild, none_of, AreFree, first_rank}
-use Rattle.dia_breaking_levels.proofs.CountsAndRanks.{later_rank, rank_at, rank_of_none, order_as, order_behind, runs_listed, runs_loose}
+use Rattle.dia_breaking_levels.proofs.CountsAndRanks.{later_rank, rank_at, rank_of_none, order_as, order_following, runs_listed, runs_loose}
 
 -- keys in order begin with all of the first rule's key
 record FirstRun (r : DRule) (keys : List Key) : Type 0 where
@@ -29,9 +29,9 @@ record FirstRun (r : DRule) (keys : List Key) : Type 0 where
   no_more : (q : Key) → IsIn q after → r.key ≢ Some q
 
 -- after a key of another rule the first rule's key does not come
-none_behind : (r : DRule) (rules : List DRule) (k : Key) (keys : List Key) → InOrder (r ∷ rules) (k ∷ keys) → r.key ≢ Some k → (q : Key) → IsIn q (k ∷ keys) → r.key ≢ Some q
-none_behind r rules k keys o other q (inl same) e = other (e ∙ ap (λ (x : Key). Some x) same)
-none_behind r rules k keys o other q (inr i) e =
+none_after : (r : DRule) (rules : List DRule) (k : Key) (keys : List Key) → InOrder (r ∷ rules) (k ∷ keys) → r.key ≢ Some k → (q : Key) → IsIn q (k ∷ keys) → r.key ≢ Some q
+none_after r rules k keys o other q (inl same) e = other (e ∙ ap (λ (x : Key). Some x) same)
+none_after r rules k keys o other q (inr i) e =
     let le : rank (r ∷ rules) k ≤ rank (r ∷ rules) q = in_all (λ (x : Key). rank (r ∷ rules) k ≤ rank (r ∷ rules) x) q keys o.0 i in
     let zero_rank = first_rank r rules q e in
     let some_rank = later_rank r rules k other in
@@ -48,7 +48,7 @@ first_run r rules (k ∷ keys) o = by (lists_key k r) refl (first_run r rules ke
       after = k ∷ keys;
       parts = refl;
       all = tt;
-      no_more = none_behind r rules k keys o (λ same. not_both (lists_key k r) (lists r k same) e);
+      no_more = none_after r rules k keys o (λ same. not_both (lists_key k r) (lists r k same) e);
     }
 
 -- the first rule's key comes as often as its run is long
@@ -69,7 +69,7 @@ times_after r keys t k other =
     let zeros = none_of k t.run (λ q i same. other (in_all (λ (key : Key). r.key ≡ Some key) q t.run t.all i ∙ ap (λ (x : Key). Some x) same)) in
     omega (arith, here, both, zeros)
 
-record Behind (rules : List DRule) (keys : List Key) : Type 0 where
+record After (rules : List DRule) (keys : List Key) : Type 0 where
   rest : List Key
   runs : Runs rules keys rest
   free : AreFree rules rest
@@ -77,15 +77,15 @@ record Behind (rules : List DRule) (keys : List Key) : Type 0 where
 order_after : (r : DRule) (rules : List DRule) (keys : List Key) (t : FirstRun r keys) → InOrder (r ∷ rules) keys → InOrder rules t.after
 order_after r rules keys t o =
     order_as (r ∷ rules) rules t.after (λ x y i j le. omega (arith, le, later_rank r rules x (t.no_more x i), later_rank r rules y (t.no_more y j)))
-    (order_behind (r ∷ rules) t.run t.after (subst (InOrder (r ∷ rules)) t.parts o))
+    (order_following (r ∷ rules) t.run t.after (subst (InOrder (r ∷ rules)) t.parts o))
 
 some_of : (o : Option Key) → IsSome o → (k : Key) × (o ≡ Some k)
 some_of None h = absurd (let e : false ≡ true = h in cc)
 some_of (Some k) h = (k, refl)
 
-free_behind : (r : DRule) (rules : List DRule) (keys : List Key) (t : FirstRun r keys) (b : Behind rules t.after) → AreFree (r ∷ rules) b.rest
-free_behind r rules keys t b q s i (inr j) e = b.free q s i j e
-free_behind r rules keys t b q s i (inl same) e =
+free_after : (r : DRule) (rules : List DRule) (keys : List Key) (t : FirstRun r keys) (b : After rules t.after) → AreFree (r ∷ rules) b.rest
+free_after r rules keys t b q s i (inr j) e = b.free q s i j e
+free_after r rules keys t b q s i (inl same) e =
     let m = all_middle rules t.after b.rest b.runs in
     t.no_more q (subst (λ (ks : List Key). IsIn q ks) (sym m.1) (in_right m.0 b.rest q i)) (ap (λ (x : DRule). x.key) (sym same) ∙ e)
 
@@ -97,48 +97,48 @@ often_after : (r : DRule) (rules : List DRule) (keys : List Key) (t : FirstRun r
 often_after r rules keys t distinct counts k s i e =
     subst (InBounds s) (times_after r keys t k (λ f. in_all (λ (x : DRule). (key : Key) → r.key ≡ Some key → x.key ≢ Some key) s rules distinct.0 i k f e)) (counts k s (inr i) e)
 
-order_runs : (rules : List DRule) (keys : List Key) → AreDistinct rules → AllByRecursion (λ r. IsSome r.key) rules → AreAsOften rules keys → InOrder rules keys → Behind rules keys
+order_runs : (rules : List DRule) (keys : List Key) → AreDistinct rules → AllByRecursion (λ r. IsSome r.key) rules → AreAsOften rules keys → InOrder rules keys → After rules keys
 order_runs [] keys distinct keyed counts o = record { rest = keys; runs = refl; free = λ q r i j e. absurd j }
 order_runs (r ∷ rules) keys distinct keyed counts o =
     let t = first_run r rules keys o in
     let own = some_of r.key keyed.0 in
     let bounds : InBounds r (length t.run) = subst (InBounds r) (times_run r keys t own.0 own.1) (counts own.0 r (inl refl) own.1) in
     let b = order_runs rules t.after distinct.1 keyed.1 (often_after r rules keys t distinct counts) (order_after r rules keys t o) in
-    record { rest = b.rest; runs = (t.run, t.after, t.parts, t.all, bounds, b.runs); free = free_behind r rules keys t b }
+    record { rest = b.rest; runs = (t.run, t.after, t.parts, t.all, bounds, b.runs); free = free_after r rules keys t b }
 
 module _ (rules : List DRule) (sound : AreSound rules) (keys : List Key) (h : AreInPlace rules keys) where
-  behind : Behind (fixed_rules rules) keys
-  behind = order_runs (fixed_rules rules) keys (fixed_distinct rules sound)
+  following : After (fixed_rules rules) keys
+  following = order_runs (fixed_rules rules) keys (fixed_distinct rules sound)
       (all_in (λ (r : DRule). IsSome r.key) (fixed_rules rules) (λ r i. let p = fixed_part rules r i in fixed_key rules r sound p.0 p.1))
       (λ k r i e. h.counts k r (contains_in rules r (fixed_part rules r i).0, e))
       h.order
 
-  may_be : (q : Key) → IsIn q behind.rest → MayBeLoose rules q
+  may_be : (q : Key) → IsIn q following.rest → MayBeLoose rules q
   may_be q i = by (is_listed rules q) refl
     where
       in_keys : IsIn q keys
-      in_keys = let m = all_middle (fixed_rules rules) keys behind.rest behind.runs in subst (λ (ks : List Key). IsIn q ks) (sym m.1) (in_right m.0 behind.rest q i)
+      in_keys = let m = all_middle (fixed_rules rules) keys following.rest following.runs in subst (λ (ks : List Key). IsIn q ks) (sym m.1) (in_right m.0 following.rest q i)
 
       by_rule : (r : DRule) → IsIn r rules → r.key ≡ Some q → (f : Bool) → is_fixed r ≡ f → MayBeLoose rules q
-      by_rule r j e true f = absurd (behind.free q r i (into_filter is_fixed rules r j f) e)
+      by_rule r j e true f = absurd (following.free q r i (into_filter is_fixed rules r j f) e)
       by_rule r j e false f = inl (is_listed_by (loose_rules rules) q r (into_loose rules r j f) e)
 
       by : (b : Bool) → is_listed rules q ≡ b → MayBeLoose rules q
       by true e = let r = listed rules q e in by_rule r.0 r.1 r.2 (is_fixed r.0) refl
       by false e = inr (e, h.allowed q (contains_in keys q in_keys) e)
 
-  loose_bounds : (r : DRule) (o : Option Key) → IsIn r rules → is_fixed r ≡ false → r.key ≡ o → InBounds r (counted rules r behind.rest)
+  loose_bounds : (r : DRule) (o : Option Key) → IsIn r rules → is_fixed r ≡ false → r.key ≡ o → InBounds r (counted rules r following.rest)
   loose_bounds r (Some k) i f e =
-      subst (InBounds r) (runs_loose rules keys behind.rest r k sound behind.runs i f e ∙ sym (counted_key rules r behind.rest k e)) (h.counts k r (contains_in rules r i, e))
+      subst (InBounds r) (runs_loose rules keys following.rest r k sound following.runs i f e ∙ sym (counted_key rules r following.rest k e)) (h.counts k r (contains_in rules r i, e))
   loose_bounds r None i f e =
-      subst (InBounds r) (runs_listed rules keys behind.rest behind.runs ∙ sym (counted_wild rules r behind.rest e)) (h.others r (contains_in rules r i, e))
+      subst (InBounds r) (runs_listed rules keys following.rest following.runs ∙ sym (counted_wild rules r following.rest e)) (h.others r (contains_in rules r i, e))
 
   are_placed : Placed rules keys
   are_placed = record {
-    rest = behind.rest;
-    runs = behind.runs;
-    loose = all_in (MayBeLoose rules) behind.rest may_be;
-    counts = all_in (λ (r : DRule). InBounds r (counted rules r behind.rest)) (loose_rules rules) (λ r i. let p = loose_part rules r i in loose_bounds r r.key p.0 p.1 refl);
+    rest = following.rest;
+    runs = following.runs;
+    loose = all_in (MayBeLoose rules) following.rest may_be;
+    counts = all_in (λ (r : DRule). InBounds r (counted rules r following.rest)) (loose_rules rules) (λ r i. let p = loose_part rules r i in loose_bounds r r.key p.0 p.1 refl);
   }
 
 pub in_place-placed : (rules : List DRule) (keys : List Key) → AreSound rules → AreInPlace rules keys → Placed rules keys

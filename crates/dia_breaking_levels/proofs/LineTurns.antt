@@ -46,8 +46,8 @@ not_ruled rules x e = by (rule_of rules x) refl
     by None h = h
     by (Some r) h = absurd (let f : true ≡ false = sym (ruled_is rules x r h) ∙ e in cc)
 
-pub unlisted_behind : (rules : List DRule) (x : Key) → is_listed rules x ≡ false → place rules x ≡ length rules
-unlisted_behind rules x none = by (position (lists_key x) rules) refl
+pub unlisted_after : (rules : List DRule) (x : Key) → is_listed rules x ≡ false → place rules x ≡ length rules
+unlisted_after rules x none = by (position (lists_key x) rules) refl
   where
     by : (o : Option ℕ) → position (lists_key x) rules ≡ o → place rules x ≡ length rules
     by None p = ap (λ (q : Option ℕ). place_of (length rules) (option_map_or (slot_at rules) q slot.Unlisted)) p
@@ -277,8 +277,8 @@ module _ (f : Floor) (listed other : Key → ℕ) (a b : List DRule) (y : Key) w
               of_x.2,
               λ z may. first of_x.0 of_x.1 of_x.3 room own z may (is_listed a z) refl,
               omega (arith, own, room),
-              ap (λ (k : Option Key). record { reason = Order; key = Some y; behind = k; length = pair_at 0 o.length }) (ap (λ (q : Offer). q.key) of_x.1)
-                  ∙ ap (λ (n : ℕ). record { reason = Order; key = Some y; behind = Some of_x.0; length = n }) (sym own),
+              ap (λ (k : Option Key). record { reason = Order; key = Some y; following = k; length = pair_at 0 o.length }) (ap (λ (q : Offer). q.key) of_x.1)
+                  ∙ ap (λ (n : ℕ). record { reason = Order; key = Some y; following = Some of_x.0; length = n }) (sym own),
             )
         by false e kind = λ z may. let le = all_within z may (is_listed a z) refl in let long = ltb-false (pair_at 0 o.length) too_long e in omega (arith, le, long)
 
@@ -317,8 +317,8 @@ module _ (f : Floor) (listed other : Key → ℕ) (a b : List DRule) (y : Key) w
               of_x.2,
               λ z may. first of_x.0 of_x.1 of_x.3 room own z may (is_listed a z) refl,
               omega (arith, own, room),
-              ap (λ (k : Option Key). record { reason = Order; key = Some y; behind = k; length = pair_at 1 q.length }) (ap (λ (p : Offer). p.key) of_x.1)
-                  ∙ ap (λ (n : ℕ). record { reason = Order; key = Some y; behind = Some of_x.0; length = n }) (sym own),
+              ap (λ (k : Option Key). record { reason = Order; key = Some y; following = k; length = pair_at 1 q.length }) (ap (λ (p : Offer). p.key) of_x.1)
+                  ∙ ap (λ (n : ℕ). record { reason = Order; key = Some y; following = Some of_x.0; length = n }) (sym own),
             )
         by false e kind = λ z may. let le = all_within z may (is_listed a z) refl in let long = ltb-false (pair_at 1 q.length) too_long e in omega (arith, le, long)
 
@@ -338,18 +338,18 @@ module _ (f : Floor) (listed other : Key → ℕ) (a b : List DRule) (y : Key) w
           at p same (inr own) =
               let to = one.2 in
               let there = own.3 in
-              let behind = own.1.2 in
-              inr (own.0, one.3 ∙ ap (node_at offers.nodes.items) (sym same) ∙ own.1.0, (own.1.1, turned_is a b y own.0 (omega (arith, to, same, there)) (omega (arith, behind))), own.2)
+              let following = own.1.2 in
+              inr (own.0, one.3 ∙ ap (node_at offers.nodes.items) (sym same) ∙ own.1.0, (own.1.1, turned_is a b y own.0 (omega (arith, to, same, there)) (omega (arith, following))), own.2)
 
       pub least_listed : (o : Offer) → ((i : ℕ) → length a + 1 ≤ i → i < length a + 1 + place a y + 1 → weight o ≤ weight_at offers.nodes.items i) → IsLeastOfKind true o
       least_listed o low z may e =
           let parts = turned_parts a b y z may.1 in
           let before = parts.0 in
-          let behind = parts.1 in
+          let following = parts.1 in
           let le = low (length a + 1 + place a z) (omega arith) (omega (arith, before)) in
           let own : weight (held a offers z) ≡ weight_at offers.nodes.items (length a + 1 + place a z) =
           ap (λ (r : Option DRule). weight (option_map_or (λ rule. node_at offers.nodes.items (length a + 1 + place a z)) r offers.other)) (ruled a z e).1 in
-          let is = offered z may.0 (omega (arith, behind)) in
+          let is = offered z may.0 (omega (arith, following)) in
           omega (arith, le, own, is)
 
       pub found_other : length a ≤ place a y → IsOfKind false offers.other
@@ -358,24 +358,24 @@ module _ (f : Floor) (listed other : Key → ℕ) (a b : List DRule) (y : Key) w
           by : IsOtherFrom listed other a b outer (place b y + 1) offers.other → IsOfKind false offers.other
           by (inl none) = inl none
           by (inr own) =
-              let there = unlisted_behind a own.0 own.2 in
-              let behind = own.1.2 in
-              inr (own.0, own.1.0, (own.1.1, turned_is a b y own.0 (omega (arith, there, last)) (omega (arith, behind))), own.2)
+              let there = unlisted_after a own.0 own.2 in
+              let following = own.1.2 in
+              inr (own.0, own.1.0, (own.1.1, turned_is a b y own.0 (omega (arith, there, last)) (omega (arith, following))), own.2)
 
       pub least_other : IsLeastOfKind false offers.other
       least_other z may e =
           let parts = turned_parts a b y z may.1 in
-          let behind = parts.1 in
+          let following = parts.1 in
           let own : weight (held a offers z) ≡ weight offers.other = ap (λ (r : Option DRule). weight (option_map_or (λ rule. node_at offers.nodes.items (length a + 1 + place a z)) r offers.other))
           (not_ruled a z e) in
-          let is = offered z may.0 (omega (arith, behind)) in
+          let is = offered z may.0 (omega (arith, following)) in
           omega (arith, own, is)
 
       -- a key that the first definition lists as fixed follows none that it doesn't list
       pub none_other : (o : Offer) → place a y < length a → (z : Key) → MayStandBefore a b outer y z → is_listed a z ≡ false → pair_at 0 o.length ≤ pair_length f listed other a y z
       none_other o within z may e =
           let before = (turned_parts a b y z may.1).0 in
-          let there = unlisted_behind a z e in
+          let there = unlisted_after a z e in
           absurd (omega (arith, before, there, within))
 
       pub other_least : (n : ℕ) → n ≤ pair_at 1 offers.other.length → (z : Key) → MayStandBefore a b outer y z → is_listed a z ≡ false → n ≤ pair_length f listed other a y z

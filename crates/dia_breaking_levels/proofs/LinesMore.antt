@@ -34,10 +34,10 @@ lines_all {X} {Y} h start out xs i end so_far = so_far ∙ ap (λ (ts : List X).
 -- the cut continues after each rule
 pub extras_more : (r : Reads) (wanted : ℕ) (cut next : Cut) (rules : List DRule) (i : ℕ) (d : DRule) (n : ℕ) (old new all : List ℕ) → i < length rules → n ≡ extra_of r wanted cut (get_or rules i d)
     → next ≡ cut_after r wanted cut (get_or rules i d) → new ≡ old ++ n ∷ [] → old ++ extras_of r wanted cut (drop i rules) ≡ all → new ++ extras_of r wanted next (drop (i + 1) rules) ≡ all
-extras_more r wanted cut next rules i d n old new all within extra behind is before =
+extras_more r wanted cut next rules i d n old new all within extra following is before =
     let rest = drop (i + 1) rules in
     ap (λ (ns : List ℕ). ns ++ extras_of r wanted next rest) is ∙ append_assoc old (n ∷ []) (extras_of r wanted next rest)
-    ∙ ap (λ (k : ℕ). old ++ k ∷ extras_of r wanted next rest) extra ∙ ap (λ (c : Cut). old ++ extra_of r wanted cut (get_or rules i d) ∷ extras_of r wanted c rest) behind
+    ∙ ap (λ (k : ℕ). old ++ k ∷ extras_of r wanted next rest) extra ∙ ap (λ (c : Cut). old ++ extra_of r wanted cut (get_or rules i d) ∷ extras_of r wanted c rest) following
     ∙ ap (λ (rs : List DRule). old ++ extras_of r wanted cut rs) (sym (drop_more rules i d within)) ∙ before
 
 -- what each rule adds, one rule further

@@ -161,11 +161,11 @@ at_or_last rules i r are at = λ y e. by y e (nat_lt (place rules y) (length rul
         inr (omega (arith, le, most))
 
 module _ (f : Floor) (listed other : Key → ℕ) (a b : List DRule) (outer : Option Key) where
-  pub order_lines_more : (i : ℕ) (d : DRule) (told : Option Line) (new old : List Line) → i < length b → IsOrderOf f listed other a b outer (get_or b i d).key told → new ≡ old ++ with_line told []
+  pub order_lines_more : (i : ℕ) (d : DRule) (recorded : Option Line) (new old : List Line) → i < length b → IsOrderOf f listed other a b outer (get_or b i d).key recorded → new ≡ old ++ with_line recorded []
       → AreOrderLines f listed other a b outer (drop (i + 1) b) (reverse old) → AreOrderLines f listed other a b outer (drop i b) (reverse new)
-  order_lines_more i d told new old within is same before =
+  order_lines_more i d recorded new old within is same before =
       subst (λ (rules : List DRule). AreOrderLines f listed other a b outer rules (reverse new)) (sym (drop-cons b i d within))
-      (told, reverse old, is, ap reverse same ∙ reverse-append old (with_line told []) ∙ by told, one)
+      (recorded, reverse old, is, ap reverse same ∙ reverse-append old (with_line recorded []) ∙ by recorded, one)
     where
       by : (o : Option Line) → reverse (with_line o []) ++ reverse old ≡ with_line o (reverse old)
       by None = refl
@@ -175,35 +175,35 @@ module _ (f : Floor) (listed other : Key → ℕ) (a b : List DRule) (outer : Op
       one = let next : i + 1 ≡ suc i = omega arith in subst (λ (k : ℕ). AreOrderLines f listed other a b outer (drop k b) (reverse old)) next before
 
   -- each rule has its line
-  line_told : (rules : List DRule) (lines : List Line) (i : ℕ) (r : DRule) → AreOrderLines f listed other a b outer rules lines → slice_get rules i ≡ Some r
-      → (told : Option Line) × IsOrderOf f listed other a b outer r.key told × ((line : Line) → told ≡ Some line → Contains lines line)
-  line_told [] lines i r are at = absurd (none-some r at)
-  line_told (rule ∷ rules) lines zero r are at =
+  line_recorded : (rules : List DRule) (lines : List Line) (i : ℕ) (r : DRule) → AreOrderLines f listed other a b outer rules lines → slice_get rules i ≡ Some r
+      → (recorded : Option Line) × IsOrderOf f listed other a b outer r.key recorded × ((line : Line) → recorded ≡ Some line → Contains lines line)
+  line_recorded [] lines i r are at = absurd (none-some r at)
+  line_recorded (rule ∷ rules) lines zero r are at =
       let same : rule ≡ r = same_Some rule r at in (
         are.0,
         subst (λ (s : DRule). IsOrderOf f listed other a b outer s.key are.0) same are.2,
         λ line e. subst (λ (ls : List Line). Contains ls line) (sym (are.3 ∙ ap (λ (o : Option Line). with_line o are.1) e)) (0, omega arith, refl),
       )
-  line_told (rule ∷ rules) lines (suc i) r are at =
-      let own = line_told rules are.1 i r are.4 at in
-      (own.0, own.1, λ line e. subst (λ (ls : List Line). Contains ls line) (sym are.3) (behind are.0 line (own.2 line e)))
+  line_recorded (rule ∷ rules) lines (suc i) r are at =
+      let own = line_recorded rules are.1 i r are.4 at in
+      (own.0, own.1, λ line e. subst (λ (ls : List Line). Contains ls line) (sym are.3) (following are.0 line (own.2 line e)))
     where
-      behind : (o : Option Line) (line : Line) → Contains are.1 line → Contains (with_line o are.1) line
-      behind None line there = there
-      behind (Some first) line there = let within = there.1 in (suc there.0, omega (arith, within), there.2)
+      following : (o : Option Line) (line : Line) → Contains are.1 line → Contains (with_line o are.1) line
+      following None line there = there
+      following (Some first) line there = let within = there.1 in (suc there.0, omega (arith, within), there.2)
 
   -- so each key that another may precede too early has one that is no longer than their least level
   pub orders_shown : (lines all : List Line) → HasOrderLines f listed other a b outer lines all → HasOrdersFrom f listed other a b outer 0 all
   orders_shown lines all has = λ y x may from turned short.
-      let behind = (turned_parts a b y x turned).1 in
+      let following = (turned_parts a b y x turned).1 in
       let most = place_least b x in
-      let own = rule_there b y (omega (arith, behind, most)) in
-      let told = line_told b has.0 (place b y) own.0 has.2 own.1 in
-      by y x (may, turned) short told.0 (subst (λ (k : Option Key). IsOrderOf f listed other a b outer k told.0) own.2 told.1)
-      (λ line e. subst (λ (ls : List Line). Contains ls line) (sym has.1) (Contains-append_right lines has.0 line (told.2 line e)))
+      let own = rule_there b y (omega (arith, following, most)) in
+      let recorded = line_recorded b has.0 (place b y) own.0 has.2 own.1 in
+      by y x (may, turned) short recorded.0 (subst (λ (k : Option Key). IsOrderOf f listed other a b outer k recorded.0) own.2 recorded.1)
+      (λ line e. subst (λ (ls : List Line). Contains ls line) (sym has.1) (Contains-append_right lines has.0 line (recorded.2 line e)))
     where
-      by : (y x : Key) → MayCome a b outer x × (is_turned a b y x ≡ true) → pair_length f listed other a y x < too_long → (told : Option Line) → IsOrderAt f listed other a b outer y told
-          → ((line : Line) → told ≡ Some line → Contains all line) → HasLine all y (pair_length f listed other a y x)
+      by : (y x : Key) → MayCome a b outer x × (is_turned a b y x ≡ true) → pair_length f listed other a y x < too_long → (recorded : Option Line) → IsOrderAt f listed other a b outer y recorded
+          → ((line : Line) → recorded ≡ Some line → Contains all line) → HasLine all y (pair_length f listed other a y x)
       by y x may short None is there = let long = is x may in absurd (omega (arith, long, short))
       by y x may short (Some line) is there =
           let own : line.length ≡ pair_length f listed other a y is.0 = ap (λ (l : Line). l.length) is.4 in

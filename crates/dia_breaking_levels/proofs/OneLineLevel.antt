@@ -8,16 +8,16 @@ use Rattle.dia_breaking_levels.specs.Chosen.{IsCutFor, LineLevelsAreOne, Reads, 
 use Rattle.dia_breaking_levels.proofs.CutsOfSteps.{one_cut}
 
 one_demand : (r : Reads) (line : Line) (a b : Cut) → IsCutFor r line.reason a → IsCutFor r line.reason b
-    → reason_demand r a line.reason line.key line.behind ≡ reason_demand r b line.reason line.key line.behind
+    → reason_demand r a line.reason line.key line.following ≡ reason_demand r b line.reason line.key line.following
 one_demand r line a b = by line.reason
   where
-    by : (reason : Reason) → IsCutFor r reason a → IsCutFor r reason b → reason_demand r a reason line.key line.behind ≡ reason_demand r b reason line.key line.behind
+    by : (reason : Reason) → IsCutFor r reason a → IsCutFor r reason b → reason_demand r a reason line.key line.following ≡ reason_demand r b reason line.key line.following
     by Missing x y = refl
     by TooMany x y = refl
     by NotAllowed x y = refl
     by NotAllowedOther x y = refl
     by MissingOthers x y = refl
-    by TooManyOthers x y = ap (λ (cut : Cut). reason_demand r cut TooManyOthers line.key line.behind) (one_cut (wanted_others r) (steps_to r (wanted_others r)) a b x y)
+    by TooManyOthers x y = ap (λ (cut : Cut). reason_demand r cut TooManyOthers line.key line.following) (one_cut (wanted_others r) (steps_to r (wanted_others r)) a b x y)
     by Order x y = refl
 
 pub one_level : LineLevelsAreOne

@@ -78,8 +78,8 @@ module _ (f : Floor) (listed other : Key → ℕ) (a b : List DRule) (keys : Lis
   within : sum_of own a ≤ all_cost
   within = all_shares a listed other (filler f) keys sound placed low
 
-  stands : (x : Key) → IsIn x keys → 1 ≤ times x keys
-  stands x i = count_in (λ (q : Key). same_key q x) keys x i (same_key-refl x)
+  occurs : (x : Key) → IsIn x keys → 1 ≤ times x keys
+  occurs x i = count_in (λ (q : Key). same_key q x) keys x i (same_key-refl x)
 
   -- one of a listed key
   abbrev Listed : Key → DRule → Type 0
@@ -92,7 +92,7 @@ module _ (f : Floor) (listed other : Key → ℕ) (a b : List DRule) (keys : Lis
       own_rule = is_rule a x r e
 
       enough : 1 ≤ counted a r keys
-      enough = let same = counted_key a r keys x own_rule.1 in let some = stands x i in omega (arith, same, some)
+      enough = let same = counted_key a r keys x own_rule.1 in let some = occurs x i in omega (arith, same, some)
 
       by : (t : Bool) → has_room 1 r.max ≡ t → (if t then many (1 - r.min) (listed x) else too_long) ≤ (1 - r.min) * listed x
       by true g = omega arith

@@ -11,7 +11,7 @@ use Rattle.dia_valid.specs.Valid.{is_listed}
 use Rattle.dia_valid.proofs.Members.{count_cons, count_append}
 use Rattle.dia_breaking_levels.specs.declared.demand.Wanted.{Wanted}
 use Rattle.dia_breaking_levels.specs.declared.line.Part.{Part}
-use Rattle.dia_breaking_levels.specs.Chosen.{PlainDemand, count_of, extra_at, kind_parts, level_parts, other_count, other_parts, parts_at, parts_below, parts_by, parts_of, rule_parts, stands, wild_parts}
+use Rattle.dia_breaking_levels.specs.Chosen.{PlainDemand, count_of, extra_at, kind_parts, level_parts, other_count, other_parts, parts_at, parts_below, parts_by, parts_of, rule_parts, occurs, wild_parts}
 use Rattle.dia_breaking_levels.specs.LeastLevels.{copies}
 use Rattle.dia_breaking_levels.specs.Showing.{part_keys}
 use Rattle.dia_breaking_levels.proofs.RuleSums.{sum_of}
@@ -200,9 +200,9 @@ module _ (p : Key → Bool) where
     passing_level =
         let fixed = kind_parts rules d true in
         let loose = kind_parts rules d false in
-        let a = passing-append (fixed ++ filter (stands d.front true) loose) (filter (stands d.front false) loose) in
-        let b = passing-append fixed (filter (stands d.front true) loose) in
-        let c = passing_split (stands d.front true) (stands d.front false) loose (λ part. either (option_eq same_key d.front (Some part.key))) in
+        let a = passing-append (fixed ++ filter (occurs d.front true) loose) (filter (occurs d.front false) loose) in
+        let b = passing-append fixed (filter (occurs d.front true) loose) in
+        let c = passing_split (occurs d.front true) (occurs d.front false) loose (λ part. either (option_eq same_key d.front (Some part.key))) in
         let all = kinds_below (length rules) in
         let each = places_sum (λ i. of_rule rules d (extra_at d i)) rules in
         omega (arith, a, b, c, all, each)

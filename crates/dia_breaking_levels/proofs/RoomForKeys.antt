@@ -16,7 +16,7 @@ use Rattle.dia_valid.proofs.RulesOfKeys.{is_listed_by}
 use Rattle.dia_breaking_levels.specs.declared.cut.Cut.{Cut}
 use Rattle.dia_breaking_levels.specs.declared.demand.Wanted.{Wanted}
 use Rattle.dia_breaking_levels.specs.declared.floor.Floor.{Floor}
-use Rattle.dia_breaking_levels.specs.Chosen.{PlainDemand, Reads, cheapest_key, count_of, cut_after, cut_behind, extra_at, extra_of, extras_of, inner_first, inner_key, level_parts, next_key, other_count, outer_key, reads_between, taken_of}
+use Rattle.dia_breaking_levels.specs.Chosen.{PlainDemand, Reads, cheapest_key, count_of, cut_after, cut_following, extra_at, extra_of, extras_of, inner_first, inner_key, level_parts, next_key, other_count, outer_key, reads_between, taken_of}
 use Rattle.dia_breaking_levels.specs.Exact.{first_inner, floor_between, least_inner}
 use Rattle.dia_breaking_levels.specs.LevelTests.{too_long, capped, filler, inner_length, price, rule_floor}
 use Rattle.dia_breaking_levels.specs.Steps.{room_above}
@@ -230,13 +230,13 @@ module _ (listed other : Key → ℕ) (keys : List Key) (a b : List DRule) where
     after_length : (wanted : ℕ) (cut : Cut) (s : DRule) → (cut_after r wanted cut s).length ≡ cut.length
     after_length wanted cut s = by s.key
       where
-        test : (t : Bool) (k : Key) → (if t then cut else cut_behind cut (listed k) (room_above wanted s)).length ≡ cut.length
+        test : (t : Bool) (k : Key) → (if t then cut else cut_following cut (listed k) (room_above wanted s)).length ≡ cut.length
         test true k = refl
         test false k = same_length cut (listed k) (room_above wanted s)
 
-        by : (o : Option Key) → (option_map_or (λ key. if is_listed b key then cut else cut_behind cut (listed key) (room_above wanted s)) o
-            (cut_behind (cut_behind cut (f.outer - filler f) s.min) f.outer (room_above wanted s))).length ≡ cut.length
-        by None = same_length (cut_behind cut (f.outer - filler f) s.min) f.outer (room_above wanted s) ∙ same_length cut (f.outer - filler f) s.min
+        by : (o : Option Key) → (option_map_or (λ key. if is_listed b key then cut else cut_following cut (listed key) (room_above wanted s)) o
+            (cut_following (cut_following cut (f.outer - filler f) s.min) f.outer (room_above wanted s))).length ≡ cut.length
+        by None = same_length (cut_following cut (f.outer - filler f) s.min) f.outer (room_above wanted s) ∙ same_length cut (f.outer - filler f) s.min
         by (Some k) = test (is_listed b k) k
 
     -- where rules have so many more
@@ -249,13 +249,13 @@ module _ (listed other : Key → ℕ) (keys : List Key) (a b : List DRule) where
         where
           e_of : Option Key → ℕ
           e_of o = option_map_or (λ key. if is_listed b key then 0 else taken_of cut (listed key) (room_above wanted s)) o
-              (min (taken_of cut (f.outer - filler f) s.min + taken_of (cut_behind cut (f.outer - filler f) s.min) f.outer (room_above wanted s)) (2 ^ 64 - 1))
+              (min (taken_of cut (f.outer - filler f) s.min + taken_of (cut_following cut (f.outer - filler f) s.min) f.outer (room_above wanted s)) (2 ^ 64 - 1))
 
           by : (o : Option Key) → s.key ≡ o → of_rule is_long a (many_by extras) (extra_of r wanted cut s) s ≡ 0
           by None e = outer (outer_key r) refl
             where
               extra : ℕ
-              extra = taken_of cut (f.outer - filler f) s.min + taken_of (cut_behind cut (f.outer - filler f) s.min) f.outer (room_above wanted s)
+              extra = taken_of cut (f.outer - filler f) s.min + taken_of (cut_following cut (f.outer - filler f) s.min) f.outer (room_above wanted s)
 
               own : of_rule is_long a (many_by extras) (extra_of r wanted cut s) s ≡ of_wild is_long a (many_by extras) s.min (min extra (2 ^ 64 - 1))
               own = of_rule-wild is_long a (many_by extras) (extra_of r wanted cut s) s e ∙ ap (λ (n : ℕ). of_wild is_long a (many_by extras) s.min n) (ap e_of e)
@@ -287,7 +287,7 @@ module _ (listed other : Key → ℕ) (keys : List Key) (a b : List DRule) where
                       let same = outer_is k h in
                       let high = long_other k (outer_found listed other keys a b k h).0 g in
                       let long : too_long ≤ f.outer = omega (arith, same, high) in
-                      let second = taken_longer (cut_behind cut (f.outer - filler f) s.min) f.outer (room_above wanted s)
+                      let second = taken_longer (cut_following cut (f.outer - filler f) s.min) f.outer (room_above wanted s)
                       (let size = same_length cut (f.outer - filler f) s.min in omega (arith, size, long, within, fits)) in
                       let first = swap s.min refl long in
                       let none = cond_none (is_long k) (min (min extra (2 ^ 64 - 1)) (2 ^ 32 - 1)) (omega (arith, first, second)) in

@@ -281,12 +281,12 @@ module _ (listed other : Key → ℕ) (keys : List Key) (a b : List DRule) (soun
   abbrev HasRoom : Line → Type 0
   HasRoom line = (parts : List Part) → IsLineLevel r line parts → passing (is_long listed other keys a b) parts ≡ 0
 
-  room_by : (line : Line) → ((cut : Cut) → IsCutFor r line.reason cut → HaveRoom (reason_demand r cut line.reason line.key line.behind)) → HasRoom line
+  room_by : (line : Line) → ((cut : Cut) → IsCutFor r line.reason cut → HaveRoom (reason_demand r cut line.reason line.key line.following)) → HasRoom line
   room_by line each parts (d, (cut, is, same), parts_are) =
       subst (λ (ps : List Part). passing (is_long listed other keys a b) ps ≡ 0) (sym (parts_are ∙ ap (level_parts a) same)) (each cut is)
 
   abbrev line_by : Reason → ℕ → DRule → Line
-  line_by reason most rule = record { reason = reason; key = rule.key; behind = None; length = length_of reason f most listed other a b rule }
+  line_by reason most rule = record { reason = reason; key = rule.key; following = None; length = length_of reason f most listed other a b rule }
 
   a_line : (reason : Reason) (most : ℕ) (rule : DRule) (line : Line) → line_of reason f most listed other a b rule ≡ Some line
       → (length_of reason f most listed other a b rule < too_long) × (line_by reason most rule ≡ line)
@@ -339,15 +339,15 @@ module _ (listed other : Key → ℕ) (keys : List Key) (a b : List DRule) (soun
   of_orders : (rules : List DRule) (lines : List Line) → ((s : DRule) → IsIn s rules → IsIn s b) → AreOrderLines f listed other a b (find (is_outside a b) keys) rules lines → (line : Line)
       → IsIn line lines → HasRoom line
   of_orders [] lines among are line i = absurd (subst (IsIn line) are i)
-  of_orders (rule ∷ rules) lines among (told, rest, is, lines_are, more) line i =
-      by told rule.key refl is (subst (IsIn line) lines_are i) (of_orders rules rest (λ s j. among s (inr j)) more line)
+  of_orders (rule ∷ rules) lines among (recorded, rest, is, lines_are, more) line i =
+      by recorded rule.key refl is (subst (IsIn line) lines_are i) (of_orders rules rest (λ s j. among s (inr j)) more line)
     where
-      by : (told : Option Line) (o : Option Key) → rule.key ≡ o → IsOrderOf f listed other a b (find (is_outside a b) keys) o told → IsIn line (with_line told rest) → (IsIn line rest → HasRoom line)
+      by : (recorded : Option Line) (o : Option Key) → rule.key ≡ o → IsOrderOf f listed other a b (find (is_outside a b) keys) o recorded → IsIn line (with_line recorded rest) → (IsIn line rest → HasRoom line)
           → HasRoom line
       by None o e none j ih = ih j
       by (Some l) None e none j ih = absurd (none-some l (sym none))
       by (Some l) (Some y) e (x, may, first, short, same) (inl here) ih =
-          subst HasRoom (sym (here ∙ same)) (room_by (record { reason = Order; key = Some y; behind = Some x; length = pair_length f listed other a y x })
+          subst HasRoom (sym (here ∙ same)) (room_by (record { reason = Order; key = Some y; following = Some x; length = pair_length f listed other a y x })
           (λ cut none. order_room x y may.0 (is_listed_by b y rule (among rule (inl refl)) e) short))
       by (Some l) (Some y) e at (inr j) ih = ih j
 

@@ -47,14 +47,14 @@ module _ (listed other : Key → ℕ) (keys : List Key) (a b : List DRule) (are_
 
   -- what the line demands shows it
   shown_by : (line : Line)
-      → ((cut : Cut) → IsCutFor r line.reason cut → ShowsAt a b (part_keys (level_parts a (reason_demand r cut line.reason line.key line.behind))) line.reason line.key) → IsShown line
+      → ((cut : Cut) → IsCutFor r line.reason cut → ShowsAt a b (part_keys (level_parts a (reason_demand r cut line.reason line.key line.following))) line.reason line.key) → IsShown line
   shown_by line each parts (d, (cut, is, same), parts_are) =
       subst (λ (ps : List Part). ShowsAt a b (part_keys ps) line.reason line.key) (sym (parts_are ∙ ap (level_parts a) same)) (each cut is)
 
   -- ---- lines of counts
 
   abbrev line_by : Reason → ℕ → DRule → Line
-  line_by reason most rule = record { reason = reason; key = rule.key; behind = None; length = length_of reason f most listed other a b rule }
+  line_by reason most rule = record { reason = reason; key = rule.key; following = None; length = length_of reason f most listed other a b rule }
 
   a_line : (reason : Reason) (most : ℕ) (rule : DRule) (line : Line) → line_of reason f most listed other a b rule ≡ Some line
       → (length_of reason f most listed other a b rule < too_long) × (line_by reason most rule ≡ line)
@@ -113,13 +113,13 @@ module _ (listed other : Key → ℕ) (keys : List Key) (a b : List DRule) (are_
 
   of_orders : (outer : Option Key) (rules : List DRule) (lines : List Line) → AreOrderLines f listed other a b outer rules lines → (line : Line) → IsIn line lines → IsShown line
   of_orders outer [] lines are line i = absurd (subst (IsIn line) are i)
-  of_orders outer (rule ∷ rules) lines (told, rest, is, lines_are, more) line i = by told rule.key is (subst (IsIn line) lines_are i) (of_orders outer rules rest more line)
+  of_orders outer (rule ∷ rules) lines (recorded, rest, is, lines_are, more) line i = by recorded rule.key is (subst (IsIn line) lines_are i) (of_orders outer rules rest more line)
     where
-      by : (told : Option Line) (o : Option Key) → IsOrderOf f listed other a b outer o told → IsIn line (with_line told rest) → (IsIn line rest → IsShown line) → IsShown line
+      by : (recorded : Option Line) (o : Option Key) → IsOrderOf f listed other a b outer o recorded → IsIn line (with_line recorded rest) → (IsIn line rest → IsShown line) → IsShown line
       by None o none j ih = ih j
       by (Some l) None none j ih = absurd (none-some l (sym none))
       by (Some l) (Some y) (x, may, first, short, same) (inl e) ih =
-          subst IsShown (sym (e ∙ same)) (shown_by (record { reason = Order; key = Some y; behind = Some x; length = pair_length f listed other a y x })
+          subst IsShown (sym (e ∙ same)) (shown_by (record { reason = Order; key = Some y; following = Some x; length = pair_length f listed other a y x })
           (λ cut none. order_shown listed other keys a b are_a are_b x y may.1 short))
       by (Some l) (Some y) at (inr j) ih = ih j
 

@@ -14,7 +14,7 @@ use Rattle.dia_breaking_levels.specs.declared.cut.Cut.{Cut}
 use Rattle.dia_breaking_levels.specs.declared.floor.Floor.{Floor}
 use Rattle.dia_breaking_levels.specs.declared.line.Reason.TheVariants.{TooManyOthers}
 use Rattle.dia_breaking_levels.specs.declared.steps.Step.{Step}
-use Rattle.dia_breaking_levels.specs.Chosen.{PlainDemand, Reads, cheapest_key, cut_after, cut_behind, extra_of, extras_of, level_parts, many_demand, outer_key, reads_between, steps_to, taken_of, wanted_others}
+use Rattle.dia_breaking_levels.specs.Chosen.{PlainDemand, Reads, cheapest_key, cut_after, cut_following, extra_of, extras_of, level_parts, many_demand, outer_key, reads_between, steps_to, taken_of, wanted_others}
 use Rattle.dia_breaking_levels.specs.CountsAndRanks.{AreSound, strangers}
 use Rattle.dia_breaking_levels.specs.Cuts.{IsCut}
 use Rattle.dia_breaking_levels.specs.Exact.{floor_between, least_inner}
@@ -29,7 +29,7 @@ use Rattle.dia_breaking_levels.proofs.RuleSums.{one_of_sum, sum_of}
 use Rattle.dia_breaking_levels.proofs.ShownFew.{as_many, neither_of, unless_true}
 use Rattle.dia_breaking_levels.proofs.ShownFillers.{outer_found}
 use Rattle.dia_breaking_levels.proofs.ShownOthers.{base_exact, needed_counted}
-use Rattle.dia_breaking_levels.proofs.ShownTaken.{behind, cut_within, of_length, same_length, takes, takes-append, takes_wanted, wanted_few, wanted_there}
+use Rattle.dia_breaking_levels.proofs.ShownTaken.{following, cut_within, of_length, same_length, takes, takes-append, takes_wanted, wanted_few, wanted_there}
 use Rattle.dia_breaking_levels.proofs.Strangers.{needs_key, needs_none}
 
 -- ---- steps that take nothing
@@ -148,24 +148,24 @@ module _ (listed other : Key → ℕ) (keys : List Key) (a b : List DRule) (soun
   abbrev steps_by : ℕ → DRule → List Step
   steps_by wanted s = steps_of listed (filler f) f.outer b wanted s
 
-  behind_is : (wanted : ℕ) (cut : Cut) (s : DRule) → behind cut (steps_by wanted s) ≡ cut_after r wanted cut s
-  behind_is wanted cut s = by s.key
+  after_is : (wanted : ℕ) (cut : Cut) (s : DRule) → following cut (steps_by wanted s) ≡ cut_after r wanted cut s
+  after_is wanted cut s = by s.key
     where
-      test : (t : Bool) (k : Key) → behind cut (if t then [] else record { length = listed k; count = room_above wanted s } ∷ []) ≡ (if t then cut else cut_behind cut (listed k) (room_above wanted s))
+      test : (t : Bool) (k : Key) → following cut (if t then [] else record { length = listed k; count = room_above wanted s } ∷ []) ≡ (if t then cut else cut_following cut (listed k) (room_above wanted s))
       test true k = refl
       test false k = refl
 
-      by : (o : Option Key) → behind cut
+      by : (o : Option Key) → following cut
           (option_map_or (λ key. if is_listed b key then [] else record { length = listed key; count = room_above wanted s } ∷ []) o
           (record { length = f.outer - filler f; count = s.min } ∷ record { length = f.outer; count = room_above wanted s } ∷ []))
-          ≡ option_map_or (λ key. if is_listed b key then cut else cut_behind cut (listed key) (room_above wanted s)) o
-          (cut_behind (cut_behind cut (f.outer - filler f) s.min) f.outer (room_above wanted s))
+          ≡ option_map_or (λ key. if is_listed b key then cut else cut_following cut (listed key) (room_above wanted s)) o
+          (cut_following (cut_following cut (f.outer - filler f) s.min) f.outer (room_above wanted s))
       by None = refl
       by (Some k) = test (is_listed b k) k
 
-  behind_length : (cut : Cut) (xs : List Step) → (behind cut xs).length ≡ cut.length
-  behind_length cut [] = refl
-  behind_length cut (x ∷ xs) = behind_length (cut_behind cut x.length x.count) xs ∙ same_length cut x.length x.count
+  following_length : (cut : Cut) (xs : List Step) → (following cut xs).length ≡ cut.length
+  following_length cut [] = refl
+  following_length cut (x ∷ xs) = following_length (cut_following cut x.length x.count) xs ∙ same_length cut x.length x.count
 
   module _ (extras : List ℕ) (wanted c : ℕ) (room : f.base + c < too_long) where
     -- each rule has what its steps have, as far as counts go
@@ -175,7 +175,7 @@ module _ (listed other : Key → ℕ) (keys : List Key) (a b : List DRule) (soun
       where
         e_of : Option Key → ℕ
         e_of o = option_map_or (λ key. if is_listed b key then 0 else taken_of cut (listed key) (room_above wanted s)) o
-            (min (taken_of cut (f.outer - filler f) s.min + taken_of (cut_behind cut (f.outer - filler f) s.min) f.outer (room_above wanted s)) (2 ^ 64 - 1))
+            (min (taken_of cut (f.outer - filler f) s.min + taken_of (cut_following cut (f.outer - filler f) s.min) f.outer (room_above wanted s)) (2 ^ 64 - 1))
 
         steps_for : Option Key → List Step
         steps_for o = option_map_or (λ key. if is_listed b key then [] else record { length = listed key; count = room_above wanted s } ∷ []) o
@@ -186,14 +186,14 @@ module _ (listed other : Key → ℕ) (keys : List Key) (a b : List DRule) (soun
         by None e = outer (outer_key r) refl
           where
             extra : ℕ
-            extra = taken_of cut (f.outer - filler f) s.min + taken_of (cut_behind cut (f.outer - filler f) s.min) f.outer (room_above wanted s)
+            extra = taken_of cut (f.outer - filler f) s.min + taken_of (cut_following cut (f.outer - filler f) s.min) f.outer (room_above wanted s)
 
             none : needs b s ≡ 0
             none = needs_none b s e
 
             taken_is : takes cut (steps_by wanted s) ≡ extra
             taken_is = ap (λ (o : Option Key). takes cut (steps_for o)) e ∙ sums (taken_of cut (f.outer - filler f) s.min)
-                (taken_of (cut_behind cut (f.outer - filler f) s.min) f.outer (room_above wanted s))
+                (taken_of (cut_following cut (f.outer - filler f) s.min) f.outer (room_above wanted s))
               where
                 sums : (m n : ℕ) → m + (n + 0) ≡ m + n
                 sums m n = omega arith
@@ -213,7 +213,7 @@ module _ (listed other : Key → ℕ) (keys : List Key) (a b : List DRule) (soun
                 omega (arith, none, taken_is, own, part)
             outer None h =
                 let long : f.outer ≡ too_long = ap (λ (o : Option Key). option_map_or other o too_long) h in
-                let second = taken_longer (cut_behind cut (f.outer - filler f) s.min) f.outer (room_above wanted s)
+                let second = taken_longer (cut_following cut (f.outer - filler f) s.min) f.outer (room_above wanted s)
                 (let same = same_length cut (f.outer - filler f) s.min in omega (arith, same, long, within, room)) in
                 let first = swap s.min refl long in
                 omega (arith, none, taken_is, first, second)
@@ -264,12 +264,12 @@ module _ (listed other : Key → ℕ) (keys : List Key) (a b : List DRule) (soun
     rules_take [] cut among within = omega arith
     rules_take (s ∷ rules) cut among within =
         let here = rule_takes cut s (among s (inl refl)) within in
-        let length_is = behind_length cut (steps_by wanted s) in
-        let next = behind_is wanted cut s in
+        let length_is = following_length cut (steps_by wanted s) in
+        let next = after_is wanted cut s in
         let after : (cut_after r wanted cut s).length ≤ c = subst (λ (next : Cut). next.length ≤ c) next (omega (arith, length_is, within)) in
         let ih = rules_take rules (cut_after r wanted cut s) (λ t i. among t (inr i)) after in
         let all = takes-append cut (steps_by wanted s) (steps listed (filler f) f.outer b wanted rules) in
-        let rest : takes (behind cut (steps_by wanted s)) (steps listed (filler f) f.outer b wanted rules) ≡ takes (cut_after r wanted cut s) (steps listed (filler f) f.outer b wanted rules) =
+        let rest : takes (following cut (steps_by wanted s)) (steps listed (filler f) f.outer b wanted rules) ≡ takes (cut_after r wanted cut s) (steps listed (filler f) f.outer b wanted rules) =
         ap (λ (next : Cut). takes next (steps listed (filler f) f.outer b wanted rules)) next in
         omega (arith, here, ih, all, rest)
 

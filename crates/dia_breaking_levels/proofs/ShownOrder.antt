@@ -20,13 +20,13 @@ use Rattle.dia_breaking_levels.specs.declared.floor.Floor.{Floor}
 use Rattle.dia_breaking_levels.specs.declared.line.Part.{Part}
 use Rattle.dia_breaking_levels.specs.declared.line.Reason.TheVariants.{Order}
 use Rattle.dia_breaking_levels.specs.Breaches.{IsLate}
-use Rattle.dia_breaking_levels.specs.Chosen.{PlainDemand, Reads, count_of, extra_at, kind_parts, level_parts, order_demand, other_count, parts_at, parts_below, parts_by, reads_between, rule_parts, stands, wants}
+use Rattle.dia_breaking_levels.specs.Chosen.{PlainDemand, Reads, count_of, extra_at, kind_parts, level_parts, order_demand, other_count, parts_at, parts_below, parts_by, reads_between, rule_parts, occurs, wants}
 use Rattle.dia_breaking_levels.specs.CountsAndRanks.{AreSound, rank}
 use Rattle.dia_breaking_levels.specs.Exact.{floor_between}
 use Rattle.dia_breaking_levels.specs.LeastLevels.{copies}
 use Rattle.dia_breaking_levels.specs.Levels.{ShowsAt}
 use Rattle.dia_breaking_levels.specs.LevelTests.{too_long, capped, filler, swapped}
-use Rattle.dia_breaking_levels.specs.Orders.{StandsBefore}
+use Rattle.dia_breaking_levels.specs.Orders.{OccursBefore}
 use Rattle.dia_breaking_levels.specs.OrderTests.{beyond, by_wild, is_turned, pair_length, with_others}
 use Rattle.dia_breaking_levels.specs.Places.{place, place_of}
 use Rattle.dia_breaking_levels.specs.Showing.{part_keys}
@@ -34,27 +34,27 @@ use Rattle.dia_breaking_levels.proofs.CountsAndRanks.{ranked, rules_sound, wild_
 use Rattle.dia_breaking_levels.proofs.LeastLevels.{in_copies, not_both}
 use Rattle.dia_breaking_levels.proofs.LevelBounds.{is_wild}
 use Rattle.dia_breaking_levels.proofs.LineBounds.{no_rule}
-use Rattle.dia_breaking_levels.proofs.LineTurns.{not_ruled, place_least, turned_parts, unlisted_behind}
+use Rattle.dia_breaking_levels.proofs.LineTurns.{not_ruled, place_least, turned_parts, unlisted_after}
 use Rattle.dia_breaking_levels.proofs.OtherBounds.{counted_some}
 use Rattle.dia_breaking_levels.proofs.PartKeys.{of_key, of_other, of_rule, of_rule-key, of_rule-wild, of_wild, part_keys-append, passing_rule}
 use Rattle.dia_breaking_levels.proofs.Places.{Placing, key_of, placing}
 
 -- ---- keys before others
 
-before_split : (x y : Key) (xs ys : List Key) → IsIn x xs → IsIn y ys → StandsBefore x y (xs ++ ys)
+before_split : (x y : Key) (xs ys : List Key) → IsIn x xs → IsIn y ys → OccursBefore x y (xs ++ ys)
 before_split x y xs ys i j =
     let p = at_in xs x i in
     let q = at_in ys y j in
     record {
       early = p.place;
       late = length xs + q.place;
-      behind = let within = slice_get_within xs p.place x p.at in omega (arith, within);
+      following = let within = slice_get_within xs p.place x p.at in omega (arith, within);
       is_x = into_left xs ys p.place x p.at;
       is_y = into_right xs ys q.place y q.at;
     }
 
-before_left : (x y : Key) (xs ys : List Key) → StandsBefore x y xs → StandsBefore x y (xs ++ ys)
-before_left x y xs ys b = record { early = b.early; late = b.late; behind = b.behind; is_x = into_left xs ys b.early x b.is_x; is_y = into_left xs ys b.late y b.is_y }
+before_left : (x y : Key) (xs ys : List Key) → OccursBefore x y xs → OccursBefore x y (xs ++ ys)
+before_left x y xs ys b = record { early = b.early; late = b.late; following = b.following; is_x = into_left xs ys b.early x b.is_x; is_y = into_left xs ys b.late y b.is_y }
 
 in_parts-left : (k : Key) (xs ys : List Part) → IsIn k (part_keys xs) → IsIn k (part_keys (xs ++ ys))
 in_parts-left k xs ys i = subst (IsIn k) (sym (part_keys-append xs ys)) (in_left (part_keys xs) (part_keys ys) k i)
@@ -62,11 +62,11 @@ in_parts-left k xs ys i = subst (IsIn k) (sym (part_keys-append xs ys)) (in_left
 in_parts-right : (k : Key) (xs ys : List Part) → IsIn k (part_keys ys) → IsIn k (part_keys (xs ++ ys))
 in_parts-right k xs ys i = subst (IsIn k) (sym (part_keys-append xs ys)) (in_right (part_keys xs) (part_keys ys) k i)
 
-parts_split : (x y : Key) (xs ys : List Part) → IsIn x (part_keys xs) → IsIn y (part_keys ys) → StandsBefore x y (part_keys (xs ++ ys))
-parts_split x y xs ys i j = subst (StandsBefore x y) (sym (part_keys-append xs ys)) (before_split x y (part_keys xs) (part_keys ys) i j)
+parts_split : (x y : Key) (xs ys : List Part) → IsIn x (part_keys xs) → IsIn y (part_keys ys) → OccursBefore x y (part_keys (xs ++ ys))
+parts_split x y xs ys i j = subst (OccursBefore x y) (sym (part_keys-append xs ys)) (before_split x y (part_keys xs) (part_keys ys) i j)
 
-parts_left : (x y : Key) (xs ys : List Part) → StandsBefore x y (part_keys xs) → StandsBefore x y (part_keys (xs ++ ys))
-parts_left x y xs ys b = subst (StandsBefore x y) (sym (part_keys-append xs ys)) (before_left x y (part_keys xs) (part_keys ys) b)
+parts_left : (x y : Key) (xs ys : List Part) → OccursBefore x y (part_keys xs) → OccursBefore x y (part_keys (xs ++ ys))
+parts_left x y xs ys b = subst (OccursBefore x y) (sym (part_keys-append xs ys)) (before_left x y (part_keys xs) (part_keys ys) b)
 
 -- of those that pass a test
 in_filtered : (k : Key) (t : Part → Bool) (xs : List Part) → ((part : Part) → part.key ≡ k → t part ≡ true) → IsIn k (part_keys xs) → IsIn k (part_keys (filter t xs))
@@ -101,11 +101,11 @@ module _ (a : List DRule) (d : PlainDemand) where
           let same : i ≡ n = omega (arith, le, within) in
           in_parts-right k (parts_below a d fixed n) (parts_at a d fixed n) (subst (λ (j : ℕ). HasKey fixed j k) same has)
 
-  before_below : (fixed : Bool) (n i j : ℕ) (x y : Key) → i < j → j < n → HasKey fixed i x → HasKey fixed j y → StandsBefore x y (part_keys (parts_below a d fixed n))
+  before_below : (fixed : Bool) (n i j : ℕ) (x y : Key) → i < j → j < n → HasKey fixed i x → HasKey fixed j y → OccursBefore x y (part_keys (parts_below a d fixed n))
   before_below fixed zero i j x y less within has_x has_y = absurd (omega (arith, within))
   before_below fixed (suc n) i j x y less within has_x has_y = by (nat_lt j n) refl (λ lt. before_below fixed n i j x y less lt has_x has_y)
     where
-      by : (t : Bool) → nat_lt j n ≡ t → (j < n → StandsBefore x y (part_keys (parts_below a d fixed n))) → StandsBefore x y (part_keys (parts_below a d fixed n ++ parts_at a d fixed n))
+      by : (t : Bool) → nat_lt j n ≡ t → (j < n → OccursBefore x y (part_keys (parts_below a d fixed n))) → OccursBefore x y (part_keys (parts_below a d fixed n ++ parts_at a d fixed n))
       by true e ih = parts_left x y (parts_below a d fixed n) (parts_at a d fixed n) (ih (ltb-true j n e))
       by false e ih =
           let le = ltb-false j n e in
@@ -169,7 +169,7 @@ module _ (a : List DRule) (sound : AreSound a) (d : PlainDemand) (k : Key) where
       let wild = is_wild a w is in
       let p = at_in a w wild.0 in
       let own = of_rule-wild (λ q. same_key q k) a d 0 w wild.1 in
-      inr (record { place_is = p.place; rule = w; at = p.at; kind = wild_loose a w sound wild.0 wild.1; some = omega (arith, own, some) }, unlisted_behind a k none)
+      inr (record { place_is = p.place; rule = w; at = p.at; kind = wild_loose a w sound wild.0 wild.1; some = omega (arith, own, some) }, unlisted_after a k none)
 
 -- ---- the order of two wanted keys
 
@@ -265,24 +265,24 @@ module _ (listed other : Key → ℕ) (keys : List Key) (a b : List DRule) (are_
   in_kind fixed k w = in_below a d fixed (length a) w.place_is k (slice_get_within a w.place_is w.rule w.at) (has_key a d fixed w.place_is w.rule k w.at w.kind refl w.some)
 
   -- y is among the loose ones that don't come first
-  y_behind : x ≢ y → IsWantedAt a d y false → IsIn y (part_keys (filter (stands (Some x) false) loose_parts))
-  y_behind apart w = in_filtered y (stands (Some x) false) loose_parts (λ part e. test part e (same_key x part.key) refl) (in_kind false y w)
+  y_after : x ≢ y → IsWantedAt a d y false → IsIn y (part_keys (filter (occurs (Some x) false) loose_parts))
+  y_after apart w = in_filtered y (occurs (Some x) false) loose_parts (λ part e. test part e (same_key x part.key) refl) (in_kind false y w)
     where
       test : (part : Part) → part.key ≡ y → (t : Bool) → same_key x part.key ≡ t → (if same_key x part.key then false else true) ≡ true
       test part e true h = absurd (apart (same_key-true x part.key h ∙ e))
       test part e false h = ap (λ (t : Bool). if t then false else true) h
 
-  x_front : IsWantedAt a d x false → IsIn x (part_keys (filter (stands (Some x) true) loose_parts))
-  x_front w = in_filtered x (stands (Some x) true) loose_parts
+  x_front : IsWantedAt a d x false → IsIn x (part_keys (filter (occurs (Some x) true) loose_parts))
+  x_front w = in_filtered x (occurs (Some x) true) loose_parts
       (λ part e. ap (λ (q : Key). if same_key x q then true else false) e ∙ ap (λ (t : Bool). if t then true else false) (same_key-refl x)) (in_kind false x w)
 
-  stands_before : x ≢ y → place a x ≤ place a y → IsPlacedAt a d x → IsPlacedAt a d y → StandsBefore x y level
-  stands_before apart le (inl (p, is_p, key_p)) (inl (q, is_q, key_q)) = by (nat_lt p.place_is q.place_is) refl
+  occurs_before : x ≢ y → place a x ≤ place a y → IsPlacedAt a d x → IsPlacedAt a d y → OccursBefore x y level
+  occurs_before apart le (inl (p, is_p, key_p)) (inl (q, is_q, key_q)) = by (nat_lt p.place_is q.place_is) refl
     where
-      by : (t : Bool) → nat_lt p.place_is q.place_is ≡ t → StandsBefore x y level
+      by : (t : Bool) → nat_lt p.place_is q.place_is ≡ t → OccursBefore x y level
       by true e =
-          parts_left x y (fixed_parts ++ filter (stands (Some x) true) loose_parts) (filter (stands (Some x) false) loose_parts)
-          (parts_left x y fixed_parts (filter (stands (Some x) true) loose_parts)
+          parts_left x y (fixed_parts ++ filter (occurs (Some x) true) loose_parts) (filter (occurs (Some x) false) loose_parts)
+          (parts_left x y fixed_parts (filter (occurs (Some x) true) loose_parts)
           (before_below a d true (length a) p.place_is q.place_is x y (ltb-true p.place_is q.place_is e) (slice_get_within a q.place_is q.rule q.at)
           (has_key a d true p.place_is p.rule x p.at p.kind refl p.some) (has_key a d true q.place_is q.rule y q.at q.kind refl q.some)))
       by false e =
@@ -290,17 +290,17 @@ module _ (listed other : Key → ℕ) (keys : List Key) (a b : List DRule) (are_
           let same : p.place_is ≡ q.place_is = omega (arith, ge, le, is_p, is_q) in
           let rules : p.rule ≡ q.rule = same_Some p.rule q.rule (sym p.at ∙ ap (λ (i : ℕ). slice_get a i) same ∙ q.at) in
           absurd (apart (same_Some x y (sym key_p ∙ ap (λ (s : DRule). s.key) rules ∙ key_q)))
-  stands_before apart le (inl (p, is_p, key_p)) (inr (q, is_q)) =
-      parts_split x y (fixed_parts ++ filter (stands (Some x) true) loose_parts) (filter (stands (Some x) false) loose_parts)
-      (in_parts-left x fixed_parts (filter (stands (Some x) true) loose_parts) (in_kind true x p)) (y_behind apart q)
-  stands_before apart le (inr (p, is_p)) (inl (q, is_q, key_q)) = let within = slice_get_within a q.place_is q.rule q.at in absurd (omega (arith, le, is_p, is_q, within))
-  stands_before apart le (inr (p, is_p)) (inr (q, is_q)) =
-      parts_split x y (fixed_parts ++ filter (stands (Some x) true) loose_parts) (filter (stands (Some x) false) loose_parts)
-      (in_parts-right x fixed_parts (filter (stands (Some x) true) loose_parts) (x_front p)) (y_behind apart q)
+  occurs_before apart le (inl (p, is_p, key_p)) (inr (q, is_q)) =
+      parts_split x y (fixed_parts ++ filter (occurs (Some x) true) loose_parts) (filter (occurs (Some x) false) loose_parts)
+      (in_parts-left x fixed_parts (filter (occurs (Some x) true) loose_parts) (in_kind true x p)) (y_after apart q)
+  occurs_before apart le (inr (p, is_p)) (inl (q, is_q, key_q)) = let within = slice_get_within a q.place_is q.rule q.at in absurd (omega (arith, le, is_p, is_q, within))
+  occurs_before apart le (inr (p, is_p)) (inr (q, is_q)) =
+      parts_split x y (fixed_parts ++ filter (occurs (Some x) true) loose_parts) (filter (occurs (Some x) false) loose_parts)
+      (in_parts-right x fixed_parts (filter (occurs (Some x) true) loose_parts) (x_front p)) (y_after apart q)
 
   -- ---- y is late
 
-  late_by : StandsBefore x y level → place b y < place b x → (late : IsLate (fixed_rules b) level) × (late.y ≡ y)
+  late_by : OccursBefore x y level → place b y < place b x → (late : IsLate (fixed_rules b) level) × (late.y ≡ y)
   late_by before less = by (placing b y are_b) (placing b x are_b)
     where
       at : rank (fixed_rules b) y < length (fixed_rules b) → rank (fixed_rules b) y < rank (fixed_rules b) x → (late : IsLate (fixed_rules b) level) × (late.y ≡ y)
@@ -312,7 +312,7 @@ module _ (listed other : Key → ℕ) (keys : List Key) (a b : List DRule) (are_
               x = x;
               y = y;
               rule = found.0;
-              behind = before.behind;
+              following = before.following;
               is_x = before.is_x;
               is_y = before.is_y;
               has_rule = (contains_in (fixed_rules b) found.0 found.1, found.2);
@@ -330,4 +330,4 @@ module _ (listed other : Key → ℕ) (keys : List Key) (a b : List DRule) (are_
   order_shown turned short =
       let parts = turned_parts a b y x turned in
       let lt = parts.1 in
-      late_by (stands_before (λ same. let own = ap (place b) same in omega (arith, lt, own)) parts.0 (place_x short) (place_y short)) lt
+      late_by (occurs_before (λ same. let own = ap (place b) same in omega (arith, lt, own)) parts.0 (place_x short) (place_y short)) lt

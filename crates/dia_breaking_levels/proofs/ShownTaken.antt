@@ -8,7 +8,7 @@ use Rattle.std.proofs.lemmas.List.Sums.{sum_by-cons}
 use Rattle.dia_valid.proofs.Members.{IsIn}
 use Rattle.dia_breaking_levels.specs.declared.cut.Cut.{Cut}
 use Rattle.dia_breaking_levels.specs.declared.steps.Step.{Step}
-use Rattle.dia_breaking_levels.specs.Chosen.{cut_behind, taken_of}
+use Rattle.dia_breaking_levels.specs.Chosen.{cut_following, taken_of}
 use Rattle.dia_breaking_levels.specs.Cuts.{IsCut, shorter, steps_at}
 use Rattle.dia_breaking_levels.specs.LevelTests.{too_long}
 use Rattle.dia_breaking_levels.specs.Steps.{IsTakenInOrder, length_taken, take_step}
@@ -159,25 +159,25 @@ taken_long left sum t (x ∷ steps) within short few =
 -- what of the steps is taken, one by one, and the cut after them
 abbrev pub takes : Cut → List Step → ℕ
 takes cut [] = 0
-takes cut (x ∷ steps) = taken_of cut x.length x.count + takes (cut_behind cut x.length x.count) steps
+takes cut (x ∷ steps) = taken_of cut x.length x.count + takes (cut_following cut x.length x.count) steps
 
-abbrev pub behind : Cut → List Step → Cut
-behind cut [] = cut
-behind cut (x ∷ steps) = behind (cut_behind cut x.length x.count) steps
+abbrev pub following : Cut → List Step → Cut
+following cut [] = cut
+following cut (x ∷ steps) = following (cut_following cut x.length x.count) steps
 
-pub takes-append : (cut : Cut) (xs ys : List Step) → takes cut (xs ++ ys) ≡ takes cut xs + takes (behind cut xs) ys
+pub takes-append : (cut : Cut) (xs ys : List Step) → takes cut (xs ++ ys) ≡ takes cut xs + takes (following cut xs) ys
 takes-append cut [] ys = omega arith
-takes-append cut (x ∷ xs) ys = let ih = takes-append (cut_behind cut x.length x.count) xs ys in omega (arith, ih)
+takes-append cut (x ∷ xs) ys = let ih = takes-append (cut_following cut x.length x.count) xs ys in omega (arith, ih)
 
-pub same_length : (cut : Cut) (size n : ℕ) → (cut_behind cut size n).length ≡ cut.length
+pub same_length : (cut : Cut) (size n : ℕ) → (cut_following cut size n).length ≡ cut.length
 same_length cut size n = by (size == cut.length)
   where
     by : (t : Bool) → (let next : Cut = if t then record { length = cut.length; left = cut.left - min n cut.left } else cut in next).length ≡ cut.length
     by true = refl
     by false = refl
 
-left_behind : (cut : Cut) (size n : ℕ) → (cut_behind cut size n).left ≡ (if size == cut.length then cut.left - min n cut.left else cut.left)
-left_behind cut size n = by (size == cut.length)
+left_following : (cut : Cut) (size n : ℕ) → (cut_following cut size n).left ≡ (if size == cut.length then cut.left - min n cut.left else cut.left)
+left_following cut size n = by (size == cut.length)
   where
     by : (t : Bool) → (let next : Cut = if t then record { length = cut.length; left = cut.left - min n cut.left } else cut in next).left ≡ (if t then cut.left - min n cut.left else cut.left)
     by true = refl
@@ -187,23 +187,23 @@ left_behind cut size n = by (size == cut.length)
 takes_all : (cut : Cut) (t : ℕ) (steps : List Step) → cut.length ≡ t → shorter t steps + min cut.left (of_length t steps) ≤ takes cut steps
 takes_all cut t [] e = omega arith
 takes_all cut t (x ∷ steps) e =
-    let next = cut_behind cut x.length x.count in
+    let next = cut_following cut x.length x.count in
     let ih = takes_all next t steps (same_length cut x.length x.count ∙ e) in
-    let left = left_behind cut x.length x.count in
+    let left = left_following cut x.length x.count in
     let short = shorter-cons t x steps in
     let here = of_length-cons t x steps in
     let all : shorter t steps + min next.left (of_length t steps) ≤ takes next steps = ih in
     by (ordered x.length t) left short here all
   where
-    by : Order x.length t → (cut_behind cut x.length x.count).left ≡ (if x.length == cut.length then cut.left - min x.count cut.left else cut.left)
+    by : Order x.length t → (cut_following cut x.length x.count).left ≡ (if x.length == cut.length then cut.left - min x.count cut.left else cut.left)
         → shorter t (x ∷ steps) ≡ (if nat_lt x.length t then x.count else 0) + shorter t steps → of_length t (x ∷ steps) ≡ (if x.length == t then x.count else 0) + of_length t steps
-        → shorter t steps + min (cut_behind cut x.length x.count).left (of_length t steps) ≤ takes (cut_behind cut x.length x.count) steps
+        → shorter t steps + min (cut_following cut x.length x.count).left (of_length t steps) ≤ takes (cut_following cut x.length x.count) steps
         → shorter t (x ∷ steps) + min cut.left (of_length t (x ∷ steps)) ≤ takes cut (x ∷ steps)
     by order left short here ih = step order
       where
         parts : (p q : Bool) → IsLess x.length t p q → (shorter t (x ∷ steps) ≡ (if p then x.count else 0) + shorter t steps)
             × (of_length t (x ∷ steps) ≡ (if q then x.count else 0) + of_length t steps)
-            × ((cut_behind cut x.length x.count).left ≡ (if q then cut.left - min x.count cut.left else cut.left))
+            × ((cut_following cut x.length x.count).left ≡ (if q then cut.left - min x.count cut.left else cut.left))
             × (taken_of cut x.length x.count ≡ (if p then x.count else if q then min x.count cut.left else 0))
         parts p q is = (
           short ∙ ap (λ (z : Bool). (if z then x.count else 0) + shorter t steps) is.below_is,

@@ -101,5 +101,5 @@ cut_for r Order = (record { length = 0; left = 0 }, tt)
 pub some_level : EachLineHasALevel
 some_level r line =
     let (cut, is) = cut_for r line.reason in
-    let d = reason_demand r cut line.reason line.key line.behind in
+    let d = reason_demand r cut line.reason line.key line.following in
     (level_parts r.sent d, (d, (cut, is, refl), refl))

@@ -13,7 +13,7 @@ pub record IsLate (fixed : List DRule) (keys : List Key) : Type 0 where
   pub x : Key
   pub y : Key
   pub rule : DRule
-  pub behind : early < late
+  pub following : early < late
   pub is_x : slice_get keys early ≡ Some x
   pub is_y : slice_get keys late ≡ Some y
   pub has_rule : HasRule fixed y rule

@@ -89,12 +89,12 @@ abbrev pub kind_parts : List DRule → PlainDemand → Bool → List Part
 kind_parts rules d fixed = parts_below rules d fixed (length rules)
 
 -- the part is of the key that comes first, or it isn't
-abbrev pub stands : Option Key → Bool → Part → Bool
-stands front in_front part = if option_eq same_key front (Some part.key) then in_front else not in_front
+abbrev pub occurs : Option Key → Bool → Part → Bool
+occurs front in_front part = if option_eq same_key front (Some part.key) then in_front else not in_front
 
 -- the fixed rules' AVPs, then those of the first loose key, then the other loose ones
 abbrev pub level_parts : List DRule → PlainDemand → List Part
-level_parts rules d = kind_parts rules d true ++ filter (stands d.front true) (kind_parts rules d false) ++ filter (stands d.front false) (kind_parts rules d false)
+level_parts rules d = kind_parts rules d true ++ filter (occurs d.front true) (kind_parts rules d false) ++ filter (occurs d.front false) (kind_parts rules d false)
 
 -- ---- least levels
 
@@ -185,17 +185,17 @@ missing_others_demand r = demand (wants (cheapest_key r) (min (below_least (wild
 abbrev pub taken_of : Cut → ℕ → ℕ → ℕ
 taken_of cut size n = if nat_lt size cut.length then n else if size == cut.length then min n cut.left else 0
 
-abbrev pub cut_behind : Cut → ℕ → ℕ → Cut
-cut_behind cut size n = if size == cut.length then record { length = cut.length; left = cut.left - min n cut.left } else cut
+abbrev pub cut_following : Cut → ℕ → ℕ → Cut
+cut_following cut size n = if size == cut.length then record { length = cut.length; left = cut.left - min n cut.left } else cut
 
 -- how many AVPs more the rule has, and the cut after it
 abbrev pub extra_of : Reads → ℕ → Cut → DRule → ℕ
 extra_of r wanted cut rule = option_map_or (λ key. if is_listed r.accepted key then 0 else taken_of cut (r.listed key) (room_above wanted rule)) rule.key
-    (min (taken_of cut (r.floor.outer - filler r.floor) rule.min + taken_of (cut_behind cut (r.floor.outer - filler r.floor) rule.min) r.floor.outer (room_above wanted rule)) (2 ^ 64 - 1))
+    (min (taken_of cut (r.floor.outer - filler r.floor) rule.min + taken_of (cut_following cut (r.floor.outer - filler r.floor) rule.min) r.floor.outer (room_above wanted rule)) (2 ^ 64 - 1))
 
 abbrev pub cut_after : Reads → ℕ → Cut → DRule → Cut
-cut_after r wanted cut rule = option_map_or (λ key. if is_listed r.accepted key then cut else cut_behind cut (r.listed key) (room_above wanted rule)) rule.key
-    (cut_behind (cut_behind cut (r.floor.outer - filler r.floor) rule.min) r.floor.outer (room_above wanted rule))
+cut_after r wanted cut rule = option_map_or (λ key. if is_listed r.accepted key then cut else cut_following cut (r.listed key) (room_above wanted rule)) rule.key
+    (cut_following (cut_following cut (r.floor.outer - filler r.floor) rule.min) r.floor.outer (room_above wanted rule))
 
 -- so it is for each rule in turn
 abbrev pub extras_of : Reads → ℕ → Cut → List DRule → List ℕ
@@ -211,7 +211,7 @@ many_demand r cut = record { first = None; second = None; rest = cheapest_key r;
 
 -- one key after another
 abbrev pub order_demand : Reads → Option Key → Option Key → PlainDemand
-order_demand r behind key = record { first = wants behind 1; second = wants key 1; rest = cheapest_key r; front = behind; extras = []; outer = None }
+order_demand r following key = record { first = wants following 1; second = wants key 1; rest = cheapest_key r; front = following; extras = []; outer = None }
 
 -- the steps to more AVPs that the second definition doesn't list
 abbrev pub steps_to : Reads → ℕ → List Step
@@ -231,17 +231,17 @@ IsCutFor r reason cut = ⊤
 
 -- by the reason and the keys that the line reports
 abbrev pub reason_demand : Reads → Cut → Reason → Option Key → Option Key → PlainDemand
-reason_demand r cut Missing key behind = missing_demand r key
-reason_demand r cut TooMany key behind = too_many_demand r key
-reason_demand r cut NotAllowed key behind = not_allowed_demand r key
-reason_demand r cut NotAllowedOther key behind = not_allowed_demand r (outer_key r)
-reason_demand r cut MissingOthers key behind = missing_others_demand r
-reason_demand r cut TooManyOthers key behind = many_demand r cut
-reason_demand r cut Order key behind = order_demand r behind key
+reason_demand r cut Missing key following = missing_demand r key
+reason_demand r cut TooMany key following = too_many_demand r key
+reason_demand r cut NotAllowed key following = not_allowed_demand r key
+reason_demand r cut NotAllowedOther key following = not_allowed_demand r (outer_key r)
+reason_demand r cut MissingOthers key following = missing_others_demand r
+reason_demand r cut TooManyOthers key following = many_demand r cut
+reason_demand r cut Order key following = order_demand r following key
 
 -- what the line demands
 abbrev pub IsDemandOf : Reads → Line → PlainDemand → Type 0
-IsDemandOf r line d = (cut : Cut) × IsCutFor r line.reason cut × (d ≡ reason_demand r cut line.reason line.key line.behind)
+IsDemandOf r line d = (cut : Cut) × IsCutFor r line.reason cut × (d ≡ reason_demand r cut line.reason line.key line.following)
 
 -- these are the AVPs of the level that is written for the line
 abbrev pub IsLineLevel : Reads → Line → List Part → Type 0

@@ -62,12 +62,12 @@ IsFirstBefore f listed other a b outer y x = (z : Key) → MayStandBefore a b ou
 abbrev pub IsOrderAt : Floor → (Key → ℕ) → (Key → ℕ) → List DRule → List DRule → Option Key → Key → Option Line → Type 0
 IsOrderAt f listed other a b outer y None = (x : Key) → MayStandBefore a b outer y x → too_long ≤ pair_length f listed other a y x
 IsOrderAt f listed other a b outer y (Some line) = (x : Key) × MayStandBefore a b outer y x × IsFirstBefore f listed other a b outer y x × (pair_length f listed other a y x < too_long)
-    × (line ≡ record { reason = Order; key = Some y; behind = Some x; length = pair_length f listed other a y x })
+    × (line ≡ record { reason = Order; key = Some y; following = Some x; length = pair_length f listed other a y x })
 
 -- of a rule's key; the wildcard has none
 abbrev pub IsOrderOf : Floor → (Key → ℕ) → (Key → ℕ) → List DRule → List DRule → Option Key → Option Key → Option Line → Type 0
-IsOrderOf f listed other a b outer None told = told ≡ None
-IsOrderOf f listed other a b outer (Some y) told = IsOrderAt f listed other a b outer y told
+IsOrderOf f listed other a b outer None recorded = recorded ≡ None
+IsOrderOf f listed other a b outer (Some y) recorded = IsOrderAt f listed other a b outer y recorded
 
 -- the line before others, if there is one
 abbrev pub with_line : Option Line → List Line → List Line
@@ -77,8 +77,8 @@ with_line (Some line) lines = line ∷ lines
 -- the lines of the order at the keys of these rules, one by one
 abbrev pub AreOrderLines : Floor → (Key → ℕ) → (Key → ℕ) → List DRule → List DRule → Option Key → List DRule → List Line → Type 0
 AreOrderLines f listed other a b outer [] lines = lines ≡ []
-AreOrderLines f listed other a b outer (rule ∷ rules) lines = (told : Option Line) × (rest : List Line) × IsOrderOf f listed other a b outer rule.key told
-    × (lines ≡ with_line told rest) × AreOrderLines f listed other a b outer rules rest
+AreOrderLines f listed other a b outer (rule ∷ rules) lines = (recorded : Option Line) × (rest : List Line) × IsOrderOf f listed other a b outer rule.key recorded
+    × (lines ≡ with_line recorded rest) × AreOrderLines f listed other a b outer rules rest
 
 -- these lines come first, and after them those of the order
 abbrev pub HasOrderLines : Floor → (Key → ℕ) → (Key → ℕ) → List DRule → List DRule → Option Key → List Line → List Line → Type 0
@@ -89,7 +89,7 @@ abbrev pub line_of_offer : Floor → (Key → ℕ) → (Key → ℕ) → List DR
 line_of_offer f listed other a y w offer = record {
   reason = Order;
   key = Some y;
-  behind = offer.key;
+  following = offer.key;
   length = with_others f.base (filler f) (w + by_wild (rule_of a y)) (capped (offer.length + beyond listed other y (rule_of a y))) f.wild;
 }
 

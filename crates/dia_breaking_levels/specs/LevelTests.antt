@@ -159,7 +159,7 @@ length_of Order f most listed other a b rule = too_long
 abbrev pub line_of : Reason → Floor → ℕ → (Key → ℕ) → (Key → ℕ) → List DRule → List DRule → DRule → Option Line
 line_of reason f most listed other a b rule =
     if nat_lt (length_of reason f most listed other a b rule) too_long then Some
-    (record { reason = reason; key = rule.key; behind = None; length = length_of reason f most listed other a b rule }) else None
+    (record { reason = reason; key = rule.key; following = None; length = length_of reason f most listed other a b rule }) else None
 
 -- the lines of each reason of counts, in the order of the rules
 abbrev pub lines_of : Floor → ℕ → (Key → ℕ) → (Key → ℕ) → List DRule → List DRule → List Line

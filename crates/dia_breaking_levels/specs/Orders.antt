@@ -7,10 +7,10 @@ use Rattle.dia_valid.specs.Rules.{HasRule}
 use Rattle.dia_breaking_levels.specs.CountsAndRanks.{rank}
 
 -- one key precedes another
-pub record StandsBefore (x y : Key) (keys : List Key) : Type 0 where
+pub record OccursBefore (x y : Key) (keys : List Key) : Type 0 where
   pub early : ℕ
   pub late : ℕ
-  pub behind : early < late
+  pub following : early < late
   pub is_x : slice_get keys early ≡ Some x
   pub is_y : slice_get keys late ≡ Some y
 

@@ -1,7 +1,7 @@
 //! How many AVPs are taken of each step.
 ghost use Rattle.std.specs.Prelude.{◌≡◌, IfOk, fold};
 ghost use Rattle.dia_valid.specs.Rules.{rules_in};
-ghost use Rattle.dia_breaking_levels.specs.Chosen.{cut_after, cut_behind, extra_of, extras_of, reads, taken_of};
+ghost use Rattle.dia_breaking_levels.specs.Chosen.{cut_after, cut_following, extra_of, extras_of, reads, taken_of};
 ghost use Rattle.dia_breaking_levels.specs.Cuts.{IsCut, cut_step};
 ghost use Rattle.dia_breaking_levels.specs.LevelTests.{filler};
 
@@ -23,7 +23,7 @@ impl Cut {
     /// How many AVPs of a step are taken.
     fn take(&mut self, length: u64, count: u64) -> u64
         ensures taken { result ≡ taken_of self.old length count }
-        ensures behind { self.new ≡ cut_behind self.old length count }
+        ensures following { self.new ≡ cut_following self.old length count }
     {
         if length < self.length {
             count
@@ -100,7 +100,7 @@ fn extra<A: Book, B: Book, C: Costs>(
         (reads (rules_in (A.meaning a.now.book.now) a.now.def) (rules_in (B.meaning b.now.book.now) b.now.def)
         (C.listed_length costs.now) (C.other_length costs.now) (C.other_keys costs.now) floor.now)
         wanted cut.old rule.now }
-    ensures behind { cut.new ≡ cut_after
+    ensures following { cut.new ≡ cut_after
         (reads (rules_in (A.meaning a.now.book.now) a.now.def) (rules_in (B.meaning b.now.book.now) b.now.def)
         (C.listed_length costs.now) (C.other_length costs.now) (C.other_keys costs.now) floor.now)
         wanted cut.old rule.now }

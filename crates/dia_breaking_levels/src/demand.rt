@@ -151,7 +151,7 @@ pub(crate) fn demand_of_line<A: Book, B: Book, C: Costs>(
         Reason::NotAllowedOther => Ok(of_not_allowed_other(alloc, a, b, costs, floor)),
         Reason::MissingOthers => Ok(of_missing_others(alloc, a, b, costs, floor)),
         Reason::TooManyOthers => of_too_many_others(alloc, a, b, costs, floor),
-        Reason::Order => Ok(of_order(alloc, a, b, costs, floor, line.behind, line.key)),
+        Reason::Order => Ok(of_order(alloc, a, b, costs, floor, line.following, line.key)),
     }
 }
 
@@ -242,19 +242,19 @@ fn of_order<A: Book, B: Book, C: Costs>(
     b: &Rules<'_, B>,
     costs: &C,
     floor: &Floor,
-    behind: Option<Key>,
+    following: Option<Key>,
     key: Option<Key>,
 ) -> Demand
     ensures { plain_demand result ≡ order_demand
         (reads (rules_in (A.meaning a.now.book.now) a.now.def) (rules_in (B.meaning b.now.book.now) b.now.def)
         (C.listed_length costs.now) (C.other_length costs.now) (C.other_keys costs.now) floor.now)
-        behind key }
+        following key }
 {
     Demand {
-        first: wants(behind, 1),
+        first: wants(following, 1),
         second: wants(key, 1),
         rest: fillers_of(a, b, costs, floor).cheapest,
-        front: behind,
+        front: following,
         extras: Vec::new(alloc),
         outer: None,
     }

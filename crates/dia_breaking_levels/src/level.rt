@@ -204,7 +204,7 @@ impl<'a, A: Book, B: Book, C: Costs> Level<'a, A, B, C> {
             Some(Line {
                 reason,
                 key: rule.key,
-                behind: None,
+                following: None,
                 length,
             })
         } else {

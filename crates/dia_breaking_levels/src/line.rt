@@ -53,7 +53,7 @@ pub struct Line {
     /// The key of the reported AVP, and none where the wildcard counts.
     pub key: Option<Key>,
     /// The key that precedes it, where the reason is the order.
-    pub behind: Option<Key>,
+    pub following: Option<Key>,
     /// What such a level takes at least, in bytes.
     pub length: u64,
 }

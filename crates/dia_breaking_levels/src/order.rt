@@ -218,7 +218,7 @@ impl<'a, A: Book, B: Book, C: Costs> Level<'a, A, B, C> {
         Line {
             reason: Reason::Order,
             key: Some(y),
-            behind: offer.key,
+            following: offer.key,
             length: with_others(
                 self.floor.base,
                 self.floor.filler(),
@@ -261,7 +261,7 @@ impl<'a, A: Book, B: Book, C: Costs> Level<'a, A, B, C> {
     }
 
     /// The line of the key at a place of `b`, if it has a fixed rule there, and some level that isn't too long shows it.
-    fn told_at(&self, offers: &Offers, at: usize, key: Option<Key>) -> Option<Line>
+    fn recorded_at(&self, offers: &Offers, at: usize, key: Option<Key>) -> Option<Line>
         requires first { AreRules (rules_in (A.meaning self.now.a.book.now) self.now.a.def) }
         requires second { AreRules (rules_in (B.meaning self.now.b.book.now) self.now.b.def) }
         requires offers { AreOffers (rules_in (A.meaning self.now.a.book.now) self.now.a.def) offers.now }
@@ -336,7 +336,7 @@ impl<'a, A: Book, B: Book, C: Costs> Level<'a, A, B, C> {
         while left > 0 {
             left -= 1;
             let key = rules[left].key;
-            push_told(&mut lines, self.told_at(&offers, left, key))?;
+            push_recorded(&mut lines, self.recorded_at(&offers, left, key))?;
             self.offer_at(&mut offers, left, key);
         }
         Ok(lines)
@@ -376,10 +376,10 @@ fn unless_long(line: Line) -> Option<Line>
 }
 
 /// Adds a line, if there is one.
-fn push_told(lines: &mut Vec<Line>, told: Option<Line>) -> Result<(), AllocError>
-    ensures { OnOk result (lines.new.items ≡ lines.old.items ++ with_line told []) }
+fn push_recorded(lines: &mut Vec<Line>, recorded: Option<Line>) -> Result<(), AllocError>
+    ensures { OnOk result (lines.new.items ≡ lines.old.items ++ with_line recorded []) }
 {
-    match told {
+    match recorded {
         Some(line) => lines.push(line)?,
         None => {}
     }

@@ -2,7 +2,7 @@
 ghost use Rattle.std.specs.Prelude.{◌≡◌, ◌∷◌, ◌++◌, [], IfOk, OnOk, filter};
 ghost use Rattle.dia_valid.specs.Rules.{rules_in};
 ghost use Rattle.dia_breaking_levels.specs.Chosen.{count_of, extra_at, is_of_kind, kind_parts, level_parts, other_count, other_parts};
-ghost use Rattle.dia_breaking_levels.specs.Chosen.{parts_at, parts_by, parts_of, plain_demand, rule_parts, stands, wild_parts};
+ghost use Rattle.dia_breaking_levels.specs.Chosen.{parts_at, parts_by, parts_of, plain_demand, rule_parts, occurs, wild_parts};
 
 use crate::demand::{Demand, Wanted};
 use crate::line::Part;
@@ -184,8 +184,8 @@ fn kind_parts<A: Book>(
 }
 
 /// Whether the part is of this key, or whether it isn't.
-fn stands(part: &Part, front: Option<Key>, in_front: bool) -> bool
-    ensures { result ≡ stands front in_front part.now }
+fn occurs(part: &Part, front: Option<Key>, in_front: bool) -> bool
+    ensures { result ≡ occurs front in_front part.now }
 {
     if front == Some(part.key) {
         in_front
@@ -201,7 +201,7 @@ fn push_parts(
     front: Option<Key>,
     in_front: bool,
 ) -> Result<(), AllocError>
-    ensures { OnOk result (level.new.items ≡ level.old.items ++ filter (stands front in_front) parts.now) }
+    ensures { OnOk result (level.new.items ≡ level.old.items ++ filter (occurs front in_front) parts.now) }
 {
     for part in parts {
         push_if(level, part, front, in_front)?;
@@ -215,9 +215,9 @@ fn push_if(
     front: Option<Key>,
     in_front: bool,
 ) -> Result<(), AllocError>
-    ensures { OnOk result (level.new.items ≡ level.old.items ++ filter (stands front in_front) (part.now ∷ [])) }
+    ensures { OnOk result (level.new.items ≡ level.old.items ++ filter (occurs front in_front) (part.now ∷ [])) }
 {
-    if stands(part, front, in_front) {
+    if occurs(part, front, in_front) {
         level.push(*part)?;
     }
     Ok(())

@@ -31,10 +31,10 @@ entry_last [] x (suc e) is = absurd (omega (arith, is))
 entry_last (y ∷ xs) x zero is = absurd (omega (arith, is))
 entry_last (y ∷ xs) x (suc e) is = entry_last xs x e (omega (arith, is))
 
-pub entry_behind : (xs : List ℕ) (e : ℕ) → length xs ≤ e → entry_length xs e ≡ too_long
-entry_behind [] e le = refl
-entry_behind (x ∷ xs) zero le = absurd (omega (arith, le))
-entry_behind (x ∷ xs) (suc e) le = entry_behind xs e (omega (arith, le))
+pub entry_after : (xs : List ℕ) (e : ℕ) → length xs ≤ e → entry_length xs e ≡ too_long
+entry_after [] e le = refl
+entry_after (x ∷ xs) zero le = absurd (omega (arith, le))
+entry_after (x ∷ xs) (suc e) le = entry_after xs e (omega (arith, le))
 
 pub pushed_length : {X : Type 0} (new xs : List X) (x : X) (n : ℕ) → new ≡ xs ++ x ∷ [] → length xs ≡ n → length new ≡ n + 1
 pushed_length new xs x n is size = let all = ap length is in let more = length-append xs (x ∷ []) in omega (arith, all, more, size)
@@ -117,7 +117,7 @@ leaves_kept d least sound size unknown all = record {
   where
     by : (e : ℕ) → (e < length d.entries) ⊎ (length d.entries ≤ e) → (8 ≤ entry_length least.lengths.items e) × (entry_length least.lengths.items e ≤ too_long)
     by e (inl lt) = let x = there d.entries e lt in leaf_within x.0 (entry_length least.lengths.items e) (all e x.0 lt x.1)
-    by e (inr le) = let is = entry_behind least.lengths.items e (omega (arith, le, size)) in (omega (arith, is), omega (arith, is))
+    by e (inr le) = let is = entry_after least.lengths.items e (omega (arith, le, size)) in (omega (arith, is), omega (arith, is))
 
 -- ---- ranks, one after the other
 

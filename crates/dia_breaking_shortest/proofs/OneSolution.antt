@@ -14,7 +14,7 @@ use Rattle.dia_breaking_shortest.specs.Exact.{AreExact, IsFillerLength, IsGroupL
 use Rattle.dia_breaking_shortest.specs.Floors.{shortest_head}
 use Rattle.dia_breaking_shortest.specs.Lengths.{IsLeafLength, entry_length, unknown_length, length_of}
 use Rattle.dia_breaking_shortest.proofs.FloorsOfAvps.{rounded_more}
-use Rattle.dia_breaking_shortest.proofs.LeafLengths.{entry_behind, leaf_within, there}
+use Rattle.dia_breaking_shortest.proofs.LeafLengths.{entry_after, leaf_within, there}
 use Rattle.dia_breaking_shortest.proofs.LessLevels.{base_less, group_less, level_within}
 
 leaf_no_more : (entry : DictEntry) (n m : ℕ) → IsLeafLength entry n → IsLeafLength entry m → n ≤ m
@@ -36,7 +36,7 @@ short d sends lengths exact e = by (cases_lt e (length d.entries))
 
     by : (e < length d.entries) ⊎ (length d.entries ≤ e) → entry_length lengths e ≤ too_long
     by (inl lt) = let x = there d.entries e lt in of x.0 x.1 x.0.group refl
-    by (inr le) = let size = exact.size in let is = entry_behind lengths e (omega (arith, le, size)) in omega (arith, is)
+    by (inr le) = let size = exact.size in let is = entry_after lengths e (omega (arith, le, size)) in omega (arith, is)
 
 module _ (d : Dictionary) (xs ys : List ℕ) where
   -- of the lengths below v, none is more in the second list
@@ -93,9 +93,9 @@ module _ (d : Dictionary) (xs ys : List ℕ) where
 
         by : (e < length d.entries) ⊎ (length d.entries ≤ e) → entry_length ys e ≤ entry_length xs e
         by (inl lt) = let i = there d.entries e lt in of i.0 i.1 i.0.group refl
-        by (inr behind) =
+        by (inr following) =
             let size = x.size in
-            let is = entry_behind xs e (omega (arith, behind, size)) in
+            let is = entry_after xs e (omega (arith, following, size)) in
             let most = short d sends ys y e in
             omega (arith, is, most)
 

@@ -73,9 +73,9 @@ avp_size key m content =
     let all = length-append (head ++ content) (padding (length content)) in
     let front = length-append head content in
     let own = head_size key m (shortest_head key + length content) in
-    let behind = padding_length (length content) in
+    let following = padding_length (length content) in
     let sum = either_head key.vendor (length content) in
-    omega (arith, all, front, own, behind, sum)
+    omega (arith, all, front, own, following, sum)
 
 -- ---- an AVP
 
@@ -97,7 +97,7 @@ avp_spelled key m content small = record {
   };
   vendor_field = vendor_says key.vendor;
   agrees = v_agrees key.vendor m;
-  short_padding = let behind = padding_length (length content) in omega (arith, behind);
+  short_padding = let following = padding_length (length content) in omega (arith, following);
   aligned = let size = avp_size key m content in omega (arith, size);
 }
 

@@ -63,7 +63,7 @@ whole_spelled key size b w short =
 pub record IsGroup (rules : List DRule) (key : Key) (size : ℕ) (b : List ℕ) : Type 0 where
   pub whole : IsWhole key size b
   pub level : IsSpelled whole.content
-  pub behind : drop (shortest_head key) b ≡ whole.content
+  pub following : drop (shortest_head key) b ≡ whole.content
   pub sum : shortest_head key + length whole.content ≡ size
   pub empty : ((r : DRule) → IsIn r rules → r.min ≡ 0) → whole.content ≡ []
 
@@ -181,7 +181,7 @@ group_whole rules key m n size content is even spelled nothing all short =
         takes = omega (arith, up, own, even);
       };
       level = spelled;
-      behind = subst (λ (j : ℕ). drop j (head_bytes key m n ++ content) ≡ content) (head_size key m n) (drop-append_seam (head_bytes key m n) content);
+      following = subst (λ (j : ℕ). drop j (head_bytes key m n ++ content) ≡ content) (head_size key m n) (drop-append_seam (head_bytes key m n) content);
       sum = sym up;
       empty = nothing;
     }
@@ -381,7 +381,7 @@ levels_spelled d who least is key entry group knows some short =
       is_key = said_key key w.m w.content;
       spells = subst (Spells (said_avp key w.m w.content)) (sym w.are) (avp_spelled key w.m w.content (omega (arith, takes, short)));
       level = all.level.1;
-      behind = all.behind;
+      following = all.following;
       sum = all.sum;
       empty = λ none. all.empty (λ r i. none r (contains_in group.rules r i));
     }

@@ -78,7 +78,7 @@ pub record IsOneGroup (rules : List DRule) (key : Key) (n : ℕ) (bytes : List �
   pub is_key : IsSpellable key → key_of avp ≡ key
   pub spells : Spells avp bytes
   pub level : SpellsAll avps avp.bytes
-  pub behind : drop (shortest_head key) bytes ≡ avp.bytes
+  pub following : drop (shortest_head key) bytes ≡ avp.bytes
   pub sum : shortest_head key + length avp.bytes ≡ n
   pub empty : ((r : DRule) → Contains rules r → r.min ≡ 0) → avp.bytes ≡ []
 

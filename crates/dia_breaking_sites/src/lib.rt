@@ -10,7 +10,7 @@ mod sent;
 
 pub use dia_policy::Sends;
 pub use safe::{
-    few_headers_tell, levels_are_read, levels_keep_to_room, safe_sites_include,
+    few_headers_report, levels_are_read, levels_keep_to_room, safe_sites_include,
     safe_sites_read_levels,
 };
 pub use sent::{sent_is_valid, valid_is_sent};

@@ -34,7 +34,7 @@ pub fn safe_sites_include()
 
 /// A few headers of a command represent all: that of its application; for a command without one, those of the applications that
 /// B alone names and that of one that neither dictionary names; and for errors any one.
-pub fn few_headers_tell()
+pub fn few_headers_report()
     ensures { (da db : Dictionary) (sites : List Site) (refuses : Bool) (forbids : FlagTest) (c : ℕ)
         (command : PlainDefinition) → IsDictionary da → IsDictionary db
         → slice_get (definitions da) c ≡ Some command

@@ -77,11 +77,11 @@ fn check_row(rt: &(impl AllocGlobal + Abort), names: &Names, row: &Row<'_>) -> R
 fn check_pair<A: Book, B: Book>(rt: &impl Abort, a: &A, b: &B, row: &Row<'_>) -> Result<(), Fail> {
     let (sends, unknown) = sides_of(field(row.call, 0))?;
     let found = avp_breaks(a, b, X, sends, unknown);
-    same(rt, told(found.head), row.wanted, row.line);
+    same(rt, recorded(found.head), row.wanted, row.line);
     Ok(())
 }
 
-fn told(head: Option<HeadBreak>) -> &'static str {
+fn recorded(head: Option<HeadBreak>) -> &'static str {
     match head {
         None => "-",
         Some(HeadBreak::Unknown { m: false }) => "unknown clear",
@@ -106,7 +106,7 @@ fn policy_of(word: &str) -> Result<Unknown, RowFault> {
 }
 
 #[test]
-fn tells_flags(rt: HostRuntime) -> Result<(), Fail> {
+fn records_flags(rt: HostRuntime) -> Result<(), Fail> {
     let mut names = Names::new(rt.alloc());
     check_rows(&rt, &mut names, ROWS)
 }

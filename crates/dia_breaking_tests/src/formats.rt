@@ -225,7 +225,7 @@ fn check_pair<A: Book, B: Book>(
     row: &Row<'_>,
 ) -> Result<(), Fail> {
     let found = avp_breaks(a, b, X, Sends::Any, Unknown::Kept);
-    let told = match found.data {
+    let recorded = match found.data {
         DataBreak::Data(data) => return check_data(rt, a, b, data.as_slice(), row),
         DataBreak::Fits => "-",
         DataBreak::Groups { .. } => "site",
@@ -233,7 +233,7 @@ fn check_pair<A: Book, B: Book>(
         DataBreak::EightBytes => "eight",
         DataBreak::Undecided => "undecided",
     };
-    same(rt, told, row.wanted, row.line);
+    same(rt, recorded, row.wanted, row.line);
     Ok(())
 }
 
@@ -245,8 +245,8 @@ fn check_data<A: Book, B: Book>(
     data: &[u8],
     row: &Row<'_>,
 ) -> Result<(), Fail> {
-    let told = print_value(rt.alloc(), &Format::OctetString, data)?;
-    same(rt, told.as_str(), row.wanted, row.line);
+    let recorded = print_value(rt.alloc(), &Format::OctetString, data)?;
+    same(rt, recorded.as_str(), row.wanted, row.line);
     is_shortest(rt, a, b, data, row.line);
     Ok(())
 }
@@ -289,7 +289,7 @@ fn is_group<B: Book>(book: &B) -> bool {
 }
 
 #[test]
-fn tells_all_pairs_of_formats(rt: HostRuntime) -> Result<(), Fail> {
+fn records_all_pairs_of_formats(rt: HostRuntime) -> Result<(), Fail> {
     let mut names = Names::new(rt.alloc());
     names.learn_all(FORMATS)?;
     let count = check_rows(&rt, &mut names, PAIRS)?;
@@ -298,7 +298,7 @@ fn tells_all_pairs_of_formats(rt: HostRuntime) -> Result<(), Fail> {
 }
 
 #[test]
-fn tells_shortest_data(rt: HostRuntime) -> Result<(), Fail> {
+fn records_shortest_data(rt: HostRuntime) -> Result<(), Fail> {
     let mut names = Names::new(rt.alloc());
     names.learn_all(FORMATS)?;
     check_rows(&rt, &mut names, OTHERS)?;

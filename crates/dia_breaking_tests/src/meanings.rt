@@ -98,7 +98,7 @@ any | $X $T { X } | %avp X 9002 Float32 must $T { X } => T: m-bit X: M clear sen
 ";
 
 #[test]
-fn tells_what_is_read_as_another_format(rt: HostRuntime) -> Result<(), Fail> {
+fn records_what_is_read_as_another_format(rt: HostRuntime) -> Result<(), Fail> {
     let mut names = Names::new(rt.alloc());
     names.learn_all(TEXTS)?;
     check_rows(&rt, &mut names, Asked::Meanings, MEANINGS)?;

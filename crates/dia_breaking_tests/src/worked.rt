@@ -309,7 +309,7 @@ fn push_without_blanks(text: &mut String, message: &str) -> Result<(), AllocErro
 }
 
 #[test]
-fn tells_what_breaks(rt: HostRuntime) -> Result<(), Fail> {
+fn records_what_breaks(rt: HostRuntime) -> Result<(), Fail> {
     let mut names = Names::new(rt.alloc());
     check_rows(&rt, &mut names, Asked::Breaks, ROWS)
 }

@@ -90,11 +90,11 @@ later g S T R W w v i h s e =
     later_by g T R W s own there o.0 o.1 (v.shortest s.place o.0 o.1)
 
 -- where the other walk has its step to the place
-record Stands (T : List Step) (i : ℕ) (s : Step) : Type 0 where
+record Occurs (T : List Step) (i : ℕ) (s : Step) : Type 0 where
   at : ℕ
   step : Step
   is_at : slice_get T at ≡ Some step
-  behind : i ≤ at
+  following : i ≤ at
   same_place : step.place ≡ s.place
   no_longer : step.way ≤ s.way
 
@@ -103,22 +103,22 @@ shorter least x y (inl h) = omega arith
 shorter least x y (inr h) = omega arith
 
 -- a step's place comes no earlier
-behind_by : (g : Graph) (S : List Step) (R : List (Option Reach)) → IsWalk g S R → (i : ℕ) (s : Step) → slice_get S i ≡ Some s → (t : Step) (j : ℕ) → t.place ≡ s.place
+after_by : (g : Graph) (S : List Step) (R : List (Option Reach)) → IsWalk g S R → (i : ℕ) (s : Step) → slice_get S i ≡ Some s → (t : Step) (j : ℕ) → t.place ≡ s.place
     → (j < i → slice_get S j ≡ Some t) → i ≤ j
-behind_by g S R w i s e t j same at = elim (cases_lt j i) [
+after_by g S R w i s e t j same at = elim (cases_lt j i) [
   | inl below ↦ absurd (not_before_itself t s (one_step g R t s (w.to_reached j t (at below)) (w.to_reached i s e) same) (w.ordered j i t s below (at below) e))
   | inr above ↦ above
 ]
 
-stands : (g : Graph) (S T : List Step) (R W : List (Option Reach)) → IsWalk g S R → IsWalk g T W → (i : ℕ) → Agree i S T → (s : Step) → slice_get S i ≡ Some s → Later g R W s → Stands T i s
-stands g S T R W w v i h s e l =
+occurs : (g : Graph) (S T : List Step) (R W : List (Option Reach)) → IsWalk g S R → IsWalk g T W → (i : ℕ) → Agree i S T → (s : Step) → slice_get S i ≡ Some s → Later g R W s → Occurs T i s
+occurs g S T R W w v i h s e l =
     let t = step_to s.place l.own.level l.other in
     let f = at_contains T t (v.to_all s.place l.own.level l.other l.own.is_level l.is_other) in
     record {
       at = f.0;
       step = t;
       is_at = f.1;
-      behind = behind_by g S R w i s e t f.0 refl (λ below. h f.0 below ∙ f.1);
+      following = after_by g S R w i s e t f.0 refl (λ below. h f.0 below ∙ f.1);
       same_place = refl;
       no_longer = subst (λ (x : ℕ). l.other.length - l.own.level.least ≤ x) (sym (ap (λ (x : Step). x.way) l.own.is_step)) (shorter l.own.level.least l.other l.own.reach l.nearer);
     }
@@ -139,7 +139,7 @@ no_later x t s (inr h) e le = elim (cases_lt t.way s.way) [ inl less ↦ inl (om
 no_later_itself : (t s : Step) → t.place ≡ s.place → t.way ≤ s.way → NotAfter t s
 no_later_itself t s e le = elim (cases_lt t.way s.way) [ inl less ↦ inl less | inr same ↦ inr (omega arith, omega arith) ]
 
-next_by : (g : Graph) (T : List Step) (W : List (Option Reach)) → IsWalk g T W → (i : ℕ) (s : Step) → Stands T i s → Next T i s
+next_by : (g : Graph) (T : List Step) (W : List (Option Reach)) → IsWalk g T W → (i : ℕ) (s : Step) → Occurs T i s → Next T i s
 next_by g T W v i s st = elim (cases_lt i st.at) [
   | inl below ↦
       let inside : i < length T = let a = slice_get_within T st.at st.step st.is_at in omega arith in
@@ -147,12 +147,12 @@ next_by g T W v i s st = elim (cases_lt i st.at) [
       let e = slice_get-get_or T i st.step inside in
       record { step = x; is_next = e; not_after = no_later x st.step s (v.ordered i st.at x st.step below e st.is_at) st.same_place st.no_longer }
   | inr above ↦
-      let same : st.at ≡ i = let b = st.behind in omega arith in
+      let same : st.at ≡ i = let b = st.following in omega arith in
       record { step = st.step; is_next = ap (λ (k : ℕ). slice_get T k) (sym same) ∙ st.is_at; not_after = no_later_itself st.step s st.same_place st.no_longer }
 ]
 
 next : (g : Graph) (S T : List Step) (R W : List (Option Reach)) → IsWalk g S R → IsWalk g T W → (i : ℕ) → Agree i S T → (s : Step) → slice_get S i ≡ Some s → Next T i s
-next g S T R W w v i h s e = next_by g T W v i s (stands g S T R W w v i h s e (later g S T R W w v i h s e))
+next g S T R W w v i h s e = next_by g T W v i s (occurs g S T R W w v i h s e (later g S T R W w v i h s e))
 
 not_after_both : (s t : Step) → NotAfter s t → NotAfter t s → s.place ≡ t.place
 not_after_both s t (inl h) (inl k) = omega arith

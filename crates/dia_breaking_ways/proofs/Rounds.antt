@@ -155,8 +155,8 @@ not_both s t (inl h) (inr k) = omega (arith, h, k.0)
 not_both s t (inr h) (inl k) = omega (arith, h.0, k)
 not_both s t (inr h) (inr k) = omega (arith, h.1, k.1)
 
-behind : (x : Step) (xs : List Step) → AreOrdered (x ∷ xs) → AreOrdered xs
-behind x xs up i j s t less at_i at_j = up (suc i) (suc j) s t (omega (arith, less)) at_i at_j
+following : (x : Step) (xs : List Step) → AreOrdered (x ∷ xs) → AreOrdered xs
+following x xs up i j s t less at_i at_j = up (suc i) (suc j) s t (omega (arith, less)) at_i at_j
 
 -- the first of one list is the first of the other
 first_same : (n : ℕ) (x y : Step) (xs ys : List Step) → AreOrdered (x ∷ xs) → AreOrdered (y ∷ ys) → AreIn n (x ∷ xs) (y ∷ ys) → AreIn n (y ∷ ys) (x ∷ xs) → x.way < n → x ≡ y
@@ -188,7 +188,7 @@ same_places n (x ∷ xs) (y ∷ ys) up down into back zero s at below =
 same_places n (x ∷ xs) (y ∷ ys) up down into back (suc i) s at below =
     let le = way_up x s (up zero (suc i) x s (omega arith) refl at) in
     let same = first_same n x y xs ys up down into back (omega (arith, le, below)) in
-    same_places n xs ys (behind x xs up) (behind y ys down) (rest_in n x y xs ys same up into) (rest_in n y x ys xs (sym same) down back) i s at below
+    same_places n xs ys (following x xs up) (following y ys down) (rest_in n x y xs ys same up into) (rest_in n y x ys xs (sym same) down back) i s at below
 
 -- ---- rounds
 

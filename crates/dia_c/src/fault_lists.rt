@@ -4,9 +4,9 @@ ghost use Rattle.std.specs.Prelude.{◌⊎◌, ◌≡◌, ◌≢◌, ◌≤◌, 
 ghost use Rattle.dia_explain_places.specs.Places.{line_at, column_at};
 ghost use Rattle.dia_c_calls.specs.AllFaults.{AreFaultsOf};
 ghost use Rattle.dia_c_calls.specs.Held.{faults_in};
-ghost use Rattle.dia_c_calls.specs.PlainFaults.{IsToldFault};
+ghost use Rattle.dia_c_calls.specs.PlainFaults.{IsRecordedFault};
 
-use dia_c_calls::{DONE, FaultsHandle, IS_CLOSED, IS_OPEN, NO_MEMORY, NONE, ToldFault};
+use dia_c_calls::{DONE, FaultsHandle, IS_CLOSED, IS_OPEN, NO_MEMORY, NONE, RecordedFault};
 use std::alloc::Global;
 
 /// Finds all faults of a dictionary's text.
@@ -35,12 +35,12 @@ pub extern "C" fn dia_faults_get(
     alloc: Global,
     handle: &mut FaultsHandle,
     index: usize,
-    fault: &mut ToldFault,
+    fault: &mut RecordedFault,
 ) -> u32
     ensures ends { (result ≡ DONE) ⊎ (result ≡ NONE) ⊎ (result ≡ IS_CLOSED) }
     ensures kept { handle.new.slot.seal.held ≡ handle.old.slot.seal.held }
     ensures done { result ≡ DONE → IfSome (faults_in handle.old.slot.seal.held)
-        (λ faults. IfSome (slice_get faults index) (λ f. IsToldFault f fault.new)) }
+        (λ faults. IfSome (slice_get faults index) (λ f. IsRecordedFault f fault.new)) }
     ensures some { result ≡ DONE → IfSome (faults_in handle.old.slot.seal.held) (λ faults. index < length faults) }
     ensures none { result ≡ NONE → IfSome (faults_in handle.old.slot.seal.held) (λ faults. length faults ≤ index) }
     ensures only { result ≢ DONE → fault.new ≡ fault.old }

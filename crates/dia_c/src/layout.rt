@@ -2,7 +2,7 @@
 
 use dia_c_calls::{
     DictHandle, FaultsHandle, Fed, PeerAddress, PeerApp, PeerHandle, PeerNumbers, Problem,
-    StreamHandle, TextHandle, ToldFault, Verdict,
+    RecordedFault, StreamHandle, TextHandle, Verdict,
 };
 
 const _: () = prove!(size_of::<DictHandle>() == 16);
@@ -17,7 +17,7 @@ const _: () = prove!(size_of::<StreamHandle>() == 16);
 
 const _: () = prove!(size_of::<Problem>() == 12);
 
-const _: () = prove!(size_of::<ToldFault>() == 296);
+const _: () = prove!(size_of::<RecordedFault>() == 296);
 
 const _: () = prove!(size_of::<Verdict>() == 32);
 

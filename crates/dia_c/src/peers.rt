@@ -3,8 +3,8 @@
 ghost use Rattle.std.specs.Prelude.{◌⊎◌, ◌≡◌, ◌≢◌, ◌<◌, ◌≤◌, [], drop, length, slice_get, take, IfSome, IsSome, None};
 ghost use Rattle.dia_peer.specs.Outputs.{PlainOutput};
 ghost use Rattle.dia_c_calls.specs.Held.{Takes, peer_in};
-ghost use Rattle.dia_c_calls.specs.Peers.{HasFault, IsBegun, IsManner, IsRole, ServesAs, config_of, told_pair};
-ghost use Rattle.dia_c_calls.specs.PeerSteps.{HasHappened, IsEventNumber, IsToldOutput, WantsRoom, state_number};
+ghost use Rattle.dia_c_calls.specs.Peers.{HasFault, IsBegun, IsManner, IsRole, ServesAs, config_of, recorded_pair};
+ghost use Rattle.dia_c_calls.specs.PeerSteps.{HasHappened, IsEventNumber, IsRecordedOutput, WantsRoom, state_number};
 
 use dia_c_calls::{
     BAD_ARGUMENT, DONE, IS_CLOSED, IS_OPEN, NO_MEMORY, NO_ROOM, NONE, OUTPUTS_LEFT, PeerAddress,
@@ -115,7 +115,7 @@ pub extern "C" fn dia_peer_output(
     ensures ends { (result ≡ DONE) ⊎ (result ≡ NONE) ⊎ (result ≡ NO_ROOM) ⊎ (result ≡ IS_CLOSED) }
     ensures done { result ≡ DONE → (taken : PlainOutput)
         × Takes (peer_in handle.old.slot.seal.held) (peer_in handle.new.slot.seal.held) taken
-        × IsToldOutput taken output.new (take count.new out.new) why.new }
+        × IsRecordedOutput taken output.new (take count.new out.new) why.new }
     ensures count { result ≡ DONE → count.new ≤ length out.new }
     ensures is_open { result ≡ DONE → IsSome (peer_in handle.new.slot.seal.held) }
     ensures kept { result ≢ DONE → handle.new.slot.seal.held ≡ handle.old.slot.seal.held }
@@ -157,7 +157,7 @@ pub extern "C" fn dia_peer_common(
     ensures ends { (result ≡ DONE) ⊎ (result ≡ NONE) ⊎ (result ≡ IS_CLOSED) }
     ensures kept { handle.new.slot.seal.held ≡ handle.old.slot.seal.held }
     ensures done { result ≡ DONE → IfSome (peer_in handle.old.slot.seal.held)
-        (λ peer. IfSome (slice_get peer.core.common index) (λ p. app.new ≡ told_pair p)) }
+        (λ peer. IfSome (slice_get peer.core.common index) (λ p. app.new ≡ recorded_pair p)) }
     ensures some { result ≡ DONE → IfSome (peer_in handle.old.slot.seal.held) (λ peer. index < length peer.core.common) }
     ensures none { result ≡ NONE → IfSome (peer_in handle.old.slot.seal.held) (λ peer. length peer.core.common ≤ index) }
     ensures closed { result ≡ IS_CLOSED → handle.old.slot.seal.held ≡ None }

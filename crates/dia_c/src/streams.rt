@@ -1,8 +1,8 @@
 //! Messages that come in pieces: opened, fed, asked, finished, closed.
 
 ghost use Rattle.std.specs.Prelude.{◌⊎◌, ◌≡◌, ◌≢◌, ◌↔◌, [], None, IfSome, IsSome};
-ghost use Rattle.dia_c_calls.specs.Held.{StandsFor, dict_in};
-ghost use Rattle.dia_c_calls.specs.Streams.{HasFed, HasFinished, HasLevels, IsKept, IsSpent, OpensIn, StandsForNone};
+ghost use Rattle.dia_c_calls.specs.Held.{Denotes, dict_in};
+ghost use Rattle.dia_c_calls.specs.Streams.{HasFed, HasFinished, HasLevels, IsKept, IsSpent, OpensIn, DenotesNone};
 ghost use Rattle.dia_c_calls.specs.Verdicts.{IsUnknownPolicy, limit_of, policy_of};
 
 use dia_c_calls::{
@@ -23,7 +23,7 @@ pub extern "C" fn dia_stream_open(
     ensures ends { (result ≡ DONE) ⊎ (result ≡ NO_MEMORY) ⊎ (result ≡ IS_OPEN) ⊎ (result ≡ IS_CLOSED) ⊎ (result ≡ BAD_ARGUMENT) }
     ensures kept_dict { handle.new.slot.seal.held ≡ handle.old.slot.seal.held }
     ensures done { result ≡ DONE → IfSome (dict_in handle.old.slot.seal.held)
-        (λ d. StandsFor stream.new.slot.seal.held d (policy_of unknown) (limit_of levels) []) }
+        (λ d. Denotes stream.new.slot.seal.held d (policy_of unknown) (limit_of levels) []) }
     ensures kept { result ≢ DONE → stream.new.slot.seal.held ≡ stream.old.slot.seal.held }
     ensures was_closed { result ≢ IS_OPEN → result ≢ BAD_ARGUMENT → stream.old.slot.seal.held ≡ None }
     ensures was_open { result ≡ IS_OPEN → IsSome stream.old.slot.seal.held }
@@ -49,7 +49,7 @@ pub extern "C" fn dia_stream_feed(
     ensures spent { (result ≡ SPENT) ↔ IsSpent stream.old.slot.seal.held }
     ensures goes_on { result ≡ DONE → ¬ IsSpent stream.new.slot.seal.held }
     ensures refused { (result ≡ NO_MEMORY) ⊎ (result ≡ SPENT) → IsSpent stream.new.slot.seal.held }
-    ensures nothing { result ≡ SPENT → StandsForNone stream.old.slot.seal.held }
+    ensures nothing { result ≡ SPENT → DenotesNone stream.old.slot.seal.held }
     ensures is_open { result ≢ IS_CLOSED → IsSome stream.new.slot.seal.held }
     ensures only { result ≢ DONE → fed.new ≡ fed.old }
     ensures closed { result ≡ IS_CLOSED → (stream.old.slot.seal.held ≡ None) × (stream.new.slot.seal.held ≡ None) }
@@ -86,7 +86,7 @@ pub extern "C" fn dia_stream_finish(
     ensures ends { (result ≡ DONE) ⊎ (result ≡ IS_CLOSED) ⊎ (result ≡ SPENT) }
     ensures done { result ≡ DONE → HasFinished stream.old.slot.seal.held verdict.new }
     ensures spent { IsSpent stream.old.slot.seal.held → result ≡ SPENT }
-    ensures nothing { result ≡ SPENT → StandsForNone stream.old.slot.seal.held }
+    ensures nothing { result ≡ SPENT → DenotesNone stream.old.slot.seal.held }
     ensures is_closed { stream.new.slot.seal.held ≡ None }
     ensures only { result ≢ DONE → verdict.new ≡ verdict.old }
     ensures closed { result ≡ IS_CLOSED → stream.old.slot.seal.held ≡ None }

@@ -30,7 +30,7 @@ pub extern "C" fn dia_breaking(
     ensures kept_b { b.new.slot.seal.held ≡ b.old.slot.seal.held }
     ensures done { result ≡ DONE → IfSome (dict_in a.old.slot.seal.held) (λ first. IfSome (dict_in b.old.slot.seal.held)
         (λ second. IfSome (text_in text.new.slot.seal.held)
-        (λ told. HasListed first second (wanted_of sends unknown options) commands.now accepted.now told safe.new))) }
+        (λ recorded. HasListed first second (wanted_of sends unknown options) commands.now accepted.now recorded safe.new))) }
     ensures is_open { result ≡ DONE → IsSome (text_in text.new.slot.seal.held) }
     ensures kept { result ≢ DONE → text.new.slot.seal.held ≡ text.old.slot.seal.held }
     ensures refused { result ≡ REFUSED → IfSome (dict_in a.old.slot.seal.held)

@@ -6,7 +6,7 @@ pub mod Next
 pub mod PeerCalls
 pub mod NoTables
 pub mod Places
-pub mod Told
+pub mod Recorded
 pub mod Unread
 pub mod WhatBreaks
 pub mod YesLines

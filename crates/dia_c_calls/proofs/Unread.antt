@@ -22,11 +22,11 @@ module _ {A : Type 0} (r : Result A MessageFault) (bytes : List ℕ) (is_short :
     (is_trailing : (r ≡ Err message.Trailing) ↔ ((n : ℕ) × BeginsMessage bytes n × (n < length bytes))) where
   -- the fault that is found has its verdict
   pub unread_as : (fault : MessageFault) (v : Verdict) → r ≡ Err fault → v ≡ no_message fault → IsNoMessage bytes v
-  unread_as message.Short v is told = IsNoMessage.head (IsHeadVerdict.short (is_short.0 is) told)
-  unread_as message.Version v is told = let (long, other) = is_version.0 is in IsNoMessage.head (IsHeadVerdict.version long other told)
-  unread_as message.Length v is told = let (long, one, bad) = is_length.0 is in IsNoMessage.head (IsHeadVerdict.message_length long one bad told)
-  unread_as message.Truncated v is told = let (n, begins, less) = is_truncated.0 is in IsNoMessage.truncated n begins less told
-  unread_as message.Trailing v is told = let (n, begins, more) = is_trailing.0 is in IsNoMessage.trailing n begins more told
+  unread_as message.Short v is recorded = IsNoMessage.head (IsHeadVerdict.short (is_short.0 is) recorded)
+  unread_as message.Version v is recorded = let (long, other) = is_version.0 is in IsNoMessage.head (IsHeadVerdict.version long other recorded)
+  unread_as message.Length v is recorded = let (long, one, bad) = is_length.0 is in IsNoMessage.head (IsHeadVerdict.message_length long one bad recorded)
+  unread_as message.Truncated v is recorded = let (n, begins, less) = is_truncated.0 is in IsNoMessage.truncated n begins less recorded
+  unread_as message.Trailing v is recorded = let (n, begins, more) = is_trailing.0 is in IsNoMessage.trailing n begins more recorded
 
   no_error : (x : A) (fault : MessageFault) → r ≡ Ok x → r ≡ Err fault → ⊥
   no_error x fault ok err = let e : Ok x ≡ Err fault = sym ok ∙ err in cc

@@ -14,7 +14,7 @@ use Rattle.dia_book.specs.Dictionary.{Dictionary, PlainDefinition}
 use Rattle.dia_book.proofs.Lists.{position-map}
 use Rattle.dia_book.proofs.Members.{position-is_some}
 use Rattle.dia_valid.proofs.Members.{IsIn, contains_in, in_at, in_contains}
-use Rattle.dia_accepted.specs.declared.Told.{Told}
+use Rattle.dia_accepted.specs.declared.Recorded.{Recorded}
 use Rattle.dia_accepted.proofs.Lists.{line_at, taken}
 use Rattle.dia_inclusion.specs.Closed.{NamesCommand}
 use Rattle.dia_inclusion.specs.Proposed.{IsFirstUnknown}
@@ -30,12 +30,12 @@ use Rattle.dia_upgrades.specs.declared.Found.{Found}
 use Rattle.dia_upgrades.specs.declared.Found.TheVariants as found
 use Rattle.dia_upgrades.specs.Asking.{AreCommands, names_of}
 use Rattle.dia_upgrades.specs.Lists.{IsNoListText}
-use Rattle.dia_upgrades.specs.Outcome.{IsListed, nothing, nothing_else, lines as told_lines, bad_list, no_commands, no_command}
+use Rattle.dia_upgrades.specs.Outcome.{IsListed, nothing, nothing_else, lines as recorded_lines, bad_list, no_commands, no_command}
 use Rattle.dia_c_calls.specs.declared.opening.Problem.{Problem}
 use Rattle.dia_c_calls.specs.declared.opening.Refused.TheVariants as refused
 use Rattle.dia_c_calls.specs.declared.wanted.Wanted.{Wanted}
 use Rattle.dia_c_calls.specs.Comparisons.{holds_of}
-use Rattle.dia_c_calls.specs.Upgrades.{IsAskedBy, IsLineOfUnknown, IsSafe, IsToldOf, IsUnlisted, line_number, list_problem}
+use Rattle.dia_c_calls.specs.Upgrades.{IsAskedBy, IsLineOfUnknown, IsSafe, IsRecordedOf, IsUnlisted, line_number, list_problem}
 
 abbrev text_of : String Global → List ℕ
 text_of s = string_bytes s
@@ -61,24 +61,24 @@ yes_of Bad e = absurd (let z : 0 ≡ 1 = e in omega (arith, z))
 module _ (asked : Asked) (input : Input) (a b : Dictionary) (text : List ℕ) (exit : Exit) (is : Found) where
   says_safe : IsListed asked input a b text exit is → exit ≡ Yes → IsSafe asked input a b
   says_safe (nothing list apart stale can breaks differs none is_text is_exit) is_yes = inl (breaks, differs)
-  says_safe (nothing_else list told apart stale can left some breaks none is_text is_exit) is_yes = inr (list, can.list_is, breaks)
-  says_safe (told_lines list told apart stale can left is_text is_exit) is_yes = absurd (let e : No ≡ Yes = sym is_exit ∙ is_yes in cc)
+  says_safe (nothing_else list recorded apart stale can left some breaks none is_text is_exit) is_yes = inr (list, can.list_is, breaks)
+  says_safe (recorded_lines list recorded apart stale can left is_text is_exit) is_yes = absurd (let e : No ≡ Yes = sym is_exit ∙ is_yes in cc)
   says_safe (bad_list bad none refuses what) is_yes = absurd (let e : Bad ≡ Yes = sym refuses.1 ∙ is_yes in cc)
   says_safe (no_commands list is_list none refuses what) is_yes = absurd (let e : Bad ≡ Yes = sym refuses.1 ∙ is_yes in cc)
   says_safe (no_command list name is_list some first refuses what) is_yes = absurd (let e : Bad ≡ Yes = sym refuses.1 ∙ is_yes in cc)
 
-  module _ (unused old : Vec Entry) (n accepted : ℕ) (causes meanings : Vec Told) (has : is ≡ found.Listed unused old n accepted causes meanings) where
+  module _ (unused old : Vec Entry) (n accepted : ℕ) (causes meanings : Vec Recorded) (has : is ≡ found.Listed unused old n accepted causes meanings) where
     answers : IsListed asked input a b text exit is → exit ≢ Bad
     answers (nothing list apart stale can breaks differs none is_text is_exit) = λ bad. (let e : Yes ≡ Bad = sym is_exit ∙ bad in cc)
-    answers (nothing_else list told apart stale can left some breaks none is_text is_exit) = λ bad. (let e : Yes ≡ Bad = sym is_exit ∙ bad in cc)
-    answers (told_lines list told apart stale can left is_text is_exit) = λ bad. (let e : No ≡ Bad = sym is_exit ∙ bad in cc)
+    answers (nothing_else list recorded apart stale can left some breaks none is_text is_exit) = λ bad. (let e : Yes ≡ Bad = sym is_exit ∙ bad in cc)
+    answers (recorded_lines list recorded apart stale can left is_text is_exit) = λ bad. (let e : No ≡ Bad = sym is_exit ∙ bad in cc)
     answers (bad_list bad none refuses what) = absurd (let e : found.NoList bad ≡ found.Listed unused old n accepted causes meanings = sym what ∙ has in cc)
     answers (no_commands list is_list none refuses what) = absurd (let e : found.NoCommands ≡ found.Listed unused old n accepted causes meanings = sym what ∙ has in cc)
     answers (no_command list name is_list some first refuses what) = absurd (let e : found.NoCommand ≡ found.Listed unused old n accepted causes meanings = sym what ∙ has in cc)
 
-    pub told : (answer : Option (List ℕ)) (safe : ℕ) → answer ≡ Some text → safe ≡ holds_of exit → IsListed asked input a b text exit is
-        → IfSome answer (λ t. IsToldOf asked input a b t safe)
-    told answer safe in_text ends listed = subst (λ (o : Option (List ℕ)). IfSome o (λ t. IsToldOf asked input a b t safe)) (sym in_text) (record {
+    pub recorded : (answer : Option (List ℕ)) (safe : ℕ) → answer ≡ Some text → safe ≡ holds_of exit → IsListed asked input a b text exit is
+        → IfSome answer (λ t. IsRecordedOf asked input a b t safe)
+    recorded answer safe in_text ends listed = subst (λ (o : Option (List ℕ)). IfSome o (λ t. IsRecordedOf asked input a b t safe)) (sym in_text) (record {
       exit = exit;
       listed = (is, listed);
       answered = answers listed;
@@ -92,17 +92,17 @@ module _ (asked : Asked) (input : Input) (a b : Dictionary) (text : List ℕ) (e
   same_bad bad other e = cc
 
   pub no_list : (bad : BadList) (p : Problem) → is ≡ found.NoList bad → p ≡ list_problem bad → IsListed asked input a b text exit is → IsUnlisted a input (names_of asked) p
-  no_list bad p has told (nothing list apart stale can breaks differs none is_text is_exit) = absurd (let t = can.tells in let e : found.NoList bad ≡ found.Listed t.unused t.stale_ones t.lines t.accepted t.causes t.meanings = sym has ∙ t.is_listed in cc)
-  no_list bad p has told (nothing_else list told' apart stale can left some breaks none is_text is_exit) = absurd (let t = can.tells in let e : found.NoList bad ≡ found.Listed t.unused t.stale_ones t.lines t.accepted t.causes t.meanings = sym has ∙ t.is_listed in cc)
-  no_list bad p has told (told_lines list told' apart stale can left is_text is_exit) = absurd (let t = can.tells in let e : found.NoList bad ≡ found.Listed t.unused t.stale_ones t.lines t.accepted t.causes t.meanings = sym has ∙ t.is_listed in cc)
-  no_list bad p has told (bad_list other none refuses what) = IsUnlisted.bad_list bad (subst (IsNoListText input) (sym (same_bad bad other (sym has ∙ what))) none) told
-  no_list bad p has told (no_commands list is_list none refuses what) = absurd (let e : found.NoList bad ≡ found.NoCommands = sym has ∙ what in cc)
-  no_list bad p has told (no_command list name is_list some first refuses what) = absurd (let e : found.NoList bad ≡ found.NoCommand = sym has ∙ what in cc)
+  no_list bad p has recorded (nothing list apart stale can breaks differs none is_text is_exit) = absurd (let t = can.records in let e : found.NoList bad ≡ found.Listed t.unused t.stale_ones t.lines t.accepted t.causes t.meanings = sym has ∙ t.is_listed in cc)
+  no_list bad p has recorded (nothing_else list recorded' apart stale can left some breaks none is_text is_exit) = absurd (let t = can.records in let e : found.NoList bad ≡ found.Listed t.unused t.stale_ones t.lines t.accepted t.causes t.meanings = sym has ∙ t.is_listed in cc)
+  no_list bad p has recorded (recorded_lines list recorded' apart stale can left is_text is_exit) = absurd (let t = can.records in let e : found.NoList bad ≡ found.Listed t.unused t.stale_ones t.lines t.accepted t.causes t.meanings = sym has ∙ t.is_listed in cc)
+  no_list bad p has recorded (bad_list other none refuses what) = IsUnlisted.bad_list bad (subst (IsNoListText input) (sym (same_bad bad other (sym has ∙ what))) none) recorded
+  no_list bad p has recorded (no_commands list is_list none refuses what) = absurd (let e : found.NoList bad ≡ found.NoCommands = sym has ∙ what in cc)
+  no_list bad p has recorded (no_command list name is_list some first refuses what) = absurd (let e : found.NoList bad ≡ found.NoCommand = sym has ∙ what in cc)
 
   pub unnamed : is ≡ found.NoCommand → IsListed asked input a b text exit is → (name : List ℕ) × IsFirstUnknown a (names_of asked) name
-  unnamed has (nothing list apart stale can breaks differs none is_text is_exit) = absurd (let t = can.tells in let e : found.NoCommand ≡ found.Listed t.unused t.stale_ones t.lines t.accepted t.causes t.meanings = sym has ∙ t.is_listed in cc)
-  unnamed has (nothing_else list told' apart stale can left some breaks none is_text is_exit) = absurd (let t = can.tells in let e : found.NoCommand ≡ found.Listed t.unused t.stale_ones t.lines t.accepted t.causes t.meanings = sym has ∙ t.is_listed in cc)
-  unnamed has (told_lines list told' apart stale can left is_text is_exit) = absurd (let t = can.tells in let e : found.NoCommand ≡ found.Listed t.unused t.stale_ones t.lines t.accepted t.causes t.meanings = sym has ∙ t.is_listed in cc)
+  unnamed has (nothing list apart stale can breaks differs none is_text is_exit) = absurd (let t = can.records in let e : found.NoCommand ≡ found.Listed t.unused t.stale_ones t.lines t.accepted t.causes t.meanings = sym has ∙ t.is_listed in cc)
+  unnamed has (nothing_else list recorded' apart stale can left some breaks none is_text is_exit) = absurd (let t = can.records in let e : found.NoCommand ≡ found.Listed t.unused t.stale_ones t.lines t.accepted t.causes t.meanings = sym has ∙ t.is_listed in cc)
+  unnamed has (recorded_lines list recorded' apart stale can left is_text is_exit) = absurd (let t = can.records in let e : found.NoCommand ≡ found.Listed t.unused t.stale_ones t.lines t.accepted t.causes t.meanings = sym has ∙ t.is_listed in cc)
   unnamed has (bad_list bad none refuses what) = absurd (let e : found.NoCommand ≡ found.NoList bad = sym has ∙ what in cc)
   unnamed has (no_commands list is_list none refuses what) = absurd (let e : found.NoCommand ≡ found.NoCommands = sym has ∙ what in cc)
   unnamed has (no_command list name is_list some first refuses what) = (name, first)
@@ -129,15 +129,15 @@ module _ (d : Dictionary) (names : List (List ℕ)) (name : List ℕ) (first : I
   same : (x : List ℕ) → x ≡ name → test x ≡ true
   same x e = (bytes_eq-Decides x name).1 e
 
-  stands : is_some (position test names) ≡ true
-  stands = position-is_some test names first.place name first.is_name (same name refl)
+  occurs : is_some (position test names) ≡ true
+  occurs = position-is_some test names first.place name first.is_name (same name refl)
 
   module _ (p : ℕ) (at : position test names ≡ Some p) where
     within : p < length names
     within = (position-Some test names p name at).0
 
-    not_behind : first.place < p → ⊥
-    not_behind less =
+    not_after : first.place < p → ⊥
+    not_after less =
         let inside = slice_get_within names first.place name first.is_name in
         let item = same_Some (get_or names first.place name) name (sym (slice_get-get_or names first.place name inside) ∙ first.is_name) in
         let no = (position-Some test names p name at).2 first.place less in
@@ -153,7 +153,7 @@ module _ (d : Dictionary) (names : List (List ℕ)) (name : List ℕ) (first : I
       where
         le : p ≤ first.place
         le = elim (cases_lt first.place p) [
-          | inl less ↦ absurd (not_behind less)
+          | inl less ↦ absurd (not_after less)
           | inr within_first ↦ within_first
         ]
 
@@ -166,7 +166,7 @@ module _ (d : Dictionary) (xs : List (String Global)) (name : List ℕ) (first :
   in_names o is = position-map text_of (λ n. bytes_eq n name) xs ∙ sym is
 
   pub never_absent : None ≡ position (λ other. bytes_eq (string_bytes other) name) xs → ⊥
-  never_absent none = let e : true ≡ false = sym (stands d (map text_of xs) name first) ∙ ap (λ (o : Option ℕ). is_some o) (in_names None none) in cc
+  never_absent none = let e : true ≡ false = sym (occurs d (map text_of xs) name first) ∙ ap (λ (o : Option ℕ). is_some o) (in_names None none) in cc
 
   pub line_is : (p line : ℕ) → Some p ≡ position (λ other. bytes_eq (string_bytes other) name) xs → line ≡ line_number p → IsLineOfUnknown d (map text_of xs) line
   line_is p line at is = line_at_place d (map text_of xs) name first p (in_names (Some p) at) line is

@@ -16,10 +16,10 @@ not_no : (exit : Exit) → exit ≡ No → exit ≡ Yes → ⊥
 not_no exit is_no is_yes = cc
 
 yes_only : (t : PlainTable) (found : Answer) (line : List ℕ) (exit : Exit) → IsAnswerText t found line exit → exit ≡ Yes → found ≡ answer.Yes
-yes_only t answer.Yes line exit told is_yes = refl
-yes_only t (answer.No pair.Command i test) line exit told is_yes = absurd (not_no exit told.3 is_yes)
-yes_only t (answer.No pair.Avp i test) line exit told is_yes = absurd (not_no exit told.3 is_yes)
+yes_only t answer.Yes line exit recorded is_yes = refl
+yes_only t (answer.No pair.Command i test) line exit recorded is_yes = absurd (not_no exit recorded.3 is_yes)
+yes_only t (answer.No pair.Avp i test) line exit recorded is_yes = absurd (not_no exit recorded.3 is_yes)
 
 pub compared_by : (a b : Dictionary) (u : Unknown) (t : PlainTable) (found : Answer) (line : List ℕ) (exit : Exit) → IsTableAnswer a b u t found
     → (found ≡ answer.Yes → IsIncluded a b u t) → IsAnswerText t found line exit → IsComparedBy a b u t line exit
-compared_by a b u t found line exit is shows told = (found, is, told, λ is_yes. shows (yes_only t found line exit told is_yes))
+compared_by a b u t found line exit is shows recorded = (found, is, recorded, λ is_yes. shows (yes_only t found line exit recorded is_yes))

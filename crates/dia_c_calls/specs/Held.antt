@@ -102,14 +102,14 @@ peer_in (Some (Stream feeding)) = None
 peer_in (Some Nothing) = None
 
 -- these bytes came of the message that is held, and are checked against this dictionary
-abbrev pub StandsFor : Option Held → Dictionary → Unknown → Levels → List ℕ → Type 0
-StandsFor None d u most bytes = ⊥
-StandsFor (Some (Dict owner room)) d u most bytes = ⊥
-StandsFor (Some (Text text)) d u most bytes = ⊥
-StandsFor (Some (Faults faults)) d u most bytes = ⊥
-StandsFor (Some (Peer peer)) d u most bytes = ⊥
-StandsFor (Some (Stream feeding)) d u most bytes = FeedsFor feeding d u most bytes
-StandsFor (Some Nothing) d u most bytes = ⊥
+abbrev pub Denotes : Option Held → Dictionary → Unknown → Levels → List ℕ → Type 0
+Denotes None d u most bytes = ⊥
+Denotes (Some (Dict owner room)) d u most bytes = ⊥
+Denotes (Some (Text text)) d u most bytes = ⊥
+Denotes (Some (Faults faults)) d u most bytes = ⊥
+Denotes (Some (Peer peer)) d u most bytes = ⊥
+Denotes (Some (Stream feeding)) d u most bytes = FeedsFor feeding d u most bytes
+Denotes (Some Nothing) d u most bytes = ⊥
 
 -- the next output of the end was taken
 pub data Takes (old new : Option PlainEnd) (output : PlainOutput) : Type 0 where

@@ -68,9 +68,9 @@ abbrev pub HasHappened : ℕ → List ℕ → ℕ → PlainEnd → PlainEnd → 
 HasHappened n bytes cause old new = (old.left ≡ []) × (e : Event) × IsEventOf n bytes cause e × HasStepped old.core e new
 
 -- an output in numbers, and its bytes
-abbrev pub IsToldOutput : PlainOutput → ℕ → List ℕ → ℕ → Type 0
-IsToldOutput (SentBytes message) output bytes reason = (output ≡ 0) × (bytes ≡ message) × (reason ≡ 0)
-IsToldOutput (ClosedFor why) output bytes reason = (output ≡ 1) × (bytes ≡ []) × (reason ≡ why_number why)
+abbrev pub IsRecordedOutput : PlainOutput → ℕ → List ℕ → ℕ → Type 0
+IsRecordedOutput (SentBytes message) output bytes reason = (output ≡ 0) × (bytes ≡ message) × (reason ≡ 0)
+IsRecordedOutput (ClosedFor why) output bytes reason = (output ≡ 1) × (bytes ≡ []) × (reason ≡ why_number why)
 
 -- the next output was taken, and nothing else has changed
 abbrev pub IsTaken : PlainEnd → PlainEnd → PlainOutput → Type 0

@@ -50,8 +50,8 @@ kind_number Auth = 0
 kind_number Acct = 1
 
 -- an application that both ends advertise
-abbrev pub told_pair : Pair → PeerApp
-told_pair p = record { is_acct = kind_number p.kind; id = p.id; has_vendor = 0; vendor = 0 }
+abbrev pub recorded_pair : Pair → PeerApp
+recorded_pair p = record { is_acct = kind_number p.kind; id = p.id; has_vendor = 0; vendor = 0 }
 
 -- the configuration that arguments of C say
 abbrev pub config_of : List ℕ → List ℕ → List ℕ → List PeerAddress → List PeerApp → PeerNumbers → PlainConfig

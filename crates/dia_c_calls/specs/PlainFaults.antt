@@ -1,7 +1,7 @@
 -- The faults of a dictionary's text.
 use Rattle.std.specs.Prelude.{◌≡◌, ℕ, List, [], length, take, min, Option, Some, None, string_bytes}
 use Rattle.dia_c_calls.specs.declared.findings.TextFault.{TextFault}
-use Rattle.dia_c_calls.specs.declared.told_fault.ToldFault.{ToldFault}
+use Rattle.dia_c_calls.specs.declared.recorded_fault.RecordedFault.{RecordedFault}
 
 -- a fault: the number of its kind, its token, its offset in bytes, and the names of a definition or an AVP and of the AVP of a rule
 pub record PlainFault : Type 0 where
@@ -19,15 +19,15 @@ abbrev pub nameless : ℕ → ℕ → Option ℕ → PlainFault
 nameless kind token at = record { kind = kind; token = token; at = at; name = []; slot = [] }
 
 -- a place as C has it: whether there is one, and where
-abbrev pub IsToldPlace : Option ℕ → ℕ → ℕ → Type 0
-IsToldPlace None has_place at = (has_place ≡ 0) × (at ≡ 0)
-IsToldPlace (Some place) has_place at = (has_place ≡ 1) × (at ≡ place)
+abbrev pub IsRecordedPlace : Option ℕ → ℕ → ℕ → Type 0
+IsRecordedPlace None has_place at = (has_place ≡ 0) × (at ≡ 0)
+IsRecordedPlace (Some place) has_place at = (has_place ≡ 1) × (at ≡ place)
 
 -- a name as C has it: its first 128 bytes at most, and how many these are
-abbrev pub IsToldName : List ℕ → ℕ → List ℕ → Type 0
-IsToldName name count bytes = (count ≡ min (length name) 128) × (take count bytes ≡ take count name)
+abbrev pub IsRecordedName : List ℕ → ℕ → List ℕ → Type 0
+IsRecordedName name count bytes = (count ≡ min (length name) 128) × (take count bytes ≡ take count name)
 
 -- a fault as C has it
-abbrev pub IsToldFault : PlainFault → ToldFault → Type 0
-IsToldFault f told = (told.kind ≡ f.kind) × (told.token ≡ f.token) × IsToldPlace f.at told.has_place told.at × IsToldName f.name told.name_count told.name
-    × IsToldName f.slot told.slot_count told.slot
+abbrev pub IsRecordedFault : PlainFault → RecordedFault → Type 0
+IsRecordedFault f recorded = (recorded.kind ≡ f.kind) × (recorded.token ≡ f.token) × IsRecordedPlace f.at recorded.has_place recorded.at × IsRecordedName f.name recorded.name_count recorded.name
+    × IsRecordedName f.slot recorded.slot_count recorded.slot

@@ -13,12 +13,12 @@ use Rattle.dia_c_calls.specs.declared.held.Held.{Held}
 use Rattle.dia_c_calls.specs.declared.held.Held.TheVariants.{Dict, Text, Faults, Peer, Stream, Nothing}
 use Rattle.dia_c_calls.specs.declared.streams.Fed.{Fed}
 use Rattle.dia_c_calls.specs.declared.verdict.Verdict.{Verdict}
-use Rattle.dia_c_calls.specs.Held.{StandsFor}
+use Rattle.dia_c_calls.specs.Held.{Denotes}
 use Rattle.dia_c_calls.specs.Verdicts.{IsVerdict}
 
 -- whatever message is held: this holds of its dictionary, its policy, its limit, and its bytes so far
 abbrev pub OfMessage : Option Held → (Dictionary → Unknown → Levels → List ℕ → Type 0) → Type 0
-OfMessage held P = (d : Dictionary) (u : Unknown) (most : Levels) (bytes : List ℕ) → StandsFor held d u most bytes → P d u most bytes
+OfMessage held P = (d : Dictionary) (u : Unknown) (most : Levels) (bytes : List ℕ) → Denotes held d u most bytes → P d u most bytes
 
 abbrev pub fed_of : Progress → Fed
 fed_of progress = record { taken = progress.taken; done = if progress.done then 1 else 0 }
@@ -26,7 +26,7 @@ fed_of progress = record { taken = progress.taken; done = if progress.done then 
 -- the front of the piece that belongs to the message was taken, and the message has these bytes more
 abbrev pub HasFed : Option Held → Option Held → List ℕ → Fed → Type 0
 HasFed old new piece fed = (progress : Progress) × (fed ≡ fed_of progress) × OfMessage old
-    (λ d u most bytes. Takes bytes piece progress × StandsFor new d u most (bytes ++ take progress.taken piece))
+    (λ d u most bytes. Takes bytes piece progress × Denotes new d u most (bytes ++ take progress.taken piece))
 
 -- a level begins in what belongs to the message
 abbrev pub OpensIn : Option Held → List ℕ → Type 0
@@ -42,7 +42,7 @@ HasLevels held n = OfMessage held (λ d u most bytes. CountsLevels d u most byte
 
 -- it denotes what it denoted
 abbrev pub IsKept : Option Held → Option Held → Type 0
-IsKept old new = OfMessage old (λ d u most bytes. StandsFor new d u most bytes)
+IsKept old new = OfMessage old (λ d u most bytes. Denotes new d u most bytes)
 
 -- it is a message to which memory was refused
 abbrev pub IsSpent : Option Held → Type 0
@@ -55,5 +55,5 @@ IsSpent (Some (Stream feeding)) = WasSpent feeding.paused
 IsSpent (Some Nothing) = ⊥
 
 -- it denotes no message
-abbrev pub StandsForNone : Option Held → Type 0
-StandsForNone held = (d : Dictionary) (u : Unknown) (most : Levels) (bytes : List ℕ) → ¬ StandsFor held d u most bytes
+abbrev pub DenotesNone : Option Held → Type 0
+DenotesNone held = (d : Dictionary) (u : Unknown) (most : Levels) (bytes : List ℕ) → ¬ Denotes held d u most bytes

@@ -71,7 +71,7 @@ IsSafe asked input a b = (NothingBreaks asked a b × NothingDiffers asked a b)
     ⊎ ((list : List PlainEntry) × IsListText input list × NothingElseBreaks asked list a b)
 
 -- it writes this text, which says what breaks, or that nothing does: then it is safe
-pub record IsToldOf (asked : Asked) (input : Input) (a b : Dictionary) (text : List ℕ) (safe : ℕ) : Type 0 where
+pub record IsRecordedOf (asked : Asked) (input : Input) (a b : Dictionary) (text : List ℕ) (safe : ℕ) : Type 0 where
   pub exit : Exit
   pub listed : IsAnyListed asked input a b text exit
   pub answered : exit ≢ Bad
@@ -85,7 +85,7 @@ pub record HasListed (a b : Dictionary) (wanted : Wanted) (commands accepted tex
   pub utf8 : IsUtf8 commands
   pub is_asked : IsAskedBy wanted commands asked
   pub is_list : IsWhole input max_list accepted
-  pub told : IsToldOf asked input a b text safe
+  pub recorded : IsRecordedOf asked input a b text safe
 
 -- ---- what is refused
 

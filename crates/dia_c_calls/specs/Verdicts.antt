@@ -34,13 +34,13 @@ limit_of n = if nat_eq n 4294967295 then levels.Any else levels.AtMost n
 abbrev pub said : ℕ → ℕ → Verdict
 said outcome command = record { outcome = outcome; command = command; code = 0; place = 0; reason = 0; subject = 0; avp_code = 0; avp_vendor = 0 }
 
-abbrev pub told_of : Fault → Subject → Verdict
-told_of f subject.Nothing = record { outcome = 1; command = 0; code = f.code; place = f.place; reason = row_of f.reason; subject = 0; avp_code = 0; avp_vendor = 0 }
-told_of f (subject.Avp key) = record { outcome = 1; command = 0; code = f.code; place = f.place; reason = row_of f.reason; subject = 1; avp_code = key.code; avp_vendor = key.vendor }
-told_of f subject.Wildcard = record { outcome = 1; command = 0; code = f.code; place = f.place; reason = row_of f.reason; subject = 2; avp_code = 0; avp_vendor = 0 }
+abbrev pub recorded_of : Fault → Subject → Verdict
+recorded_of f subject.Nothing = record { outcome = 1; command = 0; code = f.code; place = f.place; reason = row_of f.reason; subject = 0; avp_code = 0; avp_vendor = 0 }
+recorded_of f (subject.Avp key) = record { outcome = 1; command = 0; code = f.code; place = f.place; reason = row_of f.reason; subject = 1; avp_code = key.code; avp_vendor = key.vendor }
+recorded_of f subject.Wildcard = record { outcome = 1; command = 0; code = f.code; place = f.place; reason = row_of f.reason; subject = 2; avp_code = 0; avp_vendor = 0 }
 
 abbrev pub fault_verdict : Fault → Verdict
-fault_verdict f = told_of f f.subject
+fault_verdict f = recorded_of f f.subject
 
 -- the verdict of an answer; out of memory has none
 abbrev pub IsVerdict : Result Selected Refusal → Verdict → Type 0

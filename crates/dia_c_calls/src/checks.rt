@@ -42,8 +42,8 @@ pub fn check(
     let answer = check_in(&mut *held, unknown, levels, message);
     handle.put(held);
     match answer {
-        Ok(told) => {
-            *verdict = told;
+        Ok(recorded) => {
+            *verdict = recorded;
             DONE
         }
         Err(AllocError) => NO_MEMORY,
@@ -106,8 +106,8 @@ pub fn message_length(header: &[u8], length: &mut u32, verdict: &mut Verdict) ->
             *length = found;
             DONE
         }
-        Err(told) => {
-            *verdict = told;
+        Err(recorded) => {
+            *verdict = recorded;
             REFUSED
         }
     }

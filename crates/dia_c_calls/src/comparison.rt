@@ -10,7 +10,7 @@ use crate::opening::{NOT_TEXT, Problem, Refused};
 use dia_book::Book;
 use dia_check::Unknown;
 use dia_inclusion::check_table;
-use dia_run::{Outcome, told_answer};
+use dia_run::{Outcome, recorded_answer};
 use dia_tables::{Table, TableFault, parse_table};
 use std::alloc::Global;
 
@@ -84,6 +84,6 @@ fn outcome_by<A: Book, B: Book>(
     ensures no_memory { IfErr result (λ refused. refused ≡ Refused.NoMemory) }
 {
     let answer = check_table(alloc, a, b, unknown, table)?;
-    let outcome = told_answer(alloc, table, answer)?;
+    let outcome = recorded_answer(alloc, table, answer)?;
     Ok(outcome)
 }

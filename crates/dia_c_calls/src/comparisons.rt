@@ -30,7 +30,7 @@ pub fn compare(
     ensures kept_b { b.new.slot.seal.held ≡ b.old.slot.seal.held }
     ensures done { result ≡ DONE → IfSome (dict_in a.old.slot.seal.held) (λ first. IfSome (dict_in b.old.slot.seal.held)
         (λ second. IfSome (text_in line.new.slot.seal.held)
-        (λ told. HasCompared first second (policy_of unknown) table.now told holds.new))) }
+        (λ recorded. HasCompared first second (policy_of unknown) table.now recorded holds.new))) }
     ensures is_open { result ≡ DONE → IsSome (text_in line.new.slot.seal.held) }
     ensures kept { result ≢ DONE → line.new.slot.seal.held ≡ line.old.slot.seal.held }
     ensures refused { result ≡ REFUSED → IsNoTable table.now problem.new }
@@ -73,8 +73,8 @@ pub fn compare(
             DONE
         }
         Err(refused) => match refused {
-            Refused::Bad(told) => {
-                *problem = told;
+            Refused::Bad(recorded) => {
+                *problem = recorded;
                 REFUSED
             }
             Refused::NoMemory => NO_MEMORY,

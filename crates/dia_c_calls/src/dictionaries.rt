@@ -39,8 +39,8 @@ pub fn dict_open(alloc: Global, text: &[u8], handle: &mut DictHandle, problem: &
             handle.put(book);
             DONE
         }
-        Err(Refused::Bad(told)) => {
-            *problem = told;
+        Err(Refused::Bad(recorded)) => {
+            *problem = recorded;
             REFUSED
         }
         Err(Refused::NoMemory) => NO_MEMORY,

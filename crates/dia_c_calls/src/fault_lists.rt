@@ -4,13 +4,13 @@ ghost use Rattle.std.specs.Prelude.{◌⊎◌, ◌≡◌, ◌≢◌, ◌≤◌, 
 ghost use Rattle.dia_explain_places.specs.Places.{line_at, column_at};
 ghost use Rattle.dia_c_calls.specs.AllFaults.{AreFaultsOf};
 ghost use Rattle.dia_c_calls.specs.Held.{MayBeFaults, faults_in};
-ghost use Rattle.dia_c_calls.specs.PlainFaults.{IsToldFault};
+ghost use Rattle.dia_c_calls.specs.PlainFaults.{IsRecordedFault};
 
 use crate::findings::faults_of;
 use crate::handle::{FaultsHandle, faults_in};
 use crate::held::Held;
+use crate::recorded_fault::{RecordedFault, recorded_at};
 use crate::status::{DONE, IS_CLOSED, IS_OPEN, NO_MEMORY, NONE};
-use crate::told_fault::{ToldFault, told_at};
 use dia_explain_places::place_of;
 use std::alloc::{AllocError, Global};
 
@@ -52,12 +52,12 @@ pub fn faults_get(
     alloc: Global,
     handle: &mut FaultsHandle,
     index: usize,
-    fault: &mut ToldFault,
+    fault: &mut RecordedFault,
 ) -> u32
     ensures ends { (result ≡ DONE) ⊎ (result ≡ NONE) ⊎ (result ≡ IS_CLOSED) }
     ensures kept { handle.new.slot.seal.held ≡ handle.old.slot.seal.held }
     ensures done { result ≡ DONE → IfSome (faults_in handle.old.slot.seal.held)
-        (λ faults. IfSome (slice_get faults index) (λ f. IsToldFault f fault.new)) }
+        (λ faults. IfSome (slice_get faults index) (λ f. IsRecordedFault f fault.new)) }
     ensures some { result ≡ DONE → IfSome (faults_in handle.old.slot.seal.held) (λ faults. index < length faults) }
     ensures none { result ≡ NONE → IfSome (faults_in handle.old.slot.seal.held) (λ faults. length faults ≤ index) }
     ensures only { result ≢ DONE → fault.new ≡ fault.old }
@@ -67,11 +67,11 @@ pub fn faults_get(
     let Some(held) = handle.take(alloc) else {
         return IS_CLOSED;
     };
-    let found = told_at(faults_in(&held).as_slice(), index);
+    let found = recorded_at(faults_in(&held).as_slice(), index);
     handle.put(held);
     match found {
-        Some(told) => {
-            *fault = told;
+        Some(recorded) => {
+            *fault = recorded;
             DONE
         }
         None => NONE,

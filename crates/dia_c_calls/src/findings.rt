@@ -79,27 +79,27 @@ fn faults_of_source(
     text: &str,
     source: &Source,
 ) -> Result<Vec<TextFault>, AllocError>
-    ensures { IfOk result (λ told. map plain_fault told.items
+    ensures { IfOk result (λ recorded. map plain_fault recorded.items
         ≡ map (fault_of text.now source.now) (all_findings (plain_source source.now))) }
 {
     let findings = faults(alloc, source)?;
-    told_of(alloc, text, source, &findings)
+    recorded_of(alloc, text, source, &findings)
 }
 
-fn told_of(
+fn recorded_of(
     alloc: Global,
     text: &str,
     source: &Source,
     findings: &[Finding<'_>],
 ) -> Result<Vec<TextFault>, AllocError>
-    ensures { IfOk result (λ told. map plain_fault told.items
+    ensures { IfOk result (λ recorded. map plain_fault recorded.items
         ≡ map (fault_of text.now source.now) (map plain_finding findings.now)) }
 {
-    let mut told = Vec::new(alloc);
+    let mut recorded = Vec::new(alloc);
     for finding in findings {
-        told.push(fault_of(alloc, text, source, finding)?)?;
+        recorded.push(fault_of(alloc, text, source, finding)?)?;
     }
-    Ok(told)
+    Ok(recorded)
 }
 
 fn fault_of(
@@ -108,13 +108,13 @@ fn fault_of(
     source: &Source,
     finding: &Finding<'_>,
 ) -> Result<TextFault, AllocError>
-    ensures { IfOk result (λ told. plain_fault told
+    ensures { IfOk result (λ recorded. plain_fault recorded
         ≡ fault_of text.now source.now (plain_finding finding.now)) }
 {
-    let name = String::from_str(alloc, finding.told.name)?;
-    let slot = String::from_str(alloc, finding.told.slot)?;
+    let name = String::from_str(alloc, finding.recorded.name)?;
+    let slot = String::from_str(alloc, finding.recorded.slot)?;
     Ok(TextFault {
-        kind: kind_number(finding.told.kind),
+        kind: kind_number(finding.recorded.kind),
         token: 0,
         at: part_place(text, source, finding.part),
         name,

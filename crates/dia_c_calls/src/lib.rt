@@ -20,11 +20,11 @@ mod peer;
 mod peer_config;
 mod peer_numbers;
 mod peers;
+mod recorded_fault;
 mod sink;
 mod status;
 mod streams;
 mod texts;
-mod told_fault;
 mod upgrade;
 mod upgrades;
 mod verdict;
@@ -43,13 +43,13 @@ pub use peers::{
     peer_close, peer_common, peer_event, peer_open, peer_open_as, peer_output, peer_serves,
     peer_state,
 };
+pub use recorded_fault::RecordedFault;
 pub use status::{
     BAD_ARGUMENT, DONE, IS_CLOSED, IS_OPEN, NO_MEMORY, NO_ROOM, NONE, OUTPUTS_LEFT, REFUSED, SPENT,
     status_numbers,
 };
 pub use streams::{Fed, stream_close, stream_feed, stream_finish, stream_levels, stream_open};
 pub use texts::{render, text_close, text_length, text_read};
-pub use told_fault::ToldFault;
 pub use upgrades::breaking;
 pub use verdict::Verdict;
 

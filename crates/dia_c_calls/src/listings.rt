@@ -50,8 +50,8 @@ pub fn show(
             DONE
         }
         Err(unshown) => match unshown {
-            Unshown::NoMessage(told) => {
-                *verdict = told;
+            Unshown::NoMessage(recorded) => {
+                *verdict = recorded;
                 REFUSED
             }
             Unshown::NoMemory => NO_MEMORY,

@@ -3,7 +3,7 @@
 ghost use Rattle.std.specs.Prelude.{◌≡◌, ◌≢◌, None, Some, IfOk, IfErr, IfSome, IsSome};
 ghost use Rattle.dia_c_calls.specs.Held.{dict_in, text_in};
 ghost use Rattle.dia_dict.specs.Base.{base};
-ghost use Rattle.dia_dict.specs.Resolution.{first_wrong, resolved, IsToldOf};
+ghost use Rattle.dia_dict.specs.Resolution.{first_wrong, resolved, IsRecordedOf};
 ghost use Rattle.dia_ccf.specs.Plain.{plain_source};
 ghost use Rattle.dia_ccf.specs.Faults.{IsFault};
 ghost use Rattle.dia_c_calls.specs.Openings.{IsTextOf, IsRenderedOf, HasProblem, IsUnread, IsProblemOf, number_of, problem_of};
@@ -113,7 +113,7 @@ fn named(alloc: Global, source: Source) -> Result<Box<Held>, Refused>
 {
     match resolve(alloc, source) {
         Ok(book) => indexed(alloc, book),
-        Err(DictFault::Stands { kind, .. }) => Err(Refused::Bad(Problem {
+        Err(DictFault::Occurs { kind, .. }) => Err(Refused::Bad(Problem {
             kind: kind_number(kind),
             line: 0,
             token: 0,

@@ -57,7 +57,7 @@ impl Peer {
     }
 
     /// Takes an event, where no output is left to be taken.
-    pub fn tell(&mut self, event: Event<'_>) -> u32
+    pub fn deliver(&mut self, event: Event<'_>) -> u32
         ensures ends { (result ≡ DONE) ⊎ (result ≡ NO_MEMORY) ⊎ (result ≡ OUTPUTS_LEFT) }
         ensures done { result ≡ DONE → HasStepped self.old.core event.entry (plain_end self.new) }
         ensures kept { result ≢ DONE → self.new ≡ self.old }

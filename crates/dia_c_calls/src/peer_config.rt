@@ -2,7 +2,7 @@
 
 ghost use Rattle.std.specs.Prelude.{◌≡◌, ◌<◌, ◌≤◌, IfOk, IfSome, IsSome, None, length, map, slice_get};
 ghost use Rattle.dia_peer.specs.Core.{pairs_of, plain_config};
-ghost use Rattle.dia_c_calls.specs.Peers.{app_of, config_of, if_there, ip_of, kind_number, kind_of, told_pair};
+ghost use Rattle.dia_c_calls.specs.Peers.{app_of, config_of, if_there, ip_of, kind_number, kind_of, recorded_pair};
 
 use dia_peer::{App, Config, Ip, Kind};
 use std::alloc::{AllocError, Global};
@@ -132,7 +132,7 @@ fn if_there(has_it: u32, number: u32) -> Option<u32>
 /// The application at a place of those that both ends advertise.
 #[tactic(auto, using(crate::proofs::Places::mapped_at))]
 pub fn common_at(common: &[(Kind, u32)], index: usize) -> Option<PeerApp>
-    ensures some { IfSome result (λ app. IfSome (slice_get (pairs_of common.now) index) (λ p. app ≡ told_pair p)) }
+    ensures some { IfSome result (λ app. IfSome (slice_get (pairs_of common.now) index) (λ p. app ≡ recorded_pair p)) }
     ensures within { IsSome result → index < length common.now }
     ensures none { result ≡ None → length common.now ≤ index }
 {

@@ -6,10 +6,10 @@ ghost use Rattle.dia_peer.specs.Core.{plain_config};
 ghost use Rattle.dia_peer.specs.Machine.{IsRefusedAs};
 ghost use Rattle.dia_peer.specs.Outputs.{PlainOutput};
 ghost use Rattle.dia_c_calls.specs.Held.{MayBePeer, Takes, peer_in};
-ghost use Rattle.dia_c_calls.specs.Peers.{HasFault, IsBegun, IsBegunAs, IsFaultOf, IsManner, IsRole, ServesAs, config_of, told_pair};
-ghost use Rattle.dia_c_calls.specs.PeerSteps.{HasHappened, IsEventNumber, IsToldOutput, WantsRoom, plain_end, state_number};
+ghost use Rattle.dia_c_calls.specs.Peers.{HasFault, IsBegun, IsBegunAs, IsFaultOf, IsManner, IsRole, ServesAs, config_of, recorded_pair};
+ghost use Rattle.dia_c_calls.specs.PeerSteps.{HasHappened, IsEventNumber, IsRecordedOutput, WantsRoom, plain_end, state_number};
 
-use crate::handle::{PeerHandle, give_in, peer_in, tell_in};
+use crate::handle::{PeerHandle, give_in, peer_in, report_in};
 use crate::held::Held;
 use crate::peer::{Given, Peer};
 use crate::peer_config::{Names, PeerAddress, PeerApp, PeerNumbers, common_at, config_of};
@@ -197,7 +197,7 @@ pub fn peer_event(
     let Some(mut held) = handle.take(alloc) else {
         return IS_CLOSED;
     };
-    let status = tell_in(&mut held, event);
+    let status = report_in(&mut held, event);
     handle.put(held);
     status
 }
@@ -214,7 +214,7 @@ pub fn peer_output(
     ensures ends { (result ≡ DONE) ⊎ (result ≡ NONE) ⊎ (result ≡ NO_ROOM) ⊎ (result ≡ IS_CLOSED) }
     ensures done { result ≡ DONE → (taken : PlainOutput)
         × Takes (peer_in handle.old.slot.seal.held) (peer_in handle.new.slot.seal.held) taken
-        × IsToldOutput taken output.new (take count.new out.new) why.new }
+        × IsRecordedOutput taken output.new (take count.new out.new) why.new }
     ensures count { result ≡ DONE → count.new ≤ length out.new }
     ensures is_open { result ≡ DONE → IsSome (peer_in handle.new.slot.seal.held) }
     ensures kept { result ≢ DONE → handle.new.slot.seal.held ≡ handle.old.slot.seal.held }
@@ -277,7 +277,7 @@ pub fn peer_common(alloc: Global, handle: &mut PeerHandle, index: usize, app: &m
     ensures ends { (result ≡ DONE) ⊎ (result ≡ NONE) ⊎ (result ≡ IS_CLOSED) }
     ensures kept { handle.new.slot.seal.held ≡ handle.old.slot.seal.held }
     ensures done { result ≡ DONE → IfSome (peer_in handle.old.slot.seal.held)
-        (λ peer. IfSome (slice_get peer.core.common index) (λ p. app.new ≡ told_pair p)) }
+        (λ peer. IfSome (slice_get peer.core.common index) (λ p. app.new ≡ recorded_pair p)) }
     ensures some { result ≡ DONE → IfSome (peer_in handle.old.slot.seal.held) (λ peer. index < length peer.core.common) }
     ensures none { result ≡ NONE → IfSome (peer_in handle.old.slot.seal.held) (λ peer. length peer.core.common ≤ index) }
     ensures closed { result ≡ IS_CLOSED → handle.old.slot.seal.held ≡ None }
@@ -290,8 +290,8 @@ pub fn peer_common(alloc: Global, handle: &mut PeerHandle, index: usize, app: &m
     let found = common_at(peer_in(&held).core.common(), index);
     handle.put(held);
     match found {
-        Some(told) => {
-            *app = told;
+        Some(recorded) => {
+            *app = recorded;
             DONE
         }
         None => NONE,

@@ -1,8 +1,8 @@
 //! Messages that come in pieces: opened, fed, asked, finished, closed.
 
 ghost use Rattle.std.specs.Prelude.{◌⊎◌, ◌≡◌, ◌≢◌, ◌↔◌, [], None, IfOk, IfSome, IsSome, Some};
-ghost use Rattle.dia_c_calls.specs.Held.{MayBeStream, StandsFor, dict_in};
-ghost use Rattle.dia_c_calls.specs.Streams.{HasFed, HasFinished, HasLevels, IsKept, IsSpent, OpensIn, StandsForNone};
+ghost use Rattle.dia_c_calls.specs.Held.{MayBeStream, Denotes, dict_in};
+ghost use Rattle.dia_c_calls.specs.Streams.{HasFed, HasFinished, HasLevels, IsKept, IsSpent, OpensIn, DenotesNone};
 ghost use Rattle.dia_c_calls.specs.Streams.{fed_of};
 ghost use Rattle.dia_c_calls.specs.Verdicts.{IsUnknownPolicy, limit_of, policy_of};
 
@@ -10,7 +10,7 @@ use crate::feeding::Feeding;
 use crate::handle::{DictHandle, StreamHandle, feeding_in, owner_in};
 use crate::held::Held;
 use crate::status::{BAD_ARGUMENT, DONE, IS_CLOSED, IS_OPEN, NO_MEMORY, SPENT};
-use crate::verdict::{Untold, Verdict, limit_of, policy_of, verdict_of};
+use crate::verdict::{Unrecorded, Verdict, limit_of, policy_of, verdict_of};
 use dia_book::Book;
 use dia_check::{Levels, Progress, StreamFault, Unknown};
 use dia_dict::IndexedBook;
@@ -38,7 +38,7 @@ pub fn stream_open(
     ensures ends { (result ≡ DONE) ⊎ (result ≡ NO_MEMORY) ⊎ (result ≡ IS_OPEN) ⊎ (result ≡ IS_CLOSED) ⊎ (result ≡ BAD_ARGUMENT) }
     ensures kept_dict { handle.new.slot.seal.held ≡ handle.old.slot.seal.held }
     ensures done { result ≡ DONE → IfSome (dict_in handle.old.slot.seal.held)
-        (λ d. StandsFor stream.new.slot.seal.held d (policy_of unknown) (limit_of levels) []) }
+        (λ d. Denotes stream.new.slot.seal.held d (policy_of unknown) (limit_of levels) []) }
     ensures kept { result ≢ DONE → stream.new.slot.seal.held ≡ stream.old.slot.seal.held }
     ensures was_closed { result ≢ IS_OPEN → result ≢ BAD_ARGUMENT → stream.old.slot.seal.held ≡ None }
     ensures was_open { result ≡ IS_OPEN → IsSome stream.old.slot.seal.held }
@@ -75,7 +75,7 @@ fn begun(
     unknown: Unknown,
     levels: Levels,
 ) -> Result<Box<Held>, AllocError>
-    ensures stands { IfOk result (λ held. StandsFor (Some held.value)
+    ensures occurs { IfOk result (λ held. Denotes (Some held.value)
         (⟦<IndexedBook as Book>⟧.meaning owner.now.value) unknown levels []) }
     ensures is_stream { IfOk result (λ held. ∥ MayBeStream (Some held.value) ∥₁) }
 {
@@ -92,7 +92,7 @@ pub fn stream_feed(alloc: Global, stream: &mut StreamHandle, piece: &[u8], fed: 
     ensures spent { (result ≡ SPENT) ↔ IsSpent stream.old.slot.seal.held }
     ensures goes_on { result ≡ DONE → ¬ IsSpent stream.new.slot.seal.held }
     ensures refused { (result ≡ NO_MEMORY) ⊎ (result ≡ SPENT) → IsSpent stream.new.slot.seal.held }
-    ensures nothing { result ≡ SPENT → StandsForNone stream.old.slot.seal.held }
+    ensures nothing { result ≡ SPENT → DenotesNone stream.old.slot.seal.held }
     ensures is_open { result ≢ IS_CLOSED → IsSome stream.new.slot.seal.held }
     ensures only { result ≢ DONE → fed.new ≡ fed.old }
     ensures closed { result ≡ IS_CLOSED → (stream.old.slot.seal.held ≡ None) × (stream.new.slot.seal.held ≡ None) }
@@ -150,7 +150,7 @@ pub fn stream_finish(alloc: Global, stream: &mut StreamHandle, verdict: &mut Ver
     ensures ends { (result ≡ DONE) ⊎ (result ≡ IS_CLOSED) ⊎ (result ≡ SPENT) }
     ensures done { result ≡ DONE → HasFinished stream.old.slot.seal.held verdict.new }
     ensures spent { IsSpent stream.old.slot.seal.held → result ≡ SPENT }
-    ensures nothing { result ≡ SPENT → StandsForNone stream.old.slot.seal.held }
+    ensures nothing { result ≡ SPENT → DenotesNone stream.old.slot.seal.held }
     ensures is_closed { stream.new.slot.seal.held ≡ None }
     ensures only { result ≢ DONE → verdict.new ≡ verdict.old }
     ensures closed { result ≡ IS_CLOSED → stream.old.slot.seal.held ≡ None }
@@ -160,12 +160,12 @@ pub fn stream_finish(alloc: Global, stream: &mut StreamHandle, verdict: &mut Ver
         return IS_CLOSED;
     };
     match verdict_of(feeding_in(&mut held).finished()) {
-        Ok(told) => {
-            *verdict = told;
+        Ok(recorded) => {
+            *verdict = recorded;
             DONE
         }
-        Err(Untold::Spent) => SPENT,
-        Err(Untold::NoMemory) => unreachable!(),
+        Err(Unrecorded::Spent) => SPENT,
+        Err(Unrecorded::NoMemory) => unreachable!(),
     }
 }
 

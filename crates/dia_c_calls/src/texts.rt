@@ -29,8 +29,8 @@ pub fn render(alloc: Global, text: &[u8], rendered: &mut TextHandle, problem: &m
             rendered.put(held);
             DONE
         }
-        Err(Refused::Bad(told)) => {
-            *problem = told;
+        Err(Refused::Bad(recorded)) => {
+            *problem = recorded;
             REFUSED
         }
         Err(Refused::NoMemory) => NO_MEMORY,

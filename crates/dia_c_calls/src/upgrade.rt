@@ -10,7 +10,7 @@ ghost use Rattle.dia_io.specs.Inputs.{IsWhole};
 ghost use Rattle.dia_upgrades.specs.Asking.{names_of};
 ghost use Rattle.dia_upgrades.specs.Outcome.{IsListed};
 ghost use Rattle.dia_c_calls.specs.Held.{MayBeText, text_in};
-ghost use Rattle.dia_c_calls.specs.Upgrades.{HasListed, IsLineOfUnknown, IsNotListed, IsToldOf, IsUnlisted};
+ghost use Rattle.dia_c_calls.specs.Upgrades.{HasListed, IsLineOfUnknown, IsNotListed, IsRecordedOf, IsUnlisted};
 ghost use Rattle.dia_c_calls.specs.Upgrades.{line_number, list_problem};
 ghost use Rattle.dia_c_calls.specs.Openings.{problem};
 
@@ -101,13 +101,13 @@ fn listed_for<A: Book, B: Book>(
     b: &B,
 ) -> Result<AnswerText, Refused>
     ensures done { IfOk result (λ found. IfSome (text_in (Some found.text.value))
-        (λ text. IsToldOf asked.entry list.now (A.meaning a.now) (B.meaning b.now) text found.holds)) }
+        (λ text. IsRecordedOf asked.entry list.now (A.meaning a.now) (B.meaning b.now) text found.holds)) }
     ensures is_text { IfOk result (λ found. IsSome (text_in (Some found.text.value)) × ∥ MayBeText (Some found.text.value) ∥₁) }
     ensures problem { IfErr result
         (λ e. (p : Problem) → e ≡ Refused.Bad p → IsUnlisted (A.meaning a.now) list.now (names_of asked.entry) p) }
 {
     let names = asked.names;
-    let ToldText { text, exit, found } = told_of(alloc, asked, list, a, b)?;
+    let RecordedText { text, exit, found } = recorded_of(alloc, asked, list, a, b)?;
     match &found {
         Found::Listed { .. } => Ok(answer_bytes(alloc, text, exit)?),
         Found::NoList(bad) => Err(Refused::Bad(list_problem(*bad))),
@@ -121,27 +121,27 @@ fn listed_for<A: Book, B: Book>(
 
 /// What was written, how it ended, and what was found.
 #[derive(Drop)]
-struct ToldText {
+struct RecordedText {
     text: Vec<u8>,
     exit: Exit,
     found: Found,
 }
 
-fn told_of<A: Book, B: Book>(
+fn recorded_of<A: Book, B: Book>(
     alloc: Global,
     asked: Asked<'_>,
     list: &Input,
     a: &A,
     b: &B,
-) -> Result<ToldText, AllocError>
-    ensures { IfOk result (λ told. IsListed asked.entry list.now (A.meaning a.now) (B.meaning b.now)
-        told.text.items told.exit told.found) }
+) -> Result<RecordedText, AllocError>
+    ensures { IfOk result (λ recorded. IsListed asked.entry list.now (A.meaning a.now) (B.meaning b.now)
+        recorded.text.items recorded.exit recorded.found) }
 {
     let mut sink = TextSink::new(alloc);
     match breaking_of(alloc, asked, list, a, b, &mut sink) {
         Ok(Listed { exit, found }) => {
             let text = sink.bytes;
-            Ok(ToldText { text, exit, found })
+            Ok(RecordedText { text, exit, found })
         }
         Err(RunFault::NoMemory) => Err(AllocError),
         Err(RunFault::Device) => match sink.refusal() {

@@ -88,24 +88,24 @@ pub fn checked<B: Book>(
 {
     match verdict_of(check_in(room, book, unknown, levels, message)) {
         Ok(verdict) => Ok(verdict),
-        Err(Untold::NoMemory) => Err(AllocError),
-        Err(Untold::Spent) => unreachable!(),
+        Err(Unrecorded::NoMemory) => Err(AllocError),
+        Err(Unrecorded::Spent) => unreachable!(),
     }
 }
 
 /// Why there is no verdict.
 #[derive(Clone, Copy)]
-pub enum Untold {
+pub enum Unrecorded {
     NoMemory,
     /// The stream was refused memory before.
     Spent,
 }
 
 /// The verdict of an answer.
-pub fn verdict_of(answer: Result<Selected, Refusal>) -> Result<Verdict, Untold>
-    ensures told { IfOk result (IsVerdict answer) }
-    ensures no_memory { result ≡ Err Untold.NoMemory → answer ≡ Err Refusal.NoMemory }
-    ensures spent { (result ≡ Err Untold.Spent) ↔ (answer ≡ Err Refusal.Spent) }
+pub fn verdict_of(answer: Result<Selected, Refusal>) -> Result<Verdict, Unrecorded>
+    ensures recorded { IfOk result (IsVerdict answer) }
+    ensures no_memory { result ≡ Err Unrecorded.NoMemory → answer ≡ Err Refusal.NoMemory }
+    ensures spent { (result ≡ Err Unrecorded.Spent) ↔ (answer ≡ Err Refusal.Spent) }
 {
     match answer {
         Ok(found) => Ok(Verdict {
@@ -115,8 +115,8 @@ pub fn verdict_of(answer: Result<Selected, Refusal>) -> Result<Verdict, Untold>
         Err(Refusal::Fault(fault)) => Ok(faulty(fault)),
         Err(Refusal::Truncated) => Ok(TRUNCATED),
         Err(Refusal::Trailing) => Ok(TRAILING),
-        Err(Refusal::NoMemory) => Err(Untold::NoMemory),
-        Err(Refusal::Spent) => Err(Untold::Spent),
+        Err(Refusal::NoMemory) => Err(Unrecorded::NoMemory),
+        Err(Refusal::Spent) => Err(Unrecorded::Spent),
     }
 }
 

@@ -8,7 +8,7 @@ use Rattle.std.proofs.lemmas.List.{append-nil, length-append, length-take, map-a
 use Rattle.std.proofs.lemmas.List.Elements.{filter-append}
 use Rattle.std.proofs.lemmas.List.Folds.{list_any-append}
 use Rattle.dia_captures.specs.declared.reasons.Seen.{Seen}
-use Rattle.dia_captures.specs.Counts.{again, counted, most_reasons, once, once_each, other_places, places, seen, seen_if_any, seen_more, told_reasons}
+use Rattle.dia_captures.specs.Counts.{again, counted, most_reasons, once, once_each, other_places, places, seen, seen_if_any, seen_more, recorded_reasons}
 
 -- ---- each element of a list
 
@@ -20,13 +20,13 @@ pub Each-map : {A : Type 0} (P Q : A → Type 0) (xs : List A) → ((x : A) → 
 Each-map P Q [] f h = tt
 Each-map P Q (x ∷ xs) f h = (f x h.0, Each-map P Q xs f h.1)
 
-Each-behind : {A : Type 0} (P : A → Type 0) (b : Bool) (x : A) (xs : List A) → P x → Each P xs → Each P (cond b (x ∷ xs) xs)
-Each-behind P true x xs here h = (here, h)
-Each-behind P false x xs here h = h
+Each-following : {A : Type 0} (P : A → Type 0) (b : Bool) (x : A) (xs : List A) → P x → Each P xs → Each P (cond b (x ∷ xs) xs)
+Each-following P true x xs here h = (here, h)
+Each-following P false x xs here h = h
 
 Each-filter : {A : Type 0} (P : A → Type 0) (p : A → Bool) (xs : List A) → Each P xs → Each P (filter p xs)
 Each-filter P p [] h = tt
-Each-filter P p (x ∷ xs) h = Each-behind P (p x) x (filter p xs) h.0 (Each-filter P p xs h.1)
+Each-filter P p (x ∷ xs) h = Each-following P (p x) x (filter p xs) h.0 (Each-filter P p xs h.1)
 
 Each-take : {A : Type 0} (P : A → Type 0) (n : ℕ) (xs : List A) → Each P xs → Each P (take n xs)
 Each-take P zero xs h = tt
@@ -93,8 +93,8 @@ module _ {R : Type 0} (same : R → R → Bool) (alike : (a b : R) → same a b 
       by false is = refl
       by true is = let e : true ≡ false = sym (itself a) ∙ ap (λ (x : R). same a x) (sym (alike b a is)) ∙ isnt in absurd cc
 
-  behind_new : (g r : R) (xs : List R) → filter (λ s. not (same g s)) (xs ++ r ∷ []) ≡ filter (λ s. not (same g s)) xs ++ filter (λ s. not (same g s)) (r ∷ [])
-  behind_new g r xs = filter-append (λ s. not (same g s)) xs (r ∷ [])
+  after_new : (g r : R) (xs : List R) → filter (λ s. not (same g s)) (xs ++ r ∷ []) ≡ filter (λ s. not (same g s)) xs ++ filter (λ s. not (same g s)) (r ∷ [])
+  after_new g r xs = filter-append (λ s. not (same g s)) xs (r ∷ [])
 
   kept_last : (g r : R) → same g r ≡ false → filter (λ s. not (same g s)) (r ∷ []) ≡ r ∷ []
   kept_last g r isnt = ap (λ (b : Bool). cond (not b) (r ∷ []) []) isnt
@@ -107,7 +107,7 @@ module _ {R : Type 0} (same : R → R → Bool) (alike : (a b : R) → same a b 
   once_more_new (g ∷ gs) r none =
       let (here, rest) = either_false (same g r) (is_among gs r) none in
       ap (λ (xs : List R). g ∷ filter (λ s. not (same g s)) xs) (once_more_new gs r rest)
-      ∙ ap (λ (xs : List R). g ∷ xs) (behind_new g r (once_each same gs) ∙ ap (λ (xs : List R). filter (λ s. not (same g s)) (once_each same gs) ++ xs) (kept_last g r here))
+      ∙ ap (λ (xs : List R). g ∷ xs) (after_new g r (once_each same gs) ∙ ap (λ (xs : List R). filter (λ s. not (same g s)) (once_each same gs) ++ xs) (kept_last g r here))
 
   once_more_known : (rs : List R) (r : R) → is_among rs r ≡ true → once_each same (rs ++ r ∷ []) ≡ once_each same rs
   once_more_known [] r some = absurd (false≢true some)
@@ -118,7 +118,7 @@ module _ {R : Type 0} (same : R → R → Bool) (alike : (a b : R) → same a b 
       by true known b is before = ap (λ (xs : List R). g ∷ filter (λ s. not (same g s)) xs) (before known)
       by false new true is before =
           ap (λ (xs : List R). g ∷ filter (λ s. not (same g s)) xs) (once_more_new gs r new)
-          ∙ ap (λ (xs : List R). g ∷ xs) (behind_new g r (once_each same gs)
+          ∙ ap (λ (xs : List R). g ∷ xs) (after_new g r (once_each same gs)
           ∙ ap (λ (xs : List R). filter (λ s. not (same g s)) (once_each same gs) ++ xs) (dropped_last g r is) ∙ append-nil (filter (λ s. not (same g s)) (once_each same gs)))
       by false new false isnt before =
           let e : false ≡ true = sym (ap₂ (λ (x y : Bool). x || y) isnt new) ∙ some in absurd cc
@@ -177,8 +177,8 @@ module _ {R : Type 0} (same : R → R → Bool) (alike : (a b : R) → same a b 
   -- ---- one more that was met
 
   module _ (mets : List (ℕ × R)) (place : ℕ) (r : R) where
-    abbrev told : List R
-    told = told_reasons same mets
+    abbrev recorded : List R
+    recorded = recorded_reasons same mets
 
     abbrev more : List (ℕ × R)
     more = mets ++ (place, r) ∷ []
@@ -207,11 +207,11 @@ module _ {R : Type 0} (same : R → R → Bool) (alike : (a b : R) → same a b 
         by true = seen_again (places same mets s) place (somewhere mets s met)
         by false = ap seen (append-nil (places same mets s))
 
-    pub Each-told : Each (λ s. seen (places same more s) ≡ again_where s (seen (places same mets s))) told
-    Each-told = Each-map (λ s. list_any (same s) (reasons mets) ≡ true) (λ s. seen (places same more s) ≡ again_where s (seen (places same mets s))) told seen_of_met
+    pub Each-recorded : Each (λ s. seen (places same more s) ≡ again_where s (seen (places same mets s))) recorded
+    Each-recorded = Each-map (λ s. list_any (same s) (reasons mets) ≡ true) (λ s. seen (places same more s) ≡ again_where s (seen (places same mets s))) recorded seen_of_met
         (Each-take (λ s. list_any (same s) (reasons mets) ≡ true) most_reasons (once_each same (reasons mets)) (all_met (reasons mets)))
 
-    others_where : (kept : List R) → told_reasons same more ≡ kept
+    others_where : (kept : List R) → recorded_reasons same more ≡ kept
         → other_places same more ≡ map (λ (m : ℕ × R). m.0) (filter (λ m. not (is_among kept m.1)) mets) ++ cond (not (is_among kept r)) (place ∷ []) []
     others_where kept is =
         ap (λ (k : List R). map (λ (m : ℕ × R). m.0) (filter (λ m. not (is_among k m.1)) more)) is
@@ -224,42 +224,42 @@ module _ {R : Type 0} (same : R → R → Bool) (alike : (a b : R) → same a b 
         by false = refl
 
     -- it is told already
-    pub told_known : is_among told r ≡ true → told_reasons same more ≡ told
-    told_known known =
+    pub recorded_known : is_among recorded r ≡ true → recorded_reasons same more ≡ recorded
+    recorded_known known =
         ap (λ (rs : List R). take most_reasons (once_each same rs)) more_reasons
         ∙ ap (take most_reasons) (once_more_known (reasons mets) r (sym (among_once (reasons mets) r) ∙ among_front most_reasons (once_each same (reasons mets)) r known))
 
-    pub others_known : is_among told r ≡ true → other_places same more ≡ other_places same mets
+    pub others_known : is_among recorded r ≡ true → other_places same more ≡ other_places same mets
     others_known known =
-        others_where told (told_known known) ∙ ap (λ (b : Bool). other_places same mets ++ cond (not b) (place ∷ []) []) known ∙ append-nil (other_places same mets)
+        others_where recorded (recorded_known known) ∙ ap (λ (b : Bool). other_places same mets ++ cond (not b) (place ∷ []) []) known ∙ append-nil (other_places same mets)
 
     -- there is no room for it
-    pub told_full : is_among told r ≡ false → most_reasons ≤ length told → told_reasons same more ≡ told
-    told_full new full = ap (λ (rs : List R). take most_reasons (once_each same rs)) more_reasons ∙ by (is_among (reasons mets) r) refl
+    pub recorded_full : is_among recorded r ≡ false → most_reasons ≤ length recorded → recorded_reasons same more ≡ recorded
+    recorded_full new full = ap (λ (rs : List R). take most_reasons (once_each same rs)) more_reasons ∙ by (is_among (reasons mets) r) refl
       where
-        by : (b : Bool) → is_among (reasons mets) r ≡ b → take most_reasons (once_each same (reasons mets ++ r ∷ [])) ≡ told
+        by : (b : Bool) → is_among (reasons mets) r ≡ b → take most_reasons (once_each same (reasons mets ++ r ∷ [])) ≡ recorded
         by true known = ap (take most_reasons) (once_more_known (reasons mets) r known)
         by false none =
             ap (take most_reasons) (once_more_new (reasons mets) r none)
             ∙ take-append-le most_reasons (once_each same (reasons mets)) (r ∷ []) (grind (arith, length-take most_reasons (once_each same (reasons mets)), full))
 
-    pub others_full : is_among told r ≡ false → most_reasons ≤ length told → other_places same more ≡ other_places same mets ++ place ∷ []
-    others_full new full = others_where told (told_full new full) ∙ ap (λ (b : Bool). other_places same mets ++ cond (not b) (place ∷ []) []) new
+    pub others_full : is_among recorded r ≡ false → most_reasons ≤ length recorded → other_places same more ≡ other_places same mets ++ place ∷ []
+    others_full new full = others_where recorded (recorded_full new full) ∙ ap (λ (b : Bool). other_places same mets ++ cond (not b) (place ∷ []) []) new
 
     -- there is room for it
-    module _ (new : is_among told r ≡ false) (room : length told < most_reasons) where
-      all_told : told ≡ once_each same (reasons mets)
-      all_told = take_all most_reasons (once_each same (reasons mets)) (grind (arith, length-take most_reasons (once_each same (reasons mets)), room))
+    module _ (new : is_among recorded r ≡ false) (room : length recorded < most_reasons) where
+      all_recorded : recorded ≡ once_each same (reasons mets)
+      all_recorded = take_all most_reasons (once_each same (reasons mets)) (grind (arith, length-take most_reasons (once_each same (reasons mets)), room))
 
       never_met : is_among (reasons mets) r ≡ false
-      never_met = sym (among_once (reasons mets) r) ∙ ap (λ (k : List R). is_among k r) (sym all_told) ∙ new
+      never_met = sym (among_once (reasons mets) r) ∙ ap (λ (k : List R). is_among k r) (sym all_recorded) ∙ new
 
-      pub told_new : told_reasons same more ≡ told ++ r ∷ []
-      told_new =
+      pub recorded_new : recorded_reasons same more ≡ recorded ++ r ∷ []
+      recorded_new =
           ap (λ (rs : List R). take most_reasons (once_each same rs)) more_reasons ∙ ap (take most_reasons) (once_more_new (reasons mets) r never_met)
           ∙ take_all most_reasons (once_each same (reasons mets) ++ r ∷ [])
-          (omega (arith, length-append (once_each same (reasons mets)) (r ∷ []), ap length all_told, room))
-          ∙ ap (λ (k : List R). k ++ r ∷ []) (sym all_told)
+          (omega (arith, length-append (once_each same (reasons mets)) (r ∷ []), ap length all_recorded, room))
+          ∙ ap (λ (k : List R). k ++ r ∷ []) (sym all_recorded)
 
       none_met : (ms : List (ℕ × R)) → is_among (reasons ms) r ≡ false → Each (λ (m : ℕ × R). same m.1 r ≡ false) ms
       none_met [] h = tt
@@ -272,20 +272,20 @@ module _ {R : Type 0} (same : R → R → Bool) (alike : (a b : R) → same a b 
       pub seen_new : seen (places same more r) ≡ once place
       seen_new = ap seen (places_more r ∙ ap₂ (λ (ps : List ℕ) (b : Bool). ps ++ cond b (place ∷ []) []) nowhere (itself r))
 
-      not_more : (m : ℕ × R) → same m.1 r ≡ false → not (is_among (told ++ r ∷ []) m.1) ≡ not (is_among told m.1)
-      not_more m differs = ap not (list_any-append (λ s. same s m.1) told (r ∷ []) ∙ ap (λ (b : Bool). is_among told m.1 || (b || false)) (other m.1 r differs) ∙ or_false (is_among told m.1))
+      not_more : (m : ℕ × R) → same m.1 r ≡ false → not (is_among (recorded ++ r ∷ []) m.1) ≡ not (is_among recorded m.1)
+      not_more m differs = ap not (list_any-append (λ s. same s m.1) recorded (r ∷ []) ∙ ap (λ (b : Bool). is_among recorded m.1 || (b || false)) (other m.1 r differs) ∙ or_false (is_among recorded m.1))
         where
           or_false : (a : Bool) → (a || (false || false)) ≡ a
           or_false true = refl
           or_false false = refl
 
-      now_told : is_among (told ++ r ∷ []) r ≡ true
-      now_told = list_any-append (λ s. same s r) told (r ∷ []) ∙ ap (λ (b : Bool). is_among told r || (b || false)) (itself r) ∙ or_true (is_among told r)
+      now_recorded : is_among (recorded ++ r ∷ []) r ≡ true
+      now_recorded = list_any-append (λ s. same s r) recorded (r ∷ []) ∙ ap (λ (b : Bool). is_among recorded r || (b || false)) (itself r) ∙ or_true (is_among recorded r)
 
       pub others_new : other_places same more ≡ other_places same mets
       others_new =
-          others_where (told ++ r ∷ []) told_new
-          ∙ ap (λ (b : Bool). map (λ (m : ℕ × R). m.0) (filter (λ m. not (is_among (told ++ r ∷ []) m.1)) mets) ++ cond (not b) (place ∷ []) []) now_told
-          ∙ append-nil (map (λ (m : ℕ × R). m.0) (filter (λ m. not (is_among (told ++ r ∷ []) m.1)) mets))
-          ∙ ap (map (λ (m : ℕ × R). m.0)) (filter_each (λ m. not (is_among (told ++ r ∷ []) m.1)) (λ m. not (is_among told m.1)) mets
-          (Each-map (λ (m : ℕ × R). same m.1 r ≡ false) (λ m. not (is_among (told ++ r ∷ []) m.1) ≡ not (is_among told m.1)) mets not_more (none_met mets never_met)))
+          others_where (recorded ++ r ∷ []) recorded_new
+          ∙ ap (λ (b : Bool). map (λ (m : ℕ × R). m.0) (filter (λ m. not (is_among (recorded ++ r ∷ []) m.1)) mets) ++ cond (not b) (place ∷ []) []) now_recorded
+          ∙ append-nil (map (λ (m : ℕ × R). m.0) (filter (λ m. not (is_among (recorded ++ r ∷ []) m.1)) mets))
+          ∙ ap (map (λ (m : ℕ × R). m.0)) (filter_each (λ m. not (is_among (recorded ++ r ∷ []) m.1)) (λ m. not (is_among recorded m.1)) mets
+          (Each-map (λ (m : ℕ × R). same m.1 r ≡ false) (λ m. not (is_among (recorded ++ r ∷ []) m.1) ≡ not (is_among recorded m.1)) mets not_more (none_met mets never_met)))

@@ -12,7 +12,7 @@ use Rattle.dia_io.specs.declared.Exit.{Exit}
 use Rattle.dia_io.specs.declared.Exit.TheVariants as exits
 use Rattle.dia_io.specs.declared.Command.TheVariants as command
 use Rattle.dia_io.specs.Writing.{AppendsFront}
-use Rattle.dia_lines.specs.Lines.{LineHasOneAnswer, told_lines}
+use Rattle.dia_lines.specs.Lines.{LineHasOneAnswer, recorded_lines}
 use Rattle.dia_lines.specs.Lines as lines
 use Rattle.dia_lines.specs.FeedToSink.{AllAnswered, FrontAnswered, LinesAnswered}
 use Rattle.dia_lines.proofs.LineNumbers.{without_numbers}
@@ -22,7 +22,7 @@ use Rattle.dia_report.specs.declared.refusing.Refused.{Refused}
 use Rattle.dia_report.specs.declared.refusing.Refused.TheVariants.{Bad, NoMemory}
 use Rattle.dia_report.specs.Refusals.{dictionary_line}
 use Rattle.dia_run.specs.Texts.{line, IsDictionaryText}
-use Rattle.dia_report.specs.Refusals.{TellsOf, bad_input_text}
+use Rattle.dia_report.specs.Refusals.{RecordsOf, bad_input_text}
 use Rattle.dia_run.proofs.OneInput.{Same, refused_once, dictionary_or_not, one_reason_for_dictionary}
 use Rattle.dia_run.proofs.OneOutcome.{one_outcome}
 use Rattle.dia_captures.specs.declared.ended.Ended.{Ended}
@@ -39,21 +39,21 @@ same_exits g h exit_of same (v ∷ vs) = ap (λ (x : Exit). x ∷ map exit_of vs
 
 -- ---- lines that were answered
 
-module _ {V : Type 0} (command : MessageCommand) (inputs : Inputs) (P : Input → V → Type 0) (told : V → List ℕ) (exit_of : V → Exit)
-    (f : (message : Input) (verdict : V) → P message verdict → OfLine command inputs message (told verdict, exit_of verdict)) where
+module _ {V : Type 0} (command : MessageCommand) (inputs : Inputs) (P : Input → V → Type 0) (recorded : V → List ℕ) (exit_of : V → Exit)
+    (f : (message : Input) (verdict : V) → P message verdict → OfLine command inputs message (recorded verdict, exit_of verdict)) where
   abbrev answer : V → Answer
-  answer verdict = (told verdict, exit_of verdict)
+  answer verdict = (recorded verdict, exit_of verdict)
 
   -- no number is told
   abbrev text : List V → List ℕ
-  text = told_lines (λ number verdict. told verdict)
+  text = recorded_lines (λ number verdict. recorded verdict)
 
   same : (verdicts : List V) → text verdicts ≡ flat_map text_of (map answer verdicts)
-  same verdicts = without_numbers told 1 verdicts ∙ same_text answer told text_of (λ verdict. refl) verdicts
+  same verdicts = without_numbers recorded 1 verdicts ∙ same_text answer recorded text_of (λ verdict. refl) verdicts
 
   pub all_answered : {W : Type 0} (saw : W → List V → Type 0) (fed_old fed put_old put : Option (List ℕ)) (w x : W)
       → AllAnswered P text saw fed_old fed put_old put w x → (ended : Ended) (exit : Exit)
-      → ((told : List ℕ) → ¬ command.refuses inputs told) → exit ≡ command.exit_of ended → saw w []
+      → ((recorded : List ℕ) → ¬ command.refuses inputs recorded) → exit ≡ command.exit_of ended → saw w []
       → ((verdicts : List V) → saw x verdicts → ended ≡ ended_of (map exit_of verdicts)) → AreLinesAnswered command inputs fed_old fed put_old put exit
   all_answered saw fed_old fed put_old put w x h ended exit sound is nothing counts = record {
     bytes = h.bytes;
@@ -75,21 +75,21 @@ module _ {V : Type 0} (command : MessageCommand) (inputs : Inputs) (P : Input �
 -- ---- dictionaries that are refused
 
 module _ (command : MessageCommand) (inputs : Inputs) where
-  pub all_refused : (fed put_old put : Option (List ℕ)) (r : Refused) (exit : Exit) → r ≢ NoMemory → TellsOf (command.refuses inputs) r
-      → TellsOf (λ told. Appends put_old put (line told)) r → exit ≡ exits.Bad → AreLinesAnswered command inputs fed fed put_old put exit
-  all_refused fed put_old put (Bad bad) exit some tells is_put is = record {
+  pub all_refused : (fed put_old put : Option (List ℕ)) (r : Refused) (exit : Exit) → r ≢ NoMemory → RecordsOf (command.refuses inputs) r
+      → RecordsOf (λ recorded. Appends put_old put (line recorded)) r → exit ≡ exits.Bad → AreLinesAnswered command inputs fed fed put_old put exit
+  all_refused fed put_old put (Bad bad) exit some records is_put is = record {
     bytes = [];
     text = line (bad_input_text bad);
     consumed = Consumes-nil fed;
-    outcome = refused (bad_input_text bad) tells (refl, is);
+    outcome = refused (bad_input_text bad) records (refl, is);
     is_put = is_put;
   }
-  all_refused fed put_old put NoMemory exit some tells is_put is = absurd (some refl)
+  all_refused fed put_old put NoMemory exit some records is_put is = absurd (some refl)
 
-  pub front_refused : (fed put_old put : Option (List ℕ)) (r : Refused) → r ≢ NoMemory → TellsOf (command.refuses inputs) r
-      → TellsOf (λ told. AppendsFront put_old put (line told)) r → IsFrontPut command inputs fed fed put_old put
-  front_refused fed put_old put (Bad bad) some tells is_put = inr (bad_input_text bad, tells, Consumes-nil fed, is_put)
-  front_refused fed put_old put NoMemory some tells is_put = absurd (some refl)
+  pub front_refused : (fed put_old put : Option (List ℕ)) (r : Refused) → r ≢ NoMemory → RecordsOf (command.refuses inputs) r
+      → RecordsOf (λ recorded. AppendsFront put_old put (line recorded)) r → IsFrontPut command inputs fed fed put_old put
+  front_refused fed put_old put (Bad bad) some records is_put = inr (bad_input_text bad, records, Consumes-nil fed, is_put)
+  front_refused fed put_old put NoMemory some records is_put = absurd (some refl)
 
   -- no memory for a dictionary
   pub nothing_answered : (fed put : Option (List ℕ)) → LinesAnswered (OfLine command inputs) (flat_map text_of) fed fed put put
@@ -122,9 +122,9 @@ module _ (command : MessageCommand) (inputs : Inputs) (one_line : LineHasOneAnsw
         is_t ∙ ap (λ (a : List Answer). flat_map text_of a) same ∙ sym is_u,
         is ∙ ap (λ (a : List Answer). command.exit_of (ended_of (map (λ (b : Answer). b.1) a))) same ∙ sym is',
       )
-  once bytes t u x y (answered answers sound h is_t is) (refused told refuses is_u) = absurd (sound told refuses)
-  once bytes t u x y (refused told refuses is_t) (answered answers sound h is_u is) = absurd (sound told refuses)
-  once bytes t u x y (refused told refuses is_t) (refused other refuses' is_u) = refused_once told other t u x y (one_reason told other refuses refuses') is_t is_u
+  once bytes t u x y (answered answers sound h is_t is) (refused recorded refuses is_u) = absurd (sound recorded refuses)
+  once bytes t u x y (refused recorded refuses is_t) (answered answers sound h is_u is) = absurd (sound recorded refuses)
+  once bytes t u x y (refused recorded refuses is_t) (refused other refuses' is_u) = refused_once recorded other t u x y (one_reason recorded other refuses refuses') is_t is_u
 
 pub same_answer : (a b : Answer) → Same a.0 b.0 a.1 b.1 → a ≡ b
 same_answer (t, x) (u, y) (same_text, same_exit) = ap (λ (s : List ℕ). (s, x)) same_text ∙ ap (λ (e : Exit). (u, e)) same_exit
@@ -158,10 +158,10 @@ pub refutations_once : (policy : Unknown) (most : Levels) (inputs : Inputs) (byt
 refutations_once policy most inputs = once (refutations policy most) inputs (one_refute policy most inputs) (one_of_two policy most inputs)
 
 -- dictionaries that are read aren't refused
-pub first_stands : (inputs : Inputs) (d : Dictionary) → IsDictionaryText inputs.first d → (told : List ℕ) → ¬ RefusesFirst inputs told
-first_stands inputs d is_d told (why, none, is) = dictionary_or_not inputs.first d why is_d none
+pub first_occurs : (inputs : Inputs) (d : Dictionary) → IsDictionaryText inputs.first d → (recorded : List ℕ) → ¬ RefusesFirst inputs recorded
+first_occurs inputs d is_d recorded (why, none, is) = dictionary_or_not inputs.first d why is_d none
 
-pub both_stand : (u : Unknown) (most : Levels) (inputs : Inputs) (a b : Dictionary) → IsDictionaryText inputs.first a → IsDictionaryText inputs.second b → (told : List ℕ)
-    → ¬ (refutations u most).refuses inputs told
-both_stand u most inputs a b is_a is_b told (inl h) = first_stands inputs a is_a told h
-both_stand u most inputs a b is_a is_b told (inr (c, is_c, (why, none, is))) = dictionary_or_not inputs.second b why is_b none
+pub both_stand : (u : Unknown) (most : Levels) (inputs : Inputs) (a b : Dictionary) → IsDictionaryText inputs.first a → IsDictionaryText inputs.second b → (recorded : List ℕ)
+    → ¬ (refutations u most).refuses inputs recorded
+both_stand u most inputs a b is_a is_b recorded (inl h) = first_occurs inputs a is_a recorded h
+both_stand u most inputs a b is_a is_b recorded (inr (c, is_c, (why, none, is))) = dictionary_or_not inputs.second b why is_b none

@@ -23,7 +23,7 @@ use Rattle.dia_lines.specs.Lines.{IsLineInput}
 use Rattle.dia_run.specs.Texts.{IsMessageText, IsNoMessageText, digits_of, too_long, not_hexadecimal, IsDictionaryText, line}
 use Rattle.dia_report.specs.declared.refusing.Refused.{Refused}
 use Rattle.dia_report.specs.declared.refusing.Refused.TheVariants as kinds
-use Rattle.dia_report.specs.Refusals.{TellsOf}
+use Rattle.dia_report.specs.Refusals.{RecordsOf}
 use Rattle.dia_run.specs.Outcome.{IsJudged, ended, no_dictionary, no_message, no_first, no_second, IsRefutation, refutes, does_not}
 use Rattle.dia_run.proofs.FedTexts.{names_command}
 use Rattle.dia_run.proofs.HexTexts.{decoded}
@@ -103,7 +103,7 @@ module _ (u : Unknown) (most : Levels) (d : Dictionary) where
 -- ---- lines
 
 -- a text that is refused spells no message
-refused_text : (message : Input) (verdict : Checked) → IsTextRefused message verdict → (told : List ℕ) × IsNoMessageText message told
+refused_text : (message : Input) (verdict : Checked) → IsTextRefused message verdict → (recorded : List ℕ) × IsNoMessageText message recorded
 refused_text message (Valid found) h = absurd h
 refused_text message (Wrong (flaw.Fault fault)) h = absurd h
 refused_text message (Wrong flaw.Truncated) h = absurd h
@@ -112,10 +112,10 @@ refused_text message (Wrong flaw.TooLong) over = (codes "message: too long", too
 refused_text message (Wrong flaw.NotHexadecimal) (text, held, none) = (codes "message: not hexadecimal", not_hexadecimal text held none refl)
 
 -- what is wrong with a text that is refused
-pub refused_flaw : (message : Input) (refused : Refused) (f : Flaw) → TellsOf (λ told. IsNoMessageText message told → IsTextRefused message (Wrong f)) refused
-    → ¬ (refused ≡ kinds.NoMemory) → TellsOf (IsNoMessageText message) refused → IsTextRefused message (Wrong f)
-refused_flaw message (kinds.Bad bad) f tells memory none = tells none
-refused_flaw message kinds.NoMemory f tells memory none = absurd (memory refl)
+pub refused_flaw : (message : Input) (refused : Refused) (f : Flaw) → RecordsOf (λ recorded. IsNoMessageText message recorded → IsTextRefused message (Wrong f)) refused
+    → ¬ (refused ≡ kinds.NoMemory) → RecordsOf (IsNoMessageText message) refused → IsTextRefused message (Wrong f)
+refused_flaw message (kinds.Bad bad) f records memory none = records none
+refused_flaw message kinds.NoMemory f records memory none = absurd (memory refl)
 
 -- a text that is digits, but for white space at its end
 pub digits_spelled : {E : Type 0} (r : Result (Option ℕ) E) (line : Input) (text digits items : List ℕ) → Holds line max_message_text text
@@ -174,7 +174,7 @@ module _ (u : Unknown) (most : Levels) (a b : Dictionary) (sound_a : IsDictionar
       (answered (codes "message: too long\n") (codes "message: not hexadecimal\n")
       (if is_valid x && not (is_valid y) then codes "refutes\n" else codes "does not refute\n") bytes x h)
       (answered Bad Bad (if is_valid x && not (is_valid y) then Yes else No) bytes x h)
-  refutation x y (inl (bytes, text, h)) (inr k) = let (told, none) = refused_text message y k in absurd (message_or_not message bytes told text none)
+  refutation x y (inl (bytes, text, h)) (inr k) = let (recorded, none) = refused_text message y k in absurd (message_or_not message bytes recorded text none)
   refutation (Valid found) y (inr h) k = absurd h
   refutation (Wrong (flaw.Fault fault)) y (inr h) k = absurd h
   refutation (Wrong flaw.Truncated) y (inr h) k = absurd h
@@ -196,12 +196,12 @@ text_of (Bytes v) (Bytes w) bytes message h k (text, held, spells) = (text, (k.0
 text_of (Bytes v) TooLong bytes message h k (text, held, spells) = absurd (omega (arith, h.1, k))
 text_of TooLong b bytes message h k (text, held, spells) = absurd held
 
-none_of : (a b : Input) (bytes told : List ℕ) → IsLineInput a bytes → IsLineInput b bytes → IsNoMessageText a told → IsNoMessageText b told
-none_of (Bytes v) (Bytes w) bytes told h k (too_long over is) = too_long (subst (λ (x : List ℕ). max_message_text < length x) (h.0 ∙ sym k.0) over) is
-none_of (Bytes v) (Bytes w) bytes told h k (not_hexadecimal text held none is) = not_hexadecimal text (k.0 ∙ sym h.0 ∙ held.0, held.1) none is
-none_of (Bytes v) TooLong bytes told h k none = absurd (omega (arith, h.1, k))
-none_of TooLong (Bytes w) bytes told h k none = absurd (omega (arith, h, k.1))
-none_of TooLong TooLong bytes told h k none = none
+none_of : (a b : Input) (bytes recorded : List ℕ) → IsLineInput a bytes → IsLineInput b bytes → IsNoMessageText a recorded → IsNoMessageText b recorded
+none_of (Bytes v) (Bytes w) bytes recorded h k (too_long over is) = too_long (subst (λ (x : List ℕ). max_message_text < length x) (h.0 ∙ sym k.0) over) is
+none_of (Bytes v) (Bytes w) bytes recorded h k (not_hexadecimal text held none is) = not_hexadecimal text (k.0 ∙ sym h.0 ∙ held.0, held.1) none is
+none_of (Bytes v) TooLong bytes recorded h k none = absurd (omega (arith, h.1, k))
+none_of TooLong (Bytes w) bytes recorded h k none = absurd (omega (arith, h, k.1))
+none_of TooLong TooLong bytes recorded h k none = none
 
 pub same_check : (u : Unknown) (most : Levels) (inputs : Inputs) (a b : Input) (bytes : List ℕ) (answer : Answer) → IsLineInput a bytes → IsLineInput b bytes
     → OfLine (checks u most) inputs a answer → OfLine (checks u most) inputs b answer
@@ -209,11 +209,11 @@ same_check u most inputs a b bytes answer h k (ended d message is_d text is) = e
 same_check u most inputs a b bytes answer h k (no_dictionary why none refuses) = no_dictionary why none refuses
 same_check u most inputs a b bytes answer h k (no_message d why is_d none refuses) = no_message d why is_d (none_of a b bytes why h k none) refuses
 
-same_refutation : (u : Unknown) (most : Levels) (first second : Dictionary) (a b : Input) (bytes told : List ℕ) (exit : Exit) → IsLineInput a bytes → IsLineInput b bytes
-    → IsRefutation u most a first second told exit → IsRefutation u most b first second told exit
-same_refutation u most first second a b bytes told exit h k (refutes message text is is_t is_x) = refutes message (text_of a b bytes message h k text) is is_t is_x
-same_refutation u most first second a b bytes told exit h k (does_not message text is is_t is_x) = does_not message (text_of a b bytes message h k text) is is_t is_x
-same_refutation u most first second a b bytes told exit h k (no_message why none refuses) = no_message why (none_of a b bytes why h k none) refuses
+same_refutation : (u : Unknown) (most : Levels) (first second : Dictionary) (a b : Input) (bytes recorded : List ℕ) (exit : Exit) → IsLineInput a bytes → IsLineInput b bytes
+    → IsRefutation u most a first second recorded exit → IsRefutation u most b first second recorded exit
+same_refutation u most first second a b bytes recorded exit h k (refutes message text is is_t is_x) = refutes message (text_of a b bytes message h k text) is is_t is_x
+same_refutation u most first second a b bytes recorded exit h k (does_not message text is is_t is_x) = does_not message (text_of a b bytes message h k text) is is_t is_x
+same_refutation u most first second a b bytes recorded exit h k (no_message why none refuses) = no_message why (none_of a b bytes why h k none) refuses
 
 pub same_refute : (u : Unknown) (most : Levels) (inputs : Inputs) (a b : Input) (bytes : List ℕ) (answer : Answer) → IsLineInput a bytes → IsLineInput b bytes
     → OfLine (refutations u most) inputs a answer → OfLine (refutations u most) inputs b answer

@@ -18,9 +18,9 @@ use Rattle.dia_captures.specs.declared.verdicts.Flaw.TheVariants as flaw
 use Rattle.dia_captures.specs.declared.reasons.Seen.{Seen}
 use Rattle.dia_captures.specs.declared.reasons.Met.{Met}
 use Rattle.dia_captures.specs.declared.reasons.Reasons.{Reasons}
-use Rattle.dia_captures.specs.Counts.{AreCounted, again, again_if, is_same, is_same_subject, most_reasons, once, other_places, others_seen, places, seen, seen_if_any, seen_more, told_mets}
-use Rattle.dia_captures.specs.Counts.{told_reasons}
-use Rattle.dia_captures.proofs.Counting.{Each-map, Each-told, either_false, is_among, map_each, others_full, others_known, others_new, seen_if_more, seen_new, told_full, told_known, told_new}
+use Rattle.dia_captures.specs.Counts.{AreCounted, again, again_if, is_same, is_same_subject, most_reasons, once, other_places, others_seen, places, seen, seen_if_any, seen_more, recorded_mets}
+use Rattle.dia_captures.specs.Counts.{recorded_reasons}
+use Rattle.dia_captures.proofs.Counting.{Each-map, Each-recorded, either_false, is_among, map_each, others_full, others_known, others_new, seen_if_more, seen_new, recorded_full, recorded_known, recorded_new}
 
 -- ---- flaws that are the same are equal
 
@@ -150,8 +150,8 @@ module _ (mets : List (ℕ × Flaw)) (place : ℕ) (r : Flaw) where
   abbrev met : List (ℕ × Flaw) → Flaw → Met
   met ms s = record { flaw = s; seen = seen (places is_same ms s) }
 
-  abbrev told : List Flaw
-  told = told_reasons is_same mets
+  abbrev recorded : List Flaw
+  recorded = recorded_reasons is_same mets
 
   once_more : (s : Flaw) → seen (places is_same more s) ≡ (if is_same s r then again (seen (places is_same mets s)) else seen (places is_same mets s))
       → again_if r (met mets s) ≡ met more s
@@ -162,43 +162,43 @@ module _ (mets : List (ℕ × Flaw)) (place : ℕ) (r : Flaw) where
       by true = refl
       by false = refl
 
-  told_again : map (again_if r) (told_mets mets) ≡ map (met more) told
-  told_again =
-      map_twice (again_if r) (met mets) told
-      ∙ map_each (λ s. again_if r (met mets s)) (met more) told
+  recorded_again : map (again_if r) (recorded_mets mets) ≡ map (met more) recorded
+  recorded_again =
+      map_twice (again_if r) (met mets) recorded
+      ∙ map_each (λ s. again_if r (met mets s)) (met more) recorded
       (Each-map (λ s. seen (places is_same more s) ≡ (if is_same s r then again (seen (places is_same mets s)) else seen (places is_same mets s)))
-      (λ s. again_if r (met mets s) ≡ met more s) told once_more (Each-told is_same alike itself mets place r))
+      (λ s. again_if r (met mets s) ≡ met more s) recorded once_more (Each-recorded is_same alike itself mets place r))
 
-  among : (b : Bool) → list_any (λ met. is_same met.flaw r) (told_mets mets) ≡ b → is_among is_same alike itself told r ≡ b
-  among b is = sym (any_map (λ met. is_same met.flaw r) (met mets) told) ∙ is
+  among : (b : Bool) → list_any (λ met. is_same met.flaw r) (recorded_mets mets) ≡ b → is_among is_same alike itself recorded r ≡ b
+  among b is = sym (any_map (λ met. is_same met.flaw r) (met mets) recorded) ∙ is
 
-  pub known_kept : list_any (λ met. is_same met.flaw r) (told_mets mets) ≡ true → map (again_if r) (told_mets mets) ≡ told_mets more
-  known_kept known = told_again ∙ sym (ap (map (met more)) (told_known is_same alike itself mets place r (among true known)))
+  pub known_kept : list_any (λ met. is_same met.flaw r) (recorded_mets mets) ≡ true → map (again_if r) (recorded_mets mets) ≡ recorded_mets more
+  known_kept known = recorded_again ∙ sym (ap (map (met more)) (recorded_known is_same alike itself mets place r (among true known)))
 
-  pub known_others : list_any (λ met. is_same met.flaw r) (told_mets mets) ≡ true → others_seen mets ≡ others_seen more
+  pub known_others : list_any (λ met. is_same met.flaw r) (recorded_mets mets) ≡ true → others_seen mets ≡ others_seen more
   known_others known = sym (ap seen_if_any (others_known is_same alike itself mets place r (among true known)))
 
-  module _ (new : list_any (λ met. is_same met.flaw r) (told_mets mets) ≡ false) where
-    stays : told_mets mets ≡ map (met more) told
-    stays = sym (not_again r (told_mets mets) new) ∙ told_again
+  module _ (new : list_any (λ met. is_same met.flaw r) (recorded_mets mets) ≡ false) where
+    stays : recorded_mets mets ≡ map (met more) recorded
+    stays = sym (not_again r (recorded_mets mets) new) ∙ recorded_again
 
-    long : length (told_mets mets) ≡ length told
-    long = length-map told (met mets)
+    long : length (recorded_mets mets) ≡ length recorded
+    long = length-map recorded (met mets)
 
-    pub full_kept : most_reasons ≤ length (told_mets mets) → told_mets mets ≡ told_mets more
-    full_kept full = stays ∙ sym (ap (map (met more)) (told_full is_same alike itself mets place r (among false new) (omega (arith, full, long))))
+    pub full_kept : most_reasons ≤ length (recorded_mets mets) → recorded_mets mets ≡ recorded_mets more
+    full_kept full = stays ∙ sym (ap (map (met more)) (recorded_full is_same alike itself mets place r (among false new) (omega (arith, full, long))))
 
-    pub full_others : most_reasons ≤ length (told_mets mets) → seen_more place (others_seen mets) ≡ others_seen more
+    pub full_others : most_reasons ≤ length (recorded_mets mets) → seen_more place (others_seen mets) ≡ others_seen more
     full_others full =
         sym (ap seen_if_any (others_full is_same alike itself mets place r (among false new) (omega (arith, full, long))) ∙ seen_if_more (other_places is_same mets) place)
 
-    pub new_kept : length (told_mets mets) < most_reasons → told_mets mets ++ (record { flaw = r; seen = once place }) ∷ [] ≡ told_mets more
+    pub new_kept : length (recorded_mets mets) < most_reasons → recorded_mets mets ++ (record { flaw = r; seen = once place }) ∷ [] ≡ recorded_mets more
     new_kept room =
         ap₂ (λ (xs : List Met) (x : Seen). xs ++ (record { flaw = r; seen = x }) ∷ []) stays (sym (seen_new is_same alike itself mets place r (among false new) (omega (arith, room, long))))
-        ∙ sym (map_push (met more) told r)
-        ∙ sym (ap (map (met more)) (told_new is_same alike itself mets place r (among false new) (omega (arith, room, long))))
+        ∙ sym (map_push (met more) recorded r)
+        ∙ sym (ap (map (met more)) (recorded_new is_same alike itself mets place r (among false new) (omega (arith, room, long))))
 
-    pub new_others : length (told_mets mets) < most_reasons → others_seen mets ≡ others_seen more
+    pub new_others : length (recorded_mets mets) < most_reasons → others_seen mets ≡ others_seen more
     new_others room = sym (ap seen_if_any (others_new is_same alike itself mets place r (among false new) (omega (arith, room, long))))
 
 -- ---- the reasons of a run, with one more
@@ -211,8 +211,8 @@ module _ (old new : Reasons) (mets : List (ℕ × Flaw)) (place : ℕ) (r : Flaw
   pub counted_known : new.others ≡ old.others → new.kept.items ≡ map (again_if r) old.kept.items → is_kept old.kept.items ≡ true → AreCounted new (mets ++ (place, r) ∷ [])
   counted_known others kept known live =
       let (is, rest) = h (sym same ∙ live) in
-      let among_told : is_kept (told_mets mets) ≡ true = sym (ap is_kept is) ∙ known in
-      (kept ∙ ap (map (again_if r)) is ∙ known_kept mets place r among_told, others ∙ rest ∙ known_others mets place r among_told)
+      let among_recorded : is_kept (recorded_mets mets) ≡ true = sym (ap is_kept is) ∙ known in
+      (kept ∙ ap (map (again_if r)) is ∙ known_kept mets place r among_recorded, others ∙ rest ∙ known_others mets place r among_recorded)
 
   -- one of which there is none yet: the others stay
   pub counted_same : new.others ≡ old.others → new.kept.items ≡ map (again_if r) old.kept.items → is_kept old.kept.items ≡ false → AreCounted new mets
@@ -227,9 +227,9 @@ module _ (old new : Reasons) (mets : List (ℕ × Flaw)) (place : ℕ) (r : Flaw
       → AreCounted new (mets ++ (place, r) ∷ [])
   counted_full none full others kept live =
       let (is, rest) = h (sym same ∙ live) in
-      let not_told : is_kept (told_mets mets) ≡ false = sym (ap is_kept is) ∙ none in
-      let no_room : most_reasons ≤ length (told_mets mets) = subst (λ (ms : List Met). most_reasons ≤ length ms) is full in
-      (kept ∙ is ∙ full_kept mets place r not_told no_room, others ∙ ap (seen_more place) rest ∙ full_others mets place r not_told no_room)
+      let not_recorded : is_kept (recorded_mets mets) ≡ false = sym (ap is_kept is) ∙ none in
+      let no_room : most_reasons ≤ length (recorded_mets mets) = subst (λ (ms : List Met). most_reasons ≤ length ms) is full in
+      (kept ∙ is ∙ full_kept mets place r not_recorded no_room, others ∙ ap (seen_more place) rest ∙ full_others mets place r not_recorded no_room)
 
 -- a new one
 pub counted_new : (old new : Reasons) (mets : List (ℕ × Flaw)) (place : ℕ) (r : Flaw) → old.refused ≡ None → AreCounted old mets
@@ -237,9 +237,9 @@ pub counted_new : (old new : Reasons) (mets : List (ℕ × Flaw)) (place : ℕ) 
     → (new.refused ≡ None → new.kept.items ≡ old.kept.items ++ (record { flaw = r; seen = once place }) ∷ []) → AreCounted new (mets ++ (place, r) ∷ [])
 counted_new old new mets place r was_live h none room others kept live =
     let (is, rest) = h was_live in
-    let not_told : list_any (λ met. is_same met.flaw r) (told_mets mets) ≡ false = sym (ap (list_any (λ met. is_same met.flaw r)) is) ∙ none in
-    let has_room : length (told_mets mets) < most_reasons = subst (λ (ms : List Met). length ms < most_reasons) is room in
-    (kept live ∙ ap (λ (ms : List Met). ms ++ (record { flaw = r; seen = once place }) ∷ []) is ∙ new_kept mets place r not_told has_room, others ∙ rest ∙ new_others mets place r not_told has_room)
+    let not_recorded : list_any (λ met. is_same met.flaw r) (recorded_mets mets) ≡ false = sym (ap (list_any (λ met. is_same met.flaw r)) is) ∙ none in
+    let has_room : length (recorded_mets mets) < most_reasons = subst (λ (ms : List Met). length ms < most_reasons) is room in
+    (kept live ∙ ap (λ (ms : List Met). ms ++ (record { flaw = r; seen = once place }) ∷ []) is ∙ new_kept mets place r not_recorded has_room, others ∙ rest ∙ new_others mets place r not_recorded has_room)
 
 -- what was added is there, unless memory was refused
 pub pushed : {V E P : Type 0} (r : Result V E) (refused : Option E) → refused ≡ result_err r → OnOk r P → refused ≡ None → P

@@ -60,12 +60,12 @@ places same mets r = map (λ m. m.0) (filter (λ m. same r m.1) mets)
 abbrev pub most_reasons : ℕ
 most_reasons = 100
 
-abbrev pub told_reasons : {R : Type 0} → (R → R → Bool) → List (ℕ × R) → List R
-told_reasons same mets = take most_reasons (once_each same (map (λ m. m.1) mets))
+abbrev pub recorded_reasons : {R : Type 0} → (R → R → Bool) → List (ℕ × R) → List R
+recorded_reasons same mets = take most_reasons (once_each same (map (λ m. m.1) mets))
 
 -- where all others were met
 abbrev pub other_places : {R : Type 0} → (R → R → Bool) → List (ℕ × R) → List ℕ
-other_places same mets = map (λ m. m.0) (filter (λ m. not (list_any (λ r. same r m.1) (told_reasons same mets))) mets)
+other_places same mets = map (λ m. m.0) (filter (λ m. not (list_any (λ r. same r m.1) (recorded_reasons same mets))) mets)
 
 -- ---- flaws as reasons
 
@@ -93,8 +93,8 @@ is_same flaw.NotHexadecimal flaw.NotHexadecimal = true
 is_same a b = false
 
 -- the reasons that are told by themselves, counted
-abbrev pub told_mets : List (ℕ × Flaw) → List Met
-told_mets mets = map (λ r. record { flaw = r; seen = seen (places is_same mets r) }) (told_reasons is_same mets)
+abbrev pub recorded_mets : List (ℕ × Flaw) → List Met
+recorded_mets mets = map (λ r. record { flaw = r; seen = seen (places is_same mets r) }) (recorded_reasons is_same mets)
 
 -- all others
 abbrev pub others_seen : List (ℕ × Flaw) → Option Seen
@@ -106,7 +106,7 @@ again_if r met = if is_same met.flaw r then (record { flaw = met.flaw; seen = ag
 
 -- these were met, unless memory was refused
 abbrev pub AreCounted : Reasons → List (ℕ × Flaw) → Type 0
-AreCounted reasons mets = reasons.refused ≡ None → (reasons.kept.items ≡ told_mets mets) × (reasons.others ≡ others_seen mets)
+AreCounted reasons mets = reasons.refused ≡ None → (reasons.kept.items ≡ recorded_mets mets) × (reasons.others ≡ others_seen mets)
 
 -- ---- verdicts
 

@@ -36,7 +36,7 @@ checks u most = record {
 abbrev pub refutations : Unknown → Levels → MessageCommand
 refutations u most = record {
   outcome = IsRefuteOutcome u most;
-  refuses = λ inputs told. RefusesFirst inputs told ⊎ RefusesSecond inputs told;
+  refuses = λ inputs recorded. RefusesFirst inputs recorded ⊎ RefusesSecond inputs recorded;
   exit_of = λ ended. if ended.some then Yes else No;
 }
 
@@ -55,10 +55,10 @@ OfLine command inputs message answer =
 -- the text for the lines of these bytes, and how the program ends: the text of each line in order, or one line of a dictionary
 -- that is refused
 pub data IsLinesOutcome (command : MessageCommand) (inputs : Inputs) (bytes text : List ℕ) (exit : Exit) : Type 0 where
-  answered : (answers : List Answer) → ((told : List ℕ) → ¬ command.refuses inputs told)
+  answered : (answers : List Answer) → ((recorded : List ℕ) → ¬ command.refuses inputs recorded)
       → IsAnswered (OfLine command inputs) bytes answers → text ≡ flat_map text_of answers
       → exit ≡ command.exit_of (ended_of (map (λ (a : Answer). a.1) answers)) → IsLinesOutcome command inputs bytes text exit
-  refused : (told : List ℕ) → command.refuses inputs told → Refuses told text exit → IsLinesOutcome command inputs bytes text exit
+  refused : (recorded : List ℕ) → command.refuses inputs recorded → Refuses recorded text exit → IsLinesOutcome command inputs bytes text exit
 
 -- these bytes were read, and the text for their lines was put
 pub record AreLinesAnswered (command : MessageCommand) (inputs : Inputs) (fed_old fed put_old put : Option (List ℕ)) (exit : Exit) : Type 0 where
@@ -71,4 +71,4 @@ pub record AreLinesAnswered (command : MessageCommand) (inputs : Inputs) (fed_ol
 -- a beginning of the text was put
 abbrev pub IsFrontPut : MessageCommand → Inputs → (fed_old fed put_old put : Option (List ℕ)) → Type 0
 IsFrontPut command inputs fed_old fed put_old put = FrontAnswered (OfLine command inputs) (flat_map text_of) fed_old fed put_old put
-    ⊎ ((told : List ℕ) × command.refuses inputs told × Consumes fed_old fed [] × AppendsFront put_old put (line told))
+    ⊎ ((recorded : List ℕ) × command.refuses inputs recorded × Consumes fed_old fed [] × AppendsFront put_old put (line recorded))

@@ -9,7 +9,7 @@ use Rattle.dia_policy.specs.declared.Levels.{Levels}
 use Rattle.dia_io.specs.declared.Inputs.{Inputs}
 use Rattle.dia_io.specs.declared.Exit.{Exit}
 use Rattle.dia_io.specs.Writing.{AppendsFront}
-use Rattle.dia_streams.specs.Streams.{IsStreamTold, StillGives, SomeTold}
+use Rattle.dia_streams.specs.Streams.{IsStreamRecorded, StillGives, SomeRecorded}
 use Rattle.dia_run.specs.Texts.{line, IsDictionaryText}
 use Rattle.dia_run.specs.Outcome.{IsJudged, Refuses}
 use Rattle.dia_captures.specs.Ending.{ended_of}
@@ -27,7 +27,7 @@ placed answer = decimal answer.0 ++ codes " " ++ answer.1.0
 
 -- the text for this stream, and how the program ends: the line of each message in order, or one line of a dictionary that is refused
 pub data IsStreamOutcome (u : Unknown) (most : Levels) (inputs : Inputs) (stream text : List ℕ) (exit : Exit) : Type 0 where
-  told : (answers : List (ℕ × Answer)) → ((why : List ℕ) → ¬ RefusesFirst inputs why) → IsStreamTold (OfMessage u most inputs) stream answers
+  recorded : (answers : List (ℕ × Answer)) → ((why : List ℕ) → ¬ RefusesFirst inputs why) → IsStreamRecorded (OfMessage u most inputs) stream answers
       → text ≡ flat_map placed answers → exit ≡ (checks u most).exit_of (ended_of (map (λ (a : ℕ × Answer). a.1.1) answers))
       → IsStreamOutcome u most inputs stream text exit
   refused : (why : List ℕ) → RefusesFirst inputs why → Refuses why text exit → IsStreamOutcome u most inputs stream text exit
@@ -42,5 +42,5 @@ pub record IsStreamAnswered (u : Unknown) (most : Levels) (inputs : Inputs) (fed
 
 -- a beginning of the text was put
 abbrev pub IsStreamFrontPut : Unknown → Levels → Inputs → (fed_old fed put_old put : Option (List ℕ)) → Type 0
-IsStreamFrontPut u most inputs fed_old fed put_old put = SomeTold (OfMessage u most inputs) placed fed_old fed put_old put
+IsStreamFrontPut u most inputs fed_old fed put_old put = SomeRecorded (OfMessage u most inputs) placed fed_old fed put_old put
     ⊎ ((why : List ℕ) × RefusesFirst inputs why × Consumes fed_old fed [] × AppendsFront put_old put (line why))

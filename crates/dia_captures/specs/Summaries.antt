@@ -12,7 +12,7 @@ use Rattle.dia_policy.specs.declared.Levels.{Levels}
 use Rattle.dia_io.specs.declared.Input.{Input}
 use Rattle.dia_io.specs.declared.Inputs.{Inputs}
 use Rattle.dia_lines.specs.Lines.{IsAnswered}
-use Rattle.dia_streams.specs.Streams.{IsStreamTold, StillGives}
+use Rattle.dia_streams.specs.Streams.{IsStreamRecorded, StillGives}
 use Rattle.dia_run.specs.Texts.{IsDictionaryText}
 use Rattle.dia_check.specs.Reasons.{reason_word}
 use Rattle.dia_run.specs.Verdict.{subject_text}
@@ -24,7 +24,7 @@ use Rattle.dia_captures.specs.declared.reasons.Seen.{Seen}
 use Rattle.dia_captures.specs.declared.reasons.Met.{Met}
 use Rattle.dia_captures.specs.declared.summaries.Lines.{Lines}
 use Rattle.dia_captures.specs.declared.summaries.Lines.TheVariants as lines
-use Rattle.dia_captures.specs.Counts.{Item, checked_items, counted, mets_of, most_counted, others_seen, placed_items, refuted_items, told_mets, yes_of}
+use Rattle.dia_captures.specs.Counts.{Item, checked_items, counted, mets_of, most_counted, others_seen, placed_items, refuted_items, recorded_mets, yes_of}
 use Rattle.dia_captures.specs.Verdicts.{IsLineChecked, IsLineRefuted, IsPieceChecked, checked_line, flaw_text, placed_line, refuted_line}
 
 -- it was made, and this holds of it, unless memory was refused to it
@@ -70,27 +70,27 @@ abbrev pub rank : Met → ℕ
 rank met = most_counted - met.seen.times
 
 -- the most frequent first; of equally frequent ones the one that was met first
-pub record AreInOrder (mets told : List Met) : Type 0 where
-  pub all : IsPermutation mets told
-  pub rises : IsNonDecreasingBy rank told
-  pub stable : IsStableByKey rank nat_cmp mets told
+pub record AreInOrder (mets recorded : List Met) : Type 0 where
+  pub all : IsPermutation mets recorded
+  pub rises : IsNonDecreasingBy rank recorded
+  pub stable : IsStableByKey rank nat_cmp mets recorded
 
 -- the summary of what was counted
 pub record IsSummary (d : Dictionary) (lines : Lines) (items : List Item) (text : List ℕ) : Type 0 where
-  pub told : List Met
-  pub in_order : AreInOrder (told_mets (mets_of items)) told
-  pub is : text ≡ first_line lines (counted (yes_of items)) (counted (length items)) ++ flat_map (met_line d lines) told ++ others_line lines (others_seen (mets_of items))
+  pub recorded : List Met
+  pub in_order : AreInOrder (recorded_mets (mets_of items)) recorded
+  pub is : text ≡ first_line lines (counted (yes_of items)) (counted (length items)) ++ flat_map (met_line d lines) recorded ++ others_line lines (others_seen (mets_of items))
 
 -- ---- of the verdicts that were shown
 
 -- the verdicts on the lines that were read, whose text was put. P says which verdict a line has
-pub record AreLinesSummed {V : Type 0} (P : Input → V → Type 0) (told : List V → List ℕ) (items_of : List V → List Item) (d : Dictionary) (lines : Lines)
+pub record AreLinesSummed {V : Type 0} (P : Input → V → Type 0) (recorded : List V → List ℕ) (items_of : List V → List Item) (d : Dictionary) (lines : Lines)
     (fed_old fed put_old put : Option (List ℕ)) (text : List ℕ) : Type 0 where
   pub bytes : List ℕ
   pub verdicts : List V
   pub consumed : Consumes fed_old fed bytes
   pub answered : IsAnswered P bytes verdicts
-  pub is_put : Appends put_old put (told verdicts)
+  pub is_put : Appends put_old put (recorded verdicts)
   pub summary : IsSummary d lines (items_of verdicts) text
 
 abbrev pub IsCheckSummary : Unknown → Levels → Inputs → (fed_old fed put_old put : Option (List ℕ)) → List ℕ → Type 0
@@ -108,6 +108,6 @@ pub record IsStreamSummary (u : Unknown) (most : Levels) (inputs : Inputs) (fed_
   pub verdicts : List (ℕ × Checked)
   pub is_first : IsDictionaryText inputs.first d
   pub consumed : Consumes fed_old fed read
-  pub told : (rest : List ℕ) → StillGives fed rest → IsStreamTold (IsPieceChecked u most d) (read ++ rest) verdicts
+  pub recorded : (rest : List ℕ) → StillGives fed rest → IsStreamRecorded (IsPieceChecked u most d) (read ++ rest) verdicts
   pub is_put : Appends put_old put (flat_map (placed_line d) verdicts)
   pub summary : IsSummary d lines.Placed (placed_items verdicts) text

@@ -37,7 +37,7 @@ impl<'a, B: Book> Judge for CheckJudge<'a, B> {
     ghost says = { λ judge line verdict.
         IsLineChecked judge.unknown judge.levels (B.Book.meaning judge.book.now) line verdict };
 
-    ghost told = { λ judge _ verdict. checked_line (B.Book.meaning judge.book.now) verdict };
+    ghost recorded = { λ judge _ verdict. checked_line (B.Book.meaning judge.book.now) verdict };
 
     fn judge(
         &self,
@@ -61,7 +61,7 @@ impl<'a, A: Book, B: Book> Judge for RefuteJudge<'a, A, B> {
     ghost says = { λ judge line verdict. IsLineRefuted judge.unknown judge.levels
         (A.Book.meaning judge.first.now) (B.Book.meaning judge.second.now) line verdict };
 
-    ghost told = { λ _ _ verdict. refuted_line verdict };
+    ghost recorded = { λ _ _ verdict. refuted_line verdict };
 
     fn judge(
         &self,
@@ -115,7 +115,7 @@ impl<'a, B: Book> MessageJudge for CheckJudge<'a, B> {
     ghost says = { λ judge bytes verdict.
         IsPieceChecked judge.unknown judge.levels (B.Book.meaning judge.book.now) bytes verdict };
 
-    ghost told = { λ judge verdict. placed_line (B.Book.meaning judge.book.now) verdict };
+    ghost recorded = { λ judge verdict. placed_line (B.Book.meaning judge.book.now) verdict };
 
     fn judge(
         &self,

@@ -7,9 +7,9 @@ ghost use Rattle.std.specs.Io.KnownBytes.{Appends, IsAtEnd};
 ghost use Rattle.dia_io.specs.Writing.{AppendsFront};
 ghost use Rattle.dia_lines.specs.declared.fault.LinesFault.TheVariants.{NoMemory, Device, Endless};
 ghost use Rattle.dia_lines.specs.FeedToSink.{LinesAnswered, most_pieces};
-ghost use Rattle.dia_streams.specs.Streams.{WholeTold, most_places};
+ghost use Rattle.dia_streams.specs.Streams.{WholeRecorded, most_places};
 ghost use Rattle.dia_run.specs.Texts.{line};
-ghost use Rattle.dia_report.specs.Refusals.{TellsOf};
+ghost use Rattle.dia_report.specs.Refusals.{RecordsOf};
 ghost use Rattle.dia_captures.specs.Lines.{AreLinesAnswered, IsFrontPut, OfLine, checks, refutations, text_of};
 ghost use Rattle.dia_captures.specs.Streams.{IsStreamAnswered, IsStreamFrontPut, OfMessage, placed};
 ghost use Rattle.dia_captures.specs.Summaries.{IsCheckSummary, IsMade, IsRefuteSummary, IsStreamSummary};
@@ -183,9 +183,9 @@ pub fn check_stream<F: Feed, S: Sink>(
         ↔ (IsTrue (F.has_failed feed.new) ⊎ IsTrue (S.has_failed sink.new)) }
     ensures front { IsErr result → IsStreamFrontPut unknown levels inputs.now
         (F.remaining feed.old) (F.remaining feed.new) (S.written sink.old) (S.written sink.new) }
-    ensures no_memory { result ≡ Err NoMemory → WholeTold (OfMessage unknown levels inputs.now)
+    ensures no_memory { result ≡ Err NoMemory → WholeRecorded (OfMessage unknown levels inputs.now)
         placed (F.remaining feed.old) (F.remaining feed.new) (S.written sink.old) (S.written sink.new) }
-    ensures endless { result ≡ Err Endless → WholeTold (OfMessage unknown levels inputs.now)
+    ensures endless { result ≡ Err Endless → WholeRecorded (OfMessage unknown levels inputs.now)
         placed (F.remaining feed.old) (F.remaining feed.new) (S.written sink.old) (S.written sink.new) }
     ensures pieces { result ≡ Err Endless
         → IfSome (F.remaining feed.old) (λ bytes. most_places ≤ length bytes) }
@@ -211,10 +211,10 @@ fn refuse<S: Sink>(alloc: Global, refused: Refused, sink: &mut S) -> Result<Capt
     ensures exit { IfOk result (λ captured. captured.reported.exit ≡ Exit.Bad) }
     ensures summary { IfOk result (λ captured. captured.summary ≡ None) }
     ensures put { IsOk result
-        → TellsOf (λ told. Appends (S.written sink.old) (S.written sink.new) (line told)) refused }
+        → RecordsOf (λ recorded. Appends (S.written sink.old) (S.written sink.new) (line recorded)) refused }
     ensures device { (result ≡ Err Device) ↔ IsTrue (S.has_failed sink.new) }
     ensures front { result ≡ Err Device
-        → TellsOf (λ told. AppendsFront (S.written sink.old) (S.written sink.new) (line told)) refused }
+        → RecordsOf (λ recorded. AppendsFront (S.written sink.old) (S.written sink.new) (line recorded)) refused }
     ensures memory { refused ≡ Refused.NoMemory → result ≡ Err NoMemory }
     ensures no_memory { result ≡ Err NoMemory → S.written sink.new ≡ S.written sink.old }
     ensures counted { result ≢ Err Endless }

@@ -1,7 +1,7 @@
 //! The bytes that the text of a line spells.
 
 ghost use Rattle.std.specs.Prelude.{◌≡◌, ◌≤◌, List, ℕ, IfErr, IfOk, IfSome, IsErr, length, take};
-ghost use Rattle.dia_report.specs.Refusals.{TellsOf};
+ghost use Rattle.dia_report.specs.Refusals.{RecordsOf};
 ghost use Rattle.dia_run.specs.Texts.{IsMessageText, IsNoMessageText, digits_of};
 ghost use Rattle.dia_captures.specs.Verdicts.{IsTextRefused};
 
@@ -72,8 +72,8 @@ fn without_white_end(text: &[u8]) -> &[u8]
 
 /// What is wrong with a text that is refused.
 fn refused_as(refused: Refused, message: &Input) -> Result<Flaw, AllocError>
-    ensures bad { TellsOf (λ told. IfOk result
-        (λ flaw. IsNoMessageText message.now told → IsTextRefused message.now (Checked.Wrong flaw))) refused }
+    ensures bad { RecordsOf (λ recorded. IfOk result
+        (λ flaw. IsNoMessageText message.now recorded → IsTextRefused message.now (Checked.Wrong flaw))) refused }
     ensures memory { refused ≡ Refused.NoMemory → IsErr result }
 {
     match refused {
@@ -84,7 +84,7 @@ fn refused_as(refused: Refused, message: &Input) -> Result<Flaw, AllocError>
 
 /// What is wrong with a text that spells no message.
 fn refusal_of(message: &Input) -> Flaw
-    ensures { (told : List ℕ) → IsNoMessageText message.now told
+    ensures { (recorded : List ℕ) → IsNoMessageText message.now recorded
         → IsTextRefused message.now (Checked.Wrong result) }
 {
     match message {

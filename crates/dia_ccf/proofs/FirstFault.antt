@@ -20,7 +20,7 @@ use Rattle.dia_ccf.specs.Machine.{is_none, all_fixed, number_at, next, step, who
 use Rattle.dia_terms.specs.Formats.{is_enumerated}
 use Rattle.dia_ccf.specs.declared.wanted.Wanted.{Wanted}
 use Rattle.dia_ccf.specs.declared.wanted.Wanted.TheVariants.{Item}
-use Rattle.dia_ccf.specs.Wanting.{fits, may_end, wanted_at, behind_all}
+use Rattle.dia_ccf.specs.Wanting.{fits, may_end, wanted_at, after_all}
 use Rattle.dia_ccf.specs.Refusals.{IsWanted}
 use Rattle.dia_ccf.specs.ReaderFunctions.{nothing_read}
 use Rattle.dia_ccf.proofs.MachineSoundness.{sound}
@@ -28,14 +28,14 @@ use Rattle.dia_ccf.proofs.MachineCompleteness.{complete}
 use Rattle.dia_ccf.proofs.Completions.{is_sound, sound_next, can_complete}
 use Rattle.dia_ccf.proofs.TokenTests.{some_is, number_at-is}
 use Rattle.dia_ccf.proofs.DeclarationCompleteness.{and_false}
-use Rattle.dia_ccf.proofs.WantedBehind.{wanted_behind}
+use Rattle.dia_ccf.proofs.WantedAfter.{wanted_after}
 use Rattle.dia_ccf.proofs.WhatIsWanted.{next_some, whole_some}
 use Rattle.dia_ccf.proofs.MachineRuns.{take_one, number_at-some}
 
 -- why the machine stops in a state
-abbrev Stands : State → Refusal → List Token → Type 0
-Stands q k [] = (whole q ≡ None) × (k ≡ refusal.Syntax)
-Stands q k (t ∷ us) = (next q t ≡ None) × (k ≡ refused q t)
+abbrev Occurs : State → Refusal → List Token → Type 0
+Occurs q k [] = (whole q ≡ None) × (k ≡ refusal.Syntax)
+Occurs q k (t ∷ us) = (next q t ≡ None) × (k ≡ refused q t)
 
 -- the tokens before the stop, and the state there
 pub record Stopped (start : State) (ts : List Token) (k : Refusal) (rest : List Token) : Type 0 where
@@ -44,12 +44,12 @@ pub record Stopped (start : State) (ts : List Token) (k : Refusal) (rest : List 
   pub parts : ts ≡ front ++ rest
   pub goes : (more : List Token) → outcome start (front ++ more) ≡ outcome state more
   pub sound : is_sound state.1 ≡ true
-  pub stands : Stands state k rest
-  pub wants : wanted_at state.1 ≡ behind_all (wanted_at start.1) front
+  pub occurs : Occurs state k rest
+  pub wants : wanted_at state.1 ≡ after_all (wanted_at start.1) front
 
 stopped_end : (start : State) (o : Option PlainSource) (k : Refusal) (rest : List Token) → whole start ≡ o → is_sound start.1 ≡ true → ended o ≡ Stops k rest → Stopped start [] k rest
 stopped_end start (Some s) k rest w h e = absurd cc
-stopped_end start None k [] w h e = record { front = []; state = start; parts = refl; goes = λ more. refl; sound = h; stands = (w, cc); wants = refl }
+stopped_end start None k [] w h e = record { front = []; state = start; parts = refl; goes = λ more. refl; sound = h; occurs = (w, cc); wants = refl }
 stopped_end start None k (t ∷ us) w h e = absurd cc
 
 stopped_here : (start : State) (t : Token) (ts : List Token) (k : Refusal) (rest : List Token) → is_sound start.1 ≡ true
@@ -65,7 +65,7 @@ stopped_here start t ts k (u ∷ us) h e s =
       parts = ap (λ (f : List Token). t ∷ f) others ∙ ap (λ (x : Token). x ∷ us) same;
       goes = λ more. refl;
       sound = h;
-      stands = (ap (next start) (sym same) ∙ e, sym why_is ∙ ap (refused start) same);
+      occurs = (ap (next start) (sym same) ∙ e, sym why_is ∙ ap (refused start) same);
       wants = refl;
     }
 
@@ -81,8 +81,8 @@ stopped_step start t ts k rest (Some q) e h s before =
       parts = ap (λ (f : List Token). t ∷ f) r.parts;
       goes = λ more. take_one start t q (r.front ++ more) e ∙ r.goes more;
       sound = r.sound;
-      stands = r.stands;
-      wants = r.wants ∙ ap (λ (w : Wanted). behind_all w r.front) (wanted_behind start q t h e);
+      occurs = r.occurs;
+      wants = r.wants ∙ ap (λ (w : Wanted). after_all w r.front) (wanted_after start q t h e);
     }
 
 stopped : (ts : List Token) (start : State) (k : Refusal) (rest : List Token) → is_sound start.1 ≡ true → outcome start ts ≡ Stops k rest → Stopped start ts k rest
@@ -172,26 +172,26 @@ module _ (front : List Token) (q : State) (k : Refusal) (goes : (more : List Tok
   front_of : (rest : List Token) → take (length front) (front ++ rest) ≡ front
   front_of rest = take-append_seam front rest
 
-  no_fit : (rest : List Token) → Stands q k rest → length front < length (front ++ rest) → CanBegin (take (length front + 1) (front ++ rest)) → ⊥
-  no_fit [] stands long b = absurd (let e : length (front ++ []) ≡ length front = ap (λ (f : List Token). length f) (append-nil front) in omega arith)
+  no_fit : (rest : List Token) → Occurs q k rest → length front < length (front ++ rest) → CanBegin (take (length front + 1) (front ++ rest)) → ⊥
+  no_fit [] occurs long b = absurd (let e : length (front ++ []) ≡ length front = ap (λ (f : List Token). length f) (append-nil front) in omega arith)
   no_fit (t ∷ us) (refuses, is) long b =
       let some = begun front q t goes (subst CanBegin (take-append-add front (t ∷ us) 1) b) in
       let gone : is_some (next q t) ≡ false = ap is_some refuses in
       absurd cc
 
-  no_source : (rest : List Token) → Stands q k rest → (s : PlainSource) → Derives (front ++ rest) s → ⊥
+  no_source : (rest : List Token) → Occurs q k rest → (s : PlainSource) → Derives (front ++ rest) s → ⊥
   no_source [] (open_end, is) s d = let e = sym (goes []) ∙ complete (front ++ []) s d in let f : ended (whole q) ≡ Stops refusal.Syntax [] = ap ended open_end in absurd cc
   no_source (t ∷ us) (refuses, is) s d =
       let some = read_next q t us s (sym (goes (t ∷ us)) ∙ complete (front ++ t ∷ us) s d) in
       let gone : is_some (next q t) ≡ false = ap is_some refuses in
       absurd cc
 
-  first_of : (rest : List Token) → Stands q k rest → IsFirstFault (front ++ rest) (length front)
-  first_of rest stands = record {
+  first_of : (rest : List Token) → Occurs q k rest → IsFirstFault (front ++ rest) (length front)
+  first_of rest occurs = record {
     before = subst CanBegin (sym (front_of rest)) (begins (nothing_read, Between) front q refl goes h);
-    here = no_fit rest stands;
+    here = no_fit rest occurs;
     within = omega (arith, length-append front rest);
-    no_text = no_source rest stands;
+    no_text = no_source rest occurs;
   }
 
   fits_here : (rest : List Token) (t : Token) → is_some (next q t) ≡ true → Fits (front ++ rest) (length front) t
@@ -225,24 +225,24 @@ module _ (front : List Token) (q : State) (k : Refusal) (goes : (more : List Tok
   at_front rest = get_seam front rest
 
   -- a number is reported
-  number_told : (rest : List Token) → Stands q k rest → k ≡ refusal.Number → IsNumberFault (front ++ rest) (length front)
-  number_told [] stands e = absurd (let f = stands.1 in cc)
-  number_told (Number n ∷ us) (refuses, is) e = (n, at_front (Number n ∷ us), least_at q.1, fits_here (Number n ∷ us) (Number (least_at q.1)) (by_some (is_some (next q (Number (least_at q.1)))) refl))
+  number_recorded : (rest : List Token) → Occurs q k rest → k ≡ refusal.Number → IsNumberFault (front ++ rest) (length front)
+  number_recorded [] occurs e = absurd (let f = occurs.1 in cc)
+  number_recorded (Number n ∷ us) (refuses, is) e = (n, at_front (Number n ∷ us), least_at q.1, fits_here (Number n ∷ us) (Number (least_at q.1)) (by_some (is_some (next q (Number (least_at q.1)))) refl))
     where
       by_some : (b : Bool) → is_some (next q (Number (least_at q.1))) ≡ b → is_some (next q (Number (least_at q.1))) ≡ true
       by_some true f = f
       by_some false f = absurd (let g : k ≡ refusal.Syntax = is ∙ ap (λ (b : Bool). cond b refusal.Number refusal.Syntax) f in cc)
-  number_told (Name text ∷ us) (refuses, is) e = absurd (by_long (nat_lt 128 (length text) && is_some (next q (Name (codes "a")))) (sym is ∙ e))
+  number_recorded (Name text ∷ us) (refuses, is) e = absurd (by_long (nat_lt 128 (length text) && is_some (next q (Name (codes "a")))) (sym is ∙ e))
     where
       by_long : (b : Bool) → cond b refusal.Limit refusal.Syntax ≡ refusal.Number → ⊥
       by_long true f = absurd cc
       by_long false f = absurd cc
-  number_told (t ∷ us) (refuses, is) e = absurd (let f = sym is ∙ e in cc)
+  number_recorded (t ∷ us) (refuses, is) e = absurd (let f = sym is ∙ e in cc)
 
   -- a long name is reported
-  limit_told : (rest : List Token) → Stands q k rest → k ≡ refusal.Limit → IsLimitFault (front ++ rest) (length front)
-  limit_told [] stands e = absurd (let f = stands.1 in cc)
-  limit_told (Name text ∷ us) (refuses, is) e =
+  limit_recorded : (rest : List Token) → Occurs q k rest → k ≡ refusal.Limit → IsLimitFault (front ++ rest) (length front)
+  limit_recorded [] occurs e = absurd (let f = occurs.1 in cc)
+  limit_recorded (Name text ∷ us) (refuses, is) e =
       let b = by_long (nat_lt 128 (length text)) (is_some (next q (Name (codes "a")))) (sym is ∙ e) in
       (text, at_front (Name text ∷ us), ltb-true 128 (length text) b.0, fits_here (Name text ∷ us) (Name (codes "a")) b.1)
     where
@@ -250,25 +250,25 @@ module _ (front : List Token) (q : State) (k : Refusal) (goes : (more : List Tok
       by_long true true f = (refl, refl)
       by_long true false f = absurd cc
       by_long false c f = absurd cc
-  limit_told (Number n ∷ us) (refuses, is) e = absurd (by_some (is_some (next q (Number (least_at q.1)))) (sym is ∙ e))
+  limit_recorded (Number n ∷ us) (refuses, is) e = absurd (by_some (is_some (next q (Number (least_at q.1)))) (sym is ∙ e))
     where
       by_some : (b : Bool) → cond b refusal.Number refusal.Syntax ≡ refusal.Limit → ⊥
       by_some true f = absurd cc
       by_some false f = absurd cc
-  limit_told (t ∷ us) (refuses, is) e = absurd (let f = sym is ∙ e in cc)
+  limit_recorded (t ∷ us) (refuses, is) e = absurd (let f = sym is ∙ e in cc)
 
   -- neither is reported
-  number_untold : (rest : List Token) → Stands q k rest → k ≡ refusal.Syntax → IsNumberFault (front ++ rest) (length front) → ⊥
-  number_untold [] stands e (n, is, other, fits) = absurd (let f : ◌≡◌ {A = Option Token} None (Some (Number n)) = sym (at_front []) ∙ is in cc)
-  number_untold (t ∷ us) (refuses, why_is) e (n, is, other, fits) =
+  number_unrecorded : (rest : List Token) → Occurs q k rest → k ≡ refusal.Syntax → IsNumberFault (front ++ rest) (length front) → ⊥
+  number_unrecorded [] occurs e (n, is, other, fits) = absurd (let f : ◌≡◌ {A = Option Token} None (Some (Number n)) = sym (at_front []) ∙ is in cc)
+  number_unrecorded (t ∷ us) (refuses, why_is) e (n, is, other, fits) =
       let same : t ≡ Number n = some_is t (Number n) (sym (at_front (t ∷ us)) ∙ is) in
       let some : is_some (next q (Number (least_at q.1))) ≡ true = number_witness q.0 q.1 other (fits_then (t ∷ us) (Number other) fits) in
       absurd (let f : refused q (Number n) ≡ refusal.Number = ap (λ (b : Bool). cond b refusal.Number refusal.Syntax) some in
       let g : k ≡ refusal.Number = why_is ∙ ap (refused q) same ∙ f in cc)
 
-  limit_untold : (rest : List Token) → Stands q k rest → k ≡ refusal.Syntax → IsLimitFault (front ++ rest) (length front) → ⊥
-  limit_untold [] stands e (text, is, long, fits) = absurd (let f : ◌≡◌ {A = Option Token} None (Some (Name text)) = sym (at_front []) ∙ is in cc)
-  limit_untold (t ∷ us) (refuses, why_is) e (text, is, long, fits) =
+  limit_unrecorded : (rest : List Token) → Occurs q k rest → k ≡ refusal.Syntax → IsLimitFault (front ++ rest) (length front) → ⊥
+  limit_unrecorded [] occurs e (text, is, long, fits) = absurd (let f : ◌≡◌ {A = Option Token} None (Some (Name text)) = sym (at_front []) ∙ is in cc)
+  limit_unrecorded (t ∷ us) (refuses, why_is) e (text, is, long, fits) =
       let same : t ≡ Name text = some_is t (Name text) (sym (at_front (t ∷ us)) ∙ is) in
       let some : is_some (next q (Name (codes "a"))) ≡ true = fits_then (t ∷ us) (Name (codes "a")) fits in
       let both_are : (nat_lt 128 (length text) && is_some (next q (Name (codes "a")))) ≡ true = rw (lt-ltb 128 (length text) long, some) refl in
@@ -276,26 +276,26 @@ module _ (front : List Token) (q : State) (k : Refusal) (goes : (more : List Tok
       let g : k ≡ refusal.Limit = why_is ∙ ap (refused q) same ∙ f in cc)
 
 -- what is reported of the token at a place
-pub record Is_told (ts : List Token) (n : ℕ) (k : Refusal) : Type 0 where
+pub record Is_recorded (ts : List Token) (n : ℕ) (k : Refusal) : Type 0 where
   pub first : IsFirstFault ts n
   pub number : k ≡ refusal.Number → IsNumberFault ts n
   pub limit : k ≡ refusal.Limit → IsLimitFault ts n
   pub no_number : k ≡ refusal.Syntax → IsNumberFault ts n → ⊥
   pub no_limit : k ≡ refusal.Syntax → IsLimitFault ts n → ⊥
-  pub wanted : IsWanted (take n ts) (behind_all Item (take n ts))
+  pub wanted : IsWanted (take n ts) (after_all Item (take n ts))
 
 -- where the machine stops with the tokens from n on left, the first fault is at n
-pub told : (ts : List Token) (n : ℕ) (k : Refusal) (rest : List Token) → outcome (nothing_read, Between) ts ≡ Stops k rest → length ts ≡ n + length rest → Is_told ts n k
-told ts n k rest h long =
+pub recorded : (ts : List Token) (n : ℕ) (k : Refusal) (rest : List Token) → outcome (nothing_read, Between) ts ≡ Stops k rest → length ts ≡ n + length rest → Is_recorded ts n k
+recorded ts n k rest h long =
     let r = stopped ts (nothing_read, Between) k rest refl h in
     let at : length r.front ≡ n = omega (arith, length-append r.front rest, ap (λ (f : List Token). length f) r.parts) in
-    let here : Is_told (r.front ++ rest) (length r.front) k = record {
-      first = first_of r.front r.state k r.goes r.sound rest r.stands;
-      number = number_told r.front r.state k r.goes r.sound rest r.stands;
-      limit = limit_told r.front r.state k r.goes r.sound rest r.stands;
-      no_number = number_untold r.front r.state k r.goes r.sound rest r.stands;
-      no_limit = limit_untold r.front r.state k r.goes r.sound rest r.stands;
-      wanted = subst (λ (f : List Token). IsWanted f (behind_all Item f)) (sym (front_of r.front r.state k r.goes r.sound rest))
-          (wanted_here r.front r.state k r.goes r.sound (behind_all Item r.front) r.wants);
+    let here : Is_recorded (r.front ++ rest) (length r.front) k = record {
+      first = first_of r.front r.state k r.goes r.sound rest r.occurs;
+      number = number_recorded r.front r.state k r.goes r.sound rest r.occurs;
+      limit = limit_recorded r.front r.state k r.goes r.sound rest r.occurs;
+      no_number = number_unrecorded r.front r.state k r.goes r.sound rest r.occurs;
+      no_limit = limit_unrecorded r.front r.state k r.goes r.sound rest r.occurs;
+      wanted = subst (λ (f : List Token). IsWanted f (after_all Item f)) (sym (front_of r.front r.state k r.goes r.sound rest))
+          (wanted_here r.front r.state k r.goes r.sound (after_all Item r.front) r.wants);
     } in
-    subst (λ (f : List Token). Is_told f n k) (sym r.parts) (subst (λ (m : ℕ). Is_told (r.front ++ rest) m k) at here)
+    subst (λ (f : List Token). Is_recorded f n k) (sym r.parts) (subst (λ (m : ℕ). Is_recorded (r.front ++ rest) m k) at here)

@@ -66,9 +66,9 @@ diameter_header_taken done text =
 
 -- a comma or none, and then what may follow both
 taken_comma : (class : Tokens) (p with_comma q : State) → next p Comma ≡ Some with_comma → Taken class p q → Taken class with_comma q → Taken (comma then class) p q
-taken_comma class p with_comma q step bare behind front us (xs, ys, parts, h, k) =
+taken_comma class p with_comma q step bare following front us (xs, ys, parts, h, k) =
     ⊎_elim (λ (e : xs ≡ []). ap (λ (f : List Token). outcome p (f ++ us)) (parts ∙ ap (λ (f : List Token). f ++ ys) e) ∙ bare ys us k)
-    (λ (e : xs ≡ Comma ∷ []). ap (λ (f : List Token). outcome p (f ++ us)) (parts ∙ ap (λ (f : List Token). f ++ ys) e) ∙ take_one p Comma with_comma (ys ++ us) step ∙ behind ys us k) h
+    (λ (e : xs ≡ Comma ∷ []). ap (λ (f : List Token). outcome p (f ++ us)) (parts ∙ ap (λ (f : List Token). f ++ ys) e) ∙ take_one p Comma with_comma (ys ++ us) step ∙ following ys us k) h
 
 -- ---- commands
 
@@ -87,14 +87,14 @@ proxiable_taken done text c r true =
     (taken_keyword (codes "pxy") (done, In_head text (Flags c r false true)) (done, In_head text (Flags c r true false)) (λ w e. rw e refl))
 
 -- a number that ends a head, after a comma or none
-ending_number : (done : PlainSource) (text : List ℕ) (at behind_comma : HeadPlace) (n : ℕ) (h : Head) → next (done, In_head text at) Comma ≡ Some (done, In_head text behind_comma)
+ending_number : (done : PlainSource) (text : List ℕ) (at after_comma : HeadPlace) (n : ℕ) (h : Head) → next (done, In_head text at) Comma ≡ Some (done, In_head text after_comma)
     → (n ≤ max_number → next (done, In_head text at) (Number n) ≡ Some (done, In_head text (Head_end h)))
-    → (n ≤ max_number → next (done, In_head text behind_comma) (Number n) ≡ Some (done, In_head text (Head_end h)))
+    → (n ≤ max_number → next (done, In_head text after_comma) (Number n) ≡ Some (done, In_head text (Head_end h)))
     → Taken (comma then number max_number n) (done, In_head text at) (done, In_head text (Head_end h))
-ending_number done text at behind_comma n h step bare behind =
-    taken_comma (number max_number n) (done, In_head text at) (done, In_head text behind_comma) (done, In_head text (Head_end h)) step
+ending_number done text at after_comma n h step bare following =
+    taken_comma (number max_number n) (done, In_head text at) (done, In_head text after_comma) (done, In_head text (Head_end h)) step
     (taken_number max_number n (done, In_head text at) (done, In_head text (Head_end h)) bare)
-    (taken_number max_number n (done, In_head text behind_comma) (done, In_head text (Head_end h)) behind)
+    (taken_number max_number n (done, In_head text after_comma) (done, In_head text (Head_end h)) following)
 
 application_ended : (done : PlainSource) (text : List ℕ) (c : ℕ) (r p : Bool) (app : Option ℕ)
     → Taken (application app then one Greater) (done, In_head text (Flags c r p false)) (done, Rules (record { name = text; head = Command c r p app; rules = [] }))
@@ -228,10 +228,10 @@ head_taken done text (Error p) =
     (taken_keyword (codes "code") (done, In_head text Command_code) (done, In_head text (Error_word false)) (λ w e. rw e refl))
     (taken_left comma (keyword (codes "err") then error_proxy p) (one Greater) (done, In_head text (Error_word false)) (headed done text (Error p))
     (taken_comma ((keyword (codes "err") then error_proxy p) then one Greater) (done, In_head text (Error_word false)) (done, In_head text (Error_word true)) (headed done text (Error p)) refl
-    (behind false) (behind true))))))
+    (following false) (following true))))))
   where
-    behind : (b : Bool) → Taken ((keyword (codes "err") then error_proxy p) then one Greater) (done, In_head text (Error_word b)) (headed done text (Error p))
-    behind b =
+    following : (b : Bool) → Taken ((keyword (codes "err") then error_proxy p) then one Greater) (done, In_head text (Error_word b)) (headed done text (Error p))
+    following b =
         taken_left (keyword (codes "err")) (error_proxy p) (one Greater) (done, In_head text (Error_word b)) (headed done text (Error p))
         (taken_then (keyword (codes "err")) (error_proxy p then one Greater) (done, In_head text (Error_word b)) (done, In_head text (Error_flags false)) (headed done text (Error p))
         (taken_keyword (codes "err") (done, In_head text (Error_word b)) (done, In_head text (Error_flags false)) (λ w e. rw e refl))

@@ -31,8 +31,8 @@ pub keyword_read : (text : List ℕ) (old new : Reader) → (t : Token) × (keyw
 keyword_read text old new (t, e, passes) = spelled_derived text t old new (keyword_at-is text t tt e) passes
 
 -- where nothing was passed before
-pub behind_none : (class : Tokens) (old mid new : Reader) → mid ≡ old → Derived class mid new → Derived class old new
-behind_none class old mid new same h = subst (λ (r : Reader). Derived class r new) same h
+pub after_none : (class : Tokens) (old mid new : Reader) → mid ≡ old → Derived class mid new → Derived class old new
+after_none class old mid new same h = subst (λ (r : Reader). Derived class r new) same h
 
 pub comma_pending : (b : Bool) (old new : Reader) → Takes (same_sign Comma) old b new → Derived (pending b) old new
 comma_pending true old new h = takes_derived Comma old new refl h
@@ -58,9 +58,9 @@ then_more a b c ts h (x, y, e, p, q) = (x, y, e, p, h y q)
 
 -- ---- flags
 
-flag_of : (text : List ℕ) (comma_before : Bool) (before : Tokens) (found : Bool) (behind : Bool) (old mid last new : Reader) → Derived (before then pending comma_before) old mid
-    → Takes (is_keyword text) mid found last → MatchBool found (Takes (same_sign Comma) last behind new) ((behind ≡ comma_before) × (new ≡ last))
-    → Derived ((before then flag found text) then pending behind) old new
+flag_of : (text : List ℕ) (comma_before : Bool) (before : Tokens) (found : Bool) (following : Bool) (old mid last new : Reader) → Derived (before then pending comma_before) old mid
+    → Takes (is_keyword text) mid found last → MatchBool found (Takes (same_sign Comma) last following new) ((following ≡ comma_before) × (new ≡ last))
+    → Derived ((before then flag found text) then pending following) old new
 flag_of text b before true d old mid last new first took more =
     let word = keyword text in
     let all = along (before then pending b) (word then pending d) old mid new first (along word (pending d) mid last new (keyword_taken text mid last took) (comma_pending d last new more)) in

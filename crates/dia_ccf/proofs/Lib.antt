@@ -19,7 +19,7 @@ pub mod HeadCompleteness
 pub mod DeclarationCompleteness
 pub mod MachineCompleteness
 pub mod Completions
-pub mod WantedBehind
+pub mod WantedAfter
 pub mod WhatIsWanted
 pub mod FirstFault
 pub mod CappedNumbers

@@ -243,12 +243,12 @@ named_taken done text front us h =
     (λ k. taken_name text (done, Between) (done, Def_assign text) (λ named. rw named refl) front us k) h
 
 -- after a definition an item begins as it does between items
-behind_bare : (done : PlainSource) (d : PlainDef) (text : List ℕ) (us : List Token) → outcome (done, Rules d) (Name text ∷ us) ≡ outcome (add_def done d, Between) (Name text ∷ us)
-behind_bare done d text us = refl
+after_bare : (done : PlainSource) (d : PlainDef) (text : List ℕ) (us : List Token) → outcome (done, Rules d) (Name text ∷ us) ≡ outcome (add_def done d, Between) (Name text ∷ us)
+after_bare done d text us = refl
 
-behind_angle : (done : PlainSource) (d : PlainDef) (text : List ℕ) (us : List Token) → is_name text ≡ true
+after_angle : (done : PlainSource) (d : PlainDef) (text : List ℕ) (us : List Token) → is_name text ≡ true
     → outcome (done, Rules d) (Less ∷ Name text ∷ Greater ∷ Assign ∷ us) ≡ outcome (add_def done d, Between) (Less ∷ Name text ∷ Greater ∷ Assign ∷ us)
-behind_angle done d text us named =
+after_angle done d text us named =
     take_one (done, Rules d) Less (done, Angle_name d) (Name text ∷ Greater ∷ Assign ∷ us) refl
     ∙ take_one (done, Angle_name d) (Name text) (done, Angle_close d text) (Greater ∷ Assign ∷ us) (rw named refl)
     ∙ take_one (done, Angle_close d text) Greater (done, After_angle d text) (Assign ∷ us) refl
@@ -261,8 +261,8 @@ behind_angle done d text us named =
 item_settled : (done : PlainSource) (d : PlainDef) (i : Item) (front us : List Token) → item i front → outcome (done, Rules d) (front ++ us) ≡ outcome (add_def done d, Between) (front ++ us)
 item_settled done d (Declaration e) front us (xs, ys, parts, first, k) = rw (parts, first) refl
 item_settled done d (Definition e) front us (ordered, (xs, ys, parts, first, (cs, ds, inner, assign, k))) =
-    ⊎_elim (λ (es, fs, more, less, (gs, hs, last, (named, is), greater)). rw (parts, inner, more, less, last, is, greater, assign) (behind_angle done d e.name (ds ++ us) named))
-    (λ (named, is). rw (parts, is) (behind_bare done d e.name (ys ++ us))) first
+    ⊎_elim (λ (es, fs, more, less, (gs, hs, last, (named, is), greater)). rw (parts, inner, more, less, last, is, greater, assign) (after_angle done d e.name (ds ++ us) named))
+    (λ (named, is). rw (parts, is) (after_bare done d e.name (ys ++ us))) first
 
 items_settled : (done : PlainSource) (d : PlainDef) (items : List Item) (us : List Token) → each item items us → outcome (done, Rules d) us ≡ outcome (add_def done d, Between) us
 items_settled done d [] us h = rw h refl

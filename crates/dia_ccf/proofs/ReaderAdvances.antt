@@ -10,8 +10,8 @@ use Rattle.dia_ccf.specs.Tokens.{Token, Placed, placed_tokens}
 use Rattle.dia_ccf.specs.Faults.{token_place}
 use Rattle.dia_ccf.specs.Refusals.{place_before}
 use Rattle.dia_ccf.specs.LexerTokens.{tokens_from, left_from, capped, shown, ahead, sees}
-use Rattle.dia_ccf.specs.Wanting.{behind, behind_all}
-use Rattle.dia_ccf.proofs.WantedBehind.{behind_all-more}
+use Rattle.dia_ccf.specs.Wanting.{following, after_all}
+use Rattle.dia_ccf.proofs.WantedAfter.{after_all-more}
 use Rattle.dia_ccf.proofs.ReaderFindings.{get_dropped}
 
 take_next : {X : Type 0} (n : ℕ) (xs : List X) (x : X) (rest : List X) → drop n xs ≡ x ∷ rest → take (suc n) xs ≡ take n xs ++ x ∷ []
@@ -27,12 +27,12 @@ first_place text (p ∷ ps) token rest at seen h = ap (λ (n : ℕ). Some n) h
 
 module _ (text : List ℕ) (taken at : ℕ) (token : Token) (rest : List Token) (counted : drop taken (placed_tokens text) ≡ tokens_from text at)
     (begins : left_from text at ≡ token ∷ rest) where
-  wants_one : (w : Wanted) → w ≡ behind_all Item (take taken (left_from text 0)) → behind w token ≡ behind_all Item (take (taken + 1) (left_from text 0))
+  wants_one : (w : Wanted) → w ≡ after_all Item (take taken (left_from text 0)) → following w token ≡ after_all Item (take (taken + 1) (left_from text 0))
   wants_one w h =
       let seen = drop-map (λ (placed : Placed). capped placed.token) taken (placed_tokens text) ∙ ap (map (λ (placed : Placed). capped placed.token)) counted ∙ begins in
       let more : taken + 1 ≡ suc taken = omega arith in
-      ap (λ (v : Wanted). behind v token) h ∙ sym (behind_all-more Item (take taken (left_from text 0)) token)
-      ∙ ap (behind_all Item) (sym (take_next taken (left_from text 0) token rest seen)) ∙ ap (λ (n : ℕ). behind_all Item (take n (left_from text 0))) (sym more)
+      ap (λ (v : Wanted). following v token) h ∙ sym (after_all-more Item (take taken (left_from text 0)) token)
+      ∙ ap (after_all Item) (sym (take_next taken (left_from text 0) token rest seen)) ∙ ap (λ (n : ℕ). after_all Item (take n (left_from text 0))) (sym more)
 
   before_one : token_place text (slice_get (tokens_from text at) 0) ≡ at → Some at ≡ place_before text (taken + 1)
   before_one lies =
@@ -42,7 +42,7 @@ module _ (text : List ℕ) (taken at : ℕ) (token : Token) (rest : List Token) 
 
 -- what is wanted after the token ahead, and its place
 pub wants_next : (text : List ℕ) (taken at end : ℕ) (token : Option LexerToken) (w : Wanted) → IsSome token → drop taken (placed_tokens text) ≡ tokens_from text at
-    → left_from text at ≡ sees token (left_from text end) → w ≡ behind_all Item (take taken (left_from text 0)) → behind_all w (ahead token) ≡ behind_all Item (take (taken + 1) (left_from text 0))
+    → left_from text at ≡ sees token (left_from text end) → w ≡ after_all Item (take taken (left_from text 0)) → after_all w (ahead token) ≡ after_all Item (take (taken + 1) (left_from text 0))
 wants_next text taken at end None w some counted begins h = absurd cc
 wants_next text taken at end (Some token) w some counted begins h = wants_one text taken at (shown token) (left_from text end) counted begins w h
 

@@ -16,12 +16,12 @@ use Rattle.dia_ccf.specs.Tokens.{Token, placed_tokens, tokens, line_at}
 use Rattle.dia_ccf.specs.Grammar.{Derives}
 use Rattle.dia_ccf.specs.Faults.{IsFault}
 use Rattle.dia_ccf.specs.Refusals.{IsWanted, IsMisfit, IsRefused, fault_of}
-use Rattle.dia_ccf.specs.Wanting.{behind_all}
+use Rattle.dia_ccf.specs.Wanting.{after_all}
 use Rattle.dia_ccf.specs.LexerTokens.{capped, left_from}
 use Rattle.dia_ccf.specs.Machine.{Between, Outcome, Stops, outcome}
-use Rattle.dia_ccf.specs.ReaderFunctions.{left, Course, course, StopsAt, IsToldAt, told_at, nothing_read}
-use Rattle.dia_ccf.proofs.WantedBehind.{behind_all-capped}
-use Rattle.dia_ccf.proofs.ReaderFindings.{all_left, never, place_is, stands, syntax_told, number_told, limit_told}
+use Rattle.dia_ccf.specs.ReaderFunctions.{left, Course, course, StopsAt, IsRecordedAt, recorded_at, nothing_read}
+use Rattle.dia_ccf.proofs.WantedAfter.{after_all-capped}
+use Rattle.dia_ccf.proofs.ReaderFindings.{all_left, never, place_is, occurs, syntax_recorded, number_recorded, limit_recorded}
 
 abbrev misfit_of : Reader → CcfFault → Misfit
 misfit_of reader fault = record { fault = fault; at = reader.at; wanted = reader.wanted; last = reader.last; earlier = reader.earlier }
@@ -34,10 +34,10 @@ is_memory fault = false
 seen_tokens : (text : List ℕ) → left_from text 0 ≡ map capped (tokens text)
 seen_tokens text = all_left text 0 refl
 
-wants_tokens : (text : List ℕ) (k : ℕ) → behind_all Item (take k (left_from text 0)) ≡ behind_all Item (take k (tokens text))
+wants_tokens : (text : List ℕ) (k : ℕ) → after_all Item (take k (left_from text 0)) ≡ after_all Item (take k (tokens text))
 wants_tokens text k =
-    ap (λ (ts : List Token). behind_all Item (take k ts)) (seen_tokens text)
-    ∙ ap (behind_all Item) (take-map capped k (tokens text)) ∙ behind_all-capped Item (take k (tokens text))
+    ap (λ (ts : List Token). after_all Item (take k ts)) (seen_tokens text)
+    ∙ ap (after_all Item) (take-map capped k (tokens text)) ∙ after_all-capped Item (take k (tokens text))
 
 begins_whole : (reader : Reader) (text : List ℕ) → reader.text.now ≡ text → reader.taken ≡ 0 → left reader ≡ map capped (tokens text)
 begins_whole reader text same none =
@@ -55,11 +55,11 @@ never_derived : (reader end : Reader) (text : List ℕ) (k : Refusal) (s : Plain
 never_derived reader end text k s same none h d = never text s k (left end) (outcome_of reader text end.text.now (Stops k (left end)) same none h).1 d
 
 pub only_memory : (reader end : Reader) (text : List ℕ) (k : Refusal) (refused : Refused) (s : PlainSource) → reader.text.now ≡ text → reader.taken ≡ 0
-    → StopsAt (course (nothing_read, Between) reader) k end → IsToldAt k end refused → Derives (tokens text) s → refused ≡ refuseds.NoMemory
-only_memory reader end text refusal.NoMemory refused s same none h told d = told
-only_memory reader end text refusal.Syntax refused s same none h told d = absurd (never_derived reader end text refusal.Syntax s same none h d)
-only_memory reader end text refusal.Number refused s same none h told d = absurd (never_derived reader end text refusal.Number s same none h d)
-only_memory reader end text refusal.Limit refused s same none h told d = absurd (never_derived reader end text refusal.Limit s same none h d)
+    → StopsAt (course (nothing_read, Between) reader) k end → IsRecordedAt k end refused → Derives (tokens text) s → refused ≡ refuseds.NoMemory
+only_memory reader end text refusal.NoMemory refused s same none h recorded d = recorded
+only_memory reader end text refusal.Syntax refused s same none h recorded d = absurd (never_derived reader end text refusal.Syntax s same none h d)
+only_memory reader end text refusal.Number refused s same none h recorded d = absurd (never_derived reader end text refusal.Number s same none h d)
+only_memory reader end text refusal.Limit refused s same none h recorded d = absurd (never_derived reader end text refusal.Limit s same none h d)
 
 no_memory : (f : CcfFault) → is_memory f ≡ false → f ≡ faults.NoMemory → ⊥
 no_memory f h e = absurd (let both : true ≡ false = ap is_memory (sym e) ∙ h in cc)
@@ -74,12 +74,12 @@ module _ (reader end : Reader) (text : List ℕ) (same : reader.text.now ≡ tex
 
   misfit : (k : Refusal) (f : CcfFault) → is_memory f ≡ false → outcome (nothing_read, Between) (map capped (tokens end.text.now)) ≡ Stops k (left end)
       → IsFault end.text.now f → IsMisfit end.text.now (misfit_of end f)
-  misfit k f other stops told =
-      let here = stands end.text.now end.taken end.at end.counted end.reached end.placed k stops in
+  misfit k f other stops recorded =
+      let here = occurs end.text.now end.taken end.at end.counted end.reached end.placed k stops in
       record {
         token = end.taken;
         first = here.first;
-        told = told;
+        recorded = recorded;
         no_memory = no_memory f other;
         place = place_is end.text.now end.taken end.at end.counted end.reached end.placed;
         last = end.before;
@@ -87,23 +87,23 @@ module _ (reader end : Reader) (text : List ℕ) (same : reader.text.now ≡ tex
         wanted = subst (IsWanted (take end.taken (tokens end.text.now))) (sym (end.wants ∙ wants_tokens end.text.now end.taken)) here.wanted;
       }
 
-  told_text : (f : CcfFault) (refused : Refused) → end.text.now ≡ text → refused ≡ told_at end f → IsMisfit end.text.now (misfit_of end f) → IsRefused text refused
-  told_text f refused is told h = subst (IsRefused text) (sym told) (small, subst (λ (bytes : List ℕ). IsMisfit bytes (misfit_of end f)) is h)
+  recorded_text : (f : CcfFault) (refused : Refused) → end.text.now ≡ text → refused ≡ recorded_at end f → IsMisfit end.text.now (misfit_of end f) → IsRefused text refused
+  recorded_text f refused is recorded h = subst (IsRefused text) (sym recorded) (small, subst (λ (bytes : List ℕ). IsMisfit bytes (misfit_of end f)) is h)
 
-  pub is_refused : (k : Refusal) (refused : Refused) → StopsAt (course (nothing_read, Between) reader) k end → IsToldAt k end refused → IsRefused text refused
-  is_refused refusal.Syntax refused h told =
+  pub is_refused : (k : Refusal) (refused : Refused) → StopsAt (course (nothing_read, Between) reader) k end → IsRecordedAt k end refused → IsRefused text refused
+  is_refused refusal.Syntax refused h recorded =
       let o = stopped_at refusal.Syntax h in
       let f = faults.Syntax (end.taken + 1) (line_at end.text.now end.at) in
-      told_text f refused o.0 told (misfit refusal.Syntax f refl o.1 (syntax_told end.text.now end.taken end.at end.counted end.reached end.placed o.1))
-  is_refused refusal.Number refused h told =
+      recorded_text f refused o.0 recorded (misfit refusal.Syntax f refl o.1 (syntax_recorded end.text.now end.taken end.at end.counted end.reached end.placed o.1))
+  is_refused refusal.Number refused h recorded =
       let o = stopped_at refusal.Number h in
       let f = faults.Number (line_at end.text.now end.at) in
-      told_text f refused o.0 told (misfit refusal.Number f refl o.1 (number_told end.text.now end.taken end.at end.counted end.reached end.placed o.1))
-  is_refused refusal.Limit refused h told =
+      recorded_text f refused o.0 recorded (misfit refusal.Number f refl o.1 (number_recorded end.text.now end.taken end.at end.counted end.reached end.placed o.1))
+  is_refused refusal.Limit refused h recorded =
       let o = stopped_at refusal.Limit h in
       let f = faults.Limit (line_at end.text.now end.at) in
-      told_text f refused o.0 told (misfit refusal.Limit f refl o.1 (limit_told end.text.now end.taken end.at end.counted end.reached end.placed o.1))
-  is_refused refusal.NoMemory refused h told = subst (IsRefused text) (sym told) tt
+      recorded_text f refused o.0 recorded (misfit refusal.Limit f refl o.1 (limit_recorded end.text.now end.taken end.at end.counted end.reached end.placed o.1))
+  is_refused refusal.NoMemory refused h recorded = subst (IsRefused text) (sym recorded) tt
 
 -- only an allocation failure is reported as `NoMemory`
 pub only_no_memory : (refused : Refused) → refused ≡ refuseds.NoMemory → fault_of refused ≡ faults.NoMemory

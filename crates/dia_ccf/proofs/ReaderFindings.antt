@@ -16,7 +16,7 @@ use Rattle.dia_ccf.specs.ReaderFunctions.{nothing_read}
 use Rattle.dia_ccf.proofs.MachineSoundness.{sound}
 use Rattle.dia_ccf.proofs.MachineCompleteness.{complete}
 use Rattle.dia_ccf.proofs.CappedNumbers.{reads_uncapped, stops_uncapped}
-use Rattle.dia_ccf.proofs.FirstFault.{Is_told, told}
+use Rattle.dia_ccf.proofs.FirstFault.{Is_recorded, recorded}
 
 pub get_dropped : {X : Type 0} (n : ℕ) (xs : List X) → slice_get (drop n xs) 0 ≡ slice_get xs n
 get_dropped zero [] = refl
@@ -60,16 +60,16 @@ module _ (text : List ℕ) (taken at : ℕ) (counted : drop taken (placed_tokens
       let c = length-map (placed_tokens text) (λ (p : Placed). p.token) in
       omega arith
 
-  pub stands : (k : Refusal) → outcome (nothing_read, Between) (map capped (tokens text)) ≡ Stops k (left_from text at) → Is_told (tokens text) taken k
-  stands k h =
+  pub occurs : (k : Refusal) → outcome (nothing_read, Between) (map capped (tokens text)) ≡ Stops k (left_from text at) → Is_recorded (tokens text) taken k
+  occurs k h =
       let e = stops_uncapped (nothing_read, Between) (tokens text) k (left_from text at) h in
-      told (tokens text) taken k e.0 e.1 (left_length e.0 e.2)
+      recorded (tokens text) taken k e.0 e.1 (left_length e.0 e.2)
 
-  pub syntax_told : outcome (nothing_read, Between) (map capped (tokens text)) ≡ Stops refusal.Syntax (left_from text at) → IsFault text (faults.Syntax (taken + 1) (line_at text at))
-  syntax_told h = let t = stands refusal.Syntax h in (taken, add-one taken, line_is, t.first, t.no_number refl, t.no_limit refl)
+  pub syntax_recorded : outcome (nothing_read, Between) (map capped (tokens text)) ≡ Stops refusal.Syntax (left_from text at) → IsFault text (faults.Syntax (taken + 1) (line_at text at))
+  syntax_recorded h = let t = occurs refusal.Syntax h in (taken, add-one taken, line_is, t.first, t.no_number refl, t.no_limit refl)
 
-  pub number_told : outcome (nothing_read, Between) (map capped (tokens text)) ≡ Stops refusal.Number (left_from text at) → IsFault text (faults.Number (line_at text at))
-  number_told h = let t = stands refusal.Number h in (taken, line_is, t.first, t.number refl)
+  pub number_recorded : outcome (nothing_read, Between) (map capped (tokens text)) ≡ Stops refusal.Number (left_from text at) → IsFault text (faults.Number (line_at text at))
+  number_recorded h = let t = occurs refusal.Number h in (taken, line_is, t.first, t.number refl)
 
-  pub limit_told : outcome (nothing_read, Between) (map capped (tokens text)) ≡ Stops refusal.Limit (left_from text at) → IsFault text (faults.Limit (line_at text at))
-  limit_told h = let t = stands refusal.Limit h in (taken, line_is, t.first, t.limit refl)
+  pub limit_recorded : outcome (nothing_read, Between) (map capped (tokens text)) ≡ Stops refusal.Limit (left_from text at) → IsFault text (faults.Limit (line_at text at))
+  limit_recorded h = let t = occurs refusal.Limit h in (taken, line_is, t.first, t.limit refl)

@@ -32,21 +32,21 @@ use Rattle.dia_ccf.proofs.ReaderInRules.{and_true}
 
 pub name_leads : (done : PlainSource) (old new : Reader) (result : Result (String Global) Refusal) → Accepts false true name_at (λ s. string_bytes s) old result new
     → Leads (course (done, Decl_name) old) (λ s. (done, Decl_code (string_bytes s))) result new
-name_leads done old new result told =
+name_leads done old new result recorded =
     accepted false true name_at (λ s. string_bytes s) (λ s. (done, Decl_code s)) (done, Decl_name) old new result
-    (wants_all false true name_at (λ s. (done, Decl_code s)) (done, Decl_name) (λ t. refl) (λ t. refl) refl (left old)) told
+    (wants_all false true name_at (λ s. (done, Decl_code s)) (done, Decl_name) (λ t. refl) (λ t. refl) refl (left old)) recorded
 
 pub code_leads : (done : PlainSource) (n : List ℕ) (old new : Reader) (result : Result ℕ Refusal) → Accepts true false (number_at 0 max_number) (λ m. m) old result new
     → Leads (course (done, Decl_code n) old) (λ m. (done, Decl_vendor n m)) result new
-code_leads done n old new result told =
+code_leads done n old new result recorded =
     accepted true false (number_at 0 max_number) (λ m. m) (λ m. (done, Decl_vendor n m)) (done, Decl_code n) old new result
-    (wants_all true false (number_at 0 max_number) (λ m. (done, Decl_vendor n m)) (done, Decl_code n) (λ t. refl) (λ t. refl) refl (left old)) told
+    (wants_all true false (number_at 0 max_number) (λ m. (done, Decl_vendor n m)) (done, Decl_code n) (λ t. refl) (λ t. refl) refl (left old)) recorded
 
 pub format_leads : (done : PlainSource) (n : List ℕ) (code vendor : ℕ) (old new : Reader) (result : Result FormatName Refusal) → Accepts false false format_at (λ f. f) old result new
     → Leads (course (done, Decl_format n code vendor) old) (λ f. (done, Decl_rule n code vendor f)) result new
-format_leads done n code vendor old new result told =
+format_leads done n code vendor old new result recorded =
     accepted false false format_at (λ f. f) (λ f. (done, Decl_rule n code vendor f)) (done, Decl_format n code vendor) old new result
-    (wants_all false false format_at (λ f. (done, Decl_rule n code vendor f)) (done, Decl_format n code vendor) (λ t. refl) (λ t. refl) refl (left old)) told
+    (wants_all false false format_at (λ f. (done, Decl_rule n code vendor f)) (done, Decl_format n code vendor) (λ t. refl) (λ t. refl) refl (left old)) recorded
 
 -- a declaration without its values
 abbrev pub bare : List ℕ → ℕ → ℕ → FormatName → MRule → PlainDecl
@@ -54,19 +54,19 @@ bare n code vendor format rule = record { name = n; code = code; vendor = vendor
 
 pub rule_leads : (done : PlainSource) (n : List ℕ) (code vendor : ℕ) (format : FormatName) (old new : Reader) (result : Result MRule Refusal) → Accepts false false rule_at (λ r. r) old result new
     → Leads (course (done, Decl_rule n code vendor format) old) (λ r. (done, Decl_values (bare n code vendor format r))) result new
-rule_leads done n code vendor format old new result told =
+rule_leads done n code vendor format old new result recorded =
     accepted false false rule_at (λ r. r) (λ r. (done, Decl_values (bare n code vendor format r))) (done, Decl_rule n code vendor format) old new result
-    (wants_all false false rule_at (λ r. (done, Decl_values (bare n code vendor format r))) (done, Decl_rule n code vendor format) (λ t. refl) (λ t. refl) refl (left old)) told
+    (wants_all false false rule_at (λ r. (done, Decl_values (bare n code vendor format r))) (done, Decl_rule n code vendor format) (λ t. refl) (λ t. refl) refl (left old)) recorded
 
 -- ---- the vendor
 
 pub vendor_leads : (done : PlainSource) (n : List ℕ) (code : ℕ) (old mid new : Reader) (result : Result ℕ Refusal) → Takes (is_word (codes "vendor")) old true mid
     → Accepts true false (number_at 0 max_number) (λ m. m) mid result new → Leads (course (done, Decl_vendor n code) old) (λ v. (done, Decl_format n code v)) result new
-vendor_leads done n code old mid new result (t, e, passes) told =
+vendor_leads done n code old mid new result (t, e, passes) recorded =
     leads_along (course (done, Decl_vendor n code) old) (course (done, Decl_number n code) mid) (λ v. (done, Decl_format n code v)) result new
     (passes_one (done, Decl_vendor n code) (done, Decl_number n code) t old mid passes (rw e refl))
     (accepted true false (number_at 0 max_number) (λ m. m) (λ v. (done, Decl_format n code v)) (done, Decl_number n code) mid new result
-    (wants_all true false (number_at 0 max_number) (λ v. (done, Decl_format n code v)) (done, Decl_number n code) (λ t. refl) (λ t. refl) refl (left mid)) told)
+    (wants_all true false (number_at 0 max_number) (λ v. (done, Decl_format n code v)) (done, Decl_number n code) (λ t. refl) (λ t. refl) refl (left mid)) recorded)
 
 pub no_vendor : (done : PlainSource) (n : List ℕ) (code : ℕ) (old new : Reader) → begins_with (is_word (codes "vendor")) (left old) ≡ false → new ≡ old
     → course (done, Decl_vendor n code) old ≡ course (done, Decl_format n code 0) new
@@ -78,8 +78,8 @@ no_vendor done n code old new none same =
 
 -- ---- the rule
 
-pub rule_told : (r : MRule) (old mid new : Reader) → mid ≡ old → Takes (is_word (rule_word r)) mid true new → Accepts false false rule_at (λ x. x) old (Ok r) new
-rule_told r old mid new same (t, e, passes) = (t, ap rule_at (word-is (rule_word r) t e) ∙ rule_named-word r, subst (λ (from : Reader). Passes from (t ∷ []) new) same passes)
+pub rule_recorded : (r : MRule) (old mid new : Reader) → mid ≡ old → Takes (is_word (rule_word r)) mid true new → Accepts false false rule_at (λ x. x) old (Ok r) new
+rule_recorded r old mid new same (t, e, passes) = (t, ap rule_at (word-is (rule_word r) t e) ∙ rule_named-word r, subst (λ (from : Reader). Passes from (t ∷ []) new) same passes)
 
 no_rule_ahead : (ts : List Token) → begins_with (is_word (rule_word Must)) ts ≡ false → begins_with (is_word (rule_word MustNot)) ts ≡ false → begins_with (is_word (rule_word Any)) ts ≡ false
     → (begins_with (λ t. is_some (rule_at t)) ts ≡ false) × (refusal.Syntax ≡ why_ahead false false ts)
@@ -92,8 +92,8 @@ pub no_rule : (old first second new : Reader) → Takes (is_word (rule_word Must
 no_rule old first second new (a, e) (b, f) (c, g) =
     let other = ap (λ (r : Reader). begins_with (is_word (rule_word MustNot)) (left r)) (sym e) ∙ b in
     let third = ap (λ (r : Reader). begins_with (is_word (rule_word Any)) (left r)) (sym (f ∙ e)) ∙ c in
-    let told = no_rule_ahead (left old) a other third in
-    (g ∙ f ∙ e, told.0, told.1)
+    let recorded = no_rule_ahead (left old) a other third in
+    (g ∙ f ∙ e, recorded.0, recorded.1)
 
 -- ---- values
 

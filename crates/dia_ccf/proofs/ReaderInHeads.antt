@@ -242,10 +242,10 @@ Expects state to text t = (next state t ≡ option_map (λ u. to) (keyword_at te
 keyword_stops : (at : Bool → State) (to : State) (text : List ℕ) (old mid new : Reader) (b : Bool) (k : Refusal) → next (at false) Comma ≡ Some (at true)
     → ((c : Bool) → whole (at c) ≡ None) → ((c : Bool) (t : Token) → (c ≡ false → same_sign Comma t ≡ false) → Expects (at c) to text t)
     → Takes (same_sign Comma) old b mid → AcceptsUnless false false (keyword_at text) mid k new → StopsAt (course (at false) old) k new
-keyword_stops at to text old mid new b k begins unfinished expects taken told =
+keyword_stops at to text old mid new b k begins unfinished expects taken recorded =
     let s = comma_step at old mid b taken begins in
     subst (λ (from : Course). StopsAt from k new) (sym s.0)
-    (accepted {X = Unit {0}} false false (keyword_at text) (λ u. tt) (λ u. to) (at b) mid new (Err k) (wanted (left mid) s.1) told)
+    (accepted {X = Unit {0}} false false (keyword_at text) (λ u. tt) (λ u. to) (at b) mid new (Err k) (wanted (left mid) s.1) recorded)
   where
     wanted : (ts : List Token) → (b ≡ false → no_comma ts) → Wants false false (λ t. option_map (λ u. to) (keyword_at text t)) (at b) ts
     wanted [] f = unfinished b
@@ -254,8 +254,8 @@ keyword_stops at to text old mid new b k begins unfinished expects taken told =
 -- `PXY` in the brackets of the head for errors
 pub proxy_stops : (done : PlainSource) (name : List ℕ) (old mid new : Reader) (b : Bool) (k : Refusal) → Takes (same_sign Comma) old b mid
     → AcceptsUnless false false (keyword_at (codes "pxy")) mid k new → StopsAt (course (done, In_head name (Error_either false)) old) k new
-proxy_stops done name old mid new b k taken told =
-    keyword_stops (λ c. (done, In_head name (Error_either c))) (done, In_head name Error_close) (codes "pxy") old mid new b k refl (λ c. refl) expects taken told
+proxy_stops done name old mid new b k taken recorded =
+    keyword_stops (λ c. (done, In_head name (Error_either c))) (done, In_head name Error_close) (codes "pxy") old mid new b k refl (λ c. refl) expects taken recorded
   where
     expects : (c : Bool) (t : Token) → (c ≡ false → same_sign Comma t ≡ false) → Expects (done, In_head name (Error_either c)) (done, In_head name Error_close) (codes "pxy") t
     expects c (Name w) f = (map_twice (λ to. (done, In_head name to)) (λ u. Error_close) (keyword_at (codes "pxy") (Name w)), refl)
@@ -266,8 +266,8 @@ proxy_stops done name old mid new b k taken told =
 -- `ERR`
 pub error_stops : (done : PlainSource) (name : List ℕ) (old mid new : Reader) (b : Bool) (k : Refusal) → Takes (same_sign Comma) old b mid
     → AcceptsUnless false false (keyword_at (codes "err")) mid k new → StopsAt (course (done, In_head name (Error_word false)) old) k new
-error_stops done name old mid new b k taken told =
-    keyword_stops (λ c. (done, In_head name (Error_word c))) (done, In_head name (Error_flags false)) (codes "err") old mid new b k refl (λ c. refl) expects taken told
+error_stops done name old mid new b k taken recorded =
+    keyword_stops (λ c. (done, In_head name (Error_word c))) (done, In_head name (Error_flags false)) (codes "err") old mid new b k refl (λ c. refl) expects taken recorded
   where
     expects : (c : Bool) (t : Token) → (c ≡ false → same_sign Comma t ≡ false) → Expects (done, In_head name (Error_word c)) (done, In_head name (Error_flags false)) (codes "err") t
     expects c (Name w) f = (map_twice (λ to. (done, In_head name to)) (λ u. Error_flags false) (keyword_at (codes "err") (Name w)), refl)

@@ -85,28 +85,28 @@ bracket_wanted done d qual state (t ∷ us) wants h =
 pub bracket_leads : (done : PlainSource) (d : PlainDef) (qual : Option Qual) (state : State) (old mid new : Reader) (result : Result (Unit {0}) Refusal)
     → Wants false false (on_loose done d qual) state (left old) → (begins_with (same_sign Open_brace) (left old) ≡ false) × (mid ≡ old)
     → Accepts false false (sign_at Open_bracket) (λ u. tt) mid result new → Leads (course state old) (λ u. (done, Loose_name d Optional qual)) result new
-bracket_leads done d qual state old mid new result wants (none, same) told =
+bracket_leads done d qual state old mid new result wants (none, same) recorded =
     leads_along (course state old) (course state mid) (λ u. (done, Loose_name d Optional qual)) result new (ap (course state) (sym same))
     (accepted {X = Unit {0}} false false (sign_at Open_bracket) (λ u. tt) (λ u. (done, Loose_name d Optional qual)) state mid new result
     (subst (λ (r : Reader). Wants false false (λ t. option_map (λ u. (done, Loose_name d Optional qual)) (sign_at Open_bracket t)) state (left r)) (sym same)
-    (bracket_wanted done d qual state (left old) wants none)) told)
+    (bracket_wanted done d qual state (left old) wants none)) recorded)
 
 -- the name
 pub slot_leads : (done : PlainSource) (d : PlainDef) (kind : RuleKind) (qual : Option Qual) (old new : Reader) (result : Result (Option (String Global)) Refusal)
     → Accepts false true slot_at (λ name. option_map (λ text. string_bytes text) name) old result new
     → Leads (course (done, Loose_name d kind qual) old) (λ name. (done, Loose_close d (loose_rule kind name qual))) result new
-slot_leads done d kind qual old new result told =
+slot_leads done d kind qual old new result recorded =
     accepted false true slot_at (λ name. option_map (λ text. string_bytes text) name) (λ name. (done, Loose_close d (record { kind = kind; name = name; qual = qual })))
     (done, Loose_name d kind qual) old new result
-    (wants_all false true slot_at (λ name. (done, Loose_close d (record { kind = kind; name = name; qual = qual }))) (done, Loose_name d kind qual) (λ t. refl) (λ t. refl) refl (left old)) told
+    (wants_all false true slot_at (λ name. (done, Loose_close d (record { kind = kind; name = name; qual = qual }))) (done, Loose_name d kind qual) (λ t. refl) (λ t. refl) refl (left old)) recorded
 
 -- the closing bracket
 pub close_leads : (done : PlainSource) (d : PlainDef) (kind : RuleKind) (name : Option (String Global)) (qual : Option Qual) (old new : Reader) (result : Result (Unit {0}) Refusal)
     → Accepts false false (sign_at (closing_sign kind)) (λ u. tt) old result new
     → Leads (course (done, Loose_close d (loose_rule kind name qual)) old) (λ u. (done, Rules (with_rule d (loose_rule kind name qual)))) result new
-close_leads done d kind name qual old new result told =
+close_leads done d kind name qual old new result recorded =
     accepted {X = Unit {0}} false false (sign_at (closing_sign kind)) (λ u. tt) (λ u. (done, Rules (with_rule d (loose_rule kind name qual)))) (done, Loose_close d (loose_rule kind name qual))
-    old new result (wanted (left old)) told
+    old new result (wanted (left old)) recorded
   where
     why_is : (k : RuleKind) (t : Token) → refused (done, Loose_close d (loose_rule k name qual)) t ≡ why false false t
     why_is Fixed t = refl
@@ -202,10 +202,10 @@ order_more items more r fixed grown e h k =
     by_kind false f before = still_loose (map plain_rule items) (plain_rule r) f before
 
 -- a fixed rule follows only fixed ones
-pub kind_told : (kind : RuleKind) (fixed : Bool) → (kind ≡ Fixed → fixed ≡ true) → (fixed && is_fixed kind) ≡ is_fixed kind
-kind_told Fixed fixed h = ap (λ (x : Bool). x && true) (h refl)
-kind_told Required fixed h = and_false fixed
-kind_told Optional fixed h = and_false fixed
+pub kind_recorded : (kind : RuleKind) (fixed : Bool) → (kind ≡ Fixed → fixed ≡ true) → (fixed && is_fixed kind) ≡ is_fixed kind
+kind_recorded Fixed fixed h = ap (λ (x : Bool). x && true) (h refl)
+kind_recorded Required fixed h = and_false fixed
+kind_recorded Optional fixed h = and_false fixed
 
 pub or_false : (fixed b : Bool) → (not fixed || b) ≡ false → (fixed ≡ true) × (b ≡ false)
 or_false true b h = (refl, h)

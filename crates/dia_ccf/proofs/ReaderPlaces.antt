@@ -32,7 +32,7 @@ use Rattle.dia_ccf.specs.declared.source.Def.{Def}
 use Rattle.dia_ccf.specs.Plain.{PlainSource, PlainDef, plain_rule, plain_decl, plain_def, plain_source}
 use Rattle.dia_ccf.specs.Grammar.{bracketed, rule, head}
 use Rattle.dia_ccf.specs.declared.reading.definitions.Opening.{Opening}
-use Rattle.dia_ccf.specs.Places.{Spans, RulesStand, DeclStands, IsPlaced, IsPlacedBefore, opened, heading}
+use Rattle.dia_ccf.specs.Places.{Spans, RulesStand, DeclOccurs, IsPlaced, IsPlacedBefore, opened, heading}
 use Rattle.dia_ccf.specs.Machine.{same_sign, sign_at, name_at, number_at, slot_at, format_at, rule_at, is_word, is_none, is_number, add_def, add_by_head}
 use Rattle.dia_ccf.specs.ReaderFunctions.{left, still, Passes, Takes, Accepts, Derived, From, declaring, unread, Course}
 use Rattle.dia_ccf.proofs.TokenTests.{same_sign-is, sign_at-is, name_at-is, number_at-is, slot_at-is, slot_tokens, Is_slot, word-is, format_at-is, rule_at-is}
@@ -291,8 +291,8 @@ values_derived f (r ∷ rs) old mid new h some took all =
     subst (λ (g : FormatName). Derived (values g (Some (r ∷ rs))) old new) (sym (enumerated f h))
     (along (one Open_parenthesis) (each range (r ∷ rs) then one Close_parenthesis) old mid new (takes_derived Open_parenthesis old mid refl took) all)
 
-pub decl_stands : (d : Decl) (old mid new : Reader) → d.at ≡ old.at → Takes (same_sign Declares) old true mid → Derived (declaring (plain_decl d)) mid new → DeclStands new.text.now d
-decl_stands d old mid new e took h =
+pub decl_occurs : (d : Decl) (old mid new : Reader) → d.at ≡ old.at → Takes (same_sign Declares) old true mid → Derived (declaring (plain_decl d)) mid new → DeclOccurs new.text.now d
+decl_occurs d old mid new e took h =
     let f = from_place (declaration (plain_decl d)) d.at old new e (along (one Declares) (declaring (plain_decl d)) old mid new (takes_derived Declares old mid refl took) h) in
     (f.0, new.taken, f.1, f.2)
 
@@ -337,10 +337,10 @@ rules_more rules more r k old new grown all h at =
 pub rules_still : (text now : List ℕ) (k m : ℕ) (rules : List Rule) → text ≡ now → RulesStand text k rules m → RulesStand now k rules m
 rules_still text now k m rules same all = subst (λ (t : List ℕ). RulesStand t k rules m) same all
 
-pub def_stands : (text : List ℕ) (at : ℕ) (name : List ℕ) (h : Head) (rules : List Rule) (end : ℕ) (old mid : Reader) → From at (opened name) old
+pub def_occurs : (text : List ℕ) (at : ℕ) (name : List ℕ) (h : Head) (rules : List Rule) (end : ℕ) (old mid : Reader) → From at (opened name) old
     → Derived (one Assign then one Less then head h then one Greater) old mid → mid.text.now ≡ text → RulesStand text mid.taken rules end
     → (k : ℕ) × (m : ℕ) × (end : ℕ) × Spans text k (heading (record { name = name; head = h; rules = map plain_rule rules })) m × (place_of text k ≡ at) × RulesStand text m rules end
-def_stands text at name h rules end old mid (k, (front, e, a), place) (back, f, b, t) same stand =
+def_occurs text at name h rules end old mid (k, (front, e, a), place) (back, f, b, t) same stand =
     let d : PlainDef = record { name = name; head = h; rules = map plain_rule rules } in
     let up_to = f ∙ ap (λ (u : List ℕ). back ++ drop mid.taken (tokens u)) (sym t) in
     let all = e ∙ ap (λ (us : List Token). front ++ us) up_to ∙ sym (append_assoc front back (drop mid.taken (tokens old.text.now))) in (

@@ -97,8 +97,8 @@ wants_all numbers names read to state a b c (t ∷ ts) = (a t, b t)
 -- a sign was read
 pub sign_leads : (state to : State) (sign : Token) (old new : Reader) (result : Result (Unit {0}) Refusal) → ((t : Token) → next state t ≡ option_map (λ u. to) (sign_at sign t))
     → ((t : Token) → refused state t ≡ why false false t) → whole state ≡ None → Accepts false false (sign_at sign) (λ u. tt) old result new → Leads (course state old) (λ u. to) result new
-sign_leads state to sign old new result a b c told =
-    accepted {X = Unit {0}} false false (sign_at sign) (λ u. tt) (λ u. to) state old new result (wants_all false false (sign_at sign) (λ u. to) state a b c (left old)) told
+sign_leads state to sign old new result a b c recorded =
+    accepted {X = Unit {0}} false false (sign_at sign) (λ u. tt) (λ u. to) state old new result (wants_all false false (sign_at sign) (λ u. to) state a b c (left old)) recorded
 
 -- the name that was read is one
 pub named_by : (old new : Reader) (result : Result (String Global) Refusal) → Accepts false true name_at (λ name. string_bytes name) old result new
@@ -204,7 +204,7 @@ count_stops state to old new k does h = by_number (begins_with is_number (left o
     by_number : (b : Bool) → begins_with is_number (left old) ≡ b → MatchBool b (AcceptsUnless true false (λ t. option_map (λ n. Some n) (number_at 0 max_number t)) old k new)
         ((◌≡◌ {A = Result (Option ℕ) Refusal} (Err k) (Ok None)) × (new ≡ old)) → StopsAt (course state old) k new
     by_number false e (none, same) = absurd cc
-    by_number true e told = accepted true false (λ t. option_map (λ n. Some n) (number_at 0 max_number t)) (λ n. n) (placed to state) state old new (Err k) (wanted (left old) e) told
+    by_number true e recorded = accepted true false (λ t. option_map (λ n. Some n) (number_at 0 max_number t)) (λ n. n) (placed to state) state old new (Err k) (wanted (left old) e) recorded
       where
         wanted : (ts : List Token) → begins_with is_number ts ≡ true
             → Wants true false (λ t. option_map (placed to state) (option_map (λ n. Some n) (number_at 0 max_number t))) state ts
@@ -219,7 +219,7 @@ min_stops done d old new k h = count_stops (done, Rules d) (λ n. (done, Qual_mi
 -- the star
 pub star_stops : (done : PlainSource) (d : PlainDef) (old mid new : Reader) (min : Option ℕ) (k : Refusal) → begins_with begins_qualifier (left old) ≡ true → Counted old min mid
     → AcceptsUnless false false (sign_at Star) mid k new → StopsAt (course (done, Rules d) old) k new
-star_stops done d old mid new min k begins counted told = by_number (begins_with is_number (left old)) refl counted
+star_stops done d old mid new min k begins counted recorded = by_number (begins_with is_number (left old)) refl counted
   where
     by_number : (b : Bool) → begins_with is_number (left old) ≡ b → MatchBool b ((t : Token) × (option_map (λ k. Some k) (number_at 0 max_number t) ≡ Some min) × Passes old (t ∷ []) mid)
         ((◌≡◌ {A = Result (Option ℕ) Refusal} (Ok min) (Ok None)) × (mid ≡ old)) → StopsAt (course (done, Rules d) old) k new
@@ -229,11 +229,11 @@ star_stops done d old mid new min k begins counted told = by_number (begins_with
         (sym c.1) (ap (option_map (λ n. (done, Qual_min d n))) c.3) in
         subst (λ (from : Course). StopsAt from k new) (sym (passes_one (done, Rules d) (done, Qual_min d c.0) u old mid first step))
         (accepted {X = Unit {0}} false false (sign_at Star) (λ u. tt) (λ u. (done, Qual_star d (Some c.0))) (done, Qual_min d c.0) mid new (Err k)
-        (wants_all false false (sign_at Star) (λ u. (done, Qual_star d (Some c.0))) (done, Qual_min d c.0) (λ t. refl) (λ t. refl) refl (left mid)) told)
+        (wants_all false false (sign_at Star) (λ u. (done, Qual_star d (Some c.0))) (done, Qual_min d c.0) (λ t. refl) (λ t. refl) refl (left mid)) recorded)
     by_number false e (none, same) =
         subst (λ (from : Course). StopsAt from k new) (ap (course (done, Rules d)) same)
         (accepted {X = Unit {0}} false false (sign_at Star) (λ u. tt) (λ u. (done, Qual_star d None)) (done, Rules d) mid new (Err k)
-        (subst (λ (r : Reader). Wants false false (λ t. option_map (λ u. (done, Qual_star d None)) (sign_at Star t)) (done, Rules d) (left r)) (sym same) (wanted (left old) begins e)) told)
+        (subst (λ (r : Reader). Wants false false (λ t. option_map (λ u. (done, Qual_star d None)) (sign_at Star t)) (done, Rules d) (left r)) (sym same) (wanted (left old) begins e)) recorded)
       where
         wanted : (ts : List Token) → begins_with begins_qualifier ts ≡ true → begins_with is_number ts ≡ false
             → Wants false false (λ t. option_map (λ u. (done, Qual_star d None)) (sign_at Star t)) (done, Rules d) ts

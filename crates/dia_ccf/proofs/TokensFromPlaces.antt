@@ -70,8 +70,8 @@ IsCharBoundary-after_run text at utf8 some within =
     let last = prefix_len_passes is_run_byte (drop at text) (n - 1) 0 (omega arith) in
     let same = get_or-drop at text (n - 1) 0 in
     let ascii : get_or text (at + (n - 1)) 0 < 128 = subst (λ c. c < 128) same (run_byte_is_ascii (get_or (drop at text) (n - 1) 0) last) in
-    let behind : (at + (n - 1)) + 1 ≡ at + n = omega arith in
-    subst (λ k. IsCharBoundary text k) behind (IsCharBoundary-after_ascii text (at + (n - 1)) utf8 (omega arith) ascii)
+    let following : (at + (n - 1)) + 1 ≡ at + n = omega arith in
+    subst (λ k. IsCharBoundary text k) following (IsCharBoundary-after_ascii text (at + (n - 1)) utf8 (omega arith) ascii)
 
 -- ---- signs
 

@@ -57,9 +57,9 @@ close_proxy Set = λ ts. ⊥
 close_proxy Either = one Close_bracket
 
 -- the same where a comma has been read
-abbrev behind_comma : Bool → Tokens → Tokens
-behind_comma false class = class
-behind_comma true class = λ ts. class (Comma ∷ ts)
+abbrev after_comma : Bool → Tokens → Tokens
+after_comma false class = class
+after_comma true class = λ ts. class (Comma ∷ ts)
 
 -- the tokens that complete a head
 abbrev pub head_rest : HeadPlace → Head → Tokens
@@ -70,11 +70,11 @@ head_rest Diameter_colon h = one Colon then diameter_rest h
 head_rest Avp_colon h = one Colon then group_rest h
 head_rest Command_code h = diameter_rest h
 head_rest Group_code h = group_rest h
-head_rest (Flags c request pxy comma) h = behind_comma comma (after_code c request pxy h)
-head_rest (Group_vendor c comma) h = behind_comma comma (after_group c h)
-head_rest (Error_word comma_read) h = behind_comma comma_read (of_error (λ p. comma then keyword (codes "err") then error_proxy p) h)
-head_rest (Error_flags comma_read) h = behind_comma comma_read (of_error error_proxy h)
-head_rest (Error_either comma_read) h = behind_comma comma_read (of_error either_proxy h)
+head_rest (Flags c request pxy comma) h = after_comma comma (after_code c request pxy h)
+head_rest (Group_vendor c comma) h = after_comma comma (after_group c h)
+head_rest (Error_word comma_read) h = after_comma comma_read (of_error (λ p. comma then keyword (codes "err") then error_proxy p) h)
+head_rest (Error_flags comma_read) h = after_comma comma_read (of_error error_proxy h)
+head_rest (Error_either comma_read) h = after_comma comma_read (of_error either_proxy h)
 head_rest Error_close h = of_error close_proxy h
 head_rest (Head_end head) h = λ ts. (head ≡ h) × (ts ≡ [])
 
@@ -118,41 +118,41 @@ comma_back comma to q other t h =
     by_comma false e k = (refl, sym (same_sign-is Comma t e), some_is to q k)
 
 -- a comma was read
-comma_read : (class : Tokens) (b : Bool) (t : Token) (ts : List Token) → b ≡ false → t ≡ Comma → class (Comma ∷ ts) → behind_comma b class (t ∷ ts)
+comma_read : (class : Tokens) (b : Bool) (t : Token) (ts : List Token) → b ≡ false → t ≡ Comma → class (Comma ∷ ts) → after_comma b class (t ∷ ts)
 comma_read class true t ts e k h = absurd cc
 comma_read class false t ts e k h = subst (λ (u : Token). class (u ∷ ts)) (sym k) h
 
 -- a word after a comma or none
-behind_then : (text w : List ℕ) (c : Tokens) (ts : List Token) (b : Bool) → map to_ascii_lowercase w ≡ text → c ts → behind_comma b (comma then keyword text then c) (Name w ∷ ts)
-behind_then text w c ts true e h = (Comma ∷ [], Name w ∷ ts, refl, inr refl, (Name w ∷ [], ts, refl, spelled text w e, h))
-behind_then text w c ts false e h = ([], Name w ∷ ts, refl, inl refl, (Name w ∷ [], ts, refl, spelled text w e, h))
+after_then : (text w : List ℕ) (c : Tokens) (ts : List Token) (b : Bool) → map to_ascii_lowercase w ≡ text → c ts → after_comma b (comma then keyword text then c) (Name w ∷ ts)
+after_then text w c ts true e h = (Comma ∷ [], Name w ∷ ts, refl, inr refl, (Name w ∷ [], ts, refl, spelled text w e, h))
+after_then text w c ts false e h = ([], Name w ∷ ts, refl, inl refl, (Name w ∷ [], ts, refl, spelled text w e, h))
 
-behind_flag : (text w : List ℕ) (c : Tokens) (ts : List Token) (b : Bool) → map to_ascii_lowercase w ≡ text → c ts → behind_comma b (flag true text then c) (Name w ∷ ts)
-behind_flag text w c ts true e h = (Comma ∷ Name w ∷ [], ts, refl, (Comma ∷ [], Name w ∷ [], refl, inr refl, spelled text w e), h)
-behind_flag text w c ts false e h = (Name w ∷ [], ts, refl, ([], Name w ∷ [], refl, inl refl, spelled text w e), h)
+after_flag : (text w : List ℕ) (c : Tokens) (ts : List Token) (b : Bool) → map to_ascii_lowercase w ≡ text → c ts → after_comma b (flag true text then c) (Name w ∷ ts)
+after_flag text w c ts true e h = (Comma ∷ Name w ∷ [], ts, refl, (Comma ∷ [], Name w ∷ [], refl, inr refl, spelled text w e), h)
+after_flag text w c ts false e h = (Name w ∷ [], ts, refl, ([], Name w ∷ [], refl, inl refl, spelled text w e), h)
 
-behind_number : (n most : ℕ) (b : Bool) → n ≤ most → behind_comma b (comma then number most n) (Number n ∷ [])
-behind_number n most true h = (Comma ∷ [], Number n ∷ [], refl, inr refl, (h, refl))
-behind_number n most false h = ([], Number n ∷ [], refl, inl refl, (h, refl))
+after_number : (n most : ℕ) (b : Bool) → n ≤ most → after_comma b (comma then number most n) (Number n ∷ [])
+after_number n most true h = (Comma ∷ [], Number n ∷ [], refl, inr refl, (h, refl))
+after_number n most false h = ([], Number n ∷ [], refl, inl refl, (h, refl))
 
-behind_wider : (a b : Tokens) (read : Bool) (ts : List Token) → ((us : List Token) → a us → b us) → behind_comma read a ts → behind_comma read b ts
-behind_wider a b true ts go h = go (Comma ∷ ts) h
-behind_wider a b false ts go h = go ts h
+after_wider : (a b : Tokens) (read : Bool) (ts : List Token) → ((us : List Token) → a us → b us) → after_comma read a ts → after_comma read b ts
+after_wider a b true ts go h = go (Comma ∷ ts) h
+after_wider a b false ts go h = go ts h
 
 nothing_then : (c : Tokens) (ts : List Token) → c ts → (nothing then c) ts
 nothing_then c ts h = ([], ts, refl, refl, h)
 
 request_back : (c : ℕ) (request pxy read : Bool) (w : List ℕ) (q : HeadPlace) (h : Head) (ts : List Token) → map to_ascii_lowercase w ≡ codes "req"
     → cond (request || pxy) None (Some (Flags c true pxy false)) ≡ Some q → head_rest q h ts
-    → behind_comma read (after_code c request pxy h) (Name w ∷ ts)
+    → after_comma read (after_code c request pxy h) (Name w ∷ ts)
 request_back c true pxy read w q h ts e k f = absurd cc
 request_back c false true read w q h ts e k f = absurd cc
 request_back c false false read w q (Group code n) ts e k f = absurd (subst (λ (p : HeadPlace). head_rest p (Group code n) ts) (sym (some_is (Flags c true false false) q k)) f)
 request_back c false false read w q (Command code r p app) ts e k f =
     let g = subst (λ (at : HeadPlace). head_rest at (Command code r p app) ts) (sym (some_is (Flags c true false false) q k)) f in
-    behind_wider (flag true (codes "req") then flag p (codes "pxy") then application app) (after_code c false false (Command code r p app)) read (Name w ∷ ts)
+    after_wider (flag true (codes "req") then flag p (codes "pxy") then application app) (after_code c false false (Command code r p app)) read (Name w ∷ ts)
     (λ us wide. (g.0, subst (λ (b : Bool). (flag b (codes "req") then flag p (codes "pxy") then application app) us) (sym g.1.0) wide))
-    (behind_flag (codes "req") w (flag p (codes "pxy") then application app) ts read e g.1.1)
+    (after_flag (codes "req") w (flag p (codes "pxy") then application app) ts read e g.1.1)
 request_back c false false read w q (Error p) ts e k f = absurd (subst (λ (at : HeadPlace). head_rest at (Error p) ts) (sym (some_is (Flags c true false false) q k)) f)
 
 -- what the proxiable flag says of the flags before it
@@ -163,15 +163,15 @@ proxiable_wider false r p app us e h = subst (λ (b : Bool). (flag b (codes "req
 
 proxiable_back : (c : ℕ) (request pxy read : Bool) (w : List ℕ) (q : HeadPlace) (h : Head) (ts : List Token)
     → map to_ascii_lowercase w ≡ codes "pxy" → cond pxy None (Some (Flags c request true false)) ≡ Some q → head_rest q h ts
-    → behind_comma read (after_code c request pxy h) (Name w ∷ ts)
+    → after_comma read (after_code c request pxy h) (Name w ∷ ts)
 proxiable_back c request true read w q h ts e k f = absurd cc
 proxiable_back c request false read w q (Group code n) ts e k f = absurd (subst (λ (p : HeadPlace). head_rest p (Group code n) ts) (sym (some_is (Flags c request true false) q k)) f)
 proxiable_back c request false read w q (Command code r p app) ts e k f =
     let g = subst (λ (at : HeadPlace). head_rest at (Command code r p app) ts) (sym (some_is (Flags c request true false) q k)) f in
     let flags = proxied request r p app ts g.1 in
-    behind_wider (flag true (codes "pxy") then application app) (after_code c request false (Command code r p app)) read (Name w ∷ ts)
+    after_wider (flag true (codes "pxy") then application app) (after_code c request false (Command code r p app)) read (Name w ∷ ts)
     (λ us wide. (g.0, proxiable_wider request r p app us flags.0 (subst (λ (b : Bool). (flag b (codes "pxy") then application app) us) (sym flags.1) wide)))
-    (behind_flag (codes "pxy") w (application app) ts read e flags.2)
+    (after_flag (codes "pxy") w (application app) ts read e flags.2)
   where
     proxied : (request r p : Bool) (app : Option ℕ) (ts : List Token) → flags_rest request true r p app ts → (r ≡ request) × (p ≡ true) × application app ts
     proxied true r p app ts h = h
@@ -184,43 +184,43 @@ application_wider true false app us h = (refl, nothing_then (application app) us
 application_wider request true app us h = (refl, refl, h)
 
 application_back : (c : ℕ) (request pxy read : Bool) (n : ℕ) (h : Head) (ts : List Token) → n ≤ max_number
-    → head_rest (Head_end (Command c request pxy (Some n))) h ts → behind_comma read (after_code c request pxy h) (Number n ∷ ts)
+    → head_rest (Head_end (Command c request pxy (Some n))) h ts → after_comma read (after_code c request pxy h) (Number n ∷ ts)
 application_back c request pxy read n h ts small (is, none) =
-    let P : Head → List Token → Type 0 = λ k us. behind_comma read (after_code c request pxy k) (Number n ∷ us) in
+    let P : Head → List Token → Type 0 = λ k us. after_comma read (after_code c request pxy k) (Number n ∷ us) in
     subst (λ (us : List Token). P h us) (sym none) (subst (λ (k : Head). P k []) is
-    (behind_wider (application (Some n)) (after_code c request pxy (Command c request pxy (Some n))) read (Number n ∷ [])
-    (λ us wide. (refl, application_wider request pxy (Some n) us wide)) (behind_number n max_number read small)))
+    (after_wider (application (Some n)) (after_code c request pxy (Command c request pxy (Some n))) read (Number n ∷ [])
+    (λ us wide. (refl, application_wider request pxy (Some n) us wide)) (after_number n max_number read small)))
 
 flag_back : (c : ℕ) (request pxy read : Bool) (t : Token) (q : HeadPlace) (h : Head) (ts : List Token)
-    → next_flag c request pxy t ≡ Some q → head_rest q h ts → behind_comma read (after_code c request pxy h) (t ∷ ts)
+    → next_flag c request pxy t ≡ Some q → head_rest q h ts → after_comma read (after_code c request pxy h) (t ∷ ts)
 flag_back c request pxy read t q h ts k f =
     ⊎_elim (λ (e, k1). (let w = keyword-is (codes "req") t e
-    in subst (λ (u : Token). behind_comma read (after_code c request pxy h) (u ∷ ts)) (sym w.2) (request_back c request pxy read w.0 q h ts w.1 k1 f)))
+    in subst (λ (u : Token). after_comma read (after_code c request pxy h) (u ∷ ts)) (sym w.2) (request_back c request pxy read w.0 q h ts w.1 k1 f)))
     (λ (e, k1). ⊎_elim (λ (e2, k2). (let w = keyword-is (codes "pxy") t e2
-    in subst (λ (u : Token). behind_comma read (after_code c request pxy h) (u ∷ ts)) (sym w.2) (proxiable_back c request pxy read w.0 q h ts w.1 k2 f)))
+    in subst (λ (u : Token). after_comma read (after_code c request pxy h) (u ∷ ts)) (sym w.2) (proxiable_back c request pxy read w.0 q h ts w.1 k2 f)))
     (λ (e2, k2). (let m = mapped (λ n. Head_end (Command c request pxy (Some n))) (number_at 0 max_number t) q k2 in
     let n = number_at-is 0 max_number t m.0 m.1 in
-    subst (λ (u : Token). behind_comma read (after_code c request pxy h) (u ∷ ts)) (sym n.0)
+    subst (λ (u : Token). after_comma read (after_code c request pxy h) (u ∷ ts)) (sym n.0)
     (application_back c request pxy read m.0 h ts n.2 (subst (λ (at : HeadPlace). head_rest at h ts) (sym m.2) f))))
     (chosen (is_keyword (codes "pxy") t) (cond pxy None (Some (Flags c request true false))) (option_map (λ n. Head_end (Command c request pxy (Some n))) (number_at 0 max_number t)) (Some q) k1))
     (chosen (is_keyword (codes "req") t) (cond (request || pxy) None (Some (Flags c true pxy false))) _ (Some q) k)
 
-group_vendor_back : (c n : ℕ) (read : Bool) (h : Head) (ts : List Token) → n ≤ max_number → head_rest (Head_end (Group c n)) h ts → behind_comma read (after_group c h) (Number n ∷ ts)
+group_vendor_back : (c n : ℕ) (read : Bool) (h : Head) (ts : List Token) → n ≤ max_number → head_rest (Head_end (Group c n)) h ts → after_comma read (after_group c h) (Number n ∷ ts)
 group_vendor_back c n read h ts small (is, none) =
-    let P : Head → List Token → Type 0 = λ k us. behind_comma read (after_group c k) (Number n ∷ us) in
+    let P : Head → List Token → Type 0 = λ k us. after_comma read (after_group c k) (Number n ∷ us) in
     subst (λ (us : List Token). P h us) (sym none) (subst (λ (k : Head). P k []) is
-    (behind_wider (comma then number max_number n) (after_group c (Group c n)) read (Number n ∷ []) (λ us wide. (refl, inr wide)) (behind_number n max_number read small)))
+    (after_wider (comma then number max_number n) (after_group c (Group c n)) read (Number n ∷ []) (λ us wide. (refl, inr wide)) (after_number n max_number read small)))
 
 error_word_back : (read : Bool) (w : List ℕ) (h : Head) (ts : List Token) → map to_ascii_lowercase w ≡ codes "err" → head_rest (Error_flags false) h ts → head_rest (Error_word read) h (Name w ∷ ts)
 error_word_back read w (Group code n) ts e f = absurd f
 error_word_back read w (Command code r p app) ts e f = absurd f
-error_word_back read w (Error p) ts e f = behind_then (codes "err") w (error_proxy p) ts read e f
+error_word_back read w (Error p) ts e f = after_then (codes "err") w (error_proxy p) ts read e f
 
 proxied_back : (read : Bool) (w : List ℕ) (h : Head) (ts : List Token) → map to_ascii_lowercase w ≡ codes "pxy" → head_rest (Head_end (Error Set)) h ts → head_rest (Error_flags read) h (Name w ∷ ts)
 proxied_back read w h ts e (is, none) =
     subst (λ (us : List Token). head_rest (Error_flags read) h (Name w ∷ us)) (sym none) (subst (λ (k : Head). head_rest (Error_flags read) k (Name w ∷ [])) is (last read))
   where
-    last : (b : Bool) → behind_comma b (comma then keyword (codes "pxy")) (Name w ∷ [])
+    last : (b : Bool) → after_comma b (comma then keyword (codes "pxy")) (Name w ∷ [])
     last true = (Comma ∷ [], Name w ∷ [], refl, inr refl, spelled (codes "pxy") w e)
     last false = ([], Name w ∷ [], refl, inl refl, spelled (codes "pxy") w e)
 
@@ -236,7 +236,7 @@ either_back read w (Group code n) ts e f = absurd f
 either_back read w (Command code r p app) ts e f = absurd f
 either_back read w (Error Clear) ts e f = absurd f
 either_back read w (Error Set) ts e f = absurd f
-either_back read w (Error Either) ts e f = behind_then (codes "pxy") w (one Close_bracket) ts read e f
+either_back read w (Error Either) ts e f = after_then (codes "pxy") w (one Close_bracket) ts read e f
 
 close_back : (h : Head) (ts : List Token) → head_rest (Head_end (Error Either)) h ts → head_rest Error_close h (Close_bracket ∷ ts)
 close_back h ts (is, none) = subst (λ (us : List Token). head_rest Error_close h (Close_bracket ∷ us)) (sym none) (subst (λ (k : Head). head_rest Error_close k (Close_bracket ∷ [])) is refl)

@@ -24,7 +24,7 @@ use Rattle.dia_ccf.specs.Wanting.{fits, may_end, wanted_at, wanted_in_head}
 use Rattle.dia_ccf.specs.Wanting.{begins_item, goes_on, may_end_head, begins_rule, opens_rule, or_comma, is_number_to, is_name_token}
 use Rattle.dia_ccf.proofs.TokenTests.{same_sign-is, keyword-is}
 use Rattle.dia_ccf.proofs.DeclarationCompleteness.{and_false}
-use Rattle.dia_ccf.proofs.WantedBehind.{none_grown}
+use Rattle.dia_ccf.proofs.WantedAfter.{none_grown}
 
 -- ---- what fits
 

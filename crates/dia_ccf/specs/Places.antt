@@ -22,22 +22,22 @@ opened text = either (one Less then name text then one Greater) (name text)
 abbrev pub heading : PlainDef → Tokens
 heading d = opened d.name then one Assign then one Less then head d.head then one Greater
 
-abbrev pub DeclStands : List ℕ → Decl → Type 0
-DeclStands text d = (k : ℕ) × (m : ℕ) × Spans text k (declaration (plain_decl d)) m × (place_of text k ≡ d.at)
+abbrev pub DeclOccurs : List ℕ → Decl → Type 0
+DeclOccurs text d = (k : ℕ) × (m : ℕ) × Spans text k (declaration (plain_decl d)) m × (place_of text k ≡ d.at)
 
 -- the rules follow each other from token k up to token m
 abbrev pub RulesStand : List ℕ → ℕ → List Rule → ℕ → Type 0
 RulesStand text k [] m = k ≡ m
 RulesStand text k (r ∷ rules) m = (next : ℕ) × Spans text k (rule (plain_rule r)) next × (place_of text k ≡ r.at) × RulesStand text next rules m
 
-abbrev pub DefStands : List ℕ → Def → Type 0
-DefStands text d = (k : ℕ) × (m : ℕ) × (end : ℕ) × Spans text k (heading (plain_def d)) m × (place_of text k ≡ d.at) × RulesStand text m d.rules.items end
+abbrev pub DefOccurs : List ℕ → Def → Type 0
+DefOccurs text d = (k : ℕ) × (m : ℕ) × (end : ℕ) × Spans text k (heading (plain_def d)) m × (place_of text k ≡ d.at) × RulesStand text m d.rules.items end
 
 -- each part is at its place, and each list is in the order of the text
 pub record IsPlaced (text : List ℕ) (source : Source) : Type 0 where
-  pub avps : All (DeclStands text) source.avps.items
-  pub groups : All (DefStands text) source.groups.items
-  pub commands : All (DefStands text) source.commands.items
+  pub avps : All (DeclOccurs text) source.avps.items
+  pub groups : All (DefOccurs text) source.groups.items
+  pub commands : All (DefOccurs text) source.commands.items
   pub avps_rise : AllPairs (λ a b. a.at < b.at) source.avps.items
   pub groups_rise : AllPairs (λ a b. a.at < b.at) source.groups.items
   pub commands_rise : AllPairs (λ a b. a.at < b.at) source.commands.items

@@ -21,8 +21,8 @@ use Rattle.dia_terms.specs.Formats.{format_word}
 use Rattle.dia_ccf.specs.Grammar.{Tokens, ◌then◌, one, nothing, either, keyword, comma, flag, application, group_vendor, error_proxy, name, number, vendor, word, values, rule_word, rule as rule_tokens}
 use Rattle.dia_ccf.specs.LexerTokens.{left_from}
 use Rattle.dia_ccf.specs.declared.reading.definitions.Opening.{Opening}
-use Rattle.dia_ccf.specs.declared.reading.definitions.Behind.{Behind}
-use Rattle.dia_ccf.specs.declared.reading.definitions.Behind.TheVariants as behinds
+use Rattle.dia_ccf.specs.declared.reading.definitions.After.{After}
+use Rattle.dia_ccf.specs.declared.reading.definitions.After.TheVariants as afters
 use Rattle.dia_terms.specs.declared.RuleKind.TheVariants.{Fixed}
 use Rattle.dia_ccf.specs.Names.{is_name}
 use Rattle.dia_ccf.specs.Plain.{PlainSource, PlainDecl, PlainDef, plain_source, plain_rule}
@@ -92,28 +92,28 @@ pub record Reads_by {Y : Type 0} (numbers names : Bool) (read : Token → Option
   pub unfinished : whole state ≡ None
 
 -- the place after a definition and the name of the next one, if it was read
-abbrev pub behind : Option Opening → Place
-behind None = Between
-behind (Some opening) = Def_assign (string_bytes opening.name)
+abbrev pub following : Option Opening → Place
+following None = Between
+following (Some opening) = Def_assign (string_bytes opening.name)
 
 -- the state after some rules of a definition and what follows them
-abbrev pub after_rules : PlainSource → PlainDef → Behind → State
-after_rules done d (behinds.Rule rule) = (done, Rules (with_rule d (plain_rule rule)))
-after_rules done d (behinds.Definition opening) = (add_def done d, Def_assign (string_bytes opening.name))
-after_rules done d behinds.Nothing = (add_def done d, Between)
+abbrev pub after_rules : PlainSource → PlainDef → After → State
+after_rules done d (afters.Rule rule) = (done, Rules (with_rule d (plain_rule rule)))
+after_rules done d (afters.Definition opening) = (add_def done d, Def_assign (string_bytes opening.name))
+after_rules done d afters.Nothing = (add_def done d, Between)
 
 -- a fixed rule follows only fixed ones
-abbrev pub KeepsOrder : Behind → Bool → Type 0
-KeepsOrder (behinds.Rule rule) fixed = rule.kind ≡ Fixed → fixed ≡ true
+abbrev pub KeepsOrder : After → Bool → Type 0
+KeepsOrder (afters.Rule rule) fixed = rule.kind ≡ Fixed → fixed ≡ true
 KeepsOrder found fixed = Unit {0}
 
-abbrev pub NamesNext : Behind → Type 0
-NamesNext (behinds.Definition opening) = IsTrue (is_name (string_bytes opening.name))
+abbrev pub NamesNext : After → Type 0
+NamesNext (afters.Definition opening) = IsTrue (is_name (string_bytes opening.name))
 NamesNext found = Unit {0}
 
 -- a rule has a token at least
-abbrev pub Goes : Behind → ℕ → ℕ → Type 0
-Goes (behinds.Rule rule) old new = old < new
+abbrev pub Goes : After → ℕ → ℕ → Type 0
+Goes (afters.Rule rule) old new = old < new
 Goes found old new = old ≤ new
 
 -- the whole text was read, or the machine stops
@@ -166,16 +166,16 @@ abbrev pub From : ℕ → Tokens → Reader → Type 0
 From at class reader = (k : ℕ) × Spans reader.text.now k class reader.taken × (place_of reader.text.now k ≡ at)
 
 -- what follows some rules was passed: a rule, or the name of the next definition
-abbrev pub Passed_behind : Behind → Reader → Reader → Type 0
-Passed_behind (behinds.Rule rule) old new = Derived (rule_tokens (plain_rule rule)) old new
-Passed_behind (behinds.Definition opening) old new = Derived (opened (string_bytes opening.name)) old new
-Passed_behind behinds.Nothing old new = Unit {0}
+abbrev pub Passed_after : After → Reader → Reader → Type 0
+Passed_after (afters.Rule rule) old new = Derived (rule_tokens (plain_rule rule)) old new
+Passed_after (afters.Definition opening) old new = Derived (opened (string_bytes opening.name)) old new
+Passed_after afters.Nothing old new = Unit {0}
 
 -- it begins at the token that was ahead
-abbrev pub Placed_behind : Behind → Reader → Type 0
-Placed_behind (behinds.Rule rule) old = rule.at ≡ old.at
-Placed_behind (behinds.Definition opening) old = opening.at ≡ old.at
-Placed_behind behinds.Nothing old = Unit {0}
+abbrev pub Placed_after : After → Reader → Type 0
+Placed_after (afters.Rule rule) old = rule.at ≡ old.at
+Placed_after (afters.Definition opening) old = opening.at ≡ old.at
+Placed_after afters.Nothing old = Unit {0}
 
 -- the place where what isn't in the source yet begins
 abbrev pub unread : Option Opening → Reader → ℕ
@@ -187,11 +187,11 @@ abbrev pub nothing_read : PlainSource
 nothing_read = record { avps = []; groups = []; commands = [] }
 
 -- what is reported where the reader is
-abbrev pub told_at : Reader → CcfFault → Refused
-told_at reader fault = refuseds.At (record { fault = fault; at = reader.at; wanted = reader.wanted; last = reader.last; earlier = reader.earlier })
+abbrev pub recorded_at : Reader → CcfFault → Refused
+recorded_at reader fault = refuseds.At (record { fault = fault; at = reader.at; wanted = reader.wanted; last = reader.last; earlier = reader.earlier })
 
-abbrev pub IsToldAt : Refusal → Reader → Refused → Type 0
-IsToldAt refusal.Syntax reader refused = refused ≡ told_at reader (faults.Syntax (reader.taken + 1) (line_at reader.text.now reader.at))
-IsToldAt refusal.Number reader refused = refused ≡ told_at reader (faults.Number (line_at reader.text.now reader.at))
-IsToldAt refusal.Limit reader refused = refused ≡ told_at reader (faults.Limit (line_at reader.text.now reader.at))
-IsToldAt refusal.NoMemory reader refused = refused ≡ refuseds.NoMemory
+abbrev pub IsRecordedAt : Refusal → Reader → Refused → Type 0
+IsRecordedAt refusal.Syntax reader refused = refused ≡ recorded_at reader (faults.Syntax (reader.taken + 1) (line_at reader.text.now reader.at))
+IsRecordedAt refusal.Number reader refused = refused ≡ recorded_at reader (faults.Number (line_at reader.text.now reader.at))
+IsRecordedAt refusal.Limit reader refused = refused ≡ recorded_at reader (faults.Limit (line_at reader.text.now reader.at))
+IsRecordedAt refusal.NoMemory reader refused = refused ≡ refuseds.NoMemory

@@ -32,7 +32,7 @@ place_before text (suc k) = option_map (λ p. p.at) (slice_get (placed_tokens te
 pub record IsMisfit (text : List ℕ) (misfit : Misfit) : Type 0 where
   pub token : ℕ
   pub first : IsFirstFault (tokens text) token
-  pub told : IsFault text misfit.fault
+  pub recorded : IsFault text misfit.fault
   pub no_memory : ¬ (misfit.fault ≡ fault.NoMemory)
   pub place : misfit.at ≡ place_of text token
   pub last : misfit.last ≡ place_before text token

@@ -169,53 +169,53 @@ small_value (Some n) = n
 abbrev pub value_of : Token → ℕ
 value_of token = small_value (number_at 0 max_number token)
 
-abbrev pub behind_item : Token → Wanted
-behind_item token =
+abbrev pub after_item : Token → Wanted
+after_item token =
     cond (same_sign Declares token) (wants.Declaration declaration.Name)
     (cond (same_sign Less token) (wants.Definition definition.Name) (wants.Definition definition.Assign))
 
-abbrev pub behind_value : Token → Wanted
-behind_value token = cond (same_sign Close_parenthesis token) wants.Item (wants.Declaration (declaration.DotsOrValue (value_of token)))
+abbrev pub after_value : Token → Wanted
+after_value token = cond (same_sign Close_parenthesis token) wants.Item (wants.Declaration (declaration.DotsOrValue (value_of token)))
 
-abbrev pub behind_in_declaration : InDeclaration → Token → Wanted
-behind_in_declaration declaration.Name token = wants.Declaration declaration.Code
-behind_in_declaration declaration.Code token = wants.Declaration declaration.VendorOrFormat
-behind_in_declaration declaration.VendorOrFormat token =
+abbrev pub after_in_declaration : InDeclaration → Token → Wanted
+after_in_declaration declaration.Name token = wants.Declaration declaration.Code
+after_in_declaration declaration.Code token = wants.Declaration declaration.VendorOrFormat
+after_in_declaration declaration.VendorOrFormat token =
     wants.Declaration (cond (is_word (codes "vendor") token) declaration.Vendor (declaration.MRule (is_word (codes "Enumerated") token)))
-behind_in_declaration declaration.Vendor token = wants.Declaration declaration.Format
-behind_in_declaration declaration.Format token = wants.Declaration (declaration.MRule (is_word (codes "Enumerated") token))
-behind_in_declaration (declaration.MRule is_enumerated) token = cond is_enumerated (wants.Declaration declaration.ValuesOrItem) wants.Item
-behind_in_declaration declaration.ValuesOrItem token = cond (same_sign Open_parenthesis token) (wants.Declaration declaration.FirstValue) (behind_item token)
-behind_in_declaration declaration.FirstValue token = behind_value token
-behind_in_declaration (declaration.DotsOrValue low) token = cond (same_sign Dots token) (wants.Declaration (declaration.High low)) (behind_value token)
-behind_in_declaration (declaration.High low) token = wants.Declaration declaration.NextValue
-behind_in_declaration declaration.NextValue token = behind_value token
+after_in_declaration declaration.Vendor token = wants.Declaration declaration.Format
+after_in_declaration declaration.Format token = wants.Declaration (declaration.MRule (is_word (codes "Enumerated") token))
+after_in_declaration (declaration.MRule is_enumerated) token = cond is_enumerated (wants.Declaration declaration.ValuesOrItem) wants.Item
+after_in_declaration declaration.ValuesOrItem token = cond (same_sign Open_parenthesis token) (wants.Declaration declaration.FirstValue) (after_item token)
+after_in_declaration declaration.FirstValue token = after_value token
+after_in_declaration (declaration.DotsOrValue low) token = cond (same_sign Dots token) (wants.Declaration (declaration.High low)) (after_value token)
+after_in_declaration (declaration.High low) token = wants.Declaration declaration.NextValue
+after_in_declaration declaration.NextValue token = after_value token
 
-abbrev pub behind_in_definition : InDefinition → Wanted
-behind_in_definition definition.Name = wants.Definition definition.Close
-behind_in_definition definition.Close = wants.Definition definition.Assign
-behind_in_definition definition.Assign = wants.Definition definition.Head
-behind_in_definition definition.Head = wants.Head head.Word
+abbrev pub after_in_definition : InDefinition → Wanted
+after_in_definition definition.Name = wants.Definition definition.Close
+after_in_definition definition.Close = wants.Definition definition.Assign
+after_in_definition definition.Assign = wants.Definition definition.Head
+after_in_definition definition.Head = wants.Head head.Word
 
-abbrev pub behind_first_word : Token → InHead
-behind_first_word token =
+abbrev pub after_first_word : Token → InHead
+after_first_word token =
     cond (is_keyword (codes "avp") token) (head.Header true)
     (cond (is_keyword (codes "avp-header") token) (head.Colon true)
     (cond (is_keyword (codes "diameter") token) (head.Header false) (head.Colon false)))
 
-abbrev pub behind_flag : Bool → Bool → Token → InHead
-behind_flag request pxy token =
+abbrev pub after_flag : Bool → Bool → Token → InHead
+after_flag request pxy token =
     cond (same_sign Comma token) (head.Flags request pxy true)
     (cond (is_keyword (codes "req") token) (head.Flags true pxy false)
     (cond (is_keyword (codes "pxy") token) (head.Flags request true false) head.Close))
 
 abbrev pub next_wanted : InHead → Token → InHead
-next_wanted head.Word token = behind_first_word token
+next_wanted head.Word token = after_first_word token
 next_wanted (head.Header is_group) token = head.Colon is_group
 next_wanted (head.Colon is_group) token = cond is_group head.GroupCode head.CommandCode
 next_wanted head.CommandCode token = cond (is_keyword (codes "code") token) (head.ErrorWord false) (head.Flags false false false)
 next_wanted head.GroupCode token = head.Vendor false
-next_wanted (head.Flags request pxy comma) token = behind_flag request pxy token
+next_wanted (head.Flags request pxy comma) token = after_flag request pxy token
 next_wanted (head.Vendor comma) token = cond (same_sign Comma token) (head.Vendor true) head.Close
 next_wanted (head.ErrorWord comma) token = cond (same_sign Comma token) (head.ErrorWord true) (head.ErrorProxy false)
 next_wanted (head.ErrorProxy comma) token = cond (same_sign Comma token) (head.ErrorProxy true) (cond (is_keyword (codes "pxy") token) head.Close (head.ErrorEither false))
@@ -223,42 +223,42 @@ next_wanted (head.ErrorEither comma) token = cond (same_sign Comma token) (head.
 next_wanted head.EitherClose token = head.Close
 next_wanted head.Close token = head.Close
 
-abbrev pub behind_in_head : InHead → Token → Wanted
-behind_in_head place token = cond (same_sign Greater token) (wants.Rules (rules.Rule true)) (wants.Head (next_wanted place token))
+abbrev pub after_in_head : InHead → Token → Wanted
+after_in_head place token = cond (same_sign Greater token) (wants.Rules (rules.Rule true)) (wants.Head (next_wanted place token))
 
-abbrev pub behind_loose : Token → InRules
-behind_loose token = rules.LooseName (cond (same_sign Open_brace token) Required Optional)
+abbrev pub after_loose : Token → InRules
+after_loose token = rules.LooseName (cond (same_sign Open_brace token) Required Optional)
 
-abbrev pub behind_bracket : Token → InRules
-behind_bracket token = cond (same_sign Less token) rules.FixedName (behind_loose token)
+abbrev pub after_bracket : Token → InRules
+after_bracket token = cond (same_sign Less token) rules.FixedName (after_loose token)
 
-abbrev pub behind_rule : Bool → Token → Wanted
-behind_rule only_fixed token =
+abbrev pub after_rule : Bool → Token → Wanted
+after_rule only_fixed token =
     cond (same_sign Less token) (wants.Rules (rules.AngledName only_fixed))
     (cond (begins_qualifier token) (wants.Rules (cond (is_number token) (rules.Star only_fixed) (rules.Greatest only_fixed)))
-    (cond (begins_loose token) (wants.Rules (behind_loose token)) (behind_item token)))
+    (cond (begins_loose token) (wants.Rules (after_loose token)) (after_item token)))
 
-abbrev pub behind_in_rules : InRules → Token → Wanted
-behind_in_rules (rules.Rule only_fixed) token = behind_rule only_fixed token
-behind_in_rules (rules.Star only_fixed) token = wants.Rules (rules.Greatest only_fixed)
-behind_in_rules (rules.Greatest only_fixed) token = wants.Rules (cond (is_number token) (rules.Bracket only_fixed) (behind_bracket token))
-behind_in_rules (rules.Bracket only_fixed) token = wants.Rules (behind_bracket token)
-behind_in_rules rules.FixedName token = wants.Rules rules.FixedClose
-behind_in_rules rules.FixedClose token = wants.Rules (rules.Rule true)
-behind_in_rules (rules.AngledName only_fixed) token = wants.Rules (rules.AngledClose only_fixed)
-behind_in_rules (rules.AngledClose only_fixed) token = wants.Rules (rules.Angled only_fixed)
-behind_in_rules (rules.Angled only_fixed) token = cond (same_sign Assign token) (wants.Definition definition.Head) (behind_rule only_fixed token)
-behind_in_rules (rules.LooseName kind) token = wants.Rules (rules.LooseClose kind)
-behind_in_rules (rules.LooseClose kind) token = wants.Rules (rules.Rule false)
+abbrev pub after_in_rules : InRules → Token → Wanted
+after_in_rules (rules.Rule only_fixed) token = after_rule only_fixed token
+after_in_rules (rules.Star only_fixed) token = wants.Rules (rules.Greatest only_fixed)
+after_in_rules (rules.Greatest only_fixed) token = wants.Rules (cond (is_number token) (rules.Bracket only_fixed) (after_bracket token))
+after_in_rules (rules.Bracket only_fixed) token = wants.Rules (after_bracket token)
+after_in_rules rules.FixedName token = wants.Rules rules.FixedClose
+after_in_rules rules.FixedClose token = wants.Rules (rules.Rule true)
+after_in_rules (rules.AngledName only_fixed) token = wants.Rules (rules.AngledClose only_fixed)
+after_in_rules (rules.AngledClose only_fixed) token = wants.Rules (rules.Angled only_fixed)
+after_in_rules (rules.Angled only_fixed) token = cond (same_sign Assign token) (wants.Definition definition.Head) (after_rule only_fixed token)
+after_in_rules (rules.LooseName kind) token = wants.Rules (rules.LooseClose kind)
+after_in_rules (rules.LooseClose kind) token = wants.Rules (rules.Rule false)
 
-abbrev pub behind : Wanted → Token → Wanted
-behind wants.Item token = behind_item token
-behind (wants.Declaration place) token = behind_in_declaration place token
-behind (wants.Definition place) token = behind_in_definition place
-behind (wants.Head place) token = behind_in_head place token
-behind (wants.Rules place) token = behind_in_rules place token
+abbrev pub following : Wanted → Token → Wanted
+following wants.Item token = after_item token
+following (wants.Declaration place) token = after_in_declaration place token
+following (wants.Definition place) token = after_in_definition place
+following (wants.Head place) token = after_in_head place token
+following (wants.Rules place) token = after_in_rules place token
 
 -- after these tokens, from a place on
-abbrev pub behind_all : Wanted → List Token → Wanted
-behind_all place [] = place
-behind_all place (token ∷ tokens) = behind_all (behind place token) tokens
+abbrev pub after_all : Wanted → List Token → Wanted
+after_all place [] = place
+after_all place (token ∷ tokens) = after_all (following place token) tokens

@@ -15,7 +15,7 @@ pub enum CcfFault {
     Number { line: u32 },
     /// A name that is free to choose is longer than [`MAX_NAME`](crate::MAX_NAME) bytes;
     /// or, on line 0, the text is longer than [`MAX_TEXT`](crate::MAX_TEXT).
-    #[error(fmt = tell_limit)]
+    #[error(fmt = report_limit)]
     Limit { line: u32 },
     /// Memory was refused.
     #[error("out of memory")]
@@ -23,7 +23,7 @@ pub enum CcfFault {
 }
 
 /// Writes which limit is passed.
-fn tell_limit<W: fmt::Write>(line: &u32, f: &mut fmt::Formatter<W>) -> fmt::Result {
+fn report_limit<W: fmt::Write>(line: &u32, f: &mut fmt::Formatter<W>) -> fmt::Result {
     if *line == 0 {
         write!(f, "the text is too long")
     } else {

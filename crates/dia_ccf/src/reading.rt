@@ -7,9 +7,9 @@ ghost use Rattle.dia_ccf.specs.Machine.{add_decl, add_def};
 ghost use Rattle.dia_ccf.specs.Tokens.{placed_tokens, line_at};
 ghost use Rattle.dia_ccf.specs.declared.wanted.Wanted.TheVariants.{Item};
 ghost use Rattle.dia_ccf.specs.Faults.{token_place};
-ghost use Rattle.dia_ccf.specs.Places.{IsPlaced, IsPlacedBefore, DeclStands, DefStands};
+ghost use Rattle.dia_ccf.specs.Places.{IsPlaced, IsPlacedBefore, DeclOccurs, DefOccurs};
 ghost use Rattle.dia_ccf.specs.Refusals.{place_before};
-ghost use Rattle.dia_ccf.specs.Wanting.{behind_all};
+ghost use Rattle.dia_ccf.specs.Wanting.{after_all};
 ghost use Rattle.dia_ccf.specs.LexerTokens.{tokens_from, left_from, ahead, sees};
 
 mod declarations;
@@ -55,7 +55,7 @@ pub(crate) struct Reader<'a> {
         ≡ tokens_from text.now end },
     ghost placed: { token_place text.now (slice_get (tokens_from text.now at) 0) ≡ at },
     ghost begins: { left_from text.now at ≡ sees token (left_from text.now end) },
-    ghost wants: { wanted ≡ behind_all Item (take taken (left_from text.now 0)) },
+    ghost wants: { wanted ≡ after_all Item (take taken (left_from text.now 0)) },
     ghost before: { last ≡ place_before text.now taken },
     ghost before_that: { earlier ≡ place_before text.now (taken - 1) },
 }
@@ -66,7 +66,7 @@ impl<'a> Reader<'a> {
     ghost use Rattle.dia_ccf.specs.Machine.{Between, same_sign, is_word, is_keyword, is_number};
     ghost use Rattle.dia_ccf.specs.Machine.{number_at, name_at, sign_at, keyword_at};
     ghost use Rattle.dia_ccf.specs.ReaderFunctions.{left, Passes, Takes, Accepts, Finishes};
-    ghost use Rattle.dia_ccf.specs.ReaderFunctions.{IsToldAt, told_at, course, begins_with, nothing_read};
+    ghost use Rattle.dia_ccf.specs.ReaderFunctions.{IsRecordedAt, recorded_at, course, begins_with, nothing_read};
 
     /// A reader at the first token.
     pub(crate) fn new(alloc: Global, text: &'a str) -> Self
@@ -92,7 +92,7 @@ impl<'a> Reader<'a> {
         requires { IsSome self.old.token }
         ensures { Passes self.old (ahead self.old.token) self.new }
     {
-        self.wanted = self.wanted_behind();
+        self.wanted = self.wanted_after();
         self.earlier = self.last;
         self.last = Some(self.at);
         let (token, at, end) = look(self.text, self.end);
@@ -103,11 +103,11 @@ impl<'a> Reader<'a> {
     }
 
     /// What fits after the token ahead.
-    fn wanted_behind(&self) -> Wanted
-        ensures { result ≡ behind_all self.now.wanted (ahead self.now.token) }
+    fn wanted_after(&self) -> Wanted
+        ensures { result ≡ after_all self.now.wanted (ahead self.now.token) }
     {
         match self.token {
-            Some(token) => self.wanted.behind(token),
+            Some(token) => self.wanted.following(token),
             None => self.wanted,
         }
     }
@@ -257,7 +257,7 @@ impl<'a> Reader<'a> {
 
     /// What is reported of a refusal at the token ahead.
     pub(crate) fn refused(&self, refusal: Refusal) -> Refused
-        ensures { IsToldAt refusal self.now result }
+        ensures { IsRecordedAt refusal self.now result }
     {
         let line = line_of(self.text, self.at);
         match refusal {
@@ -273,7 +273,7 @@ impl<'a> Reader<'a> {
 
     /// A fault of the token ahead.
     fn misfit(&self, fault: CcfFault) -> Refused
-        ensures { result ≡ told_at self.now fault }
+        ensures { result ≡ recorded_at self.now fault }
     {
         Refused::At(Misfit {
             fault,
@@ -322,7 +322,7 @@ fn keep_declaration(source: &mut Source, decl: Decl) -> Result<(), Refusal>
     ensures kept { OnOk result
         (plain_source source.new ≡ add_decl (plain_source source.old) (plain_decl decl)) }
     ensures placed { (text : List ℕ) (at : ℕ) → IsPlacedBefore text decl.at source.old
-        → DeclStands text decl → decl.at < at → OnOk result (IsPlacedBefore text at source.new) }
+        → DeclOccurs text decl → decl.at < at → OnOk result (IsPlacedBefore text at source.new) }
     ensures err { IfErr result (λ e. e ≡ Refusal.NoMemory) }
 {
     source.avps.push(decl)?;
@@ -334,7 +334,7 @@ fn keep_definition(source: &mut Source, def: Def) -> Result<(), Refusal>
     ensures kept { OnOk result
         (plain_source source.new ≡ add_def (plain_source source.old) (plain_def def)) }
     ensures placed { (text : List ℕ) (at : ℕ) → IsPlacedBefore text def.at source.old
-        → DefStands text def → def.at < at → OnOk result (IsPlacedBefore text at source.new) }
+        → DefOccurs text def → def.at < at → OnOk result (IsPlacedBefore text at source.new) }
     ensures err { IfErr result (λ e. e ≡ Refusal.NoMemory) }
 {
     match def.head {

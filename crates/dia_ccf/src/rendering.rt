@@ -235,12 +235,12 @@ fn put_qualifier(text: &mut String, qual: Option<Qual>) -> Result<(), AllocError
 }
 
 /// A count, and what follows it.
-fn put_count(text: &mut String, count: Option<u32>, behind: &str) -> Result<(), AllocError>
+fn put_count(text: &mut String, count: Option<u32>, following: &str) -> Result<(), AllocError>
     ensures { OnOk result (string_bytes text.new
-        ≡ string_bytes text.old ++ (count_text count ++ behind.now)) }
+        ≡ string_bytes text.old ++ (count_text count ++ following.now)) }
 {
     match count {
-        Some(count) => write!(text, "{count}{behind}"),
-        None => text.push_str(behind),
+        Some(count) => write!(text, "{count}{following}"),
+        None => text.push_str(following),
     }
 }

@@ -1,6 +1,6 @@
 //! What fits at a place of a text.
 
-mod behind;
+mod following;
 
 use dia_terms::RuleKind;
 

@@ -132,7 +132,7 @@ module _ (d : Dictionary) (sound : IsDictionary d) (u : Unknown) (most : Levels)
       let lies = (last d sound u most bytes good o at w).1.lies in
       let inner = lies_inside d u most bytes good w.s v _ g lies (begins v rest b) is_group (opens d sound u most w.s v g (is_fine d u most w.s v (Some n) fine) is_group) in
       let h = w.here in let some = head_some v.vendor in let within = (whole_here v rest b).1 in let up = bounds.2 in
-      record { level = (inside w.s v g).level; is_open = inner.open_level; behind = omega (arith, h, some, le); within = omega (arith, h, within, up) }
+      record { level = (inside w.s v g).level; is_open = inner.open_level; following = omega (arith, h, some, le); within = omega (arith, h, within, up) }
 
   -- ---- the loop ends
 
@@ -143,7 +143,7 @@ module _ (d : Dictionary) (sound : IsDictionary d) (u : Unknown) (most : Levels)
       → AreOpen (definitions d) next (map so_far w.rests) level
       → 2 * ((from + length piece) - (until - length rest)) + length next.outer.items < 2 * ((from + length piece) - at) + length o.outer.items
   less_passed v rest next level b now =
-      let old = many o (map so_far w.rests) (so_far w.s) w.stands in let new = many next (map so_far w.rests) level now in
+      let old = many o (map so_far w.rests) (so_far w.s) w.occurs in let new = many next (map so_far w.rests) level now in
       let (to, fits, some) = whole_here v rest b in let up = bounds.2 in let round = rounded-le (avp_length v) in let head = head_some v.vendor in
       omega (arith, old, new, to, fits, some, up, round, head)
 
@@ -156,7 +156,7 @@ module _ (d : Dictionary) (sound : IsDictionary d) (u : Unknown) (most : Levels)
       let fine = subst (λ (k : ℕ). IsFineAvp d u most k w.s.level.rules (map key_of w.s.earlier) v (Some n)) (deep d sound u most bytes good o at w) says in
       let (g, is_group, number) = group_is d u most w.s v n fine in
       let level = and_key (so_far w.s) (key_of v) in
-      let old = many o (map so_far w.rests) (so_far w.s) w.stands in let new = many next (map so_far w.rests ++ level ∷ []) (begun g.rules end) (now g number) in
+      let old = many o (map so_far w.rests) (so_far w.s) w.occurs in let new = many next (map so_far w.rests ++ level ∷ []) (begun g.rules end) (now g number) in
       let more = length-append (map so_far w.rests) (level ∷ []) in
       let some = (whole_here v rest b).2 in let up = bounds.2 in let head = head_some v.vendor in
       omega (arith, old, new, more, is_to, some, up, head)
@@ -164,7 +164,7 @@ module _ (d : Dictionary) (sound : IsDictionary d) (u : Unknown) (most : Levels)
   pub less_done : (next : OpenLevels) (others : List SoFar) (level : SoFar) → map so_far w.rests ≡ others ++ level ∷ [] → AreOpen (definitions d) next others level
       → 2 * ((from + length piece) - at) + length next.outer.items < 2 * ((from + length piece) - at) + length o.outer.items
   less_done next others level parts now =
-      let old = many o (map so_far w.rests) (so_far w.s) w.stands ∙ ap length parts in let new = many next others level now in let more = length-append others (level ∷ []) in
+      let old = many o (map so_far w.rests) (so_far w.s) w.occurs ∙ ap length parts in let new = many next others level now in let more = length-append others (level ∷ []) in
       omega (arith, old, new, more)
 
 -- the levels of any message with this header

@@ -31,7 +31,7 @@ module _ (d : Dictionary) (sound : IsDictionary d) (o : OpenLevels) (at : ℕ) (
   end_few = ∥∥₁_elim levels le_prop (λ x. let (u, most, bytes, good, few, w) = x in let p = (place d sound u most bytes good o at w).1 in omega (arith, p, few))
 
   pub are_open : ∥ ((outer : List SoFar) × (level : SoFar) × AreOpenUnder d o outer level) ∥₁
-  are_open = ∥∥₁_map levels (λ x. let (u, most, bytes, good, few, w) = x in (map so_far w.rests, so_far w.s, w.stands))
+  are_open = ∥∥₁_map levels (λ x. let (u, most, bytes, good, few, w) = x in (map so_far w.rests, so_far w.s, w.occurs))
 
 -- ---- one message
 
@@ -66,7 +66,7 @@ module _ (d : Dictionary) (sound : IsDictionary d) (u : Unknown) (most : Levels)
   pub fewer : (next : OpenLevels) (others : List SoFar) (level : SoFar) → map so_far w.rests ≡ others ++ level ∷ [] → AreOpen (definitions d) next others level
       → length next.outer.items < length o.outer.items
   fewer next others level is now =
-      let old = kept_many (definitions d) 0 o.outer.items w.stands.before (map so_far w.rests) w.stands.are_outer in
+      let old = kept_many (definitions d) 0 o.outer.items w.occurs.before (map so_far w.rests) w.occurs.are_outer in
       let new = kept_many (definitions d) 0 next.outer.items now.before others now.are_outer in
       let size = ap length is ∙ length-append others (level ∷ []) in
       omega (arith, old, new, size)

@@ -15,11 +15,11 @@ use Rattle.dia_check.specs.declared.fault.Selected.{Selected}
 use Rattle.dia_check.specs.declared.fault.Refusal.{Refusal}
 use Rattle.dia_check.specs.declared.fault.Refusal.TheVariants as refusal
 use Rattle.dia_valid.specs.Valid.{HasR, HasE, HasT, class_of, AllowsP, IsValidOf}
-use Rattle.dia_check.specs.Faults.{At, Spot, spot, IsBefore, Stands, HasGoodHeader, HasHeader, HasLength, IsFirst, IsAnswer, simple}
+use Rattle.dia_check.specs.Faults.{At, Spot, spot, IsBefore, Occurs, HasGoodHeader, HasHeader, HasLength, IsFirst, IsAnswer, simple}
 use Rattle.dia_check.specs.Reasons.{row_of}
 use Rattle.dia_check.specs.Faults as faults
 use Rattle.dia_check.specs.Walks.{Found, Walks, whole, fault_of}
-use Rattle.dia_check.proofs.FoundFaultsStand.{walks_stands}
+use Rattle.dia_check.proofs.FoundFaultsStand.{walks_occurs}
 use Rattle.dia_check.proofs.Uniqueness.{selected_command}
 use Rattle.dia_check.proofs.FirstFaults.{walks_first}
 use Rattle.dia_check.proofs.FaultlessMessages.{walk_valid}
@@ -32,7 +32,7 @@ module _ (d : Dictionary) (sound : IsDictionary d) (u : Unknown) (most : Levels)
   pub found_first : (good : HasGoodHeader d bytes) (h : Found) → Walks d u most (whole good.command.rules bytes) (Some h) → IsFirst d u most bytes (fault_of h)
   found_first good h walk = record {
     row = h.spot.row;
-    stands = walks_stands d sound u most bytes good h walk;
+    occurs = walks_occurs d sound u most bytes good h walk;
     code = refl;
     none_before = walks_first d u most bytes good h walk;
   }
@@ -68,7 +68,7 @@ module _ (d : Dictionary) (sound : IsDictionary d) (u : Unknown) (most : Levels)
       ⊎ ((other ≡ spot 4 reason.Proxiable) × ((c : ℕ) × (selected d h.code (class_of h.flags) h.app ≡ Some c)))
       ⊎ HasGoodHeader d bytes
 
-  of_header : (h : Header) → HasHeader bytes h → (other : Spot) (r : Reason) (t : Subject) → Stands d u most bytes other r t → OfHeader h other r
+  of_header : (h : Header) → HasHeader bytes h → (other : Spot) (r : Reason) (t : Subject) → Occurs d u most bytes other r t → OfHeader h other r
   of_header h is other r t (faults.bits k is' bad) = inl (refl, subst (λ (x : Header). (HasR x.flags × HasE x.flags) ⊎ (HasT x.flags × (¬ HasR x.flags))) (same_header k h is' is) bad)
   of_header h is other r t (faults.command k is' none) = inr (inl (refl, subst (λ (x : Header). has_command d x.code (class_of x.flags) ≡ false) (same_header k h is' is) none))
   of_header h is other r t (faults.application k is' some none) =
@@ -94,9 +94,9 @@ module _ (d : Dictionary) (sound : IsDictionary d) (u : Unknown) (most : Levels)
   pub bits_first : (h : Header) → HasHeader bytes h → (HasR h.flags × HasE h.flags) ⊎ (HasT h.flags × (¬ HasR h.flags)) → IsFirst d u most bytes (simple 4 reason.Bits)
   bits_first h is bad = record {
     row = At (row_of reason.Bits);
-    stands = faults.bits h is bad;
+    occurs = faults.bits h is bad;
     code = refl;
-    none_before = λ other r t stands. by other r (of_header h is other r t stands);
+    none_before = λ other r t occurs. by other r (of_header h is other r t occurs);
   }
     where
       by : (other : Spot) (r : Reason) → OfHeader h other r → ¬ IsBefore other (spot 4 reason.Bits)
@@ -117,9 +117,9 @@ module _ (d : Dictionary) (sound : IsDictionary d) (u : Unknown) (most : Levels)
       → IsFirst d u most bytes (simple 4 reason.Proxiable)
   proxiable_first h c command is rules select is_command bad = record {
     row = At (row_of reason.Proxiable);
-    stands = faults.proxiable h c command is select is_command bad;
+    occurs = faults.proxiable h c command is select is_command bad;
     code = refl;
-    none_before = λ other r t stands. by other r (of_header h is other r t stands);
+    none_before = λ other r t occurs. by other r (of_header h is other r t occurs);
   }
     where
       by : (other : Spot) (r : Reason) → OfHeader h other r → ¬ IsBefore other (spot 4 reason.Proxiable)
@@ -136,9 +136,9 @@ module _ (d : Dictionary) (sound : IsDictionary d) (u : Unknown) (most : Levels)
   pub command_first : (h : Header) → HasHeader bytes h → GoodBits h → has_command d h.code (class_of h.flags) ≡ false → IsFirst d u most bytes (simple 5 reason.Command)
   command_first h is rules none = record {
     row = At (row_of reason.Command);
-    stands = faults.command h is none;
+    occurs = faults.command h is none;
     code = refl;
-    none_before = λ other r t stands. by other r (of_header h is other r t stands);
+    none_before = λ other r t occurs. by other r (of_header h is other r t occurs);
   }
     where
       no_select : (c : ℕ) (command : PlainDefinition) → selected d h.code (class_of h.flags) h.app ≡ Some c → ⊥
@@ -155,9 +155,9 @@ module _ (d : Dictionary) (sound : IsDictionary d) (u : Unknown) (most : Levels)
       → IsFirst d u most bytes (simple 8 reason.Application)
   application_first h is rules some none = record {
     row = At (row_of reason.Application);
-    stands = faults.application h is some none;
+    occurs = faults.application h is some none;
     code = refl;
-    none_before = λ other r t stands. by other r (of_header h is other r t stands);
+    none_before = λ other r t occurs. by other r (of_header h is other r t occurs);
   }
     where
       by : (other : Spot) (r : Reason) → OfHeader h other r → ¬ IsBefore other (spot 8 reason.Application)

@@ -143,7 +143,7 @@ module _ (d : Dictionary) (sound : IsDictionary d) (u : Unknown) (most : Levels)
 
     pub data_passed : IsGoodLeaf d part.key h.avp.bytes → IsUnderWay d u most bytes good o part.next
     data_passed leaf = passed d sound u most bytes good h.before part.at h.under_way h.avp h.rest o part.next h.begins
-        (h.admitted, leaf_fine h.avp (length (map so_far h.under_way.rests)) (subst (λ (k : Key). IsGoodLeaf d k h.avp.bytes) h.is_key leaf)) h.stands h.is_next
+        (h.admitted, leaf_fine h.avp (length (map so_far h.under_way.rests)) (subst (λ (k : Key). IsGoodLeaf d k h.avp.bytes) h.is_key leaf)) h.occurs h.is_next
 
     pub data_wrong : (r : Reason) → IsBadLeaf d part.key h.avp.bytes r
         → IsFoundIn d u most (whole good.command.rules bytes) (refusal.Fault (record { place = part.at; code = code_of r; reason = r; subject = Avp part.key }))
@@ -198,7 +198,7 @@ module _ (d : Dictionary) (sound : IsDictionary d) (u : Unknown) (most : Levels)
           is_next = let a = (innermost_at 0 ((length bytes + 3) / 4 * 4) h.under_way.rests h.under_way.s h.under_way.nested).1 in let e = h.under_way.here in let l = h.is_head.len in
               omega (arith, a, e, l, is_end, is_next);
           admitted = admits_it;
-          stands = subst (λ (k : Key). AreOpen (definitions d) next (map so_far h.under_way.rests) (and_key (so_far h.under_way.s) k)) is_key now;
+          occurs = subst (λ (k : Key). AreOpen (definitions d) next (map so_far h.under_way.rests) (and_key (so_far h.under_way.s) k)) is_key now;
           from = let e = same_head in omega (arith, e);
           seen = let e : (at + head_length head.vendor) - (at + head_length h.avp.vendor) ≡ 0 = (let s = same_head in omega (arith, s)) in
               subst (λ (n : ℕ). HasSeen d leaf key (take n h.avp.bytes)) (sym e) seen;
@@ -313,7 +313,7 @@ module _ (d : Dictionary) (sound : IsDictionary d) (u : Unknown) (most : Levels)
       is_end = h.is_end;
       is_next = h.is_next;
       admitted = h.admitted;
-      stands = h.stands;
+      occurs = h.occurs;
       from = let f = h.from in omega (arith, f);
       seen = subst (HasSeen d leaf part.key) same (fed (take (n - start) h.avp.bytes) h.seen);
     }

@@ -69,32 +69,32 @@ front_le (r ∷ rules) p q j = front_at r rules p q j (λ i. front_le rules (dro
 
 -- ---- what follows the runs of a front begins what follows those of the whole
 
-abbrev behind_runs : List DRule → List Key → List Key
-behind_runs rules keys = drop (sum (runs rules keys)) keys
+abbrev after_runs : List DRule → List Key → List Key
+after_runs rules keys = drop (sum (runs rules keys)) keys
 
-behind_cons : (r : DRule) (rules : List DRule) (keys rest : List Key) (n : ℕ) → runs (r ∷ rules) keys ≡ n ∷ runs rules rest → drop n keys ≡ rest → behind_runs (r ∷ rules) keys ≡ behind_runs rules rest
-behind_cons r rules keys rest n is cut =
+after_cons : (r : DRule) (rules : List DRule) (keys rest : List Key) (n : ℕ) → runs (r ∷ rules) keys ≡ n ∷ runs rules rest → drop n keys ≡ rest → after_runs (r ∷ rules) keys ≡ after_runs rules rest
+after_cons r rules keys rest n is cut =
     ap (λ (ns : List ℕ). drop (sum ns) keys) is ∙ ap (λ (k : ℕ). drop k keys) (sum-cons n (runs rules rest))
     ∙ sym (drop-drop (sum (runs rules rest)) n keys) ∙ ap (λ (t : List Key). drop (sum (runs rules rest)) t) cut
 
-nothing_behind : (rules : List DRule) → behind_runs rules [] ≡ []
-nothing_behind rules = drop_of_length-le [] (omega arith)
+nothing_after : (rules : List DRule) → after_runs rules [] ≡ []
+nothing_after rules = drop_of_length-le [] (omega arith)
 
-rest_at : (r : DRule) (rules : List DRule) (p q : List Key) → ((t : List Key) × (behind_runs rules (drop (prefix_len (is_of r) p) p ++ q) ≡ behind_runs rules (drop (prefix_len (is_of r) p) p) ++ t))
-    → (prefix_len (is_of r) p < length p) ⊎ (prefix_len (is_of r) p ≡ length p) → (t : List Key) × (behind_runs (r ∷ rules) (p ++ q) ≡ behind_runs (r ∷ rules) p ++ t)
+rest_at : (r : DRule) (rules : List DRule) (p q : List Key) → ((t : List Key) × (after_runs rules (drop (prefix_len (is_of r) p) p ++ q) ≡ after_runs rules (drop (prefix_len (is_of r) p) p) ++ t))
+    → (prefix_len (is_of r) p < length p) ⊎ (prefix_len (is_of r) p ≡ length p) → (t : List Key) × (after_runs (r ∷ rules) (p ++ q) ≡ after_runs (r ∷ rules) p ++ t)
 rest_at r rules p q (t, ih) (inl less) =
     let n = prefix_len (is_of r) p in (
       t,
-      behind_cons r rules (p ++ q) (drop n p ++ q) n (inside_runs r rules p q less) (drop-append-le n p q (omega (arith, less)))
-          ∙ ih ∙ ap (λ (x : List Key). x ++ t) (sym (behind_cons r rules p (drop n p) n refl refl)),
+      after_cons r rules (p ++ q) (drop n p ++ q) n (inside_runs r rules p q less) (drop-append-le n p q (omega (arith, less)))
+          ∙ ih ∙ ap (λ (x : List Key). x ++ t) (sym (after_cons r rules p (drop n p) n refl refl)),
     )
 rest_at r rules p q ih (inr all) = (
-  behind_runs (r ∷ rules) (p ++ q),
-  ap (λ (x : List Key). x ++ behind_runs (r ∷ rules) (p ++ q))
-      (sym (behind_cons r rules p [] (length p) (all_runs r rules p all) (none_left p) ∙ nothing_behind rules)),
+  after_runs (r ∷ rules) (p ++ q),
+  ap (λ (x : List Key). x ++ after_runs (r ∷ rules) (p ++ q))
+      (sym (after_cons r rules p [] (length p) (all_runs r rules p all) (none_left p) ∙ nothing_after rules)),
 )
 
-pub front_rest : (rules : List DRule) (p q : List Key) → (t : List Key) × (behind_runs rules (p ++ q) ≡ behind_runs rules p ++ t)
+pub front_rest : (rules : List DRule) (p q : List Key) → (t : List Key) × (after_runs rules (p ++ q) ≡ after_runs rules p ++ t)
 front_rest [] p q = (q, refl)
 front_rest (r ∷ rules) p q = rest_at r rules p q (front_rest rules (drop (prefix_len (is_of r) p) p) q) (inside_or_all r p)
 

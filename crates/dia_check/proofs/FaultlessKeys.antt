@@ -12,7 +12,7 @@ use Rattle.dia_book.specs.Dictionary.{AreRules, is_fixed}
 use Rattle.dia_valid.specs.Valid.{Placed, MayBeLoose, fixed_rules}
 use Rattle.dia_valid.specs.LongestRuns.{runs, met, loose_start}
 use Rattle.dia_valid.specs.LongestRuns.{IsAt}
-use Rattle.dia_valid.proofs.RunsOfOneKeyMore.{is_of, NoneFrom, Reaches, one_more, same_runs, behind_all, in_run}
+use Rattle.dia_valid.proofs.RunsOfOneKeyMore.{is_of, NoneFrom, Reaches, one_more, same_runs, after_all, in_run}
 use Rattle.dia_valid.proofs.RuleCounts.{met_fixed, met_more, met_longer, counts_key, placed, sum-runs, all_at, reached}
 
 -- ---- a key is of a rule from here on, or of none
@@ -101,7 +101,7 @@ grows_fixed rules keys k i m j rule at h = by (is_fixed rule) refl (met_longer r
 -- ---- one key more, of which nothing is wrong
 
 pub counted_more : (rules : List DRule) (keys : List Key) (k : Key) → Counted rules keys → PassesNone rules keys k → MayStand rules keys k → Counted rules (keys ++ k ∷ [])
-counted_more rules keys k c passes stands = by (found_or_not (fixed_rules rules) c.run k)
+counted_more rules keys k c passes occurs = by (found_or_not (fixed_rules rules) c.run k)
   where
     by : ((i : ℕ) × Reaches (fixed_rules rules) c.run i k) ⊎ NoneFrom (fixed_rules rules) c.run k → Counted rules (keys ++ k ∷ [])
     by (inl (i, h)) =
@@ -122,10 +122,10 @@ counted_more rules keys k c passes stands = by (found_or_not (fixed_rules rules)
         ∙ drop-append-le (loose_start rules keys) keys (k ∷ []) most in
         record {
           run = length (fixed_rules rules);
-          at = behind_all (fixed_rules rules) c.run keys k c.at none;
+          at = after_all (fixed_rules rules) c.run keys k c.at none;
           few = λ j rule here. let up = grows_loose rules keys k j c.run rule c.at none in
               few_at rule.max (met rules keys j rule) (met rules (keys ++ k ∷ []) j rule) up.0 up.1 (c.few j rule here) (λ max is. passes j rule max here is);
-          loose = rw rest (all_snoc (MayBeLoose rules) (drop (loose_start rules keys) keys) k c.loose (stands (omega (arith, start, most))));
+          loose = rw rest (all_snoc (MayBeLoose rules) (drop (loose_start rules keys) keys) k c.loose (occurs (omega (arith, start, most))));
         }
 
 -- all the keys, where no rule is met too seldom

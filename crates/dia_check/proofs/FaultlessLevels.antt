@@ -31,7 +31,7 @@ use Rattle.dia_check.specs.Faults.{IsFirstMissing, unknown, m_bit, not_allowed, 
 use Rattle.dia_valid.proofs.RunsOfOneKeyMore.{at_start}
 use Rattle.dia_valid.proofs.RuleCounts.{met_fixed, met_loose}
 use Rattle.dia_check.proofs.FaultlessKeys.{Counted, counted_more, counted_placed}
-use Rattle.dia_check.specs.Walks.{Found, Rest, behind, inside, IsFine, Walks, ended, missing, broken, wrong, leaf, group, bad_group}
+use Rattle.dia_check.specs.Walks.{Found, Rest, following, inside, IsFine, Walks, ended, missing, broken, wrong, leaf, group, bad_group}
 use Rattle.dia_valid.specs.Valid.{group_at}
 
 -- a level of these bytes at a depth needs no more than so many levels
@@ -187,13 +187,13 @@ module _ (d : Dictionary) (sound : IsDictionary d) (u : Unknown) (most : Levels)
   pub more_keys : (earlier : List PlainAvp) (v : PlainAvp) → map key_of (earlier ++ v ∷ []) ≡ map key_of earlier ++ key_of v ∷ []
   more_keys earlier v = map-append key_of earlier (v ∷ [])
 
-  counted_behind : (s : Rest) (v : PlainAvp) (rest : List ℕ) → IsFine d u most s v → Counted s.level.rules (map key_of s.earlier) → Counted s.level.rules (map key_of (s.earlier ++ v ∷ []))
-  counted_behind s v rest fine c =
+  counted_after : (s : Rest) (v : PlainAvp) (rest : List ℕ) → IsFine d u most s v → Counted s.level.rules (map key_of s.earlier) → Counted s.level.rules (map key_of (s.earlier ++ v ∷ []))
+  counted_after s v rest fine c =
       subst (Counted s.level.rules) (sym (more_keys s.earlier v)) (counted_more s.level.rules (map key_of s.earlier) (key_of v) c
       (λ i rule max here is before now. fine.none_wrong reason.TooMany (Avp (key_of v)) (too_many i rule (record { is_rule = here; max = max; is_max = is; before = before; now = now })))
-      (λ behind_runs. may_be s.level.rules (key_of v) (is_listed (fixed_rules s.level.rules) (key_of v)) (is_listed (loose_rules s.level.rules) (key_of v))
+      (λ after_runs. may_be s.level.rules (key_of v) (is_listed (fixed_rules s.level.rules) (key_of v)) (is_listed (loose_rules s.level.rules) (key_of v))
       (is_listed s.level.rules (key_of v)) (has_wildcard s.level.rules) refl refl refl refl
-      (listed_split s.level.rules (key_of v)) (λ bad. fine.none_wrong reason.NotAllowed (Avp (key_of v)) (not_allowed (let e = length-map s.earlier key_of in omega (arith, behind_runs, e)) bad))))
+      (listed_split s.level.rules (key_of v)) (λ bad. fine.none_wrong reason.NotAllowed (Avp (key_of v)) (not_allowed (let e = length-map s.earlier key_of in omega (arith, after_runs, e)) bad))))
 
   sizes : (s : Rest) (v : PlainAvp) (rest : List ℕ) → BeginsWith v s.bytes rest → (length rest ≤ length s.bytes) × (8 + length v.bytes ≤ length s.bytes)
   sizes s v rest (front, spells, parts) =
@@ -201,9 +201,9 @@ module _ (d : Dictionary) (sound : IsDictionary d) (u : Unknown) (most : Levels)
       let whole : length s.bytes ≡ length front + length rest = ap length parts ∙ length-append front rest in
       (omega (arith, whole), omega (arith, whole, o.front_length, at_least_8 v.vendor, rounded-le (avp_length v)))
 
-  enough_behind : (m : Levels) (n deep : ℕ) (bytes rest : List ℕ) → length rest ≤ length bytes → AreEnough m n deep bytes → AreEnough m n deep rest
-  enough_behind Any n deep bytes rest less h = omega (arith, less, h)
-  enough_behind (AtMost k) n deep bytes rest less h = h
+  enough_after : (m : Levels) (n deep : ℕ) (bytes rest : List ℕ) → length rest ≤ length bytes → AreEnough m n deep bytes → AreEnough m n deep rest
+  enough_after Any n deep bytes rest less h = omega (arith, less, h)
+  enough_after (AtMost k) n deep bytes rest less h = h
 
   enough_inside : (m : Levels) (n deep : ℕ) (bytes inner : List ℕ) → 8 + length inner ≤ length bytes → MayOpen m deep → AreEnough m n deep bytes
       → (k : ℕ) × (n ≡ suc k) × AreEnough m k (suc deep) inner
@@ -228,7 +228,7 @@ module _ (d : Dictionary) (sound : IsDictionary d) (u : Unknown) (most : Levels)
       fits_by (IsLevel (Fits d u k)) s v fine (λ e h. let same : e.group ≡ Some g = ap (λ (o : Option DictEntry). option_and_then (λ (x : DictEntry). x.group) o) (sym h) ∙ is in
       subst (λ (o : Option PlainDefinition). MatchOption o (IsLeaf e.format v.bytes) (λ group. IsLevel (Fits d u k) group.rules v.bytes)) (sym same) level)
 
-  joined : (n : ℕ) (s : Rest) (v : PlainAvp) (rest : List ℕ) → BeginsWith v s.bytes rest → Fits d u n v → Outcome n (behind s v rest) → Outcome n s
+  joined : (n : ℕ) (s : Rest) (v : PlainAvp) (rest : List ℕ) → BeginsWith v s.bytes rest → Fits d u n v → Outcome n (following s v rest) → Outcome n s
   joined n s v rest (front, spells, parts) fits (avps, spelled, is_placed, all) =
       (v ∷ avps, (front, rest, spells, parts, spelled), subst (λ (vs : List PlainAvp). Placed s.level.rules (map key_of vs)) (append_assoc s.earlier (v ∷ []) avps) is_placed, (fits, all))
 
@@ -249,13 +249,13 @@ module _ (d : Dictionary) (sound : IsDictionary d) (u : Unknown) (most : Levels)
   walked n s f (wrong v rest r t begins first is) nothing are c enough = absurd (no_some f _ is nothing)
   walked n s f (leaf v rest begins fine is_leaf more) nothing are c enough =
       joined n s v rest begins (fits_any n v (λ Inner. fits_leaf Inner s v fine is_leaf))
-      (walked n (behind s v rest) f more nothing are (counted_behind s v rest fine c) (enough_behind most n s.level.depth s.bytes rest (sizes s v rest begins).0 enough))
+      (walked n (following s v rest) f more nothing are (counted_after s v rest fine c) (enough_after most n s.level.depth s.bytes rest (sizes s v rest begins).0 enough))
   walked n s f (group v rest g begins fine is_group inner more) nothing are c enough =
       let e = entry_of_group v g (known d (key_of v)) refl is_group in
       let (k, is_suc, enough_in) = enough_inside most n s.level.depth s.bytes v.bytes (sizes s v rest begins).1 (opens s v g fine is_group) enough in
       let level = walked k (inside s v g) None inner refl (group_rules v e.0 g e.1 e.2) (counted_none g.rules) enough_in in
       joined n s v rest begins (subst (λ (j : ℕ). Fits d u j v) (sym is_suc) (fits_group k s v g fine is_group level))
-      (walked n (behind s v rest) f more nothing are (counted_behind s v rest fine c) (enough_behind most n s.level.depth s.bytes rest (sizes s v rest begins).0 enough))
+      (walked n (following s v rest) f more nothing are (counted_after s v rest fine c) (enough_after most n s.level.depth s.bytes rest (sizes s v rest begins).0 enough))
   walked n s f (bad_group v rest g h begins fine is_group inner is) nothing are c enough = absurd (no_some f _ is nothing)
 
   pub walks_level : (n : ℕ) (rules : List DRule) (start end deep : ℕ) (bytes : List ℕ) → AreRules rules → AreEnough most n deep bytes

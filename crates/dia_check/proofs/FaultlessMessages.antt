@@ -20,15 +20,15 @@ use Rattle.dia_check.specs.declared.fault.Reason.{Reason}
 use Rattle.dia_check.specs.declared.fault.Subject.{Subject}
 use Rattle.dia_valid.specs.Valid.{class_of, known, IsLevel, Fits, FitsBy, AllFit, MHolds, IsAccepted, IsValidOf}
 use Rattle.dia_check.specs.Levels.{MayOpen}
-use Rattle.dia_check.specs.Faults.{keys_to, Spot, IsWrong, Stands, HasGoodHeader}
+use Rattle.dia_check.specs.Faults.{keys_to, Spot, IsWrong, Occurs, HasGoodHeader}
 use Rattle.dia_check.specs.Faults as faults
 use Rattle.dia_check.proofs.FaultlessFronts.{Says, placed_says, not_missing_at, allowed_at, few_at, may_be_allowed}
-use Rattle.dia_check.specs.Walks.{Found, Rest, behind, inside, whole, IsFine, Walks, ended, leaf, group}
+use Rattle.dia_check.specs.Walks.{Found, Rest, following, inside, whole, IsFine, Walks, ended, leaf, group}
 use Rattle.dia_valid.specs.Valid.{group_at}
 use Rattle.dia_check.proofs.FaultlessLevels.{AreEnough, grouped_at, group_rules, entry_of_group, more_keys, walks_level}
 use Rattle.dia_valid.proofs.Entries.{all_at}
-use Rattle.dia_check.proofs.FoundFaultsStand.{walks_stands}
-use Rattle.dia_check.proofs.FirstFaults.{none_stands}
+use Rattle.dia_check.proofs.FoundFaultsStand.{walks_occurs}
+use Rattle.dia_check.proofs.FirstFaults.{none_occurs}
 
 -- so many levels may still be opened at a depth
 abbrev pub AreLeft : Levels → ℕ → ℕ → Type 0
@@ -70,8 +70,8 @@ module _ (d : Dictionary) (sound : IsDictionary d) (u : Unknown) (most : Levels)
   none_wrong Inner s v q may are says fits r t (faults.m_bit e is bad) = bad (fits_some Inner v e fits is).0
   none_wrong Inner s v q may are says fits r t (faults.missing i rule first ends) =
       not_missing_at s.level.rules (map key_of s.earlier) (key_of v) q says i rule first (ends ∙ sym (length-map s.earlier key_of))
-  none_wrong Inner s v q may are says fits r t (faults.not_allowed behind_runs bad) =
-      may_be_allowed s.level.rules (key_of v) are (allowed_at s.level.rules (map key_of s.earlier) (key_of v) q says (let e = length-map s.earlier key_of in omega (arith, behind_runs, e))) bad
+  none_wrong Inner s v q may are says fits r t (faults.not_allowed after_runs bad) =
+      may_be_allowed s.level.rules (key_of v) are (allowed_at s.level.rules (map key_of s.earlier) (key_of v) q says (let e = length-map s.earlier key_of in omega (arith, after_runs, e))) bad
   none_wrong Inner s v q may are says fits r t (faults.too_many i rule passes) =
       let few = few_at s.level.rules (keys_to s.earlier v) q says i rule passes.max passes.is_rule passes.is_max in
       let now = passes.now in
@@ -103,7 +103,7 @@ module _ (d : Dictionary) (sound : IsDictionary d) (u : Unknown) (most : Levels)
 
   goes_by : (Inner : List DRule → List ℕ → Type 0) (s : Rest) (v : PlainAvp) (rest : List ℕ) (o : Option PlainDefinition) → group_at d v ≡ o → Inside Inner s.level.depth
       → FitsBy d u Inner v → BeginsWith v s.bytes rest → IsFine d u most s v
-      → Walks d u most (behind s v rest) None → Walks d u most s None
+      → Walks d u most (following s v rest) None → Walks d u most s None
   goes_by Inner s v rest None is inner fits begins fine walk = leaf v rest begins fine is walk
   goes_by Inner s v rest (Some g) is inner fits begins fine walk =
       let (e, h, group_is) = entry_of_group d sound u most v g (known d (key_of v)) refl is in
@@ -123,7 +123,7 @@ module _ (d : Dictionary) (sound : IsDictionary d) (u : Unknown) (most : Levels)
       (sym (more_keys d sound u most s.earlier v)) here in
       let begins : BeginsWith v s.bytes rest = (front, spelled, parts) in
       let fine = is_fine Inner s v (map key_of more) (λ g h. may g v.bytes h) are here fits.0 in
-      goes_by Inner s v rest (group_at d v) refl inner fits.0 begins fine (walk_avps Inner more (behind s v rest) may inner are others next fits.1)
+      goes_by Inner s v rest (group_at d v) refl inner fits.0 begins fine (walk_avps Inner more (following s v rest) may inner are others next fits.1)
 
   pub level_walk : (n : ℕ) (g : PlainDefinition) (start end deep : ℕ) (bytes : List ℕ) → AreRules g.rules → AreLeft most n deep → IsLevel (Fits d u n) g.rules bytes
       → Walks d u most (start_of g start end deep bytes) None
@@ -183,13 +183,13 @@ module _ (d : Dictionary) (sound : IsDictionary d) (u : Unknown) (most : Levels)
       level_walk d sound u most n v.command 20 (length bytes) 0 (drop 20 bytes) (command_rules c v.command v.is_command) left (v.avps, subst (SpellsAll v.avps) (sym body) m.is_body, v.placed, fits)
 
   -- in a valid message no fault occurs
-  pub valid_stands : (c : ℕ) → IsValidOf d u most bytes c → (other : Spot) (r : Reason) (t : Subject) → ¬ Stands d u most bytes other r t
-  valid_stands c v other r t stands = none_stands d u most bytes (valid_good c v) (valid_walk c v) other r t stands
+  pub valid_occurs : (c : ℕ) → IsValidOf d u most bytes c → (other : Spot) (r : Reason) (t : Subject) → ¬ Occurs d u most bytes other r t
+  valid_occurs c v other r t occurs = none_occurs d u most bytes (valid_good c v) (valid_walk c v) other r t occurs
 
   -- so no walk finds something in it
   pub valid_finds : (c : ℕ) (f : Option Found) (good : HasGoodHeader d bytes) → IsValidOf d u most bytes c → Walks d u most (whole good.command.rules bytes) f → f ≡ None
   valid_finds c None good v walk = refl
-  valid_finds c (Some h) good v walk = absurd (valid_stands c v h.spot h.reason h.subject (walks_stands d sound u most bytes good h walk))
+  valid_finds c (Some h) good v walk = absurd (valid_occurs c v h.spot h.reason h.subject (walks_occurs d sound u most bytes good h walk))
 
   -- and it is of the command that its header selects
   pub valid_command : (c : ℕ) (good : HasGoodHeader d bytes) → IsValidOf d u most bytes c → good.c ≡ c

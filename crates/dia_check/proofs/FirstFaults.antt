@@ -19,19 +19,19 @@ use Rattle.dia_check.specs.declared.fault.Subject.TheVariants.{Nothing}
 use Rattle.dia_valid.specs.Valid.{HasR, HasE, HasT, class_of, AllowsP}
 use Rattle.dia_check.specs.Levels.{Level, IsMember, IsOpen, IsCommandOf, MayOpen, between}
 use Rattle.dia_check.specs.Levels as levels
-use Rattle.dia_check.specs.Faults.{End, Spot, spot, IsBefore, subject_of, IsFirstMissing, IsWrong, Stands, HasGoodHeader, HasHeader}
+use Rattle.dia_check.specs.Faults.{End, Spot, spot, IsBefore, subject_of, IsFirstMissing, IsWrong, Occurs, HasGoodHeader, HasHeader}
 use Rattle.dia_check.specs.Reasons.{row_of}
 use Rattle.dia_check.specs.Faults as faults
-use Rattle.dia_check.specs.Walks.{Found, Rest, behind, inside, whole, Walks, ended, missing, broken, wrong, leaf, group, bad_group}
+use Rattle.dia_check.specs.Walks.{Found, Rest, following, inside, whole, Walks, ended, missing, broken, wrong, leaf, group, bad_group}
 use Rattle.dia_valid.specs.Valid.{group_at}
 use Rattle.dia_check.specs.UnderWay.{Lies}
-use Rattle.dia_check.proofs.FoundFaultsStand.{walks_stands, lies_behind, lies_inside, between-split, second_part, length-between, nothing_between}
+use Rattle.dia_check.proofs.FoundFaultsStand.{walks_occurs, lies_after, lies_inside, between-split, second_part, length-between, nothing_between}
 use Rattle.dia_check.proofs.Uniqueness.{le_split, one_reason, missing_unique, one_subject, begins_some, found_at, Goes, goes, UpTo}
 use Rattle.dia_check.proofs.Uniqueness.{up_more, up_later, up_row, up_end, before_both, selected_command, stops, passes, finds}
 
 -- the fault is what is found, or follows it
-abbrev pub StandsBehind : Option Found → Spot → Reason → Subject → Type 0
-StandsBehind f other r t = (h : Found) × (f ≡ Some h) × (IsBefore h.spot other ⊎ (record { spot = other; reason = r; subject = t } ≡ h))
+abbrev pub OccursAfter : Option Found → Spot → Reason → Subject → Type 0
+OccursAfter f other r t = (h : Found) × (f ≡ Some h) × (IsBefore h.spot other ⊎ (record { spot = other; reason = r; subject = t } ≡ h))
 
 module _ (d : Dictionary) (u : Unknown) (most : Levels) where
   pub begun_room : (s : Rest) (v : PlainAvp) (rest : List ℕ) → BeginsWith v s.bytes rest → padded_length v + length rest ≡ length s.bytes
@@ -51,9 +51,9 @@ module _ (d : Dictionary) (u : Unknown) (most : Levels) where
       let some = begins_some v s.bytes rest begins in
       subst (λ (x : Found). UpTo x s.level.depth s.level.end) (same_Some _ h (sym is ∙ same)) (inl (omega (arith, some, size)))
   found_in s f h (leaf v rest begins fine is_leaf more) same size =
-      let room = begun_room s v rest begins in found_in (behind s v rest) f h more same (omega (arith, room, size))
+      let room = begun_room s v rest begins in found_in (following s v rest) f h more same (omega (arith, room, size))
   found_in s f h (group v rest g begins fine is_group inner more) same size =
-      let room = begun_room s v rest begins in found_in (behind s v rest) f h more same (omega (arith, room, size))
+      let room = begun_room s v rest begins in found_in (following s v rest) f h more same (omega (arith, room, size))
   found_in s f h (bad_group v rest g k begins fine is_group inner is) same size =
       let room = begun_room s v rest begins in
       let round = rounded-le (avp_length v) in
@@ -99,7 +99,7 @@ module _ (d : Dictionary) (u : Unknown) (most : Levels) where
     Goes_on g l earlier at = Walks d u most (pos l earlier at) g ⊎ ((h : Found) × (g ≡ Some h) × UpTo h (suc l.depth) at)
 
     forward_at : (s : Rest) (g : Option Found) (v : PlainAvp) (rest : List ℕ) (more : List PlainAvp) (to : ℕ) → s.at + padded_length v ≤ to → Goes d u most s v rest g
-        → (Walks d u most (behind s v rest) g → Goes_on g s.level ((s.earlier ++ v ∷ []) ++ more) to) → Goes_on g s.level (s.earlier ++ v ∷ more) to
+        → (Walks d u most (following s v rest) g → Goes_on g s.level ((s.earlier ++ v ∷ []) ++ more) to) → Goes_on g s.level (s.earlier ++ v ∷ more) to
     forward_at s g v rest more to le (stops r t first is) ih = let round = rounded-le (avp_length v) in inr (found_at s.at r t, is, inl (omega (arith, le, round, at_least_8 v.vendor)))
     forward_at s g v rest more to le (passes fine inner walk) ih = subst (λ (vs : List PlainAvp). Goes_on g s.level vs to) (append_assoc s.earlier (v ∷ []) more) (ih walk)
     forward_at s g v rest more to le (finds def h fine is_group inner is) ih =
@@ -131,7 +131,7 @@ module _ (d : Dictionary) (u : Unknown) (most : Levels) where
         let next : s.at + padded_length v ≤ to = omega (arith, size, all, o.front_length, le) in
         let cut = second_part bytes front rest s.at (s.at + padded_length v) to (omega arith) next (omega (arith, le', l.within)) parts (omega (arith, o.front_length)) in
         forward_at s g v (rest ++ after) more to next (goes d u most s g v (rest ++ after) walk begins)
-        (λ walk'. forward more (behind s v (rest ++ after)) to g (lies_behind d u most bytes good s v (rest ++ after) l begins) walk' next le' (subst (SpellsAll more) (sym cut) others))
+        (λ walk'. forward more (following s v (rest ++ after)) to g (lies_after d u most bytes good s v (rest ++ after) l begins) walk' next le' (subst (SpellsAll more) (sym cut) others))
 
     -- the walk of the whole finds nothing there, or it is there, or has found something before
     abbrev Comes : Option Found → Level → List PlainAvp → ℕ → Type 0
@@ -232,7 +232,7 @@ module _ (d : Dictionary) (u : Unknown) (most : Levels) where
     end_at s g i rule (bad_group v rest k h begins fine is_group inner is) empty first = absurd (omega (arith, begins_some v s.bytes rest begins, ap length empty))
 
     avp_at : (s : Rest) (g : Option Found) (v : PlainAvp) (rest : List ℕ) (r : Reason) (t : Subject) → Goes d u most s v rest g → IsWrong d u most s.level s.earlier v r t
-        → StandsBehind g (spot s.at r) r t
+        → OccursAfter g (spot s.at r) r t
     avp_at s g v rest r t (stops q w first is) bad = (
       found_at s.at q w,
       is,
@@ -244,13 +244,13 @@ module _ (d : Dictionary) (u : Unknown) (most : Levels) where
     avp_at s g v rest r t (passes fine inner walk) bad = absurd (fine.none_wrong r t bad)
     avp_at s g v rest r t (finds k h fine is_group inner is) bad = absurd (fine.none_wrong r t bad)
 
-    found_too : (g f : Option Found) (other : Spot) (r : Reason) (t : Subject) → (g ≡ None) ⊎ (g ≡ f) → StandsBehind g other r t → StandsBehind f other r t
+    found_too : (g f : Option Found) (other : Spot) (r : Reason) (t : Subject) → (g ≡ None) ⊎ (g ≡ f) → OccursAfter g other r t → OccursAfter f other r t
     found_too g f other r t which p = (p.0, is_found g f p.0 which p.1, p.2)
 
     same_header : (h : Header) → HasHeader bytes h → good.header ≡ h
     same_header h is = (one_header good.header h (length bytes) (length bytes) (take 20 bytes) good.is_header is).0
 
-    pub least : (f : Option Found) → Walks d u most (whole good.command.rules bytes) f → (other : Spot) (r : Reason) (t : Subject) → Stands d u most bytes other r t → StandsBehind f other r t
+    pub least : (f : Option Found) → Walks d u most (whole good.command.rules bytes) f → (other : Spot) (r : Reason) (t : Subject) → Occurs d u most bytes other r t → OccursAfter f other r t
     least f walk other r t (faults.bits h is bad) =
         let rules = subst (λ (x : Header). (HasR x.flags → ¬ HasE x.flags) × (HasT x.flags → HasR x.flags)) (same_header h is) good.bits in
         absurd (⊎_elim (λ b. rules.0 b.0 b.1) (λ b. b.1 (rules.1 b.0)) bad)
@@ -285,10 +285,10 @@ module _ (d : Dictionary) (u : Unknown) (most : Levels) where
 
 -- no fault occurs before what is found
 pub walks_first : (d : Dictionary) (u : Unknown) (most : Levels) (bytes : List ℕ) (good : HasGoodHeader d bytes) (f : Found) → Walks d u most (whole good.command.rules bytes) (Some f)
-    → (other : Spot) (r : Reason) (t : Subject) → Stands d u most bytes other r t → ¬ IsBefore other f.spot
-walks_first d u most bytes good f walk other r t stands = by (least d u most bytes good (Some f) walk other r t stands)
+    → (other : Spot) (r : Reason) (t : Subject) → Occurs d u most bytes other r t → ¬ IsBefore other f.spot
+walks_first d u most bytes good f walk other r t occurs = by (least d u most bytes good (Some f) walk other r t occurs)
   where
-    by : StandsBehind (Some f) other r t → IsBefore other f.spot → ⊥
+    by : OccursAfter (Some f) other r t → IsBefore other f.spot → ⊥
     by (h, is, inl later) before = before_both other f.spot before (subst (λ (x : Found). IsBefore x.spot other) (sym (same_Some f h is)) later)
     by (h, is, inr same) before =
         let e : other ≡ f.spot = ap (λ (x : Found). x.spot) (same ∙ sym (same_Some f h is)) in
@@ -296,11 +296,11 @@ walks_first d u most bytes good f walk other r t stands = by (least d u most byt
         before_both f.spot f.spot self self
 
 -- where nothing is found, no fault occurs
-pub none_stands : (d : Dictionary) (u : Unknown) (most : Levels) (bytes : List ℕ) (good : HasGoodHeader d bytes) → Walks d u most (whole good.command.rules bytes) None
-    → (other : Spot) (r : Reason) (t : Subject) → ¬ Stands d u most bytes other r t
-none_stands d u most bytes good walk other r t stands = let p = least d u most bytes good None walk other r t stands in none-some p.0 p.1
+pub none_occurs : (d : Dictionary) (u : Unknown) (most : Levels) (bytes : List ℕ) (good : HasGoodHeader d bytes) → Walks d u most (whole good.command.rules bytes) None
+    → (other : Spot) (r : Reason) (t : Subject) → ¬ Occurs d u most bytes other r t
+none_occurs d u most bytes good walk other r t occurs = let p = least d u most bytes good None walk other r t occurs in none-some p.0 p.1
 
-same_spot : (h k : Found) → StandsBehind (Some h) k.spot k.reason k.subject → StandsBehind (Some k) h.spot h.reason h.subject → h ≡ k
+same_spot : (h k : Found) → OccursAfter (Some h) k.spot k.reason k.subject → OccursAfter (Some k) h.spot h.reason h.subject → h ≡ k
 same_spot h k (h', is, inr e) other = same_Some h h' is ∙ sym e
 same_spot h k (h', is, inl later) (k', is', inr e) = e ∙ sym (same_Some k k' is')
 same_spot h k (h', is, inl later) (k', is', inl sooner) =
@@ -310,8 +310,8 @@ same_spot h k (h', is, inl later) (k', is', inl sooner) =
 pub one_walk : (d : Dictionary) (u : Unknown) (most : Levels) (bytes : List ℕ) (good : HasGoodHeader d bytes) → IsDictionary d → (f g : Option Found)
     → Walks d u most (whole good.command.rules bytes) f → Walks d u most (whole good.command.rules bytes) g → f ≡ g
 one_walk d u most bytes good sound None None x y = refl
-one_walk d u most bytes good sound None (Some k) x y = absurd (none_stands d u most bytes good x k.spot k.reason k.subject (walks_stands d sound u most bytes good k y))
-one_walk d u most bytes good sound (Some h) None x y = absurd (none_stands d u most bytes good y h.spot h.reason h.subject (walks_stands d sound u most bytes good h x))
+one_walk d u most bytes good sound None (Some k) x y = absurd (none_occurs d u most bytes good x k.spot k.reason k.subject (walks_occurs d sound u most bytes good k y))
+one_walk d u most bytes good sound (Some h) None x y = absurd (none_occurs d u most bytes good y h.spot h.reason h.subject (walks_occurs d sound u most bytes good h x))
 one_walk d u most bytes good sound (Some h) (Some k) x y =
-    ap (λ (z : Found). Some z) (same_spot h k (least d u most bytes good (Some h) x k.spot k.reason k.subject (walks_stands d sound u most bytes good k y))
-    (least d u most bytes good (Some k) y h.spot h.reason h.subject (walks_stands d sound u most bytes good h x)))
+    ap (λ (z : Found). Some z) (same_spot h k (least d u most bytes good (Some h) x k.spot k.reason k.subject (walks_occurs d sound u most bytes good k y))
+    (least d u most bytes good (Some k) y h.spot h.reason h.subject (walks_occurs d sound u most bytes good h x)))

@@ -31,15 +31,15 @@ address_stable bytes h =
       rest = drop 2 bytes;
       parts = sym (take-append-drop 2 bytes);
       width = omega (arith, length-take 2 bytes, long);
-      ipv4 = λ is. one_number (length (drop 2 bytes)) 4 (λ other. h (λ a. other (ap length (behind a) ∙ a.ipv4 (ap number (sym (front a)) ∙ is))));
-      ipv6 = λ is. one_number (length (drop 2 bytes)) 16 (λ other. h (λ a. other (ap length (behind a) ∙ a.ipv6 (ap number (sym (front a)) ∙ is))));
+      ipv4 = λ is. one_number (length (drop 2 bytes)) 4 (λ other. h (λ a. other (ap length (following a) ∙ a.ipv4 (ap number (sym (front a)) ∙ is))));
+      ipv6 = λ is. one_number (length (drop 2 bytes)) 16 (λ other. h (λ a. other (ap length (following a) ∙ a.ipv6 (ap number (sym (front a)) ∙ is))));
     }
   where
     front : (a : IsAddress bytes) → take 2 bytes ≡ a.family
     front a = ap (take 2) a.parts ∙ take_at a.family a.rest 2 a.width
 
-    behind : (a : IsAddress bytes) → drop 2 bytes ≡ a.rest
-    behind a = ap (drop 2) a.parts ∙ drop_at a.family a.rest 2 a.width
+    following : (a : IsAddress bytes) → drop 2 bytes ≡ a.rest
+    following a = ap (drop 2) a.parts ∙ drop_at a.family a.rest 2 a.width
 
 -- ---- graphic bytes
 

@@ -12,9 +12,9 @@ use Rattle.dia_policy.specs.declared.Unknown.{Unknown}
 use Rattle.dia_policy.specs.declared.Levels.{Levels}
 use Rattle.dia_check.specs.Levels.{IsMember, MayOpen, between}
 use Rattle.dia_check.specs.Levels as levels
-use Rattle.dia_check.specs.Faults.{Stands, Looks, HasGoodHeader, avp_length as bad_length, avp as at_avp, missing_at_end}
+use Rattle.dia_check.specs.Faults.{Occurs, Looks, HasGoodHeader, avp_length as bad_length, avp as at_avp, missing_at_end}
 use Rattle.dia_check.specs.UnderWay.{Lies}
-use Rattle.dia_check.specs.Walks.{Found, Rest, behind, inside, whole, IsFine, Walks, ended, missing, broken, wrong, leaf, group, bad_group}
+use Rattle.dia_check.specs.Walks.{Found, Rest, following, inside, whole, IsFine, Walks, ended, missing, broken, wrong, leaf, group, bad_group}
 use Rattle.dia_valid.specs.Valid.{group_at}
 
 -- ---- parts of bytes
@@ -70,8 +70,8 @@ module _ (d : Dictionary) (u : Unknown) (most : Levels) (bytes : List ℕ) (good
   pub member : (s : Rest) (v : PlainAvp) (rest : List ℕ) → Lies d u most bytes good s → BeginsWith v s.bytes rest → IsMember bytes s.level s.earlier v s.at
   member s v rest l begins = record { inside = l.from; before = l.before; rest = rest; here = subst (λ (t : List ℕ). BeginsWith v t rest) (sym l.here) begins }
 
-  pub lies_behind : (s : Rest) (v : PlainAvp) (rest : List ℕ) → Lies d u most bytes good s → BeginsWith v s.bytes rest → Lies d u most bytes good (behind s v rest)
-  lies_behind s v rest l (front, spells, parts) =
+  pub lies_after : (s : Rest) (v : PlainAvp) (rest : List ℕ) → Lies d u most bytes good s → BeginsWith v s.bytes rest → Lies d u most bytes good (following s v rest)
+  lies_after s v rest l (front, spells, parts) =
       let o = opened v front [] spells in
       let whole : length s.bytes ≡ length front + length rest = ap length parts ∙ length-append front rest in
       let next = s.at + padded_length v in
@@ -117,26 +117,26 @@ module _ (d : Dictionary) (u : Unknown) (most : Levels) (bytes : List ℕ) (good
   at_some : (P : Found → Type 0) (f : Option Found) (g h : Found) → f ≡ Some h → f ≡ Some g → P h → P g
   at_some P f g h is same p = subst P (same_Some h g (sym is ∙ same)) p
 
-  pub found_stands : (may : (s : Rest) (v : PlainAvp) (g : PlainDefinition) → IsFine d u most s v → group_at d v ≡ Some g
+  pub found_occurs : (may : (s : Rest) (v : PlainAvp) (g : PlainDefinition) → IsFine d u most s v → group_at d v ≡ Some g
       → MayOpen most s.level.depth) (s : Rest) (f : Option Found) (g : Found) → Walks d u most s f → f ≡ Some g → Lies d u most bytes good s
-      → Stands d u most bytes g.spot g.reason g.subject
-  found_stands may s f g (ended done none is) same l = absurd (none-some g (sym is ∙ same))
-  found_stands may s f g (missing i rule done first is) same l =
+      → Occurs d u most bytes g.spot g.reason g.subject
+  found_occurs may s f g (ended done none is) same l = absurd (none-some g (sym is ∙ same))
+  found_occurs may s f g (missing i rule done first is) same l =
       let done_size : length s.bytes ≡ 0 = ap length done in
       let at_end : s.at ≡ s.level.end = omega (arith, l.size, done_size) in
-      at_some (λ (h : Found). Stands d u most bytes h.spot h.reason h.subject) f g _ is same
+      at_some (λ (h : Found). Occurs d u most bytes h.spot h.reason h.subject) f g _ is same
       (missing_at_end s.level s.earlier i rule (looks s l) (subst (λ (n : ℕ). SpellsAll s.earlier (between bytes s.level.start n)) at_end l.before) first)
-  found_stands may s f g (broken some none is) same l =
-      at_some (λ (h : Found). Stands d u most bytes h.spot h.reason h.subject) f g _ is same
+  found_occurs may s f g (broken some none is) same l =
+      at_some (λ (h : Found). Occurs d u most bytes h.spot h.reason h.subject) f g _ is same
       (bad_length s.level s.earlier s.at (looks s l) l.from (omega (arith, l.size, some)) l.before (subst BeginsWithNone (sym l.here) none))
-  found_stands may s f g (wrong v rest r t begins first is) same l =
-      at_some (λ (h : Found). Stands d u most bytes h.spot h.reason h.subject) f g _ is same
+  found_occurs may s f g (wrong v rest r t begins first is) same l =
+      at_some (λ (h : Found). Occurs d u most bytes h.spot h.reason h.subject) f g _ is same
       (at_avp s.level s.earlier v s.at r t (record { looks = looks s l; member = member s v rest l begins }) first.wrong)
-  found_stands may s f g (leaf v rest begins fine is_leaf more) same l = found_stands may (behind s v rest) f g more same (lies_behind s v rest l begins)
-  found_stands may s f g (group v rest def begins fine is_group inner more) same l = found_stands may (behind s v rest) f g more same (lies_behind s v rest l begins)
-  found_stands may s f g (bad_group v rest def h begins fine is_group inner is) same l =
-      at_some (λ (k : Found). Stands d u most bytes k.spot k.reason k.subject) f g h is same
-      (found_stands may (inside s v def) (Some h) h inner refl (lies_inside s v rest def l begins is_group (may s v def fine is_group)))
+  found_occurs may s f g (leaf v rest begins fine is_leaf more) same l = found_occurs may (following s v rest) f g more same (lies_after s v rest l begins)
+  found_occurs may s f g (group v rest def begins fine is_group inner more) same l = found_occurs may (following s v rest) f g more same (lies_after s v rest l begins)
+  found_occurs may s f g (bad_group v rest def h begins fine is_group inner is) same l =
+      at_some (λ (k : Found). Occurs d u most bytes k.spot k.reason k.subject) f g h is same
+      (found_occurs may (inside s v def) (Some h) h inner refl (lies_inside s v rest def l begins is_group (may s v def fine is_group)))
 
 -- ---- the whole body
 
@@ -153,5 +153,5 @@ module _ (d : Dictionary) (sound : IsDictionary d) (u : Unknown) (most : Levels)
         within = omega arith;
       }
 
-  pub walks_stands : (bytes : List ℕ) (good : HasGoodHeader d bytes) (f : Found) → Walks d u most (whole good.command.rules bytes) (Some f) → Stands d u most bytes f.spot f.reason f.subject
-  walks_stands bytes good f h = found_stands d u most bytes good (opens d sound u most) (whole good.command.rules bytes) (Some f) f h refl (body_lies bytes good)
+  pub walks_occurs : (bytes : List ℕ) (good : HasGoodHeader d bytes) (f : Found) → Walks d u most (whole good.command.rules bytes) (Some f) → Occurs d u most bytes f.spot f.reason f.subject
+  walks_occurs bytes good f h = found_occurs d u most bytes good (opens d sound u most) (whole good.command.rules bytes) (Some f) f h refl (body_lies bytes good)

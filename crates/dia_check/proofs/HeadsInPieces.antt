@@ -300,8 +300,8 @@ module _ (d : Dictionary) (sound : IsDictionary d) (u : Unknown) (most : Levels)
   all_of_it : piece ≡ take (length piece) (front_bytes nothing_kept ++ piece)
   all_of_it = sym (take_all (length piece) piece (omega arith))
 
-  pub stands_here : IsAtAvp d u most bytes good o at head
-  stands_here = at_avp d sound u most bytes good o (record { at = at; front = nothing_kept }) at (begun_here has_room) piece lies piece (length piece) all_of_it head whole heads fine
+  pub occurs_here : IsAtAvp d u most bytes good o at head
+  occurs_here = at_avp d sound u most bytes good o (record { at = at; front = nothing_kept }) at (begun_here has_room) piece lies piece (length piece) all_of_it head whole heads fine
 
   pub is_there : head_length head.vendor ≤ length piece
   is_there = head_there d sound u most bytes good o (record { at = at; front = nothing_kept }) at (begun_here has_room) piece lies piece (length piece) all_of_it head whole heads fine

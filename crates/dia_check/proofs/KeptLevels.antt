@@ -11,7 +11,7 @@ use Rattle.dia_book.specs.Shapes.{IsFirstWanted}
 use Rattle.dia_check.specs.declared.open_levels.OpenLevel.{OpenLevel}
 use Rattle.dia_check.specs.declared.open_levels.OpenLevels.{OpenLevels}
 use Rattle.dia_check.specs.declared.open_levels.tally.Met.{Met}
-use Rattle.dia_check.specs.Tallies.{count_in, unmet, AreBelow, IsTold}
+use Rattle.dia_check.specs.Tallies.{count_in, unmet, AreBelow, IsRecorded}
 use Rattle.dia_valid.specs.Valid.{fixed_rules}
 use Rattle.dia_check.specs.OpenLevels.{AreMet, IsFirstUnmet, IsMetAtEnd, IsCounted, SoFar, begun, and_key, IsKept, AreKept, HasTallyRoom, HaveTallyRoom, AreOpen}
 use Rattle.dia_check.specs.Faults.{IsFirstMissing}
@@ -232,10 +232,10 @@ kept_many defs base (k ∷ ks) tallies [] h = absurd h
 kept_many defs base (k ∷ ks) tallies (l ∷ ls) (mine, rest, parts, at, kept, more) = ap (λ (n : ℕ). suc n) (kept_many defs (base + length mine) ks rest ls more)
 
 -- one more rule of the innermost level is recorded, and it was not met
-pub told_further : (defs : List PlainDefinition) (old new : OpenLevels) (outer : List SoFar) (level : SoFar) (rules : List DRule) (rule place : ℕ) (now : AreOpen defs old outer level) → level.rules ≡ rules
-    → IsTold old.tallies.items new.tallies.items old.innermost.base (length rules) rule place → new.innermost ≡ old.innermost → new.outer.items ≡ old.outer.items
+pub recorded_further : (defs : List PlainDefinition) (old new : OpenLevels) (outer : List SoFar) (level : SoFar) (rules : List DRule) (rule place : ℕ) (now : AreOpen defs old outer level) → level.rules ≡ rules
+    → IsRecorded old.tallies.items new.tallies.items old.innermost.base (length rules) rule place → new.innermost ≡ old.innermost → new.outer.items ≡ old.outer.items
     → vec_capacity old.tallies ≤ vec_capacity new.tallies → AreOpen defs new outer level
-told_further defs old new outer level rules rule place now same t is_innermost is_outer more = record {
+recorded_further defs old new outer level rules rule place now same t is_innermost is_outer more = record {
   before = now.before;
   mine = drop old.innermost.base new.tallies.items;
   parts = sym (take-append-drop old.innermost.base new.tallies.items)
@@ -358,7 +358,7 @@ met_next rules tally from place next rule met at enough wanted i other above bel
         let one : rule ≡ other = same_Some rule other (sym at ∙ ap (λ (n : ℕ). slice_get rules n) (sym is) ∙ here) in
         subst (λ (r : DRule). r.min ≤ count_in tally i) one (subst (λ (n : ℕ). rule.min ≤ count_in tally n) (sym is) enough)
     by false e false f =
-        let behind = ltb-false i place e in
+        let following = ltb-false i place e in
         let other_place : i ≢ place = λ p. both_ways (i == place) f (eq-eqb i place p) in
-        let none : other.min ≡ 0 = wanted.none_before i other (omega (arith, behind, other_place)) below here in
+        let none : other.min ≡ 0 = wanted.none_before i other (omega (arith, following, other_place)) below here in
         omega (arith, none)

@@ -8,7 +8,7 @@ use Rattle.std.proofs.lemmas.Bool.{both_ways, eq-eqb, eqb-true, ltb-true, ltb-fa
 use Rattle.std.proofs.lemmas.List.{take-append-drop, take_all, length-drop, length-take-le, take-append-le, drop-append-le, take-set-le, drop-set}
 use Rattle.std.proofs.lemmas.Option.{none-some, same_Some}
 use Rattle.dia_check.specs.declared.open_levels.tally.Met.{Met}
-use Rattle.dia_check.specs.Tallies.{count_in, unmet, AreRising, AreBelow, HasPlaceFor, IsPlaceOf, IsTold}
+use Rattle.dia_check.specs.Tallies.{count_in, unmet, AreRising, AreBelow, HasPlaceFor, IsPlaceOf, IsRecorded}
 use Rattle.dia_check.specs.LaidOutTallies.{laid_out}
 use Rattle.dia_check.proofs.Tallies.{count_here, count_other, count_before, no_count, place_here, rising_size, set_from, written_front, written_part}
 
@@ -56,22 +56,22 @@ laid_counts tally many rule below = by (ltb rule many) refl
         count_beyond (laid_out tally 0 many) many rule (laid_below tally 0 many many (omega arith)) le ∙ sym (count_beyond tally many rule below le)
 
 -- each rule is recorded at its own place
-pub all_told : (old new : List Met) (capacity base many rule : ℕ) → HasPlaceFor old capacity base many rule → take base new ≡ take base old
-    → drop base new ≡ laid_out (drop base old) 0 many → IsTold old new base many rule (base + rule)
-all_told old new capacity base many rule h front is =
+pub all_recorded : (old new : List Met) (capacity base many rule : ℕ) → HasPlaceFor old capacity base many rule → take base new ≡ take base old
+    → drop base new ≡ laid_out (drop base old) 0 many → IsRecorded old new base many rule (base + rule)
+all_recorded old new capacity base many rule h front is =
     let tally = drop base old in
     let rising = laid_rising tally 0 many in
     let at = laid_at tally 0 many rule h.one in
     let same : 0 + rule ≡ rule = omega arith in
     record {
-      behind = rule;
+      following = rule;
       is_place = refl;
       front = front;
       rising = subst (AreRising 0) (sym is) rising;
       below = subst (AreBelow many) (sym is) (laid_below tally 0 many many (omega arith));
       counts = λ j. ap (λ (t : List Met). count_in t j) is ∙ laid_counts tally many j h.below;
       place_of = subst (λ (t : List Met). IsPlaceOf t rule rule) (sym is) (place_here (laid_out tally 0 many) rule rule _ rising at same);
-      told = record { rule = 0 + rule; count = count_in tally (0 + rule) };
+      recorded = record { rule = 0 + rule; count = count_in tally (0 + rule) };
       at = ap (λ (t : List Met). slice_get t rule) is ∙ at;
       same = same;
     }
@@ -83,7 +83,7 @@ pub record AreLaidOutFrom (tally now : List Met) (many from left : ℕ) : Type 0
   pub size : length now ≡ many
   pub place : IsPlaceOf tally from left
   pub front : take left now ≡ take left tally
-  pub behind : drop from now ≡ laid_out tally from (many - from)
+  pub following : drop from now ≡ laid_out tally from (many - from)
 
 rising_join : (from to : ℕ) (front tally : List Met) → AreRising from front → AreBelow to front → from ≤ to → AreRising to tally → AreRising from (front ++ tally)
 rising_join from to [] [] rising below le more = tt
@@ -124,10 +124,10 @@ none_laid_out tally more many below size =
       place = record {
         within = omega arith;
         before = subst (AreBelow many) (sym (take_all (length tally) tally (omega arith))) below;
-        behind = subst (AreRising many) (sym (drop-length tally)) tt;
+        following = subst (AreRising many) (sym (drop-length tally)) tt;
       };
       front = take-append_seam tally more ∙ sym (take_all (length tally) tally (omega arith));
-      behind = ap (λ (n : ℕ). drop n (tally ++ more)) (sym (all ∙ size)) ∙ drop-length (tally ++ more)
+      following = ap (λ (n : ℕ). drop n (tally ++ more)) (sym (all ∙ size)) ∙ drop-length (tally ++ more)
           ∙ ap (λ (n : ℕ). laid_out tally many n) (let e : 0 ≡ many - many = omega arith in e);
     }
 
@@ -139,12 +139,12 @@ one_laid_out tally now many from left before count rising h lt place is = record
   place = record {
     within = omega (arith, place.within, left_size, h.place.within);
     before = first;
-    behind = subst (AreRising from) (drop_parts before left tally few)
-        (rising_join from (from + 1) (drop before (take left tally)) (drop left tally) place.behind (below_drop (from + 1) before (take left tally) h.place.before) (omega arith) h.place.behind);
+    following = subst (AreRising from) (drop_parts before left tally few)
+        (rising_join from (from + 1) (drop before (take left tally)) (drop left tally) place.following (below_drop (from + 1) before (take left tally) h.place.before) (omega arith) h.place.following);
   };
   front = take-set-le before now from m early ∙ sym (take_less before left now few) ∙ ap (λ (t : List Met). take before t) h.front ∙ take_less before left tally few;
-  behind = drop-set now from m (omega (arith, lt, h.size)) ∙ ap (λ (t : List Met). m ∷ t) h.behind
-      ∙ ap (λ (n : ℕ). record { rule = from; count = n } ∷ laid_out tally (from + 1) (many - (from + 1))) told
+  following = drop-set now from m (omega (arith, lt, h.size)) ∙ ap (λ (t : List Met). m ∷ t) h.following
+      ∙ ap (λ (n : ℕ). record { rule = from; count = n } ∷ laid_out tally (from + 1) (many - (from + 1))) recorded
       ∙ ap (λ (n : ℕ). laid_out tally from n) (let e : suc (many - (from + 1)) ≡ many - from = omega (arith, lt) in e);
 }
   where
@@ -165,11 +165,11 @@ one_laid_out tally now many from left before count rising h lt place is = record
         let most = rising_size 0 from (take before tally) (rising_take 0 before tally rising) first (omega arith) in
         let size = length-take-le before tally (omega (arith, few, h.place.within)) in omega (arith, most, size)
 
-    told : count ≡ count_in tally from
-    told = is ∙ sym (count_joined (take left tally) (drop left tally) from h.place.behind) ∙ ap (λ (t : List Met). count_in t from) (take-append-drop left tally)
+    recorded : count ≡ count_in tally from
+    recorded = is ∙ sym (count_joined (take left tally) (drop left tally) from h.place.following) ∙ ap (λ (t : List Met). count_in t from) (take-append-drop left tally)
 
 pub all_laid_out : (tally now : List Met) (many left : ℕ) → AreLaidOutFrom tally now many 0 left → now ≡ laid_out tally 0 many
-all_laid_out tally now many left h = h.behind ∙ ap (λ (n : ℕ). laid_out tally 0 n) (let e : many - 0 ≡ many = omega arith in e)
+all_laid_out tally now many left h = h.following ∙ ap (λ (n : ℕ). laid_out tally 0 n) (let e : many - 0 ≡ many = omega arith in e)
 
 -- ---- the last rule that is recorded
 
@@ -190,8 +190,8 @@ unmet_size : (from many : ℕ) → length (unmet from many) ≡ many
 unmet_size from zero = refl
 unmet_size from (suc many) = ap (λ (n : ℕ). suc n) (unmet_size (from + 1) many)
 
-pub told_few : (items : List Met) (base many len : ℕ) → AreRising 0 (drop base items) → AreBelow many (drop base items) → len ≡ length items → len - base ≤ many
-told_few items base many len rising below is =
+pub recorded_few : (items : List Met) (base many len : ℕ) → AreRising 0 (drop base items) → AreBelow many (drop base items) → len ≡ length items → len - base ≤ many
+recorded_few items base many len rising below is =
     let most = rising_size 0 many (drop base items) rising below (omega arith) in let size = length-drop base items in omega (arith, most, size, is)
 
 pub front_at_first : (items new : List Met) (base more : ℕ) → base ≤ length items → new ≡ items ++ unmet 0 more → take base new ≡ take base items
@@ -200,15 +200,15 @@ front_at_first items new base more low is = ap (λ (t : List Met). take base t) 
 pub laid_out_at_first : (items new : List Met) (base many len : ℕ) → AreRising 0 (drop base items) → AreBelow many (drop base items) → base ≤ len → len ≡ length items
     → new ≡ items ++ unmet 0 (many - (len - base)) → AreLaidOutFrom (drop base items) (drop base new) many many (len - base)
 laid_out_at_first items new base many len rising below low size is =
-    let few = told_few items base many len rising below size in
+    let few = recorded_few items base many len rising below size in
     let more = unmet 0 (many - (len - base)) in
-    let told = length-drop base items in
-    let untold = unmet_size 0 (many - (len - base)) in
+    let recorded = length-drop base items in
+    let unrecorded = unmet_size 0 (many - (len - base)) in
     let part = ap (λ (t : List Met). drop base t) is ∙ drop-append-le base items more (omega (arith, low, size)) in
-    let e : length (drop base items) ≡ len - base = omega (arith, told, size) in
+    let e : length (drop base items) ≡ len - base = omega (arith, recorded, size) in
     subst (λ (n : ℕ). AreLaidOutFrom (drop base items) (drop base new) many many n) e
     (subst (λ (t : List Met). AreLaidOutFrom (drop base items) t many many (length (drop base items))) (sym part)
-    (none_laid_out (drop base items) more many below (omega (arith, told, untold, few, size))))
+    (none_laid_out (drop base items) more many below (omega (arith, recorded, unrecorded, few, size))))
 
 pub low_enough : (tally items : List Met) (base many from left : ℕ) → AreLaidOutFrom tally (drop base items) many from left → 0 < many → base + many ≡ length items
 low_enough tally items base many from left h some = let size = length-drop base items in let is = h.size in omega (arith, size, is, some)

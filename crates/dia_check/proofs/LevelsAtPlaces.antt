@@ -60,25 +60,25 @@ module _ (bytes : List ℕ) where
   same_place p a le within none = let size = length-between bytes p a le within in let e = ap length none in omega (arith, size, e, le)
 
   -- of two places after AVPs of one level, an AVP begins at the earlier one and ends at or before the later one
-  stands_at : (e f : List PlainAvp) (p a b end : ℕ) → p ≤ a → a < b → b ≤ end → end ≤ length bytes → SpellsAll e (between bytes p a) → SpellsAll f (between bytes p b)
+  occurs_at : (e f : List PlainAvp) (p a b end : ℕ) → p ≤ a → a < b → b ≤ end → end ≤ length bytes → SpellsAll e (between bytes p a) → SpellsAll f (between bytes p b)
       → (w : PlainAvp) × (rest : List ℕ) × BeginsWith w (between bytes a end) rest × (a + padded_length w ≤ b)
-  stands_at e [] p a b end le less le' within se sf =
+  occurs_at e [] p a b end le less le' within se sf =
       let same = same_place p b (omega (arith, le, less)) (omega (arith, le', within)) sf in absurd (omega (arith, same, le, less))
-  stands_at [] (w ∷ f) p a b end le less le' within se (front, rest, spells, parts, others) =
+  occurs_at [] (w ∷ f) p a b end le less le' within se (front, rest, spells, parts, others) =
       let same = same_place p a le (omega (arith, less, le', within)) se in
       let (begins, next, cut) = begins_at w p b end front rest (omega (arith, le, less)) le' within spells parts in
       (w, rest ++ between bytes b end, subst (λ (n : ℕ). BeginsWith w (between bytes n end) (rest ++ between bytes b end)) same begins, omega (arith, same, next))
-  stands_at (v ∷ e) (w ∷ f) p a b end le less le' within (front, rest, spells, parts, others) (front', rest', spells', parts', others') =
+  occurs_at (v ∷ e) (w ∷ f) p a b end le less le' within (front, rest, spells, parts, others) (front', rest', spells', parts', others') =
       let (begins, next, cut) = begins_at v p a end front rest le (omega (arith, less, le')) within spells parts in
       let (begins', next', cut') = begins_at w p b end front' rest' (omega (arith, le, less)) le' within spells' parts' in
       let same = (one_front (between bytes p end) v w (rest ++ between bytes a end) (rest' ++ between bytes b end) begins begins').0 in
       let there : between bytes (p + padded_length v) b ≡ rest' = ap (λ (x : PlainAvp). between bytes (p + padded_length x) b) same ∙ cut' in
-      stands_at e f (p + padded_length v) a b end next less le' within (subst (SpellsAll e) (sym cut) others) (subst (SpellsAll f) (sym there) others')
+      occurs_at e f (p + padded_length v) a b end next less le' within (subst (SpellsAll e) (sym cut) others) (subst (SpellsAll f) (sym there) others')
 
   in_order : (e f : List PlainAvp) (p a b end : ℕ) (v : PlainAvp) (rest : List ℕ) → p ≤ a → a < b → b ≤ end → end ≤ length bytes → SpellsAll e (between bytes p a) → SpellsAll f (between bytes p b)
       → BeginsWith v (between bytes a end) rest → a + padded_length v ≤ b
   in_order e f p a b end v rest le less le' within se sf begins =
-      let (w, more, begins', next) = stands_at e f p a b end le less le' within se sf in
+      let (w, more, begins', next) = occurs_at e f p a b end le less le' within se sf in
       let same = ap padded_length (one_front (between bytes a end) v w rest more begins begins').0 in
       omega (arith, same, next)
 
@@ -266,7 +266,7 @@ module _ (d : Dictionary) (sound : IsDictionary d) (u : Unknown) (most : Levels)
   seen_group : (leaf : Option LeafState) (key : Key) (read : List ℕ) (v : PlainAvp) (e : DictEntry) (g : PlainDefinition)
       → key ≡ key_of v → HasSeen d leaf key read → known d (key_of v) ≡ Some e → e.group ≡ Some g → ⊥
   seen_group None key read v e g same seen is is_group = none-some e (sym seen ∙ ap (λ (k : Key). known d k) same ∙ is)
-  seen_group (Some state) key read v e g same (f, is_f, single, stands) is is_group =
+  seen_group (Some state) key read v e g same (f, is_f, single, occurs) is is_group =
       let one = same_Some f e (sym is_f ∙ ap (λ (k : Key). known d k) same ∙ is) in
       let some : IsSome e.group = subst (λ (x : Option PlainDefinition). IsSome x) (sym is_group) refl in
       single (ap (λ (x : DictEntry). x.format) one ∙ (grouped_at d sound u most v e is).1 some)
@@ -323,7 +323,7 @@ module _ (d : Dictionary) (sound : IsDictionary d) (u : Unknown) (most : Levels)
     reached = let r = h.reached in (omega (arith, r), omega (arith, r))
 
     to_end : o.innermost.end ≡ h.under_way.s.level.end
-    to_end = h.under_way.stands.innermost.is_end
+    to_end = h.under_way.occurs.innermost.is_end
 
     -- no AVP of which the head lies in what was read begins at the place
     not_here : (v : PlainAvp) (rest : List ℕ) → BeginsWith v (between bytes part.at h.under_way.s.level.end) rest → part.at + head_length v.vendor ≤ n → ⊥
@@ -371,7 +371,7 @@ module _ (d : Dictionary) (sound : IsDictionary d) (u : Unknown) (most : Levels)
             let round = rounded-le (avp_length v) in let r = reached.0 in omega (arith, next, round, to, place, r)
         by (inr (inl after)) =
             let room = (member_end bytes h.under_way.s.level e v at k.within m).0 in
-            let (w, rest, begins, next) = stands_at bytes h.under_way.s.earlier e
+            let (w, rest, begins, next) = occurs_at bytes h.under_way.s.earlier e
             h.under_way.s.level.start h.under_way.s.at at h.under_way.s.level.end k.from after (omega (arith, room)) k.within k.before m.before in
             let round = rounded-le (avp_length w) in
             not_at w rest begins (omega (arith, next, round, from))
@@ -392,6 +392,6 @@ module _ (d : Dictionary) (sound : IsDictionary d) (u : Unknown) (most : Levels)
 
   pub part_deepest : (part : Part) (n : ℕ) → IsInPart d u most bytes good o part n → (count : ℕ) → CountsOuter count → IsDeepest n count
   part_deepest (Head part) n h count is =
-      subst (IsDeepest n) (sym (is (map so_far h.under_way.rests) (so_far h.under_way.s) h.under_way.stands)) (head_deepest part n h (head_before d sound u most bytes good o part n h))
+      subst (IsDeepest n) (sym (is (map so_far h.under_way.rests) (so_far h.under_way.s) h.under_way.occurs)) (head_deepest part n h (head_before d sound u most bytes good o part n h))
   part_deepest (Data part) n (h, less) count is =
-      subst (IsDeepest n) (sym (is (map so_far h.under_way.rests) (and_key (so_far h.under_way.s) (key_of h.avp)) h.stands)) (data_deepest part n h less)
+      subst (IsDeepest n) (sym (is (map so_far h.under_way.rests) (and_key (so_far h.under_way.s) (key_of h.avp)) h.occurs)) (data_deepest part n h less)

@@ -23,15 +23,15 @@ use Rattle.dia_check.specs.declared.fault.Selected.{Selected}
 use Rattle.dia_check.specs.declared.fault.Refusal.{Refusal}
 use Rattle.dia_check.specs.declared.fault.Refusal.TheVariants as refusal
 use Rattle.dia_valid.specs.Valid.{known, IsValidOf}
-use Rattle.dia_check.specs.Faults.{Row, At, Spot, spot, IsBefore, IsWrong, Stands, HasGoodHeader, HasLength, IsFirst, IsTold, IsAnswer, simple}
+use Rattle.dia_check.specs.Faults.{Row, At, Spot, spot, IsBefore, IsWrong, Occurs, HasGoodHeader, HasLength, IsFirst, IsRecorded, IsAnswer, simple}
 use Rattle.dia_check.specs.Reasons.{row_of, code_of}
 use Rattle.dia_check.specs.Faults as faults
-use Rattle.dia_check.specs.Walks.{Found, Rest, behind, inside, whole, IsFine, IsFirstWrong, Walks, ended, missing, broken, wrong, leaf, group, bad_group}
+use Rattle.dia_check.specs.Walks.{Found, Rest, following, inside, whole, IsFine, IsFirstWrong, Walks, ended, missing, broken, wrong, leaf, group, bad_group}
 use Rattle.dia_valid.specs.Valid.{group_at}
-use Rattle.dia_check.proofs.FoundFaultsStand.{walks_stands}
+use Rattle.dia_check.proofs.FoundFaultsStand.{walks_occurs}
 use Rattle.dia_check.proofs.Uniqueness.{nat_cases, one_reason, found_at}
-use Rattle.dia_check.proofs.FirstFaults.{begun_room, StandsBehind, least}
-use Rattle.dia_check.proofs.FaultlessMessages.{head_size, valid_good, valid_stands, valid_command}
+use Rattle.dia_check.proofs.FirstFaults.{begun_room, OccursAfter, least}
+use Rattle.dia_check.proofs.FaultlessMessages.{head_size, valid_good, valid_occurs, valid_command}
 
 -- ---- any rest has a walk, but for a double negation
 
@@ -65,16 +65,16 @@ module _ (d : Dictionary) (u : Unknown) (most : Levels) where
   NoWalk s = (f : Option Found) → ¬ Walks d u most s f
 
   in_group : (s : Rest) (v : PlainAvp) (rest : List ℕ) (g : PlainDefinition) → NoWalk s → BeginsWith v s.bytes rest → IsFine d u most s v → group_at d v ≡ Some g
-      → ¬ NoWalk (behind s v rest) → (f : Option Found) → ¬ Walks d u most (inside s v g) f
+      → ¬ NoWalk (following s v rest) → (f : Option Found) → ¬ Walks d u most (inside s v g) f
   in_group s v rest g not_so begins fine is next None inner = next (λ f walk. not_so f (group v rest g begins fine is inner walk))
   in_group s v rest g not_so begins fine is next (Some h) inner = not_so (Some h) (bad_group v rest g h begins fine is inner refl)
 
   at_fine : (s : Rest) (v : PlainAvp) (rest : List ℕ) (o : Option PlainDefinition) → group_at d v ≡ o → NoWalk s → BeginsWith v s.bytes rest → IsFine d u most s v
-      → ¬ NoWalk (behind s v rest) → ((g : PlainDefinition) → ¬ NoWalk (inside s v g)) → ⊥
+      → ¬ NoWalk (following s v rest) → ((g : PlainDefinition) → ¬ NoWalk (inside s v g)) → ⊥
   at_fine s v rest None is not_so begins fine next inner = next (λ f walk. not_so f (leaf v rest begins fine is walk))
   at_fine s v rest (Some g) is not_so begins fine next inner = inner g (in_group s v rest g not_so begins fine is next)
 
-  at_avp : (s : Rest) (v : PlainAvp) (rest : List ℕ) → NoWalk s → BeginsWith v s.bytes rest → ¬ NoWalk (behind s v rest) → ((g : PlainDefinition) → ¬ NoWalk (inside s v g)) → ⊥
+  at_avp : (s : Rest) (v : PlainAvp) (rest : List ℕ) → NoWalk s → BeginsWith v s.bytes rest → ¬ NoWalk (following s v rest) → ((g : PlainDefinition) → ¬ NoWalk (inside s v g)) → ⊥
   at_avp s v rest not_so begins next inner =
       fine_at s v (known d (key_of v)) refl
       (λ r t. none_wrong s v (λ q w first. not_so (Some (found_at s.at q w)) (wrong v rest q w begins first refl)) (suc (row_of r)) r t (omega arith))
@@ -90,7 +90,7 @@ module _ (d : Dictionary) (u : Unknown) (most : Levels) where
       let room = begun_room d u most s v rest begins in
       let round = rounded-le (avp_length v) in
       at_avp s v rest not_so begins
-      (λ none. some_walk n (behind s v rest) (omega (arith, lt, room, round, at_least_8 v.vendor)) none)
+      (λ none. some_walk n (following s v rest) (omega (arith, lt, room, round, at_least_8 v.vendor)) none)
       (λ g none. some_walk n (inside s v g) (omega (arith, lt, room, round, at_least_8 v.vendor)) none))
 
 -- ---- what is decided is not doubly negated
@@ -146,11 +146,11 @@ module _ (d : Dictionary) (sound : IsDictionary d) (u : Unknown) (most : Levels)
 
   -- the first fault is what a walk finds
   is_found : (good : HasGoodHeader d bytes) (o : Option Found) → Walks d u most (whole good.command.rules bytes) o → (f : Fault) (first : IsFirst d u most bytes f) → o ≡ Some (found_of f first.row)
-  is_found good o walk f first = by (least d u most bytes good o walk (record { place = f.place; row = first.row }) f.reason f.subject first.stands)
+  is_found good o walk f first = by (least d u most bytes good o walk (record { place = f.place; row = first.row }) f.reason f.subject first.occurs)
     where
-      by : StandsBehind o (record { place = f.place; row = first.row }) f.reason f.subject → o ≡ Some (found_of f first.row)
+      by : OccursAfter o (record { place = f.place; row = first.row }) f.reason f.subject → o ≡ Some (found_of f first.row)
       by (h, is, inl later) =
-          absurd (first.none_before h.spot h.reason h.subject (walks_stands d sound u most bytes good h
+          absurd (first.none_before h.spot h.reason h.subject (walks_occurs d sound u most bytes good h
           (subst (λ (x : Option Found). Walks d u most (whole good.command.rules bytes) x) is walk)) later)
       by (h, is, inr same) = is ∙ ap (λ (x : Found). Some x) (sym same)
 
@@ -167,7 +167,7 @@ module _ (d : Dictionary) (sound : IsDictionary d) (u : Unknown) (most : Levels)
       (one_of_subjects f.subject g.subject (λ not_so. same (λ e. not_so (ap (λ (h : Found). h.subject) e))))
 
   -- a fault of the header, where the header isn't good
-  good_or_header : (other : Spot) (r : Reason) (t : Subject) → Stands d u most bytes other r t → HasGoodHeader d bytes ⊎ ((t ≡ Nothing) × (other.row ≡ At (row_of r)))
+  good_or_header : (other : Spot) (r : Reason) (t : Subject) → Occurs d u most bytes other r t → HasGoodHeader d bytes ⊎ ((t ≡ Nothing) × (other.row ≡ At (row_of r)))
   good_or_header other r t (faults.avp_length level earlier at looks from lt before none) = inl looks.good
   good_or_header other r t (faults.avp level earlier v at q w meets bad) = inl meets.looks.good
   good_or_header other r t (faults.missing_at_end level avps i rule looks spells first) = inl looks.good
@@ -178,12 +178,12 @@ module _ (d : Dictionary) (sound : IsDictionary d) (u : Unknown) (most : Levels)
   one_header_fault f g x y h k = by (nat_cases f.place g.place) (nat_cases (row_of f.reason) (row_of g.reason))
     where
       forth : ¬ IsBefore (record { place = f.place; row = At (row_of f.reason) }) (record { place = g.place; row = At (row_of g.reason) })
-      forth before = y.none_before (record { place = f.place; row = x.row }) f.reason f.subject x.stands
+      forth before = y.none_before (record { place = f.place; row = x.row }) f.reason f.subject x.occurs
           (subst (λ (a : Row). IsBefore (record { place = f.place; row = a }) (record { place = g.place; row = y.row })) (sym h.1)
           (subst (λ (b : Row). IsBefore (record { place = f.place; row = At (row_of f.reason) }) (record { place = g.place; row = b })) (sym k.1) before))
 
       back : ¬ IsBefore (record { place = g.place; row = At (row_of g.reason) }) (record { place = f.place; row = At (row_of f.reason) })
-      back before = x.none_before (record { place = g.place; row = y.row }) g.reason g.subject y.stands
+      back before = x.none_before (record { place = g.place; row = y.row }) g.reason g.subject y.occurs
           (subst (λ (a : Row). IsBefore (record { place = g.place; row = a }) (record { place = f.place; row = x.row })) (sym k.1)
           (subst (λ (b : Row). IsBefore (record { place = g.place; row = At (row_of g.reason) }) (record { place = f.place; row = b })) (sym h.1) before))
 
@@ -195,7 +195,7 @@ module _ (d : Dictionary) (sound : IsDictionary d) (u : Unknown) (most : Levels)
       by (inr (inr same)) (inr (inr e)) = same_fault f g same x.code y.code (one_reason f.reason g.reason e) (h.0 ∙ sym k.0)
 
   pub one_first : (f g : Fault) → IsFirst d u most bytes f → IsFirst d u most bytes g → f ≡ g
-  one_first f g x y = by (good_or_header (record { place = f.place; row = x.row }) f.reason f.subject x.stands) (good_or_header (record { place = g.place; row = y.row }) g.reason g.subject y.stands)
+  one_first f g x y = by (good_or_header (record { place = f.place; row = x.row }) f.reason f.subject x.occurs) (good_or_header (record { place = g.place; row = y.row }) g.reason g.subject y.occurs)
     where
       by : HasGoodHeader d bytes ⊎ ((f.subject ≡ Nothing) × (x.row ≡ At (row_of f.reason))) → HasGoodHeader d bytes ⊎ ((g.subject ≡ Nothing) × (y.row ≡ At (row_of g.reason))) → f ≡ g
       by (inl good) k = one_by_walk good f g x y
@@ -243,14 +243,14 @@ module _ (d : Dictionary) (sound : IsDictionary d) (u : Unknown) (most : Levels)
       let rest = all_aligned v.avps m.body m.is_body in
       record { long = says.0; version = says.1; is_length = sym says.2; sound = record { no_less = says.0; aligned = omega (arith, size, all, rest) } }
 
-  of_told : (f : Fault) → IsTold d u most bytes f → OfBytes (Err (refusal.Fault f))
-  of_told f (inl (long, other, is)) = inr (long, inl (other, ap (λ (x : Fault). Err (refusal.Fault x)) is))
-  of_told f (inr (inl (long, version, bad, is))) = inr (long, inr (version, inl (bad, ap (λ (x : Fault). Err (refusal.Fault x)) is)))
-  of_told f (inr (inr (h, first))) = sized (Err (refusal.Fault f)) (length bytes) h (inr (inr (h.is_length, inr (f, refl, first))))
+  of_recorded : (f : Fault) → IsRecorded d u most bytes f → OfBytes (Err (refusal.Fault f))
+  of_recorded f (inl (long, other, is)) = inr (long, inl (other, ap (λ (x : Fault). Err (refusal.Fault x)) is))
+  of_recorded f (inr (inl (long, version, bad, is))) = inr (long, inr (version, inl (bad, ap (λ (x : Fault). Err (refusal.Fault x)) is)))
+  of_recorded f (inr (inr (h, first))) = sized (Err (refusal.Fault f)) (length bytes) h (inr (inr (h.is_length, inr (f, refl, first))))
 
   of_answer : (a : Result Selected Refusal) → IsAnswer d u most bytes a → a ≢ Err refusal.NoMemory → OfBytes a
   of_answer (Ok found) v other = let h = valid_length found.def v in sized (Ok found) (length bytes) h (inr (inr (h.is_length, inl (found, refl, v))))
-  of_answer (Err (refusal.Fault f)) told other = of_told f told
+  of_answer (Err (refusal.Fault f)) recorded other = of_recorded f recorded
   of_answer (Err refusal.Truncated) (inl short) other = inl (short, refl)
   of_answer (Err refusal.Truncated) (inr (n, h, lt)) other = let is = h.is_length in sized (Err refusal.Truncated) n h (inl (omega (arith, is, lt), refl))
   of_answer (Err refusal.Trailing) (n, h, lt) other = let is = h.is_length in sized (Err refusal.Trailing) n h (inr (inl (omega (arith, is, lt), refl)))
@@ -260,8 +260,8 @@ module _ (d : Dictionary) (sound : IsDictionary d) (u : Unknown) (most : Levels)
   one_whole : (a b : Result Selected Refusal) → OfWhole a → OfWhole b → a ≡ b
   one_whole a b (inl (x, is, v)) (inl (y, is', w)) =
       is ∙ ap (λ (n : ℕ). Ok (record { def = n })) (valid_command d sound u most bytes y.def (valid_good d sound u most bytes x.def v) w) ∙ sym is'
-  one_whole a b (inl (x, is, v)) (inr (g, is', first)) = absurd (valid_stands d sound u most bytes x.def v (record { place = g.place; row = first.row }) g.reason g.subject first.stands)
-  one_whole a b (inr (f, is, first)) (inl (y, is', w)) = absurd (valid_stands d sound u most bytes y.def w (record { place = f.place; row = first.row }) f.reason f.subject first.stands)
+  one_whole a b (inl (x, is, v)) (inr (g, is', first)) = absurd (valid_occurs d sound u most bytes x.def v (record { place = g.place; row = first.row }) g.reason g.subject first.occurs)
+  one_whole a b (inr (f, is, first)) (inl (y, is', w)) = absurd (valid_occurs d sound u most bytes y.def w (record { place = f.place; row = first.row }) f.reason f.subject first.occurs)
   one_whole a b (inr (f, is, first)) (inr (g, is', first')) = is ∙ ap (λ (x : Fault). Err (refusal.Fault x)) (one_first f g first first') ∙ sym is'
 
   one_size : (a b : Result Selected Refusal) → OfSize a → OfSize b → a ≡ b

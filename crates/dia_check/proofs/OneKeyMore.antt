@@ -23,7 +23,7 @@ use Rattle.dia_check.specs.OpenLevels.{IsCounted, IsNotAllowed, Leads}
 use Rattle.dia_check.specs.declared.open_levels.OpenLevel.{OpenLevel}
 use Rattle.dia_check.specs.declared.open_levels.tally.Met.{Met}
 use Rattle.dia_valid.proofs.LongestRuns.{sum-cons, is_of-key}
-use Rattle.dia_valid.proofs.RunsOfOneKeyMore.{is_of, NoneFrom, Reaches, one_more, same_runs, behind_all, longer_run, in_run}
+use Rattle.dia_valid.proofs.RunsOfOneKeyMore.{is_of, NoneFrom, Reaches, one_more, same_runs, after_all, longer_run, in_run}
 use Rattle.dia_valid.proofs.RuleCounts.{met_fixed, met_longer, met_more, counts_key, fixed_place, all_at, reached, length-runs, sum-runs}
 use Rattle.dia_valid.proofs.Entries.{all_at as all_rules_at, at_position}
 use Rattle.dia_check.proofs.FaultlessFronts.{at_any, any_at, listed_of, into_fixed}
@@ -231,29 +231,29 @@ module _ (rules : List DRule) (are : AreRules rules) (keys : List Key) (key : Ke
       )
 
   -- what counts a key after the runs
-  abbrev CountsBehind : ℕ → Type 0
-  CountsBehind i = (i < length rules) × (¬ (IsTrue (is_listed (fixed_rules rules) key) ⊎ ((is_listed rules key ≡ false) × (has_wildcard rules ≡ false))))
+  abbrev CountsAfter : ℕ → Type 0
+  CountsAfter i = (i < length rules) × (¬ (IsTrue (is_listed (fixed_rules rules) key) ⊎ ((is_listed rules key ≡ false) × (has_wildcard rules ≡ false))))
       × ((j : ℕ) (other : DRule) → slice_get rules j ≡ Some other → (if is_fixed other then false else counts_key rules other key) ≡ (j == i))
 
-  leads_behind : (o : Option ℕ) → NoneFrom (fixed_rules rules) level.run key → ((i : ℕ) → o ≡ Some i → CountsBehind i)
+  leads_after : (o : Option ℕ) → NoneFrom (fixed_rules rules) level.run key → ((i : ℕ) → o ≡ Some i → CountsAfter i)
       → (o ≡ None → IsTrue (is_listed (fixed_rules rules) key) ⊎ ((is_listed rules key ≡ false) × (has_wildcard rules ≡ false)))
       → Leads rules keys key level.run shape.fixed o
-  leads_behind o none some_counts none_counts = subst (λ (n : ℕ). Leads rules keys key level.run n o) (sym is_shape.fixed) (record {
-    at = behind_all (fixed_rules rules) level.run keys key c.run none;
+  leads_after o none some_counts none_counts = subst (λ (n : ℕ). Leads rules keys key level.run n o) (sym is_shape.fixed) (record {
+    at = after_all (fixed_rules rules) level.run keys key c.run none;
     within = (omega arith, at_within (fixed_rules rules) level.run keys c.run);
     same_runs = λ j before. ap (λ (ns : List ℕ). slice_index ns j) same;
     passed = λ j from to. ap (λ (ns : List ℕ). sum (take (suc j) ns)) same ∙ all_to (fixed_rules rules) level.run j keys from (omega (arith, from, to)) c.run;
     not_passed = λ j from to. absurd (omega (arith, from, to));
     counts = λ i is. let (lt, allowed, each) = some_counts i is in
         (lt, (λ bad. allowed bad.1), λ j other at. by j other (is_fixed other) (j == i) (each j other at) (met_more rules level.run keys key j other c.run none));
-    counts_none = λ is. (behind, none_counts is);
+    counts_none = λ is. (following, none_counts is);
   })
     where
       same : runs (fixed_rules rules) (keys ++ key ∷ []) ≡ runs (fixed_rules rules) keys
       same = same_runs (fixed_rules rules) level.run keys key c.run none
 
-      behind : loose_start rules (keys ++ key ∷ []) ≤ length keys
-      behind = let e : loose_start rules (keys ++ key ∷ []) ≡ loose_start rules keys = ap (λ (ns : List ℕ). sum ns) same in omega (arith, e, sum-runs (fixed_rules rules) keys)
+      following : loose_start rules (keys ++ key ∷ []) ≤ length keys
+      following = let e : loose_start rules (keys ++ key ∷ []) ≡ loose_start rules keys = ap (λ (ns : List ℕ). sum ns) same in omega (arith, e, sum-runs (fixed_rules rules) keys)
 
       by : (j : ℕ) (other : DRule) (b one : Bool) → (if b then false else counts_key rules other key) ≡ one
           → met rules (keys ++ key ∷ []) j other ≡ (if b then met rules keys j other else met rules keys j other + count_by (counts_key rules other) (key ∷ []))
@@ -280,13 +280,13 @@ module _ (rules : List DRule) (are : AreRules rules) (keys : List Key) (key : Ke
   pub leads_past : (i : ℕ) → i < level.run → slot.Fixed i ≡ slot_of rules key → Leads rules keys key level.run shape.fixed None
   leads_past i lt e =
       let (r, at, fixed, lists) = fixed_slot rules key i e in
-      leads_behind None (none_listed (λ j q le at' fixed' lists'. let one = only_one j i q r at' lists' at lists in omega (arith, one, le, lt)))
+      leads_after None (none_listed (λ j q le at' fixed' lists'. let one = only_one j i q r at' lists' at lists in omega (arith, one, le, lt)))
       (λ k is. absurd (none-some k is)) (λ is. inl (at_any (lists_key key) (fixed_rules rules) i r (into_fixed rules i r are at fixed) lists))
 
   -- a loose rule counts it
   pub leads_loose : (i : ℕ) → slot.Loose i ≡ slot_of rules key → Leads rules keys key level.run shape.fixed (Some i)
-  leads_loose i e = leads_behind (Some i) (none_listed (λ j q le at fixed lists. not_fixed j q at fixed lists))
-      (λ k is. subst CountsBehind (same_Some i k is) counts_here) (λ none. absurd (none-some i (sym none)))
+  leads_loose i e = leads_after (Some i) (none_listed (λ j q le at fixed lists. not_fixed j q at fixed lists))
+      (λ k is. subst CountsAfter (same_Some i k is) counts_here) (λ none. absurd (none-some i (sym none)))
     where
       rule : IsRuleOf rules key i false
       rule = loose_slot rules key i e
@@ -325,7 +325,7 @@ module _ (rules : List DRule) (are : AreRules rules) (keys : List Key) (key : Ke
       by_kind j other at true false is same = refl
       by_kind j other at false one is same = by_wildcard j other at (is_wildcard other) (lists_key key other) one refl refl same
 
-      counts_here : CountsBehind i
+      counts_here : CountsAfter i
       counts_here = (slice_get_within rules i rule.0 rule.1, allowed, λ j other at. by_kind j other at (is_fixed other) (j == i) refl refl)
 
   no_key : (o : Option Key) → not (is_some o) ≡ true → o ≡ None
@@ -360,12 +360,12 @@ module _ (rules : List DRule) (are : AreRules rules) (keys : List Key) (key : Ke
     wild_kind j other at true false is same = refl
     wild_kind j other at false one is same = wild_each j other at (is_wildcard other) (lists_key key other) one refl refl same
 
-    wildcard_counts : CountsBehind i
+    wildcard_counts : CountsAfter i
     wildcard_counts = (slice_get_within rules i wild.0 wild.1, wild_allowed, λ j other at. wild_kind j other at (is_fixed other) (j == i) refl refl)
 
   -- the wildcard counts it, where there is one
   pub leads_unlisted : slot.Unlisted ≡ slot_of rules key → Leads rules keys key level.run shape.fixed shape.wildcard
-  leads_unlisted e = leads_behind shape.wildcard (none_listed (λ j q le at fixed lists. not_listed j q at lists))
+  leads_unlisted e = leads_after shape.wildcard (none_listed (λ j q le at fixed lists. not_listed j q at lists))
       (λ i is. wildcard_counts unlisted i (at_position is_wildcard rules i (sym is_shape.wildcard ∙ is))) (λ none. inr (unlisted, no_position is_wildcard rules (sym is_shape.wildcard ∙ none)))
     where
       unlisted : is_listed rules key ≡ false

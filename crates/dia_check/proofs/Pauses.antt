@@ -43,7 +43,7 @@ part_goes d u most bytes good o n (part.Data x) (piece.Data p) (part.Data y) pau
         is_end = h.0.is_end;
         is_next = h.0.is_next;
         admitted = h.0.admitted;
-        stands = h.0.stands;
+        occurs = h.0.occurs;
         from = h.0.from;
         seen = leaf_goes d x p y (take (n - (x.at + head_length h.0.avp.vendor)) h.0.avp.bytes) pause resume h.0.seen;
       },

@@ -24,7 +24,7 @@ use Rattle.dia_check.specs.Faults as faults
 use Rattle.dia_check.specs.OpenLevels.{missing, not_allowed, too_many}
 use Rattle.dia_check.specs.Admission.{IsRefused, unknown, m_bit, misplaced, IsFineData, IsWrongData, IsFineAvp, IsWrongAvp}
 use Rattle.dia_check.specs.UnderWay.{Owes}
-use Rattle.dia_check.specs.Walks.{Found, Rest, behind, inside, IsFine, IsFirstWrong, Walks, group, bad_group}
+use Rattle.dia_check.specs.Walks.{Found, Rest, following, inside, IsFine, IsFirstWrong, Walks, group, bad_group}
 use Rattle.dia_valid.specs.Valid.{group_at}
 use Rattle.dia_check.proofs.AvpFaults.{no_number}
 use Rattle.dia_data.proofs.Leaves.{leaf_fits}
@@ -40,7 +40,7 @@ module _ (d : Dictionary) (u : Unknown) (most : Levels) where
 
   -- a group that is entered
   pub Owes-entered : (rs : List Rest) (s : Rest) (v : PlainAvp) (rest : List ℕ) (g : PlainDefinition) (f : Option Found) → BeginsWith v s.bytes rest → IsFine d u most s v → group_at d v ≡ Some g
-      → Owes d u most (rs ++ behind s v rest ∷ []) (inside s v g) f → Owes d u most rs s f
+      → Owes d u most (rs ++ following s v rest ∷ []) (inside s v g) f → Owes d u most rs s f
   Owes-entered [] s v rest g f begins fine is (inl (inner, outer)) = group v rest g begins fine is inner outer
   Owes-entered [] s v rest g f begins fine is (inr (h, inner, same)) = bad_group v rest g h begins fine is inner same
   Owes-entered (r ∷ rs) s v rest g f begins fine is (inl (inner, outer)) = inl (Owes-entered rs s v rest g None begins fine is inner, outer)

@@ -16,7 +16,7 @@ use Rattle.dia_valid.specs.Valid.{IsValidOf}
 use Rattle.dia_check.specs.Faults.{HasGoodHeader, IsAnswer}
 use Rattle.dia_check.specs.Walks.{Walks, whole, IsFoundIn}
 use Rattle.dia_check.specs.Reading.{BeginsLevel, IsInPart, IsStop, LiesAt}
-use Rattle.dia_check.specs.Streaming.{is_sound, wanted, HoweverItEnds, IsReading, IsWholeAnswer, HasRead, HasReadUnless, MayRead, OpensBehind}
+use Rattle.dia_check.specs.Streaming.{is_sound, wanted, HoweverItEnds, IsReading, IsWholeAnswer, HasRead, HasReadUnless, MayRead, OpensAfter}
 use Rattle.dia_check.proofs.CheckAnswers.{walk_answers}
 use Rattle.dia_check.proofs.HeaderAnswers.{found_answers}
 use Rattle.dia_check.proofs.StreamMessages.{same_sound, same_wanted, however_on, ends_with_zeros, zeros_to_end, sized_end, part_within, whole_refusal}
@@ -132,8 +132,8 @@ module _ (d : Dictionary) (sound : IsDictionary d) (u : Unknown) (most : Levels)
           found_answers d sound u most (now ++ more) (sized_end now more long_now sound_now size) good e (found_in d u most (now ++ more) good _ e (stops (now ++ more) good part (lies_now more)))
 
       pub stops_reading : (stage : Stage) → ((e ≡ refusal.NoMemory) × (stage ≡ NoMemory)) ⊎ ((e ≢ refusal.NoMemory) × (stage ≡ Over (Err e)))
-          → HasReadUnless (OpensBehind d most from now) d u most now stage
-      stops_reading stage (inl (memory, is)) = subst (HasReadUnless (OpensBehind d most from now) d u most now) (sym is) (
+          → HasReadUnless (OpensAfter d most from now) d u most now stage
+      stops_reading stage (inl (memory, is)) = subst (HasReadUnless (OpensAfter d most from now) d u most now) (sym is) (
         sound_now,
         λ more size.
             let (good, same, part) = reading_now more size in (
@@ -142,7 +142,7 @@ module _ (d : Dictionary) (sound : IsDictionary d) (u : Unknown) (most : Levels)
                   (subst (IsStop d u most (now ++ more) good (BeginsLevel d most (now ++ more) from (from + length piece))) memory (stops (now ++ more) good part (lies_now more))),
             ),
       )
-      stops_reading stage (inr (ne, is)) = subst (HasReadUnless (OpensBehind d most from now) d u most now) (sym is) (
+      stops_reading stage (inr (ne, is)) = subst (HasReadUnless (OpensAfter d most from now) d u most now) (sym is) (
         long_now,
         whole_refusal d u most (now ++ zeros_to_end now) (length now)
             (wanted now) e ne (sized_end now (zeros_to_end now) long_now sound_now end_now) (answers (zeros_to_end now) end_now),

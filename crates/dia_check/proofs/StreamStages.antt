@@ -18,7 +18,7 @@ use Rattle.dia_check.specs.Front.{front_bytes}
 use Rattle.dia_check.specs.Levels.{IsOpen, filled}
 use Rattle.dia_check.specs.Levels as levels
 use Rattle.dia_check.specs.Reading.{BeginsLevel}
-use Rattle.dia_check.specs.Streaming.{is_sound, wanted, taken_of, BeginsGood, Takes, OpensLevel, HasRead, HasReadUnless, HasTaken, IsSpentStage, IsStage, MayRead, OpensBehind}
+use Rattle.dia_check.specs.Streaming.{is_sound, wanted, taken_of, BeginsGood, Takes, OpensLevel, HasRead, HasReadUnless, HasTaken, IsSpentStage, IsStage, MayRead, OpensAfter}
 use Rattle.dia_check.proofs.StreamMessages.{short_wants, sound_wants, unsound_wants, same_sound, same_wanted, sound_length, however_on, zeros_to_end, ends_with_zeros}
 use Rattle.dia_check.proofs.HeadsInPieces.{prefix}
 
@@ -131,7 +131,7 @@ body_begins d most bytes more short long good = record {
   header = good;
   level = record { rules = good.command.rules; start = 20; end = length (filled (bytes ++ more)); depth = 0 };
   is_open = levels.body good.c good.command (record { header = good.header; head = good.is_header; select = good.select; is_command = good.is_command });
-  behind = short;
+  following = short;
   within = long;
 }
 
@@ -140,11 +140,11 @@ module _ (d : Dictionary) (most : Levels) (bytes piece : List ℕ) (k : ℕ) whe
   abbrev start : List ℕ
   start = bytes ++ take k piece
 
-  abbrev behind : List ℕ
-  behind = take (wanted start - length start) (drop k piece)
+  abbrev following : List ℕ
+  following = take (wanted start - length start) (drop k piece)
 
-  parts : start ++ behind ≡ bytes ++ (take k piece ++ behind)
-  parts = append_assoc bytes (take k piece) behind
+  parts : start ++ following ≡ bytes ++ (take k piece ++ following)
+  parts = append_assoc bytes (take k piece) following
 
   module _ (short : length bytes < 20) (size : length start ≡ 20) (good : BeginsGood d start) where
     long : 20 ≤ length start
@@ -153,30 +153,30 @@ module _ (d : Dictionary) (most : Levels) (bytes piece : List ℕ) (k : ℕ) whe
     start_within : length start ≤ wanted start
     start_within = let least = least_wanted start in omega (arith, size, least)
 
-    is_taken : taken_of (bytes ++ piece) ≡ start ++ behind
+    is_taken : taken_of (bytes ++ piece) ≡ start ++ following
     is_taken = ap taken_of (sym (rest_of bytes piece k)) ∙ taken_begins start (drop k piece) long start_within
 
-    is_behind : take k piece ++ behind ≡ drop (length bytes) (taken_of (bytes ++ piece))
-    is_behind = sym (drop-append_seam bytes (take k piece ++ behind)) ∙ ap (drop (length bytes)) (sym parts ∙ sym is_taken)
+    is_after : take k piece ++ following ≡ drop (length bytes) (taken_of (bytes ++ piece))
+    is_after = sym (drop-append_seam bytes (take k piece ++ following)) ∙ ap (drop (length bytes)) (sym parts ∙ sym is_taken)
 
-    whole_size : length (start ++ behind) ≡ length start + length behind
-    whole_size = length-append start behind
+    whole_size : length (start ++ following) ≡ length start + length following
+    whole_size = length-append start following
 
-    whole_within : length (start ++ behind) ≤ wanted (start ++ behind)
+    whole_within : length (start ++ following) ≤ wanted (start ++ following)
     whole_within =
-        let s = whole_size in let l = length-take (wanted start - length start) (drop k piece) in let w = same_wanted start behind long in
+        let s = whole_size in let l = length-take (wanted start - length start) (drop k piece) in let w = same_wanted start following long in
         omega (arith, s, l, w, start_within)
 
-    whole_wants : wanted (start ++ behind) ≡ number (take 3 (drop 1 (start ++ behind)))
-    whole_wants = sound_wants (start ++ behind) (let s = whole_size in omega (arith, long, s)) (same_sound start behind long ∙ good.1)
+    whole_wants : wanted (start ++ following) ≡ number (take 3 (drop 1 (start ++ following)))
+    whole_wants = sound_wants (start ++ following) (let s = whole_size in omega (arith, long, s)) (same_sound start following long ∙ good.1)
 
-    whole_good : HasGoodHeader d (filled (start ++ behind))
-    whole_good = subst (HasGoodHeader d) (ap (λ (n : ℕ). (start ++ behind) ++ replicate (n - length (start ++ behind)) 0) whole_wants)
-        (however_on (HasGoodHeader d) start behind long good.2 (zeros_to_end (start ++ behind)) (ends_with_zeros (start ++ behind) whole_within))
+    whole_good : HasGoodHeader d (filled (start ++ following))
+    whole_good = subst (HasGoodHeader d) (ap (λ (n : ℕ). (start ++ following) ++ replicate (n - length (start ++ following)) 0) whole_wants)
+        (however_on (HasGoodHeader d) start following long good.2 (zeros_to_end (start ++ following)) (ends_with_zeros (start ++ following) whole_within))
 
     pub start_opens : OpensLevel d most bytes (drop (length bytes) (taken_of (bytes ++ piece)))
-    start_opens = subst (OpensLevel d most bytes) is_behind
-        (body_begins d most bytes (take k piece ++ behind) short (let s = whole_size in let e = ap length parts in omega (arith, long, s, e))
+    start_opens = subst (OpensLevel d most bytes) is_after
+        (body_begins d most bytes (take k piece ++ following) short (let s = whole_size in let e = ap length parts in omega (arith, long, s, e))
         (subst (λ (t : List ℕ). HasGoodHeader d (filled t)) parts whole_good))
 
 -- a level that begins after more bytes begins after fewer
@@ -201,7 +201,7 @@ module _ (d : Dictionary) (most : Levels) (a b rest : List ℕ) where
       header = subst (λ (t : List ℕ). HasGoodHeader d (filled t)) joined opens.header;
       level = opens.level;
       is_open = subst (λ (t : List ℕ). IsOpen d most (filled t) opens.level) joined opens.is_open;
-      behind = (let s = length-append a b in let less = opens.behind in omega (arith, s, less));
+      following = (let s = length-append a b in let less = opens.following in omega (arith, s, less));
       within = subst (λ (t : List ℕ). opens.level.start ≤ length t) joined opens.within;
     })
 
@@ -270,12 +270,12 @@ module _ (front after : Front) (piece : List ℕ) (more : front_bytes after ≡ 
 
 -- ---- bytes after the header
 
-pub behind_header : (d : Dictionary) (u : Unknown) (most : Levels) (taken all : ℕ) (stage : Stage) (bytes : List ℕ) → ((front : Front) → stage ≢ Header front) → ¬ IsSpentStage stage
+pub after_header : (d : Dictionary) (u : Unknown) (most : Levels) (taken all : ℕ) (stage : Stage) (bytes : List ℕ) → ((front : Front) → stage ≢ Header front) → ¬ IsSpentStage stage
     → HasTaken d u most taken all stage bytes → 20 ≤ taken
-behind_header d u most taken all (Header front) bytes none live h = absurd (none front refl)
-behind_header d u most taken all (InBody body) bytes none live h = let (long, is, less, however) = h.read in let c = h.count in omega (arith, long, c)
-behind_header d u most taken all (Over answer) bytes none live h = let (long, whole, however) = h.read in let c = h.count in omega (arith, long, c)
-behind_header d u most taken all NoMemory bytes none live h = absurd (live tt)
+after_header d u most taken all (Header front) bytes none live h = absurd (none front refl)
+after_header d u most taken all (InBody body) bytes none live h = let (long, is, less, however) = h.read in let c = h.count in omega (arith, long, c)
+after_header d u most taken all (Over answer) bytes none live h = let (long, whole, however) = h.read in let c = h.count in omega (arith, long, c)
+after_header d u most taken all NoMemory bytes none live h = absurd (live tt)
 
 module _ (d : Dictionary) (u : Unknown) (most : Levels) (taken all : ℕ) (old : Stage) (bytes piece : List ℕ) (h : HasTaken d u most taken all old bytes) where
   pub taken_within : taken ≤ all
@@ -314,12 +314,12 @@ module _ (d : Dictionary) (u : Unknown) (most : Levels) (taken all : ℕ) (old :
         read = unless_read Memory d u most (bytes ++ take n piece) stage live reads;
       }
 
-    pub body_opens : (n < length piece → all - taken ≤ n) → OpensBehind d most taken (bytes ++ take n piece) → OpensLevel d most bytes (drop (length bytes) (taken_of (bytes ++ piece)))
+    pub body_opens : (n < length piece → all - taken ≤ n) → OpensAfter d most taken (bytes ++ take n piece) → OpensLevel d most bytes (drop (length bytes) (taken_of (bytes ++ piece)))
     body_opens least (is, however) = subst (OpensLevel d most bytes) rest (record {
       header = subst (HasGoodHeader d) fills there.0;
       level = begins.level;
       is_open = subst (λ (t : List ℕ). IsOpen d most t begins.level) fills begins.is_open;
-      behind = (let b = begins.behind in let c = h.count in omega (arith, b, c));
+      following = (let b = begins.following in let c = h.count in omega (arith, b, c));
       within = begins.within;
     })
       where

@@ -10,7 +10,7 @@ use Rattle.std.proofs.lemmas.List.{take-append-drop, take_all, length-drop, leng
 use Rattle.std.proofs.lemmas.List.Edits.{length-insert}
 use Rattle.std.proofs.lemmas.Option.{none-some, same_Some, slice_get_within}
 use Rattle.dia_check.specs.declared.open_levels.tally.Met.{Met}
-use Rattle.dia_check.specs.Tallies.{count_in, never, unmet, AreRising, AreBelow, HasPlaceFor, IsPlaceOf, IsTold}
+use Rattle.dia_check.specs.Tallies.{count_in, never, unmet, AreRising, AreBelow, HasPlaceFor, IsPlaceOf, IsRecorded}
 
 -- ---- one count
 
@@ -31,10 +31,10 @@ count_before rule from (m ∷ tally) (le, rising) lt =
     count_other m tally rule (λ e. omega (arith, e, le, lt)) ∙ count_before rule (m.rule + 1) tally rising (omega (arith, le, lt))
 
 -- a rule after the first ones
-pub count_behind : (front tally : List Met) (to rule : ℕ) → AreBelow to front → to ≤ rule → count_in (front ++ tally) rule ≡ count_in tally rule
-count_behind [] tally to rule below le = refl
-count_behind (m ∷ front) tally to rule (lt, below) le =
-    count_other m (front ++ tally) rule (λ e. omega (arith, e, lt, le)) ∙ count_behind front tally to rule below le
+pub count_after : (front tally : List Met) (to rule : ℕ) → AreBelow to front → to ≤ rule → count_in (front ++ tally) rule ≡ count_in tally rule
+count_after [] tally to rule below le = refl
+count_after (m ∷ front) tally to rule (lt, below) le =
+    count_other m (front ++ tally) rule (λ e. omega (arith, e, lt, le)) ∙ count_after front tally to rule below le
 
 count_front : (front old new : List Met) (rule : ℕ) → count_in old rule ≡ count_in new rule → count_in (front ++ old) rule ≡ count_in (front ++ new) rule
 count_front [] old new rule e = e
@@ -50,12 +50,12 @@ rising_front : (from to : ℕ) (front old new : List Met) → AreRising from (fr
 rising_front from to [] old new rising below le more = rising_less from to new le more
 rising_front from to (m ∷ front) old new (above, rising) (lt, below) le more = (above, rising_front (m.rule + 1) to front old new rising below (omega (arith, lt)) more)
 
-pub rising_behind : (from : ℕ) (front tally : List Met) → AreRising from (front ++ tally) → AreRising 0 tally
-rising_behind from [] tally rising = rising_less 0 from tally (omega arith) rising
-rising_behind from (m ∷ front) tally (above, rising) = rising_behind (m.rule + 1) front tally rising
+pub rising_after : (from : ℕ) (front tally : List Met) → AreRising from (front ++ tally) → AreRising 0 tally
+rising_after from [] tally rising = rising_less 0 from tally (omega arith) rising
+rising_after from (m ∷ front) tally (above, rising) = rising_after (m.rule + 1) front tally rising
 
 pub rising_drop : (n : ℕ) (tally : List Met) → AreRising 0 tally → AreRising 0 (drop n tally)
-rising_drop n tally rising = rising_behind 0 (take n tally) (drop n tally) (subst (AreRising 0) (sym (take-append-drop n tally)) rising)
+rising_drop n tally rising = rising_after 0 (take n tally) (drop n tally) (subst (AreRising 0) (sym (take-append-drop n tally)) rising)
 
 pub rising_prop : (from : ℕ) (tally : List Met) → IsProp (AreRising from tally)
 rising_prop from [] = λ a b. refl
@@ -124,9 +124,9 @@ pub record IsMore (to more : ℕ) (old new : List Met) (rule : ℕ) : Type 0 whe
 module _ (to more rule : ℕ) (tally : List Met) (rising : AreRising 0 tally) (below : AreBelow to tally) (m : Met) (same : m.rule ≡ rule) (few : rule < to) where
   parted : (front old rest : List Met) → tally ≡ front ++ old → AreBelow rule front → AreRising (rule + 1) rest → AreBelow to rest
       → ((j : ℕ) → j ≢ rule → count_in old j ≡ count_in rest j) → m.count ≡ count_in tally rule + more → IsMore to more tally (front ++ m ∷ rest) rule
-  parted front old rest parts first behind last others count = record {
+  parted front old rest parts first following last others count = record {
     rising = rising_front 0 rule front old (m ∷ rest) (subst (AreRising 0) parts rising) first (omega arith)
-        (omega (arith, same), subst (λ (n : ℕ). AreRising (n + 1) rest) (sym same) behind);
+        (omega (arith, same), subst (λ (n : ℕ). AreRising (n + 1) rest) (sym same) following);
     below = below_join to front (m ∷ rest) (below_parts to front old (subst (AreBelow to) parts below)).0 (omega (arith, same, few), last);
     counts = λ j. by j (j == rule) refl;
   }
@@ -134,7 +134,7 @@ module _ (to more rule : ℕ) (tally : List Met) (rising : AreRising 0 tally) (b
       by : (j : ℕ) (b : Bool) → (j == rule) ≡ b → count_in (front ++ m ∷ rest) j ≡ count_in tally j + (if b then more else 0)
       by j true e =
           let here : j ≡ rule = eqb-true j rule e in
-          let now = count_behind front (m ∷ rest) rule j first (omega (arith, here)) ∙ count_here m rest j (same ∙ sym here) in
+          let now = count_after front (m ∷ rest) rule j first (omega (arith, here)) ∙ count_here m rest j (same ∙ sym here) in
           now ∙ count ∙ ap (λ (n : ℕ). count_in tally n + more) (sym here)
       by j false e =
           let other : j ≢ rule = λ p. both_ways (j == rule) e (eq-eqb j rule p) in
@@ -142,39 +142,39 @@ module _ (to more rule : ℕ) (tally : List Met) (rising : AreRising 0 tally) (b
           let before = ap (λ (t : List Met). count_in t j) parts in
           omega (arith, now, before)
 
-  pub told_more : (i : ℕ) (q : Met) → IsPlaceOf tally rule i → slice_get tally i ≡ Some q → q.rule ≡ rule → m.count ≡ count_in tally rule + more
+  pub recorded_more : (i : ℕ) (q : Met) → IsPlaceOf tally rule i → slice_get tally i ≡ Some q → q.rule ≡ rule → m.count ≡ count_in tally rule + more
       → IsMore to more tally (set tally i m) rule
-  told_more i q place at is count =
+  recorded_more i q place at is count =
       let here = drop_at tally i q at in
-      let rest = (subst (AreRising rule) here place.behind).1 in
+      let rest = (subst (AreRising rule) here place.following).1 in
       let last = (below_parts to (take i tally) (q ∷ drop (suc i) tally) (subst (AreBelow to) (sym (take-append-drop i tally) ∙ ap (λ (t : List Met). take i tally ++ t) here) below)).1 in
       subst (λ (t : List Met). IsMore to more tally t rule) (sym (set_parts tally i m (slice_get_within tally i q at)))
       (parted (take i tally) (q ∷ drop (suc i) tally) (drop (suc i) tally) (sym (take-append-drop i tally) ∙ ap (λ (t : List Met). take i tally ++ t) here) place.before
       (subst (λ (n : ℕ). AreRising (n + 1) (drop (suc i) tally)) is rest) last.1
       (λ j other. count_other q (drop (suc i) tally) j (λ e. other (sym e ∙ is))) count)
 
-  pub told_first : (i : ℕ) → IsPlaceOf tally rule i → AreRising (rule + 1) (drop i tally) → m.count ≡ count_in tally rule + more → IsMore to more tally (insert tally i m) rule
-  told_first i place behind count =
+  pub recorded_first : (i : ℕ) → IsPlaceOf tally rule i → AreRising (rule + 1) (drop i tally) → m.count ≡ count_in tally rule + more → IsMore to more tally (insert tally i m) rule
+  recorded_first i place following count =
       let last = (below_parts to (take i tally) (drop i tally) (subst (AreBelow to) (sym (take-append-drop i tally)) below)).1 in
-      parted (take i tally) (drop i tally) (drop i tally) (sym (take-append-drop i tally)) place.before behind last (λ j other. refl) count
+      parted (take i tally) (drop i tally) (drop i tally) (sym (take-append-drop i tally)) place.before following last (λ j other. refl) count
 
 pub no_count : (tally : List Met) (rule i : ℕ) → IsPlaceOf tally rule i → AreRising (rule + 1) (drop i tally) → count_in tally rule ≡ 0
-no_count tally rule i place behind =
-    ap (λ (t : List Met). count_in t rule) (sym (take-append-drop i tally)) ∙ count_behind (take i tally) (drop i tally) rule rule place.before (omega arith)
-    ∙ count_before rule (rule + 1) (drop i tally) behind (omega arith)
+no_count tally rule i place following =
+    ap (λ (t : List Met). count_in t rule) (sym (take-append-drop i tally)) ∙ count_after (take i tally) (drop i tally) rule rule place.before (omega arith)
+    ∙ count_before rule (rule + 1) (drop i tally) following (omega arith)
 
 -- where the rule isn't recorded at its place, only later ones follow
-pub behind_more : (tally : List Met) (place rule : ℕ) → AreRising rule (drop place tally) → ((m : Met) → slice_get tally place ≡ Some m → m.rule ≢ rule) → AreRising (rule + 1) (drop place tally)
-behind_more [] zero rule rising other = tt
-behind_more [] (suc place) rule rising other = tt
-behind_more (m ∷ tally) zero rule (above, rising) other = (omega (arith, above, other m refl), rising)
-behind_more (m ∷ tally) (suc place) rule rising other = behind_more tally place rule rising other
+pub after_more : (tally : List Met) (place rule : ℕ) → AreRising rule (drop place tally) → ((m : Met) → slice_get tally place ≡ Some m → m.rule ≢ rule) → AreRising (rule + 1) (drop place tally)
+after_more [] zero rule rising other = tt
+after_more [] (suc place) rule rising other = tt
+after_more (m ∷ tally) zero rule (above, rising) other = (omega (arith, above, other m refl), rising)
+after_more (m ∷ tally) (suc place) rule rising other = after_more tally place rule rising other
 
 pub room_for : (tally : List Met) (many rule place : ℕ) → AreRising 0 tally → AreBelow many tally → rule < many → IsPlaceOf tally rule place → AreRising (rule + 1) (drop place tally)
     → length tally < many
-room_for tally many rule place rising below one is behind =
-    let none : 0 ≡ count_in tally rule + 0 = let e = no_count tally rule place is behind in omega (arith, e) in
-    let more = told_first many 0 rule tally rising below (never rule) refl one place is behind none in
+room_for tally many rule place rising below one is following =
+    let none : 0 ≡ count_in tally rule + 0 = let e = no_count tally rule place is following in omega (arith, e) in
+    let more = recorded_first many 0 rule tally rising below (never rule) refl one place is following none in
     let size = rising_size 0 many (insert tally place (never rule)) more.rising more.below (omega arith) in
     let longer = length-insert tally place (never rule) is.within in
     omega (arith, size, longer)
@@ -187,7 +187,7 @@ inserted_at (q ∷ tally) (suc i) m le = inserted_at tally i m (omega (arith, le
 -- the count of a rule that is found
 pub found_count : (tally : List Met) (rule i : ℕ) (m : Met) → IsPlaceOf tally rule i → slice_get tally i ≡ Some m → m.rule ≡ rule → count_in tally rule ≡ m.count
 found_count tally rule i m place at same =
-    ap (λ (t : List Met). count_in t rule) (sym (take-append-drop i tally)) ∙ count_behind (take i tally) (drop i tally) rule rule place.before (omega arith)
+    ap (λ (t : List Met). count_in t rule) (sym (take-append-drop i tally)) ∙ count_after (take i tally) (drop i tally) rule rule place.before (omega arith)
     ∙ ap (λ (t : List Met). count_in t rule) (drop_at tally i m at) ∙ count_here m (drop (suc i) tally) rule same
 
 -- ---- the place of a rule
@@ -211,14 +211,14 @@ pub place_here : (tally : List Met) (rule i : ℕ) (m : Met) → AreRising 0 tal
 place_here tally rule i m rising at same = record {
   within = let lt = slice_get_within tally i m at in omega (arith, lt);
   before = subst (λ (n : ℕ). AreBelow n (take i tally)) same (below_at 0 i tally m rising at);
-  behind = subst (AreRising rule) (sym (drop_at tally i m at)) (omega (arith, same), (subst (AreRising 0) (drop_at tally i m at) (rising_drop i tally rising)).1);
+  following = subst (AreRising rule) (sym (drop_at tally i m at)) (omega (arith, same), (subst (AreRising 0) (drop_at tally i m at) (rising_drop i tally rising)).1);
 }
 
 pub place_end : (tally : List Met) (rule : ℕ) (m : Met) → AreRising 0 tally → slice_get tally (length tally - 1) ≡ Some m → m.rule < rule → IsPlaceOf tally rule (length tally)
 place_end tally rule m rising at lt = record {
   within = omega arith;
   before = subst (AreBelow rule) (sym (take_all (length tally) tally (omega arith))) all_below;
-  behind = subst (AreRising rule) (sym (drop-length tally)) tt;
+  following = subst (AreRising rule) (sym (drop-length tally)) tt;
 }
   where
     inside : length tally - 1 < length tally
@@ -261,7 +261,7 @@ pub place_parted : (tally : List Met) (rule i : ℕ) → AreRising 0 tally → i
 place_parted tally rule i rising le point = record {
   within = le;
   before = below_take tally i rule (λ k d lt. ltb-true (get_or tally k d).rule rule (point.0 k d (omega arith) lt));
-  behind = rising_parted tally i rule 0 rising (λ d lt. ltb-false (get_or tally i d).rule rule (point.1 i d (omega arith) lt));
+  following = rising_parted tally i rule 0 rising (λ d lt. ltb-false (get_or tally i d).rule rule (point.1 i d (omega arith) lt));
 }
 
 -- what is recorded from a rule on
@@ -269,7 +269,7 @@ pub same_from : (tally : List Met) (rule place i : ℕ) → IsPlaceOf tally rule
 same_from tally rule place i is le =
     let size = length-drop place tally in
     ap (λ (t : List Met). count_in t i) (take_all (length tally - place) (drop place tally) (omega (arith, size)))
-    ∙ sym (count_behind (take place tally) (drop place tally) rule i is.before le) ∙ ap (λ (t : List Met). count_in t i) (take-append-drop place tally)
+    ∙ sym (count_after (take place tally) (drop place tally) rule i is.before le) ∙ ap (λ (t : List Met). count_in t i) (take-append-drop place tally)
 
 pub rising_from : (tally : List Met) (place : ℕ) → AreRising 0 tally → AreRising 0 (take (length tally - place) (drop place tally))
 rising_from tally place rising =
@@ -337,39 +337,39 @@ none_more : (b : Bool) (n : ℕ) → n + (if b then 0 else 0) ≡ n
 none_more true n = omega arith
 none_more false n = omega arith
 
-pub stands_told : (tallies : List Met) (capacity base many rule i : ℕ) (m : Met) → HasPlaceFor tallies capacity base many rule → slice_get (drop base tallies) i ≡ Some m → m.rule ≡ rule
-    → IsTold tallies tallies base many rule (base + i)
-stands_told tallies capacity base many rule i m h at same = record {
-  behind = i;
+pub occurs_recorded : (tallies : List Met) (capacity base many rule i : ℕ) (m : Met) → HasPlaceFor tallies capacity base many rule → slice_get (drop base tallies) i ≡ Some m → m.rule ≡ rule
+    → IsRecorded tallies tallies base many rule (base + i)
+occurs_recorded tallies capacity base many rule i m h at same = record {
+  following = i;
   is_place = refl;
   front = refl;
   rising = h.rising;
   below = h.below;
   counts = λ j. refl;
   place_of = place_here (drop base tallies) rule i m h.rising at same;
-  told = m;
+  recorded = m;
   at = at;
   same = same;
 }
 
-pub newly_told : (tallies new : List Met) (capacity base many rule i : ℕ) → HasPlaceFor tallies capacity base many rule → IsPlaceOf (drop base tallies) rule i
-    → AreRising (rule + 1) (drop i (drop base tallies)) → new ≡ insert tallies (base + i) (never rule) → IsTold tallies new base many rule (base + i)
-newly_told tallies new capacity base many rule i h place behind is =
+pub newly_recorded : (tallies new : List Met) (capacity base many rule i : ℕ) → HasPlaceFor tallies capacity base many rule → IsPlaceOf (drop base tallies) rule i
+    → AreRising (rule + 1) (drop i (drop base tallies)) → new ≡ insert tallies (base + i) (never rule) → IsRecorded tallies new base many rule (base + i)
+newly_recorded tallies new capacity base many rule i h place following is =
     let tally = drop base tallies in
     let parts = is ∙ insert_from tallies base i (never rule) h.low in
     let part = ap (λ (t : List Met). drop base t) parts ∙ written_part tallies (insert tally i (never rule)) base h.low in
-    let none : 0 ≡ count_in tally rule + 0 = let e = no_count tally rule i place behind in omega (arith, e) in
-    let more = told_first many 0 rule tally h.rising h.below (never rule) refl h.one i place behind none in
+    let none : 0 ≡ count_in tally rule + 0 = let e = no_count tally rule i place following in omega (arith, e) in
+    let more = recorded_first many 0 rule tally h.rising h.below (never rule) refl h.one i place following none in
     let at = inserted_at tally i (never rule) place.within in
     record {
-      behind = i;
+      following = i;
       is_place = refl;
       front = ap (λ (t : List Met). take base t) parts ∙ written_front tallies (insert tally i (never rule)) base h.low;
       rising = subst (AreRising 0) (sym part) more.rising;
       below = subst (AreBelow many) (sym part) more.below;
       counts = λ j. ap (λ (t : List Met). count_in t j) part ∙ more.counts j ∙ none_more (j == rule) (count_in tally j);
       place_of = subst (λ (t : List Met). IsPlaceOf t rule i) (sym part) (place_here (insert tally i (never rule)) rule i (never rule) more.rising at refl);
-      told = never rule;
+      recorded = never rule;
       at = ap (λ (t : List Met). slice_get t i) part ∙ at;
       same = refl;
     }

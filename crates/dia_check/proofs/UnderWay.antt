@@ -23,14 +23,14 @@ use Rattle.dia_check.specs.Reasons.{code_of}
 use Rattle.dia_check.specs.Faults.{subject_of, spot, End, HasGoodHeader}
 use Rattle.dia_check.specs.OpenLevels.{SoFar, begun, and_key, AreOpen, IsMetAtEnd, IsMissingAtEnd}
 use Rattle.dia_check.specs.Admission.{IsFineAvp, IsWrongAvp}
-use Rattle.dia_check.specs.Walks.{Found, Rest, behind, inside, whole, fault_of, IsFoundIn, IsFine, Walks, ended, broken, wrong, leaf, group}
+use Rattle.dia_check.specs.Walks.{Found, Rest, following, inside, whole, fault_of, IsFoundIn, IsFine, Walks, ended, broken, wrong, leaf, group}
 use Rattle.dia_valid.specs.Valid.{group_at}
 use Rattle.dia_check.specs.Walks as walks
 use Rattle.dia_check.proofs.FaultlessLevels.{more_keys, opens}
 use Rattle.dia_check.proofs.Uniqueness.{begins_some}
 use Rattle.dia_check.proofs.FirstFaults.{begun_room}
 use Rattle.dia_check.specs.UnderWay.{so_far, Owes, IsRestAt, AreNested, IsUnderWay}
-use Rattle.dia_check.proofs.FoundFaultsStand.{lies_behind, lies_inside, body_lies}
+use Rattle.dia_check.proofs.FoundFaultsStand.{lies_after, lies_inside, body_lies}
 use Rattle.dia_check.proofs.KeptLevels.{kept_many}
 use Rattle.dia_check.proofs.RestOfLevels.{Owes-passed, Owes-entered, Owes-done, Owes-found, is_fine, group_is, no_group, first_wrong}
 
@@ -81,9 +81,9 @@ module _ (d : Dictionary) (u : Unknown) (most : Levels) (bytes : List ℕ) (good
 
   -- ---- one AVP more
 
-  rest_behind : (s : Rest) (v : PlainAvp) (rest : List ℕ) (k n : ℕ) → BeginsWith v s.bytes rest → IsRestAt d u most bytes good k n s → IsRestAt d u most bytes good k n (behind s v rest)
-  rest_behind s v rest k n begins h = record {
-    lies = lies_behind d u most bytes good s v rest h.lies begins;
+  rest_after : (s : Rest) (v : PlainAvp) (rest : List ℕ) (k n : ℕ) → BeginsWith v s.bytes rest → IsRestAt d u most bytes good k n s → IsRestAt d u most bytes good k n (following s v rest)
+  rest_after s v rest k n begins h = record {
+    lies = lies_after d u most bytes good s v rest h.lies begins;
     deep = h.deep;
     ends = h.ends;
     aligned = let a = h.aligned in omega (arith, a);
@@ -96,7 +96,7 @@ module _ (d : Dictionary) (u : Unknown) (most : Levels) (bytes : List ℕ) (good
 
 module _ (d : Dictionary) (sound : IsDictionary d) (u : Unknown) (most : Levels) (bytes : List ℕ) (good : HasGoodHeader d bytes) where
   rest_inside : (s : Rest) (v : PlainAvp) (rest : List ℕ) (g : PlainDefinition) (k n : ℕ) → BeginsWith v s.bytes rest → IsFine d u most s v → group_at d v ≡ Some g → IsRestAt d u most bytes good k n s
-      → IsRestAt d u most bytes good (suc k) (behind s v rest).at (inside s v g)
+      → IsRestAt d u most bytes good (suc k) (following s v rest).at (inside s v g)
   rest_inside s v rest g k n begins fine is h = record {
     lies = lies_inside d u most bytes good s v rest g h.lies begins is (opens d sound u most s v g fine is);
     deep = ap (λ (i : ℕ). suc i) h.deep;
@@ -113,7 +113,7 @@ module _ (d : Dictionary) (sound : IsDictionary d) (u : Unknown) (most : Levels)
   started open_levels now = record {
     rests = [];
     s = whole good.command.rules bytes;
-    stands = now;
+    occurs = now;
     nested = record { lies = body_lies d sound u most bytes good; deep = refl; ends = refl; aligned = refl; few = omega arith };
     here = refl;
     goes_on = λ f h. h;
@@ -126,10 +126,10 @@ module _ (d : Dictionary) (sound : IsDictionary d) (u : Unknown) (most : Levels)
 
     -- the place lies in the innermost level, and that in the message
     pub place : (at ≤ open_levels.innermost.end) × (open_levels.innermost.end ≤ length bytes)
-    place = let l = last.1.lies in (omega (arith, l.size, w.here, w.stands.innermost.is_end), omega (arith, l.within, w.stands.innermost.is_end))
+    place = let l = last.1.lies in (omega (arith, l.size, w.here, w.occurs.innermost.is_end), omega (arith, l.within, w.occurs.innermost.is_end))
 
     pub left : between bytes at open_levels.innermost.end ≡ w.s.bytes
-    left = ap (λ (n : ℕ). between bytes n open_levels.innermost.end) (sym w.here) ∙ ap (λ (n : ℕ). between bytes w.s.at n) w.stands.innermost.is_end ∙ last.1.lies.here
+    left = ap (λ (n : ℕ). between bytes n open_levels.innermost.end) (sym w.here) ∙ ap (λ (n : ℕ). between bytes w.s.at n) w.occurs.innermost.is_end ∙ last.1.lies.here
 
     pub few : 8 * length (map key_of w.s.earlier) ≤ length bytes
     few = let l = last.1.lies in let m = length-map w.s.earlier key_of in omega (arith, m, last.1.few, l.size, l.within)
@@ -148,12 +148,12 @@ module _ (d : Dictionary) (sound : IsDictionary d) (u : Unknown) (most : Levels)
         let known = fine_here v None says in
         record {
           rests = w.rests;
-          s = behind w.s v rest;
-          stands = subst (λ (keys : List Key). AreOpen (definitions d) next (map so_far w.rests) (record { rules = w.s.level.rules; end = w.s.level.end; keys = keys }))
+          s = following w.s v rest;
+          occurs = subst (λ (keys : List Key). AreOpen (definitions d) next (map so_far w.rests) (record { rules = w.s.level.rules; end = w.s.level.end; keys = keys }))
               (sym (more_keys d sound u most w.s.earlier v)) now;
-          nested = nested_new d u most bytes good 0 ((length bytes + 3) / 4 * 4) w.rests w.s (behind w.s v rest) w.nested (λ k n h. rest_behind d u most bytes good w.s v rest k n begins h);
+          nested = nested_new d u most bytes good 0 ((length bytes + 3) / 4 * 4) w.rests w.s (following w.s v rest) w.nested (λ k n h. rest_after d u most bytes good w.s v rest k n begins h);
           here = let e = w.here in omega (arith, e, is);
-          goes_on = λ f h. w.goes_on f (Owes-passed d u most w.rests w.s (behind w.s v rest) f
+          goes_on = λ f h. w.goes_on f (Owes-passed d u most w.rests w.s (following w.s v rest) f
               (λ g walk. leaf v rest begins (is_fine d u most w.s v None known) (no_group d u most w.s v known) walk) h);
         }
 
@@ -166,17 +166,17 @@ module _ (d : Dictionary) (sound : IsDictionary d) (u : Unknown) (most : Levels)
         let known = fine_here v (Some n) says in
         let (g, is_group, at_number) = group_is d u most w.s v n known in
         let fine = is_fine d u most w.s v (Some n) known in
-        let outside = behind w.s v rest in
+        let outside = following w.s v rest in
         let keys : and_key (so_far w.s) (key_of v) ≡ so_far outside = ap (λ (ks : List Key). record { rules = w.s.level.rules; end = w.s.level.end; keys = ks })
         (sym (more_keys d sound u most w.s.earlier v)) in
         let levels : map so_far w.rests ++ and_key (so_far w.s) (key_of v) ∷ [] ≡ map so_far (w.rests ++ outside ∷ []) = ap (λ (l : SoFar). map so_far w.rests ++ l ∷ []) keys
         ∙ sym (map-append so_far w.rests (outside ∷ [])) in
         let inner : begun g.rules end ≡ so_far (inside w.s v g) = ap (λ (e : ℕ). begun g.rules e) (is_end ∙ ap (λ (k : ℕ). k + avp_length v) (sym w.here)) in
-        let nested = nested_new d u most bytes good 0 ((length bytes + 3) / 4 * 4) w.rests w.s outside w.nested (λ k n h. rest_behind d u most bytes good w.s v rest k n begins h) in
+        let nested = nested_new d u most bytes good 0 ((length bytes + 3) / 4 * 4) w.rests w.s outside w.nested (λ k n h. rest_after d u most bytes good w.s v rest k n begins h) in
         record {
           rests = w.rests ++ outside ∷ [];
           s = inside w.s v g;
-          stands = subst (λ (l : SoFar). AreOpen (definitions d) next (map so_far (w.rests ++ outside ∷ [])) l) inner
+          occurs = subst (λ (l : SoFar). AreOpen (definitions d) next (map so_far (w.rests ++ outside ∷ [])) l) inner
               (subst (λ (ls : List SoFar). AreOpen (definitions d) next ls (begun g.rules end)) levels (now g at_number));
           nested = nested_push d u most bytes good 0 ((length bytes + 3) / 4 * 4) w.rests outside (inside w.s v g) nested
               (subst (λ (k : ℕ). IsRestAt d u most bytes good (suc k) outside.at (inside w.s v g)) (let e : length w.rests ≡ 0 + length w.rests = omega arith in e)
@@ -197,7 +197,7 @@ module _ (d : Dictionary) (sound : IsDictionary d) (u : Unknown) (most : Levels)
         record {
           rests = qs;
           s = r;
-          stands = subst (λ (ls : List SoFar). AreOpen (definitions d) next ls (so_far r)) (sym same) (subst (λ (l : SoFar). AreOpen (definitions d) next others l) (sym here) now);
+          occurs = subst (λ (ls : List SoFar). AreOpen (definitions d) next ls (so_far r)) (sym same) (subst (λ (l : SoFar). AreOpen (definitions d) next others l) (sym here) now);
           nested = outer;
           here = let a = inner.aligned in let e = inner.ends in omega (arith, a, e, size, empty, w.here);
           goes_on = λ f h. w.goes_on f (subst (λ (rs : List Rest). Owes d u most rs w.s f) (sym is_rests) (Owes-done d u most qs r w.s f (ended none met refl) h));
@@ -226,7 +226,7 @@ module _ (d : Dictionary) (sound : IsDictionary d) (u : Unknown) (most : Levels)
         → IsFoundIn d u most (whole good.command.rules bytes) (refusal.Fault (record { place = open_levels.innermost.end; code = code_of x.reason; reason = x.reason; subject = x.subject }))
     found_missing x none (i, rule, first, is_missing, is_subject) =
         found (record { spot = record { place = w.s.level.end; row = End w.s.level.depth }; reason = reason.Missing; subject = subject_of rule.key }) _ (walks.missing i rule none first refl)
-        (ap (λ (n : ℕ). record { place = n; code = code_of x.reason; reason = x.reason; subject = x.subject }) w.stands.innermost.is_end
+        (ap (λ (n : ℕ). record { place = n; code = code_of x.reason; reason = x.reason; subject = x.subject }) w.occurs.innermost.is_end
         ∙ ap (λ (r : Reason). record { place = w.s.level.end; code = code_of r; reason = r; subject = x.subject }) is_missing
         ∙ ap (λ (t : Subject). record { place = w.s.level.end; code = code_of reason.Missing; reason = reason.Missing; subject = t }) is_subject)
 
@@ -238,7 +238,7 @@ module _ (d : Dictionary) (sound : IsDictionary d) (u : Unknown) (most : Levels)
 
     -- how many levels are round the innermost
     pub many : length open_levels.outer.items ≡ length (map so_far w.rests)
-    many = kept_many (definitions d) 0 open_levels.outer.items w.stands.before (map so_far w.rests) w.stands.are_outer
+    many = kept_many (definitions d) 0 open_levels.outer.items w.occurs.before (map so_far w.rests) w.occurs.are_outer
 
     -- ---- what the loop reads
 
@@ -263,7 +263,7 @@ module _ (d : Dictionary) (sound : IsDictionary d) (u : Unknown) (most : Levels)
       next_place v rest begins =
           let room = begun_room d u most w.s v rest begins in
           let size = last.1.lies.size in
-          let to = ap (λ (k : OpenLevel). k.end) same ∙ w.stands.innermost.is_end in
+          let to = ap (λ (k : OpenLevel). k.end) same ∙ w.occurs.innermost.is_end in
           omega (arith, room, size, to, w.here)
 
     pub before_end : (v : PlainAvp) (rest : List ℕ) → BeginsWith v w.s.bytes rest → (at < length bytes) × (at + avp_length v ≤ length bytes)

@@ -27,7 +27,7 @@ use Rattle.dia_check.specs.Reasons.{row_of}
 pub use Rattle.dia_check.specs.Reasons.{reason_at}
 use Rattle.dia_check.specs.Faults as faults
 use Rattle.dia_check.proofs.FaultlessFronts.{at_any}
-use Rattle.dia_check.specs.Walks.{Found, Rest, behind, inside, IsFine, IsFirstWrong, Walks, ended, missing, broken, wrong, leaf, group, bad_group}
+use Rattle.dia_check.specs.Walks.{Found, Rest, following, inside, IsFine, IsFirstWrong, Walks, ended, missing, broken, wrong, leaf, group, bad_group}
 use Rattle.dia_valid.specs.Valid.{group_at}
 
 -- ---- numbers
@@ -107,7 +107,7 @@ found_at at r t = record { spot = spot at r; reason = r; subject = t }
 -- how a walk goes on at an AVP: it stops there, or goes past it, or finds something in it
 pub data Goes (d : Dictionary) (u : Unknown) (most : Levels) (s : Rest) (v : PlainAvp) (rest : List ℕ) (f : Option Found) : Type 0 where
   stops : (r : Reason) (t : Subject) → IsFirstWrong d u most s v r t → f ≡ Some (found_at s.at r t) → Goes d u most s v rest f
-  passes : IsFine d u most s v → ((g : PlainDefinition) → group_at d v ≡ Some g → Walks d u most (inside s v g) None) → Walks d u most (behind s v rest) f → Goes d u most s v rest f
+  passes : IsFine d u most s v → ((g : PlainDefinition) → group_at d v ≡ Some g → Walks d u most (inside s v g) None) → Walks d u most (following s v rest) f → Goes d u most s v rest f
   finds : (g : PlainDefinition) (h : Found) → IsFine d u most s v → group_at d v ≡ Some g → Walks d u most (inside s v g) (Some h) → f ≡ Some h → Goes d u most s v rest f
 
 pub goes : (d : Dictionary) (u : Unknown) (most : Levels) (s : Rest) (f : Option Found) (v : PlainAvp) (rest : List ℕ) → Walks d u most s f → BeginsWith v s.bytes rest → Goes d u most s v rest f
@@ -121,13 +121,13 @@ goes d u most s f v rest (leaf w more begins' fine is_leaf walk) begins =
     let o = one_front s.bytes w v more rest begins' begins in
     let leaf_too : group_at d v ≡ None = subst (λ (x : PlainAvp). group_at d x ≡ None) o.0 is_leaf in
     passes (subst (λ (x : PlainAvp). IsFine d u most s x) o.0 fine) (λ g h. absurd (none-some g (sym leaf_too ∙ h)))
-    (subst (λ (x : PlainAvp). Walks d u most (behind s x rest) f) o.0 (subst (λ (y : List ℕ). Walks d u most (behind s w y) f) o.1 walk))
+    (subst (λ (x : PlainAvp). Walks d u most (following s x rest) f) o.0 (subst (λ (y : List ℕ). Walks d u most (following s w y) f) o.1 walk))
 goes d u most s f v rest (group w more g begins' fine is_group inner walk) begins =
     let o = one_front s.bytes w v more rest begins' begins in
     let group_too : group_at d v ≡ Some g = subst (λ (x : PlainAvp). group_at d x ≡ Some g) o.0 is_group in
     passes (subst (λ (x : PlainAvp). IsFine d u most s x) o.0 fine)
     (λ k h. subst (λ (y : PlainDefinition). Walks d u most (inside s v y) None) (same_Some g k (sym group_too ∙ h)) (subst (λ (x : PlainAvp). Walks d u most (inside s x g) None) o.0 inner))
-    (subst (λ (x : PlainAvp). Walks d u most (behind s x rest) f) o.0 (subst (λ (y : List ℕ). Walks d u most (behind s w y) f) o.1 walk))
+    (subst (λ (x : PlainAvp). Walks d u most (following s x rest) f) o.0 (subst (λ (y : List ℕ). Walks d u most (following s w y) f) o.1 walk))
 goes d u most s f v rest (bad_group w more g h begins' fine is_group inner is) begins =
     let o = one_front s.bytes w v more rest begins' begins in
     finds g h (subst (λ (x : PlainAvp). IsFine d u most s x) o.0 fine) (subst (λ (x : PlainAvp). group_at d x ≡ Some g) o.0 is_group)

@@ -26,15 +26,15 @@ use Rattle.dia_check.specs.declared.fault.Subject.{Subject}
 use Rattle.dia_check.specs.declared.fault.Subject.TheVariants.{Nothing}
 use Rattle.dia_valid.specs.Valid.{class_of, AllowsP, PHolds, IsValid}
 use Rattle.dia_check.specs.Levels.{MayOpen, between}
-use Rattle.dia_check.specs.Faults.{Spot, spot, IsWrong, Stands, HasGoodHeader, HasHeader, HasLength}
+use Rattle.dia_check.specs.Faults.{Spot, spot, IsWrong, Occurs, HasGoodHeader, HasHeader, HasLength}
 use Rattle.dia_check.specs.Faults as faults
-use Rattle.dia_check.specs.Walks.{Rest, behind, inside, whole, IsFine, Walks, ended, leaf, group}
+use Rattle.dia_check.specs.Walks.{Rest, following, inside, whole, IsFine, Walks, ended, leaf, group}
 use Rattle.dia_valid.specs.Valid.{group_at}
 use Rattle.dia_check.proofs.FaultlessLevels.{opens}
 use Rattle.dia_check.specs.UnderWay.{Lies}
-use Rattle.dia_check.proofs.FoundFaultsStand.{looks, member, lies_behind, lies_inside, body_lies}
+use Rattle.dia_check.proofs.FoundFaultsStand.{looks, member, lies_after, lies_inside, body_lies}
 use Rattle.dia_check.proofs.FirstFaults.{begun_room}
-use Rattle.dia_check.proofs.FaultlessMessages.{valid_stands, walk_valid}
+use Rattle.dia_check.proofs.FaultlessMessages.{valid_occurs, walk_valid}
 use Rattle.dia_check.proofs.OneAnswer.{leaf_at}
 use Rattle.dia_check.proofs.Formats.{leaf_or_level}
 
@@ -119,7 +119,7 @@ front_or_none xs = by (is_bad xs) refl
 
 -- ---- where no fault occurs
 
-module _ (d : Dictionary) (sound : IsDictionary d) (u : Unknown) (most : Levels) (bytes : List ℕ) (none : (other : Spot) (r : Reason) (t : Subject) → ¬ Stands d u most bytes other r t) where
+module _ (d : Dictionary) (sound : IsDictionary d) (u : Unknown) (most : Levels) (bytes : List ℕ) (none : (other : Spot) (r : Reason) (t : Subject) → ¬ Occurs d u most bytes other r t) where
   -- the header is good
   select_at : (h : Header) → HasHeader bytes h → (o : Option ℕ) → selected d h.code (class_of h.flags) h.app ≡ o → (c : ℕ) × (selected d h.code (class_of h.flags) h.app ≡ Some c)
   select_at h is (Some c) e = (c, e)
@@ -172,13 +172,13 @@ module _ (d : Dictionary) (sound : IsDictionary d) (u : Unknown) (most : Levels)
         let some : length s.bytes ≡ suc (length xs) = ap length is in
         absurd (none _ _ _ (faults.avp_length s.level s.earlier s.at (looks d u most bytes good s l) l.from (omega (arith, l.size, some)) l.before (subst BeginsWithNone (sym l.here) no_avp)))
 
-    quiet_avp : (s : Rest) (v : PlainAvp) (rest : List ℕ) (o : Option PlainDefinition) → group_at d v ≡ o → BeginsWith v s.bytes rest → IsFine d u most s v → Walks d u most (behind s v rest) None
+    quiet_avp : (s : Rest) (v : PlainAvp) (rest : List ℕ) (o : Option PlainDefinition) → group_at d v ≡ o → BeginsWith v s.bytes rest → IsFine d u most s v → Walks d u most (following s v rest) None
         → ((g : PlainDefinition) → group_at d v ≡ Some g → Walks d u most (inside s v g) None) → Walks d u most s None
     quiet_avp s v rest None is begins fine next inner = leaf v rest begins fine is next
     quiet_avp s v rest (Some g) is begins fine next inner = group v rest g begins fine is (inner g is) next
 
     quiet_front : (s : Rest) → Here s → ((v : PlainAvp) × (rest : List ℕ) × BeginsWith v s.bytes rest) ⊎ BeginsWithNone s.bytes
-        → ((v : PlainAvp) (rest : List ℕ) → BeginsWith v s.bytes rest → Walks d u most (behind s v rest) None)
+        → ((v : PlainAvp) (rest : List ℕ) → BeginsWith v s.bytes rest → Walks d u most (following s v rest) None)
         → ((v : PlainAvp) (rest : List ℕ) (g : PlainDefinition) → BeginsWith v s.bytes rest → group_at d v ≡ Some g → MayOpen most s.level.depth → Walks d u most (inside s v g) None)
         → Walks d u most s None
     quiet_front s l (inl (v, rest, begins)) next inner =
@@ -190,7 +190,7 @@ module _ (d : Dictionary) (sound : IsDictionary d) (u : Unknown) (most : Levels)
     quiet zero s l lt = absurd (omega (arith, lt))
     quiet (suc n) s l lt = quiet_front s l (front_or_none s.bytes)
         (λ v rest begins. let room = begun_room d u most s v rest begins in let round = rounded-le (avp_length v) in
-        quiet n (behind s v rest) (lies_behind d u most bytes good s v rest l begins) (omega (arith, lt, room, round, at_least_8 v.vendor)))
+        quiet n (following s v rest) (lies_after d u most bytes good s v rest l begins) (omega (arith, lt, room, round, at_least_8 v.vendor)))
         (λ v rest g begins is may. let room = begun_room d u most s v rest begins in let round = rounded-le (avp_length v) in
         quiet n (inside s v g) (lies_inside d u most bytes good s v rest g l begins is may) (omega (arith, lt, room, round, at_least_8 v.vendor)))
 
@@ -204,5 +204,5 @@ module _ (d : Dictionary) (sound : IsDictionary d) (u : Unknown) (most : Levels)
       )
 
 pub validity : (d : Dictionary) (u : Unknown) (most : Levels) (bytes : List ℕ) → IsDictionary d → HasLength bytes (length bytes)
-    → IsValid d u most bytes ↔ ((other : Spot) (r : Reason) (t : Subject) → ¬ Stands d u most bytes other r t)
-validity d u most bytes sound h = (λ v. valid_stands d sound u most bytes v.0 v.1, λ none. none_valid d sound u most bytes none h)
+    → IsValid d u most bytes ↔ ((other : Spot) (r : Reason) (t : Subject) → ¬ Occurs d u most bytes other r t)
+validity d u most bytes sound h = (λ v. valid_occurs d sound u most bytes v.0 v.1, λ none. none_valid d sound u most bytes none h)

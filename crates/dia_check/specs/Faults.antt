@@ -120,31 +120,31 @@ pub data IsWrong (d : Dictionary) (u : Unknown) (most : Levels) (level : Level) 
   depth : (e : DictEntry) → known d (key_of v) ≡ Some e → e.format ≡ Grouped → ¬ MayOpen most level.depth → IsWrong d u most level earlier v reason.Depth (Avp (key_of v))
 
 -- a fault and where it is
-pub data Stands (d : Dictionary) (u : Unknown) (most : Levels) (bytes : List ℕ) : Spot → Reason → Subject → Type 0 where
+pub data Occurs (d : Dictionary) (u : Unknown) (most : Levels) (bytes : List ℕ) : Spot → Reason → Subject → Type 0 where
   bits : (h : Header) → HasHeader bytes h → (HasR h.flags × HasE h.flags) ⊎ (HasT h.flags × (¬ HasR h.flags))
-      → Stands d u most bytes (spot 4 reason.Bits) reason.Bits Nothing
+      → Occurs d u most bytes (spot 4 reason.Bits) reason.Bits Nothing
   command : (h : Header) → HasHeader bytes h → has_command d h.code (class_of h.flags) ≡ false
-      → Stands d u most bytes (spot 5 reason.Command) reason.Command Nothing
+      → Occurs d u most bytes (spot 5 reason.Command) reason.Command Nothing
   application : (h : Header) → HasHeader bytes h → has_command d h.code (class_of h.flags) ≡ true → selected d h.code (class_of h.flags) h.app ≡ None
-      → Stands d u most bytes (spot 8 reason.Application) reason.Application Nothing
+      → Occurs d u most bytes (spot 8 reason.Application) reason.Application Nothing
   proxiable : (h : Header) (c : ℕ) (command : PlainDefinition) → HasHeader bytes h → selected d h.code (class_of h.flags) h.app ≡ Some c → slice_get (definitions d) c ≡ Some command
-      → ¬ AllowsP command.head h.flags → Stands d u most bytes (spot 4 reason.Proxiable) reason.Proxiable Nothing
+      → ¬ AllowsP command.head h.flags → Occurs d u most bytes (spot 4 reason.Proxiable) reason.Proxiable Nothing
   -- the AVPs of a level are followed by bytes with which no AVP begins
   avp_length : (level : Level) (earlier : List PlainAvp) (at : ℕ) → Looks d most bytes level → level.start ≤ at → at < level.end → SpellsAll earlier (between bytes level.start at)
-      → BeginsWithNone (between bytes at level.end) → Stands d u most bytes (spot at reason.AvpLength) reason.AvpLength Nothing
+      → BeginsWithNone (between bytes at level.end) → Occurs d u most bytes (spot at reason.AvpLength) reason.AvpLength Nothing
   -- something is wrong with an AVP
   avp : (level : Level) (earlier : List PlainAvp) (v : PlainAvp) (at : ℕ) (r : Reason) (s : Subject) → Meets d most bytes level earlier v at → IsWrong d u most level earlier v r s
-      → Stands d u most bytes (spot at r) r s
+      → Occurs d u most bytes (spot at r) r s
   -- at the end of a level that is spelled wholly
   missing_at_end : (level : Level) (avps : List PlainAvp) (i : ℕ) (rule : DRule) → Looks d most bytes level → SpellsAll avps (between bytes level.start level.end)
-      → IsFirstMissing level.rules (map key_of avps) i rule → Stands d u most bytes (record { place = level.end; row = End level.depth }) reason.Missing (subject_of rule.key)
+      → IsFirstMissing level.rules (map key_of avps) i rule → Occurs d u most bytes (record { place = level.end; row = End level.depth }) reason.Missing (subject_of rule.key)
 
 -- the fault occurs, and none before it
 pub record IsFirst (d : Dictionary) (u : Unknown) (most : Levels) (bytes : List ℕ) (f : Fault) : Type 0 where
   pub row : Row
-  pub stands : Stands d u most bytes (record { place = f.place; row = row }) f.reason f.subject
+  pub occurs : Occurs d u most bytes (record { place = f.place; row = row }) f.reason f.subject
   pub code : f.code ≡ code_of f.reason
-  pub none_before : (other : Spot) (r : Reason) (s : Subject) → Stands d u most bytes other r s → ¬ IsBefore other (record { place = f.place; row = row })
+  pub none_before : (other : Spot) (r : Reason) (s : Subject) → Occurs d u most bytes other r s → ¬ IsBefore other (record { place = f.place; row = row })
 
 -- ---- the answer
 
@@ -159,8 +159,8 @@ abbrev pub simple : ℕ → Reason → Fault
 simple place r = record { place = place; code = code_of r; reason = r; subject = Nothing }
 
 -- version, then length, and else the first fault of the whole message
-abbrev pub IsTold : Dictionary → Unknown → Levels → List ℕ → Fault → Type 0
-IsTold d u most bytes f =
+abbrev pub IsRecorded : Dictionary → Unknown → Levels → List ℕ → Fault → Type 0
+IsRecorded d u most bytes f =
     ((20 ≤ length bytes) × (slice_index bytes 0 ≢ 1) × (f ≡ simple 0 reason.Version))
     ⊎ ((20 ≤ length bytes) × (slice_index bytes 0 ≡ 1) × (¬ IsMessageLength (number (take 3 (drop 1 bytes)))) × (f ≡ simple 1 reason.Length))
     ⊎ (HasLength bytes (length bytes) × IsFirst d u most bytes f)
@@ -168,7 +168,7 @@ IsTold d u most bytes f =
 -- the answer of a check
 abbrev pub IsAnswer : Dictionary → Unknown → Levels → List ℕ → Result Selected Refusal → Type 0
 IsAnswer d u most bytes (Ok found) = IsValidOf d u most bytes found.def
-IsAnswer d u most bytes (Err (refusal.Fault f)) = IsTold d u most bytes f
+IsAnswer d u most bytes (Err (refusal.Fault f)) = IsRecorded d u most bytes f
 IsAnswer d u most bytes (Err refusal.Truncated) = (length bytes < 20) ⊎ ((n : ℕ) × HasLength bytes n × (length bytes < n))
 IsAnswer d u most bytes (Err refusal.Trailing) = (n : ℕ) × HasLength bytes n × (n < length bytes)
 IsAnswer d u most bytes (Err refusal.NoMemory) = ⊤

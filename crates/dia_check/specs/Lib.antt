@@ -10,7 +10,7 @@ pub mod Admission
 pub mod UnderWay
 pub mod Front
 pub mod Reading
-pub mod Telling
+pub mod Recording
 pub mod Steps
 pub mod Streaming
 pub mod Stages

@@ -6,7 +6,7 @@ use Rattle.dia_wire.specs.Wire.{PlainAvp, key_of, head_length, avp_length, padde
 use Rattle.dia_wire.specs.declared.AvpHead.{AvpHead}
 use Rattle.dia_data.specs.Plain.{Grouped}
 use Rattle.dia_data.specs.Leaf.{IsLeaf}
-use Rattle.dia_data.specs.State.{StandsForData}
+use Rattle.dia_data.specs.State.{DenotesData}
 use Rattle.dia_data.specs.declared.LeafState.{LeafState}
 use Rattle.dia_book.specs.Dictionary.{Dictionary, DictEntry, definitions, entry_of, group_place}
 use Rattle.dia_policy.specs.declared.Unknown.{Unknown}
@@ -34,7 +34,7 @@ use Rattle.dia_check.specs.UnderWay.{IsUnderWay, so_far}
 -- what was seen of the data of an AVP that is no known group
 abbrev pub HasSeen : Dictionary → Option LeafState → Key → List ℕ → Type 0
 HasSeen d leaf key read = MatchOption leaf (known d key ≡ None)
-    (λ state. (e : DictEntry) × (known d key ≡ Some e) × (e.format ≢ Grouped) × StandsForData state e.format read)
+    (λ state. (e : DictEntry) × (known d key ≡ Some e) × (e.format ≢ Grouped) × DenotesData state e.format read)
 
 -- an unknown AVP may have any data, and a known one a leaf of its format
 abbrev pub IsGoodLeaf : Dictionary → Key → List ℕ → Type 0
@@ -67,7 +67,7 @@ pub record BeginsLevelAt (d : Dictionary) (most : Levels) (bytes : List ℕ) (at
 pub record BeginsLevel (d : Dictionary) (most : Levels) (bytes : List ℕ) (from to : ℕ) : Type 0 where
   pub level : Level
   pub is_open : IsOpen d most bytes level
-  pub behind : from < level.start
+  pub following : from < level.start
   pub within : level.start ≤ to
 
 module _ (d : Dictionary) (u : Unknown) (most : Levels) (bytes : List ℕ) (good : HasGoodHeader d bytes) where
@@ -92,7 +92,7 @@ module _ (d : Dictionary) (u : Unknown) (most : Levels) (bytes : List ℕ) (good
     pub is_end : part.end ≡ part.at + avp_length avp
     pub is_next : part.next ≡ part.at + padded_length avp
     pub admitted : IsAdmitted d u under_way.s.level.rules (map key_of under_way.s.earlier) (key_of avp) avp.flags
-    pub stands : AreOpen (definitions d) open_levels (map so_far under_way.rests) (and_key (so_far under_way.s) (key_of avp))
+    pub occurs : AreOpen (definitions d) open_levels (map so_far under_way.rests) (and_key (so_far under_way.s) (key_of avp))
     pub from : part.at + head_length avp.vendor ≤ n
     pub seen : HasSeen d part.leaf part.key (take (n - (part.at + head_length avp.vendor)) avp.bytes)
 

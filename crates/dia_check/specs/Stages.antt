@@ -12,7 +12,7 @@ use Rattle.dia_check.specs.Basis.{PlainBasis}
 use Rattle.dia_check.specs.Faults.{HasGoodHeader, HasHeader, HasLength, IsAnswer}
 use Rattle.dia_check.specs.Walks.{Walks, whole}
 use Rattle.dia_check.specs.Reading.{BeginsLevel, IsInPart, IsStop, LiesAt}
-use Rattle.dia_check.specs.Streaming.{HasReadUnless, IsBegun, IsReading, MayRead, OpensBehind}
+use Rattle.dia_check.specs.Streaming.{HasReadUnless, IsBegun, IsReading, MayRead, OpensAfter}
 
 -- ---- the header
 
@@ -55,4 +55,4 @@ MayReadSome b stage from piece = (bytes : List ℕ) × MayRead b.dictionary b.un
 -- a piece was read after the first bytes of a message, or memory was refused where a level begins in it
 abbrev pub HasReadMore : PlainBasis → Stage → ℕ → List ℕ → Stage → Type 0
 HasReadMore b old from piece new = (bytes : List ℕ) → MayRead b.dictionary b.unknown b.levels bytes old from piece
-    → HasReadUnless (OpensBehind b.dictionary b.levels from (bytes ++ piece)) b.dictionary b.unknown b.levels (bytes ++ piece) new
+    → HasReadUnless (OpensAfter b.dictionary b.levels from (bytes ++ piece)) b.dictionary b.unknown b.levels (bytes ++ piece) new

@@ -20,16 +20,16 @@ use Rattle.dia_check.specs.Reading.{BeginsLevel, BeginsLevelAt, IsAtAvp, IsEnter
 -- ---- places
 
 -- where the reading goes on at a place, the innermost level ends after this one
-abbrev pub EndsBehind : ℕ → OpenLevels → Option ℕ → Type 0
-EndsBehind stop open_levels next = IfSome next (λ at. stop < open_levels.innermost.end)
+abbrev pub EndsAfter : ℕ → OpenLevels → Option ℕ → Type 0
+EndsAfter stop open_levels next = IfSome next (λ at. stop < open_levels.innermost.end)
 
 -- the place, if there is one, is after another, and in the piece that begins there or at its end
 abbrev pub IsFarther : ℕ → List ℕ → Option ℕ → Type 0
 IsFarther at piece next = IfSome next (λ start. (at < start) × (start ≤ at + length piece))
 
 -- the place, if there is one, is after the head at another
-abbrev pub IsBehindHead : ℕ → AvpHead → Option ℕ → Type 0
-IsBehindHead at head next = IfSome next (λ start. start ≡ at + head_length head.vendor)
+abbrev pub IsAfterHead : ℕ → AvpHead → Option ℕ → Type 0
+IsAfterHead at head next = IfSome next (λ start. start ≡ at + head_length head.vendor)
 
 abbrev pub key_of_head : AvpHead → Key
 key_of_head head = record { code = head.code; vendor = unwrap_or head.vendor 0 }

@@ -51,7 +51,7 @@ pub record OpensLevel (d : Dictionary) (most : Levels) (bytes more : List ℕ) :
   pub header : HasGoodHeader d (filled (bytes ++ more))
   pub level : Level
   pub is_open : IsOpen d most (filled (bytes ++ more)) level
-  pub behind : length bytes < level.start
+  pub following : length bytes < level.start
   pub within : level.start ≤ length (bytes ++ more)
 
 abbrev pub IsWithinLimit : Levels → ℕ → Type 0
@@ -130,8 +130,8 @@ abbrev pub BeginsGood : Dictionary → List ℕ → Type 0
 BeginsGood d bytes = (20 ≤ length bytes) × IsTrue (is_sound bytes) × HoweverItEnds bytes (HasGoodHeader d)
 
 -- a level begins after a place, and the header is a good one, however the message goes on
-abbrev pub OpensBehind : Dictionary → Levels → ℕ → List ℕ → Type 0
-OpensBehind d most from bytes = IsTrue (is_sound bytes) × HoweverItEnds bytes (λ all. HasGoodHeader d all × BeginsLevel d most all from (length bytes))
+abbrev pub OpensAfter : Dictionary → Levels → ℕ → List ℕ → Type 0
+OpensAfter d most from bytes = IsTrue (is_sound bytes) × HoweverItEnds bytes (λ all. HasGoodHeader d all × BeginsLevel d most all from (length bytes))
 
 -- so many bytes were taken of those that are wanted, and they are these
 pub record HasTaken (d : Dictionary) (u : Unknown) (most : Levels) (taken all : ℕ) (stage : Stage) (bytes : List ℕ) : Type 0 where

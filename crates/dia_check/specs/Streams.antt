@@ -12,7 +12,7 @@ abbrev pub dictionary_of : {B : Type 0} {ghosts : Ghosts B} → (B → Dictionar
 dictionary_of meaning s = meaning s.basis.book.now
 
 -- the stream has taken these bytes, and checks them against this dictionary
-pub record StandsFor {B : Type 0} {ghosts : Ghosts B} (meaning : B → Dictionary) (s : Stream B ghosts) (d : Dictionary) (u : Unknown) (most : Levels) (bytes : List ℕ) : Type 0 where
+pub record Denotes {B : Type 0} {ghosts : Ghosts B} (meaning : B → Dictionary) (s : Stream B ghosts) (d : Dictionary) (u : Unknown) (most : Levels) (bytes : List ℕ) : Type 0 where
   pub book : meaning s.basis.book.now ≡ d
   pub unknown : s.basis.unknown ≡ u
   pub levels : s.basis.levels ≡ most
@@ -23,10 +23,10 @@ IsSpent s = IsSpentStage s.stage
 
 -- whatever bytes the stream had taken, it has taken these too
 abbrev pub HasTakenMore : {B : Type 0} {ghosts : Ghosts B} → (B → Dictionary) → Stream B ghosts → List ℕ → Stream B ghosts → Type 0
-HasTakenMore meaning old more new = (d : Dictionary) (u : Unknown) (most : Levels) (bytes : List ℕ) → StandsFor meaning old d u most bytes
-    → StandsFor meaning new d u most (bytes ++ more)
+HasTakenMore meaning old more new = (d : Dictionary) (u : Unknown) (most : Levels) (bytes : List ℕ) → Denotes meaning old d u most bytes
+    → Denotes meaning new d u most (bytes ++ more)
 
 -- whatever bytes the stream has taken, a level begins in what it takes of the piece
 abbrev pub OpensLevelIn : {B : Type 0} {ghosts : Ghosts B} → (B → Dictionary) → Stream B ghosts → List ℕ → Type 0
-OpensLevelIn meaning s piece = (d : Dictionary) (u : Unknown) (most : Levels) (bytes : List ℕ) → StandsFor meaning s d u most bytes
+OpensLevelIn meaning s piece = (d : Dictionary) (u : Unknown) (most : Levels) (bytes : List ℕ) → Denotes meaning s d u most bytes
     → OpensLevel d most bytes (drop (length bytes) (taken_of (bytes ++ piece)))

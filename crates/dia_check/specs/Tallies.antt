@@ -29,7 +29,7 @@ AreBelow to tally = AllByRecursion (λ m. m.rule < to) tally
 pub record IsPlaceOf (tally : List Met) (rule place : ℕ) : Type 0 where
   pub within : place ≤ length tally
   pub before : AreBelow rule (take place tally)
-  pub behind : AreRising rule (drop place tally)
+  pub following : AreRising rule (drop place tally)
 
 -- there is room for a tally of so many rules, of which this is one, in a list that holds the tally from a place on
 pub record HasPlaceFor (tallies : List Met) (capacity base many rule : ℕ) : Type 0 where
@@ -41,14 +41,14 @@ pub record HasPlaceFor (tallies : List Met) (capacity base many rule : ℕ) : Ty
   pub room : base + many ≤ capacity
 
 -- the rule is recorded at a place of the list, and the tally records the same counts as before
-pub record IsTold (old new : List Met) (base many rule place : ℕ) : Type 0 where
-  pub behind : ℕ
-  pub is_place : place ≡ base + behind
+pub record IsRecorded (old new : List Met) (base many rule place : ℕ) : Type 0 where
+  pub following : ℕ
+  pub is_place : place ≡ base + following
   pub front : take base new ≡ take base old
   pub rising : AreRising 0 (drop base new)
   pub below : AreBelow many (drop base new)
   pub counts : (j : ℕ) → count_in (drop base new) j ≡ count_in (drop base old) j
-  pub place_of : IsPlaceOf (drop base new) rule behind
-  pub told : Met
-  pub at : slice_get (drop base new) behind ≡ Some told
-  pub same : told.rule ≡ rule
+  pub place_of : IsPlaceOf (drop base new) rule following
+  pub recorded : Met
+  pub at : slice_get (drop base new) following ≡ Some recorded
+  pub same : recorded.rule ≡ rule

@@ -45,7 +45,7 @@ AreNested d u most bytes good depth next (r ∷ rs) s = IsRestAt d u most bytes 
 pub record IsUnderWay (d : Dictionary) (u : Unknown) (most : Levels) (bytes : List ℕ) (good : HasGoodHeader d bytes) (open_levels : OpenLevels) (at : ℕ) : Type 0 where
   pub rests : List Rest
   pub s : Rest
-  pub stands : AreOpen (definitions d) open_levels (map so_far rests) (so_far s)
+  pub occurs : AreOpen (definitions d) open_levels (map so_far rests) (so_far s)
   pub nested : AreNested d u most bytes good 0 ((length bytes + 3) / 4 * 4) rests s
   pub here : s.at ≡ at
   pub goes_on : (f : Option Found) → Owes d u most rests s f → Walks d u most (whole good.command.rules bytes) f

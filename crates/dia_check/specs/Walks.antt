@@ -32,8 +32,8 @@ pub record Rest : Type 0 where
   pub at : ℕ
   pub bytes : List ℕ
 
-abbrev pub behind : Rest → PlainAvp → List ℕ → Rest
-behind s v rest = record { level = s.level; earlier = s.earlier ++ v ∷ []; at = s.at + padded_length v; bytes = rest }
+abbrev pub following : Rest → PlainAvp → List ℕ → Rest
+following s v rest = record { level = s.level; earlier = s.earlier ++ v ∷ []; at = s.at + padded_length v; bytes = rest }
 
 abbrev pub inside : Rest → PlainAvp → PlainDefinition → Rest
 inside s v group = record {
@@ -62,9 +62,9 @@ pub data Walks (d : Dictionary) (u : Unknown) (most : Levels) : Rest → Option 
       → f ≡ Some (record { spot = spot s.at reason.AvpLength; reason = reason.AvpLength; subject = Nothing }) → Walks d u most s f
   wrong : {s : Rest} {f : Option Found} (v : PlainAvp) (rest : List ℕ) (r : Reason) (t : Subject) → BeginsWith v s.bytes rest → IsFirstWrong d u most s v r t
       → f ≡ Some (record { spot = spot s.at r; reason = r; subject = t }) → Walks d u most s f
-  leaf : {s : Rest} {f : Option Found} (v : PlainAvp) (rest : List ℕ) → BeginsWith v s.bytes rest → IsFine d u most s v → group_at d v ≡ None → Walks d u most (behind s v rest) f → Walks d u most s f
+  leaf : {s : Rest} {f : Option Found} (v : PlainAvp) (rest : List ℕ) → BeginsWith v s.bytes rest → IsFine d u most s v → group_at d v ≡ None → Walks d u most (following s v rest) f → Walks d u most s f
   group : {s : Rest} {f : Option Found} (v : PlainAvp) (rest : List ℕ) (g : PlainDefinition) → BeginsWith v s.bytes rest → IsFine d u most s v → group_at d v ≡ Some g
-      → Walks d u most (inside s v g) None → Walks d u most (behind s v rest) f → Walks d u most s f
+      → Walks d u most (inside s v g) None → Walks d u most (following s v rest) f → Walks d u most s f
   bad_group : {s : Rest} {f : Option Found} (v : PlainAvp) (rest : List ℕ) (g : PlainDefinition) (h : Found) → BeginsWith v s.bytes rest → IsFine d u most s v → group_at d v ≡ Some g
       → Walks d u most (inside s v g) (Some h) → f ≡ Some h → Walks d u most s f
 

@@ -3,14 +3,14 @@
 ghost use Rattle.std.specs.Prelude.{◌+◌, length, IfOk};
 ghost use Rattle.dia_check.specs.Basis.{plain_basis};
 ghost use Rattle.dia_check.specs.Reading.{IsInPiece, ReadsOn};
-ghost use Rattle.dia_check.specs.Steps.{EndsBehind, HasReadAvps};
+ghost use Rattle.dia_check.specs.Steps.{EndsAfter, HasReadAvps};
 
 use crate::admission::{check_avp, missing_at_end, open_group};
 use crate::basis::Basis;
 use crate::fault::Refusal;
 use crate::group::enter_at;
 use crate::open_levels::OpenLevels;
-use crate::telling::{broken, fault};
+use crate::recording::{broken, fault};
 use dia_book::Book;
 use dia_wire::{AvpFault, next_avp};
 
@@ -25,7 +25,7 @@ pub(crate) fn read_piece<B: Book>(
 ) -> Result<Option<usize>, Refusal>
     requires { ∥ ReadsOn (plain_basis B.meaning basis.now) open_levels.old from from piece.now ∥₁ }
     ensures within { IfOk result (IsInPiece from piece.now) }
-    ensures goes_on { IfOk result (EndsBehind (from + length piece.now) open_levels.new) }
+    ensures goes_on { IfOk result (EndsAfter (from + length piece.now) open_levels.new) }
     ensures next { HasReadAvps (plain_basis B.meaning basis.now)
         open_levels.old from piece.now open_levels.new result }
 {
@@ -57,7 +57,7 @@ pub(crate) fn read_avps<B: Book>(
 ) -> Result<Option<usize>, Refusal>
     requires { ∥ ReadsOn (plain_basis B.meaning basis.now) open_levels.old from from piece.now ∥₁ }
     ensures within { IfOk result (IsInPiece from piece.now) }
-    ensures goes_on { IfOk result (EndsBehind (from + length piece.now) open_levels.new) }
+    ensures goes_on { IfOk result (EndsAfter (from + length piece.now) open_levels.new) }
     ensures next { HasReadAvps (plain_basis B.meaning basis.now)
         open_levels.old from piece.now open_levels.new result }
 {

@@ -7,7 +7,7 @@ ghost use Rattle.dia_check.specs.declared.fault.Subject.{Subject as AnySubject};
 ghost use Rattle.dia_check.specs.declared.fault.Selected.{Selected as AnySelected};
 ghost use Rattle.dia_check.specs.declared.fault.Refusal.{Refusal as AnyRefusal};
 ghost use Rattle.dia_valid.specs.Valid.{IsValid, IsValidOf};
-ghost use Rattle.dia_check.specs.Faults.{IsAnswer, HasGoodHeader, HasLength, Stands, Spot};
+ghost use Rattle.dia_check.specs.Faults.{IsAnswer, HasGoodHeader, HasLength, Occurs, Spot};
 
 use crate::admission::reopen_body;
 use crate::basis::Basis;
@@ -107,7 +107,7 @@ pub fn validity()
         → HasLength bytes (length bytes)
         → IsValid d u most bytes
         ↔ ((spot : Spot) (reason : AnyReason) (subject : AnySubject)
-        → ¬ Stands d u most bytes spot reason subject) }
+        → ¬ Occurs d u most bytes spot reason subject) }
 {}
 
 /// Bytes have one answer, unless memory runs out.

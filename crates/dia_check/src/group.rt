@@ -5,14 +5,14 @@ ghost use Rattle.dia_wire.specs.Wire.{head_length};
 ghost use Rattle.dia_book.specs.Dictionary.{entry_of};
 ghost use Rattle.dia_check.specs.Basis.{plain_basis};
 ghost use Rattle.dia_check.specs.Reading.{IsAtSomeAvp, IsGroupOf, IsNoGroup, ReadsOn};
-ghost use Rattle.dia_check.specs.Steps.{HasEntered, HasEnteredAvp, IsBehindHead, IsFarther};
+ghost use Rattle.dia_check.specs.Steps.{HasEntered, HasEnteredAvp, IsAfterHead, IsFarther};
 ghost use Rattle.dia_check.specs.Steps.{key_of_head};
 
 use crate::admission::{admit, may_open, open_group};
 use crate::basis::Basis;
 use crate::fault::{Reason, Refusal};
 use crate::open_levels::{OpenLevels, Wrong};
-use crate::telling::fault;
+use crate::recording::fault;
 use dia_book::{Book, DefId, Entry};
 use dia_wire::{AVP_HEAD_LENGTH, AvpHead, Key, VENDOR_AVP_HEAD_LENGTH, avp_head};
 
@@ -51,7 +51,7 @@ pub(crate) fn enter_group<B: Book>(
     ensures kept { result ≡ Ok None → open_levels.new ≡ open_levels.old }
     ensures no_group { result ≡ Ok None
         → IsNoGroup (B.meaning basis.now.book.now) (key_of_head head.now) }
-    ensures start { IfOk result (IsBehindHead at head.now) }
+    ensures start { IfOk result (IsAfterHead at head.now) }
     ensures next { HasEnteredAvp (plain_basis B.meaning basis.now)
         open_levels.old at head.now open_levels.new result }
 {

@@ -9,7 +9,7 @@ ghost use Rattle.dia_valid.specs.Valid.{HasR, HasE, HasT, class_of, PHolds, Allo
 ghost use Rattle.dia_check.specs.Faults.{HasHeader, HasLength, HasGoodHeader, IsAnswer};
 
 use crate::fault::{Reason, Refusal};
-use crate::telling::simple_fault;
+use crate::recording::simple_fault;
 use dia_book::{Book, Class, DefHead, DefId, Pxy};
 use dia_wire::{Header, MessageFault, split_message};
 

@@ -9,9 +9,9 @@ mod fault;
 mod group;
 mod header;
 mod open_levels;
+mod recording;
 mod room;
 mod stream;
-mod telling;
 
 pub use checking::{check, check_in, one_answer, validity};
 pub use dia_policy::{Levels, Unknown};

@@ -16,7 +16,7 @@ ghost use Rattle.dia_check.specs.OpenLevels.{IsWellPlaced, IsFirstMisplaced};
 ghost use Rattle.dia_check.specs.OpenLevels.{IsMetAtEnd, IsMissingAtEnd, SoFar};
 ghost use Rattle.dia_check.specs.OpenLevels.{begun, and_key, HasRoom, AreOpen};
 
-use self::tally::{Met, lay_out, read, told_at, write};
+use self::tally::{Met, lay_out, read, recorded_at, write};
 use self::unmet::{first_unmet, met_up_to, missing, unmet_among};
 use crate::fault::{Reason, Subject};
 use dia_book::{DRule, DefId, Shape, Slot};
@@ -309,7 +309,7 @@ impl OpenLevels {
             × AreOpen defs self.new outer (and_key level key))
             (λ wrong. IsFirstMisplaced rules.now level.keys key wrong) }
     {
-        let place = told_at(&mut self.tallies, self.innermost.base, rules.len(), rule);
+        let place = recorded_at(&mut self.tallies, self.innermost.base, rules.len(), rule);
         let met = read(&self.tallies, place);
         if rules[rule].max == Some(met.count) {
             return Some(Wrong::avp(Reason::TooMany, key));

@@ -60,11 +60,11 @@ pub enum StreamFault {
 }
 
 impl<'a, B: Book> Stream<'a, B> {
-    ghost use Rattle.dia_check.specs.Streams.{StandsFor, HasTakenMore, OpensLevelIn, IsSpent, dictionary_of};
+    ghost use Rattle.dia_check.specs.Streams.{Denotes, HasTakenMore, OpensLevelIn, IsSpent, dictionary_of};
 
     /// A stream of which nothing was read yet. Takes no memory.
     pub fn new(alloc: Global, book: &'a B, unknown: Unknown, levels: Levels) -> Self
-        ensures empty { StandsFor B.meaning result (B.meaning book.now) unknown levels [] }
+        ensures empty { Denotes B.meaning result (B.meaning book.now) unknown levels [] }
         ensures fresh { ¬ IsSpent result }
     {
         Stream {
@@ -87,16 +87,16 @@ impl<'a, B: Book> Stream<'a, B> {
     pub fn feed(&mut self, piece: &[u8]) -> Result<Progress, StreamFault>
         ensures taken { IfOk result
             (λ progress. (d : Dictionary) (u : AnyPolicy) (most : AnyLevels) (bytes : List ℕ)
-            → StandsFor B.meaning self.old d u most bytes
+            → Denotes B.meaning self.old d u most bytes
             → Takes bytes piece.now progress
-            × StandsFor B.meaning self.new d u most (bytes ++ take progress.taken piece.now)) }
+            × Denotes B.meaning self.new d u most (bytes ++ take progress.taken piece.now)) }
         ensures within { IfOk result (λ progress. progress.taken ≤ length piece.now) }
         ensures dictionary { dictionary_of B.meaning self.new ≡ dictionary_of B.meaning self.old }
         ensures goes_on { OnOk result (¬ IsSpent self.new) }
         // Memory is taken only for a level that begins in the piece, of a message with a good header.
         ensures no_memory { result ≡ Err StreamFault.NoMemory
             → (d : Dictionary) (u : AnyPolicy) (most : AnyLevels) (bytes : List ℕ)
-            → StandsFor B.meaning self.old d u most bytes
+            → Denotes B.meaning self.old d u most bytes
             → OpensLevel d most bytes (drop (length bytes) (taken_of (bytes ++ piece.now))) }
         ensures spent { (result ≡ Err StreamFault.Spent) ↔ IsSpent self.old }
         ensures err { OnErr result (IsSpent self.new) }
@@ -180,7 +180,7 @@ impl<'a, B: Book> Stream<'a, B> {
     pub fn finish(self) -> Result<Selected, Refusal>
         ensures answer { ¬ IsSpent self.entry
             → (d : Dictionary) (u : AnyPolicy) (most : AnyLevels) (bytes : List ℕ)
-            → StandsFor B.meaning self.entry d u most bytes → IsAnswer d u most bytes result }
+            → Denotes B.meaning self.entry d u most bytes → IsAnswer d u most bytes result }
         ensures spent { IsSpent self.entry → result ≡ Err Refusal.Spent }
         ensures memory { result ≢ Err Refusal.NoMemory }
         ensures trailing { result ≢ Err Refusal.Trailing }
@@ -197,7 +197,7 @@ impl<'a, B: Book> Stream<'a, B> {
     pub fn levels(&self) -> usize
         ensures count { ¬ IsSpent self.now
             → (d : Dictionary) (u : AnyPolicy) (most : AnyLevels) (bytes : List ℕ)
-            → StandsFor B.meaning self.now d u most bytes → CountsLevels d u most bytes result }
+            → Denotes B.meaning self.now d u most bytes → CountsLevels d u most bytes result }
         ensures spent { IsSpent self.now → result ≡ 0 }
     {
         match &self.stage {

@@ -6,19 +6,19 @@ use Rattle.std.specs.declared.io.Error.{Error}
 use Rattle.dia_io.specs.declared.Exit.{Exit}
 use Rattle.dia_io.specs.declared.RunFault.{RunFault}
 use Rattle.dia_io.specs.declared.RunFault.TheVariants.{Device, NoMemory}
-use Rattle.dia_cli.specs.Ending.{IsShown, IsTold, ShowsHelp, Stream, device, ending_of_run, no_memory}
+use Rattle.dia_cli.specs.Ending.{IsShown, IsRecorded, ShowsHelp, Stream, device, ending_of_run, no_memory}
 use Rattle.dia_cli.specs.declared.ending.Ending.{Ending}
 
 -- standard output failed, or memory was refused
-pub shown_why : (fault : RunFault) (told : Result ℕ RunFault) (made : Ending) (name : Bor (List ℕ)) (why : Option Error) (out err : Stream) (is_quiet : Type 0) (status : ℕ)
-    → told ≡ Err fault → (told ≡ Err Device) ↔ IsTrue out.failed → (told ≡ Err NoMemory → out.new ≡ out.old) → name.now ≡ codes "standard output"
-    → made ≡ ending_of_run fault name why → IsTold made err status → IsShown out err is_quiet status
-shown_why Device told made name why out err is_quiet status is broken kept named made_is err_told =
-    device name why (broken.0 is) named (subst (λ m. IsTold m err status) made_is err_told)
-shown_why NoMemory told made name why out err is_quiet status is broken kept named made_is err_told =
-    no_memory (sound out.failed broken.1) (kept is) (subst (λ m. IsTold m err status) made_is err_told)
+pub shown_why : (fault : RunFault) (recorded : Result ℕ RunFault) (made : Ending) (name : Bor (List ℕ)) (why : Option Error) (out err : Stream) (is_quiet : Type 0) (status : ℕ)
+    → recorded ≡ Err fault → (recorded ≡ Err Device) ↔ IsTrue out.failed → (recorded ≡ Err NoMemory → out.new ≡ out.old) → name.now ≡ codes "standard output"
+    → made ≡ ending_of_run fault name why → IsRecorded made err status → IsShown out err is_quiet status
+shown_why Device recorded made name why out err is_quiet status is broken kept named made_is err_recorded =
+    device name why (broken.0 is) named (subst (λ m. IsRecorded m err status) made_is err_recorded)
+shown_why NoMemory recorded made name why out err is_quiet status is broken kept named made_is err_recorded =
+    no_memory (sound out.failed broken.1) (kept is) (subst (λ m. IsRecorded m err status) made_is err_recorded)
   where
-    sound : (failed : Bool) → (IsTrue failed → told ≡ Err Device) → failed ≡ false
+    sound : (failed : Bool) → (IsTrue failed → recorded ≡ Err Device) → failed ≡ false
     sound false h = refl
     sound true h = let both = h refl in absurd cc
 

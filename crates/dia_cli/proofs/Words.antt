@@ -16,7 +16,7 @@ use Rattle.dia_cli.specs.Words.{is_limit}
 use Rattle.dia_cli.specs.Origins.{reads_twice}
 use Rattle.dia_cli.specs.Request.{read_once}
 use Rattle.dia_cli.specs.declared.ending.Ending.{Ending}
-use Rattle.dia_cli.specs.declared.ending.Ending.TheVariants.{NoMemory, ReadTwice, Told}
+use Rattle.dia_cli.specs.declared.ending.Ending.TheVariants.{NoMemory, ReadTwice, Recorded}
 use Rattle.dia_cli.specs.declared.request.Request.{Request}
 
 -- where a name and rows are those of one subcommand, what holds of the two holds of it
@@ -65,17 +65,17 @@ read_unrun request read found is asked = subst (λ r. IfErr r (IsUnrun found)) (
     go false e = tt
 
 -- why clap's error ends the program
-pub told_is_refused : (line : App) (words : List Text) (error : Error) (made : Ending) → IsProgram line → HasKind (fault_of line words) error
-    → ((kind_of error ≡ OutOfMemory) × (made ≡ NoMemory)) ⊎ ((kind_of error ≢ OutOfMemory) × (made ≡ Told error)) → IsRefused words made
-told_is_refused line words error made program kinds (inl memory) = (line, program, subst (λ e. IsAtFault (fault_of line words) e ⊎ IsUnrun (subcommand_of line words) e) (sym memory.1) (inr tt))
-told_is_refused line words error made program (inl memory) (inr told) = absurd (told.0 memory)
-told_is_refused line words error made program (inr among) (inr told) =
-    (line, program, subst (λ e. IsAtFault (fault_of line words) e ⊎ IsUnrun (subcommand_of line words) e) (sym told.1) (inl among))
+pub recorded_is_refused : (line : App) (words : List Text) (error : Error) (made : Ending) → IsProgram line → HasKind (fault_of line words) error
+    → ((kind_of error ≡ OutOfMemory) × (made ≡ NoMemory)) ⊎ ((kind_of error ≢ OutOfMemory) × (made ≡ Recorded error)) → IsRefused words made
+recorded_is_refused line words error made program kinds (inl memory) = (line, program, subst (λ e. IsAtFault (fault_of line words) e ⊎ IsUnrun (subcommand_of line words) e) (sym memory.1) (inr tt))
+recorded_is_refused line words error made program (inl memory) (inr recorded) = absurd (recorded.0 memory)
+recorded_is_refused line words error made program (inr among) (inr recorded) =
+    (line, program, subst (λ e. IsAtFault (fault_of line words) e ⊎ IsUnrun (subcommand_of line words) e) (sym recorded.1) (inl among))
 
 pub error_is_refused : {T : Type 0} (line : App) (words : List Text) (error : Error) (read : Result T Ending) → IsProgram line → HasKind (fault_of line words) error
-    → IsErrAnd read (λ made. ((kind_of error ≡ OutOfMemory) × (made ≡ NoMemory)) ⊎ ((kind_of error ≢ OutOfMemory) × (made ≡ Told error))) → IfErr read (IsRefused words)
+    → IsErrAnd read (λ made. ((kind_of error ≡ OutOfMemory) × (made ≡ NoMemory)) ⊎ ((kind_of error ≢ OutOfMemory) × (made ≡ Recorded error))) → IfErr read (IsRefused words)
 error_is_refused line words error (Ok x) program kinds made = absurd made
-error_is_refused line words error (Err ending) program kinds made = told_is_refused line words error ending program kinds made
+error_is_refused line words error (Err ending) program kinds made = recorded_is_refused line words error ending program kinds made
 
 -- where memory is refused for the line
 pub none_is_refused : {T : Type 0} (line : App) (words : List Text) (read : Result T Ending) → IsProgram line → IsErrAnd read (λ made. made ≡ NoMemory)

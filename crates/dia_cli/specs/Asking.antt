@@ -76,7 +76,7 @@ IsUnasked found unasked.NoMemory = ⊤
 
 -- why what was found isn't run
 abbrev pub IsUnrun : Option (Text × List Row) → Ending → Type 0
-IsUnrun found (ending.Told error) = is_asked found ≡ false
+IsUnrun found (ending.Recorded error) = is_asked found ≡ false
 IsUnrun found ending.ReadTwice =
     (request : Request) × IsSomeAnd found (IsRequestOf request) × (reads_twice request.origins ≡ true)
 IsUnrun found (ending.Apart apart) = IsSomeAnd found (IsApart apart)
@@ -85,7 +85,7 @@ IsUnrun found made = ⊥
 
 -- clap reports a fault of these kinds, of which help and the version are two
 abbrev pub IsAtFault : Kinds → Ending → Type 0
-IsAtFault kinds (ending.Told error) = IsAmong (kind_of error) kinds
+IsAtFault kinds (ending.Recorded error) = IsAmong (kind_of error) kinds
 IsAtFault kinds made = ⊥
 
 -- why words are refused. Where clap finds no fault in them, and they are a subcommand with its arguments, nothing is reported of

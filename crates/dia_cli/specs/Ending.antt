@@ -35,12 +35,12 @@ abbrev pub IsHelp : WordsError → Type 0
 IsHelp error = (kind_of error ≡ DisplayHelp) ⊎ (kind_of error ≡ DisplayVersion)
 
 abbrev pub ShowsHelp : Ending → Type 0
-ShowsHelp (ending.Told error) = IsHelp error
+ShowsHelp (ending.Recorded error) = IsHelp error
 ShowsHelp made = ⊥
 
 -- 0 for help, 2 for a command-line fault, 3 for a device and out of memory
 abbrev pub EndsWith : Ending → ℕ → Type 0
-EndsWith (ending.Told error) status = (IsHelp error → status ≡ 0) × (¬ IsHelp error → status ≡ 2)
+EndsWith (ending.Recorded error) status = (IsHelp error → status ≡ 0) × (¬ IsHelp error → status ≡ 2)
 EndsWith ending.NotText status = status ≡ 2
 EndsWith ending.ReadTwice status = status ≡ 2
 EndsWith (ending.Apart apart) status = status ≡ 2
@@ -49,8 +49,8 @@ EndsWith ending.NoMemory status = status ≡ 3
 
 -- a refusal may be written in better words, of the same kind and so with the same status; other endings stay
 abbrev pub IsAdvised : Ending → Ending → Type 0
-IsAdvised (ending.Told fault) told = (better : WordsError) × (told ≡ ending.Told better) × (kind_of better ≡ kind_of fault)
-IsAdvised made told = told ≡ made
+IsAdvised (ending.Recorded fault) recorded = (better : WordsError) × (recorded ≡ ending.Recorded better) × (kind_of better ≡ kind_of fault)
+IsAdvised made recorded = recorded ≡ made
 
 -- line feeds
 abbrev pub try_help : List ℕ
@@ -72,7 +72,7 @@ apart_text first second = codes "error: the argument '--" ++ first ++ codes "' c
 
 -- the text of an ending. The words of clap and of the system are any
 abbrev pub IsTextOf : Ending → List ℕ → Type 0
-IsTextOf (ending.Told error) text = ⊤
+IsTextOf (ending.Recorded error) text = ⊤
 IsTextOf ending.NotText text = text ≡ codes "error: a word of the command line isn't UTF-8" ++ try_help
 IsTextOf ending.ReadTwice text =
     text ≡ codes "error: '-' is given twice, and standard input can be read once: name a file for one of the two" ++ try_help
@@ -83,7 +83,7 @@ IsTextOf ending.NoMemory text = text ≡ no_memory_text
 
 -- words of clap or of the system, which are put together first
 abbrev pub HasForeignText : Ending → Type 0
-HasForeignText (ending.Told error) = ⊤
+HasForeignText (ending.Recorded error) = ⊤
 HasForeignText (ending.Device name (Some error)) = ⊤
 HasForeignText made = ⊥
 
@@ -102,14 +102,14 @@ stream old new failed = record { old = old; new = new; failed = failed }
 
 -- the ending is written to a stream, with this status: the ending's own, or 3 where the stream failed, or where memory was
 -- refused and that was written
-pub data IsTold (made : Ending) (s : Stream) (status : ℕ) : Type 0 where
-  told : s.failed ≡ false → EndsWith made status → AppendsTextOf made s.old s.new → IsTold made s status
-  no_memory : s.failed ≡ false → HasForeignText made → status ≡ 3 → Appends s.old s.new no_memory_text → IsTold made s status
-  device : s.failed ≡ true → status ≡ 3 → IsTold made s status
+pub data IsRecorded (made : Ending) (s : Stream) (status : ℕ) : Type 0 where
+  recorded : s.failed ≡ false → EndsWith made status → AppendsTextOf made s.old s.new → IsRecorded made s status
+  no_memory : s.failed ≡ false → HasForeignText made → status ≡ 3 → Appends s.old s.new no_memory_text → IsRecorded made s status
+  device : s.failed ≡ true → status ≡ 3 → IsRecorded made s status
 
 -- help is shown on standard output, and standard error stays as it was; or standard error says why not
 pub data IsShown (out err : Stream) (is_quiet : Type 0) (status : ℕ) : Type 0 where
   shown : out.failed ≡ false → is_quiet → status ≡ 0 → IsShown out err is_quiet status
-  no_memory : out.failed ≡ false → out.new ≡ out.old → IsTold ending.NoMemory err status → IsShown out err is_quiet status
+  no_memory : out.failed ≡ false → out.new ≡ out.old → IsRecorded ending.NoMemory err status → IsShown out err is_quiet status
   device : (name : Bor (List ℕ)) (why : Option Error) → out.failed ≡ true → name.now ≡ codes "standard output"
-      → IsTold (ending.Device name why) err status → IsShown out err is_quiet status
+      → IsRecorded (ending.Device name why) err status → IsShown out err is_quiet status

@@ -26,16 +26,16 @@ pub data Manner : Type 0 where
 
 -- how `show` writes a message: as a text; as JSON, with `--names` and `--values` or without; or as a listing, with `--lines`, `--names`
 -- and `--values` or without
-pub data Telling : Type 0 where
-  as_text : Telling
-  as_json : Bool → Option Text → Telling
-  as_listing : Bool → Bool → Option Text → Telling
+pub data Recording : Type 0 where
+  as_text : Recording
+  as_json : Bool → Option Text → Recording
+  as_listing : Bool → Bool → Option Text → Recording
 
 -- a command with its options and the words of its inputs. `--levels`, `--dict`, `--values` and `--accepted` are their words; `check`, `compare`
 -- and `propose` have `--json`, `refute` has `--lines` and `--json`, and `breaking` has `--json`, `--messages`, `--once`, `--meaning` and
 -- `--stale-allowed`, or not
 pub data Form : Type 0 where
-  show : Telling → Option Text → Text → Form
+  show : Recording → Option Text → Text → Form
   make : Option Text → Text → Form
   check : Manner → Bool → Unknown → Option Text → Text → Text → Form
   render : Text → Form
@@ -46,7 +46,7 @@ pub data Form : Type 0 where
 
 -- its row
 abbrev pub form_row : Form → CommandRow
-form_row (show telling dictionary message) = show_row
+form_row (show recording dictionary message) = show_row
 form_row (make dictionary written) = make_row
 form_row (check manner json unknown levels dictionary message) = check_row
 form_row (render dictionary) = render_row
@@ -66,32 +66,32 @@ abbrev pub is_stream : Manner → Bool
 is_stream in_stream = true
 is_stream manner = false
 
-abbrev pub is_text : Telling → Bool
+abbrev pub is_text : Recording → Bool
 is_text as_text = true
-is_text telling = false
+is_text recording = false
 
-abbrev pub is_json : Telling → Bool
+abbrev pub is_json : Recording → Bool
 is_json (as_json names values) = true
-is_json telling = false
+is_json recording = false
 
-abbrev pub has_names : Telling → Bool
+abbrev pub has_names : Recording → Bool
 has_names (as_json names values) = names
 has_names (as_listing many names values) = names
-has_names telling = false
+has_names recording = false
 
-abbrev pub values_given : Telling → Option Text
+abbrev pub values_given : Recording → Option Text
 values_given (as_json names values) = values
 values_given (as_listing many names values) = values
-values_given telling = None
+values_given recording = None
 
-abbrev pub has_lines : Telling → Bool
+abbrev pub has_lines : Recording → Bool
 has_lines (as_listing many names values) = many
-has_lines telling = false
+has_lines recording = false
 
 abbrev pub form_options : Form → List Slot
-form_options (show telling dictionary message) =
-    text (codes "dict") dictionary ∷ flag (codes "as-text") (is_text telling) ∷ flag (codes "names") (has_names telling)
-    ∷ text (codes "values") (values_given telling) ∷ flag (codes "lines") (has_lines telling) ∷ flag (codes "json") (is_json telling) ∷ []
+form_options (show recording dictionary message) =
+    text (codes "dict") dictionary ∷ flag (codes "as-text") (is_text recording) ∷ flag (codes "names") (has_names recording)
+    ∷ text (codes "values") (values_given recording) ∷ flag (codes "lines") (has_lines recording) ∷ flag (codes "json") (is_json recording) ∷ []
 form_options (make dictionary written) = text (codes "dict") dictionary ∷ []
 form_options (check manner json unknown levels dictionary message) =
     unknown_slot unknown ∷ flag (codes "lines") (is_lines manner) ∷ flag (codes "stream") (is_stream manner)
@@ -107,7 +107,7 @@ form_options (breaking json sends unknown messages once meaning allowed accepted
     ∷ text (codes "accepted") accepted ∷ []
 
 abbrev pub form_inputs : Form → List Slot
-form_inputs (show telling dictionary message) = word (codes "MESSAGE") message ∷ []
+form_inputs (show recording dictionary message) = word (codes "MESSAGE") message ∷ []
 form_inputs (make dictionary written) = word (codes "TEXT") written ∷ []
 form_inputs (check manner json unknown levels dictionary message) = word (codes "D") dictionary ∷ word (codes "MESSAGE") message ∷ []
 form_inputs (render dictionary) = word (codes "D") dictionary ∷ []
@@ -152,8 +152,8 @@ form_words (show as_text dictionary message) =
     record (one_text (unwrap_or dictionary (codes "@base"))) { message = Some message }
 form_words (show (as_listing true names values) dictionary messages) =
     record (one_text (unwrap_or dictionary (codes "@base"))) { table = Some (unwrap_or values (codes "@none")); messages = Some messages }
-form_words (show telling dictionary message) =
-    record (one_text (unwrap_or dictionary (codes "@base"))) { table = Some (unwrap_or (values_given telling) (codes "@none")); message = Some message }
+form_words (show recording dictionary message) =
+    record (one_text (unwrap_or dictionary (codes "@base"))) { table = Some (unwrap_or (values_given recording) (codes "@none")); message = Some message }
 form_words (make dictionary written) = record (one_text (unwrap_or dictionary (codes "@base"))) { message = Some written }
 form_words (check alone json unknown levels dictionary message) = record (one_text dictionary) { message = Some message }
 form_words (check in_lines json unknown levels dictionary messages) = record (one_text dictionary) { messages = Some messages }

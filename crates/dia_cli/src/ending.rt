@@ -3,7 +3,7 @@
 ghost use Rattle.std.specs.Prelude.{◌≡◌, ◌≢◌, ◌↔◌, Err, IfOk, IfErr, IsErr, IsOkAnd, IsTrue, OnOk, string_bytes};
 ghost use Rattle.std.specs.Io.KnownBytes.{Appends};
 ghost use Rattle.dia_io.specs.Exit.{status_of};
-ghost use Rattle.dia_cli.specs.Ending.{IsDeviceText, IsShown, IsTold, ShowsHelp};
+ghost use Rattle.dia_cli.specs.Ending.{IsDeviceText, IsShown, IsRecorded, ShowsHelp};
 ghost use Rattle.dia_cli.specs.Ending.{apart_text, no_memory_text, stream};
 
 use crate::apart::Apart;
@@ -17,7 +17,7 @@ use std::io::Write;
 #[derive(Drop)]
 pub enum Ending<'a> {
     /// What clap shows: help or the version, with status 0, or a fault of the command line, with status 2.
-    Told(clap::Error),
+    Recorded(clap::Error),
     /// A word of the command line isn't UTF-8: status 2.
     NotText,
     /// The command line names standard input twice: status 2.
@@ -48,7 +48,7 @@ pub fn finish<O: Write, E: Write>(
     ensures exit { IfOk ended.entry (λ exit. (result ≡ status_of exit)
         × (out.new ≡ out.old) × (err.new ≡ err.old)) }
     ensures fault { IfErr ended.entry (λ ending. ¬ ShowsHelp ending → (out.new ≡ out.old)
-        × IsTold ending (stream (⟦<ToWriter<E> as Sink>⟧.written err.old)
+        × IsRecorded ending (stream (⟦<ToWriter<E> as Sink>⟧.written err.old)
         (⟦<ToWriter<E> as Sink>⟧.written err.new)
         (⟦<ToWriter<E> as Sink>⟧.has_failed err.new)) result) }
     ensures help { IfErr ended.entry (λ ending. ShowsHelp ending
@@ -63,7 +63,7 @@ pub fn finish<O: Write, E: Write>(
     match ended {
         Ok(exit) => exit.status(),
         Err(ending) if ending.is_help() => show(alloc, &ending, out, err),
-        Err(ending) => tell_error(alloc, &ending, err),
+        Err(ending) => report_error(alloc, &ending, err),
     }
 }
 
@@ -83,36 +83,36 @@ fn show<O: Write, E: Sink>(
         (stream (E.written err.old) (E.written err.new) (E.has_failed err.new))
         (err.new ≡ err.old) result }
 {
-    match help.tell(alloc, out) {
+    match help.deliver(alloc, out) {
         Ok(status) => status,
         Err(fault) => {
             let ending = Ending::of_run(fault, STANDARD_OUTPUT, out.failure());
-            tell_error(alloc, &ending, err)
+            report_error(alloc, &ending, err)
         }
     }
 }
 
 /// Writes an ending to standard error, and returns the status.
-pub fn tell_error<S: Sink>(alloc: Global, ending: &Ending<'_>, err: &mut S) -> u8
+pub fn report_error<S: Sink>(alloc: Global, ending: &Ending<'_>, err: &mut S) -> u8
     requires { ¬ IsTrue (S.has_failed err.old) }
-    ensures { IsTold ending.now
+    ensures { IsRecorded ending.now
         (stream (S.written err.old) (S.written err.new) (S.has_failed err.new)) result }
 {
-    match ending.tell(alloc, err) {
+    match ending.deliver(alloc, err) {
         Ok(status) => status,
         Err(RunFault::Device) => FAILED,
-        Err(RunFault::NoMemory) => tell_no_memory(err),
+        Err(RunFault::NoMemory) => report_no_memory(err),
     }
 }
 
 /// Writes that memory was refused, and returns the status.
-fn tell_no_memory<S: Sink>(err: &mut S) -> u8
+fn report_no_memory<S: Sink>(err: &mut S) -> u8
     requires { ¬ IsTrue (S.has_failed err.old) }
     ensures status { result ≡ 3 }
     ensures text { ¬ IsTrue (S.has_failed err.new)
         → Appends (S.written err.old) (S.written err.new) no_memory_text }
 {
-    let _told = put_all(err, NO_MEMORY.as_bytes());
+    let _recorded = put_all(err, NO_MEMORY.as_bytes());
     FAILED
 }
 
@@ -152,7 +152,7 @@ impl<'a> Ending<'a> {
     }
 
     /// Writes the ending, and returns its status. Memory is needed only for the words of clap and of the system.
-    pub fn tell<S: Sink>(&self, alloc: Global, sink: &mut S) -> Result<u8, RunFault>
+    pub fn deliver<S: Sink>(&self, alloc: Global, sink: &mut S) -> Result<u8, RunFault>
         requires { ¬ IsTrue (S.has_failed sink.old) }
         ensures status { IfOk result (EndsWith self.now) }
         ensures text { IfOk result (λ _.
@@ -170,8 +170,8 @@ impl<'a> Ending<'a> {
         ensures { EndsWith self.now result }
     {
         match self {
-            Ending::Told(error) if error.use_stderr() => 2,
-            Ending::Told(_) => 0,
+            Ending::Recorded(error) if error.use_stderr() => 2,
+            Ending::Recorded(_) => 0,
             Ending::NotText | Ending::ReadTwice | Ending::Apart(_) => 2,
             Ending::Device { .. } | Ending::NoMemory => FAILED,
         }
@@ -182,7 +182,7 @@ impl<'a> Ending<'a> {
         ensures { IsTrue result ↔ ShowsHelp self.now }
     {
         match self {
-            Ending::Told(error) => !error.use_stderr(),
+            Ending::Recorded(error) => !error.use_stderr(),
             _ => false,
         }
     }
@@ -197,7 +197,7 @@ impl<'a> Ending<'a> {
             → HasForeignText self.now × (S.written sink.new ≡ S.written sink.old) }
     {
         match self {
-            Ending::Told(error) => put_made(sink, format!(in alloc; "{error}")),
+            Ending::Recorded(error) => put_made(sink, format!(in alloc; "{error}")),
             Ending::NotText => put_text(sink, NOT_TEXT),
             Ending::ReadTwice => put_text(sink, READ_TWICE),
             Ending::Apart(apart) => Ok(put_apart(sink, apart.first(), apart.second())?),
@@ -288,16 +288,16 @@ For more information, try '--help'.
 impl<'a> From<clap::Error> for Ending<'a> {
     ghost use Rattle.std.specs.Prelude.{◌≡◌, ◌≢◌, ◌⊎◌};
     ghost use Rattle.clap.specs.Words.{kind_of};
-    ghost use Rattle.dia_cli.specs.declared.ending.Ending.TheVariants.{Told, NoMemory};
+    ghost use Rattle.dia_cli.specs.declared.ending.Ending.TheVariants.{Recorded, NoMemory};
     ghost use Rattle.clap.specs.declared.error.kind.ErrorKind.TheVariants.{OutOfMemory};
 
     ghost from_gives = { λ error ending. ((kind_of error ≡ OutOfMemory) × (ending ≡ NoMemory))
-        ⊎ ((kind_of error ≢ OutOfMemory) × (ending ≡ Told error)) };
+        ⊎ ((kind_of error ≢ OutOfMemory) × (ending ≡ Recorded error)) };
 
     fn from(error: clap::Error) -> Ending<'a> {
         match error.kind() {
             ErrorKind::OutOfMemory => Ending::NoMemory,
-            _ => Ending::Told(error),
+            _ => Ending::Recorded(error),
         }
     }
 }

@@ -18,7 +18,7 @@
 //! ```
 //!
 //! An `Ending` says why there is no outcome. `finish` prints it, and answers the status of the process: help on standard output,
-//! and any other on standard error, as `tell_error` does.
+//! and any other on standard error, as `report_error` does.
 #![tactic(auto)]
 
 mod apart;
@@ -37,7 +37,7 @@ mod values;
 
 pub use apart::Apart;
 pub use arguments::parse_words;
-pub use ending::{Ending, STANDARD_OUTPUT, finish, tell_error};
+pub use ending::{Ending, STANDARD_OUTPUT, finish, report_error};
 pub use opened_inputs::open_inputs;
 pub use opener::{OfProcess, Opener};
 pub use origin::{BASE_DICTIONARY, NO_TABLE, Origin, Origins, STANDARD_INPUT};

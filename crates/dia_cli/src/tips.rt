@@ -17,9 +17,9 @@ pub fn advised<'a>(alloc: Global, words: &[String], ending: Ending<'a>) -> Endin
     ensures { IsAdvised ending.entry result }
 {
     match ending {
-        Ending::Told(fault) => match better_fault(alloc, words, &fault) {
-            Some(better) => Ending::Told(better),
-            None => Ending::Told(fault),
+        Ending::Recorded(fault) => match better_fault(alloc, words, &fault) {
+            Some(better) => Ending::Recorded(better),
+            None => Ending::Recorded(fault),
         },
         other => other,
     }
@@ -144,11 +144,11 @@ fn given(alloc: Global, row: &CommandRow<'_>, rest: &[String]) -> Option<clap::E
         return None;
     };
     let command = row.name;
-    let told = format!(in alloc;
+    let recorded = format!(in alloc;
         "unexpected argument '{second}' found\n\n  tip: the dictionary of {command} is given by --dict, as in \
          {command} --dict {first} {second}"
     );
-    fault(alloc, row, told)
+    fault(alloc, row, recorded)
 }
 
 /// The diagnostic of `--dict` for a command whose dictionaries are words.
@@ -175,24 +175,24 @@ fn only_with_dict(
 fn fault(
     alloc: Global,
     row: &CommandRow<'_>,
-    told: Result<String, AllocError>,
+    recorded: Result<String, AllocError>,
 ) -> Option<clap::Error>
     ensures { IfSome result (λ fault. kind_of fault ≡ UnknownArgument) }
 {
-    let Ok(told) = told else {
+    let Ok(recorded) = recorded else {
         return None;
     };
     let Ok(usage) = usage_of(alloc, row) else {
         return None;
     };
-    fault_of(alloc, told.as_str(), usage.as_str())
+    fault_of(alloc, recorded.as_str(), usage.as_str())
 }
 
-fn fault_of(alloc: Global, told: &str, usage: &str) -> Option<clap::Error>
+fn fault_of(alloc: Global, recorded: &str, usage: &str) -> Option<clap::Error>
     ensures { IfSome result (λ fault. kind_of fault ≡ UnknownArgument) }
 {
     let mut line = clap::Command::new(alloc, "diacmd").override_usage(usage);
-    let fault = line.error(ErrorKind::UnknownArgument, told);
+    let fault = line.error(ErrorKind::UnknownArgument, recorded);
     // By a call, as in `with_command` of the command line.
     drop(line);
     fault.ok()

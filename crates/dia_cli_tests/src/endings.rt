@@ -24,13 +24,13 @@ const fn device(name: &str, error: Option<io::Error>) -> Ending<'_> {
 fn other_endings_go_to_standard_error(rt: HostRuntime) {
     let alloc = rt.alloc();
     let missing = Some(io::Error::from_raw_os_error(2));
-    let told = "device failed\nnofile.hex: No such file or directory (os error 2)\n";
-    assert!(rt; ends_with(alloc, device("nofile.hex", missing), 3, "", told));
+    let recorded = "device failed\nnofile.hex: No such file or directory (os error 2)\n";
+    assert!(rt; ends_with(alloc, device("nofile.hex", missing), 3, "", recorded));
     assert!(rt; ends_with(alloc, device("-", None), 3, "", "device failed\n"));
     assert!(rt; ends_with(alloc, Ending::NoMemory, 3, "", "no memory\n"));
-    let told =
+    let recorded =
         "error: a word of the command line isn't UTF-8\n\nFor more information, try '--help'.\n";
-    assert!(rt; ends_with(alloc, Ending::NotText, 2, "", told));
+    assert!(rt; ends_with(alloc, Ending::NotText, 2, "", recorded));
 }
 
 #[test]
@@ -43,8 +43,8 @@ fn a_stream_that_fails_is_a_failed_device(rt: HostRuntime) -> Result<(), Fail> {
     assert!(rt; fails(alloc, device("-", None)));
     assert!(rt; fails(alloc, Ending::NoMemory));
     // Where standard error doesn't fail, it is told there.
-    let told = "device failed\nstandard output: broken pipe\n";
-    assert!(rt; fails_with(alloc, ending_of(alloc, &["diacmd", "--help"])?, told));
+    let recorded = "device failed\nstandard output: broken pipe\n";
+    assert!(rt; fails_with(alloc, ending_of(alloc, &["diacmd", "--help"])?, recorded));
     Ok(())
 }
 

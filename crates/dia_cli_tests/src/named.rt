@@ -59,7 +59,7 @@ header flags R--- code 282 DPR app 0 hop 1 end 2 length 32
 ";
 
 #[test]
-fn each_line_is_shown_behind_its_number(rt: HostRuntime) -> Result<(), Fail> {
+fn each_line_is_shown_after_its_number(rt: HostRuntime) -> Result<(), Fail> {
     let alloc = rt.alloc();
     let inputs = Inputs {
         first: input(alloc, base_text())?,

@@ -30,10 +30,10 @@ same_answer true false h k = sym (k.1 (h.0 refl))
 same_answer false true h k = h.1 (k.0 refl)
 
 one_declaration : (e f : DictEntry) (l k : List Failing) → AreDeclarationFailings e f l → AreDeclarationFailings e f k → l ≡ k
-one_declaration e f l k x y = x.are ∙ ap₂ told (same_answer x.takes_flag y.takes_flag x.flag_is y.flag_is) (same_answer x.takes_format y.takes_format x.format_is y.format_is) ∙ sym y.are
+one_declaration e f l k x y = x.are ∙ ap₂ recorded (same_answer x.takes_flag y.takes_flag x.flag_is y.flag_is) (same_answer x.takes_format y.takes_format x.format_is y.format_is) ∙ sym y.are
   where
-    told : Bool → Bool → List Failing
-    told flag format = option_to_list (unless (same_key e.key f.key) failing.Keys) ++ option_to_list (unless flag failing.MRules) ++ option_to_list (unless format failing.Formats)
+    recorded : Bool → Bool → List Failing
+    recorded flag format = option_to_list (unless (same_key e.key f.key) failing.Keys) ++ option_to_list (unless flag failing.MRules) ++ option_to_list (unless format failing.Formats)
 
 module _ (c : Compared) where
   of_entries : (t : Test) (i j : ℕ) (e f : DictEntry) → slice_get c.sides.first.entries i ≡ Some e → slice_get c.sides.second.entries j ≡ Some f
@@ -87,5 +87,5 @@ of_answer a b u table Yes text other exit ending x y = (x.0 ∙ sym y.0, x.1 ∙
 of_answer a b u table (No k i t) text other exit ending x y = of_failure a b u table k i t text other exit ending x y
 
 pub one_text : ComparisonHasOneText
-one_text a b u table text other exit ending (x, is_x, told_x) (y, is_y, told_y) =
-    of_answer a b u table y text other exit ending (subst (λ z. IsAnswerJson a b u table z text exit) (one_comparison a b u table x y is_x is_y) told_x) told_y
+one_text a b u table text other exit ending (x, is_x, recorded_x) (y, is_y, recorded_y) =
+    of_answer a b u table y text other exit ending (subst (λ z. IsAnswerJson a b u table z text exit) (one_comparison a b u table x y is_x is_y) recorded_x) recorded_y

@@ -64,15 +64,15 @@ not_none answer k i t all fails is same none e = let no : No k i t ≡ Yes = sym
 -- ---- texts
 
 -- the same of the same sides
-pub fails_told : (x y a b : Side) (fails : List Failing) (text : List ℕ) → x ≡ a → y ≡ b → text ≡ compact_text (array (items_of (map (failing_value x y) fails)))
+pub fails_recorded : (x y a b : Side) (fails : List Failing) (text : List ℕ) → x ≡ a → y ≡ b → text ≡ compact_text (array (items_of (map (failing_value x y) fails)))
     → text ≡ compact_text (array (items_of (map (failing_value a b) fails)))
-fails_told x y a b fails text is_a is_b is = is ∙ ap₂ (λ (s t : Side). compact_text (array (items_of (map (failing_value s t) fails)))) is_a is_b
+fails_recorded x y a b fails text is_a is_b is = is ∙ ap₂ (λ (s t : Side). compact_text (array (items_of (map (failing_value s t) fails)))) is_a is_b
 
 yes_is : codes "{\"verdict\":\"yes\"}\n" ≡ json_line (verdict_members (codes "yes") no_members)
 unfolding serde_json_on_literals
 yes_is = refl
 
-pub yes_told : {E : Type 0} (a b : Dictionary) (u : Unknown) (table : PlainTable) (answer : Answer) (r : Result Outcome E) → answer ≡ Yes
+pub yes_recorded : {E : Type 0} (a b : Dictionary) (u : Unknown) (table : PlainTable) (answer : Answer) (r : Result Outcome E) → answer ≡ Yes
     → IfOk r (λ o. string_bytes o.text ≡ codes "{\"verdict\":\"yes\"}\n") → IfOk r (λ o. o.exit ≡ exits.Yes) → IfOk r (λ o. IsAnswerJson a b u table answer (string_bytes o.text) o.exit)
-yes_told a b u table answer (Ok o) is is_text is_exit = subst (λ (x : Answer). IsAnswerJson a b u table x (string_bytes o.text) o.exit) (sym is) (is_text ∙ yes_is, is_exit)
-yes_told a b u table answer (Err e) is is_text is_exit = tt
+yes_recorded a b u table answer (Ok o) is is_text is_exit = subst (λ (x : Answer). IsAnswerJson a b u table x (string_bytes o.text) o.exit) (sym is) (is_text ∙ yes_is, is_exit)
+yes_recorded a b u table answer (Err e) is is_text is_exit = tt

@@ -22,9 +22,9 @@ use Rattle.dia_run.specs.Outcome.{IsCompareOutcome}
 use Rattle.dia_run.specs.Pairs.{IsTableText}
 use Rattle.dia_run.specs.Report.{AreReadFrom}
 use Rattle.dia_run.specs.Texts.{IsDictionaryText}
-use Rattle.dia_refused_json.specs.Telling.{IsRefusal, RefusedDictionaries}
+use Rattle.dia_refused_json.specs.Recording.{IsRefusal, RefusedDictionaries}
 use Rattle.dia_refused_json.specs.Members.{json_line, verdict_members}
-use Rattle.dia_refused_json.specs.Telling.{RefusesAs}
+use Rattle.dia_refused_json.specs.Recording.{RefusesAs}
 use Rattle.dia_compared_json.specs.Failures.{failure_json, pairs_listed}
 
 -- the pair at this place fails the test, for all of this
@@ -43,14 +43,14 @@ IsAnswerJson a b u t Passed text exit = (text ≡ json_line (verdict_members (co
 IsAnswerJson a b u t (Failed k i test) text exit = IsFailureJson a b u t k i test text exit
 
 -- what is found of the table's pairs
-abbrev pub TellsComparison : Unknown → PlainTable → Dictionary → Dictionary → List ℕ → Exit → Type 0
-TellsComparison u table a b text exit = (answer : Answer) × IsCompared a b u table answer × IsAnswerJson a b u table answer text exit
+abbrev pub RecordsComparison : Unknown → PlainTable → Dictionary → Dictionary → List ℕ → Exit → Type 0
+RecordsComparison u table a b text exit = (answer : Answer) × IsCompared a b u table answer × IsAnswerJson a b u table answer text exit
 
 -- `compare` of the inputs: its answer, or a dictionary or the table is refused
 abbrev pub IsCompareJson : Unknown → Inputs → List ℕ → Exit → Type 0
 IsCompareJson u inputs text exit =
     ((a : Dictionary) × (b : Dictionary) × (table : PlainTable) × IsDictionaryText inputs.first a × IsDictionaryText inputs.second b
-    × IsTableText inputs.table table × TellsComparison u table a b text exit)
+    × IsTableText inputs.table table × RecordsComparison u table a b text exit)
     ⊎ (RefusedDictionaries inputs text exit ⊎ IsRefusal (RefusesAs (IsCompareOutcome u inputs)) inputs.table text exit)
 
 -- what its report has, but for one of an input that is refused: all that was compared, and what was found
@@ -65,4 +65,4 @@ IsCompareReport meaning u inputs report text exit = ⊥
 -- two dictionaries, a policy and a table have one text, and one way to end
 abbrev pub ComparisonHasOneText : Type 0
 ComparisonHasOneText = (a b : Dictionary) (u : Unknown) (table : PlainTable) (text other : List ℕ) (exit ending : Exit)
-    → TellsComparison u table a b text exit → TellsComparison u table a b other ending → (text ≡ other) × (exit ≡ ending)
+    → RecordsComparison u table a b text exit → RecordsComparison u table a b other ending → (text ≡ other) × (exit ≡ ending)

@@ -25,8 +25,8 @@ pub fn number_or_null(alloc: Global, number: Option<u32>) -> Result<String, Allo
 
 /// Adds an element of an array, with the comma before it.
 pub fn push_element(elements: &mut String, value: &str) -> Result<(), AllocError>
-    ensures { OnOk result ((told : Data) → value.now ≡ compact_text told
-        → string_bytes elements.new ≡ string_bytes elements.old ++ element told) }
+    ensures { OnOk result ((recorded : Data) → value.now ≡ compact_text recorded
+        → string_bytes elements.new ≡ string_bytes elements.old ++ element recorded) }
 {
     write!(elements, ",{value}")
 }
@@ -36,15 +36,15 @@ pub fn array_text(alloc: Global, elements: &str) -> Result<String, AllocError>
     ensures { IfOk result (λ text. (values : List Data) → elements.now ≡ flat_map element values
         → string_bytes text ≡ compact_text (array (items_of values))) }
 {
-    let listed = behind_comma(elements);
+    let listed = after_comma(elements);
     format!(in alloc; "[{listed}]")
 }
 
-fn behind_comma(text: &str) -> &str
+fn after_comma(text: &str) -> &str
     ensures { result.now ≡ after_first (λ c. c == 44) text.now }
 {
     match text.split_once(',') {
-        Some((_, behind)) => behind,
+        Some((_, following)) => following,
         None => "",
     }
 }

@@ -6,7 +6,7 @@ ghost use Rattle.dia_inclusion.specs.Failings.{AreFailingsFor, AreFailingsOf};
 ghost use Rattle.dia_tables.specs.TableText.{plain_table};
 ghost use Rattle.dia_compared_json.specs.Compared.{IsAnswerJson, IsCompareJson, IsCompareReport, IsFailureJson};
 ghost use Rattle.dia_compared_json.specs.Failures.{pairs_listed};
-ghost use Rattle.dia_refused_json.specs.Telling.{HasReport};
+ghost use Rattle.dia_refused_json.specs.Recording.{HasReport};
 
 use crate::failures::{failure_text, pair_at};
 use dia_book::Book;
@@ -16,7 +16,7 @@ use dia_inclusion::{Answer, Failing, PairKind, Test, Verdict, judge_table};
 use dia_io::{Exit, Inputs};
 use dia_refused_json::refuse;
 use dia_report::{Answered, BothBooks, Compared, Report};
-use dia_run::{Outcome, read_dictionary, read_table, told};
+use dia_run::{Outcome, read_dictionary, read_table, recorded};
 use dia_tables::Table;
 use std::alloc::{AllocError, Global};
 
@@ -74,11 +74,11 @@ fn found_of<A: Book, B: Book>(
         (plain_table table.now) found.verdict.answer) }
     ensures failings { IfOk result (λ found. AreFailingsFor (A.meaning a.now) (B.meaning b.now) unknown
         (plain_table table.now) found.verdict.answer found.verdict.failings.items) }
-    ensures told { IfOk result (λ found. IsAnswerJson (A.meaning a.now) (B.meaning b.now) unknown
+    ensures recorded { IfOk result (λ found. IsAnswerJson (A.meaning a.now) (B.meaning b.now) unknown
         (plain_table table.now) found.verdict.answer (string_bytes found.text) found.exit) }
 {
     let verdict = judge_table(alloc, a, b, unknown, table)?;
-    let Outcome { text, exit } = told_of(alloc, a, b, unknown, table, &verdict)?;
+    let Outcome { text, exit } = recorded_of(alloc, a, b, unknown, table, &verdict)?;
     Ok(Found {
         text,
         exit,
@@ -87,7 +87,7 @@ fn found_of<A: Book, B: Book>(
 }
 
 /// The object of an answer, and how the program ends.
-fn told_of<A: Book, B: Book>(
+fn recorded_of<A: Book, B: Book>(
     alloc: Global,
     a: &A,
     b: &B,
@@ -103,7 +103,7 @@ fn told_of<A: Book, B: Book>(
         (plain_table table.now) verdict.now.answer (string_bytes outcome.text) outcome.exit) }
 {
     match verdict.answer {
-        Answer::Yes => told(alloc, "{\"verdict\":\"yes\"}\n", Exit::Yes),
+        Answer::Yes => recorded(alloc, "{\"verdict\":\"yes\"}\n", Exit::Yes),
         Answer::No { kind, pair, reason } => {
             let fails = verdict.failings.as_slice();
             failure_of(alloc, a, b, unknown, table, kind, pair, reason, fails)

@@ -55,8 +55,8 @@ fn failed_text(
     test: Test,
     fails: &str,
 ) -> Result<String, AllocError>
-    ensures { IfOk result (λ text. (told : List Data) → fails.now ≡ compact_text (array (items_of told))
-        → string_bytes text ≡ json_line (failure_members kind (plain_pair pair.now) test told)) }
+    ensures { IfOk result (λ text. (recorded : List Data) → fails.now ≡ compact_text (array (items_of recorded))
+        → string_bytes text ≡ json_line (failure_members kind (plain_pair pair.now) test recorded)) }
 {
     let kind = kind_word(kind);
     let test = test_word(test);

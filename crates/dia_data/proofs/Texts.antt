@@ -7,8 +7,8 @@ use Rattle.std.proofs.lemmas.List.{take-append-drop, take-append-le, length-take
 use Rattle.std.proofs.lemmas.Str.{IsUtf8-append, IsUtf8-encode, IsUtf8-drop, IsCharBoundary-from_take, length-encode, len_utf8_bounds}
 
 -- what follows a text in a text is a text
-pub IsUtf8-behind : (a b : List ℕ) → IsUtf8 a → IsUtf8 (a ++ b) → IsUtf8 b
-IsUtf8-behind a b h u =
+pub IsUtf8-following : (a b : List ℕ) → IsUtf8 a → IsUtf8 (a ++ b) → IsUtf8 b
+IsUtf8-following a b h u =
     let front : IsUtf8 (take (length a) (a ++ b)) = subst IsUtf8 (sym (take-append_seam a b)) h in
     subst IsUtf8 (drop-append_seam a b) (IsUtf8-drop (a ++ b) (length a) u (IsCharBoundary-from_take (a ++ b) (length a) u (omega (arith, length-append a b)) front))
 
@@ -25,8 +25,8 @@ pub StartsWithNoChar-empty : (bs : List ℕ) → length bs ≡ 0 → StartsWithN
 StartsWithNoChar-empty bs empty c rest s e = omega (arith, ap length e, length-append (encode_utf8 c) rest, length-encode c, len_utf8_bounds c)
 
 -- no character begins what follows the longest front that is a text
-pub StartsWithNoChar-behind : (bs : List ℕ) (n : ℕ) → IsValidUpTo bs n → StartsWithNoChar (drop n bs)
-StartsWithNoChar-behind bs n v c rest s e =
+pub StartsWithNoChar-following : (bs : List ℕ) (n : ℕ) → IsValidUpTo bs n → StartsWithNoChar (drop n bs)
+StartsWithNoChar-following bs n v c rest s e =
     let more : take (n + length (encode_utf8 c)) bs ≡ take n bs ++ encode_utf8 c = take-add n (length (encode_utf8 c)) bs
     ∙ ap (λ (r : List ℕ). take n bs ++ take (length (encode_utf8 c)) r) e ∙ ap (λ (r : List ℕ). take n bs ++ r) (take-append_seam (encode_utf8 c) rest) in
     v.longest (n + length (encode_utf8 c)) (omega (arith, length-encode c, len_utf8_bounds c)) (subst IsUtf8 (sym more) (IsUtf8-append (take n bs) (encode_utf8 c) v.front (IsUtf8-encode c s)))

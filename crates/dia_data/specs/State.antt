@@ -31,7 +31,7 @@ IsSeen (Graphic graphic) kind bytes = ((kind ≡ DiameterIdentity) ⊎ (kind ≡
 IsSeen (Characters text) kind bytes = (kind ≡ Utf8String) × IsSeenOfText text bytes
 
 -- the state has been fed these bytes, in whatever pieces
-pub record StandsForData (state : LeafState) (kind : PlainFormat) (bytes : List ℕ) : Type 0 where
+pub record DenotesData (state : LeafState) (kind : PlainFormat) (bytes : List ℕ) : Type 0 where
   pub format : plain_format state.format.now ≡ kind
   pub front : front_bytes state.front ≡ take front_length bytes
   pub seen : IsSeen state.seen kind bytes

@@ -40,11 +40,11 @@ pub struct SeenData {
 impl<'a> LeafState<'a> {
     ghost use Rattle.dia_data.specs.Leaf.{IsLeafAnswer};
     ghost use Rattle.dia_data.specs.Plain.{PlainFormat, plain_format};
-    ghost use Rattle.dia_data.specs.State.{HasSeenData, StandsForData};
+    ghost use Rattle.dia_data.specs.State.{HasSeenData, DenotesData};
 
     /// Before any data of the format.
     pub fn start(format: &'a Format) -> Self
-        ensures { StandsForData result (plain_format format.now) [] }
+        ensures { DenotesData result (plain_format format.now) [] }
     {
         let seen = match format {
             Format::Utf8String => Seen::Characters(Text::start()),
@@ -60,8 +60,8 @@ impl<'a> LeafState<'a> {
 
     /// Takes the next bytes of the data.
     pub fn feed(&mut self, piece: &[u8])
-        ensures { (kind : PlainFormat) (bytes : List ℕ) → StandsForData self.old kind bytes
-            → StandsForData self.new kind (bytes ++ piece.now) }
+        ensures { (kind : PlainFormat) (bytes : List ℕ) → DenotesData self.old kind bytes
+            → DenotesData self.new kind (bytes ++ piece.now) }
     {
         self.front.take_from(piece);
         match self.seen {
@@ -73,7 +73,7 @@ impl<'a> LeafState<'a> {
 
     /// What `accepts` says of the bytes that were fed.
     pub fn finish(self) -> Leaf
-        ensures { (kind : PlainFormat) (bytes : List ℕ) → StandsForData self.entry kind bytes
+        ensures { (kind : PlainFormat) (bytes : List ℕ) → DenotesData self.entry kind bytes
             → IsLeafAnswer result kind bytes }
     {
         let by_front = accepts(self.format, self.front.as_slice());
@@ -86,7 +86,7 @@ impl<'a> LeafState<'a> {
 
     /// What has been seen of the data, apart from their format.
     pub fn seen(self) -> SeenData
-        ensures seen { (kind : PlainFormat) (bytes : List ℕ) → StandsForData self.entry kind bytes
+        ensures seen { (kind : PlainFormat) (bytes : List ℕ) → DenotesData self.entry kind bytes
             → HasSeenData result kind bytes }
     {
         SeenData {
@@ -97,8 +97,8 @@ impl<'a> LeafState<'a> {
 
     /// The state of data of a format of which this has been seen.
     pub fn of(format: &'a Format, seen: SeenData) -> Self
-        ensures stands { (kind : PlainFormat) (bytes : List ℕ) → HasSeenData seen kind bytes
-            → plain_format format.now ≡ kind → StandsForData result kind bytes }
+        ensures occurs { (kind : PlainFormat) (bytes : List ℕ) → HasSeenData seen kind bytes
+            → plain_format format.now ≡ kind → DenotesData result kind bytes }
     {
         LeafState {
             format,

@@ -7,10 +7,10 @@ use Rattle.dia_ccf.specs.Plain.{PlainSource, PlainDecl, PlainDef}
 use Rattle.dia_dict.specs.declared.fault.DictKind.{DictKind}
 use Rattle.dia_dict.specs.declared.fault.DictKind.TheVariants.{NoGroupFormat, DuplicateKey}
 use Rattle.dia_dict.specs.declared.fault.DictFault.{DictFault}
-use Rattle.dia_dict.specs.declared.fault.DictFault.TheVariants.{Stands}
+use Rattle.dia_dict.specs.declared.fault.DictFault.TheVariants.{Occurs}
 use Rattle.dia_dict.specs.declared.findings.Part.{Part}
 use Rattle.dia_dict.specs.Base.{base_source}
-use Rattle.dia_dict.specs.Resolution.{first_wrong, IsToldOf, wrong_limits, wrong_names, no_groups, header_mismatches, duplicate_keys, duplicate_commands, wrong_rules}
+use Rattle.dia_dict.specs.Resolution.{first_wrong, IsRecordedOf, wrong_limits, wrong_names, no_groups, header_mismatches, duplicate_keys, duplicate_commands, wrong_rules}
 use Rattle.dia_dict.specs.Resolution.{wrong, alone, again, placed_avps, placed_groups, first_decls, first_defs, same_decl_name, same_def_name, lacks_group, is_bare}
 use Rattle.dia_dict.proofs.Duplicates.{same_named}
 use Rattle.dia_dict.proofs.FaultlessSources.{placed_name, placed_group_name}
@@ -61,5 +61,5 @@ first_wrong-base_source = none_wrong base_source
     refl wrong_names-base_source no_groups-base_source header_mismatches-base_source duplicate_keys-base_source duplicate_commands-base_source wrong_rules-base_source
 
 -- no fault of a sound source can be reported
-pub none_told : (s : PlainSource) (fault : DictFault) (kind : DictKind) (name slot : String Global) → first_wrong s ≡ None → fault ≡ Stands kind name slot → IsToldOf s fault → ⊥
-none_told s fault kind name slot sound stands told = let told_so : IsToldOf s (Stands kind name slot) = subst (IsToldOf s) stands told in none-some _ (sym sound ∙ told_so)
+pub none_recorded : (s : PlainSource) (fault : DictFault) (kind : DictKind) (name slot : String Global) → first_wrong s ≡ None → fault ≡ Occurs kind name slot → IsRecordedOf s fault → ⊥
+none_recorded s fault kind name slot sound occurs recorded = let recorded_so : IsRecordedOf s (Occurs kind name slot) = subst (IsRecordedOf s) occurs recorded in none-some _ (sym sound ∙ recorded_so)

@@ -9,7 +9,7 @@ pub mod Repeats
 pub mod Firsts
 pub mod Made
 pub mod Placing
-pub mod RepeatsTold
+pub mod RepeatsRecorded
 pub mod FirstNamed
 pub mod EntryLists
 pub mod Copies

@@ -77,24 +77,24 @@ module _ {X : Type 0} (test : X → Bool) (bad : X → Wrong) where
   abbrev passes : Part × X → Bool
   passes x = test x.1
 
-  abbrev tells : Part × X → PlainFinding
-  tells x = finding (bad x.1) x.0 None
+  abbrev records : Part × X → PlainFinding
+  records x = finding (bad x.1) x.0 None
 
   pub alone-append : (xs ys : List (Part × X)) → alone test bad (xs ++ ys) ≡ alone test bad xs ++ alone test bad ys
-  alone-append xs ys = ap (map tells) (filter-append passes xs ys) ∙ map-append tells (filter passes xs) (filter passes ys)
+  alone-append xs ys = ap (map records) (filter-append passes xs ys) ∙ map-append records (filter passes xs) (filter passes ys)
 
   alone-one : (x : Part × X) → alone test bad (x ∷ []) ≡ (if test x.1 then finding (bad x.1) x.0 None ∷ [] else [])
   alone-one x = by (test x.1)
     where
-      by : (b : Bool) → map tells (cond b (x ∷ []) []) ≡ (if b then finding (bad x.1) x.0 None ∷ [] else [])
+      by : (b : Bool) → map records (cond b (x ∷ []) []) ≡ (if b then finding (bad x.1) x.0 None ∷ [] else [])
       by true = refl
       by false = refl
 
   -- what is reported after one member more of a list in memory
-  pub alone-more : {Y : Type 0} (at : ℕ → Part) (f : Y → X) (ys : List Y) (i : ℕ) (y : Y) (before told next : List PlainFinding) → i < length ys → y ≡ get_or ys i y
-      → told ≡ before ++ alone test bad (placed at (map f (take i ys))) → next ≡ told ++ (if test (f y) then finding (bad (f y)) (at i) None ∷ [] else [])
+  pub alone-more : {Y : Type 0} (at : ℕ → Part) (f : Y → X) (ys : List Y) (i : ℕ) (y : Y) (before recorded next : List PlainFinding) → i < length ys → y ≡ get_or ys i y
+      → recorded ≡ before ++ alone test bad (placed at (map f (take i ys))) → next ≡ recorded ++ (if test (f y) then finding (bad (f y)) (at i) None ∷ [] else [])
       → next ≡ before ++ alone test bad (placed at (map f (take (i + 1) ys)))
-  alone-more at f ys i y before told next within read so more =
+  alone-more at f ys i y before recorded next within read so more =
       let all = alone test bad (placed at (map f (take i ys))) in
       let one : List PlainFinding = if test (f y) then finding (bad (f y)) (at i) None ∷ [] else [] in
       let longer = ap (alone test bad) (placed-more at f ys i y within read) ∙ alone-append (placed at (map f (take i ys))) ((at i, f y) ∷ [])
@@ -102,34 +102,34 @@ module _ {X : Type 0} (test : X → Bool) (bad : X → Wrong) where
       more ∙ ap (λ (fs : List PlainFinding). fs ++ one) so ∙ append_assoc before all one ∙ ap (λ (fs : List PlainFinding). before ++ fs) (sym longer)
 
 -- the same for parts that have their places, and a fault with more in it
-pub chosen-more : {X Y : Type 0} (test : Y → Bool) (tell : Y → PlainFinding) (view : X → Y) (xs : List X) (i : ℕ) (x : X) (before told next : List PlainFinding) → i < length xs → x ≡ get_or xs i x
-    → told ≡ before ++ map tell (filter test (map view (take i xs))) → next ≡ told ++ (if test (view x) then tell (view x) ∷ [] else [])
-    → next ≡ before ++ map tell (filter test (map view (take (i + 1) xs)))
-chosen-more {X} {Y} test tell view xs i x before told next within read so more =
+pub chosen-more : {X Y : Type 0} (test : Y → Bool) (deliver : Y → PlainFinding) (view : X → Y) (xs : List X) (i : ℕ) (x : X) (before recorded next : List PlainFinding) → i < length xs → x ≡ get_or xs i x
+    → recorded ≡ before ++ map deliver (filter test (map view (take i xs))) → next ≡ recorded ++ (if test (view x) then deliver (view x) ∷ [] else [])
+    → next ≡ before ++ map deliver (filter test (map view (take (i + 1) xs)))
+chosen-more {X} {Y} test deliver view xs i x before recorded next within read so more =
     let seen = map view (take i xs) in
-    let all = map tell (filter test seen) in
-    let one : List PlainFinding = if test (view x) then tell (view x) ∷ [] else [] in
+    let all = map deliver (filter test seen) in
+    let one : List PlainFinding = if test (view x) then deliver (view x) ∷ [] else [] in
     let longer = ap (map view) (take_more xs i x within ∙ ap (λ y. take i xs ++ y ∷ []) (sym read)) ∙ map-append view (take i xs) (x ∷ []) in
     more ∙ ap (λ (fs : List PlainFinding). fs ++ one) so ∙ append_assoc before all one
-    ∙ ap (λ (fs : List PlainFinding). before ++ fs) (sym (ap (λ ys. map tell (filter test ys)) longer ∙ ap (map tell) (filter-append test seen (view x ∷ []))
-    ∙ map-append tell (filter test seen) (filter test (view x ∷ [])) ∙ ap (λ (fs : List PlainFinding). all ++ fs) (by (test (view x)))))
+    ∙ ap (λ (fs : List PlainFinding). before ++ fs) (sym (ap (λ ys. map deliver (filter test ys)) longer ∙ ap (map deliver) (filter-append test seen (view x ∷ []))
+    ∙ map-append deliver (filter test seen) (filter test (view x ∷ [])) ∙ ap (λ (fs : List PlainFinding). all ++ fs) (by (test (view x)))))
   where
-    by : (b : Bool) → map tell (cond b (view x ∷ []) []) ≡ (if b then tell (view x) ∷ [] else [])
+    by : (b : Bool) → map deliver (cond b (view x ∷ []) []) ≡ (if b then deliver (view x) ∷ [] else [])
     by true = refl
     by false = refl
 
 -- what is reported of each part, in a loop over a list in memory
-pub told-more : {X Y : Type 0} (f : Part × Y → List PlainFinding) (at : ℕ → Part) (view : X → Y) (xs : List X) (i : ℕ) (x : X) (before told next : List PlainFinding)
-    → i < length xs → x ≡ get_or xs i x → told ≡ before ++ flat_map f (placed at (map view (take i xs))) → next ≡ told ++ f (at i, view x)
+pub recorded-more : {X Y : Type 0} (f : Part × Y → List PlainFinding) (at : ℕ → Part) (view : X → Y) (xs : List X) (i : ℕ) (x : X) (before recorded next : List PlainFinding)
+    → i < length xs → x ≡ get_or xs i x → recorded ≡ before ++ flat_map f (placed at (map view (take i xs))) → next ≡ recorded ++ f (at i, view x)
     → next ≡ before ++ flat_map f (placed at (map view (take (i + 1) xs)))
-told-more f at view xs i x before told next within read so more =
+recorded-more f at view xs i x before recorded next within read so more =
     more ∙ ap (λ (fs : List PlainFinding). fs ++ f (at i, view x)) so ∙ flat_map_more f before (placed at (map view (take i xs))) (at i, view x)
     ∙ ap (λ ys. before ++ flat_map f ys) (sym (placed-more at view xs i x within read))
 
 -- ---- groups and then commands
 
-pub told-of-defs : (f : Part × PlainDef → List PlainFinding) (s : PlainSource) (before told : List PlainFinding)
-    → told ≡ before ++ flat_map f (placed_groups s) → told ++ flat_map f (placed_commands s) ≡ before ++ flat_map f (placed_defs s)
-told-of-defs f s before told so =
+pub recorded-of-defs : (f : Part × PlainDef → List PlainFinding) (s : PlainSource) (before recorded : List PlainFinding)
+    → recorded ≡ before ++ flat_map f (placed_groups s) → recorded ++ flat_map f (placed_commands s) ≡ before ++ flat_map f (placed_defs s)
+recorded-of-defs f s before recorded so =
     ap (λ (fs : List PlainFinding). fs ++ flat_map f (placed_commands s)) so ∙ append_assoc before (flat_map f (placed_groups s)) (flat_map f (placed_commands s))
     ∙ ap (λ (fs : List PlainFinding). before ++ fs) (sym (flat_map-append f (placed_groups s) (placed_commands s)))

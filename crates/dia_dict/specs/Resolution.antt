@@ -129,7 +129,7 @@ pub record PlainFinding : Type 0 where
   pub other : Option Part
 
 abbrev pub finding : Wrong → Part → Option Part → PlainFinding
-finding told own other = record { wrong = told; part = Some own; other = other }
+finding recorded own other = record { wrong = recorded; part = Some own; other = other }
 
 -- ---- the parts and the rules, each with its place
 
@@ -321,6 +321,6 @@ abbrev pub first_wrong : PlainSource → Option Wrong
 first_wrong s = slice_get (all_wrong s) 0
 
 -- the fault that is reported is the first
-abbrev pub IsToldOf : PlainSource → DictFault → Type 0
-IsToldOf s (fault.Stands kind name slot) = first_wrong s ≡ Some (wrong kind (string_bytes name) (string_bytes slot))
-IsToldOf s fault.NoMemory = ⊤
+abbrev pub IsRecordedOf : PlainSource → DictFault → Type 0
+IsRecordedOf s (fault.Occurs kind name slot) = first_wrong s ≡ Some (wrong kind (string_bytes name) (string_bytes slot))
+IsRecordedOf s fault.NoMemory = ⊤

@@ -10,7 +10,7 @@ use Rattle.dia_dict.specs.declared.resolving.parts.Placed.{Placed}
 use Rattle.dia_dict.specs.declared.fault.DictFault.{DictFault}
 use Rattle.dia_dict.specs.declared.fault.DictFault.TheVariants as fault
 use Rattle.dia_dict.specs.declared.findings.Part.{Part}
-use Rattle.dia_dict.specs.declared.findings.Told.{Told}
+use Rattle.dia_dict.specs.declared.findings.Recorded.{Recorded}
 use Rattle.dia_dict.specs.declared.findings.Finding.{Finding}
 use Rattle.dia_dict.specs.declared.resolving.refusal.Refusal.{Refusal}
 use Rattle.dia_dict.specs.declared.resolving.refusal.Refusal.TheVariants as refusal
@@ -19,11 +19,11 @@ use Rattle.dia_dict.specs.declared.selectors.Selector.{Selector}
 use Rattle.dia_dict.specs.Selectors.{selector_of}
 use Rattle.dia_dict.specs.Resolution.{Wrong, wrong, PlainFinding, head_of}
 
-abbrev pub told : Told → Wrong
-told t = wrong t.kind t.name.now t.slot.now
+abbrev pub recorded : Recorded → Wrong
+recorded t = wrong t.kind t.name.now t.slot.now
 
 abbrev pub plain_finding : Finding → PlainFinding
-plain_finding f = record { wrong = told f.told; part = f.part; other = f.other }
+plain_finding f = record { wrong = recorded f.recorded; part = f.part; other = f.other }
 
 -- ---- parts as they lie in memory
 
@@ -52,27 +52,27 @@ named_def e = (e.0.now, placed_def e.1)
 -- ---- what is compared, and what is reported where it repeats
 
 abbrev pub keyed_text : Keyed (Bor (List ℕ)) → Part × (List ℕ × Wrong)
-keyed_text i = (i.part, (i.key.now, told i.told))
+keyed_text i = (i.part, (i.key.now, recorded i.recorded))
 
 abbrev pub keyed_key : Keyed Key → Part × (Key × Wrong)
-keyed_key i = (i.part, (i.key, told i.told))
+keyed_key i = (i.part, (i.key, recorded i.recorded))
 
-abbrev pub told_key : Part × (List ℕ × Key) → Part × (Key × Wrong)
-told_key n = (n.0, (n.1.1, wrong kind.DuplicateKey n.1.0 []))
+abbrev pub recorded_key : Part × (List ℕ × Key) → Part × (Key × Wrong)
+recorded_key n = (n.0, (n.1.1, wrong kind.DuplicateKey n.1.0 []))
 
 abbrev pub keyed_selector : Keyed Selector → Part × (Selector × Wrong)
-keyed_selector i = (i.part, (i.key, told i.told))
+keyed_selector i = (i.part, (i.key, recorded i.recorded))
 
-abbrev pub told_selector : Part × PlainDef → Part × (Selector × Wrong)
-told_selector d = (d.0, (selector_of (head_of d.1.head), wrong kind.DuplicateCommand d.1.name []))
+abbrev pub recorded_selector : Part × PlainDef → Part × (Selector × Wrong)
+recorded_selector d = (d.0, (selector_of (head_of d.1.head), wrong kind.DuplicateCommand d.1.name []))
 
 -- ---- answers
 
 -- the first of what is wrong is reported
 abbrev pub IsRefused : List Wrong → Refusal → Type 0
-IsRefused ws (refusal.Stands t) = slice_get ws 0 ≡ Some (told t)
+IsRefused ws (refusal.Occurs t) = slice_get ws 0 ≡ Some (recorded t)
 IsRefused ws refusal.NoMemory = ⊤
 
 abbrev pub wrong_of : DictFault → Option Wrong
-wrong_of (fault.Stands kind name slot) = Some (wrong kind (string_bytes name) (string_bytes slot))
+wrong_of (fault.Occurs kind name slot) = Some (wrong kind (string_bytes name) (string_bytes slot))
 wrong_of fault.NoMemory = None

@@ -1,7 +1,7 @@
 //! What is wrong with a source, and where.
 ghost use Rattle.std.specs.Prelude.{◌≡◌, Some, None, [], IfOk};
 ghost use Rattle.dia_dict.specs.Resolution.{wrong, finding, part_at, rule_at};
-ghost use Rattle.dia_dict.specs.SourceChecks.{told, plain_finding, wrong_of};
+ghost use Rattle.dia_dict.specs.SourceChecks.{recorded, plain_finding, wrong_of};
 
 use crate::fault::{DictFault, DictKind};
 use std::alloc::{AllocError, Global};
@@ -50,7 +50,7 @@ impl Part {
 
 /// What is reported of a fault: the names are those of `DictFault`, and parts of the source.
 #[derive(Debug, Clone, Copy)]
-pub struct Told<'a> {
+pub struct Recorded<'a> {
     pub kind: DictKind,
     pub name: &'a str,
     pub slot: &'a str,
@@ -59,19 +59,19 @@ pub struct Told<'a> {
 /// A fault of a source.
 #[derive(Clone, Copy)]
 pub struct Finding<'a> {
-    pub told: Told<'a>,
+    pub recorded: Recorded<'a>,
     /// What has the fault. A source with too many parts has it as a whole.
     pub part: Option<Part>,
     /// What it conflicts with: the first of those that it is like, or the declaration of a group.
     pub other: Option<Part>,
 }
 
-impl<'a> Told<'a> {
+impl<'a> Recorded<'a> {
     /// A fault of a definition or an AVP.
     pub(crate) fn of(kind: DictKind, name: &'a str) -> Self
-        ensures { told result ≡ wrong kind name.now [] }
+        ensures { recorded result ≡ wrong kind name.now [] }
     {
-        Told {
+        Recorded {
             kind,
             name,
             slot: "",
@@ -80,17 +80,17 @@ impl<'a> Told<'a> {
 
     /// A fault of a definition's rule.
     pub(crate) fn of_rule(kind: DictKind, name: &'a str, slot: &'a str) -> Self
-        ensures { told result ≡ wrong kind name.now slot.now }
+        ensures { recorded result ≡ wrong kind name.now slot.now }
     {
-        Told { kind, name, slot }
+        Recorded { kind, name, slot }
     }
 
     /// The finding that this part has the fault.
     pub(crate) fn at(self, part: Part) -> Finding<'a>
-        ensures { plain_finding result ≡ finding (told self.entry) part None }
+        ensures { plain_finding result ≡ finding (recorded self.entry) part None }
     {
         Finding {
-            told: self,
+            recorded: self,
             part: Some(part),
             other: None,
         }
@@ -99,10 +99,10 @@ impl<'a> Told<'a> {
     /// The finding that the source as a whole has the fault.
     pub(crate) fn of_source(self) -> Finding<'a>
         ensures { plain_finding result
-            ≡ record { wrong = told self.entry; part = None; other = None } }
+            ≡ record { wrong = recorded self.entry; part = None; other = None } }
     {
         Finding {
-            told: self,
+            recorded: self,
             part: None,
             other: None,
         }
@@ -110,10 +110,10 @@ impl<'a> Told<'a> {
 
     /// The finding that this part has the fault, and conflicts with the other.
     pub(crate) fn at_both(self, part: Part, other: Option<Part>) -> Finding<'a>
-        ensures { plain_finding result ≡ finding (told self.entry) part other }
+        ensures { plain_finding result ≡ finding (recorded self.entry) part other }
     {
         Finding {
-            told: self,
+            recorded: self,
             part: Some(part),
             other,
         }
@@ -121,11 +121,11 @@ impl<'a> Told<'a> {
 
     /// The fault, with copies of the names.
     pub(crate) fn fault(self, alloc: Global) -> Result<DictFault, AllocError>
-        ensures { IfOk result (λ fault. wrong_of fault ≡ Some (told self.entry)) }
+        ensures { IfOk result (λ fault. wrong_of fault ≡ Some (recorded self.entry)) }
     {
         let name = String::from_str(alloc, self.name)?;
         let slot = String::from_str(alloc, self.slot)?;
-        Ok(DictFault::Stands {
+        Ok(DictFault::Occurs {
             kind: self.kind,
             name,
             slot,

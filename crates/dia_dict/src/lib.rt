@@ -35,7 +35,7 @@ pub use dia_book::{
     Slot, accepts,
 };
 pub use fault::{DictFault, DictKind};
-pub use findings::{Finding, Part, PartKind, Told};
+pub use findings::{Finding, Part, PartKind, Recorded};
 pub use indexed_book::IndexedBook;
 pub use plain_book::PlainBook;
 pub use resolving::{

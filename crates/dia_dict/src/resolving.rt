@@ -2,9 +2,9 @@
 ghost use Rattle.std.specs.Prelude.{◌≡◌, None, IfOk, IfErr, map, slice_get};
 ghost use Rattle.dia_ccf.specs.Plain.{plain_source};
 ghost use Rattle.dia_dict.specs.Resolution.{resolved, all_findings, all_wrong, first_wrong};
-ghost use Rattle.dia_dict.specs.Resolution.{IsToldOf};
+ghost use Rattle.dia_dict.specs.Resolution.{IsRecordedOf};
 ghost use Rattle.std.specs.Option.{option_map};
-ghost use Rattle.dia_dict.specs.SourceChecks.{IsRefused, told, plain_finding};
+ghost use Rattle.dia_dict.specs.SourceChecks.{IsRefused, recorded, plain_finding};
 
 mod building;
 mod checks;
@@ -17,7 +17,7 @@ mod rules;
 mod soundness;
 
 use crate::fault::DictFault;
-use crate::findings::{Finding, Told};
+use crate::findings::{Finding, Recorded};
 use crate::plain_book::PlainBook;
 pub use checks::{MAX_PARTS, MAX_RULES};
 use dia_book::Book;
@@ -32,13 +32,13 @@ use std::alloc::{AllocError, Global};
 /// The dictionary that a source names.
 ///
 /// Entries are in the order of the declarations, then of the groups without one; such a group has the M rule `Any`.
-/// `Stands` has the first fault: the first in the order of `DictKind`, and among faults of one kind the first in the
+/// `Occurs` has the first fault: the first in the order of `DictKind`, and among faults of one kind the first in the
 /// order declarations, groups, commands, each in the order of the text. Of two items that are alike the later one has the
 /// fault. `NoMemory` comes only where memory was refused. The source is consumed.
 pub fn resolve(alloc: Global, source: Source) -> Result<PlainBook, DictFault>
     ensures ok { IfOk result (λ book. (first_wrong (plain_source source) ≡ None)
         × (⟦<PlainBook as Book>⟧.meaning book ≡ resolved (plain_source source))) }
-    ensures err { IfErr result (IsToldOf (plain_source source)) }
+    ensures err { IfErr result (IsRecordedOf (plain_source source)) }
 {
     book_of(alloc, &source)
 }
@@ -47,11 +47,11 @@ pub fn resolve(alloc: Global, source: Source) -> Result<PlainBook, DictFault>
 pub fn book_of(alloc: Global, source: &Source) -> Result<PlainBook, DictFault>
     ensures ok { IfOk result (λ book. (first_wrong (plain_source source.now) ≡ None)
         × (⟦<PlainBook as Book>⟧.meaning book ≡ resolved (plain_source source.now))) }
-    ensures err { IfErr result (IsToldOf (plain_source source.now)) }
+    ensures err { IfErr result (IsRecordedOf (plain_source source.now)) }
 {
     match checked(alloc, source) {
         Ok(book) => Ok(book),
-        Err(Refusal::Stands(told)) => Err(told.fault(alloc)?),
+        Err(Refusal::Occurs(recorded)) => Err(recorded.fault(alloc)?),
         Err(Refusal::NoMemory) => Err(DictFault::NoMemory),
     }
 }
@@ -84,24 +84,24 @@ fn named<'a>(alloc: Global, names: &Names<'a>) -> Result<PlainBook, Refusal<'a>>
     ensures err { IfErr result (IsRefused (all_wrong (plain_source names.now.source.now))) }
 {
     match first_found(alloc, names)? {
-        Some(told) => Err(Refusal::Stands(told)),
+        Some(recorded) => Err(Refusal::Occurs(recorded)),
         None => Ok(building::book(alloc, names)?),
     }
 }
 
 /// The first of what is wrong.
-fn first_found<'a>(alloc: Global, names: &Names<'a>) -> Result<Option<Told<'a>>, AllocError>
-    ensures { IfOk result (λ first. option_map told first ≡ first_wrong (plain_source names.now.source.now)) }
+fn first_found<'a>(alloc: Global, names: &Names<'a>) -> Result<Option<Recorded<'a>>, AllocError>
+    ensures { IfOk result (λ first. option_map recorded first ≡ first_wrong (plain_source names.now.source.now)) }
 {
     let findings = finding::found(alloc, names)?;
-    Ok(first_told(&findings))
+    Ok(first_recorded(&findings))
 }
 
-fn first_told<'a>(findings: &[Finding<'a>]) -> Option<Told<'a>>
-    ensures { option_map told result ≡ slice_get (map (λ f. f.wrong) (map plain_finding findings.now)) 0 }
+fn first_recorded<'a>(findings: &[Finding<'a>]) -> Option<Recorded<'a>>
+    ensures { option_map recorded result ≡ slice_get (map (λ f. f.wrong) (map plain_finding findings.now)) 0 }
 {
     match findings.first() {
-        Some(first) => Some(first.told),
+        Some(first) => Some(first.recorded),
         None => None,
     }
 }

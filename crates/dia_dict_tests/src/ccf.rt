@@ -41,7 +41,7 @@ fn answer(rt: &(impl AllocGlobal + Abort), names: &Names, row: &Row<'_>) {
     let found = if row.wanted.starts_with("renders") {
         rendered(rt, text)
     } else {
-        told(rt.alloc(), parse(rt.alloc(), text).err()).expect(rt, "memory")
+        recorded(rt.alloc(), parse(rt.alloc(), text).err()).expect(rt, "memory")
     };
     same(rt, found.as_bytes(), wanted.as_slice(), row.line);
 }
@@ -55,7 +55,7 @@ fn rendered(rt: &(impl AllocGlobal + Abort), text: &str) -> String {
 }
 
 /// Why a text is refused, if it is.
-fn told(alloc: Global, fault: Option<CcfFault>) -> Result<String, AllocError> {
+fn recorded(alloc: Global, fault: Option<CcfFault>) -> Result<String, AllocError> {
     match fault {
         None => String::from_str(alloc, "fine"),
         Some(CcfFault::Syntax { token, line }) => format!(in alloc; "syntax {token} {line}"),

@@ -23,8 +23,8 @@ pub fn push_refute(note: &mut Note, texts: &InputTexts<'_>, found: &Unrefuting) 
             push_verdict(note, message.name, side.name, refusal);
             push_refusal(note, &side, &message, &asked, refusal);
             if found.under_second.is_ok() {
-                let stands = ": the dictionary of the message's sender comes first\n";
-                note.put_all(&["hint: it is valid under ", texts.second.name, stands]);
+                let occurs = ": the dictionary of the message's sender comes first\n";
+                note.put_all(&["hint: it is valid under ", texts.second.name, occurs]);
             }
         }
     }

@@ -29,10 +29,16 @@ impl<'a> Side<'a> {
     }
 
     /// Adds a line about a part of the text, or about the dictionary, and shows the text there.
-    pub fn push_part<S: Scene>(&self, note: &mut Note, at: Option<usize>, scene: &S, told: &str) {
+    pub fn push_part<S: Scene>(
+        &self,
+        note: &mut Note,
+        at: Option<usize>,
+        scene: &S,
+        recorded: &str,
+    ) {
         let text = self.text.as_bytes();
         note.put_start(self.name, text, at);
-        push_text(note, scene, told);
+        push_text(note, scene, recorded);
         note.put("\n");
         if let Some(at) = at {
             note.put_excerpt(text, at);

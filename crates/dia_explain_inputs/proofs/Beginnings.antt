@@ -20,7 +20,7 @@ use Rattle.dia_explain_places.specs.Notes.{Gains}
 use Rattle.dia_explain_places.proofs.Notes.{gains_more}
 use Rattle.dia_explain_places.specs.Parts.{part_place}
 use Rattle.dia_explain_places.specs.Places.{line_at, place_text, start_text, excerpt}
-use Rattle.dia_explain_inputs.specs.Beginnings.{told_line, note_text, BeginsWith, LineBegins, MisfitBegins, TellsFirst}
+use Rattle.dia_explain_inputs.specs.Beginnings.{recorded_line, note_text, BeginsWith, LineBegins, MisfitBegins, RecordsFirst}
 
 -- ---- the line of a text that the grammar refuses
 
@@ -38,17 +38,17 @@ one_place : (ts : List Token) (k j : ℕ) → IsFirstFault ts k → IsFirstFault
 one_place ts k j a b = ⊎_elim (λ same. same) (⊎_elim (λ below. absurd (not_before ts k j a b below)) (λ above. absurd (not_before ts j k b a above))) (cases_order k j)
 
 -- the reported line is that of the first fault
-line_of_fault : (text : List ℕ) (f : CcfFault) (n k : ℕ) → IsFault text f → told_line f ≡ Some n → IsFirstFault (tokens text) k → line_of text k ≡ n
-line_of_fault text (fault.Syntax t l) n k (j, token, line, first, number, limit) told here =
+line_of_fault : (text : List ℕ) (f : CcfFault) (n k : ℕ) → IsFault text f → recorded_line f ≡ Some n → IsFirstFault (tokens text) k → line_of text k ≡ n
+line_of_fault text (fault.Syntax t l) n k (j, token, line, first, number, limit) recorded here =
     let same : l ≡ n = cc in ap (line_of text) (one_place (tokens text) k j here first) ∙ sym line ∙ same
-line_of_fault text (fault.Number l) n k (j, line, first, number) told here =
+line_of_fault text (fault.Number l) n k (j, line, first, number) recorded here =
     let same : l ≡ n = cc in ap (line_of text) (one_place (tokens text) k j here first) ∙ sym line ∙ same
-line_of_fault text (fault.Limit l) n k (j, line, first, limit) told here =
+line_of_fault text (fault.Limit l) n k (j, line, first, limit) recorded here =
     let same : l ≡ n = cc in ap (line_of text) (one_place (tokens text) k j here first) ∙ sym line ∙ same
-line_of_fault text fault.NoMemory n k is told here = absurd cc
+line_of_fault text fault.NoMemory n k is recorded here = absurd cc
 
-pub misfit_line : (text : List ℕ) (m : Misfit) (n : ℕ) → IsMisfit text m → told_line m.fault ≡ Some n → line_at text m.at ≡ n
-misfit_line text m n is told = ap (line_at text) is.place ∙ line_of_fault text m.fault n is.token is.told told is.first
+pub misfit_line : (text : List ℕ) (m : Misfit) (n : ℕ) → IsMisfit text m → recorded_line m.fault ≡ Some n → line_at text m.at ≡ n
+misfit_line text m n is recorded = ap (line_at text) is.place ∙ line_of_fault text m.fault n is.token is.recorded recorded is.first
 
 -- ---- what a diagnostic gains
 
@@ -70,9 +70,9 @@ begins_more front more old mid new begins then = record {
 }
 
 -- a diagnostic about a place begins with it
-pub begins_note : (name text told : List ℕ) (at : ℕ) (old new : Option (List ℕ)) → Gains old new (note_text name text at told) → BeginsWith (place_text name text at) old new
-begins_note name text told at old new gains = record {
-  rest = (told ++ codes "\n") ++ excerpt text at;
+pub begins_note : (name text recorded : List ℕ) (at : ℕ) (old new : Option (List ℕ)) → Gains old new (note_text name text at recorded) → BeginsWith (place_text name text at) old new
+begins_note name text recorded at old new gains = record {
+  rest = (recorded ++ codes "\n") ++ excerpt text at;
   added = subst (λ (xs : List ℕ). Gains old new xs) (simp append_assoc) gains;
 }
 
@@ -83,7 +83,7 @@ line_begins name text n at old new there begins k within here = record { at = at
 
 -- and one about a text that the grammar refuses on the reported line
 pub misfit_begins : (name text : List ℕ) (m : Misfit) (old new : Option (List ℕ)) → BeginsWith (place_text name text m.at) old new → MisfitBegins name text m old new
-misfit_begins name text m old new begins n is told = record { at = m.at; on_line = misfit_line text m n is told; begins = begins }
+misfit_begins name text m old new begins n is recorded = record { at = m.at; on_line = misfit_line text m n is recorded; begins = begins }
 
 -- ---- the first finding
 
@@ -92,25 +92,25 @@ first_none : (all : List PlainFinding) (front : Option Part → List ℕ) (old n
 first_none [] front old new none = tt
 first_none (g ∷ gs) front old new none = begins_none (front g.part) old new none
 
-first_told : (findings : List Finding) (front : Option Part → List ℕ) (old new : Option (List ℕ)) → IfSome (slice_get findings 0) (λ f. BeginsWith (front f.part) old new)
+first_recorded : (findings : List Finding) (front : Option Part → List ℕ) (old new : Option (List ℕ)) → IfSome (slice_get findings 0) (λ f. BeginsWith (front f.part) old new)
     → IfSome (slice_get (map plain_finding findings) 0) (λ g. BeginsWith (front g.part) old new)
-first_told [] front old new begins = tt
-first_told (f ∷ fs) front old new begins = begins
+first_recorded [] front old new begins = tt
+first_recorded (f ∷ fs) front old new begins = begins
 
-tells_first : (name text : List ℕ) (w : WrongSource) (all : List PlainFinding) (old new : Option (List ℕ)) → all ≡ all_findings (plain_source w.source.value)
+records_first : (name text : List ℕ) (w : WrongSource) (all : List PlainFinding) (old new : Option (List ℕ)) → all ≡ all_findings (plain_source w.source.value)
     → slice_get (map (λ (g : PlainFinding). g.wrong) all) 0 ≡ Some (wrong w.kind (string_bytes w.name) (string_bytes w.slot))
-    → IfSome (slice_get all 0) (λ g. BeginsWith (start_text name text (part_place text w.source.value g.part)) old new) → TellsFirst name text w old new
-tells_first name text w [] old new are told begins = absurd cc
-tells_first name text w (g ∷ gs) old new are told begins = record { finding = g; first = ap (λ xs. slice_get xs 0) (sym are); same = cc; begins = begins }
+    → IfSome (slice_get all 0) (λ g. BeginsWith (start_text name text (part_place text w.source.value g.part)) old new) → RecordsFirst name text w old new
+records_first name text w [] old new are recorded begins = absurd cc
+records_first name text w (g ∷ gs) old new are recorded begins = record { finding = g; first = ap (λ xs. slice_get xs 0) (sym are); same = cc; begins = begins }
 
 -- the first of a source's findings is reported
-pub tells_found : (name text : List ℕ) (w : WrongSource) (findings : List Finding) (old new : Option (List ℕ)) → map plain_finding findings ≡ all_findings (plain_source w.source.value)
-    → IfSome (slice_get findings 0) (λ f. BeginsWith (start_text name text (part_place text w.source.value f.part)) old new) → TellsFirst name text w old new
-tells_found name text w findings old new are begins =
-    tells_first name text w (map plain_finding findings) old new are (ap (λ xs. slice_get (map (λ (g : PlainFinding). g.wrong) xs) 0) are ∙ w.first)
-    (first_told findings (λ part. start_text name text (part_place text w.source.value part)) old new begins)
+pub records_found : (name text : List ℕ) (w : WrongSource) (findings : List Finding) (old new : Option (List ℕ)) → map plain_finding findings ≡ all_findings (plain_source w.source.value)
+    → IfSome (slice_get findings 0) (λ f. BeginsWith (start_text name text (part_place text w.source.value f.part)) old new) → RecordsFirst name text w old new
+records_found name text w findings old new are begins =
+    records_first name text w (map plain_finding findings) old new are (ap (λ xs. slice_get (map (λ (g : PlainFinding). g.wrong) xs) 0) are ∙ w.first)
+    (first_recorded findings (λ part. start_text name text (part_place text w.source.value part)) old new begins)
 
-pub tells_none : (name text : List ℕ) (w : WrongSource) (old new : Option (List ℕ)) → new ≡ None → TellsFirst name text w old new
-tells_none name text w old new none =
-    tells_first name text w (all_findings (plain_source w.source.value)) old new refl w.first
+pub records_none : (name text : List ℕ) (w : WrongSource) (old new : Option (List ℕ)) → new ≡ None → RecordsFirst name text w old new
+records_none name text w old new none =
+    records_first name text w (all_findings (plain_source w.source.value)) old new refl w.first
     (first_none (all_findings (plain_source w.source.value)) (λ part. start_text name text (part_place text w.source.value part)) old new none)

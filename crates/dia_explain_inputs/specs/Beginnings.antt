@@ -22,7 +22,7 @@ use Rattle.dia_explain_places.specs.Places.{line_at, place_text, start_text, exc
 
 -- a diagnostic about a place: what is reported of it, and its line
 abbrev pub note_text : List ℕ → List ℕ → ℕ → List ℕ → List ℕ
-note_text name text at told = place_text name text at ++ told ++ codes "\n" ++ excerpt text at
+note_text name text at recorded = place_text name text at ++ recorded ++ codes "\n" ++ excerpt text at
 
 -- what a diagnostic has gained begins with this
 pub record BeginsWith (front : List ℕ) (old new : Option (List ℕ)) : Type 0 where
@@ -30,7 +30,7 @@ pub record BeginsWith (front : List ℕ) (old new : Option (List ℕ)) : Type 0 
   pub added : Gains old new (front ++ rest)
 
 -- a diagnostic begins with the place of a finding: the first of a source, which is what standard output reports
-pub record TellsFirst (name text : List ℕ) (w : WrongSource) (old new : Option (List ℕ)) : Type 0 where
+pub record RecordsFirst (name text : List ℕ) (w : WrongSource) (old new : Option (List ℕ)) : Type 0 where
   pub finding : PlainFinding
   pub first : slice_get (all_findings (plain_source w.source.value)) 0 ≡ Some finding
   pub same : finding.wrong ≡ wrong w.kind (string_bytes w.name) (string_bytes w.slot)
@@ -43,19 +43,19 @@ pub record BeginsOnLine (name text : List ℕ) (n : ℕ) (old new : Option (List
   pub begins : BeginsWith (place_text name text at) old new
 
 -- the line that standard output reports for a text that the grammar refuses
-abbrev pub told_line : CcfFault → Option ℕ
-told_line (fault.Syntax token n) = Some n
-told_line (fault.Number n) = Some n
-told_line (fault.Limit n) = Some n
-told_line fault.NoMemory = None
+abbrev pub recorded_line : CcfFault → Option ℕ
+recorded_line (fault.Syntax token n) = Some n
+recorded_line (fault.Number n) = Some n
+recorded_line (fault.Limit n) = Some n
+recorded_line fault.NoMemory = None
 
 -- a diagnostic begins on that line
 abbrev pub MisfitBegins : List ℕ → List ℕ → Misfit → Option (List ℕ) → Option (List ℕ) → Type 0
-MisfitBegins name text misfit old new = (n : ℕ) → IsMisfit text misfit → told_line misfit.fault ≡ Some n → BeginsOnLine name text n old new
+MisfitBegins name text misfit old new = (n : ℕ) → IsMisfit text misfit → recorded_line misfit.fault ≡ Some n → BeginsOnLine name text n old new
 
 abbrev pub DictionaryBegins : List ℕ → List ℕ → BadDictionary → Option (List ℕ) → Option (List ℕ) → Type 0
 DictionaryBegins name text (dictionary.NoSource misfit) old new = MisfitBegins name text misfit old new
-DictionaryBegins name text (dictionary.Wrong found) old new = TellsFirst name text found old new
+DictionaryBegins name text (dictionary.Wrong found) old new = RecordsFirst name text found old new
 DictionaryBegins name text why old new = ⊤
 
 -- the same of line n, where the text has it

@@ -69,11 +69,11 @@ fn push_list(note: &mut Note, dictionary: &str, commands: &[Def]) {
 
 /// Adds the first command of the second dictionary that is among the names, and is none of the first.
 fn push_found(note: &mut Note, names: &[String], known: &Vocabulary<'_>, second: &NamedSource<'_>) {
-    let behind = "; the sender's dictionary comes first\n";
+    let following = "; the sender's dictionary comes first\n";
     for command in &second.source.commands {
         let name = command.name.as_str();
         if !known.has(Named::Command, name) && has_name(names, name) {
-            note.put_all(&["hint: ", second.name, " has a command ", name, behind]);
+            note.put_all(&["hint: ", second.name, " has a command ", name, following]);
             return;
         }
     }

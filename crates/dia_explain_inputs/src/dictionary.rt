@@ -2,7 +2,7 @@
 
 ghost use Rattle.std.specs.Prelude.{◌≡◌};
 ghost use Rattle.std.specs.Str.{IsUtf8};
-ghost use Rattle.dia_explain_inputs.specs.Beginnings.{DictionaryBegins, MisfitBegins, TellsFirst};
+ghost use Rattle.dia_explain_inputs.specs.Beginnings.{DictionaryBegins, MisfitBegins, RecordsFirst};
 
 mod causes;
 mod expecting;
@@ -45,7 +45,7 @@ pub fn push_dictionary(note: &mut Note, dictionary: &NamedText<'_>, why: &BadDic
 /// Adds the diagnostic of a text that spells a source which names no dictionary.
 fn push_wrong(note: &mut Note, dictionary: &NamedText<'_>, wrong: &WrongSource)
     ensures { IsUtf8 dictionary.now.text.now
-        → TellsFirst dictionary.now.name.now dictionary.now.text.now wrong.now note.old note.new }
+        → RecordsFirst dictionary.now.name.now dictionary.now.text.now wrong.now note.old note.new }
 {
     push_meaning(note, dictionary.name, spelt(dictionary.text), wrong);
 }
@@ -70,32 +70,32 @@ fn push_syntax(note: &mut Note, dictionary: &NamedText<'_>, misfit: &Misfit)
     ensures { MisfitBegins dictionary.now.name.now dictionary.now.text.now misfit.now note.old note.new }
 {
     let scene = Scene::new(spelt(dictionary.text), misfit);
-    let told = syntax_told(note.allocator(), &scene);
-    push_made(note, dictionary, Some(misfit.at), told);
+    let recorded = syntax_recorded(note.allocator(), &scene);
+    push_made(note, dictionary, Some(misfit.at), recorded);
 }
 
 /// The diagnostic of a fault's place: what is wrong, its line, and the hint.
-fn syntax_told(alloc: Global, scene: &Scene<'_>) -> Result<String, AllocError> {
-    let mut told = Note::new(alloc);
-    scene.push_fault(&mut told);
-    push_line(&mut told, scene);
-    push_cause(&mut told, scene);
-    told.finish()
+fn syntax_recorded(alloc: Global, scene: &Scene<'_>) -> Result<String, AllocError> {
+    let mut recorded = Note::new(alloc);
+    scene.push_fault(&mut recorded);
+    push_line(&mut recorded, scene);
+    push_cause(&mut recorded, scene);
+    recorded.finish()
 }
 
 /// Ends a fault's diagnostic, and adds its line. Where a fixed rule after others was read as the name of a definition on an
 /// earlier line, the place and the line of that name are added.
-fn push_line(told: &mut Note, scene: &Scene<'_>) {
+fn push_line(recorded: &mut Note, scene: &Scene<'_>) {
     let shown = match scene.late_name() {
         Some(name) => {
-            told.put("; the name is at ");
-            push_line_column(told, place_of(scene.text, name.at));
+            recorded.put("; the name is at ");
+            push_line_column(recorded, place_of(scene.text, name.at));
             name.at
         }
         None => scene.misfit.at,
     };
-    told.put("\n");
-    told.put_excerpt(scene.text, shown);
+    recorded.put("\n");
+    recorded.put_excerpt(scene.text, shown);
 }
 
 /// Adds that a dictionary's text has neither declarations nor definitions, or that the rest of it is a comment. A missing input
@@ -110,14 +110,14 @@ pub fn push_empty(note: &mut Note, dictionary: &NamedText<'_>) {
         Ok(text) => next_lexeme(text, 0).is_none(),
         Err(_) => false,
     };
-    let told = if is_empty {
+    let recorded = if is_empty {
         ": the dictionary is empty: it has no declaration and no definition\n"
     } else if is_cut {
         ": all that follows the first ; of the dictionary is a comment\n"
     } else {
         return;
     };
-    note.put_all(&[name, told]);
+    note.put_all(&[name, recorded]);
     if is_cut {
         note.put_hint(RETURNS);
     }

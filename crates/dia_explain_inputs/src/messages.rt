@@ -58,8 +58,8 @@ pub fn push_bad(note: &mut Note, message: &NamedText<'_>, wanted: &str, at: usiz
 
 /// Adds that an input is a file of packets, and the hint.
 pub fn push_capture(note: &mut Note, name: &str, wanted: &str, hint: &str) {
-    let told = ": this is a capture file (pcap), and not ";
-    note.put_all(&[name, told, wanted, "\nhint: ", hint, "\n"]);
+    let recorded = ": this is a capture file (pcap), and not ";
+    note.put_all(&[name, recorded, wanted, "\nhint: ", hint, "\n"]);
 }
 
 /// Whether bytes are no text: they have a control character that isn't white space, or aren't UTF-8.
@@ -86,14 +86,14 @@ fn push_binary(note: &mut Note, message: &NamedText<'_>) {
             "`gunzip` unpacks it",
         );
     }
-    let told = if text.first() == Some(&1) {
+    let recorded = if text.first() == Some(&1) {
         ": these are the bytes of a message, and not hexadecimal text\nhint: write `xxd -p "
     } else {
         ": these are bytes, and not hexadecimal text\nhint: write `xxd -p "
     };
     note.put_all(&[
         name,
-        told,
+        recorded,
         name,
         "` into a file: a message is its hexadecimal digits\n",
     ]);
@@ -149,8 +149,8 @@ fn front_digits(text: &[u8]) -> usize {
 pub fn push_length(note: &mut Note, message: &NamedText<'_>, bytes: &[u8]) {
     let name = message.name;
     if let Some(hint) = dump_of(message.text) {
-        let told = "the first bytes are no header of a message";
-        return push_whole(note, message, told, hint);
+        let recorded = "the first bytes are no header of a message";
+        return push_whole(note, message, recorded, hint);
     }
     let count = bytes.len();
     match read_header(bytes) {
@@ -181,9 +181,9 @@ fn push_count(note: &mut Note, name: &str, count: usize) {
 
 /// Adds that a Message Length is none, and the first AVP that seems to have no padding, if there is one.
 fn push_odd_length(note: &mut Note, message: &NamedText<'_>, bytes: &[u8]) {
-    let told = "the Message Length, bytes 1 to 3, is under 20 or no multiple of four";
+    let recorded = "the Message Length, bytes 1 to 3, is under 20 or no multiple of four";
     let hint = "fix the sender: it counts the header, and the AVPs with their padding";
-    push_whole(note, message, told, hint);
+    push_whole(note, message, recorded, hint);
     if let Some(Unpadded { at, code, length }) = find_unpadded(back(bytes, HEADER_LENGTH)) {
         note.put("hint: the AVP at ");
         note.put_number(at.saturating_add(HEADER_LENGTH) as u64);

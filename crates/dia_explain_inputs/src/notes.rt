@@ -11,8 +11,8 @@ use std::alloc::AllocError;
 pub const SAVE: &str = "save the file as UTF-8";
 
 /// Adds the diagnostic of a whole input, and the hint.
-pub fn push_whole(note: &mut Note, input: &NamedText<'_>, told: &str, hint: &str) {
-    note.put_all(&[input.name, ": ", told, "\nhint: ", hint, "\n"]);
+pub fn push_whole(note: &mut Note, input: &NamedText<'_>, recorded: &str, hint: &str) {
+    note.put_all(&[input.name, ": ", recorded, "\nhint: ", hint, "\n"]);
 }
 
 /// Adds that an input is longer than a limit.
@@ -23,20 +23,26 @@ pub fn push_too_long(note: &mut Note, name: &str, limit: usize) {
 }
 
 /// Adds the diagnostic of a place, and the line of the place.
-pub fn push_told(note: &mut Note, input: &NamedText<'_>, at: usize, told: &str)
-    ensures { Gains note.old note.new (note_text input.now.name.now input.now.text.now at told.now) }
+pub fn push_recorded(note: &mut Note, input: &NamedText<'_>, at: usize, recorded: &str)
+    ensures { Gains note.old note.new (note_text input.now.name.now input.now.text.now at recorded.now) }
 {
     note.put_place(input.name, input.text, at);
-    note.put(told);
+    note.put(recorded);
     note.put("\n");
     note.put_excerpt(input.text, at);
 }
 
 /// Adds the diagnostic of a place, the line of the place, and the hint, if there is one.
-pub fn push_noted(note: &mut Note, input: &NamedText<'_>, at: usize, told: &str, hint: Option<&str>)
+pub fn push_noted(
+    note: &mut Note,
+    input: &NamedText<'_>,
+    at: usize,
+    recorded: &str,
+    hint: Option<&str>,
+)
     ensures { BeginsWith (place_text input.now.name.now input.now.text.now at) note.old note.new }
 {
-    push_told(note, input, at, told);
+    push_recorded(note, input, at, recorded);
     if let Some(hint) = hint {
         note.put_hint(hint);
     }
@@ -52,9 +58,9 @@ pub fn push_made(
     ensures { BeginsWith (start_text input.now.name.now input.now.text.now at) note.old note.new }
 {
     match made {
-        Ok(told) => {
+        Ok(recorded) => {
             note.put_start(input.name, input.text, at);
-            note.put(told.as_str());
+            note.put(recorded.as_str());
         }
         Err(error) => note.keep(Err(error)),
     }
@@ -62,7 +68,7 @@ pub fn push_made(
 
 /// Adds the diagnostic of a text that isn't UTF-8 from a place on.
 pub fn push_not_text(note: &mut Note, input: &NamedText<'_>, at: usize) {
-    push_told(note, input, at, "these bytes aren't UTF-8");
+    push_recorded(note, input, at, "these bytes aren't UTF-8");
     let more = if input.text.contains(&0) {
         "; this one looks like UTF-16, or like no text at all"
     } else {

@@ -33,26 +33,30 @@ fn push_syntax(note: &mut Note, table: &NamedText<'_>, line: u32)
     ensures { LineBegins table.now.name.now table.now.text.now line note.old note.new }
 {
     let word = syntax_word(table.text, line);
-    let told = syntax_told(note.allocator(), table.text, &word);
-    push_made(note, table, Some(word.at), told);
+    let recorded = syntax_recorded(note.allocator(), table.text, &word);
+    push_made(note, table, Some(word.at), recorded);
 }
 
 /// The diagnostic of a word that isn't allowed at its place.
-fn syntax_told(alloc: Global, text: &[u8], word: &RefusedWord<'_>) -> Result<String, AllocError> {
+fn syntax_recorded(
+    alloc: Global,
+    text: &[u8],
+    word: &RefusedWord<'_>,
+) -> Result<String, AllocError> {
     let (place, wanted) = slot_of(word.part);
-    let mut told = Note::new(alloc);
+    let mut recorded = Note::new(alloc);
     if word.text.is_empty() {
-        told.put("the line ends here");
+        recorded.put("the line ends here");
     } else {
-        told.put("found ");
-        push_quoted(&mut told, word.text.get(..SHOWN).unwrap_or(word.text));
+        recorded.put("found ");
+        push_quoted(&mut recorded, word.text.get(..SHOWN).unwrap_or(word.text));
     }
-    told.put_all(&["; expected ", wanted, "\n"]);
-    told.put_excerpt(text, word.at);
+    recorded.put_all(&["; expected ", wanted, "\n"]);
+    recorded.put_excerpt(text, word.at);
     if let Some(hint) = hint_of(&[place], &sight_of(text, word)) {
-        told.put_hint(hint);
+        recorded.put_hint(hint);
     }
-    told.finish()
+    recorded.finish()
 }
 
 /// The place of a part, and what may come there.
@@ -65,7 +69,7 @@ fn slot_of(part: PairPart) -> Slot {
         PairPart::First => ("name", "a name of the first dictionary"),
         PairPart::Sign => ("sign", "= between the two names"),
         PairPart::Second => ("name", "a name of the second dictionary"),
-        PairPart::Behind => ("behind", "the end of the line"),
+        PairPart::After => ("behind", "the end of the line"),
     }
 }
 
@@ -99,28 +103,32 @@ fn push_limit(note: &mut Note, table: &NamedText<'_>, line: u32)
     ensures { LineBegins table.now.name.now table.now.text.now line note.old note.new }
 {
     let word = limit_word(table.text, line);
-    let told = limit_told(note.allocator(), table.text, &word);
-    push_made(note, table, Some(word.at), told);
+    let recorded = limit_recorded(note.allocator(), table.text, &word);
+    push_made(note, table, Some(word.at), recorded);
 }
 
 /// The diagnostic of a word by which a line exceeds a limit.
-fn limit_told(alloc: Global, text: &[u8], word: &RefusedWord<'_>) -> Result<String, AllocError> {
-    let mut told = Note::new(alloc);
+fn limit_recorded(
+    alloc: Global,
+    text: &[u8],
+    word: &RefusedWord<'_>,
+) -> Result<String, AllocError> {
+    let mut recorded = Note::new(alloc);
     if word.part == PairPart::Kind {
-        told.put("this pair is one too many: a table has at most ");
-        told.put_number(MAX_PAIRS as u64);
-        told.put("\n");
-        told.put_excerpt(text, word.at);
-        told.put_hint(
+        recorded.put("this pair is one too many: a table has at most ");
+        recorded.put_number(MAX_PAIRS as u64);
+        recorded.put("\n");
+        recorded.put_excerpt(text, word.at);
+        recorded.put_hint(
             "leave out the pairs of what the listed commands don't reach; propose writes the least table",
         );
     } else {
-        told.put("the name has more than ");
-        told.put_number(MAX_NAME as u64);
-        told.put(" bytes\n");
-        told.put_excerpt(text, word.at);
+        recorded.put("the name has more than ");
+        recorded.put_number(MAX_NAME as u64);
+        recorded.put(" bytes\n");
+        recorded.put_excerpt(text, word.at);
     }
-    told.finish()
+    recorded.finish()
 }
 
 /// Adds that a table lists no command, where it lists none.

@@ -7,7 +7,7 @@ use Rattle.std.proofs.lemmas.List.FromFn.{get_or-range_with_len, length-range_wi
 use Rattle.std.proofs.lemmas.List.Sums.{prefix_len_is}
 use Rattle.dia_tables.specs.Words.{PlainWords, word_of, words_in}
 use Rattle.dia_tables.specs.declared.PairPart.{PairPart}
-use Rattle.dia_tables.specs.declared.PairPart.TheVariants.{Kind, First, Sign, Second, Behind}
+use Rattle.dia_tables.specs.declared.PairPart.TheVariants.{Kind, First, Sign, Second, After}
 use Rattle.dia_explain_places.specs.Places.{line_at}
 use Rattle.dia_explain_places.specs.Tables.{line_from, place_on_line, start_of_line, words_of_line}
 
@@ -39,7 +39,7 @@ word_within line Kind = omega arith
 word_within line First = omega arith
 word_within line Sign = omega arith
 word_within line Second = omega arith
-word_within line Behind = omega arith
+word_within line After = omega arith
 
 -- a word of a line of a text, from where the line begins, and its place in the text
 pub record IsWordAt (text line : List ℕ) (start : ℕ) (words : PlainWords) (part : PairPart) (at : ℕ) : Type 0 where

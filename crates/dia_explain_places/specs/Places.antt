@@ -90,6 +90,6 @@ digits_before text at = count_by (λ c. not (is_white c)) (take at text)
 -- the first digit of a byte is at a place: two digits precede it for each byte before
 pub record IsAtByte (text : List ℕ) (byte at : ℕ) : Type 0 where
   pub digit : ℕ
-  pub stands : slice_get text at ≡ Some digit
+  pub occurs : slice_get text at ≡ Some digit
   pub is_digit : is_white digit ≡ false
   pub before : digits_before text at ≡ byte * 2

@@ -3,7 +3,7 @@ use Rattle.std.specs.Prelude.{ℕ, ◌+◌, ◌-◌, ◌==◌, not, if◌then◌
 use Rattle.std.specs.List.{prefix_len, take_while, range_with_len}
 use Rattle.dia_tables.specs.Words.{PlainWords, limit_part, word_of, words_in, wrong_part}
 use Rattle.dia_tables.specs.declared.PairPart.{PairPart}
-use Rattle.dia_tables.specs.declared.PairPart.TheVariants.{Behind}
+use Rattle.dia_tables.specs.declared.PairPart.TheVariants.{After}
 use Rattle.dia_explain_places.specs.Places.{line_at}
 
 -- ---- lines
@@ -32,7 +32,7 @@ place_on_line text n part = start_of_line text n + (word_of (words_of_line text 
 
 -- the first part of a line that is no pair whose word isn't allowed there
 abbrev pub syntax_part : List ℕ → ℕ → PairPart
-syntax_part text n = unwrap_or (wrong_part (words_of_line text n)) Behind
+syntax_part text n = unwrap_or (wrong_part (words_of_line text n)) After
 
 -- the place of a line that is no pair, and of one that passes a limit
 abbrev pub syntax_place : List ℕ → ℕ → ℕ

@@ -49,8 +49,8 @@ fn is_short_for(a: &[u8], b: &[u8]) -> bool {
     let mut count = 0usize;
     for byte in a {
         if byte.is_ascii_uppercase() {
-            match behind_capital(rest, *byte) {
-                Some(behind) => rest = behind,
+            match after_capital(rest, *byte) {
+                Some(following) => rest = following,
                 None => return false,
             }
             count = count.saturating_add(1);
@@ -60,7 +60,7 @@ fn is_short_for(a: &[u8], b: &[u8]) -> bool {
 }
 
 /// What follows the first capital of a name, if it is this one.
-fn behind_capital(name: &[u8], wanted: u8) -> Option<&[u8]> {
+fn after_capital(name: &[u8], wanted: u8) -> Option<&[u8]> {
     for (at, byte) in name.iter().enumerate() {
         if byte.is_ascii_uppercase() {
             return if *byte == wanted {
@@ -88,9 +88,9 @@ fn distance(a: &[u8], b: &[u8]) -> usize {
     let front = common_front(a, b);
     let a_rest = back(a, front);
     let b_rest = back(b, front);
-    let behind = common_back(a_rest, b_rest);
+    let following = common_back(a_rest, b_rest);
     let longer = a_rest.len().max(b_rest.len());
-    longer.saturating_sub(behind)
+    longer.saturating_sub(following)
 }
 
 /// How many of the first bytes are equal but for the case of letters.

@@ -14,7 +14,7 @@ use std::alloc::AllocError;
 /// How many bytes of a line are shown before the place, and how many from it on.
 const BEFORE: usize = 70;
 
-const BEHIND: usize = 50;
+const AFTER: usize = 50;
 
 /// A place of a text, by its line and column, both from 1. A column is a character.
 #[derive(Clone, Copy)]
@@ -42,11 +42,11 @@ fn line_before(text: &[u8], at: usize) -> &[u8]
     ensures { result.now ≡ line_front text.now at }
 {
     let before = front(text, at);
-    back(before, before.len().saturating_sub(behind_feed(before)))
+    back(before, before.len().saturating_sub(after_feed(before)))
 }
 
 /// How many bytes follow the last line feed.
-fn behind_feed(bytes: &[u8]) -> usize
+fn after_feed(bytes: &[u8]) -> usize
     ensures { result ≡ suffix_len (λ c. not (c == 10)) bytes.now }
 {
     bytes
@@ -57,11 +57,11 @@ fn behind_feed(bytes: &[u8]) -> usize
 }
 
 /// The part of the line from a place on, without its end.
-fn line_behind(text: &[u8], at: usize) -> &[u8]
+fn line_after(text: &[u8], at: usize) -> &[u8]
     ensures { result.now ≡ line_rest text.now at }
 {
-    let behind = back(text, at);
-    front(behind, run_length(behind, Kind::Shown))
+    let following = back(text, at);
+    front(following, run_length(following, Kind::Shown))
 }
 
 /// The line and the column of a place.
@@ -121,7 +121,7 @@ pub(crate) fn push_excerpt(out: &mut String, text: &[u8], at: usize) -> Result<(
     let before = shown_before(text, at);
     out.push_str("  ")?;
     push_shown(out, before)?;
-    push_shown(out, shown_behind(text, at))?;
+    push_shown(out, shown_after(text, at))?;
     out.push_str("\n  ")?;
     push_spaces(out, count_of(before, Kind::First))?;
     out.push_str("^\n")
@@ -146,10 +146,10 @@ fn shown_before(text: &[u8], at: usize) -> &[u8]
 }
 
 /// What is shown of a line from a place on.
-fn shown_behind(text: &[u8], at: usize) -> &[u8]
+fn shown_after(text: &[u8], at: usize) -> &[u8]
     ensures { result.now ≡ take 50 (line_rest text.now at) }
 {
-    front(line_behind(text, at), BEHIND)
+    front(line_after(text, at), AFTER)
 }
 
 /// Adds bytes as text, with a space for each control character.

@@ -28,7 +28,7 @@ pub fn syntax_word(text: &[u8], line: u32) -> RefusedWord<'_>
 {
     let start = start_of_line(text, line);
     let words = words_of(line_from(text, start));
-    let part = words.wrong_part().unwrap_or(PairPart::Behind);
+    let part = words.wrong_part().unwrap_or(PairPart::After);
     refused_word(start, &words, part)
 }
 

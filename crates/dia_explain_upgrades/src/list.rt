@@ -52,12 +52,12 @@ pub fn push_bad_list(note: &mut Note, list: &NamedText<'_>, bad: &BadList) {
             note.put(" bytes\n");
         }
         BadList::NotText { at } => {
-            push_told(note, list, at, "these bytes aren't UTF-8\n");
+            push_recorded(note, list, at, "these bytes aren't UTF-8\n");
             note.put("hint: save the file as UTF-8\n")
         }
         BadList::Syntax { line, at } => {
             let at = start_of_line(text, line).saturating_add(at);
-            push_told(note, list, at, NO_LINE);
+            push_recorded(note, list, at, NO_LINE);
             if let Some(reason) = nearest_reason(text, at) {
                 note.put_all(&["hint: did you mean ", reason, "?\n"])
             } else if text.starts_with(b"%avp") || text.starts_with(b"<") {
@@ -76,9 +76,9 @@ pub fn push_bad_list(note: &mut Note, list: &NamedText<'_>, bad: &BadList) {
 }
 
 /// Adds what is told of a place of a list, and its line.
-fn push_told(note: &mut Note, list: &NamedText<'_>, at: usize, told: &str) {
+fn push_recorded(note: &mut Note, list: &NamedText<'_>, at: usize, recorded: &str) {
     note.put_place(list.name, list.text, at);
-    note.put(told);
+    note.put(recorded);
     note.put_excerpt(list.text, at);
 }
 
@@ -117,7 +117,7 @@ fn push_unasked(note: &mut Note, list: &NamedText<'_>, unused: &[Entry], stale: 
         } else {
             count = count.saturating_add(1);
             if count <= MOST {
-                push_told(note, list, start_of_line(list.text, entry.line), NOT_ASKED);
+                push_recorded(note, list, start_of_line(list.text, entry.line), NOT_ASKED);
             }
         }
     }
@@ -136,18 +136,24 @@ fn is_at(entries: &[Entry], place: usize, line: u32) -> bool {
 }
 
 /// Adds entries of a list, with their lines, and how many they are, if not each is told.
-fn push_entries(note: &mut Note, list: &NamedText<'_>, entries: &[Entry], told: &str, all: &str) {
+fn push_entries(
+    note: &mut Note,
+    list: &NamedText<'_>,
+    entries: &[Entry],
+    recorded: &str,
+    all: &str,
+) {
     for entry in entries.iter().take(MOST) {
-        push_told(note, list, start_of_line(list.text, entry.line), told);
+        push_recorded(note, list, start_of_line(list.text, entry.line), recorded);
     }
     push_count(note, list, entries.len(), all);
 }
 
 /// Adds how many lines of a list there are, if not each is told.
-fn push_count(note: &mut Note, list: &NamedText<'_>, count: usize, told: &str) {
+fn push_count(note: &mut Note, list: &NamedText<'_>, count: usize, recorded: &str) {
     if count > MOST {
         note.put_all(&[list.name, ": "]);
         note.put_number(count as u64);
-        note.put(told);
+        note.put(recorded);
     }
 }

@@ -3,7 +3,7 @@
 use dia_ccf::{Decl, Def, Head};
 use dia_explain_inputs::NamedSource;
 use dia_explain_places::Note;
-use dia_upgrades::Told;
+use dia_upgrades::Recorded;
 use std::alloc::{AllocError, Global};
 
 /// The most names that are told.
@@ -78,15 +78,18 @@ pub fn push_namesakes(
     note: &mut Note,
     first: &NamedSource<'_>,
     second: &NamedSource<'_>,
-    causes: &[Told],
+    causes: &[Recorded],
 ) -> Result<(), AllocError> {
     let alloc = note.allocator();
     let (first, second) = (Numbered::of(alloc, first)?, Numbered::of(alloc, second)?);
-    let mut told = Vec::new(alloc);
+    let mut recorded = Vec::new(alloc);
     for cause in causes {
         let name = subject_of(cause.words.as_str());
-        if told.len() < MOST && !told.contains(&name) && push_twins(note, &first, &second, name) {
-            told.push(name)?;
+        if recorded.len() < MOST
+            && !recorded.contains(&name)
+            && push_twins(note, &first, &second, name)
+        {
+            recorded.push(name)?;
         }
     }
     Ok(())

@@ -5,10 +5,10 @@ ghost use Rattle.dia_explain_places.specs.Notes.{Gains};
 ghost use Rattle.dia_explain_upgrades.specs.Tally.{cause_word, line_word, tally_text};
 
 use dia_explain_places::{InputTexts, Note};
-use dia_upgrades::Told;
+use dia_upgrades::Recorded;
 
 /// Adds how many lines are left, and how many causes they have, if there are some; with the names of the two dictionaries.
-pub fn push_tally(note: &mut Note, texts: &InputTexts<'_>, lines: usize, causes: &[Told])
+pub fn push_tally(note: &mut Note, texts: &InputTexts<'_>, lines: usize, causes: &[Recorded])
     ensures none { lines ≡ 0 → note.new ≡ note.old }
     ensures some { lines ≢ 0 → Gains note.old note.new
         (tally_text lines (length causes.now) texts.now.first.name.now texts.now.second.name.now) }
@@ -42,7 +42,7 @@ fn cause_word(causes: usize) -> &'static str
 }
 
 /// Adds how many AVPs are read as another format, with the first, if there are some. `meanings` has a line for each.
-pub fn push_meanings(note: &mut Note, meanings: &[Told]) {
+pub fn push_meanings(note: &mut Note, meanings: &[Recorded]) {
     let Some(first) = meanings.first() else {
         return;
     };
@@ -56,6 +56,6 @@ pub fn push_meanings(note: &mut Note, meanings: &[Told]) {
         Some((front, _)) => front,
         None => words,
     };
-    let told = front.strip_prefix("meaning ").unwrap_or(front);
-    note.put_all(&[" read as another format, first ", told, "\n"]);
+    let recorded = front.strip_prefix("meaning ").unwrap_or(front);
+    note.put_all(&[" read as another format, first ", recorded, "\n"]);
 }

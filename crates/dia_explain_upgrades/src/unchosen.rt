@@ -5,7 +5,7 @@ use dia_ccf::{Def, Head};
 use dia_dict::IndexedBook;
 use dia_explain_places::{InputTexts, Note};
 use dia_report::BothBooks;
-use dia_upgrades::Told;
+use dia_upgrades::Recorded;
 use std::alloc::{AllocError, Global};
 
 /// The most applications that are told, but for a last one.
@@ -27,7 +27,7 @@ pub fn push_unchosen(
     texts: &InputTexts<'_>,
     books: &BothBooks,
     names: &[String],
-    causes: &[Told],
+    causes: &[Recorded],
 ) -> Result<(), AllocError> {
     let refused = refusals_of(note.allocator(), causes)?;
     if refused.is_empty() {
@@ -56,7 +56,7 @@ pub fn push_unchosen(
 }
 
 /// The applications that the lines refuse, in order.
-fn refusals_of(alloc: Global, causes: &[Told]) -> Result<Vec<u32>, AllocError> {
+fn refusals_of(alloc: Global, causes: &[Recorded]) -> Result<Vec<u32>, AllocError> {
     let mut refused = Vec::new(alloc);
     for cause in causes {
         if let Some(app) = refused_by(cause.words.as_str()) {
@@ -170,13 +170,13 @@ fn push_offers(note: &mut Note, texts: &InputTexts<'_>, command: &str, app: u32,
 
 /// Adds `for applications 6, 7 and 8`, of at least two commands.
 fn push_numbers(note: &mut Note, commands: &[Single]) {
-    let told = commands.len().saturating_sub(1).min(MOST);
+    let recorded = commands.len().saturating_sub(1).min(MOST);
     note.put("for applications ");
-    for (place, single) in commands.iter().take(told).enumerate() {
+    for (place, single) in commands.iter().take(recorded).enumerate() {
         note.put(if place == 0 { "" } else { ", " });
         note.put_number(u64::from(single.app));
     }
-    match commands.get(told..) {
+    match commands.get(recorded..) {
         Some([last]) => {
             note.put(" and ");
             note.put_number(u64::from(last.app));

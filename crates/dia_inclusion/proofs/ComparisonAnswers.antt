@@ -47,15 +47,15 @@ module _ (da db : Dictionary) (u : Unknown) (table : PlainTable) where
       let at = none_where_passed da db u table sa sb k i t fails h in
       (λ e. absurd (is.fails (at.0 e)), λ (e : No k i t ≡ Yes). cc)
 
-  pub told_included : {E : Type 0} (r : Result Verdict E) → IsDictionary da → IsDictionary db → IfOk r (λ v. IsAnswerOf all v.answer) → IfOk r (λ v. v.answer ≡ Yes → IsIncluded da db u table)
-  told_included (Ok v) sa sb h = λ e. included da db sa sb u table (subst (IsAnswerOf all) e h)
-  told_included (Err e) sa sb h = tt
+  pub recorded_included : {E : Type 0} (r : Result Verdict E) → IsDictionary da → IsDictionary db → IfOk r (λ v. IsAnswerOf all v.answer) → IfOk r (λ v. v.answer ≡ Yes → IsIncluded da db u table)
+  recorded_included (Ok v) sa sb h = λ e. included da db sa sb u table (subst (IsAnswerOf all) e h)
+  recorded_included (Err e) sa sb h = tt
 
-  pub told_failings : {E : Type 0} (r : Result Verdict E) → IfOk r (λ v. AreFailingsIn all v.answer v.failings.items) → IfOk r (λ v. AreFailingsFor da db u table v.answer v.failings.items)
-  told_failings (Ok v) h = for_answer v.answer v.failings.items h
-  told_failings (Err e) h = tt
+  pub recorded_failings : {E : Type 0} (r : Result Verdict E) → IfOk r (λ v. AreFailingsIn all v.answer v.failings.items) → IfOk r (λ v. AreFailingsFor da db u table v.answer v.failings.items)
+  recorded_failings (Ok v) h = for_answer v.answer v.failings.items h
+  recorded_failings (Err e) h = tt
 
-  pub told_none : {E : Type 0} (r : Result Verdict E) → IsDictionary da → IsDictionary db → IfOk r (λ v. IsAnswerOf all v.answer) → IfOk r (λ v. AreFailingsIn all v.answer v.failings.items)
+  pub recorded_none : {E : Type 0} (r : Result Verdict E) → IsDictionary da → IsDictionary db → IfOk r (λ v. IsAnswerOf all v.answer) → IfOk r (λ v. AreFailingsIn all v.answer v.failings.items)
       → IfOk r (λ v. (v.failings.items ≡ []) ↔ (v.answer ≡ Yes))
-  told_none (Ok v) sa sb is h = none_for sa sb v.answer v.failings.items is h
-  told_none (Err e) sa sb is h = tt
+  recorded_none (Ok v) sa sb is h = none_for sa sb v.answer v.failings.items is h
+  recorded_none (Err e) sa sb is h = tt

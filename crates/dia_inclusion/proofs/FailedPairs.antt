@@ -316,9 +316,9 @@ module _ (da db : Dictionary) (u : Unknown) (table : PlainTable) where
       before kind.Avp j s lt = if_some (AvpTest da db table u s) (slice_get table.avps j) (λ p at. f.before j p s lt at)
 
   -- what was found of the pairs is the answer
-  pub told_command : (pairs : List NamePair) (found : Option (ℕ × Test)) (f : ℕ × Test) → pairs ≡ table.commands → found ≡ Some f → IsFound (PairTest all kind.Command) pairs found
+  pub recorded_command : (pairs : List NamePair) (found : Option (ℕ × Test)) (f : ℕ × Test) → pairs ≡ table.commands → found ≡ Some f → IsFound (PairTest all kind.Command) pairs found
       → IsFirstFailure da db u table kind.Command f.0 f.1
-  told_command pairs found f e g h =
+  recorded_command pairs found f e g h =
       command_fails f.0 f.1 (subst (λ (o : Option (ℕ × Test)). IsFound (PairTest all kind.Command) table.commands o) g
       (subst (λ (ps : List NamePair). IsFound (PairTest all kind.Command) ps found) e h))
 
@@ -327,12 +327,12 @@ module _ (da db : Dictionary) (u : Unknown) (table : PlainTable) where
   all_pass k pairs others found e g h = subst (λ (o : Option (ℕ × Test)). IsFound (PairTest all k) others o) g
       (subst (λ (ps : List NamePair). IsFound (PairTest all k) ps found) e h)
 
-  pub told_avp : (pairs others : List NamePair) (found later : Option (ℕ × Test)) (f : ℕ × Test) → pairs ≡ table.commands → others ≡ table.avps → found ≡ None → later ≡ Some f
+  pub recorded_avp : (pairs others : List NamePair) (found later : Option (ℕ × Test)) (f : ℕ × Test) → pairs ≡ table.commands → others ≡ table.avps → found ≡ None → later ≡ Some f
       → IsFound (PairTest all kind.Command) pairs found → IsFound (PairTest all kind.Avp) others later → IsFirstFailure da db u table kind.Avp f.0 f.1
-  told_avp pairs others found later f e e' g g' h h' =
+  recorded_avp pairs others found later f e e' g g' h h' =
       avp_fails f.0 f.1 (all_pass kind.Command pairs table.commands found e g h)
       (subst (λ (o : Option (ℕ × Test)). IsFound (PairTest all kind.Avp) table.avps o) g' (subst (λ (ps : List NamePair). IsFound (PairTest all kind.Avp) ps later) e' h'))
 
-  pub told_closed : (pairs others : List NamePair) (found later : Option (ℕ × Test)) → pairs ≡ table.commands → others ≡ table.avps → found ≡ None → later ≡ None
+  pub recorded_closed : (pairs others : List NamePair) (found later : Option (ℕ × Test)) → pairs ≡ table.commands → others ≡ table.avps → found ≡ None → later ≡ None
       → IsFound (PairTest all kind.Command) pairs found → IsFound (PairTest all kind.Avp) others later → IsClosed da db u table
-  told_closed pairs others found later e e' g g' h h' = closed_where (all_pass kind.Command pairs table.commands found e g h) (all_pass kind.Avp others table.avps later e' g' h')
+  recorded_closed pairs others found later e e' g g' h h' = closed_where (all_pass kind.Command pairs table.commands found e g h) (all_pass kind.Avp others table.avps later e' g' h')

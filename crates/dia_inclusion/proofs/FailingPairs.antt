@@ -267,11 +267,11 @@ module _ (all : Compared) (sa : IsDictionary all.sides.first) (sb : IsDictionary
 
   -- ---- the pair at a place of the table
 
-  at_place : {P : NamePair → Type 0} (ps : List NamePair) (i : ℕ) (l : List Failing) (told : NamePair → Type 0) → ((p : NamePair) → told p → (l ≡ []) ↔ P p)
-      → MatchOption (slice_get ps i) (l ≡ []) told → (l ≡ []) ↔ IfSome (slice_get ps i) P
-  at_place {P} ps i l told each h = by (slice_get ps i) h
+  at_place : {P : NamePair → Type 0} (ps : List NamePair) (i : ℕ) (l : List Failing) (recorded : NamePair → Type 0) → ((p : NamePair) → recorded p → (l ≡ []) ↔ P p)
+      → MatchOption (slice_get ps i) (l ≡ []) recorded → (l ≡ []) ↔ IfSome (slice_get ps i) P
+  at_place {P} ps i l recorded each h = by (slice_get ps i) h
     where
-      by : (o : Option NamePair) → MatchOption o (l ≡ []) told → (l ≡ []) ↔ IfSome o P
+      by : (o : Option NamePair) → MatchOption o (l ≡ []) recorded → (l ≡ []) ↔ IfSome o P
       by None e = (λ _. tt, λ _. e)
       by (Some p) k = each p k
 

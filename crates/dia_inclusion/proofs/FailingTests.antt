@@ -244,8 +244,8 @@ let_in_decides c a v =
 -- ---- the nine tests
 
 module _ (c : Compared) (a b : List DRule) where
-  rule_decides : (test : DRule → Bool) (told : ℕ → Failing) (rules : List DRule) → Decides (list_all test rules) (among (λ p. unless (test p.1) (told p.0)) rules ≡ [])
-  rule_decides test told rules = numbered_decides (λ (p : Placed). unless (test p.1) (told p.0)) test (λ p. unless_decides (test p.1) (told p.0)) 0 rules
+  rule_decides : (test : DRule → Bool) (recorded : ℕ → Failing) (rules : List DRule) → Decides (list_all test rules) (among (λ p. unless (test p.1) (recorded p.0)) rules ≡ [])
+  rule_decides test recorded rules = numbered_decides (λ (p : Placed). unless (test p.1) (recorded p.0)) test (λ p. unless_decides (test p.1) (recorded p.0)) 0 rules
 
   from_start : (k : ℕ) → slice_get a (0 + k) ≡ slice_get a k
   from_start k = let same : 0 + k ≡ k = omega arith in ap (slice_get a) same

@@ -15,20 +15,20 @@ use Rattle.dia_inclusion.specs.Failings.{unless}
 use Rattle.dia_inclusion.proofs.SetsOfNames.{get_none}
 use Rattle.dia_inclusion.proofs.WantedDefinitions.{filter_map_more}
 
-pub stranger_more : (test : DictEntry → Bool) (told : Key → Failing) (entries : List DictEntry) (i j : ℕ) (fits : Bool) (key : Key) (old new : List Failing) → i < length entries → j ≡ i
+pub stranger_more : (test : DictEntry → Bool) (recorded : Key → Failing) (entries : List DictEntry) (i j : ℕ) (fits : Bool) (key : Key) (old new : List Failing) → i < length entries → j ≡ i
     → IfSome (slice_get entries j) (λ e. fits ≡ test e) → IfSome (slice_get entries j) (λ e. key ≡ e.key)
-    → old ≡ filter_map (λ (e : DictEntry). unless (test e) (told e.key)) (take i entries) → new ≡ old ++ option_to_list (unless fits (told key))
-    → new ≡ filter_map (λ (e : DictEntry). unless (test e) (told e.key)) (take (i + 1) entries)
-stranger_more test told entries i j fits key old new within same h k before pushed =
+    → old ≡ filter_map (λ (e : DictEntry). unless (test e) (recorded e.key)) (take i entries) → new ≡ old ++ option_to_list (unless fits (recorded key))
+    → new ≡ filter_map (λ (e : DictEntry). unless (test e) (recorded e.key)) (take (i + 1) entries)
+stranger_more test recorded entries i j fits key old new within same h k before pushed =
     by (slice_get entries i) refl (subst (λ (n : ℕ). IfSome (slice_get entries n) (λ e. fits ≡ test e)) same h) (subst (λ (n : ℕ). IfSome (slice_get entries n) (λ e. key ≡ e.key)) same k)
   where
     by : (o : Option DictEntry) → slice_get entries i ≡ o → IfSome o (λ e. fits ≡ test e) → IfSome o (λ e. key ≡ e.key)
-        → new ≡ filter_map (λ (e : DictEntry). unless (test e) (told e.key)) (take (i + 1) entries)
+        → new ≡ filter_map (λ (e : DictEntry). unless (test e) (recorded e.key)) (take (i + 1) entries)
     by None at f g = absurd (let z = get_none entries i at in omega (arith, within, z))
     by (Some x) at f g =
-        let fails = λ (e : DictEntry). unless (test e) (told e.key) in
-        pushed ∙ ap (λ (ys : List Failing). ys ++ option_to_list (unless fits (told key))) before
-        ∙ ap (λ (o : Option Failing). filter_map fails (take i entries) ++ option_to_list o) (ap (λ (b : Bool). unless b (told key)) f ∙ ap (λ (z : Key). unless (test x) (told z)) g)
+        let fails = λ (e : DictEntry). unless (test e) (recorded e.key) in
+        pushed ∙ ap (λ (ys : List Failing). ys ++ option_to_list (unless fits (recorded key))) before
+        ∙ ap (λ (o : Option Failing). filter_map fails (take i entries) ++ option_to_list o) (ap (λ (b : Bool). unless b (recorded key)) f ∙ ap (λ (z : Key). unless (test x) (recorded z)) g)
         ∙ sym (filter_map_more fails entries i x at)
 
 -- the last member with its number
@@ -59,14 +59,14 @@ numbered_more {X} fails xs i x old new found at is before pushed =
     one (Some f) = refl
 
 -- one member more of a slice
-pub failing_more : {X : Type 0} (test : X → Bool) (told : X → Failing) (xs : List X) (i : ℕ) (d : X) (old new : List Failing) (passed : Bool) → i < length xs → passed ≡ test (get_or xs i d)
-    → old ≡ filter_map (λ (x : X). unless (test x) (told x)) (take i xs) → new ≡ old ++ option_to_list (unless passed (told (get_or xs i d)))
-    → new ≡ filter_map (λ (x : X). unless (test x) (told x)) (take (i + 1) xs)
-failing_more {X} test told xs i d old new passed within is before pushed =
-    let fails = λ (x : X). unless (test x) (told x) in
+pub failing_more : {X : Type 0} (test : X → Bool) (recorded : X → Failing) (xs : List X) (i : ℕ) (d : X) (old new : List Failing) (passed : Bool) → i < length xs → passed ≡ test (get_or xs i d)
+    → old ≡ filter_map (λ (x : X). unless (test x) (recorded x)) (take i xs) → new ≡ old ++ option_to_list (unless passed (recorded (get_or xs i d)))
+    → new ≡ filter_map (λ (x : X). unless (test x) (recorded x)) (take (i + 1) xs)
+failing_more {X} test recorded xs i d old new passed within is before pushed =
+    let fails = λ (x : X). unless (test x) (recorded x) in
     let x = get_or xs i d in
-    pushed ∙ ap (λ (ys : List Failing). ys ++ option_to_list (unless passed (told x))) before
-    ∙ ap (λ (b : Bool). filter_map fails (take i xs) ++ option_to_list (unless b (told x))) is
+    pushed ∙ ap (λ (ys : List Failing). ys ++ option_to_list (unless passed (recorded x))) before
+    ∙ ap (λ (b : Bool). filter_map fails (take i xs) ++ option_to_list (unless b (recorded x))) is
     ∙ sym (filter_map_more fails xs i x (slice_get-get_or xs i d within))
 
 -- one rule more of those that a test asks

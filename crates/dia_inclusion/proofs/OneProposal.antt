@@ -77,10 +77,10 @@ module _ (da db : Dictionary) (sa : IsDictionary da) (sb : IsDictionary db) wher
   wanted_member c d (both_none code class i x y) = i
   wanted_member c d (other_app code app class i x y z) = i
 
-  abbrev StandsAt : List ℕ → ℕ → Type 0
-  StandsAt name k = (d : PlainDefinition) × (slice_get db.commands k ≡ Some d) × (d.name ≡ name)
+  abbrev OccursAt : List ℕ → ℕ → Type 0
+  OccursAt name k = (d : PlainDefinition) × (slice_get db.commands k ≡ Some d) × (d.name ≡ name)
 
-  beside_in_order : (c : PlainDefinition) (names : List (List ℕ)) → AreBeside da db c names → InOrder StandsAt names
+  beside_in_order : (c : PlainDefinition) (names : List (List ℕ)) → AreBeside da db c names → InOrder OccursAt names
   beside_in_order c names are i j k l x y less at there (d, p, e) (f, q, g) = are.in_order i j k l d f less (at ∙ ap (λ (n : List ℕ). Some n) (sym e)) (there ∙ ap (λ (n : List ℕ). Some n) (sym g)) p q
 
   one_beside : (c : PlainDefinition) (xs ys : List (List ℕ)) → AreBeside da db c xs → AreBeside da db c ys → xs ≡ ys
@@ -89,7 +89,7 @@ module _ (da db : Dictionary) (sa : IsDictionary da) (sb : IsDictionary db) wher
     where
       by : ((d : PlainDefinition) × IsWanted da db c d × (d.name ≡ x)) ⊎ ((d : PlainDefinition) → ¬ IsWanted da db c d) → x ∷ xs ≡ ys
       by (inr none) = a.alone none ∙ sym (b.alone none)
-      by (inl (w, is, named)) = same_ordered StandsAt (x ∷ xs) ys (beside_in_order c (x ∷ xs) a) (beside_in_order c ys b) places to from
+      by (inl (w, is, named)) = same_ordered OccursAt (x ∷ xs) ys (beside_in_order c (x ∷ xs) a) (beside_in_order c ys b) places to from
         where
           of : (names : List (List ℕ)) → AreBeside da db c names → (n : List ℕ) → IsIn n names → (d : PlainDefinition) × IsWanted da db c d × (d.name ≡ n)
           of names are n i = pick (are.only n (contains_in names n i))
@@ -98,7 +98,7 @@ module _ (da db : Dictionary) (sa : IsDictionary da) (sb : IsDictionary db) wher
               pick (inl h) = h
               pick (inr none) = absurd (none w is)
 
-          places : (n : List ℕ) → IsIn n (x ∷ xs) → (k : ℕ) × StandsAt n k
+          places : (n : List ℕ) → IsIn n (x ∷ xs) → (k : ℕ) × OccursAt n k
           places n i =
               let d = of (x ∷ xs) a n i in
               let p = at_in db.commands d.0 (in_contains db.commands d.0 (wanted_member c d.0 d.1)) in

@@ -196,16 +196,16 @@ module _ (da db : Dictionary) (u : Unknown) (paired : (Key → Type 0)) (a b : L
       subst (λ (ks : List Key). IsIn q ks) (sym m.1) (in_right m.0 placed.rest q i)
 
   -- what follows b's runs comes by a rule of a's or by its wildcard
-  behind_comes : (q : Key) → IsIn q parts.behind → Comes a q
-  behind_comes q i = by (in_append parts.middle placed.rest q (subst (λ (ks : List Key). IsIn q ks) parts.parts i))
+  after_comes : (q : Key) → IsIn q parts.following → Comes a q
+  after_comes q i = by (in_append parts.middle placed.rest q (subst (λ (ks : List Key). IsIn q ks) parts.parts i))
     where
       by : IsIn q parts.middle ⊎ IsIn q placed.rest → Comes a q
       by (inl h) = run_comes a ra keys placed q (fixed_rules b) (in_all (IsRunKey (fixed_rules a) (fixed_rules b)) q parts.middle parts.each h)
       by (inr h) = rest_comes a ra keys placed q (loose_at q h)
 
   -- and has the key of no fixed rule of b's
-  behind_free : (q : Key) → IsIn q parts.behind → (s : DRule) → IsIn s (fixed_rules b) → s.key ≢ Some q
-  behind_free q i s j e = by (in_append parts.middle placed.rest q (subst (λ (ks : List Key). IsIn q ks) parts.parts i))
+  after_free : (q : Key) → IsIn q parts.following → (s : DRule) → IsIn s (fixed_rules b) → s.key ≢ Some q
+  after_free q i s j e = by (in_append parts.middle placed.rest q (subst (λ (ks : List Key). IsIn q ks) parts.parts i))
     where
       by : IsIn q parts.middle ⊎ IsIn q placed.rest → ⊥
       by (inl h) = let k = in_all (IsRunKey (fixed_rules a) (fixed_rules b)) q parts.middle parts.each h in in_all (λ (t : DRule). t.key ≢ Some q) s (fixed_rules b) k.no_other j e
@@ -219,22 +219,22 @@ module _ (da db : Dictionary) (u : Unknown) (paired : (Key → Type 0)) (a b : L
       let w = below N6 v.wild (contains_in a v.wild v.is_rule, v.no_key) in
       in_any is_wildcard b w.0 (in_contains b w.0 w.1.0) (ap (λ (o : Option Key). not (is_some o)) w.1.1)
 
-  may_be : (q : Key) → IsIn q parts.behind → (c : Bool) → is_listed b q ≡ c → MayBeLoose b q
+  may_be : (q : Key) → IsIn q parts.following → (c : Bool) → is_listed b q ≡ c → MayBeLoose b q
   may_be q i true e = by (is_fixed r.0) refl
     where
       r : (s : DRule) × IsIn s b × (s.key ≡ Some q)
       r = listed b q e
 
       by : (f : Bool) → is_fixed r.0 ≡ f → MayBeLoose b q
-      by true f = absurd (behind_free q i r.0 (into_filter is_fixed b r.0 r.1 f) r.2)
+      by true f = absurd (after_free q i r.0 (into_filter is_fixed b r.0 r.1 f) r.2)
       by false f = inl (is_listed_by (loose_rules b) q r.0 (into_loose b r.0 r.1 f) r.2)
-  may_be q i false e = inr (e, wildcard_of q (behind_comes q i) e)
+  may_be q i false e = inr (e, wildcard_of q (after_comes q i) e)
 
   -- ---- the counts of a key
 
   -- as many after b's runs as in all
-  same_times : (s : DRule) (k : Key) → IsIn s b → is_fixed s ≡ false → s.key ≡ Some k → times k parts.behind ≡ times k keys
-  same_times s k i loose e = sym (runs_none (fixed_rules b) keys parts.behind k parts.runs (all_in (λ (t : DRule). t.key ≢ Some k) (fixed_rules b) (λ t j f.
+  same_times : (s : DRule) (k : Key) → IsIn s b → is_fixed s ≡ false → s.key ≡ Some k → times k parts.following ≡ times k keys
+  same_times s k i loose e = sym (runs_none (fixed_rules b) keys parts.following k parts.runs (all_in (λ (t : DRule). t.key ≢ Some k) (fixed_rules b) (λ t j f.
       let here = fixed_part b t j in
       let same = one_rule b t s rb here.0 i (f ∙ sym e) in
       not_both (is_fixed t) here.1 (ap (λ (x : DRule). is_fixed x) same ∙ loose))))
@@ -298,8 +298,8 @@ module _ (da db : Dictionary) (u : Unknown) (paired : (Key → Type 0)) (a b : L
 
   -- ---- the count of the wildcard
 
-  behind_strangers : strangers b parts.behind ≡ strangers b parts.middle + strangers b placed.rest
-  behind_strangers = ap (strangers b) parts.parts ∙ count_append (λ (q : Key). not (is_listed b q)) parts.middle placed.rest
+  after_strangers : strangers b parts.following ≡ strangers b parts.middle + strangers b placed.rest
+  after_strangers = ap (strangers b) parts.parts ∙ count_append (λ (q : Key). not (is_listed b q)) parts.middle placed.rest
 
   listed_too : (w : DRule) (max : ℕ) (q : Key) → HasWildcard b w → w.max ≡ Some max → ByRule a q → is_listed b q ≡ true
   listed_too w max q h e r =
@@ -332,14 +332,14 @@ module _ (da db : Dictionary) (u : Unknown) (paired : (Key → Type 0)) (a b : L
       let most = within_some v.wild.max max (strangers a placed.rest) within bounds.1 in
       omega (arith, le, most)
 
-  wild_max : (w : DRule) (m : Option ℕ) → HasWildcard b w → w.max ≡ m → IfSome m (λ l. strangers b parts.behind ≤ l)
+  wild_max : (w : DRule) (m : Option ℕ) → HasWildcard b w → w.max ≡ m → IfSome m (λ l. strangers b parts.following ≤ l)
   wild_max w None h e = tt
   wild_max w (Some max) h e =
       let zeros = no_strangers w max h e in
       let most = some_strangers w max h e (none_or_some (λ (q : Key). not (is_listed b q)) placed.rest) in
-      omega (arith, behind_strangers, zeros, most)
+      omega (arith, after_strangers, zeros, most)
 
-  wild_min : (w : DRule) → HasWildcard b w → (w.min ≡ 0) ⊎ (0 < w.min) → w.min ≤ strangers b parts.behind
+  wild_min : (w : DRule) → HasWildcard b w → (w.min ≡ 0) ⊎ (0 < w.min) → w.min ≤ strangers b parts.following
   wild_min w h (inl z) = omega (arith, z)
   wild_min w h (inr pos) =
       let n8 = below N8 w h pos in
@@ -352,21 +352,21 @@ module _ (da db : Dictionary) (u : Unknown) (paired : (Key → Type 0)) (a b : L
       not_both (is_listed a x) (is_listed_by a x l.0 (in_contains a l.0 l.1.0) l.1.1) (not_true (is_listed a x) g)))) in
       let least : w.min ≤ v.min = n8.0.2 in
       let low : v.min ≤ strangers a placed.rest = bounds.0 in
-      omega (arith, behind_strangers, le, least, low)
+      omega (arith, after_strangers, le, least, low)
 
   -- ---- all of it
 
-  rule_bounds : (s : DRule) (o : Option Key) → IsIn s b → is_fixed s ≡ false → s.key ≡ o → InBounds s (counted b s parts.behind)
+  rule_bounds : (s : DRule) (o : Option Key) → IsIn s b → is_fixed s ≡ false → s.key ≡ o → InBounds s (counted b s parts.following)
   rule_bounds s (Some k) i loose e =
-      subst (InBounds s) (sym (counted_key b s parts.behind k e ∙ same_times s k i loose e)) (key_bounds s k (is_listed a k) i e refl)
+      subst (InBounds s) (sym (counted_key b s parts.following k e ∙ same_times s k i loose e)) (key_bounds s k (is_listed a k) i e refl)
   rule_bounds s None i loose e =
       let h : HasWildcard b s = (contains_in b s i, e) in
-      subst (InBounds s) (sym (counted_wild b s parts.behind e)) (wild_min s h (zero_or s.min), wild_max s s.max h refl)
+      subst (InBounds s) (sym (counted_wild b s parts.following e)) (wild_min s h (zero_or s.min), wild_max s s.max h refl)
 
   pub still_placed : Placed b keys
   still_placed = record {
-    rest = parts.behind;
+    rest = parts.following;
     runs = parts.runs;
-    loose = all_in (MayBeLoose b) parts.behind (λ q i. may_be q i (is_listed b q) refl);
-    counts = all_in (λ (s : DRule). InBounds s (counted b s parts.behind)) (loose_rules b) (λ s i. let p = loose_part b s i in rule_bounds s s.key p.0 p.1 refl);
+    loose = all_in (MayBeLoose b) parts.following (λ q i. may_be q i (is_listed b q) refl);
+    counts = all_in (λ (s : DRule). InBounds s (counted b s parts.following)) (loose_rules b) (λ s i. let p = loose_part b s i in rule_bounds s s.key p.0 p.1 refl);
   }

@@ -23,10 +23,10 @@ in_bounds a b n w h = (omega (arith, w.0, h.0), max_within a.max b.max n w.1 h.1
 -- ---- the runs of the second's fixed rules are the first runs of the first's
 
 pub record Split (fa fb : List DRule) (keys rest : List Key) : Type 0 where
-  pub behind : List Key
+  pub following : List Key
   pub middle : List Key
-  pub runs : Runs fb keys behind
-  pub parts : behind ≡ middle ++ rest
+  pub runs : Runs fb keys following
+  pub parts : following ≡ middle ++ rest
   pub each : AllByRecursion (IsRunKey fa fb) middle
 
 -- a rule after r has another key than r
@@ -42,12 +42,12 @@ new_key r s fa gs key same new k = record {
 pub split : (fa fb : List DRule) (keys rest : List Key) → FixedWithin fa fb → AreDistinct fa → Runs fa keys rest → Split fa fb keys rest
 split fa [] keys rest w distinct runs =
     let m = all_middle fa keys rest runs in
-    record { behind = keys; middle = m.0; runs = refl; parts = m.1; each = m.2 }
+    record { following = keys; middle = m.0; runs = refl; parts = m.1; each = m.2 }
 split [] (s ∷ gs) keys rest w distinct runs = absurd w
 split (r ∷ fa) (s ∷ gs) keys rest w distinct (run, after, parts, all, bounds, more) =
     let ih = split fa gs after rest w.2 distinct.1 more in
     record {
-      behind = ih.behind;
+      following = ih.following;
       middle = ih.middle;
       runs = (run, after, parts, rw w.0 at all, in_bounds r s (length run) w.1 bounds, ih.runs);
       parts = ih.parts;

@@ -141,23 +141,23 @@ integer_text (negsuc n) = refl
 of_kind : (f : PlainFormat) (bytes text : List ℕ) (k : ValueKind) → kind_of f ≡ k → text ≡ compact_text (value_as k f bytes) → text ≡ compact_text (value_as (kind_of f) f bytes)
 of_kind f bytes text k is h = h ∙ ap (λ (l : ValueKind). compact_text (value_as l f bytes)) (sym is)
 
-pub number_told : (f : PlainFormat) (bytes text : List ℕ) → kind_of f ≡ kind.Number → IsLeafAnswer Fine f bytes → IsValueText f bytes text
+pub number_recorded : (f : PlainFormat) (bytes text : List ℕ) → kind_of f ≡ kind.Number → IsLeafAnswer Fine f bytes → IsValueText f bytes text
     → text ≡ compact_text (value_as (kind_of f) f bytes)
-number_told f bytes text is fine shown =
+number_recorded f bytes text is fine shown =
     of_kind f bytes text kind.Number is
     (shown.accepted (leaf_of f bytes kind.Number is refl fine) ∙ shown_integer f bytes (ap is_numeric is) ∙ sym (integer_text (integer_of f bytes)))
 
-pub long_told : (f : PlainFormat) (bytes text : List ℕ) → kind_of f ≡ kind.LongNumber → IsLeafAnswer Fine f bytes
+pub long_recorded : (f : PlainFormat) (bytes text : List ℕ) → kind_of f ≡ kind.LongNumber → IsLeafAnswer Fine f bytes
     → (shown : List ℕ) × IsValueText f bytes shown × (text ≡ quoted shown) → text ≡ compact_text (value_as (kind_of f) f bytes)
-long_told f bytes text is fine (shown, is_shown, is_text) =
+long_recorded f bytes text is fine (shown, is_shown, is_text) =
     of_kind f bytes text kind.LongNumber is
     (is_text ∙ ap quoted (is_shown.accepted (leaf_of f bytes kind.LongNumber is refl fine) ∙ shown_integer f bytes (ap is_numeric is)))
 
-pub octets_told : (f : PlainFormat) (bytes text : List ℕ) → kind_of f ≡ kind.Octets → text ≡ compact_text (hex_value bytes) → text ≡ compact_text (value_as (kind_of f) f bytes)
-octets_told f bytes text is is_text = of_kind f bytes text kind.Octets is is_text
+pub octets_recorded : (f : PlainFormat) (bytes text : List ℕ) → kind_of f ≡ kind.Octets → text ≡ compact_text (hex_value bytes) → text ≡ compact_text (value_as (kind_of f) f bytes)
+octets_recorded f bytes text is is_text = of_kind f bytes text kind.Octets is is_text
 
-pub address_told : (f : PlainFormat) (bytes text : List ℕ) → kind_of f ≡ kind.Address → text ≡ compact_text (address_value bytes) → text ≡ compact_text (value_as (kind_of f) f bytes)
-address_told f bytes text is is_text = of_kind f bytes text kind.Address is is_text
+pub address_recorded : (f : PlainFormat) (bytes text : List ℕ) → kind_of f ≡ kind.Address → text ≡ compact_text (address_value bytes) → text ≡ compact_text (value_as (kind_of f) f bytes)
+address_recorded f bytes text is is_text = of_kind f bytes text kind.Address is is_text
 
 -- ---- accepted or not
 
@@ -212,9 +212,9 @@ unfolding serde_json_on_literals
 other_is n bytes = refl
 
 -- one of another family
-pub other_told : (bytes digits text : List ℕ) (n : ℕ) → n ≡ numbers.number (take 2 bytes) → n ≢ 1 → n ≢ 2 → digits ≡ quoted (flat_map hex_byte (drop 2 bytes))
+pub other_recorded : (bytes digits text : List ℕ) (n : ℕ) → n ≡ numbers.number (take 2 bytes) → n ≢ 1 → n ≢ 2 → digits ≡ quoted (flat_map hex_byte (drop 2 bytes))
     → text ≡ codes "{\"family\":" ++ (decimal n ++ (codes ",\"hex\":" ++ (digits ++ codes "}"))) → text ≡ compact_text (address_value bytes)
-other_told bytes digits text n is first second is_digits is_text =
+other_recorded bytes digits text n is first second is_digits is_text =
     let other = other_address n (drop 2 bytes) in
     let shown = string (address bytes) in
     is_text ∙ ap (λ (d : List ℕ). codes "{\"family\":" ++ (decimal n ++ (codes ",\"hex\":" ++ (d ++ codes "}")))) is_digits ∙ sym (other_is n (drop 2 bytes))
@@ -222,8 +222,8 @@ other_told bytes digits text n is first second is_digits is_text =
     ∙ ap (λ (b : Bool). if b then shown else other) (unequal n 2 second)))
 
 -- a slice up to the end
-pub all_behind : (n : ℕ) (s : List ℕ) → take (length s - n) (drop n s) ≡ drop n s
-all_behind n s = ap (λ (k : ℕ). take k (drop n s)) (sym (length-drop n s)) ∙ take-length (drop n s)
+pub all_after : (n : ℕ) (s : List ℕ) → take (length s - n) (drop n s) ≡ drop n s
+all_after n s = ap (λ (k : ℕ). take k (drop n s)) (sym (length-drop n s)) ∙ take-length (drop n s)
 
 -- the two bytes of the family
 pub family_is : (bytes : List ℕ) (n : ℕ) → IsAddress bytes → n ≡ big_from 0 2 bytes → n ≡ numbers.number (take 2 bytes)
@@ -231,9 +231,9 @@ family_is bytes n leaf is = is ∙ big_from-number 2 bytes (omega (arith, ap len
 
 -- ---- bytes
 
-pub hex_told : (bytes digits text : List ℕ) → digits ≡ quoted (flat_map hex_byte bytes) → text ≡ codes "{\"hex\":" ++ (digits ++ codes "}") → text ≡ compact_text (hex_value bytes)
+pub hex_recorded : (bytes digits text : List ℕ) → digits ≡ quoted (flat_map hex_byte bytes) → text ≡ codes "{\"hex\":" ++ (digits ++ codes "}") → text ≡ compact_text (hex_value bytes)
 unfolding serde_json_on_literals
-hex_told bytes digits text is_digits is = is ∙ ap (λ (d : List ℕ). codes "{\"hex\":" ++ (d ++ codes "}")) is_digits
+hex_recorded bytes digits text is_digits is = is ∙ ap (λ (d : List ℕ). codes "{\"hex\":" ++ (d ++ codes "}")) is_digits
 
 pub not_length : BadLength ≢ Fine
 not_length e = cc

@@ -39,9 +39,9 @@ named_is : (name : List ℕ) (key : Key) → members_text true (about (named_mem
 unfolding serde_json_on_literals
 named_is name key = refl
 
-pub named_told : (old new written name : List ℕ) (key : Key) → written ≡ quoted name → new ≡ old ++ (codes ",\"avp\":" ++ named_text written key (125 ∷ []))
+pub named_recorded : (old new written name : List ℕ) (key : Key) → written ≡ quoted name → new ≡ old ++ (codes ",\"avp\":" ++ named_text written key (125 ∷ []))
     → new ≡ old ++ members_text true (about (named_members name key))
-named_told old new written name key is_quoted is_new =
+named_recorded old new written name key is_quoted is_new =
     is_new ∙ ap (λ (q : List ℕ). old ++ (codes ",\"avp\":" ++ named_text q key (125 ∷ []))) is_quoted
     ∙ ap (λ (t : List ℕ). old ++ (codes ",\"avp\":" ++ t)) (named_ends (quoted name) key (125 ∷ [])) ∙ ap (λ (t : List ℕ). old ++ t) (sym (named_is name key))
 
@@ -67,10 +67,10 @@ fault_is : (d : Dictionary) (fault : Fault)
 unfolding serde_json_on_literals
 fault_is d fault = refl
 
-pub fault_told : (d : Dictionary) (fault : Fault) (old front new word : List ℕ) → word ≡ reason_word fault.reason
+pub fault_recorded : (d : Dictionary) (fault : Fault) (old front new word : List ℕ) → word ≡ reason_word fault.reason
     → front ≡ old ++ fault_front fault.code fault.place (codes "\"" ++ (word ++ codes "\"")) → new ≡ front ++ members_text true (subject_members d fault.subject)
     → new ≡ old ++ members_text false (fault_members d fault)
-fault_told d fault old front new word is_word is_front is_new =
+fault_recorded d fault old front new word is_word is_front is_new =
     let rest = members_text true (subject_members d fault.subject) in
     let own = reason_word fault.reason in
     is_new ∙ ap (λ (t : List ℕ). t ++ rest) (is_front ∙ ap (λ (w : List ℕ). old ++ fault_front fault.code fault.place (codes "\"" ++ (w ++ codes "\""))) is_word)
@@ -81,28 +81,28 @@ fault_told d fault old front new word is_word is_front is_new =
 -- ---- lines
 
 -- the line of members
-pub line_told : (members : Members) (old begun inside new : List ℕ) → begun ≡ old ++ codes "{" → inside ≡ begun ++ members_text false members
+pub line_recorded : (members : Members) (old begun inside new : List ℕ) → begun ≡ old ++ codes "{" → inside ≡ begun ++ members_text false members
     → new ≡ inside ++ codes "\n" → new ≡ old ++ json_line members
-line_told members old begun inside new is_begun is_inside is_new =
+line_recorded members old begun inside new is_begun is_inside is_new =
     is_new ∙ ap (λ (t : List ℕ). t ++ codes "\n") (is_inside ∙ ap (λ (t : List ℕ). t ++ members_text false members) is_begun)
     ∙ simp append_assoc
 
 -- members that stand behind another one
-abbrev IsBehind : Members → Type 0
-IsBehind members = members_text true members ≡ 44 ∷ members_text false members
+abbrev IsAfter : Members → Type 0
+IsAfter members = members_text true members ≡ 44 ∷ members_text false members
 
-pub checked_behind : (d : Dictionary) (verdict : Checked) → IsBehind (checked_members d verdict)
-checked_behind d (Valid found) = refl
-checked_behind d (Wrong (flaw.Fault fault)) = refl
-checked_behind d (Wrong flaw.Truncated) = refl
-checked_behind d (Wrong flaw.Trailing) = refl
-checked_behind d (Wrong flaw.TooLong) = refl
-checked_behind d (Wrong flaw.NotHexadecimal) = refl
+pub checked_after : (d : Dictionary) (verdict : Checked) → IsAfter (checked_members d verdict)
+checked_after d (Valid found) = refl
+checked_after d (Wrong (flaw.Fault fault)) = refl
+checked_after d (Wrong flaw.Truncated) = refl
+checked_after d (Wrong flaw.Trailing) = refl
+checked_after d (Wrong flaw.TooLong) = refl
+checked_after d (Wrong flaw.NotHexadecimal) = refl
 
-pub refuted_behind : (a b : Dictionary) (verdict : Refuted) → IsBehind (refuted_members a b verdict)
-refuted_behind a b verdict = by verdict.first
+pub refuted_after : (a b : Dictionary) (verdict : Refuted) → IsAfter (refuted_members a b verdict)
+refuted_after a b verdict = by verdict.first
   where
-    by : (first : Checked) → IsBehind (unless_refused too_long_members not_hexadecimal_members (both_members a b verdict) first)
+    by : (first : Checked) → IsAfter (unless_refused too_long_members not_hexadecimal_members (both_members a b verdict) first)
     by (Valid found) = refl
     by (Wrong (flaw.Fault fault)) = refl
     by (Wrong flaw.Truncated) = refl
@@ -122,12 +122,12 @@ placed_is d at verdict = refl
 placed_joined : (at : ℕ) (old members : List ℕ) → ((old ++ place_text at (codes ",")) ++ members) ++ codes "\n" ≡ old ++ (place_text at (44 ∷ members) ++ codes "\n")
 placed_joined at old members = simp append_assoc
 
-pub placed_told : (d : Dictionary) (at : ℕ) (verdict : Checked) (old begun members new : List ℕ) → begun ≡ old ++ place_text at (codes ",")
+pub placed_recorded : (d : Dictionary) (at : ℕ) (verdict : Checked) (old begun members new : List ℕ) → begun ≡ old ++ place_text at (codes ",")
     → members ≡ begun ++ members_text false (checked_members d verdict) → new ≡ members ++ codes "\n" → new ≡ old ++ placed_json d (at, verdict)
-placed_told d at verdict old begun members new is_begun is_members is_new =
+placed_recorded d at verdict old begun members new is_begun is_members is_new =
     is_new ∙ ap (λ (t : List ℕ). t ++ codes "\n") (is_members ∙ ap (λ (t : List ℕ). t ++ members_text false (checked_members d verdict)) is_begun)
     ∙ placed_joined at old (members_text false (checked_members d verdict))
-    ∙ ap (λ (t : List ℕ). old ++ (place_text at t ++ codes "\n")) (sym (checked_behind d verdict)) ∙ ap (λ (t : List ℕ). old ++ t) (sym (placed_is d at verdict))
+    ∙ ap (λ (t : List ℕ). old ++ (place_text at t ++ codes "\n")) (sym (checked_after d verdict)) ∙ ap (λ (t : List ℕ). old ++ t) (sym (placed_is d at verdict))
 
 -- behind the number of a line
 
@@ -141,12 +141,12 @@ numbered_is n members = refl
 numbered_joined : (n : ℕ) (old inside : List ℕ) → ((old ++ number_text n (codes ",")) ++ inside) ++ codes "\n" ≡ old ++ (number_text n (44 ∷ inside) ++ codes "\n")
 numbered_joined n old inside = simp append_assoc
 
-pub numbered_told : (n : ℕ) (members : Members) (old begun inside new : List ℕ) → IsBehind members → begun ≡ old ++ number_text n (codes ",")
+pub numbered_recorded : (n : ℕ) (members : Members) (old begun inside new : List ℕ) → IsAfter members → begun ≡ old ++ number_text n (codes ",")
     → inside ≡ begun ++ members_text false members → new ≡ inside ++ codes "\n" → new ≡ old ++ json_line (numbered n members)
-numbered_told n members old begun inside new behind is_begun is_inside is_new =
+numbered_recorded n members old begun inside new following is_begun is_inside is_new =
     is_new ∙ ap (λ (t : List ℕ). t ++ codes "\n") (is_inside ∙ ap (λ (t : List ℕ). t ++ members_text false members) is_begun)
     ∙ numbered_joined n old (members_text false members)
-    ∙ ap (λ (t : List ℕ). old ++ (number_text n t ++ codes "\n")) (sym behind) ∙ ap (λ (t : List ℕ). old ++ t) (sym (numbered_is n members))
+    ∙ ap (λ (t : List ℕ). old ++ (number_text n t ++ codes "\n")) (sym following) ∙ ap (λ (t : List ℕ). old ++ t) (sym (numbered_is n members))
 
 -- what isn't hexadecimal, which has no names
 no_digits_joined : (at : ℕ) → codes "{\"place\":" ++ (decimal at ++ codes ",\"error\":\"message\",\"kind\":\"not hexadecimal\"}\n")
@@ -154,10 +154,10 @@ no_digits_joined : (at : ℕ) → codes "{\"place\":" ++ (decimal at ++ codes ",
 unfolding serde_json_on_literals
 no_digits_joined at = simp append_assoc
 
-pub no_digits_told : (d : Dictionary) (at : ℕ) (old new : List ℕ)
+pub no_digits_recorded : (d : Dictionary) (at : ℕ) (old new : List ℕ)
     → new ≡ old ++ (codes "{\"place\":" ++ (decimal at ++ codes ",\"error\":\"message\",\"kind\":\"not hexadecimal\"}\n"))
     → new ≡ old ++ placed_json d (at, Wrong flaw.NotHexadecimal)
-no_digits_told d at old new is_new =
+no_digits_recorded d at old new is_new =
     is_new ∙ ap (λ (t : List ℕ). old ++ t) (no_digits_joined at ∙ sym (placed_is d at (Wrong flaw.NotHexadecimal)))
 
 -- ---- both verdicts
@@ -180,11 +180,11 @@ both_joined : (t : Bool) (old one two : List ℕ)
     → (((old ++ (codes "\"refutes\":" ++ (bool_text t ++ codes ",\"first\":{"))) ++ one) ++ codes ",\"second\":{" ++ two) ++ codes "}" ≡ old ++ both_text t one two
 both_joined t old one two = simp append_assoc
 
-pub both_told : (a b : Dictionary) (verdict : Refuted) (t : Bool) (old begun first second last new : List ℕ) → t ≡ refutes verdict
+pub both_recorded : (a b : Dictionary) (verdict : Refuted) (t : Bool) (old begun first second last new : List ℕ) → t ≡ refutes verdict
     → begun ≡ old ++ (codes "\"refutes\":" ++ (bool_text t ++ codes ",\"first\":{")) → first ≡ begun ++ members_text false (checked_members a verdict.first)
     → second ≡ first ++ codes ",\"second\":{" → last ≡ second ++ members_text false (checked_members b verdict.second) → new ≡ last ++ codes "}"
     → new ≡ old ++ members_text false (both_members a b verdict)
-both_told a b verdict t old begun first second last new is_t is_begun is_first is_second is_last is_new =
+both_recorded a b verdict t old begun first second last new is_t is_begun is_first is_second is_last is_new =
     let one = members_text false (checked_members a verdict.first) in
     let two = members_text false (checked_members b verdict.second) in
     is_new ∙ ap (λ (s : List ℕ). s ++ codes "}") (is_last ∙ ap (λ (s : List ℕ). s ++ two) (is_second ∙ ap (λ (s : List ℕ). s ++ codes ",\"second\":{") (is_first ∙ ap (λ (s : List ℕ). s ++ one) is_begun)))

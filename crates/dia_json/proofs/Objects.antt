@@ -25,22 +25,22 @@ use Rattle.dia_run.proofs.KnownAvps.{group_known}
 use Rattle.dia_captures.specs.Verdicts.{name_of}
 use Rattle.dia_show.specs.Listing.{Manner, IsDateOf, IsWordOf}
 use Rattle.dia_json.specs.Listing.{AddsAvp, AddsLevel, IsNamedLeaf}
-use Rattle.dia_json.specs.Messages.{AreShown, IsTold, IsValue, TellsMessage, bad_length_members, command_member, header_members, hex_value, known_group, known_leaf, lines_of, name_member}
+use Rattle.dia_json.specs.Messages.{AreShown, IsRecorded, IsValue, RecordsMessage, bad_length_members, command_member, header_members, hex_value, known_group, known_leaf, lines_of, name_member}
 use Rattle.dia_json.specs.Messages.{note_members, shown_members, stranger, text_member, value_member, vendor_value}
 use Rattle.dia_json.specs.Values.{about, avp_members, subject_members}
 use Rattle.dia_refused_json.specs.Members.{json_line, key_members, named_members}
 
 -- ---- the last members of an AVP
 
-pub unnamed_told : (value : Data) (written text : List ℕ) → written ≡ compact_text value → text ≡ codes ",\"value\":" ++ (written ++ codes "}")
+pub unnamed_recorded : (value : Data) (written text : List ℕ) → written ≡ compact_text value → text ≡ codes ",\"value\":" ++ (written ++ codes "}")
     → text ≡ members_text true (value_member value)
 unfolding serde_json_on_literals
-unnamed_told value written text is_value is = is ∙ ap (λ (t : List ℕ). codes ",\"value\":" ++ (t ++ codes "}")) is_value
+unnamed_recorded value written text is_value is = is ∙ ap (λ (t : List ℕ). codes ",\"value\":" ++ (t ++ codes "}")) is_value
 
-pub group_told : (name written text : List ℕ) → written ≡ quoted name → text ≡ codes ",\"name\":" ++ (written ++ codes "}")
+pub group_recorded : (name written text : List ℕ) → written ≡ quoted name → text ≡ codes ",\"name\":" ++ (written ++ codes "}")
     → text ≡ members_text true (name_member name no_members)
 unfolding serde_json_on_literals
-group_told name written text is_name is = is ∙ ap (λ (t : List ℕ). codes ",\"name\":" ++ (t ++ codes "}")) is_name
+group_recorded name written text is_name is = is ∙ ap (λ (t : List ℕ). codes ",\"name\":" ++ (t ++ codes "}")) is_name
 
 leaf_is : (name : List ℕ) (value : Data) (notes : Members)
     → members_text true (name_member name (member (codes "value") value notes))
@@ -48,11 +48,11 @@ leaf_is : (name : List ℕ) (value : Data) (notes : Members)
 unfolding serde_json_on_literals
 leaf_is name value notes = refl
 
-pub leaf_told : (m : Manner) (name : List ℕ) (f : PlainFormat) (bytes written shown rest text : List ℕ) (word date : Option (List ℕ)) → written ≡ quoted name
+pub leaf_recorded : (m : Manner) (name : List ℕ) (f : PlainFormat) (bytes written shown rest text : List ℕ) (word date : Option (List ℕ)) → written ≡ quoted name
     → (value : Data) × IsValue f bytes value × (shown ≡ compact_text value) → IsWordOf m name f bytes word → IsDateOf m.names f bytes date
     → rest ≡ members_text true (note_members word date)
     → text ≡ codes ",\"name\":" ++ (written ++ (codes ",\"value\":" ++ (shown ++ rest))) → IsNamedLeaf m name f bytes text
-leaf_told m name f bytes written shown rest text word date is_name (value, is_value, is_shown) is_word is_date is_rest is = (
+leaf_recorded m name f bytes written shown rest text word date is_name (value, is_value, is_shown) is_word is_date is_rest is = (
   member (codes "value") value (note_members word date),
   record { value = value; word = word; date = date; is_value = is_value; is_word = is_word; is_date = is_date; parts = refl },
   is ∙ ap (λ (t : List ℕ). codes ",\"name\":" ++ (t ++ (codes ",\"value\":" ++ (shown ++ rest)))) is_name
@@ -62,15 +62,15 @@ leaf_told m name f bytes written shown rest text word date is_name (value, is_va
 )
 
 -- the date of an AVP, and its word in front of it
-pub date_told : (date written text : List ℕ) → written ≡ quoted date → text ≡ codes ",\"time\":" ++ (written ++ codes "}")
+pub date_recorded : (date written text : List ℕ) → written ≡ quoted date → text ≡ codes ",\"time\":" ++ (written ++ codes "}")
     → text ≡ members_text true (text_member (codes "time") (Some date) no_members)
 unfolding serde_json_on_literals
-date_told date written text is_written is = is ∙ ap (λ (t : List ℕ). codes ",\"time\":" ++ (t ++ codes "}")) is_written
+date_recorded date written text is_written is = is ∙ ap (λ (t : List ℕ). codes ",\"time\":" ++ (t ++ codes "}")) is_written
 
-pub word_told : (word written last text : List ℕ) (more : Members) → written ≡ quoted word → last ≡ members_text true more
+pub word_recorded : (word written last text : List ℕ) (more : Members) → written ≡ quoted word → last ≡ members_text true more
     → text ≡ codes ",\"word\":" ++ (written ++ last) → text ≡ members_text true (text_member (codes "word") (Some word) more)
 unfolding serde_json_on_literals
-word_told word written last text more is_written is_last is =
+word_recorded word written last text more is_written is_last is =
     is ∙ ap (λ (t : List ℕ). codes ",\"word\":" ++ (t ++ last)) is_written ∙ ap (λ (t : List ℕ). codes ",\"word\":" ++ (quoted word ++ t)) is_last
 
 -- ---- objects
@@ -95,13 +95,13 @@ object_joined : (place depth code : ℕ) (vendor : List ℕ) (flags len : ℕ) (
     ≡ old ++ object_text place depth code vendor flags len rest
 object_joined place depth code vendor flags len rest old = simp append_assoc
 
-pub object_told : (place depth : ℕ) (v : PlainAvp) (members : Members) (vendor named old one two new : List ℕ) (len : ℕ) → vendor ≡ compact_text (vendor_value v.vendor)
+pub object_recorded : (place depth : ℕ) (v : PlainAvp) (members : Members) (vendor named old one two new : List ℕ) (len : ℕ) → vendor ≡ compact_text (vendor_value v.vendor)
     → len ≡ avp_length v → named ≡ members_text true members
     → one ≡ old ++ (codes "{\"at\":" ++ (decimal place ++ (codes ",\"depth\":" ++ (decimal depth ++ (codes ",\"code\":" ++ (decimal v.code ++ codes ","))))))
     → two ≡ one ++ (codes "\"vendor\":" ++ (vendor ++ (codes ",\"flags\":" ++ (decimal v.flags ++ codes ","))))
     → new ≡ two ++ (codes "\"length\":" ++ (decimal len ++ (named ++ codes "\n")))
     → new ≡ old ++ json_line (shown_members place depth v members)
-object_told place depth v members vendor named old one two new len is_vendor is_len is_named is_one is_two is_new =
+object_recorded place depth v members vendor named old one two new len is_vendor is_len is_named is_one is_two is_new =
     is_new ∙ ap (λ (t : List ℕ). t ++ (codes "\"length\":" ++ (decimal len ++ (named ++ codes "\n"))))
     (is_two ∙ ap (λ (t : List ℕ). t ++ (codes "\"vendor\":" ++ (vendor ++ (codes ",\"flags\":" ++ (decimal v.flags ++ codes ","))))) is_one)
     ∙ object_joined place depth v.code vendor v.flags len (named ++ codes "\n") old
@@ -122,8 +122,8 @@ bad_is place = refl
 bad_ends : (place : ℕ) → bad_text place (codes ",\"reason\":\"avp-length\"}\n") ≡ bad_text place (codes ",\"reason\":\"avp-length\"}") ++ codes "\n"
 bad_ends place = simp append_assoc
 
-pub bad_told : (place : ℕ) (old new : List ℕ) → new ≡ old ++ bad_text place (codes ",\"reason\":\"avp-length\"}\n") → new ≡ old ++ json_line (bad_length_members place)
-bad_told place old new is = is ∙ ap (λ (t : List ℕ). old ++ t) (bad_ends place ∙ sym (bad_is place))
+pub bad_recorded : (place : ℕ) (old new : List ℕ) → new ≡ old ++ bad_text place (codes ",\"reason\":\"avp-length\"}\n") → new ≡ old ++ json_line (bad_length_members place)
+bad_recorded place old new is = is ∙ ap (λ (t : List ℕ). old ++ t) (bad_ends place ∙ sym (bad_is place))
 
 -- ---- what the dictionary knows of an AVP
 
@@ -149,16 +149,16 @@ group_added m d place depth v i f name old new text is_i is_name is_format group
 pub leaf_added : (m : Manner) (d : Dictionary) (place depth : ℕ) (v : PlainAvp) (i : ℕ) (f : Format) (name old new text : List ℕ) → Some i ≡ entry_of d (key_of v)
     → IfSome (slice_get d.entries i) (λ e. name ≡ e.name) → IfSome (slice_get d.entries i) (λ e. plain_format f ≡ e.format) → ¬ (f ≡ format.Grouped)
     → IsNamedLeaf m name (plain_format f) v.bytes text → Added place depth v old new text → AddsAvp m d place depth v old new false
-leaf_added m d place depth v i f name old new text is_i is_name is_format no_group (told, is_told, is_text) added =
+leaf_added m d place depth v i f name old new text is_i is_name is_format no_group (recorded, is_recorded, is_text) added =
     elim (slice_get_cases d.entries i).1 [
       | inl (e, inside, is_e, here) ↦
           let same : name ≡ e.name = rw is_e at is_name in
           let format_is : plain_format f ≡ e.format = rw is_e at is_format in
           let is_known : known d (key_of v) ≡ Some e = ap (λ (o : Option ℕ). option_and_then (slice_get d.entries) o) (sym is_i) ∙ is_e in (
-            name_member e.name told,
-            known_leaf e told is_known (λ g. no_group (plain_format-Grouped f (format_is ∙ g)))
-                (subst (λ (n : List ℕ). IsTold m n e.format v.bytes told) same (subst (λ (g : PlainFormat). IsTold m name g v.bytes told) format_is is_told)) refl refl,
-            added (name_member e.name told) (is_text ∙ ap (λ (n : List ℕ). members_text true (name_member n told)) same),
+            name_member e.name recorded,
+            known_leaf e recorded is_known (λ g. no_group (plain_format-Grouped f (format_is ∙ g)))
+                (subst (λ (n : List ℕ). IsRecorded m n e.format v.bytes recorded) same (subst (λ (g : PlainFormat). IsRecorded m name g v.bytes recorded) format_is is_recorded)) refl refl,
+            added (name_member e.name recorded) (is_text ∙ ap (λ (n : List ℕ). members_text true (name_member n recorded)) same),
           )
       | inr (past, none) ↦ absurd (omega (arith, past, position-within (λ (e : DictEntry). same_key (key_of v) e.key) d.entries i (sym is_i)))
     ]
@@ -184,13 +184,13 @@ header_joined : (h : Header) (len : ℕ) (rest old : List ℕ)
     ++ (codes "\"length\":" ++ (decimal len ++ rest)) ≡ old ++ header_text h len rest
 header_joined h len rest old = simp append_assoc
 
-pub header_told : (d : Dictionary) (h : Header) (len : ℕ) (command old one two new : List ℕ)
+pub header_recorded : (d : Dictionary) (h : Header) (len : ℕ) (command old one two new : List ℕ)
     → command ≡ members_text true (command_member d (selected d h.code (class_of h.flags) h.app))
     → one ≡ old ++ (codes "{\"version\":" ++ (decimal 1 ++ (codes ",\"flags\":" ++ (decimal h.flags ++ (codes ",\"code\":" ++ (decimal h.code ++ codes ","))))))
     → two ≡ one ++ (codes "\"application\":" ++ (decimal h.app ++ (codes ",\"hop_by_hop\":" ++ (decimal h.hop ++ (codes ",\"end_to_end\":" ++ (decimal h.e2e ++ codes ","))))))
     → new ≡ two ++ (codes "\"length\":" ++ (decimal len ++ (command ++ codes "\n")))
     → new ≡ old ++ json_line (header_members d h len)
-header_told d h len command old one two new is_command is_one is_two is_new =
+header_recorded d h len command old one two new is_command is_one is_two is_new =
     is_new ∙ ap (λ (t : List ℕ). t ++ (codes "\"length\":" ++ (decimal len ++ (command ++ codes "\n"))))
     (is_two ∙ ap (λ (t : List ℕ). t ++ (codes "\"application\":" ++ (decimal h.app ++ (codes ",\"hop_by_hop\":" ++ (decimal h.hop ++ (codes ",\"end_to_end\":"
     ++ (decimal h.e2e ++ codes ","))))))) is_one)
@@ -199,19 +199,19 @@ header_told d h len command old one two new is_command is_one is_two is_new =
     (ap (λ (t : List ℕ). header_text h len (t ++ codes "\n")) is_command
     ∙ header_ends h len (members_text true (command_member d (selected d h.code (class_of h.flags) h.app))) ∙ sym (header_is d h len))
 
-pub command_told : (d : Dictionary) (i : ℕ) (c : PlainDefinition) (written text : List ℕ) → slice_get (definitions d) i ≡ Some c → written ≡ quoted c.name
+pub command_recorded : (d : Dictionary) (i : ℕ) (c : PlainDefinition) (written text : List ℕ) → slice_get (definitions d) i ≡ Some c → written ≡ quoted c.name
     → text ≡ codes ",\"command\":" ++ (written ++ codes "}") → text ≡ members_text true (command_member d (Some i))
 unfolding serde_json_on_literals
-command_told d i c written text is_def is_name is =
+command_recorded d i c written text is_def is_name is =
     is ∙ ap (λ (t : List ℕ). codes ",\"command\":" ++ (t ++ codes "}")) (is_name ∙ ap (λ (o : Option PlainDefinition). quoted (name_of o)) (sym is_def))
 
 -- ---- a whole message
 
-pub message_told : (m : Manner) (d : Dictionary) (body begun headed all : List ℕ) (h : Header) (len : ℕ) (bad : Bool) (exit : Exit) → begun ≡ [] → headed ≡ begun ++ json_line (header_members d h len)
+pub message_recorded : (m : Manner) (d : Dictionary) (body begun headed all : List ℕ) (h : Header) (len : ℕ) (bad : Bool) (exit : Exit) → begun ≡ [] → headed ≡ begun ++ json_line (header_members d h len)
     → AddsLevel m d (record { depth = 0; place = 20; bytes = body }) headed all bad → exit ≡ listing_exit bad
     → (avps : List Members) × (ends : Bool) × AreShown m d (record { depth = 0; place = 20; bytes = body }) avps ends
     × (all ≡ lines_of (header_members d h len ∷ avps)) × (exit ≡ listing_exit ends)
-message_told m d body begun headed all h len bad exit none is_headed (avps, are, is_all) is_exit = (
+message_recorded m d body begun headed all h len bad exit none is_headed (avps, are, is_all) is_exit = (
   avps,
   bad,
   are,
@@ -224,7 +224,7 @@ pub message_is : (m : Manner) (d : Dictionary) (bytes body : List ℕ) (h : Head
     → IsMessageLength (length bytes) → body ≡ drop 20 bytes → len ≡ length bytes
     → (avps : List Members) × (bad : Bool) × AreShown m d (record { depth = 0; place = 20; bytes = body }) avps bad
     × (text ≡ lines_of (header_members d h len ∷ avps)) × (exit ≡ listing_exit bad)
-    → TellsMessage m d bytes text exit
+    → RecordsMessage m d bytes text exit
 message_is m d bytes body h len text exit head long is_body is_len (avps, bad, are, is_text, is_exit) = (
   header_members d h (length bytes) ∷ avps,
   bad,

@@ -10,7 +10,7 @@ use Rattle.serde_json.specs.Data.{Members}
 use Rattle.dia_wire.specs.Wire.{PlainAvp, head_length, avp_length, padded_length, BeginsWith, BeginsWithNone}
 use Rattle.dia_wire.proofs.Spelling.{at_least_8, opened, rounded-le}
 use Rattle.dia_dict.specs.Dictionary.{Dictionary}
-use Rattle.dia_run.specs.Listing.{Level, behind, inside}
+use Rattle.dia_run.specs.Listing.{Level, following, inside}
 use Rattle.dia_json.specs.declared.listing.Rest.{Rest}
 use Rattle.dia_json.specs.Listing.{AddsAvp, AddsLevel}
 use Rattle.dia_json.specs.Messages.{AreShown, end, bad_length, avp, group, bad_group, IsNamed, bad_length_members, lines_of, shown_members}
@@ -39,19 +39,19 @@ Owes-front m d depth (r ∷ rs) level next front objects bad f (inr (h, is_bad))
 -- a group that is entered: its members come first, and then what is behind it
 Owes-group : (m : Manner) (d : Dictionary) (depth : ℕ) (rs : List Rest) (r : Rest) (level : Level) (v : PlainAvp) (named : Members) (rest : List ℕ) (objects : List Members) (bad : Bool)
     → BeginsWith v level.bytes rest → IsNamed m d v true named
-    → level_of (depth + length rs) r ≡ behind level v rest → Owes m d depth (rs ++ r ∷ []) (inside level v) objects bad
+    → level_of (depth + length rs) r ≡ following level v rest → Owes m d depth (rs ++ r ∷ []) (inside level v) objects bad
     → Owes m d depth rs level (shown_members level.place level.depth v named ∷ objects) bad
-Owes-group m d depth [] r level v named rest objects bad begins is_named is_behind (inl (inner, outer, h, left, parts)) =
-    let here : level_of depth r ≡ behind level v rest = ap (λ (n : ℕ). level_of n r) (omega arith) ∙ is_behind in
+Owes-group m d depth [] r level v named rest objects bad begins is_named is_after (inl (inner, outer, h, left, parts)) =
+    let here : level_of depth r ≡ following level v rest = ap (λ (n : ℕ). level_of n r) (omega arith) ∙ is_after in
     group v rest named inner outer begins is_named h (subst (λ (l : Level). AreShown m d l outer bad) here left)
     (ap (λ (t : List Members). shown_members level.place level.depth v named ∷ t) parts)
-Owes-group m d depth [] r level v named rest objects bad begins is_named is_behind (inr (h, is_bad)) = bad_group v rest named objects begins is_named h refl is_bad
-Owes-group m d depth (q ∷ rs) r level v named rest objects bad begins is_named is_behind (inl (inner, outer, h, left, parts)) =
+Owes-group m d depth [] r level v named rest objects bad begins is_named is_after (inr (h, is_bad)) = bad_group v rest named objects begins is_named h refl is_bad
+Owes-group m d depth (q ∷ rs) r level v named rest objects bad begins is_named is_after (inl (inner, outer, h, left, parts)) =
     let object = shown_members level.place level.depth v named in
-    let here : level_of (depth + 1 + length rs) r ≡ behind level v rest = ap (λ (n : ℕ). level_of n r) (omega arith) ∙ is_behind in
+    let here : level_of (depth + 1 + length rs) r ≡ following level v rest = ap (λ (n : ℕ). level_of n r) (omega arith) ∙ is_after in
     inl (object ∷ inner, outer, Owes-group m d (depth + 1) rs r level v named rest inner false begins is_named here h, left, ap (λ (t : List Members). object ∷ t) parts)
-Owes-group m d depth (q ∷ rs) r level v named rest objects bad begins is_named is_behind (inr (h, is_bad)) =
-    let here : level_of (depth + 1 + length rs) r ≡ behind level v rest = ap (λ (n : ℕ). level_of n r) (omega arith) ∙ is_behind in
+Owes-group m d depth (q ∷ rs) r level v named rest objects bad begins is_named is_after (inr (h, is_bad)) =
+    let here : level_of (depth + 1 + length rs) r ≡ following level v rest = ap (λ (n : ℕ). level_of n r) (omega arith) ∙ is_after in
     inr (Owes-group m d (depth + 1) rs r level v named rest objects true begins is_named here h, is_bad)
 
 -- a level that is done: what is left of the one round it comes next
@@ -127,7 +127,7 @@ leaf_added m d whole before now new rs r next depth v u begins same_end deep (na
     let object = shown_members (r.end - length r.bytes.now) (length rs) v named in
     let is_new : new ≡ now ++ json_line object = added ∙ ap (λ (n : ℕ). now ++ json_line (shown_members (r.end - length r.bytes.now) n v named)) deep in
     let place : next.end - length next.bytes.now ≡ r.end - length r.bytes.now + padded_length v = omega (arith, size, u.within.0, same_end) in
-    let same : level_of (length rs) next ≡ behind (level_of (length rs) r) v next.bytes.now = ap (λ (n : ℕ). record { depth = length rs; place = n; bytes = next.bytes.now }) place in
+    let same : level_of (length rs) next ≡ following (level_of (length rs) r) v next.bytes.now = ap (λ (n : ℕ). record { depth = length rs; place = n; bytes = next.bytes.now }) place in
     record {
       objects = u.objects ++ object ∷ [];
       text = is_new ∙ ap (λ (t : List ℕ). t ++ json_line object) u.text ∙ one_more_line before u.objects object;
@@ -146,7 +146,7 @@ pub group_entered : (m : Manner) (d : Dictionary) (whole : Level) (before now ne
 group_entered m d whole before now new rs r next inner depth v u begins same_end is_data is_end deep (named, is_named, added) =
     let size = length-level v r.bytes.now next.bytes.now begins in
     let place : next.end - length next.bytes.now ≡ r.end - length r.bytes.now + padded_length v = omega (arith, size, u.within.0, same_end) in
-    let outside : level_of (0 + length rs) next ≡ behind (level_of (length rs) r) v next.bytes.now =
+    let outside : level_of (0 + length rs) next ≡ following (level_of (length rs) r) v next.bytes.now =
     ap (λ (n : ℕ). level_of n next) (omega arith) ∙ ap (λ (n : ℕ). record { depth = length rs; place = n; bytes = next.bytes.now }) place in
     let object = shown_members (r.end - length r.bytes.now) (length rs) v named in
     let is_new : new ≡ now ++ json_line object = added ∙ ap (λ (n : ℕ). now ++ json_line (shown_members (r.end - length r.bytes.now) n v named)) deep in
@@ -211,8 +211,8 @@ left_to_read rest outer = 2 * (length rest + bytes_left outer) + length outer
 shorter : (v : PlainAvp) (level rest : List ℕ) → BeginsWith v level rest → length rest + length v.bytes < length level
 shorter v level rest begins = omega (arith, length-level v level rest begins, rounded-le (avp_length v), at_least_8 v.vendor)
 
-pub less_behind : (v : PlainAvp) (level rest : List ℕ) (outer : List Rest) → BeginsWith v level rest → left_to_read rest outer < left_to_read level outer
-less_behind v level rest outer begins = omega (arith, shorter v level rest begins)
+pub less_following : (v : PlainAvp) (level rest : List ℕ) (outer : List Rest) → BeginsWith v level rest → left_to_read rest outer < left_to_read level outer
+less_following v level rest outer begins = omega (arith, shorter v level rest begins)
 
 pub less_inside : (v : PlainAvp) (level : List ℕ) (next : Rest) (outer waiting : List Rest) → BeginsWith v level next.bytes.now → waiting ≡ outer ++ next ∷ []
     → left_to_read v.bytes waiting < left_to_read level outer

@@ -22,9 +22,9 @@ pair_is word p = refl
 pair_ends : (word first second : List ℕ) → pair_text word first second (codes "}\n") ≡ pair_text word first second (codes "}") ++ codes "\n"
 pair_ends word first second = simp append_assoc
 
-pub pair_told : (word : List ℕ) (p : List ℕ × List ℕ) (w first second old new : List ℕ) → w ≡ quoted word → first ≡ quoted p.0 → second ≡ quoted p.1
+pub pair_recorded : (word : List ℕ) (p : List ℕ × List ℕ) (w first second old new : List ℕ) → w ≡ quoted word → first ≡ quoted p.0 → second ≡ quoted p.1
     → new ≡ old ++ pair_text w first second (codes "}\n") → new ≡ old ++ pair_json word p
-pair_told word p w first second old new is_word is_first is_second is =
+pair_recorded word p w first second old new is_word is_first is_second is =
     is ∙ ap (λ (t : List ℕ). old ++ t)
     (ap (λ (t : List ℕ). pair_text t first second (codes "}\n")) is_word ∙ ap₂ (λ (x y : List ℕ). pair_text (quoted word) x y (codes "}\n")) is_first is_second
     ∙ pair_ends (quoted word) (quoted p.0) (quoted p.1) ∙ sym (pair_is word p))
@@ -39,7 +39,7 @@ no_command_ends : (name : List ℕ) → codes "{\"error\":\"propose\",\"kind\":\
     ≡ (codes "{\"error\":\"propose\",\"kind\":\"no command\",\"name\":" ++ (name ++ codes "}")) ++ codes "\n"
 no_command_ends name = simp append_assoc
 
-pub no_command_told : (name written text : List ℕ) → written ≡ quoted name → text ≡ codes "{\"error\":\"propose\",\"kind\":\"no command\",\"name\":" ++ (written ++ codes "}\n")
+pub no_command_recorded : (name written text : List ℕ) → written ≡ quoted name → text ≡ codes "{\"error\":\"propose\",\"kind\":\"no command\",\"name\":" ++ (written ++ codes "}\n")
     → text ≡ json_line (no_command_members name)
-no_command_told name written text is_name is =
+no_command_recorded name written text is_name is =
     is ∙ ap (λ (t : List ℕ). codes "{\"error\":\"propose\",\"kind\":\"no command\",\"name\":" ++ (t ++ codes "}\n")) is_name ∙ no_command_ends (quoted name) ∙ sym (no_command_is name)

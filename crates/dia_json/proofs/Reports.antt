@@ -13,8 +13,8 @@ use Rattle.dia_report.specs.declared.reporting.Answered.{Answered}
 use Rattle.dia_report.specs.declared.reporting.BothBooks.{BothBooks}
 use Rattle.dia_report.specs.declared.reporting.Report.TheVariants as reports
 use Rattle.dia_run.specs.Report.{AreReadFrom}
-use Rattle.dia_refused_json.specs.Telling.{HasReport, TellsBad}
-use Rattle.dia_refused_json.proofs.Telling.{refusal_reported, with_report}
+use Rattle.dia_refused_json.specs.Recording.{HasReport, RecordsBad}
+use Rattle.dia_refused_json.proofs.Recording.{refusal_reported, with_report}
 use Rattle.dia_show.specs.declared.reporting.Answered.{Answered as Shown}
 use Rattle.dia_show.specs.declared.reporting.Report.TheVariants.{OfShow}
 use Rattle.dia_json.specs.Reports.{HasShownReport, IsNothing, IsProposeReport, IsShowReport}
@@ -34,18 +34,18 @@ no_command_reported meaning inputs books (Ok a) read exit is = with_report (IsPr
 no_command_reported meaning inputs books (Err e) read exit is = tt
 
 pub show_refused : {E : Type 0} (meaning : IndexedBook → Dictionary) (inputs : Inputs) (input : Input) (why : Refused) (r : Result Answered E)
-    → IfOk r (λ a. TellsBad input why (string_bytes a.text) a.exit) → ((bad : BadInput) → why ≡ refused.Bad bad → IfOk r (λ a. a.report ≡ reports.Refused bad))
+    → IfOk r (λ a. RecordsBad input why (string_bytes a.text) a.exit) → ((bad : BadInput) → why ≡ refused.Bad bad → IfOk r (λ a. a.report ≡ reports.Refused bad))
     → IfOk r (HasReport (IsShowReport meaning inputs))
-show_refused meaning inputs input why r told report = refusal_reported (IsShowReport meaning inputs) input why r told report
+show_refused meaning inputs input why r recorded report = refusal_reported (IsShowReport meaning inputs) input why r recorded report
 
 -- the same as a report of `show` with words
 pub shown_refused : (meaning : IndexedBook → Dictionary) (inputs : Inputs) (input : Input) (why : Refused) (a : Answered) (s : Shown)
-    → s.report ≡ OfShow a.report → s.text ≡ a.text → s.exit ≡ a.exit → TellsBad input why (string_bytes a.text) a.exit
+    → s.report ≡ OfShow a.report → s.text ≡ a.text → s.exit ≡ a.exit → RecordsBad input why (string_bytes a.text) a.exit
     → ((bad : BadInput) → why ≡ refused.Bad bad → a.report ≡ reports.Refused bad) → HasShownReport meaning inputs s
-shown_refused meaning inputs input why a s report text exit told reported =
-    rw (report, text, exit) (refusal_reported {E = ℕ} (IsShowReport meaning inputs) input why (Ok a) told reported)
+shown_refused meaning inputs input why a s report text exit recorded reported =
+    rw (report, text, exit) (refusal_reported {E = ℕ} (IsShowReport meaning inputs) input why (Ok a) recorded reported)
 
 pub propose_refused : {E : Type 0} (meaning : IndexedBook → Dictionary) (inputs : Inputs) (input : Input) (why : Refused) (r : Result Answered E)
-    → IfOk r (λ a. TellsBad input why (string_bytes a.text) a.exit) → ((bad : BadInput) → why ≡ refused.Bad bad → IfOk r (λ a. a.report ≡ reports.Refused bad))
+    → IfOk r (λ a. RecordsBad input why (string_bytes a.text) a.exit) → ((bad : BadInput) → why ≡ refused.Bad bad → IfOk r (λ a. a.report ≡ reports.Refused bad))
     → IfOk r (HasReport (IsProposeReport meaning inputs))
-propose_refused meaning inputs input why r told report = refusal_reported (IsProposeReport meaning inputs) input why r told report
+propose_refused meaning inputs input why r recorded report = refusal_reported (IsProposeReport meaning inputs) input why r recorded report

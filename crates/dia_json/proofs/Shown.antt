@@ -51,19 +51,19 @@ syntax_is : (n : ℕ) → json_line (values_members (values.Syntax n)) ≡ numbe
 unfolding serde_json_on_literals
 syntax_is n = refl
 
-pub syntax_told : (n : ℕ) (text : List ℕ) → text ≡ numbered_text (codes "{\"error\":\"values\",\"kind\":\"syntax\",\"line\":") n (codes "}\n") → text ≡ json_line (values_members (values.Syntax n))
-syntax_told n text is = is ∙ numbered_ends (codes "{\"error\":\"values\",\"kind\":\"syntax\",\"line\":") n ∙ sym (syntax_is n)
+pub syntax_recorded : (n : ℕ) (text : List ℕ) → text ≡ numbered_text (codes "{\"error\":\"values\",\"kind\":\"syntax\",\"line\":") n (codes "}\n") → text ≡ json_line (values_members (values.Syntax n))
+syntax_recorded n text is = is ∙ numbered_ends (codes "{\"error\":\"values\",\"kind\":\"syntax\",\"line\":") n ∙ sym (syntax_is n)
 
 duplicate_is : (n : ℕ) → json_line (values_members (values.Duplicate n)) ≡ numbered_text (codes "{\"error\":\"values\",\"kind\":\"duplicate\",\"line\":") n (codes "}") ++ codes "\n"
 unfolding serde_json_on_literals
 duplicate_is n = refl
 
-pub duplicate_told : (n : ℕ) (text : List ℕ) → text ≡ numbered_text (codes "{\"error\":\"values\",\"kind\":\"duplicate\",\"line\":") n (codes "}\n") → text ≡ json_line (values_members (values.Duplicate n))
-duplicate_told n text is = is ∙ numbered_ends (codes "{\"error\":\"values\",\"kind\":\"duplicate\",\"line\":") n ∙ sym (duplicate_is n)
+pub duplicate_recorded : (n : ℕ) (text : List ℕ) → text ≡ numbered_text (codes "{\"error\":\"values\",\"kind\":\"duplicate\",\"line\":") n (codes "}\n") → text ≡ json_line (values_members (values.Duplicate n))
+duplicate_recorded n text is = is ∙ numbered_ends (codes "{\"error\":\"values\",\"kind\":\"duplicate\",\"line\":") n ∙ sym (duplicate_is n)
 
 limit_is : (n : ℕ) → json_line (values_members (values.Limit n)) ≡ numbered_text (codes "{\"error\":\"values\",\"kind\":\"limit\",\"line\":") n (codes "}") ++ codes "\n"
 unfolding serde_json_on_literals
 limit_is n = refl
 
-pub limit_told : (n : ℕ) (text : List ℕ) → text ≡ numbered_text (codes "{\"error\":\"values\",\"kind\":\"limit\",\"line\":") n (codes "}\n") → text ≡ json_line (values_members (values.Limit n))
-limit_told n text is = is ∙ numbered_ends (codes "{\"error\":\"values\",\"kind\":\"limit\",\"line\":") n ∙ sym (limit_is n)
+pub limit_recorded : (n : ℕ) (text : List ℕ) → text ≡ numbered_text (codes "{\"error\":\"values\",\"kind\":\"limit\",\"line\":") n (codes "}\n") → text ≡ json_line (values_members (values.Limit n))
+limit_recorded n text is = is ∙ numbered_ends (codes "{\"error\":\"values\",\"kind\":\"limit\",\"line\":") n ∙ sym (limit_is n)

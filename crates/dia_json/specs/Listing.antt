@@ -8,11 +8,11 @@ use Rattle.dia_dict.specs.Dictionary.{Dictionary}
 use Rattle.dia_run.specs.Listing.{Level}
 use Rattle.dia_refused_json.specs.Members.{json_line}
 use Rattle.dia_show.specs.Listing.{Manner}
-use Rattle.dia_json.specs.Messages.{AreShown, IsNamed, IsTold, lines_of, name_member, shown_members}
+use Rattle.dia_json.specs.Messages.{AreShown, IsNamed, IsRecorded, lines_of, name_member, shown_members}
 
 -- the text of the last members of an AVP of this name, with the brace behind them
 abbrev pub IsNamedLeaf : Manner → List ℕ → PlainFormat → List ℕ → List ℕ → Type 0
-IsNamedLeaf m name format bytes text = (told : Members) × IsTold m name format bytes told × (text ≡ members_text true (name_member name told))
+IsNamedLeaf m name format bytes text = (recorded : Members) × IsRecorded m name format bytes recorded × (text ≡ members_text true (name_member name recorded))
 
 -- the object of an AVP was added, which is a known group or not
 abbrev pub AddsAvp : Manner → Dictionary → ℕ → ℕ → PlainAvp → List ℕ → List ℕ → Bool → Type 0

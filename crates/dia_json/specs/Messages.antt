@@ -19,7 +19,7 @@ use Rattle.dia_data.specs.Shown.{address, hex_byte}
 use Rattle.dia_dict.specs.Dictionary.{Dictionary, DictEntry, definitions, selected}
 use Rattle.dia_valid.specs.Valid.{class_of, known}
 use Rattle.dia_io.specs.declared.Exit.{Exit}
-use Rattle.dia_run.specs.Listing.{IsGroup, Level, behind, inside}
+use Rattle.dia_run.specs.Listing.{IsGroup, Level, following, inside}
 use Rattle.dia_run.specs.Outcome.{listing_exit}
 use Rattle.dia_show.specs.Listing.{Manner, IsDateOf, IsWordOf}
 use Rattle.dia_captures.specs.Verdicts.{name_of}
@@ -99,21 +99,21 @@ abbrev pub note_members : Option (List ℕ) → Option (List ℕ) → Members
 note_members word date = text_member (codes "word") word (text_member (codes "time") date no_members)
 
 -- the value of an AVP of this name, and behind it its word and its date, if it has them
-pub record IsTold (m : Manner) (name : List ℕ) (format : PlainFormat) (bytes : List ℕ) (told : Members) : Type 0 where
+pub record IsRecorded (m : Manner) (name : List ℕ) (format : PlainFormat) (bytes : List ℕ) (recorded : Members) : Type 0 where
   pub value : Data
   pub word : Option (List ℕ)
   pub date : Option (List ℕ)
   pub is_value : IsValue format bytes value
   pub is_word : IsWordOf m name format bytes word
   pub is_date : IsDateOf m.names format bytes date
-  pub parts : told ≡ member (codes "value") value (note_members word date)
+  pub parts : recorded ≡ member (codes "value") value (note_members word date)
 
 -- the name of an AVP and what is told of its data, and whether it is a group that the dictionary knows, of which nothing is told
 pub data IsNamed (m : Manner) (d : Dictionary) (v : PlainAvp) : Bool → Members → Type 0 where
   stranger : {is_group : Bool} {named : Members} → known d (key_of v) ≡ None → is_group ≡ false → named ≡ value_member (hex_value v.bytes)
       → IsNamed m d v is_group named
-  known_leaf : {is_group : Bool} {named : Members} (e : DictEntry) (told : Members) → known d (key_of v) ≡ Some e → ¬ (e.format ≡ Grouped)
-      → IsTold m e.name e.format v.bytes told → is_group ≡ false → named ≡ name_member e.name told → IsNamed m d v is_group named
+  known_leaf : {is_group : Bool} {named : Members} (e : DictEntry) (recorded : Members) → known d (key_of v) ≡ Some e → ¬ (e.format ≡ Grouped)
+      → IsRecorded m e.name e.format v.bytes recorded → is_group ≡ false → named ≡ name_member e.name recorded → IsNamed m d v is_group named
   known_group : {is_group : Bool} {named : Members} (e : DictEntry) → IsGroup d v e → is_group ≡ true → named ≡ name_member e.name no_members
       → IsNamed m d v is_group named
 
@@ -141,10 +141,10 @@ pub data AreShown (m : Manner) (d : Dictionary) : Level → List Members → Boo
       → objects ≡ bad_length_members level.place ∷ [] → bad ≡ true → AreShown m d level objects bad
   avp : {level : Level} {objects : List Members} {bad : Bool} (v : PlainAvp) (rest : List ℕ) (named : Members) (more : List Members)
       → BeginsWith v level.bytes rest → IsNamed m d v false named
-      → AreShown m d (behind level v rest) more bad → objects ≡ shown_members level.place level.depth v named ∷ more → AreShown m d level objects bad
+      → AreShown m d (following level v rest) more bad → objects ≡ shown_members level.place level.depth v named ∷ more → AreShown m d level objects bad
   group : {level : Level} {objects : List Members} {bad : Bool} (v : PlainAvp) (rest : List ℕ) (named : Members) (members more : List Members)
       → BeginsWith v level.bytes rest → IsNamed m d v true named
-      → AreShown m d (inside level v) members false → AreShown m d (behind level v rest) more bad
+      → AreShown m d (inside level v) members false → AreShown m d (following level v rest) more bad
       → objects ≡ shown_members level.place level.depth v named ∷ (members ++ more) → AreShown m d level objects bad
   bad_group : {level : Level} {objects : List Members} {bad : Bool} (v : PlainAvp) (rest : List ℕ) (named : Members) (members : List Members)
       → BeginsWith v level.bytes rest → IsNamed m d v true named
@@ -179,6 +179,6 @@ abbrev pub lines_of : List Members → List ℕ
 lines_of objects = flat_map json_line objects
 
 -- what is written of a message, and how that ends
-abbrev pub TellsMessage : Manner → Dictionary → List ℕ → List ℕ → Exit → Type 0
-TellsMessage m d bytes text exit =
+abbrev pub RecordsMessage : Manner → Dictionary → List ℕ → List ℕ → Exit → Type 0
+RecordsMessage m d bytes text exit =
     (objects : List Members) × (bad : Bool) × IsMessageValue m d bytes objects bad × (text ≡ lines_of objects) × (exit ≡ listing_exit bad)

@@ -8,12 +8,12 @@ use Rattle.dia_report.specs.declared.reporting.Report.{Report}
 use Rattle.dia_report.specs.declared.reporting.Report.TheVariants.{Done}
 use Rattle.dia_run.specs.Kinds.{IsOfPropose, IsOfShow}
 use Rattle.dia_run.specs.Report.{IsReport}
-use Rattle.dia_refused_json.specs.Telling.{IsRefusedOr}
+use Rattle.dia_refused_json.specs.Recording.{IsRefusedOr}
 use Rattle.dia_show.specs.declared.reporting.Answered.{Answered as Shown}
 use Rattle.dia_show.specs.declared.reporting.Report.{Report as ShownReport}
 use Rattle.dia_show.specs.declared.reporting.Report.TheVariants.{OfShow, NoValues}
 use Rattle.dia_show.specs.Words.{IsNoValuesText}
-use Rattle.dia_json.specs.Whole.{TellsValues}
+use Rattle.dia_json.specs.Whole.{RecordsValues}
 
 -- `show` and `propose` report as without JSON
 abbrev pub IsShowReport : (IndexedBook → Dictionary) → Inputs → Report → List ℕ → Exit → Type 0
@@ -22,7 +22,7 @@ IsShowReport meaning inputs report text exit = IsOfShow report × IsReport meani
 -- or they have why the words of values are refused
 abbrev pub IsShownReport : (IndexedBook → Dictionary) → Inputs → ShownReport → List ℕ → Exit → Type 0
 IsShownReport meaning inputs (OfShow report) text exit = IsRefusedOr (IsShowReport meaning inputs) report text exit
-IsShownReport meaning inputs (NoValues bad) text exit = IsNoValuesText inputs.table bad × TellsValues bad text exit
+IsShownReport meaning inputs (NoValues bad) text exit = IsNoValuesText inputs.table bad × RecordsValues bad text exit
 
 abbrev pub HasShownReport : (IndexedBook → Dictionary) → Inputs → Shown → Type 0
 HasShownReport meaning inputs shown = IsShownReport meaning inputs shown.report (string_bytes shown.text) shown.exit

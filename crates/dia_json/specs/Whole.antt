@@ -15,8 +15,8 @@ use Rattle.dia_show.specs.Listing.{Manner}
 use Rattle.dia_show.specs.Words.{Word, IsNoValuesText, IsValuesText}
 use Rattle.dia_show.specs.declared.reading.BadValues.{BadValues}
 use Rattle.dia_show.specs.declared.reading.BadValues.TheVariants as values
-use Rattle.dia_json.specs.Messages.{TellsMessage}
-use Rattle.dia_refused_json.specs.Telling.{IsDictionaryRefusal, IsRefusal, RefusedDictionaries, RefusesAs}
+use Rattle.dia_json.specs.Messages.{RecordsMessage}
+use Rattle.dia_refused_json.specs.Recording.{IsDictionaryRefusal, IsRefusal, RefusedDictionaries, RefusesAs}
 use Rattle.dia_refused_json.specs.Members.{json_line, refused_members}
 
 -- a text of words of values that is refused, and on which line
@@ -30,17 +30,17 @@ values_members (values.Syntax n) = refused_members (codes "values") (codes "synt
 values_members (values.Duplicate n) = refused_members (codes "values") (codes "duplicate") (on_line n)
 values_members (values.Limit n) = refused_members (codes "values") (codes "limit") (on_line n)
 
-abbrev pub TellsValues : BadValues → List ℕ → Exit → Type 0
-TellsValues bad text exit = (text ≡ json_line (values_members bad)) × (exit ≡ Bad)
+abbrev pub RecordsValues : BadValues → List ℕ → Exit → Type 0
+RecordsValues bad text exit = (text ≡ json_line (values_members bad)) × (exit ≡ Bad)
 
 -- the words of values are refused, behind a dictionary
 abbrev pub RefusesValues : Inputs → List ℕ → Exit → Type 0
 RefusesValues inputs text exit =
-    (d : Dictionary) × (bad : BadValues) × IsDictionaryText inputs.first d × IsNoValuesText inputs.table bad × TellsValues bad text exit
+    (d : Dictionary) × (bad : BadValues) × IsDictionaryText inputs.first d × IsNoValuesText inputs.table bad × RecordsValues bad text exit
 
 -- with a dictionary, in a manner: the objects of the message, or it is refused
 abbrev pub ShowsJson : Manner → Dictionary → Inputs → List ℕ → Exit → Type 0
-ShowsJson m d inputs text exit = ((bytes : List ℕ) × IsMessageText inputs.message bytes × TellsMessage m d bytes text exit)
+ShowsJson m d inputs text exit = ((bytes : List ℕ) × IsMessageText inputs.message bytes × RecordsMessage m d bytes text exit)
     ⊎ IsRefusal (RefusesAs (IsShowOutcome inputs)) inputs.message text exit
 
 -- `show`, with `--names` and the words of values: the objects of the message; or the dictionary, the words or the message are refused
@@ -68,12 +68,12 @@ abbrev pub no_command_members : List ℕ → Members
 no_command_members name = refused_members (codes "propose") (codes "no command") (member (codes "name") (string name) no_members)
 
 -- the least table for the named commands, or the first name that the first dictionary doesn't have
-abbrev pub TellsProposal : Unknown → List (List ℕ) → Dictionary → Dictionary → List ℕ → Exit → Type 0
-TellsProposal u names a b text exit = ((table : PlainTable) × IsProposal a b u names table × (text ≡ table_json table) × (exit ≡ Yes))
+abbrev pub RecordsProposal : Unknown → List (List ℕ) → Dictionary → Dictionary → List ℕ → Exit → Type 0
+RecordsProposal u names a b text exit = ((table : PlainTable) × IsProposal a b u names table × (text ≡ table_json table) × (exit ≡ Yes))
     ⊎ ((name : List ℕ) × IsFirstUnknown a names name × (text ≡ json_line (no_command_members name)) × (exit ≡ Bad))
 
 -- `propose` of the inputs
 abbrev pub IsProposeJson : Unknown → List (List ℕ) → Inputs → List ℕ → Exit → Type 0
 IsProposeJson u names inputs text exit =
-    ((a : Dictionary) × (b : Dictionary) × IsDictionaryText inputs.first a × IsDictionaryText inputs.second b × TellsProposal u names a b text exit)
+    ((a : Dictionary) × (b : Dictionary) × IsDictionaryText inputs.first a × IsDictionaryText inputs.second b × RecordsProposal u names a b text exit)
     ⊎ RefusedDictionaries inputs text exit

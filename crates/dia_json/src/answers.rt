@@ -1,9 +1,9 @@
 //! The answers for one message.
 
 ghost use Rattle.std.specs.Prelude.{◌≡◌, IfOk, string_bytes};
-ghost use Rattle.dia_refused_json.specs.Telling.{HasReport};
+ghost use Rattle.dia_refused_json.specs.Recording.{HasReport};
 ghost use Rattle.dia_json.specs.Reports.{IsNothing};
-ghost use Rattle.dia_json.specs.Runs.{IsCheckJson, IsRefuteJson, TellsChecked, TellsRefuted};
+ghost use Rattle.dia_json.specs.Runs.{IsCheckJson, IsRefuteJson, RecordsChecked, RecordsRefuted};
 
 use crate::verdicts::{push_checked, push_refuted};
 use dia_captures::{RefuteJudge, check_line};
@@ -69,7 +69,7 @@ fn checked<B: Book>(
     levels: Levels,
     message: &Input,
 ) -> Result<Answered, AllocError>
-    ensures outcome { IfOk result (λ answered. TellsChecked unknown levels (B.meaning book.now) message.now
+    ensures outcome { IfOk result (λ answered. RecordsChecked unknown levels (B.meaning book.now) message.now
         (string_bytes answered.text) answered.exit) }
     ensures report { IfOk result (λ answered. answered.report ≡ Report.Done) }
 {
@@ -90,7 +90,7 @@ fn refuted<A: Book, B: Book>(
     judge: &RefuteJudge<'_, A, B>,
     message: &Input,
 ) -> Result<Answered, AllocError>
-    ensures outcome { IfOk result (λ answered. TellsRefuted judge.now.unknown judge.now.levels
+    ensures outcome { IfOk result (λ answered. RecordsRefuted judge.now.unknown judge.now.levels
         (A.meaning judge.now.first.now) (B.meaning judge.now.second.now) message.now
         (string_bytes answered.text) answered.exit) }
     ensures report { IfOk result (λ answered. answered.report ≡ Report.Done) }

@@ -29,7 +29,7 @@ impl<'a, B: Book> Judge for JsonCheck<'a, B> {
     ghost says = { λ judge line verdict. IsLineChecked judge.check.unknown judge.check.levels
         (B.Book.meaning judge.check.book.now) line verdict };
 
-    ghost told = { λ judge number verdict.
+    ghost recorded = { λ judge number verdict.
         numbered_json (B.Book.meaning judge.check.book.now) number verdict };
 
     fn judge(
@@ -62,7 +62,7 @@ impl<'a, B: Book> MessageJudge for JsonCheck<'a, B> {
     ghost says = { λ judge bytes verdict. IsPieceChecked judge.check.unknown judge.check.levels
         (B.Book.meaning judge.check.book.now) bytes verdict };
 
-    ghost told = { λ judge verdict. placed_json (B.Book.meaning judge.check.book.now) verdict };
+    ghost recorded = { λ judge verdict. placed_json (B.Book.meaning judge.check.book.now) verdict };
 
     fn judge(
         &self,
@@ -100,7 +100,7 @@ impl<'a, A: Book, B: Book> Judge for JsonRefute<'a, A, B> {
     ghost says = { λ judge line verdict. IsLineRefuted judge.refute.unknown judge.refute.levels
         (A.Book.meaning judge.refute.first.now) (B.Book.meaning judge.refute.second.now) line verdict };
 
-    ghost told = { λ judge number verdict. numbered_refuted_json
+    ghost recorded = { λ judge number verdict. numbered_refuted_json
         (A.Book.meaning judge.refute.first.now) (B.Book.meaning judge.refute.second.now) number verdict };
 
     fn judge(

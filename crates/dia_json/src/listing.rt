@@ -53,9 +53,9 @@ pub fn push_level<B: Book>(
     loop {
         let place = rest.end - rest.bytes.len();
         match next_avp(rest.bytes) {
-            Ok(Some((avp, behind))) => {
+            Ok(Some((avp, following))) => {
                 let is_group = push_avp(alloc, text, manner, book, place, outer.len(), &avp)?;
-                rest.bytes = behind;
+                rest.bytes = following;
                 if is_group {
                     outer.push(rest)?;
                     rest = Rest {

@@ -4,7 +4,7 @@ ghost use Rattle.std.specs.Prelude.{◌≡◌, ◌++◌, map, IfOk, OnOk, string
 ghost use Rattle.std.specs.List.{flat_map};
 ghost use Rattle.dia_tables.specs.TableText.{plain_pair, plain_table};
 ghost use Rattle.dia_refused_json.specs.Members.{json_line};
-ghost use Rattle.dia_refused_json.specs.Telling.{HasReport};
+ghost use Rattle.dia_refused_json.specs.Recording.{HasReport};
 ghost use Rattle.dia_json.specs.Reports.{IsProposeReport};
 ghost use Rattle.dia_json.specs.Whole.{IsProposeJson, no_command_members, pair_json, table_json};
 

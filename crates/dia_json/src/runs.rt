@@ -11,7 +11,7 @@ ghost use Rattle.dia_captures.specs.Summaries.{IsMade};
 ghost use Rattle.dia_json.specs.Runs.{ChecksFront, ChecksLines, ChecksStream, ChecksSummary, ChecksWhole};
 ghost use Rattle.dia_json.specs.Runs.{RefutesFront, RefutesLines, RefutesSummary, RefutesWhole};
 ghost use Rattle.dia_json.specs.Runs.{StreamFront, StreamSummary, StreamWhole};
-ghost use Rattle.dia_refused_json.specs.Telling.{TellsBad};
+ghost use Rattle.dia_refused_json.specs.Recording.{RecordsBad};
 
 use crate::judges::{JsonCheck, JsonRefute};
 use dia_captures::{Captured, CheckJudge, Lines, RefuteJudge, Tally};
@@ -35,7 +35,7 @@ pub fn check_lines<F: Feed, S: Sink>(
 ) -> Result<Captured, LinesFault>
     requires sound_feed { ¬ IsTrue (F.has_failed feed.old) }
     requires sound_sink { ¬ IsTrue (S.has_failed sink.old) }
-    ensures told { IfOk result (λ captured. ChecksLines unknown levels inputs.now
+    ensures recorded { IfOk result (λ captured. ChecksLines unknown levels inputs.now
         (F.remaining feed.old) (F.remaining feed.new) (S.written sink.old) (S.written sink.new)
         captured.reported.exit) }
     ensures all { IfOk result
@@ -87,7 +87,7 @@ pub fn refute_lines<F: Feed, S: Sink>(
 ) -> Result<Captured, LinesFault>
     requires sound_feed { ¬ IsTrue (F.has_failed feed.old) }
     requires sound_sink { ¬ IsTrue (S.has_failed sink.old) }
-    ensures told { IfOk result (λ captured. RefutesLines unknown levels inputs.now
+    ensures recorded { IfOk result (λ captured. RefutesLines unknown levels inputs.now
         (F.remaining feed.old) (F.remaining feed.new) (S.written sink.old) (S.written sink.new)
         captured.reported.exit) }
     ensures all { IfOk result
@@ -147,7 +147,7 @@ pub fn check_stream<F: Feed, S: Sink>(
 ) -> Result<Captured, LinesFault>
     requires sound_feed { ¬ IsTrue (F.has_failed feed.old) }
     requires sound_sink { ¬ IsTrue (S.has_failed sink.old) }
-    ensures told { IfOk result (λ captured. ChecksStream unknown levels inputs.now
+    ensures recorded { IfOk result (λ captured. ChecksStream unknown levels inputs.now
         (F.remaining feed.old) (F.remaining feed.new) (S.written sink.old) (S.written sink.new)
         captured.reported.exit) }
     ensures unread { IfOk result (λ captured. captured.reported.exit ≡ Exit.Bad → feed.new ≡ feed.old) }
@@ -194,12 +194,12 @@ fn put_refusal<S: Sink>(
     sink: &mut S,
 ) -> Result<Captured, LinesFault>
     requires { ¬ IsTrue (S.has_failed sink.old) }
-    ensures told { IfOk result (λ captured. (text : List ℕ) × TellsBad input.now refused text captured.reported.exit
+    ensures recorded { IfOk result (λ captured. (text : List ℕ) × RecordsBad input.now refused text captured.reported.exit
         × Appends (S.written sink.old) (S.written sink.new) text) }
     ensures exit { IfOk result (λ captured. captured.reported.exit ≡ Exit.Bad) }
     ensures summary { IfOk result (λ captured. captured.summary ≡ None) }
     ensures device { (result ≡ Err Device) ↔ IsTrue (S.has_failed sink.new) }
-    ensures front { result ≡ Err Device → (text : List ℕ) × TellsBad input.now refused text Exit.Bad
+    ensures front { result ≡ Err Device → (text : List ℕ) × RecordsBad input.now refused text Exit.Bad
         × AppendsFront (S.written sink.old) (S.written sink.new) text }
     ensures nothing { result ≡ Err NoMemory → S.written sink.new ≡ S.written sink.old }
     ensures counted { result ≢ Err Endless }

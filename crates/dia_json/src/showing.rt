@@ -7,14 +7,14 @@ ghost use Rattle.dia_valid.specs.Valid.{class_of};
 ghost use Rattle.dia_dict.specs.Dictionary.{selected};
 ghost use Rattle.dia_run.specs.Outcome.{listing_exit};
 ghost use Rattle.dia_refused_json.specs.Members.{json_line};
-ghost use Rattle.dia_refused_json.specs.Telling.{HasReport};
+ghost use Rattle.dia_refused_json.specs.Recording.{HasReport};
 ghost use Rattle.dia_wire.specs.Wire.{IsHead, IsMessageLength};
-ghost use Rattle.dia_json.specs.Messages.{AreShown, TellsMessage, command_member, header_members, lines_of};
+ghost use Rattle.dia_json.specs.Messages.{AreShown, RecordsMessage, command_member, header_members, lines_of};
 ghost use Rattle.dia_run.specs.Report.{IsReadFrom};
 ghost use Rattle.dia_show.specs.Manners.{plain_manner_of};
 ghost use Rattle.dia_show.specs.declared.reporting.Report.TheVariants.{NoValues, OfShow};
 ghost use Rattle.dia_json.specs.Reports.{HasShownReport, IsShowReport};
-ghost use Rattle.dia_json.specs.Whole.{IsShowJson, ShowsJson, TellsValues, values_members};
+ghost use Rattle.dia_json.specs.Whole.{IsShowJson, ShowsJson, RecordsValues, values_members};
 
 use crate::listing::push_level;
 use dia_check::class_of;
@@ -85,7 +85,7 @@ fn of_show(answered: dia_report::Answered) -> Answered
 
 /// The answer of words of values that are refused.
 fn no_values(alloc: Global, bad: BadValues) -> Result<Answered, AllocError>
-    ensures told { IfOk result (λ answered. TellsValues bad (string_bytes answered.text) answered.exit) }
+    ensures recorded { IfOk result (λ answered. RecordsValues bad (string_bytes answered.text) answered.exit) }
     ensures report { IfOk result (λ answered. answered.report ≡ NoValues bad) }
 {
     let text = values_line(alloc, bad)?;
@@ -167,7 +167,7 @@ fn shown_of<B: Book>(
     requires long { IsMessageLength (length bytes.now) }
     requires body { body.now ≡ drop 20 bytes.now }
     requires room { length body.now < 2 ^ 62 }
-    ensures told { IfOk result (λ shown. TellsMessage (plain_manner_of manner.now) (B.meaning book.now) bytes.now
+    ensures recorded { IfOk result (λ shown. RecordsMessage (plain_manner_of manner.now) (B.meaning book.now) bytes.now
         (string_bytes shown.text) shown.exit) }
     ensures exit { IfOk result (λ shown. shown.exit ≢ Exit.Bad) }
 {
@@ -184,7 +184,7 @@ fn objects_of<B: Book>(
     body: &[u8],
 ) -> Result<Shown, AllocError>
     requires { length body.now < 2 ^ 62 }
-    ensures told { IfOk result (λ shown. (avps : List Members) × (bad : Bool)
+    ensures recorded { IfOk result (λ shown. (avps : List Members) × (bad : Bool)
         × AreShown (plain_manner_of manner.now) (B.meaning book.now) (record { depth = 0; place = 20; bytes = body.now }) avps bad
         × (string_bytes shown.text ≡ lines_of (header_members (B.meaning book.now) header.now size ∷ avps))
         × (shown.exit ≡ listing_exit bad)) }

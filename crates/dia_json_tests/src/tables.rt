@@ -48,8 +48,8 @@ fn refuses_tables_at_their_places(rt: HostRuntime) -> Result<(), Fail> {
     let alloc = rt.alloc();
     let syntax = r#"{"error":"table","kind":"syntax","line":2,"column":11}"#;
     assert!(rt; is_compared(alloc, "avp X = X\ncommand T T\n", Exit::Bad, syntax)?);
-    let behind = r#"{"error":"table","kind":"syntax","line":1,"column":12}"#;
-    assert!(rt; is_compared(alloc, "\tavp X = X X\n", Exit::Bad, behind)?);
+    let following = r#"{"error":"table","kind":"syntax","line":1,"column":12}"#;
+    assert!(rt; is_compared(alloc, "\tavp X = X X\n", Exit::Bad, following)?);
     let letters = r#"{"error":"table","kind":"syntax","line":1,"column":9}"#;
     assert!(rt;
         is_compared(

@@ -8,10 +8,10 @@ use Rattle.std.proofs.lemmas.List.Elements.{All-nil}
 use Rattle.dia_io.specs.declared.Input.{Input}
 use Rattle.dia_io.specs.Writing.{AppendsFront}
 use Rattle.dia_lines.specs.declared.answered.Answered.{Answered}
-use Rattle.dia_lines.specs.Lines.{none, IsLineInput, line_feed, told_from, told_lines}
+use Rattle.dia_lines.specs.Lines.{none, IsLineInput, line_feed, recorded_from, recorded_lines}
 use Rattle.dia_lines.specs.UnderWay.{Ends, IsUnderWay, Reads, AreRead}
 use Rattle.dia_lines.specs.FeedToSink.{AllAnswered, LinesAnswered, FrontAnswered}
-use Rattle.dia_lines.proofs.LineNumbers.{told_lines-append}
+use Rattle.dia_lines.proofs.LineNumbers.{recorded_lines-append}
 use Rattle.dia_lines.proofs.LinesUnderWay.{Sees-both, Sees-nothing}
 
 -- so many bytes were given
@@ -22,8 +22,8 @@ long_feed (Some xs) (Some ys) n read h long =
     let all : length xs ≡ length read + length ys = ap (λ (t : List ℕ). length t) h ∙ length-append read ys in omega arith
 
 -- a prefix that follows what was put
-front_behind : (a b c : Option (List ℕ)) (x y : List ℕ) → Appends a b x → AppendsFront b c y → AppendsFront a c (x ++ y)
-front_behind a b c x y h (front, rest, parts, k) =
+front_after : (a b c : Option (List ℕ)) (x y : List ℕ) → Appends a b x → AppendsFront b c y → AppendsFront a c (x ++ y)
+front_after a b c x y h (front, rest, parts, k) =
     (x ++ front, rest, ap (λ (t : List ℕ). x ++ t) parts ∙ sym (append_assoc x front rest), Appends-trans a b c x front h k)
 
 -- what was put, and then more
@@ -31,9 +31,9 @@ pub put_both : (x y whole : List ℕ) (a b c : Option (List ℕ)) → whole ≡ 
 put_both x y whole a b c parts h k = subst (Appends a c) (sym parts) (Appends-trans a b c x y h k)
 
 pub front_both : (x y whole : List ℕ) (a b c : Option (List ℕ)) → whole ≡ x ++ y → Appends a b x → AppendsFront b c y → AppendsFront a c whole
-front_both x y whole a b c parts h k = subst (AppendsFront a c) (sym parts) (front_behind a b c x y h k)
+front_both x y whole a b c parts h k = subst (AppendsFront a c) (sym parts) (front_after a b c x y h k)
 
-module _ {V W : Type 0} (P : Input → V → Type 0) (told : ℕ → V → List ℕ) (saw : W → List V → Type 0) where
+module _ {V W : Type 0} (P : Input → V → Type 0) (recorded : ℕ → V → List ℕ) (saw : W → List V → Type 0) where
   -- nothing was read
   begun : (now : Answered) → IsLineInput now.line [] → now.count ≡ 0 → IsUnderWay P now [] []
   begun now whole none_yet = record {
@@ -61,7 +61,7 @@ module _ {V W : Type 0} (P : Input → V → Type 0) (told : ℕ → V → List 
 
   -- no piece was read
   pub first_read : (fed put : Option (List ℕ)) (w : W) (now : Answered) → IsLineInput now.line [] → now.count ≡ 0 → string_bytes now.text ≡ []
-      → AreRead P told saw fed fed put put w w now 0
+      → AreRead P recorded saw fed fed put put w w now 0
   first_read fed put w now whole none_yet nothing = record {
     read = [];
     verdicts = [];
@@ -75,7 +75,7 @@ module _ {V W : Type 0} (P : Input → V → Type 0) (told : ℕ → V → List 
 
   -- the lines of what was read are a front
   pub lines_before : (fed f f' put p : Option (List ℕ)) (w x : W) (old : Answered) (n : ℕ) (piece : List ℕ) → Consumes f f' piece
-      → AreRead P told saw fed f put p w x old n → LinesAnswered P (told_lines told) fed f' put p
+      → AreRead P recorded saw fed f put p w x old n → LinesAnswered P (recorded_lines recorded) fed f' put p
   lines_before fed f f' put p w x old n piece consumed a =
       let u = a.under_way in record {
         lines = u.lines;
@@ -88,19 +88,19 @@ module _ {V W : Type 0} (P : Input → V → Type 0) (told : ℕ → V → List 
       }
 
   -- whole lines are a front
-  pub front_of_lines : (fed f put p : Option (List ℕ)) → LinesAnswered P (told_lines told) fed f put p → FrontAnswered P (told_lines told) fed f put p
+  pub front_of_lines : (fed f put p : Option (List ℕ)) → LinesAnswered P (recorded_lines recorded) fed f put p → FrontAnswered P (recorded_lines recorded) fed f put p
   front_of_lines fed f put p a = record {
     front = a.lines;
     rest = a.rest;
     verdicts = a.verdicts;
     consumed = a.consumed;
     answered = inl a.answered;
-    is_put = (told_lines told a.verdicts, [], sym (append-nil (told_lines told a.verdicts)), a.is_put);
+    is_put = (recorded_lines recorded a.verdicts, [], sym (append-nil (recorded_lines recorded a.verdicts)), a.is_put);
   }
 
   -- the feed failed
-  pub feed_failed : (fed f f' put p : Option (List ℕ)) (w x : W) (old : Answered) (n : ℕ) → Keeps f f' → AreRead P told saw fed f put p w x old n
-      → FrontAnswered P (told_lines told) fed f' put p
+  pub feed_failed : (fed f f' put p : Option (List ℕ)) (w x : W) (old : Answered) (n : ℕ) → Keeps f f' → AreRead P recorded saw fed f put p w x old n
+      → FrontAnswered P (recorded_lines recorded) fed f' put p
   feed_failed fed f f' put p w x old n kept a =
       let u = a.under_way in
       front_of_lines fed f' put p (record {
@@ -114,15 +114,15 @@ module _ {V W : Type 0} (P : Input → V → Type 0) (told : ℕ → V → List 
 
   -- a piece was answered
   module _ (fed f f' put p p' : Option (List ℕ)) (w x y : W) (old now : Answered) (n : ℕ) (piece : List ℕ) (more : List V)
-      (consumed : Consumes f f' piece) (reads : Reads P told saw old now x y piece more) (a : AreRead P told saw fed f put p w x old n) where
-    abbrev behind : List ℕ
-    behind = told_from told (suc (length a.verdicts)) more
+      (consumed : Consumes f f' piece) (reads : Reads P recorded saw old now x y piece more) (a : AreRead P recorded saw fed f put p w x old n) where
+    abbrev following : List ℕ
+    following = recorded_from recorded (suc (length a.verdicts)) more
 
-    all_told : string_bytes now.text ≡ behind
-    all_told = reads.text a.read a.verdicts a.under_way ∙ ap (λ (t : List ℕ). t ++ behind) a.nothing
+    all_recorded : string_bytes now.text ≡ following
+    all_recorded = reads.text a.read a.verdicts a.under_way ∙ ap (λ (t : List ℕ). t ++ following) a.nothing
 
     pub piece_read : (new : Answered) → 0 < length piece → Appends p p' (string_bytes now.text) → new.line ≡ now.line → new.count ≡ now.count → string_bytes new.text ≡ []
-        → AreRead P told saw fed f' put p' w y new (n + 1)
+        → AreRead P recorded saw fed f' put p' w y new (n + 1)
     piece_read new some is_put line count nothing =
         let lengths = length-append a.read piece in
         let counted = a.counted in record {
@@ -130,15 +130,15 @@ module _ {V W : Type 0} (P : Input → V → Type 0) (told : ℕ → V → List 
           verdicts = a.verdicts ++ more;
           consumed = Consumes-trans fed f f' a.read piece a.consumed consumed;
           under_way = forgotten now new (a.read ++ piece) (a.verdicts ++ more) line count (reads.reads a.read a.verdicts a.under_way);
-          is_put = put_both (told_lines told a.verdicts) behind (told_lines told (a.verdicts ++ more)) put p p' (told_lines-append told a.verdicts more) a.is_put
-              (subst (Appends p p') all_told is_put);
+          is_put = put_both (recorded_lines recorded a.verdicts) following (recorded_lines recorded (a.verdicts ++ more)) put p p' (recorded_lines-append recorded a.verdicts more) a.is_put
+              (subst (Appends p p') all_recorded is_put);
           seen = Sees-both saw w x y a.verdicts more a.seen reads.seen;
           nothing = nothing;
           counted = omega arith;
         }
 
     -- the sink failed after it
-    pub sink_failed : AppendsFront p p' (string_bytes now.text) → FrontAnswered P (told_lines told) fed f' put p'
+    pub sink_failed : AppendsFront p p' (string_bytes now.text) → FrontAnswered P (recorded_lines recorded) fed f' put p'
     sink_failed is_put =
         let u = reads.reads a.read a.verdicts a.under_way in record {
           front = u.lines;
@@ -146,38 +146,38 @@ module _ {V W : Type 0} (P : Input → V → Type 0) (told : ℕ → V → List 
           verdicts = a.verdicts ++ more;
           consumed = subst (Consumes fed f') u.parts (Consumes-trans fed f f' a.read piece a.consumed consumed);
           answered = inl u.answered;
-          is_put = front_both (told_lines told a.verdicts) behind (told_lines told (a.verdicts ++ more)) put p p' (told_lines-append told a.verdicts more) a.is_put
-              (subst (AppendsFront p p') all_told is_put);
+          is_put = front_both (recorded_lines recorded a.verdicts) following (recorded_lines recorded (a.verdicts ++ more)) put p p' (recorded_lines-append recorded a.verdicts more) a.is_put
+              (subst (AppendsFront p p') all_recorded is_put);
         }
 
   -- the last line was answered
   module _ (fed f f' put p p' : Option (List ℕ)) (w x y : W) (old now : Answered) (n : ℕ) (more : List V)
-      (consumed : Consumes f f' []) (ends : Ends P told saw old now x y more) (a : AreRead P told saw fed f put p w x old n) where
+      (consumed : Consumes f f' []) (ends : Ends P recorded saw old now x y more) (a : AreRead P recorded saw fed f put p w x old n) where
     abbrev last : List ℕ
-    last = told_from told (suc (length a.verdicts)) more
+    last = recorded_from recorded (suc (length a.verdicts)) more
 
-    all_told_at_end : string_bytes now.text ≡ last
-    all_told_at_end = ends.text a.read a.verdicts a.under_way ∙ ap (λ (t : List ℕ). t ++ last) a.nothing
+    all_recorded_at_end : string_bytes now.text ≡ last
+    all_recorded_at_end = ends.text a.read a.verdicts a.under_way ∙ ap (λ (t : List ℕ). t ++ last) a.nothing
 
-    pub all_read : Appends p p' (string_bytes now.text) → AllAnswered P (told_lines told) saw fed f' put p' w y
+    pub all_read : Appends p p' (string_bytes now.text) → AllAnswered P (recorded_lines recorded) saw fed f' put p' w y
     all_read is_put = record {
       bytes = a.read;
       verdicts = a.verdicts ++ more;
       consumed = subst (Consumes fed f') (append-nil a.read) (Consumes-trans fed f f' a.read [] a.consumed consumed);
       answered = ends.ends a.read a.verdicts a.under_way;
-      is_put = put_both (told_lines told a.verdicts) last (told_lines told (a.verdicts ++ more)) put p p' (told_lines-append told a.verdicts more) a.is_put
-          (subst (Appends p p') all_told_at_end is_put);
+      is_put = put_both (recorded_lines recorded a.verdicts) last (recorded_lines recorded (a.verdicts ++ more)) put p p' (recorded_lines-append recorded a.verdicts more) a.is_put
+          (subst (Appends p p') all_recorded_at_end is_put);
       seen = Sees-both saw w x y a.verdicts more a.seen ends.seen;
     }
 
     -- the sink failed after it
-    pub sink_failed_at_end : IsAtEnd f' → AppendsFront p p' (string_bytes now.text) → FrontAnswered P (told_lines told) fed f' put p'
+    pub sink_failed_at_end : IsAtEnd f' → AppendsFront p p' (string_bytes now.text) → FrontAnswered P (recorded_lines recorded) fed f' put p'
     sink_failed_at_end at_end is_put = record {
       front = a.read;
       rest = [];
       verdicts = a.verdicts ++ more;
       consumed = Consumes-trans fed f f' a.read [] a.consumed consumed;
       answered = inr (at_end, refl, ends.ends a.read a.verdicts a.under_way);
-      is_put = front_both (told_lines told a.verdicts) last (told_lines told (a.verdicts ++ more)) put p p' (told_lines-append told a.verdicts more) a.is_put
-          (subst (AppendsFront p p') all_told_at_end is_put);
+      is_put = front_both (recorded_lines recorded a.verdicts) last (recorded_lines recorded (a.verdicts ++ more)) put p p' (recorded_lines-append recorded a.verdicts more) a.is_put
+          (subst (AppendsFront p p') all_recorded_at_end is_put);
     }

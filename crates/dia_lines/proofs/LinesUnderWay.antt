@@ -6,9 +6,9 @@ use Rattle.std.proofs.lemmas.List.Elements.{All-append, All-nil}
 use Rattle.dia_io.specs.declared.Input.{Input}
 use Rattle.dia_lines.specs.declared.answered.Answered.{Answered}
 use Rattle.dia_lines.specs.FeedToSink.{Sees}
-use Rattle.dia_lines.specs.Lines.{AreAnswered, one_more, IsAnswered, IsLine, IsLineInput, line_feed, line_number, told_from}
+use Rattle.dia_lines.specs.Lines.{AreAnswered, one_more, IsAnswered, IsLine, IsLineInput, line_feed, line_number, recorded_from}
 use Rattle.dia_lines.specs.UnderWay.{Ends, IsUnderWay, Reads}
-use Rattle.dia_lines.proofs.LineNumbers.{both_told, last_told, one_more_line}
+use Rattle.dia_lines.proofs.LineNumbers.{both_recorded, last_recorded, one_more_line}
 
 pub on_ok_map : {E A B : Type 0} (r : Result (Unit {0}) E) → (A → B) → OnOk r A → OnOk r B
 on_ok_map (Ok u) f h = f h
@@ -23,10 +23,10 @@ length_push : {V : Type 0} (verdicts : List V) (verdict : V) → length (verdict
 length_push verdicts verdict = length-append verdicts (verdict ∷ []) ∙ omega arith
 
 -- a line and its line feed at the front of a rest
-pub next_line : (piece done rest line behind : List ℕ) → piece ≡ done ++ rest → rest ≡ line ++ line_feed ∷ behind
-    → piece ≡ (done ++ (line ++ line_feed ∷ [])) ++ behind
-next_line piece done rest line behind parts split = parts ∙ ap (λ (r : List ℕ). done ++ r) (split ∙ sym (append_assoc line (line_feed ∷ []) behind))
-    ∙ sym (append_assoc done (line ++ line_feed ∷ []) behind)
+pub next_line : (piece done rest line following : List ℕ) → piece ≡ done ++ rest → rest ≡ line ++ line_feed ∷ following
+    → piece ≡ (done ++ (line ++ line_feed ∷ [])) ++ following
+next_line piece done rest line following parts split = parts ∙ ap (λ (r : List ℕ). done ++ r) (split ∙ sym (append_assoc line (line_feed ∷ []) following))
+    ∙ sym (append_assoc done (line ++ line_feed ∷ []) following)
 
 pub Sees-nothing : {W V : Type 0} (saw : W → List V → Type 0) (now : W) → Sees saw now now []
 Sees-nothing saw now before h = subst (saw now) (sym (append-nil before)) h
@@ -71,20 +71,20 @@ module _ {V : Type 0} (P : Input → V → Type 0) where
         (ap (λ (r : List ℕ). r ++ line_feed ∷ []) u.parts ∙ append_assoc u.lines u.rest (line_feed ∷ [])) refl,
   )
 
-  module _ {W : Type 0} (told : ℕ → V → List ℕ) (saw : W → List V → Type 0) where
+  module _ {W : Type 0} (recorded : ℕ → V → List ℕ) (saw : W → List V → Type 0) where
     pub Reads-line : (old mid new : Answered) (w x : W) (bytes : List ℕ) (verdict : V) → IsLine bytes
         → ((all : List ℕ) → IsLineInput old.line all → IsLineInput mid.line (all ++ bytes)) → string_bytes mid.text ≡ string_bytes old.text
-        → P mid.line verdict → string_bytes new.text ≡ string_bytes mid.text ++ told new.count verdict → new.count ≡ line_number (old.count + 1)
+        → P mid.line verdict → string_bytes new.text ≡ string_bytes mid.text ++ recorded new.count verdict → new.count ≡ line_number (old.count + 1)
         → Sees saw w x (verdict ∷ []) → IsLineInput new.line []
-        → Reads P told saw old new w x (bytes ++ line_feed ∷ []) (verdict ∷ [])
+        → Reads P recorded saw old new w x (bytes ++ line_feed ∷ []) (verdict ∷ [])
     Reads-line old mid new w x bytes verdict is_line longer same says text more seen whole = record {
-      text = λ read verdicts u. last_told told (suc (length verdicts)) new.count verdict (string_bytes old.text) (string_bytes new.text)
-          (one_more_line verdicts old.count new.count u.counted more) (text ∙ ap (λ (t : List ℕ). t ++ told new.count verdict) same);
+      text = λ read verdicts u. last_recorded recorded (suc (length verdicts)) new.count verdict (string_bytes old.text) (string_bytes new.text)
+          (one_more_line verdicts old.count new.count u.counted more) (text ∙ ap (λ (t : List ℕ). t ++ recorded new.count verdict) same);
       seen = seen;
       reads = line_ended old new mid.line bytes verdict is_line longer says whole more;
     }
 
-    pub Reads-nothing : (now : Answered) (w : W) → Reads P told saw now now w w [] []
+    pub Reads-nothing : (now : Answered) (w : W) → Reads P recorded saw now now w w [] []
     Reads-nothing now w = record {
       text = λ read verdicts u. sym (append-nil (string_bytes now.text));
       seen = Sees-nothing saw w;
@@ -92,10 +92,10 @@ module _ {V : Type 0} (P : Input → V → Type 0) where
           (subst (IsUnderWay P now read) (sym (append-nil verdicts)) u);
     }
 
-    pub Reads-both : (a b c : Answered) (w x y : W) (bytes more : List ℕ) (vs us : List V) → Reads P told saw a b w x bytes vs → Reads P told saw b c x y more us
-        → Reads P told saw a c w y (bytes ++ more) (vs ++ us)
+    pub Reads-both : (a b c : Answered) (w x y : W) (bytes more : List ℕ) (vs us : List V) → Reads P recorded saw a b w x bytes vs → Reads P recorded saw b c x y more us
+        → Reads P recorded saw a c w y (bytes ++ more) (vs ++ us)
     Reads-both a b c w x y bytes more vs us h k = record {
-      text = λ read verdicts u. both_told told verdicts vs us (string_bytes a.text) (string_bytes b.text) (string_bytes c.text) (h.text read verdicts u)
+      text = λ read verdicts u. both_recorded recorded verdicts vs us (string_bytes a.text) (string_bytes b.text) (string_bytes c.text) (h.text read verdicts u)
           (k.text (read ++ bytes) (verdicts ++ vs) (h.reads read verdicts u));
       seen = Sees-both saw w x y vs us h.seen k.seen;
       reads = λ read verdicts u. subst (λ (r : List ℕ). IsUnderWay P c r (verdicts ++ (vs ++ us))) (append_assoc read bytes more)
@@ -105,7 +105,7 @@ module _ {V : Type 0} (P : Input → V → Type 0) where
     -- the line under way became longer
     pub Reads-rest : (old new : Answered) (w : W) (bytes : List ℕ) → IsLine bytes
         → ((all : List ℕ) → IsLineInput old.line all → IsLineInput new.line (all ++ bytes))
-        → string_bytes new.text ≡ string_bytes old.text → new.count ≡ old.count → Reads P told saw old new w w bytes []
+        → string_bytes new.text ≡ string_bytes old.text → new.count ≡ old.count → Reads P recorded saw old new w w bytes []
     Reads-rest old new w bytes is_line longer same count = record {
       text = λ read verdicts u. same ∙ sym (append-nil (string_bytes old.text));
       seen = Sees-nothing saw w;
@@ -120,7 +120,7 @@ module _ {V : Type 0} (P : Input → V → Type 0) where
       };
     }
 
-    pub Ends-nothing : (now : Answered) (w : W) → ((all : List ℕ) → IsLineInput now.line all → length all ≡ 0) → Ends P told saw now now w w []
+    pub Ends-nothing : (now : Answered) (w : W) → ((all : List ℕ) → IsLineInput now.line all → length all ≡ 0) → Ends P recorded saw now now w w []
     Ends-nothing now w empty = record {
       text = λ read verdicts u. sym (append-nil (string_bytes now.text));
       seen = Sees-nothing saw w;
@@ -128,10 +128,10 @@ module _ {V : Type 0} (P : Input → V → Type 0) where
     }
 
     pub Ends-line : (old new : Answered) (w x : W) (verdict : V) → ((all : List ℕ) → IsLineInput old.line all → 0 < length all)
-        → P old.line verdict → string_bytes new.text ≡ string_bytes old.text ++ told new.count verdict → new.count ≡ line_number (old.count + 1)
-        → Sees saw w x (verdict ∷ []) → Ends P told saw old new w x (verdict ∷ [])
+        → P old.line verdict → string_bytes new.text ≡ string_bytes old.text ++ recorded new.count verdict → new.count ≡ line_number (old.count + 1)
+        → Sees saw w x (verdict ∷ []) → Ends P recorded saw old new w x (verdict ∷ [])
     Ends-line old new w x verdict some says text more seen = record {
-      text = λ read verdicts u. last_told told (suc (length verdicts)) new.count verdict (string_bytes old.text) (string_bytes new.text)
+      text = λ read verdicts u. last_recorded recorded (suc (length verdicts)) new.count verdict (string_bytes old.text) (string_bytes new.text)
           (one_more_line verdicts old.count new.count u.counted more) text;
       seen = seen;
       ends = λ read verdicts u. last_answered old verdict says read verdicts u (some u.rest u.whole);

@@ -5,8 +5,8 @@ use Rattle.std.proofs.lemmas.List.{append-nil, append_cancel_right}
 use Rattle.std.proofs.lemmas.List.Elements.{All-head, All-tail}
 use Rattle.dia_io.specs.declared.Input.{Input}
 use Rattle.dia_lines.specs.FeedToSink.{FrontIsBeginning}
-use Rattle.dia_lines.specs.Lines.{AreAnswered, none, one_more, EndsInLine, IsAnswered, IsLine, IsLineInput, LineHasOneAnswer, TextHasOneAnswer, line_feed, told_from, told_lines}
-use Rattle.dia_lines.proofs.LineNumbers.{told_lines-append}
+use Rattle.dia_lines.specs.Lines.{AreAnswered, none, one_more, EndsInLine, IsAnswered, IsLine, IsLineInput, LineHasOneAnswer, TextHasOneAnswer, line_feed, recorded_from, recorded_lines}
+use Rattle.dia_lines.proofs.LineNumbers.{recorded_lines-append}
 
 -- the last byte, if there is one, is a line feed
 abbrev Ends : List ℕ → Type 0
@@ -28,10 +28,10 @@ no_end : (x : ℕ) (xs ys : List ℕ) → Ends (x ∷ xs) → IsLine ((x ∷ xs)
 no_end x [] ys e line = All-head (λ c. c ≢ line_feed) x ys line e
 no_end x (y ∷ xs) ys e line = no_end y xs ys e (All-tail (λ c. c ≢ line_feed) x ((y ∷ xs) ++ ys) line)
 
-no_end_behind : (front line : List ℕ) → 0 < length line → IsLine line → Ends (front ++ line) → ⊥
-no_end_behind [] [] some is_line e = omega arith
-no_end_behind [] (x ∷ xs) some is_line e = no_end x xs [] e (subst IsLine (sym (append-nil (x ∷ xs))) is_line)
-no_end_behind (x ∷ front) line some is_line e = no_end_behind front line some is_line (Ends-tail x (front ++ line) e)
+no_end_after : (front line : List ℕ) → 0 < length line → IsLine line → Ends (front ++ line) → ⊥
+no_end_after [] [] some is_line e = omega arith
+no_end_after [] (x ∷ xs) some is_line e = no_end x xs [] e (subst IsLine (sym (append-nil (x ∷ xs))) is_line)
+no_end_after (x ∷ front) line some is_line e = no_end_after front line some is_line (Ends-tail x (front ++ line) e)
 
 -- there is one place where the last line begins
 one_cut : (front line other rest : List ℕ) → Ends front → Ends other → IsLine line → IsLine rest → front ++ line ≡ other ++ rest
@@ -100,7 +100,7 @@ module _ {V : Type 0} (P : Input → V → Type 0) (once : LineHasOneAnswer P) w
       verdicts ∙ ap (λ (t : List V). t ++ verdict ∷ []) fronts ∙ ap (λ v. verdicts_before' ++ v ∷ []) last ∙ sym verdicts'
 
   not_both : (bytes : List ℕ) (verdicts : List V) → AreAnswered P bytes verdicts → EndsInLine bytes → ⊥
-  not_both bytes verdicts h u = no_end_behind u.front u.line u.some u.is_line (subst Ends u.parts (Ends-answered bytes verdicts h))
+  not_both bytes verdicts h u = no_end_after u.front u.line u.some u.is_line (subst Ends u.parts (Ends-answered bytes verdicts h))
 
   pub text_once : TextHasOneAnswer P
   text_once bytes verdicts others (inl h) (inl k) = lines_once bytes verdicts others h k
@@ -144,10 +144,10 @@ module _ {V : Type 0} (P : Input → V → Type 0) (once : LineHasOneAnswer P) w
       let same : bytes ≡ front = parts ∙ ap (λ (l : List ℕ). (front ++ rest) ++ l) k.0 ∙ append-nil (front ++ rest) ∙ ap (λ (l : List ℕ). front ++ l) k.1 ∙ append-nil front in
       ([], text_once front all verdicts (subst (λ (l : List ℕ). IsAnswered P l all) same h) k.2 ∙ sym (append-nil verdicts))
 
-  pub put_is_beginning : (told : ℕ → V → List ℕ) → FrontIsBeginning P (told_lines told)
-  put_is_beginning told bytes left before now all a h =
+  pub put_is_beginning : (recorded : ℕ → V → List ℕ) → FrontIsBeginning P (recorded_lines recorded)
+  put_is_beginning recorded bytes left before now all a h =
       let (put, unput, texts, is_put) = a.is_put in
       let more = verdicts_in_front bytes left a.front a.rest a.verdicts all a.consumed a.answered h in
-      let behind = told_from told (suc (length a.verdicts)) more.0 in
-      let whole : told_lines told all ≡ told_lines told a.verdicts ++ behind = ap (told_lines told) more.1 ∙ told_lines-append told a.verdicts more.0 in
-      (put, unput ++ behind, is_put, whole ∙ ap (λ (t : List ℕ). t ++ behind) texts ∙ append_assoc put unput behind)
+      let following = recorded_from recorded (suc (length a.verdicts)) more.0 in
+      let whole : recorded_lines recorded all ≡ recorded_lines recorded a.verdicts ++ following = ap (recorded_lines recorded) more.1 ∙ recorded_lines-append recorded a.verdicts more.0 in
+      (put, unput ++ following, is_put, whole ∙ ap (λ (t : List ℕ). t ++ following) texts ∙ append_assoc put unput following)

@@ -11,11 +11,11 @@ use Rattle.dia_lines.specs.Lines.{AreAnswered, none, one_more, IsAnswered}
 use Rattle.dia_lines.specs.FeedToSink.{AllAnswered, FrontAnswered, LinesAnswered}
 
 -- texts of verdicts, one after the other
-pub same_text : {V A : Type 0} (g : V → A) (told : V → List ℕ) (other : A → List ℕ) → ((verdict : V) → told verdict ≡ other (g verdict)) → (verdicts : List V)
-    → flat_map told verdicts ≡ flat_map other (map g verdicts)
-same_text g told other same [] = refl
-same_text g told other same (v ∷ vs) =
-    flat_map-cons told v vs ∙ ap (λ (t : List ℕ). t ++ flat_map told vs) (same v) ∙ ap (λ (t : List ℕ). other (g v) ++ t) (same_text g told other same vs)
+pub same_text : {V A : Type 0} (g : V → A) (recorded : V → List ℕ) (other : A → List ℕ) → ((verdict : V) → recorded verdict ≡ other (g verdict)) → (verdicts : List V)
+    → flat_map recorded verdicts ≡ flat_map other (map g verdicts)
+same_text g recorded other same [] = refl
+same_text g recorded other same (v ∷ vs) =
+    flat_map-cons recorded v vs ∙ ap (λ (t : List ℕ). t ++ flat_map recorded vs) (same v) ∙ ap (λ (t : List ℕ). other (g v) ++ t) (same_text g recorded other same vs)
     ∙ sym (flat_map-cons other (g v) (map g vs))
 
 -- the same text, written otherwise

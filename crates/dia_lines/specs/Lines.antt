@@ -45,13 +45,13 @@ abbrev pub line_number : ℕ → ℕ
 line_number n = min n 18446744073709551615
 
 -- what is reported of these verdicts, the first of which is on the n-th line
-abbrev pub told_from : {V : Type 0} → (ℕ → V → List ℕ) → ℕ → List V → List ℕ
-told_from told n [] = []
-told_from told n (v ∷ vs) = told (line_number n) v ++ told_from told (suc n) vs
+abbrev pub recorded_from : {V : Type 0} → (ℕ → V → List ℕ) → ℕ → List V → List ℕ
+recorded_from recorded n [] = []
+recorded_from recorded n (v ∷ vs) = recorded (line_number n) v ++ recorded_from recorded (suc n) vs
 
 -- what is reported of the verdicts on all lines
-abbrev pub told_lines : {V : Type 0} → (ℕ → V → List ℕ) → List V → List ℕ
-told_lines told verdicts = told_from told 1 verdicts
+abbrev pub recorded_lines : {V : Type 0} → (ℕ → V → List ℕ) → List V → List ℕ
+recorded_lines recorded verdicts = recorded_from recorded 1 verdicts
 
 -- ---- one answer
 

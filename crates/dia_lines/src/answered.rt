@@ -49,12 +49,12 @@ impl Answered {
         piece: &[u8],
     ) -> Result<(), AllocError>
         ensures { OnOk result ((more : List J.Verdict) × Reads (J.says judge.now)
-            (J.told judge.now) W.saw self.old self.new watch.old watch.new piece.now more) }
+            (J.recorded judge.now) W.saw self.old self.new watch.old watch.new piece.now more) }
     {
         let mut rest = piece;
-        while let Some((line, behind)) = split_line(rest) {
+        while let Some((line, following)) = split_line(rest) {
             self.read_line(alloc, judge, watch, line)?;
-            rest = behind;
+            rest = following;
         }
         extend(&mut self.line, rest)
     }
@@ -67,7 +67,7 @@ impl Answered {
         watch: &mut W,
     ) -> Result<(), AllocError>
         ensures { OnOk result ((more : List J.Verdict) × Ends (J.says judge.now)
-            (J.told judge.now) W.saw self.old self.new watch.old watch.new more) }
+            (J.recorded judge.now) W.saw self.old self.new watch.old watch.new more) }
     {
         if is_empty(&self.line) {
             return Ok(());
@@ -85,7 +85,7 @@ impl Answered {
     ) -> Result<(), AllocError>
         requires { IsLine bytes.now }
         ensures { OnOk result ((more : List J.Verdict)
-            × Reads (J.says judge.now) (J.told judge.now) W.saw
+            × Reads (J.says judge.now) (J.recorded judge.now) W.saw
             self.old self.new watch.old watch.new (bytes.now ++ line_feed ∷ []) more) }
     {
         extend(&mut self.line, bytes)?;
@@ -101,7 +101,7 @@ impl Answered {
     ) -> Result<(), AllocError>
         ensures { OnOk result ((verdict : J.Verdict)
             × J.says judge.now self.old.line verdict
-            × (string_bytes self.new.text ≡ string_bytes self.old.text ++ J.told judge.now self.new.count verdict)
+            × (string_bytes self.new.text ≡ string_bytes self.old.text ++ J.recorded judge.now self.new.count verdict)
             × (self.new.count ≡ line_number (self.old.count + 1))
             × Sees W.saw watch.old watch.new (verdict ∷ [])
             × IsLineInput self.new.line []) }

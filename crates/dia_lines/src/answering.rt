@@ -6,7 +6,7 @@ ghost use Rattle.std.specs.Io.KnownBytes.{Appends, IsAtEnd};
 ghost use Rattle.dia_io.specs.Writing.{AppendsFront};
 ghost use Rattle.dia_lines.specs.declared.fault.LinesFault.TheVariants.{NoMemory, Device, Endless};
 ghost use Rattle.dia_lines.specs.FeedToSink.{AllAnswered, FrontAnswered, LinesAnswered, most_pieces};
-ghost use Rattle.dia_lines.specs.Lines.{told_lines};
+ghost use Rattle.dia_lines.specs.Lines.{recorded_lines};
 ghost use Rattle.dia_lines.specs.UnderWay.{AreRead};
 
 use crate::answered::Answered;
@@ -31,17 +31,17 @@ pub fn answer_lines<J: Judge, W: Watch<J::Verdict>, F: Feed, S: Sink>(
 ) -> Result<(), LinesFault>
     requires sound_feed { ¬ IsTrue (F.has_failed feed.old) }
     requires sound_sink { ¬ IsTrue (S.has_failed sink.old) }
-    ensures answered { OnOk result (AllAnswered (J.says judge.now) (told_lines (J.told judge.now)) W.saw
+    ensures answered { OnOk result (AllAnswered (J.says judge.now) (recorded_lines (J.recorded judge.now)) W.saw
         (F.remaining feed.old) (F.remaining feed.new) (S.written sink.old) (S.written sink.new)
         watch.old watch.new) }
     ensures all { OnOk result (IsAtEnd (F.remaining feed.new)) }
     ensures device { (result ≡ Err Device)
         ↔ (IsTrue (F.has_failed feed.new) ⊎ IsTrue (S.has_failed sink.new)) }
-    ensures front { IsErr result → FrontAnswered (J.says judge.now) (told_lines (J.told judge.now))
+    ensures front { IsErr result → FrontAnswered (J.says judge.now) (recorded_lines (J.recorded judge.now))
         (F.remaining feed.old) (F.remaining feed.new) (S.written sink.old) (S.written sink.new) }
-    ensures no_memory { result ≡ Err NoMemory → LinesAnswered (J.says judge.now) (told_lines (J.told judge.now))
+    ensures no_memory { result ≡ Err NoMemory → LinesAnswered (J.says judge.now) (recorded_lines (J.recorded judge.now))
         (F.remaining feed.old) (F.remaining feed.new) (S.written sink.old) (S.written sink.new) }
-    ensures endless { result ≡ Err Endless → LinesAnswered (J.says judge.now) (told_lines (J.told judge.now))
+    ensures endless { result ≡ Err Endless → LinesAnswered (J.says judge.now) (recorded_lines (J.recorded judge.now))
         (F.remaining feed.old) (F.remaining feed.new) (S.written sink.old) (S.written sink.new) }
     ensures pieces { result ≡ Err Endless
         → IfSome (F.remaining feed.old) (λ bytes. most_pieces ≤ length bytes) }
@@ -71,27 +71,27 @@ fn answer_piece<J: Judge, W: Watch<J::Verdict>, F: Feed, S: Sink>(
     requires sound_feed { ¬ IsTrue (F.has_failed feed.old) }
     requires sound_sink { ¬ IsTrue (S.has_failed sink.old) }
     ensures more { (fed put : Option (List ℕ)) (begun : W) (n : ℕ) → result ≡ Ok true
-        → AreRead (J.says judge.now) (J.told judge.now) W.saw fed (F.remaining feed.old)
+        → AreRead (J.says judge.now) (J.recorded judge.now) W.saw fed (F.remaining feed.old)
         put (S.written sink.old) begun watch.old answered.old n
-        → AreRead (J.says judge.now) (J.told judge.now) W.saw fed (F.remaining feed.new)
+        → AreRead (J.says judge.now) (J.recorded judge.now) W.saw fed (F.remaining feed.new)
         put (S.written sink.new) begun watch.new answered.new (n + 1) }
     ensures end { (fed put : Option (List ℕ)) (begun : W) (n : ℕ) → result ≡ Ok false
-        → AreRead (J.says judge.now) (J.told judge.now) W.saw fed (F.remaining feed.old)
+        → AreRead (J.says judge.now) (J.recorded judge.now) W.saw fed (F.remaining feed.old)
         put (S.written sink.old) begun watch.old answered.old n
-        → AllAnswered (J.says judge.now) (told_lines (J.told judge.now)) W.saw fed (F.remaining feed.new)
+        → AllAnswered (J.says judge.now) (recorded_lines (J.recorded judge.now)) W.saw fed (F.remaining feed.new)
         put (S.written sink.new) begun watch.new }
     ensures all { result ≡ Ok false → IsAtEnd (F.remaining feed.new) }
     ensures device { (result ≡ Err Device)
         ↔ (IsTrue (F.has_failed feed.new) ⊎ IsTrue (S.has_failed sink.new)) }
     ensures front { (fed put : Option (List ℕ)) (begun : W) (n : ℕ) → IsErr result
-        → AreRead (J.says judge.now) (J.told judge.now) W.saw fed (F.remaining feed.old)
+        → AreRead (J.says judge.now) (J.recorded judge.now) W.saw fed (F.remaining feed.old)
         put (S.written sink.old) begun watch.old answered.old n
-        → FrontAnswered (J.says judge.now) (told_lines (J.told judge.now)) fed (F.remaining feed.new)
+        → FrontAnswered (J.says judge.now) (recorded_lines (J.recorded judge.now)) fed (F.remaining feed.new)
         put (S.written sink.new) }
     ensures no_memory { (fed put : Option (List ℕ)) (begun : W) (n : ℕ) → result ≡ Err NoMemory
-        → AreRead (J.says judge.now) (J.told judge.now) W.saw fed (F.remaining feed.old)
+        → AreRead (J.says judge.now) (J.recorded judge.now) W.saw fed (F.remaining feed.old)
         put (S.written sink.old) begun watch.old answered.old n
-        → LinesAnswered (J.says judge.now) (told_lines (J.told judge.now)) fed (F.remaining feed.new)
+        → LinesAnswered (J.says judge.now) (recorded_lines (J.recorded judge.now)) fed (F.remaining feed.new)
         put (S.written sink.new) }
     ensures counted { result ≢ Err Endless }
 {

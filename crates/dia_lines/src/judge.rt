@@ -13,7 +13,7 @@ pub trait Judge {
     ghost says: { Self → AnyInput → Self.Verdict → Type 0 };
 
     // The text for a verdict on the line of this number.
-    ghost told: { Self → ℕ → Self.Verdict → List ℕ };
+    ghost recorded: { Self → ℕ → Self.Verdict → List ℕ };
 
     /// The verdict on the line of this number. Its text is added to another. What the space holds means nothing: it is memory
     /// that is used again for the next line.
@@ -26,5 +26,5 @@ pub trait Judge {
         text: &mut String,
     ) -> Result<Self::Verdict, AllocError>
         ensures { IfOk result (λ verdict. says self.now line.now verdict
-            × (string_bytes text.new ≡ string_bytes text.old ++ told self.now number verdict)) };
+            × (string_bytes text.new ≡ string_bytes text.old ++ recorded self.now number verdict)) };
 }

@@ -1,7 +1,7 @@
 //! What holds of the answers of every judge.
 
 ghost use Rattle.dia_lines.specs.FeedToSink.{FrontIsBeginning};
-ghost use Rattle.dia_lines.specs.Lines.{LineHasOneAnswer, TextHasOneAnswer, told_lines};
+ghost use Rattle.dia_lines.specs.Lines.{LineHasOneAnswer, TextHasOneAnswer, recorded_lines};
 
 use crate::judge::Judge;
 
@@ -13,5 +13,5 @@ pub fn text_has_one_answer<J: Judge>(judge: &J)
 /// Where each line has one verdict, a call that fails has put a prefix of the text.
 pub fn front_is_beginning<J: Judge>(judge: &J)
     ensures { LineHasOneAnswer (J.says judge.now)
-        → FrontIsBeginning (J.says judge.now) (told_lines (J.told judge.now)) }
+        → FrontIsBeginning (J.says judge.now) (recorded_lines (J.recorded judge.now)) }
 {}

@@ -7,7 +7,7 @@ use Rattle.dia_dict.specs.Dictionary.{Dictionary}
 use Rattle.dia_dict.specs.declared.IndexedBook.{IndexedBook}
 use Rattle.dia_report.specs.declared.refusing.Refused.TheVariants.{Bad}
 use Rattle.dia_report.specs.declared.bad_input.BadInput.{BadInput}
-use Rattle.dia_report.specs.Refusals.{TellsOf, bad_input_text}
+use Rattle.dia_report.specs.Refusals.{RecordsOf, bad_input_text}
 use Rattle.dia_report.specs.Refusals.{dictionary_line}
 use Rattle.dia_run.specs.Report.{IsReadFrom}
 use Rattle.dia_run.specs.Texts.{line, IsDictionaryText, IsNoDictionaryText}
@@ -16,10 +16,10 @@ use Rattle.dia_make.specs.declared.reporting.BadText.{BadText}
 use Rattle.dia_make.specs.declared.reporting.RefusedText.{RefusedText}
 use Rattle.dia_make.specs.declared.reporting.Report.{Report}
 use Rattle.dia_make.specs.declared.reporting.Report.TheVariants as reports
-use Rattle.dia_make.specs.Reports.{IsTold, HasReport, IsReadBy}
+use Rattle.dia_make.specs.Reports.{IsRecorded, HasReport, IsReadBy}
 use Rattle.dia_make.specs.Outcome.{IsMakeOutcome, MakesNone, refused as is_refused, no_dictionary, text_line}
 
-pub refused : {E : Type 0} (inputs : Inputs) (why : BadInput) (r : Result Answered E) → TellsOf (λ told. (w : List ℕ) × IsNoDictionaryText inputs.first w × (told ≡ dictionary_line 1 w)) (Bad why)
+pub refused : {E : Type 0} (inputs : Inputs) (why : BadInput) (r : Result Answered E) → RecordsOf (λ recorded. (w : List ℕ) × IsNoDictionaryText inputs.first w × (recorded ≡ dictionary_line 1 w)) (Bad why)
     → IfOk r (λ a. string_bytes a.text ≡ line (bad_input_text why)) → IfOk r (λ a. a.exit ≡ exits.Bad) → IfOk r (λ a. IsMakeOutcome inputs (string_bytes a.text) a.exit)
 refused inputs why (Ok a) (w, none, is) text exit = no_dictionary w none (text ∙ ap line is, exit)
 refused inputs why (Err e) h text exit = tt
@@ -33,27 +33,27 @@ not_made inputs d why (Err e) is_d none text exit = tt
 
 -- ---- reports
 
-with_report : (a : Answered) (report : Report) → a.report ≡ report → IsTold report (string_bytes a.text) a.exit → HasReport a
-with_report a report is told = subst (λ (r : Report). IsTold r (string_bytes a.text) a.exit) (sym is) told
+with_report : (a : Answered) (report : Report) → a.report ≡ report → IsRecorded report (string_bytes a.text) a.exit → HasReport a
+with_report a report is recorded = subst (λ (r : Report). IsRecorded r (string_bytes a.text) a.exit) (sym is) recorded
 
-pub told_refused : {E : Type 0} (why : BadInput) (r : Result Answered E) → IfOk r (λ a. string_bytes a.text ≡ line (bad_input_text why)) → IfOk r (λ a. a.exit ≡ exits.Bad)
+pub recorded_refused : {E : Type 0} (why : BadInput) (r : Result Answered E) → IfOk r (λ a. string_bytes a.text ≡ line (bad_input_text why)) → IfOk r (λ a. a.exit ≡ exits.Bad)
     → IfOk r (λ a. a.report ≡ reports.Refused why) → IfOk r HasReport
-told_refused why (Ok a) text exit report = with_report a (reports.Refused why) report (text, exit)
-told_refused why (Err e) text exit report = tt
+recorded_refused why (Ok a) text exit report = with_report a (reports.Refused why) report (text, exit)
+recorded_refused why (Err e) text exit report = tt
 
-pub told_text : {E : Type 0} (refused : RefusedText) (r : Result Answered E) → IfOk r (λ a. string_bytes a.text ≡ line (text_line refused.why)) → IfOk r (λ a. a.exit ≡ exits.Bad)
+pub recorded_text : {E : Type 0} (refused : RefusedText) (r : Result Answered E) → IfOk r (λ a. string_bytes a.text ≡ line (text_line refused.why)) → IfOk r (λ a. a.exit ≡ exits.Bad)
     → IfOk r (λ a. a.report ≡ reports.Text refused) → IfOk r HasReport
-told_text refused (Ok a) text exit report = with_report a (reports.Text refused) report (text, exit)
-told_text refused (Err e) text exit report = tt
+recorded_text refused (Ok a) text exit report = with_report a (reports.Text refused) report (text, exit)
+recorded_text refused (Err e) text exit report = tt
 
 -- it was read by this dictionary
-pub told_by : {E : Type 0} (meaning : IndexedBook → Dictionary) (inputs : Inputs) (refused : RefusedText) (r : Result Answered E) → IsReadFrom meaning inputs.first refused.first.value
+pub recorded_by : {E : Type 0} (meaning : IndexedBook → Dictionary) (inputs : Inputs) (refused : RefusedText) (r : Result Answered E) → IsReadFrom meaning inputs.first refused.first.value
     → IfOk r (λ a. a.report ≡ reports.Text refused) → IfOk r (λ a. IsReadBy meaning inputs a.report)
-told_by meaning inputs refused (Ok a) read report = subst (IsReadBy meaning inputs) (sym report) read
-told_by meaning inputs refused (Err e) read report = tt
+recorded_by meaning inputs refused (Ok a) read report = subst (IsReadBy meaning inputs) (sym report) read
+recorded_by meaning inputs refused (Err e) read report = tt
 
 -- an input that is refused has no such text
-pub told_other : {E : Type 0} (meaning : IndexedBook → Dictionary) (inputs : Inputs) (why : BadInput) (r : Result Answered E)
+pub recorded_other : {E : Type 0} (meaning : IndexedBook → Dictionary) (inputs : Inputs) (why : BadInput) (r : Result Answered E)
     → IfOk r (λ a. a.report ≡ reports.Refused why) → IfOk r (λ a. IsReadBy meaning inputs a.report)
-told_other meaning inputs why (Ok a) report = subst (IsReadBy meaning inputs) (sym report) tt
-told_other meaning inputs why (Err e) report = tt
+recorded_other meaning inputs why (Ok a) report = subst (IsReadBy meaning inputs) (sym report) tt
+recorded_other meaning inputs why (Err e) report = tt

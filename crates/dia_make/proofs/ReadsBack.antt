@@ -16,7 +16,7 @@ use Rattle.dia_text.specs.Lines.{PlainLine, Blank, Leaf, Open, Close, line_of, h
 use Rattle.dia_text.specs.Drafts.{Frame, Level}
 use Rattle.dia_text.specs.Made.{lines, made_lines, message_from, body_from, begin, step, finished, no_level, line_added, fault_in, fault_at, is_empty, has_word, digits_line, part_text, parts_text}
 use Rattle.dia_text.specs.LineTexts.{leaf_line, open_line, close_line, header_line}
-use Rattle.dia_text.specs.TextOf.{IsLevelText, end, leaf, group, IsTextOf, behind_data}
+use Rattle.dia_text.specs.TextOf.{IsLevelText, end, leaf, group, IsTextOf, after_data}
 use Rattle.dia_text.proofs.Bytes.{AreBytes, bytes_split, bytes_take, bytes_drop, parts_of, fields_of}
 use Rattle.dia_text.proofs.WordsBack.{HasNoFeed, lines_back}
 use Rattle.dia_text.proofs.HeadersBack.{header_back}
@@ -68,7 +68,7 @@ level_full d level ls sound (end none no_lines) bytes = subst (AllByRecursion Is
 level_full d level ls sound (leaf v front rest word more s parts no_group is_word text is_lines) bytes =
     let (here, there) = bytes_split front rest (subst AreBytes parts bytes) in
     let back = leaf_back d v front word sound (parts_of v front s here) is_word in
-    subst (AllByRecursion IsFull) (sym is_lines) ((back.feeds, line_some d (leaf_line d v word (behind_data v front)) _ back.reads refl), level_full d rest more sound text there)
+    subst (AllByRecursion IsFull) (sym is_lines) ((back.feeds, line_some d (leaf_line d v word (after_data v front)) _ back.reads refl), level_full d rest more sound text there)
 level_full d level ls sound (group v front rest members more s parts is_group inner text is_lines) bytes =
     let (here, there) = bytes_split front rest (subst AreBytes parts bytes) in
     let p = parts_of v front s here in

@@ -14,7 +14,7 @@ use Rattle.dia_text.specs.declared.writing.NotWritten.TheVariants.{Avps}
 use Rattle.dia_report.specs.declared.refusing.Refused.{Refused}
 use Rattle.dia_report.specs.declared.refusing.Refused.TheVariants.{Bad, NoMemory}
 use Rattle.dia_report.specs.declared.bad_input.BadInput.{BadInput}
-use Rattle.dia_report.specs.Refusals.{TellsOf, bad_input_text, dictionary_line}
+use Rattle.dia_report.specs.Refusals.{RecordsOf, bad_input_text, dictionary_line}
 use Rattle.dia_run.specs.Listing.{bad_length_line}
 use Rattle.dia_run.specs.Outcome.{ended, no_dictionary, no_message}
 use Rattle.dia_run.specs.Texts.{line, IsDictionaryText, IsNoDictionaryText, IsMessageText, IsNoMessageText}
@@ -39,10 +39,10 @@ avps_more [] v a b none s = subst (λ (t : List ℕ). SpellsAll (v ∷ []) (t ++
 avps_more (w ∷ vs) v a b (front, rest, t, parts, all) s =
     (front, rest ++ b, t, ap (λ (x : List ℕ). x ++ b) parts ∙ append_assoc front rest b, avps_more vs v rest b all s)
 
-pub read_more : (body rest behind : List ℕ) (v : PlainAvp) → IsReadTo body rest → BeginsWith v rest behind → IsReadTo body behind
-read_more body rest behind v r (front, s, parts) = record {
+pub read_more : (body rest following : List ℕ) (v : PlainAvp) → IsReadTo body rest → BeginsWith v rest following → IsReadTo body following
+read_more body rest following v r (front, s, parts) = record {
   front = r.front ++ front;
-  parts = r.parts ∙ ap (λ (x : List ℕ). r.front ++ x) parts ∙ sym (append_assoc r.front front behind);
+  parts = r.parts ∙ ap (λ (x : List ℕ). r.front ++ x) parts ∙ sym (append_assoc r.front front following);
   is_front = (r.is_front.0 ++ (v ∷ []), avps_more r.is_front.0 v r.front front r.is_front.1 s);
 }
 
@@ -52,11 +52,11 @@ read_all message (b ∷ rest) no_text r none = omega (arith, none)
 
 -- ---- what is answered
 
-pub gives_refused : (inputs : Inputs) (why : Refused) → TellsOf (λ told. (w : List ℕ) × IsNoDictionaryText inputs.first w × (told ≡ dictionary_line 1 w)) why → Gives (IsShowTextOutcome inputs) (Err why)
+pub gives_refused : (inputs : Inputs) (why : Refused) → RecordsOf (λ recorded. (w : List ℕ) × IsNoDictionaryText inputs.first w × (recorded ≡ dictionary_line 1 w)) why → Gives (IsShowTextOutcome inputs) (Err why)
 gives_refused inputs (Bad bad) (w, none, is) = no_dictionary w none (ap line is, refl)
 gives_refused inputs NoMemory h = tt
 
-pub gives_no_message : (inputs : Inputs) (d : Dictionary) (why : Refused) → IsDictionaryText inputs.first d → TellsOf (IsNoMessageText inputs.message) why → Gives (IsShowTextOutcome inputs) (Err why)
+pub gives_no_message : (inputs : Inputs) (d : Dictionary) (why : Refused) → IsDictionaryText inputs.first d → RecordsOf (IsNoMessageText inputs.message) why → Gives (IsShowTextOutcome inputs) (Err why)
 gives_no_message inputs d (Bad bad) is_d none = no_message d _ is_d none (refl, refl)
 gives_no_message inputs d NoMemory is_d h = tt
 
@@ -86,4 +86,4 @@ law s given text (ended d bytes is_d is_m (written is_text makes ends)) same hol
 law s given text (ended d bytes is_d is_m (cut place begins is_cut is_line ends)) same holds = absurd (let e : exits.Yes ≡ exits.No = ends in cc)
 law s given text (ended d bytes is_d is_m (bad_message why none (is_line, ends))) same holds = absurd (let e : exits.Yes ≡ exits.Bad = ends in cc)
 law s given text (no_dictionary why none (is_line, ends)) same holds = absurd (let e : exits.Yes ≡ exits.Bad = ends in cc)
-law s given text (no_message d told is_d none (is_line, ends)) same holds = absurd (let e : exits.Yes ≡ exits.Bad = ends in cc)
+law s given text (no_message d recorded is_d none (is_line, ends)) same holds = absurd (let e : exits.Yes ≡ exits.Bad = ends in cc)

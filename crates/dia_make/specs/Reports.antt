@@ -15,14 +15,14 @@ use Rattle.dia_make.specs.declared.reporting.Report.TheVariants.{Done, Refused, 
 use Rattle.dia_make.specs.Outcome.{text_line}
 
 -- each report ends otherwise than with Yes, but for the one that has nothing to tell
-abbrev pub IsTold : Report → List ℕ → Exit → Type 0
-IsTold Done text exit = exit ≡ Yes
-IsTold (Refused bad) text exit = Refuses (bad_input_text bad) text exit
-IsTold (Text refused) text exit = Refuses (text_line refused.why) text exit
-IsTold (Cut place) text exit = (text ≡ bad_length_line place) × (exit ≡ No)
+abbrev pub IsRecorded : Report → List ℕ → Exit → Type 0
+IsRecorded Done text exit = exit ≡ Yes
+IsRecorded (Refused bad) text exit = Refuses (bad_input_text bad) text exit
+IsRecorded (Text refused) text exit = Refuses (text_line refused.why) text exit
+IsRecorded (Cut place) text exit = (text ≡ bad_length_line place) × (exit ≡ No)
 
 abbrev pub HasReport : Answered → Type 0
-HasReport answered = IsTold answered.report (string_bytes answered.text) answered.exit
+HasReport answered = IsRecorded answered.report (string_bytes answered.text) answered.exit
 
 -- a text that is refused was read by the dictionary that the first input names
 abbrev pub IsReadBy : (IndexedBook → AnyDictionary) → Inputs → Report → Type 0

@@ -10,7 +10,7 @@ use Rattle.dia_dict.specs.Dictionary.{Dictionary}
 use Rattle.dia_text.specs.Made.{made_lines, digits_line}
 use Rattle.dia_text.specs.TextOf.{IsTextOf, IsNoMessage, AreAvps}
 use Rattle.dia_report.specs.declared.refusing.Refused.{Refused}
-use Rattle.dia_report.specs.Refusals.{TellsOf, message_fault_word}
+use Rattle.dia_report.specs.Refusals.{RecordsOf, message_fault_word}
 use Rattle.dia_run.specs.Listing.{bad_length_line}
 use Rattle.dia_run.specs.Outcome.{IsMessageOutcome, Refuses}
 use Rattle.dia_run.specs.Texts.{line}
@@ -41,4 +41,4 @@ IsShowTextOutcome inputs text exit = IsMessageOutcome IsTextShown inputs text ex
 -- what is answered has P, and so has the line of a refusal
 abbrev pub Gives : (List ℕ → Exit → Type 0) → Result Answered Refused → Type 0
 Gives P (Ok answered) = P (string_bytes answered.text) answered.exit
-Gives P (Err refused) = TellsOf (λ told. P (line told) Bad) refused
+Gives P (Err refused) = RecordsOf (λ recorded. P (line recorded) Bad) refused

@@ -7,7 +7,7 @@ ghost use Rattle.dia_io.specs.Writing.{AppendsFront};
 ghost use Rattle.dia_run.specs.Report.{IsReadFrom};
 ghost use Rattle.dia_run.specs.Texts.{line};
 ghost use Rattle.dia_make.specs.Outcome.{IsMakeOutcome, Makes, MakesNone, text_line};
-ghost use Rattle.dia_make.specs.Reports.{IsTold, HasReport, IsReadBy};
+ghost use Rattle.dia_make.specs.Reports.{IsRecorded, HasReport, IsReadBy};
 
 use crate::refusing::refuse;
 use crate::reporting::{Answered, BadText, RefusedText, Report, Reported};
@@ -26,7 +26,7 @@ use std::alloc::{AllocError, Global};
 pub fn make<S: Sink>(alloc: Global, inputs: &Inputs, sink: &mut S) -> Result<Reported, RunFault>
     requires { ¬ IsTrue (S.has_failed sink.old) }
     ensures text { IfOk result (λ reported. (text : List ℕ) × IsMakeOutcome inputs.now text reported.exit
-        × IsTold reported.report text reported.exit
+        × IsRecorded reported.report text reported.exit
         × Appends (S.written sink.old) (S.written sink.new) text) }
     // Of a text that is refused the report has the dictionary by which it was read.
     ensures read { IfOk result (λ reported. IsReadBy ⟦<IndexedBook as Book>⟧.meaning inputs.now reported.report) }
@@ -69,7 +69,7 @@ fn answer_by(alloc: Global, first: Box<ReadBook>, inputs: &Inputs) -> Result<Ans
             exit: Exit::Yes,
             report: Report::Done,
         }),
-        Err(why) => tell(alloc, RefusedText { first, why }),
+        Err(why) => deliver(alloc, RefusedText { first, why }),
     }
 }
 
@@ -93,7 +93,7 @@ fn made<B: Book>(
 }
 
 /// The answer of a text that is refused.
-fn tell(alloc: Global, refused: RefusedText) -> Result<Answered, AllocError>
+fn deliver(alloc: Global, refused: RefusedText) -> Result<Answered, AllocError>
     ensures text { IfOk result (λ answered. string_bytes answered.text ≡ line (text_line refused.why)) }
     ensures exit { IfOk result (λ answered. answered.exit ≡ Exit.Bad) }
     ensures report { IfOk result (λ answered. answered.report ≡ Report.Text refused) }

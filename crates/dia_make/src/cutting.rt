@@ -14,7 +14,7 @@ pub(crate) fn cut_place(message: &[u8]) -> usize
     let mut rest = &message[HEADER_LENGTH..];
     loop {
         match next_avp(rest) {
-            Ok(Some((_, behind))) => rest = behind,
+            Ok(Some((_, following))) => rest = following,
             Ok(None) => unreachable!(),
             Err(AvpFault::Length) => return message.len() - rest.len(),
         }

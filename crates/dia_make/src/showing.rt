@@ -15,7 +15,7 @@ ghost use Rattle.dia_run.specs.Texts.{IsMessageText};
 ghost use Rattle.dia_run.specs.Listing.{bad_length_line};
 ghost use Rattle.dia_make.specs.Outcome.{IsMakeOutcome};
 ghost use Rattle.dia_make.specs.Shown.{IsShowTextOutcome, IsTextShown, IsCutAt, Gives};
-ghost use Rattle.dia_make.specs.Reports.{IsTold, HasReport};
+ghost use Rattle.dia_make.specs.Reports.{IsRecorded, HasReport};
 
 use crate::cutting::cut_place;
 use crate::refusing::refuse;
@@ -39,7 +39,7 @@ pub fn show_text<S: Sink>(
 ) -> Result<Reported, RunFault>
     requires { ¬ IsTrue (S.has_failed sink.old) }
     ensures text { IfOk result (λ reported. (text : List ℕ) × IsShowTextOutcome inputs.now text reported.exit
-        × IsTold reported.report text reported.exit
+        × IsRecorded reported.report text reported.exit
         × Appends (S.written sink.old) (S.written sink.new) text) }
     ensures shown { IfOk result (λ reported. reported.exit ≢ Exit.Bad
         → IsMessageText inputs.now.message shown.new.items) }

@@ -173,8 +173,8 @@ rules_of n = (definition n).rules
 abbrev Stand : ℕ → List PlainAvp → Type 0
 Stand n avps = Placed (rules_of n) (map key_of avps)
 
-pub cer_stands : (c : PlainConfig) → IsConfig c → Stand 4 (exchange c [])
-cer_stands c ok = record {
+pub cer_occurs : (c : PlainConfig) → IsConfig c → Stand 4 (exchange c [])
+cer_occurs c ok = record {
   rest = _;
   runs = refl;
   loose = all_may_stand (rules_of 4) refl refl (map key_of (exchange c []));
@@ -217,8 +217,8 @@ cer_stands c ok = record {
   );
 }
 
-pub cea_stands : (c : PlainConfig) (n : ℕ) → IsConfig c → Stand 5 (exchange c (avp32 268 n ∷ []))
-cea_stands c n ok =
+pub cea_occurs : (c : PlainConfig) (n : ℕ) → IsConfig c → Stand 5 (exchange c (avp32 268 n ∷ []))
+cea_occurs c n ok =
     let result = avp32 268 n ∷ [] in
     record {
       rest = _;
@@ -272,16 +272,16 @@ cea_stands c n ok =
       );
     }
 
-pub dwr_stands : (c : PlainConfig) → Stand 6 (watchdog c [])
-dwr_stands c = record {
+pub dwr_occurs : (c : PlainConfig) → Stand 6 (watchdog c [])
+dwr_occurs c = record {
   rest = _;
   runs = refl;
   loose = all_may_stand (rules_of 6) refl refl (map key_of (watchdog c []));
   counts = (watched_once c [] 264 refl refl, (watched_once c [] 296 refl refl, (watched_few c [] 278 refl, (free _, tt))));
 }
 
-pub dwa_stands : (c : PlainConfig) (n : ℕ) → Stand 7 (watchdog c (avp32 268 n ∷ []))
-dwa_stands c n =
+pub dwa_occurs : (c : PlainConfig) (n : ℕ) → Stand 7 (watchdog c (avp32 268 n ∷ []))
+dwa_occurs c n =
     let result = avp32 268 n ∷ [] in
     record {
       rest = _;
@@ -308,16 +308,16 @@ dwa_stands c n =
       );
     }
 
-pub dpr_stands : (c : PlainConfig) (cause : Cause) → Stand 8 (origin c ++ avp32 273 (cause_number cause) ∷ [])
-dpr_stands c cause = record {
+pub dpr_occurs : (c : PlainConfig) (cause : Cause) → Stand 8 (origin c ++ avp32 273 (cause_number cause) ∷ [])
+dpr_occurs c cause = record {
   rest = _;
   runs = refl;
   loose = all_may_stand (rules_of 8) refl refl (map key_of (origin c ++ avp32 273 (cause_number cause) ∷ []));
   counts = ((omega arith, omega arith), ((omega arith, omega arith), ((omega arith, omega arith), (free _, tt))));
 }
 
-pub dpa_stands : (c : PlainConfig) (n : ℕ) → Stand 9 (avp32 268 n ∷ origin c)
-dpa_stands c n = record {
+pub dpa_occurs : (c : PlainConfig) (n : ℕ) → Stand 9 (avp32 268 n ∷ origin c)
+dpa_occurs c n = record {
   rest = _;
   runs = refl;
   loose = all_may_stand (rules_of 9) refl refl (map key_of (avp32 268 n ∷ origin c));

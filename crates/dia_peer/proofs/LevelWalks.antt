@@ -13,7 +13,7 @@ use Rattle.dia_wire.specs.Wire.{PlainAvp, plain_avp, key_of, avp_length, Spells,
 use Rattle.dia_wire.proofs.Spelling.{opened, rounded-le, at_least_8, one_spelling}
 use Rattle.dia_peer.specs.declared.config.Kind.{Kind}
 use Rattle.dia_peer.specs.Core.{Pair, pair}
-use Rattle.dia_peer.specs.Incoming.{kind_of, named_by, SaidBy, NamesApplication, HasNumber, Tells, IsReadable, is_vendor_specific, is_result_code, IsResult, HasCode}
+use Rattle.dia_peer.specs.Incoming.{kind_of, named_by, SaidBy, NamesApplication, HasNumber, Records, IsReadable, is_vendor_specific, is_result_code, IsResult, HasCode}
 use Rattle.dia_peer.proofs.Sets.{IsIn}
 use Rattle.dia_peer.proofs.SpelledMessages.{one_list}
 
@@ -107,10 +107,10 @@ pub has_four : (v : PlainAvp) (kind : Kind) → Some kind ≡ kind_of (key_of v)
 has_four v kind is h = h (subst (λ (o : Option Kind). IsSome o) is refl)
 
 -- an AVP and those inside it
-pub tells_inside : (v : PlainAvp) (start mid now : Pair → Type 0) → true ≡ is_vendor_specific (key_of v) → ((p : Pair) → mid p ↔ (start p ⊎ NamesApplication v p))
+pub records_inside : (v : PlainAvp) (start mid now : Pair → Type 0) → true ≡ is_vendor_specific (key_of v) → ((p : Pair) → mid p ↔ (start p ⊎ NamesApplication v p))
     → ((inner : List PlainAvp) → SpellsAll inner v.bytes → AllByRecursion HasNumber inner → (p : Pair) → now p ↔ (mid p ⊎ SaidBy NamesApplication inner p)) → IsReadable v → (p : Pair)
-    → now p ↔ (start p ⊎ Tells v p)
-tells_inside v start mid now is first later readable p =
+    → now p ↔ (start p ⊎ Records v p)
+records_inside v start mid now is first later readable p =
     let (inner, all, are) = readable.1 (sym is) in
     let k = later inner all are p in (
       λ n. ⊎_elim (λ m. ⊎_elim (λ l. inl l) (λ r. inr (inl r)) ((first p).0 m)) (λ s. inr (inr (sym is, (inner, all, s)))) (k.0 n),
@@ -118,9 +118,9 @@ tells_inside v start mid now is first later readable p =
           (λ t. ⊎_elim (λ r. inl ((first p).1 (inr r))) (λ w. inr (subst (λ (l : List PlainAvp). SaidBy NamesApplication l p) (one_list w.1.0 inner v.bytes w.1.1 all) w.1.2)) t) h),
     )
 
-pub tells_none : (v : PlainAvp) (start now : Pair → Type 0) → false ≡ is_vendor_specific (key_of v)
-    → ((p : Pair) → now p ↔ (start p ⊎ NamesApplication v p)) → (p : Pair) → now p ↔ (start p ⊎ Tells v p)
-tells_none v start now is first p = (
+pub records_none : (v : PlainAvp) (start now : Pair → Type 0) → false ≡ is_vendor_specific (key_of v)
+    → ((p : Pair) → now p ↔ (start p ⊎ NamesApplication v p)) → (p : Pair) → now p ↔ (start p ⊎ Records v p)
+records_none v start now is first p = (
   λ n. ⊎_elim (λ l. inl l) (λ r. inr (inl r)) ((first p).0 n),
   λ h. (first p).1 (⊎_elim (λ l. inl l) (λ t. ⊎_elim (λ r. inr r) (λ w. absurd (let f : false ≡ true = is ∙ w.0 in cc)) t) h),
 )

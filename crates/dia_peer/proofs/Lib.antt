@@ -17,7 +17,7 @@ pub mod SentAvps
 pub mod ConfigFacts
 pub mod ApplicationNumbers
 pub mod LevelWalks
-pub mod ToldApplications
+pub mod RecordedApplications
 pub mod ResultCode
 pub mod KeptApplications
 pub mod OneResult

@@ -68,27 +68,27 @@ cea_same c state ids n m apps others result same = λ i. happens_in state c (Get
 -- ---- what a valid message is to a core
 
 -- by the E flag, whether the code is 257, the R flag, and whether the code is 280
-abbrev told : List ℕ → Bool → Bool → Bool → Bool → Ids → ℕ → List Pair → Received
-told b true true request watchdog ids result apps = Refusal ids
-told b true false request watchdog ids result apps = Other
-told b false true true watchdog ids result apps = Cer ids b apps
-told b false true false watchdog ids result apps = Cea ids result apps
-told b false false true true ids result apps = Dwr ids
-told b false false true false ids result apps = Dpr ids
-told b false false false true ids result apps = Dwa ids
-told b false false false false ids result apps = Dpa ids
+abbrev recorded : List ℕ → Bool → Bool → Bool → Bool → Ids → ℕ → List Pair → Received
+recorded b true true request watchdog ids result apps = Refusal ids
+recorded b true false request watchdog ids result apps = Other
+recorded b false true true watchdog ids result apps = Cer ids b apps
+recorded b false true false watchdog ids result apps = Cea ids result apps
+recorded b false false true true ids result apps = Dwr ids
+recorded b false false true false ids result apps = Dpr ids
+recorded b false false false true ids result apps = Dwa ids
+recorded b false false false false ids result apps = Dpa ids
 
-told_same : (c : PlainCore) (b : List ℕ) (error capabilities request watchdog : Bool) (ids : Ids) (n m : ℕ) (apps others : List Pair) → (error ≡ false → capabilities ≡ true → apps ≡ others)
+recorded_same : (c : PlainCore) (b : List ℕ) (error capabilities request watchdog : Bool) (ids : Ids) (n m : ℕ) (apps others : List Pair) → (error ≡ false → capabilities ≡ true → apps ≡ others)
     → (error ≡ false → capabilities ≡ true → request ≡ false → n ≡ m)
-    → happens c (Gets (told b error capabilities request watchdog ids n apps)) ≡ happens c (Gets (told b error capabilities request watchdog ids m others))
-told_same c b true true request watchdog ids n m apps others lists results = refl
-told_same c b true false request watchdog ids n m apps others lists results = refl
-told_same c b false true true watchdog ids n m apps others lists results = cer_same c c.state ids b apps others (lists refl refl)
-told_same c b false true false watchdog ids n m apps others lists results = cea_same c c.state ids n m apps others (results refl refl refl) (lists refl refl)
-told_same c b false false true true ids n m apps others lists results = refl
-told_same c b false false true false ids n m apps others lists results = refl
-told_same c b false false false true ids n m apps others lists results = refl
-told_same c b false false false false ids n m apps others lists results = refl
+    → happens c (Gets (recorded b error capabilities request watchdog ids n apps)) ≡ happens c (Gets (recorded b error capabilities request watchdog ids m others))
+recorded_same c b true true request watchdog ids n m apps others lists results = refl
+recorded_same c b true false request watchdog ids n m apps others lists results = refl
+recorded_same c b false true true watchdog ids n m apps others lists results = cer_same c c.state ids b apps others (lists refl refl)
+recorded_same c b false true false watchdog ids n m apps others lists results = cea_same c c.state ids n m apps others (results refl refl refl) (lists refl refl)
+recorded_same c b false false true true ids n m apps others lists results = refl
+recorded_same c b false false true false ids n m apps others lists results = refl
+recorded_same c b false false false true ids n m apps others lists results = refl
+recorded_same c b false false false false ids n m apps others lists results = refl
 
 record Reading (b : List ℕ) (what : Received) : Type 0 where
   code : ℕ
@@ -102,7 +102,7 @@ record Reading (b : List ℕ) (what : Received) : Type 0 where
   ours : IsOurCode code
   advertised : error ≡ false → (code == 257) ≡ true → AreAdvertised avps apps
   resulted : error ≡ false → (code == 257) ≡ true → request ≡ false → HasResult avps result
-  is : what ≡ told b error (code == 257) request (code == 280) ids result apps
+  is : what ≡ recorded b error (code == 257) request (code == 280) ids result apps
 
 reading_long : (b : List ℕ) (what : Received) → Reading b what → HasLength b (length b)
 reading_long b what r = has_length r.good.header r.avps b r.good.message
@@ -128,16 +128,16 @@ reading_same c b what again r s =
     let e2e : r.ids.e2e ≡ s.ids.e2e = sym g.ids_are.1 ∙ ap (λ (h : Header). h.e2e) one.0 ∙ k.ids_are.1 in
     let ids : r.ids ≡ s.ids = ids_same r.ids s.ids hop e2e in
     let is_code : (r.code == 257) ≡ (s.code == 257) = ap (λ (n : ℕ). n == 257) code in
-    let moved : happens c (Gets (told b r.error (r.code == 257) r.request (r.code == 280) r.ids r.result r.apps))
-    ≡ happens c (Gets (told b s.error (s.code == 257) s.request (s.code == 280) s.ids r.result r.apps)) =
-    λ i. happens c (Gets (told b (error i) (code i == 257) (request i) (code i == 280) (ids i) r.result r.apps)) in
+    let moved : happens c (Gets (recorded b r.error (r.code == 257) r.request (r.code == 280) r.ids r.result r.apps))
+    ≡ happens c (Gets (recorded b s.error (s.code == 257) s.request (s.code == 280) s.ids r.result r.apps)) =
+    λ i. happens c (Gets (recorded b (error i) (code i == 257) (request i) (code i == 280) (ids i) r.result r.apps)) in
     let lists : s.error ≡ false → (s.code == 257) ≡ true → r.apps ≡ s.apps =
     λ e t. one_list s.avps r.apps s.apps (subst (λ (vs : List PlainAvp). AreAdvertised vs r.apps) one.1 (r.advertised (error ∙ e) (is_code ∙ t))) (s.advertised e t) in
     let results : s.error ≡ false → (s.code == 257) ≡ true → s.request ≡ false → r.result ≡ s.result =
     λ e t q. one_result b s.code s.request s.error s.ids s.avps r.result s.result k (eq_same s.code 257 t) q e
     (subst (λ (vs : List PlainAvp). HasResult vs r.result) one.1 (r.resulted (error ∙ e) (is_code ∙ t) (request ∙ q))) (s.resulted e t q) in
     ap (λ (w : Received). happens c (Gets w)) r.is ∙ moved
-    ∙ told_same c b s.error (s.code == 257) s.request (s.code == 280) s.ids r.result s.result r.apps s.apps lists results
+    ∙ recorded_same c b s.error (s.code == 257) s.request (s.code == 280) s.ids r.result s.result r.apps s.apps lists results
     ∙ sym (ap (λ (w : Received). happens c (Gets w)) s.is)
 
 -- ---- what bytes are to a core
@@ -150,7 +150,7 @@ data Status (b : List ℕ) (what : Received) : Type 0 where
 
 -- a valid message that names no applications
 simple : (b : List ℕ) (what : Received) (code : ℕ) (request error : Bool) (ids : Ids) (avps : List PlainAvp) → IsGood b code request error ids avps → IsOurCode code
-    → (error ≡ false → (code == 257) ≡ true → ⊥) → what ≡ told b error (code == 257) request (code == 280) ids 0 [] → Status b what
+    → (error ≡ false → (code == 257) ≡ true → ⊥) → what ≡ recorded b error (code == 257) request (code == 280) ids 0 [] → Status b what
 simple b what code request error ids avps g ours none is = is_good (record {
   code = code;
   request = request;

@@ -11,7 +11,7 @@ use Rattle.dia_valid.specs.Valid.{IsValid, HasR, HasE, HasT, class_of, AllowsP, 
 use Rattle.dia_peer.specs.declared.kept_requests.Ids.{Ids}
 use Rattle.dia_peer.specs.Core.{PlainConfig, IsConfig, Sent}
 use Rattle.dia_peer.specs.Messages.{header_of, IsOurs, is_cer, is_cea, is_dwr, is_dwa, is_dpr, is_dpa}
-use Rattle.dia_peer.proofs.AvpCounts.{definition, cer_stands, cea_stands, dwr_stands, dwa_stands, dpr_stands, dpa_stands}
+use Rattle.dia_peer.proofs.AvpCounts.{definition, cer_occurs, cea_occurs, dwr_occurs, dwa_occurs, dpr_occurs, dpa_occurs}
 use Rattle.dia_peer.proofs.OurAvps.{each_fits}
 use Rattle.dia_peer.proofs.SentAvps.{all_ours}
 
@@ -40,9 +40,9 @@ pub ours_are_valid : (c : PlainConfig) (m : Sent) (bytes : List ℕ) → IsConfi
 ours_are_valid c m bytes ok ours message = by m ours (all_ours (Fits base Kept 1) c (each_fits c ok) ok.addresses.2 m ours) message
   where
     by : (m : Sent) → IsOurs c m → AllByRecursion (Fits base Kept 1) m.avps → IsMessage m.header m.avps bytes → IsValid base Kept Any bytes
-    by m (is_cer ids) fit message = is_valid 4 128 257 ids _ bytes (λ r e. e refl) (λ t. absurd (t refl)) refl refl (λ p. p refl) (cer_stands c ok) fit message
-    by m (is_cea ids n) fit message = is_valid 5 0 257 ids _ bytes (λ r e. e refl) (λ t. absurd (t refl)) refl refl (λ p. p refl) (cea_stands c n ok) fit message
-    by m (is_dwr ids) fit message = is_valid 6 128 280 ids _ bytes (λ r e. e refl) (λ t. absurd (t refl)) refl refl (λ p. p refl) (dwr_stands c) fit message
-    by m (is_dwa ids) fit message = is_valid 7 0 280 ids _ bytes (λ r e. e refl) (λ t. absurd (t refl)) refl refl (λ p. p refl) (dwa_stands c 2001) fit message
-    by m (is_dpr ids cause) fit message = is_valid 8 128 282 ids _ bytes (λ r e. e refl) (λ t. absurd (t refl)) refl refl (λ p. p refl) (dpr_stands c cause) fit message
-    by m (is_dpa ids) fit message = is_valid 9 0 282 ids _ bytes (λ r e. e refl) (λ t. absurd (t refl)) refl refl (λ p. p refl) (dpa_stands c 2001) fit message
+    by m (is_cer ids) fit message = is_valid 4 128 257 ids _ bytes (λ r e. e refl) (λ t. absurd (t refl)) refl refl (λ p. p refl) (cer_occurs c ok) fit message
+    by m (is_cea ids n) fit message = is_valid 5 0 257 ids _ bytes (λ r e. e refl) (λ t. absurd (t refl)) refl refl (λ p. p refl) (cea_occurs c n ok) fit message
+    by m (is_dwr ids) fit message = is_valid 6 128 280 ids _ bytes (λ r e. e refl) (λ t. absurd (t refl)) refl refl (λ p. p refl) (dwr_occurs c) fit message
+    by m (is_dwa ids) fit message = is_valid 7 0 280 ids _ bytes (λ r e. e refl) (λ t. absurd (t refl)) refl refl (λ p. p refl) (dwa_occurs c 2001) fit message
+    by m (is_dpr ids cause) fit message = is_valid 8 128 282 ids _ bytes (λ r e. e refl) (λ t. absurd (t refl)) refl refl (λ p. p refl) (dpr_occurs c cause) fit message
+    by m (is_dpa ids) fit message = is_valid 9 0 282 ids _ bytes (λ r e. e refl) (λ t. absurd (t refl)) refl refl (λ p. p refl) (dpa_occurs c 2001) fit message

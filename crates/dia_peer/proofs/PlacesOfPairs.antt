@@ -18,22 +18,22 @@ or_length n len h =
     cond_both (nat_lt n len) (Some n) None (λ (o : Option ℕ). unwrap_or o len ≡ n) (λ t. refl) (λ f. (let g : len ≤ n = ltb-false n len f in omega (arith, h, g)))
 
 module _ (x : Kind × ℕ) where
-  abbrev behind : Kind × ℕ → Bool
-  behind other = comes_before (the_pair x) (the_pair other)
+  abbrev following : Kind × ℕ → Bool
+  following other = comes_before (the_pair x) (the_pair other)
 
   put_before : (b : Bool) (y : Kind × ℕ) (ys : List (Kind × ℕ)) (n : ℕ) (more : List Pair) → pairs_of (insert ys n x) ≡ more
       → pairs_of (insert (y ∷ ys) (cond (not b) (1 + n) 0) x) ≡ cond b (the_pair x ∷ the_pair y ∷ pairs_of ys) (the_pair y ∷ more)
   put_before true y ys n more e = refl
   put_before false y ys n more e = rw (add_comm 1 n, add-one) (λ i. the_pair y ∷ e i)
 
-  put : (items : List (Kind × ℕ)) → pairs_of (insert items (position_or_len behind items) x) ≡ insert_pair (the_pair x) (pairs_of items)
+  put : (items : List (Kind × ℕ)) → pairs_of (insert items (position_or_len following items) x) ≡ insert_pair (the_pair x) (pairs_of items)
   put [] = refl
-  put (y ∷ ys) = put_before (behind y) y ys (position_or_len behind ys) (insert_pair (the_pair x) (pairs_of ys)) (put ys)
+  put (y ∷ ys) = put_before (following y) y ys (position_or_len following ys) (insert_pair (the_pair x) (pairs_of ys)) (put ys)
 
   -- a pair that is put before the first that follows it, or at the end
-  pub put_in_place : (items : List (Kind × ℕ)) → pairs_of (insert items (unwrap_or (position behind items) (length items)) x) ≡ insert_pair (the_pair x) (pairs_of items)
+  pub put_in_place : (items : List (Kind × ℕ)) → pairs_of (insert items (unwrap_or (position following items) (length items)) x) ≡ insert_pair (the_pair x) (pairs_of items)
   put_in_place items =
-      ap (λ (n : ℕ). pairs_of (insert items n x)) (or_length (position_or_len behind items) (length items) (prefix_len-le-length (λ y. not (behind y)) items)) ∙ put items
+      ap (λ (n : ℕ). pairs_of (insert items n x)) (or_length (position_or_len following items) (length items) (prefix_len-le-length (λ y. not (following y)) items)) ∙ put items
 
 -- ---- pairs that occur once
 

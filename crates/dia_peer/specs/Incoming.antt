@@ -56,8 +56,8 @@ abbrev pub is_vendor_specific : Key → Bool
 is_vendor_specific key = (key.code == VENDOR_SPECIFIC_APPLICATION_ID) && (key.vendor == 0)
 
 -- the AVP names the application, or one directly inside it does
-abbrev pub Tells : PlainAvp → Pair → Type 0
-Tells v p = NamesApplication v p ⊎ (IsTrue (is_vendor_specific (key_of v)) × ((inner : List PlainAvp) × SpellsAll inner v.bytes × SaidBy NamesApplication inner p))
+abbrev pub Records : PlainAvp → Pair → Type 0
+Records v p = NamesApplication v p ⊎ (IsTrue (is_vendor_specific (key_of v)) × ((inner : List PlainAvp) × SpellsAll inner v.bytes × SaidBy NamesApplication inner p))
 
 abbrev pub IsReadable : PlainAvp → Type 0
 IsReadable v = HasNumber v × (IsTrue (is_vendor_specific (key_of v)) → (inner : List PlainAvp) × SpellsAll inner v.bytes × AllByRecursion HasNumber inner)

@@ -56,7 +56,7 @@ pub(crate) fn are_distinct(apps: &[App]) -> bool
     ensures { IsTrue result ↔ AreDistinct apps.now }
 {
     for place in 0..apps.len() {
-        if stands_again(apps, place) {
+        if occurs_again(apps, place) {
             return false;
         }
     }
@@ -64,7 +64,7 @@ pub(crate) fn are_distinct(apps: &[App]) -> bool
 }
 
 /// Whether an application after the one at a place is of its kind and number.
-fn stands_again(apps: &[App], place: usize) -> bool
+fn occurs_again(apps: &[App], place: usize) -> bool
     requires { place < length apps.now }
     ensures { (app : AnyApp) → slice_get apps.now place ≡ Some app
         → result ≡ list_any (λ other. same_pair (pair_of app) (pair_of other))

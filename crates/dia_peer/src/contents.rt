@@ -9,7 +9,7 @@ ghost use Rattle.dia_peer.specs.Incoming.{
   HasNumber,
   NamesApplication,
   SaidBy,
-  Tells,
+  Records,
   IsReadable,
   IsResult,
   HasCode,
@@ -32,15 +32,15 @@ use std::alloc::{AllocError, Global};
 ///
 /// Each is put into an ordered set: a body of n AVPs takes n times log n steps.
 pub(crate) fn named_in(alloc: Global, body: &[u8]) -> Result<NamedApps, AllocError>
-    ensures told { IfOk result
+    ensures recorded { IfOk result
         (λ named. (avps : List PlainAvp) → SpellsAll avps body.now → AllByRecursion IsReadable avps
-        → (p : Pair) → Has named p ↔ SaidBy Tells avps p) }
+        → (p : Pair) → Has named p ↔ SaidBy Records avps p) }
     ensures ordered { IfOk result (λ named. IsTrue (are_in_order (pairs_named named))) }
 {
     let mut named = NamedApps::new(alloc);
     for found in Avps::new(body) {
         let Ok(avp) = found else { break };
-        add_told(&mut named, &avp)?;
+        add_recorded(&mut named, &avp)?;
     }
     named.know_their_order();
     Ok(named)
@@ -61,10 +61,10 @@ pub(crate) fn result_code(body: &[u8]) -> Option<u32>
 }
 
 /// Adds the application that an AVP names, and those that are directly inside it.
-fn add_told(named: &mut NamedApps, avp: &Avp<'_>) -> Result<(), AllocError>
+fn add_recorded(named: &mut NamedApps, avp: &Avp<'_>) -> Result<(), AllocError>
     ensures { OnOk result
         (IsReadable (plain_avp avp.now) → (p : Pair) → Has named.new p
-        ↔ (Has named.old p ⊎ Tells (plain_avp avp.now) p)) }
+        ↔ (Has named.old p ⊎ Records (plain_avp avp.now) p)) }
 {
     add_named(named, avp)?;
     if is_vendor_specific(key(avp)) {

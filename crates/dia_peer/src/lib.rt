@@ -1,7 +1,7 @@
 //! One connection between two Diameter nodes, without sockets and clocks (RFC 6733 section 5).
 //!
 //! A `Core` is one end. `step` passes it an event, and answers the messages that are to be sent, and whether the
-//! connection is to be closed. Two ends, where `told` gives an event to a core and collects the messages that it sends,
+//! connection is to be closed. Two ends, where `recorded` gives an event to a core and collects the messages that it sends,
 //! `delivered` does so for each message of a queue, and `exchanged` delivers in both directions:
 //!
 //! ```text

@@ -32,7 +32,7 @@ module _ (command : MessageCommand) (is_well : (ended : Ended) (exit : Exit) →
   of_all read text fed exit consumed to_end (answered answers none are is_text is_exit) =
       Consumes-whole (Some bytes) fed read (λ (b : List ℕ). IsLinesOutcome command inputs b text exit) consumed (to_end (is_well _ exit is_exit))
       (answered answers none are is_text is_exit)
-  of_all read text fed exit consumed to_end (refused told is refuses) = refused told is refuses
+  of_all read text fed exit consumed to_end (refused recorded is refuses) = refused recorded is refuses
 
   lines_of_bytes : (feed : Fed) (out : Stream) (exit : Exit) → feed.old ≡ Some bytes → AreLinesAnswered command inputs feed.old feed.new out.old out.new exit
       → IsReadOut feed exit → Writes (IsLinesOutcome command inputs bytes) out exit
@@ -65,7 +65,7 @@ module _ (names : Bool) (inputs : Inputs) (bytes : List ℕ) where
   all_shown read text fed exit consumed to_end (shown answers none are is_text is_exit) =
       Consumes-whole (Some bytes) fed read (λ (b : List ℕ). AreLinesOutcome names inputs b text exit) consumed (to_end (ends_well (each_whole answers) exit is_exit))
       (shown answers none are is_text is_exit)
-  all_shown read text fed exit consumed to_end (show.refused told is refuses) = show.refused told is refuses
+  all_shown read text fed exit consumed to_end (show.refused recorded is refuses) = show.refused recorded is refuses
 
   shown_of_bytes : (feed : Fed) (out : Stream) (exit : Exit) → feed.old ≡ Some bytes → AreLinesShown names inputs feed.old feed.new out.old out.new exit
       → IsReadOut feed exit → Writes (AreLinesOutcome names inputs bytes) out exit

@@ -12,7 +12,7 @@ use Rattle.dia_run.specs.Inclusion.{ShowsInclusion, TextsInclude}
 use Rattle.dia_run.specs.Outcome.{compared, ended}
 use Rattle.dia_run.specs.Texts.{line}
 use Rattle.dia_run.proofs.YesShowsInclusion.{shows_inclusion}
-use Rattle.dia_refused_json.specs.Telling.{RefusedDictionaries}
+use Rattle.dia_refused_json.specs.Recording.{RefusedDictionaries}
 use Rattle.dia_compared_json.specs.Compared.{IsCompareJson}
 use Rattle.dia_upgrades.specs.declared.asked.Asked.{Asked}
 use Rattle.dia_upgrades.specs.Outcome.{AreRefused, IsBreakingOutcome, bad_first, bad_second}
@@ -36,16 +36,16 @@ use Rattle.dia_program.specs.Program.{RequestEnds, TaskEnds, done, unread}
 -- ---- `compare`
 
 refused_badly : (inputs : Inputs) (text : List ℕ) (exit : Exit) → RefusedDictionaries inputs text exit → exit ≡ Bad
-refused_badly inputs text exit (inl (bad, found, told, is_text, is_exit)) = is_exit
-refused_badly inputs text exit (inr (bad, found, told, is_text, is_exit)) = is_exit
+refused_badly inputs text exit (inl (bad, found, recorded, is_text, is_exit)) = is_exit
+refused_badly inputs text exit (inr (bad, found, recorded, is_text, is_exit)) = is_exit
 
 json_includes : (u : Unknown) (inputs : Inputs) (text : List ℕ) (exit : Exit) → IsCompareJson u inputs text exit → exit ≡ Yes → TextsInclude u inputs
-json_includes u inputs text exit (inl (a, b, table, is_a, is_b, is_table, (answer.Yes, closed, told))) is_yes =
+json_includes u inputs text exit (inl (a, b, table, is_a, is_b, is_table, (answer.Yes, closed, recorded))) is_yes =
     shows_inclusion (command.Compare u) inputs (line (codes "yes")) Yes (ended a b is_a is_b (compared table answer.Yes is_table closed (refl, refl))) refl
-json_includes u inputs text exit (inl (a, b, table, is_a, is_b, is_table, (answer.No kind place test, closed, told))) is_yes =
-    absurd (let e : No ≡ Yes = sym told.is_exit ∙ is_yes in cc)
+json_includes u inputs text exit (inl (a, b, table, is_a, is_b, is_table, (answer.No kind place test, closed, recorded))) is_yes =
+    absurd (let e : No ≡ Yes = sym recorded.is_exit ∙ is_yes in cc)
 json_includes u inputs text exit (inr (inl refused)) is_yes = absurd (let e : Bad ≡ Yes = sym (refused_badly inputs text exit refused) ∙ is_yes in cc)
-json_includes u inputs text exit (inr (inr (bad, told, is_text, is_exit))) is_yes = absurd (let e : Bad ≡ Yes = sym is_exit ∙ is_yes in cc)
+json_includes u inputs text exit (inr (inr (bad, recorded, is_text, is_exit))) is_yes = absurd (let e : Bad ≡ Yes = sym is_exit ∙ is_yes in cc)
 
 whole_says : (json : Bool) (table : Origin) (c : Command) (inputs : Inputs) (text : List ℕ) (exit : Exit) → IsAnswer json table c inputs text exit → ShowsInclusion c inputs exit
 whole_says true table (command.Compare u) inputs text exit is = json_includes u inputs text exit is

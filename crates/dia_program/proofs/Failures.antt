@@ -9,7 +9,7 @@ use Rattle.std.specs.IoError.{error_kind}
 use Rattle.std.specs.declared.io.Error.{Error}
 use Rattle.std.specs.declared.io.ErrorKind.{ErrorKind}
 use Rattle.std.specs.declared.io.ErrorKind.TheVariants.{OutOfMemory, InvalidData}
-use Rattle.dia_cli.specs.Ending.{EndsWith, IsDevice, IsEndingOfIo, IsShown, IsTold, ShowsHelp, Stream, device, no_memory, shown, told}
+use Rattle.dia_cli.specs.Ending.{EndsWith, IsDevice, IsEndingOfIo, IsShown, IsRecorded, ShowsHelp, Stream, device, no_memory, shown, recorded}
 use Rattle.dia_cli.specs.OpenedInputs.{IsFaultOf, IsUnread}
 use Rattle.dia_cli.specs.declared.ending.Ending.{Ending}
 use Rattle.dia_cli.specs.declared.ending.Ending.TheVariants as ending
@@ -92,8 +92,8 @@ ends_with_3 (ending.Device name error) status failed ends = ends
 ends_with_3 ending.NoMemory status failed ends = ends
 ends_with_3 made status failed ends = absurd failed
 
-pub failed_with_3 : (made : Ending) (err : Stream) (status : ℕ) → IsFailed made → IsTold made err status → status ≡ 3
-failed_with_3 made err status failed (told live ends text) = ends_with_3 made status failed ends
+pub failed_with_3 : (made : Ending) (err : Stream) (status : ℕ) → IsFailed made → IsRecorded made err status → status ≡ 3
+failed_with_3 made err status failed (recorded live ends text) = ends_with_3 made status failed ends
 failed_with_3 made err status failed (no_memory live foreign is text) = is
 failed_with_3 made err status failed (device broken is) = is
 
@@ -104,7 +104,7 @@ quiet_shown out err P Q status f (device name why broken is_name is) = device na
 
 -- words that ask for nothing to run
 pub refusal_of : (made : Ending) (out err : Stream) (P Q : Type 0) (status : ℕ) → (P → IsUntouched out) → (Q → IsUntouched err)
-    → (¬ ShowsHelp made → P × IsTold made err status) → (ShowsHelp made → IsShown out err Q status) → Refuses made (streams out err) status
+    → (¬ ShowsHelp made → P × IsRecorded made err status) → (ShowsHelp made → IsShown out err Q status) → Refuses made (streams out err) status
 refusal_of made out err P Q status f h refusal help = record {
   help = λ asked. quiet_shown out err Q (IsUntouched err) status h (help asked);
   refusal = λ other. let (same, is) = refusal other in (f same, is);

@@ -7,7 +7,7 @@ use Rattle.dia_io.specs.declared.Exit.{Exit}
 use Rattle.dia_io.specs.declared.Inputs.{Inputs}
 use Rattle.dia_report.specs.declared.reporting.Reported.{Reported}
 use Rattle.dia_cli.specs.Asking.{IsAskedBy, IsRefused}
-use Rattle.dia_cli.specs.Ending.{Stream, IsAdvised, IsShown, IsTold, ShowsHelp}
+use Rattle.dia_cli.specs.Ending.{Stream, IsAdvised, IsShown, IsRecorded, ShowsHelp}
 use Rattle.dia_cli.specs.OpenedInputs.{IsAnyUnread, IsReadOf}
 use Rattle.dia_cli.specs.Origins.{reads_twice}
 use Rattle.dia_cli.specs.declared.ending.Ending.{Ending}
@@ -58,12 +58,12 @@ IsUnread made = ⊥
 pub record Fails (made : Ending) (err : Stream) (status : ℕ) : Type 0 where
   pub is_3 : status ≡ 3
   pub quiet : IsUnread made → IsUntouched err
-  pub told : ¬ IsUnread made → IsTold made err status
+  pub recorded : ¬ IsUnread made → IsRecorded made err status
 
 -- there is no request: the words ask for help or the version, which is shown, or they are refused, and standard error says why
 pub record Refuses (made : Ending) (s : Streams) (status : ℕ) : Type 0 where
   pub help : ShowsHelp made → IsShown s.out s.err (IsUntouched s.err) status
-  pub refusal : ¬ ShowsHelp made → IsUntouched s.out × IsTold made s.err status
+  pub refusal : ¬ ShowsHelp made → IsUntouched s.out × IsRecorded made s.err status
 
 -- the words: what they ask for was answered, with the status of its exit, or failed; or they ask for nothing
 pub data IsProgramOutcome (words : List (List ℕ)) (w : World) (s : Streams) (status : ℕ) : Type 0 where
@@ -77,4 +77,4 @@ pub data IsProgramOutcome (words : List (List ℕ)) (w : World) (s : Streams) (s
 -- of the process: some words, or they can't be read
 pub data IsProcessOutcome (w : World) (s : Streams) (status : ℕ) : Type 0 where
   run : (words : List (List ℕ)) → IsProgramOutcome words w s status → IsProcessOutcome w s status
-  unread : (made : Ending) → ¬ ShowsHelp made → IsUntouched s.out → IsTold made s.err status → IsProcessOutcome w s status
+  unread : (made : Ending) → ¬ ShowsHelp made → IsUntouched s.out → IsRecorded made s.err status → IsProcessOutcome w s status

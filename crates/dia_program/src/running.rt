@@ -8,7 +8,7 @@ ghost use Rattle.dia_program.specs.Program.{Fails, IsFailed, IsProcessOutcome, I
 use crate::advice::{is_unread, means_base};
 use crate::built::version;
 use crate::performing::answer;
-use dia_cli::{BASE_DICTIONARY, Ending, Opener, advised, finish, parse_words, tell_error};
+use dia_cli::{BASE_DICTIONARY, Ending, Opener, advised, finish, parse_words, report_error};
 use dia_io::{Sink, ToWriter};
 use std::alloc::Global;
 use std::env;
@@ -40,7 +40,7 @@ where
 {
     match read_words(rt) {
         Ok((version, words)) => run(rt, opener, &version, words.as_slice(), out, err),
-        Err(ending) => tell_error(rt.alloc(), &ending, err),
+        Err(ending) => report_error(rt.alloc(), &ending, err),
     }
 }
 
@@ -81,14 +81,14 @@ where
     match parse_words(rt.alloc(), version, words) {
         Ok(request) => match answer(rt, opener, &request, out) {
             Ok(exit) => exit.status(),
-            Err(ending) => tell_failure(rt, request.quiet, &ending, err),
+            Err(ending) => report_failure(rt, request.quiet, &ending, err),
         },
-        Err(ending) => tell_refusal(rt.alloc(), advised(rt.alloc(), words, ending), out, err),
+        Err(ending) => report_refusal(rt.alloc(), advised(rt.alloc(), words, ending), out, err),
     }
 }
 
 /// Reports why a request has no answer, but silently where standard output is a pipe that nobody reads, and answers the status.
-fn tell_failure<R, E>(rt: &R, quiet: bool, ending: &Ending<'_>, err: &mut ToWriter<E>) -> u8
+fn report_failure<R, E>(rt: &R, quiet: bool, ending: &Ending<'_>, err: &mut ToWriter<E>) -> u8
 where
     R: AllocGlobal + Eprint,
     E: Write,
@@ -101,7 +101,7 @@ where
     if is_unread(ending) {
         return FAILED;
     }
-    let status = tell_error(rt.alloc(), ending, err);
+    let status = report_error(rt.alloc(), ending, err);
     if !quiet && means_base(ending) {
         let _ = eprint!(rt; "hint: did you mean {BASE_DICTIONARY}?\n");
     }
@@ -109,7 +109,7 @@ where
 }
 
 /// Shows help or the version, or reports why the words are refused, and answers the status.
-fn tell_refusal<W: Write, E: Write>(
+fn report_refusal<W: Write, E: Write>(
     alloc: Global,
     ending: Ending<'_>,
     out: &mut ToWriter<W>,

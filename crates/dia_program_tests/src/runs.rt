@@ -66,10 +66,10 @@ fn the_version_is_shown(rt: HostRuntime) -> Result<(), Fail> {
 
 #[test]
 fn what_is_no_request_ends_with_2(rt: HostRuntime) -> Result<(), Fail> {
-    let told =
+    let recorded =
         "error: '-' is given twice, and standard input can be read once: name a file for one of the two\n\n\
                 For more information, try '--help'.\n";
-    assert!(rt; ran(&rt, &shelf(), "diacmd check - -")?.is(2, "", told));
+    assert!(rt; ran(&rt, &shelf(), "diacmd check - -")?.is(2, "", recorded));
     assert!(rt; ran(&rt, &shelf(), "diacmd check")?.status == 2);
     let refused = ran(&rt, &shelf(), "diacmd check --quiet usage.hex usage.hex")?;
     assert!(rt; refused.status == 2 && refused.err.is_empty());

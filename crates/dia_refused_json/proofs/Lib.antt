@@ -1,2 +1,2 @@
 mod Refusing
-pub mod Telling
+pub mod Recording

@@ -40,8 +40,8 @@ wrong_is : (input : List ℕ) (found : WrongSource) → json_line (wrong_members
 unfolding serde_json_on_literals
 wrong_is input found = refl
 
-pub refused_told : (input kind a b text : List ℕ) → a ≡ quoted input → b ≡ quoted kind → text ≡ front a b (codes "}\n") → text ≡ json_line (refused_members input kind no_members)
-refused_told input kind a b text is_a is_b is =
+pub refused_recorded : (input kind a b text : List ℕ) → a ≡ quoted input → b ≡ quoted kind → text ≡ front a b (codes "}\n") → text ≡ json_line (refused_members input kind no_members)
+refused_recorded input kind a b text is_a is_b is =
     is ∙ ap₂ (λ (x y : List ℕ). front x y (codes "}\n")) is_a is_b ∙ line_ends (quoted input) (quoted kind) ∙ sym (refused_is input kind)
 
 -- on a line, at a column
@@ -57,9 +57,9 @@ on_is input kind n text at = refl
 on_ends : (input kind : List ℕ) (n column : ℕ) → front input kind (on_text n column (codes "}\n")) ≡ front input kind (on_text n column (codes "}")) ++ codes "\n"
 on_ends input kind n column = simp append_assoc
 
-pub on_told : (input kind a b written : List ℕ) (n : ℕ) (text : List ℕ) (at column : ℕ) → a ≡ quoted input → b ≡ quoted kind → column ≡ column_at text at
+pub on_recorded : (input kind a b written : List ℕ) (n : ℕ) (text : List ℕ) (at column : ℕ) → a ≡ quoted input → b ≡ quoted kind → column ≡ column_at text at
     → written ≡ front a b (on_text n column (codes "}\n")) → written ≡ json_line (refused_members input kind (on_line n text at))
-on_told input kind a b written n text at column is_a is_b is_column is =
+on_recorded input kind a b written n text at column is_a is_b is_column is =
     is ∙ ap₂ (λ (x y : List ℕ). front x y (on_text n column (codes "}\n"))) is_a is_b
     ∙ ap (λ (k : ℕ). front (quoted input) (quoted kind) (on_text n k (codes "}\n"))) is_column
     ∙ on_ends (quoted input) (quoted kind) n (column_at text at) ∙ sym (on_is input kind n text at)
@@ -85,10 +85,10 @@ wrong_text input kind name slot = codes "{\"error\":" ++ (input ++ (codes ",\"ki
 wrong_joined : (input kind name slot : List ℕ) → wrong_text input kind name slot ≡ front input (codes "\"" ++ kind ++ codes "\"") (names name slot (codes "}\n"))
 wrong_joined input kind name slot = simp append_assoc
 
-pub wrong_told : (input : List ℕ) (found : WrongSource) (a name slot text : List ℕ) → a ≡ quoted input
+pub wrong_recorded : (input : List ℕ) (found : WrongSource) (a name slot text : List ℕ) → a ≡ quoted input
     → name ≡ compact_text (name_value (string_bytes found.name)) → slot ≡ compact_text (name_value (string_bytes found.slot))
     → text ≡ wrong_text a (kind_word found.kind) name slot → text ≡ json_line (wrong_members input found)
-wrong_told input found a name slot text is_a is_name is_slot is =
+wrong_recorded input found a name slot text is_a is_name is_slot is =
     is ∙ wrong_joined a (kind_word found.kind) name slot ∙ ap₂ (λ (x y : List ℕ). front x y (names name slot (codes "}\n"))) is_a (sym (kind_is_plain found.kind))
     ∙ ap₂ (λ (x y : List ℕ). front (quoted input) (quoted (kind_word found.kind)) (names x y (codes "}\n"))) is_name is_slot
     ∙ names_end (quoted input) (quoted (kind_word found.kind)) _ _ ∙ sym (wrong_is input found)
@@ -99,9 +99,9 @@ items_are : (list : List (List ℕ)) → items_text true (string_items list) ≡
 items_are [] = refl
 items_are (s ∷ list) = ap (λ (t : List ℕ). 44 ∷ (quoted s ++ t)) (items_are list) ∙ sym (append_assoc (another s) (flat_map another list) (codes "]"))
 
-pub array_told : (first written begun with_others text : List ℕ) (others : List (List ℕ)) → written ≡ quoted first → begun ≡ codes "[" ++ written
+pub array_recorded : (first written begun with_others text : List ℕ) (others : List (List ℕ)) → written ≡ quoted first → begun ≡ codes "[" ++ written
     → with_others ≡ begun ++ flat_map another others → text ≡ with_others ++ codes "]" → text ≡ compact_text (strings (first ∷ others))
-array_told first written begun with_others text others is_first is_begun is_with is =
+array_recorded first written begun with_others text others is_first is_begun is_with is =
     is ∙ ap (λ (t : List ℕ). t ++ codes "]") (is_with ∙ ap (λ (t : List ℕ). t ++ flat_map another others) (is_begun ∙ ap (λ (t : List ℕ). codes "[" ++ t) is_first))
     ∙ append_assoc (codes "[" ++ quoted first) (flat_map another others) (codes "]")
     ∙ ap (λ (t : List ℕ). codes "[" ++ (quoted first ++ t)) (sym (items_are others))
@@ -128,10 +128,10 @@ expecting_is input n text at wanted = refl
 expecting_ends : (input line column items : List ℕ) → expecting_text input line column items (codes "}\n") ≡ expecting_text input line column items (codes "}") ++ codes "\n"
 expecting_ends input line column items = simp append_assoc
 
-pub expecting_told : (input a items written : List ℕ) (n : ℕ) (text : List ℕ) (at column : ℕ) (wanted : Wanted) → a ≡ quoted input → column ≡ column_at text at
+pub expecting_recorded : (input a items written : List ℕ) (n : ℕ) (text : List ℕ) (at column : ℕ) (wanted : Wanted) → a ≡ quoted input → column ≡ column_at text at
     → items ≡ compact_text (strings (expected wanted)) → written ≡ expecting_text a (decimal n) (decimal column) items (codes "}\n")
     → written ≡ json_line (refused_members input (codes "syntax") (expecting n text at wanted))
-expecting_told input a items written n text at column wanted is_a is_column is_items is =
+expecting_recorded input a items written n text at column wanted is_a is_column is_items is =
     is ∙ ap₂ (λ (x y : List ℕ). expecting_text x (decimal n) (decimal column) y (codes "}\n")) is_a is_items
     ∙ ap (λ (k : ℕ). expecting_text (quoted input) (decimal n) (decimal k) (compact_text (strings (expected wanted))) (codes "}\n")) is_column
     ∙ expecting_ends (quoted input) (decimal n) (decimal (column_at text at)) (compact_text (strings (expected wanted))) ∙ sym (expecting_is input n text at wanted)

@@ -1,3 +1,3 @@
 pub mod Members
 pub mod Refusals
-pub mod Telling
+pub mod Recording

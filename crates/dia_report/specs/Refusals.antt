@@ -80,6 +80,6 @@ bad_input_text (Table why) = table_line (bad_table_text why)
 bad_input_text (Message why) = codes "message: " ++ bad_message_word why
 
 -- what is reported holds, unless memory was refused
-abbrev pub TellsOf : (List ℕ → Type 0) → Refused → Type 0
-TellsOf P (Bad bad) = P (bad_input_text bad)
-TellsOf P NoMemory = ⊤
+abbrev pub RecordsOf : (List ℕ → Type 0) → Refused → Type 0
+RecordsOf P (Bad bad) = P (bad_input_text bad)
+RecordsOf P NoMemory = ⊤

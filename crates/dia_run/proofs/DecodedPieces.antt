@@ -76,17 +76,17 @@ ok_value (Err e) h = cc h
 abbrev holds : ℕ → Type 0
 holds c = is_hex_digit c ≡ true
 
-digits_behind : (s t : List ℕ) → AllPass is_hex_digit (s ++ t) → AllPass is_hex_digit t
-digits_behind [] t all = all
-digits_behind (c ∷ s) t all = digits_behind s t (All-tail holds c (s ++ t) all)
+digits_after : (s t : List ℕ) → AllPass is_hex_digit (s ++ t) → AllPass is_hex_digit t
+digits_after [] t all = all
+digits_after (c ∷ s) t all = digits_after s t (All-tail holds c (s ++ t) all)
 
 -- an even number of digits is left in front of and behind an even number
-pub decoded_behind : (s t : List ℕ) → length s % 2 ≡ 0 → IsOk (decode_of (s ++ t)) → IsOk (decode_of t)
-decoded_behind s t even ok =
+pub decoded_after : (s t : List ℕ) → length s % 2 ≡ 0 → IsOk (decode_of (s ++ t)) → IsOk (decode_of t)
+decoded_after s t even ok =
     let (bytes, is) = ok_value (decode_of (s ++ t)) ok in
     let (all_even, digits, twice, small) = decode_of-ok (s ++ t) bytes is in
     let both = length-append s t in
-    let (found, is_found) = decode_of-digits t (omega (arith, even, all_even, both)) (digits_behind s t digits) in
+    let (found, is_found) = decode_of-digits t (omega (arith, even, all_even, both)) (digits_after s t digits) in
     rw is_found refl
 
 -- ---- the digits in front of a place of a text
@@ -110,11 +110,11 @@ split_at text n = ap digits_of (sym (take-append-drop n text)) ∙ filter-append
 pub spells : (text out more : List ℕ) (n taken : ℕ) → decode_of (digits_of (take taken text)) ≡ Ok out → length out ≡ n
     → SpellsFirst text (take n (out ++ more)) (take (length text - taken) (drop taken text))
 spells text out more n taken is size =
-    let behind = take_all (length text - taken) (drop taken text) (omega (arith, length-drop taken text)) in
+    let following = take_all (length text - taken) (drop taken text) (omega (arith, length-drop taken text)) in
     let front : take n (out ++ more) ≡ out = ap (λ (k : ℕ). take k (out ++ more)) (sym size) ∙ take-append_seam out more in
     record {
       digits = digits_of (take taken text);
-      parts = split_at text taken ∙ ap (λ (t : List ℕ). digits_of (take taken text) ++ digits_of t) (sym behind);
+      parts = split_at text taken ∙ ap (λ (t : List ℕ). digits_of (take taken text) ++ digits_of t) (sym following);
       spells = is ∙ ap Ok (sym front);
     }
 

@@ -21,7 +21,7 @@ use Rattle.dia_check.specs.declared.Reason.TheVariants as reason
 use Rattle.dia_check.specs.declared.Subject.{Subject}
 use Rattle.dia_check.specs.declared.Progress.{Progress}
 use Rattle.dia_check.specs.Faults as faults
-use Rattle.dia_check.specs.Faults.{HasLength, IsAnswer, IsWrong, Spot, Stands}
+use Rattle.dia_check.specs.Faults.{HasLength, IsAnswer, IsWrong, Spot, Occurs}
 use Rattle.dia_check.specs.Reasons.{row_of}
 use Rattle.dia_check.specs.Levels.{Level}
 use Rattle.dia_check.specs.Streaming.{is_sound, wanted, taken_of, Takes}
@@ -30,7 +30,7 @@ use Rattle.dia_check.proofs.StreamStages.{least_wanted}
 use Rattle.dia_check.proofs.OneAnswer.{valid_length}
 use Rattle.dia_run.specs.Texts.{SpellsFirst, SpellsNone, digits_of}
 use Rattle.dia_run.specs.FedTexts.{IsEndless}
-use Rattle.dia_run.proofs.DecodedPieces.{decoded_behind, decoded_both}
+use Rattle.dia_run.proofs.DecodedPieces.{decoded_after, decoded_both}
 
 -- ---- what was spelled so far
 
@@ -49,9 +49,9 @@ pub spells_all : (text bytes : List ℕ) → SpellsFirst text bytes [] → decod
 spells_all text bytes h = ap decode_of (h.parts ∙ append-nil h.digits) ∙ h.spells
 
 -- what is left is no hexadecimal
-pub none_behind : (text bytes rest : List ℕ) → SpellsFirst text bytes rest → SpellsNone rest → SpellsNone text
-none_behind text bytes rest h none ok =
-    none (decoded_behind h.digits (digits_of rest) (decode_of-ok h.digits bytes h.spells).0 (subst (λ (t : List ℕ). IsOk (decode_of t)) h.parts ok))
+pub none_after : (text bytes rest : List ℕ) → SpellsFirst text bytes rest → SpellsNone rest → SpellsNone text
+none_after text bytes rest h none ok =
+    none (decoded_after h.digits (digits_of rest) (decode_of-ok h.digits bytes h.spells).0 (subst (λ (t : List ℕ). IsOk (decode_of t)) h.parts ok))
 
 -- ---- what a stream takes of a text
 
@@ -129,9 +129,9 @@ wrong_late : (d : Dictionary) (u : Unknown) (most : Levels) (level : Level) (ear
 wrong_late d u most level earlier v r s (faults.unknown none refused) = omega arith
 wrong_late d u most level earlier v r s other = omega arith
 
-stands_late : (d : Dictionary) (u : Unknown) (most : Levels) (bytes : List ℕ) (spot : Spot) (r : Reason) (s : Subject) → Stands d u most bytes spot r s → 2 ≤ row_of r
-stands_late d u most bytes spot r s (faults.avp level earlier v at q w meets bad) = wrong_late d u most level earlier v q w bad
-stands_late d u most bytes spot r s other = omega arith
+occurs_late : (d : Dictionary) (u : Unknown) (most : Levels) (bytes : List ℕ) (spot : Spot) (r : Reason) (s : Subject) → Occurs d u most bytes spot r s → 2 ≤ row_of r
+occurs_late d u most bytes spot r s (faults.avp level earlier v at q w meets bad) = wrong_late d u most level earlier v q w bad
+occurs_late d u most bytes spot r s other = omega arith
 
 endless_early : (r : Reason) → (r ≡ reason.Version) ⊎ (r ≡ reason.Length) → row_of r < 2
 endless_early r (inl e) = omega (arith, ap row_of e)
@@ -190,7 +190,7 @@ module _ (d : Dictionary) (sound : IsDictionary d) (u : Unknown) (most : Levels)
   stays (Err (refusal.Fault f)) endless (inr (inl (long, one, bad, is))) =
       inr (inl (long_bytes, same_first.0 ∙ one, (λ good. bad (subst (λ (t : List ℕ). IsMessageLength (number t)) same_first.1 good)), is))
   stays (Err (refusal.Fault f)) endless (inr (inr (has, first))) =
-      absurd (let late = stands_late d u most (taken_of bytes) (record { place = f.place; row = first.row }) f.reason f.subject first.stands in
+      absurd (let late = occurs_late d u most (taken_of bytes) (record { place = f.place; row = first.row }) f.reason f.subject first.occurs in
       let early = endless_early f.reason endless in omega (arith, late, early))
   stays (Err refusal.Truncated) endless h = absurd endless
   stays (Err refusal.Trailing) endless h = absurd endless

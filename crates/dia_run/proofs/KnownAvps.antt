@@ -88,14 +88,14 @@ value_joined : (old name blank value end : List ℕ) → (((old ++ name) ++ blan
 value_joined old name blank value end = simp append_assoc
 
 -- the name and the value, which end a line
-pub value_behind : {X E : Type 0} (name : List ℕ) (format : PlainFormat) (bytes old one two three new : List ℕ) (r : Result X E) → one ≡ old ++ name → two ≡ one ++ codes " "
+pub value_after : {X E : Type 0} (name : List ℕ) (format : PlainFormat) (bytes old one two three new : List ℕ) (r : Result X E) → one ≡ old ++ name → two ≡ one ++ codes " "
     → AddsValueText format bytes two three → new ≡ (if is_ok r then three ++ codes "\n" else three) → OnOk r (AddsNameAndValue name format bytes old new)
-value_behind name format bytes old one two three new (Ok x) is_one is_two (value, shown, is_three) is_new = (
+value_after name format bytes old one two three new (Ok x) is_one is_two (value, shown, is_three) is_new = (
   value,
   shown,
   is_new ∙ ap (λ (t : List ℕ). t ++ codes "\n") (is_three ∙ ap (λ (t : List ℕ). t ++ value) (is_two ∙ ap (λ (t : List ℕ). t ++ codes " ") is_one)) ∙ value_joined old name (codes " ") value (codes "\n"),
 )
-value_behind name format bytes old one two three new (Err e) is_one is_two added is_new = tt
+value_after name format bytes old one two three new (Err e) is_one is_two added is_new = tt
 
 -- the name of an AVP that the book knows is what is told of it
 subject_name : (d : Dictionary) (key : Key) (subject : Subject) (i : ℕ) (name : List ℕ) → subject ≡ Avp key → Some i ≡ entry_of d key → IfSome (slice_get d.entries i) (λ e. name ≡ e.name)
@@ -127,10 +127,10 @@ eight a b c d e f g h i =
     ∙ append_assoc (a ++ b) c (d ++ (e ++ (f ++ g))) ∙ append_assoc a b (c ++ (d ++ (e ++ (f ++ g))))))
 
 -- the line of a fault, as it is made
-pub fault_told : (d : Dictionary) (fault : Fault) (reason one two new : List ℕ)
+pub fault_recorded : (d : Dictionary) (fault : Fault) (reason one two new : List ℕ)
     → one ≡ codes "fault " ++ (decimal fault.code ++ (codes " at " ++ (decimal fault.place ++ (codes " " ++ (reason ++ codes " ")))))
     → reason ≡ reason_word fault.reason → two ≡ one ++ subject_text d fault.subject → new ≡ two ++ codes "\n" → new ≡ fault_line d fault
-fault_told d fault reason one two new is_one is_reason is_two is_new =
+fault_recorded d fault reason one two new is_one is_reason is_two is_new =
     is_new ∙ ap (λ (t : List ℕ). t ++ codes "\n") (is_two ∙ ap (λ (t : List ℕ). t ++ subject_text d fault.subject) (is_one
     ∙ ap (λ (r : List ℕ). codes "fault " ++ (decimal fault.code ++ (codes " at " ++ (decimal fault.place ++ (codes " " ++ (r ++ codes " ")))))) is_reason))
     ∙ eight (codes "fault ") (decimal fault.code) (codes " at ") (decimal fault.place) (codes " ") (reason_word fault.reason) (codes " ") (subject_text d fault.subject) (codes "\n")

@@ -7,7 +7,7 @@ use Rattle.dia_wire.specs.Wire.{PlainAvp, head_length, avp_length, padded_length
 use Rattle.dia_wire.proofs.Spelling.{opened, rounded-le}
 use Rattle.dia_dict.specs.Dictionary.{Dictionary, DictEntry}
 use Rattle.dia_run.specs.declared.commands.show.listing.Rest.{Rest}
-use Rattle.dia_run.specs.Listing.{Level, IsListing, end, bad_length, avp, group, bad_group, behind, inside, IsGroup, AddsAvp, AddsLevel, avp_line, bad_length_line}
+use Rattle.dia_run.specs.Listing.{Level, IsListing, end, bad_length, avp, group, bad_group, following, inside, IsGroup, AddsAvp, AddsLevel, avp_line, bad_length_line}
 
 -- what is left of a level at a depth
 abbrev pub level_of : ℕ → Rest → Level
@@ -30,19 +30,19 @@ Owes-front d depth (r ∷ rs) level next front text bad f (inr (h, is_bad)) = in
 
 -- a group that is entered: its members come first, and then what is behind it
 Owes-group : (d : Dictionary) (depth : ℕ) (rs : List Rest) (r : Rest) (level : Level) (v : PlainAvp) (e : DictEntry) (rest text : List ℕ) (bad : Bool) → BeginsWith v level.bytes rest → IsGroup d v e
-    → level_of (depth + length rs) r ≡ behind level v rest → Owes d depth (rs ++ r ∷ []) (inside level v) text bad
+    → level_of (depth + length rs) r ≡ following level v rest → Owes d depth (rs ++ r ∷ []) (inside level v) text bad
     → Owes d depth rs level (avp_line level.place level.depth v e.name (codes "group") ++ text) bad
-Owes-group d depth [] r level v e rest text bad begins is_group is_behind (inl (inner, outer, h, left, parts)) =
-    let here : level_of depth r ≡ behind level v rest = ap (λ (n : ℕ). level_of n r) (omega arith) ∙ is_behind in
+Owes-group d depth [] r level v e rest text bad begins is_group is_after (inl (inner, outer, h, left, parts)) =
+    let here : level_of depth r ≡ following level v rest = ap (λ (n : ℕ). level_of n r) (omega arith) ∙ is_after in
     group v e rest inner outer begins is_group h (subst (λ (l : Level). IsListing d l outer bad) here left)
     (ap (λ (t : List ℕ). avp_line level.place level.depth v e.name (codes "group") ++ t) parts ∙ sym (append_assoc (avp_line level.place level.depth v e.name (codes "group")) inner outer))
-Owes-group d depth [] r level v e rest text bad begins is_group is_behind (inr (h, is_bad)) = bad_group v e rest text begins is_group h refl is_bad
-Owes-group d depth (q ∷ rs) r level v e rest text bad begins is_group is_behind (inl (inner, outer, h, left, parts)) =
+Owes-group d depth [] r level v e rest text bad begins is_group is_after (inr (h, is_bad)) = bad_group v e rest text begins is_group h refl is_bad
+Owes-group d depth (q ∷ rs) r level v e rest text bad begins is_group is_after (inl (inner, outer, h, left, parts)) =
     let line = avp_line level.place level.depth v e.name (codes "group") in
-    let here : level_of (depth + 1 + length rs) r ≡ behind level v rest = ap (λ (n : ℕ). level_of n r) (omega arith) ∙ is_behind in
+    let here : level_of (depth + 1 + length rs) r ≡ following level v rest = ap (λ (n : ℕ). level_of n r) (omega arith) ∙ is_after in
     inl (line ++ inner, outer, Owes-group d (depth + 1) rs r level v e rest inner false begins is_group here h, left, ap (λ (t : List ℕ). line ++ t) parts ∙ sym (append_assoc line inner outer))
-Owes-group d depth (q ∷ rs) r level v e rest text bad begins is_group is_behind (inr (h, is_bad)) =
-    let here : level_of (depth + 1 + length rs) r ≡ behind level v rest = ap (λ (n : ℕ). level_of n r) (omega arith) ∙ is_behind in
+Owes-group d depth (q ∷ rs) r level v e rest text bad begins is_group is_after (inr (h, is_bad)) =
+    let here : level_of (depth + 1 + length rs) r ≡ following level v rest = ap (λ (n : ℕ). level_of n r) (omega arith) ∙ is_after in
     inr (Owes-group d (depth + 1) rs r level v e rest text true begins is_group here h, is_bad)
 
 -- a level that is done: what is left of the one round it comes next
@@ -107,7 +107,7 @@ leaf_added d whole before now new rs r next depth v u begins same_end deep (name
     let line = avp_line (r.end - length r.bytes.now) (length rs) v name value in
     let is_new : new ≡ now ++ line = added ∙ ap (λ (n : ℕ). now ++ avp_line (r.end - length r.bytes.now) n v name value) deep in
     let place : next.end - length next.bytes.now ≡ r.end - length r.bytes.now + padded_length v = omega (arith, size, u.within.0, same_end) in
-    let same : level_of (length rs) next ≡ behind (level_of (length rs) r) v next.bytes.now = ap (λ (n : ℕ). record { depth = length rs; place = n; bytes = next.bytes.now }) place in
+    let same : level_of (length rs) next ≡ following (level_of (length rs) r) v next.bytes.now = ap (λ (n : ℕ). record { depth = length rs; place = n; bytes = next.bytes.now }) place in
     record {
       lines = u.lines ++ line;
       text = is_new ∙ ap (λ (t : List ℕ). t ++ line) u.text ∙ append_assoc before u.lines line;
@@ -126,7 +126,7 @@ pub group_entered : (d : Dictionary) (whole : Level) (before now new : List ℕ)
 group_entered d whole before now new rs r next inner depth v u begins same_end is_data is_end deep (e, is_group, added) =
     let size = length-level v r.bytes.now next.bytes.now begins in
     let place : next.end - length next.bytes.now ≡ r.end - length r.bytes.now + padded_length v = omega (arith, size, u.within.0, same_end) in
-    let outside : level_of (0 + length rs) next ≡ behind (level_of (length rs) r) v next.bytes.now =
+    let outside : level_of (0 + length rs) next ≡ following (level_of (length rs) r) v next.bytes.now =
     ap (λ (n : ℕ). level_of n next) (omega arith) ∙ ap (λ (n : ℕ). record { depth = length rs; place = n; bytes = next.bytes.now }) place in
     let line = avp_line (r.end - length r.bytes.now) (length rs) v e.name (codes "group") in
     let is_new : new ≡ now ++ line = added ∙ ap (λ (n : ℕ). now ++ avp_line (r.end - length r.bytes.now) n v e.name (codes "group")) deep in

@@ -68,8 +68,8 @@ nine a b c d e f g h i =
     ∙ append_assoc (b ++ c) d (e ++ (f ++ (g ++ (h ++ i)))) ∙ append_assoc b c (d ++ (e ++ (f ++ (g ++ (h ++ i))))))
 
 -- the line of a pair, as it is made
-pub failure_told : (text word left right tested : List ℕ) (p : List ℕ × List ℕ) (test : Test)
+pub failure_recorded : (text word left right tested : List ℕ) (p : List ℕ × List ℕ) (test : Test)
     → text ≡ codes "no " ++ (word ++ (codes " " ++ (left ++ (codes " = " ++ (right ++ (codes " " ++ (tested ++ codes "\n")))))))
     → left ≡ p.0 → right ≡ p.1 → tested ≡ test_word test → text ≡ failure_line word p test
-failure_told text word left right tested p test is is_left is_right is_tested =
+failure_recorded text word left right tested p test is is_left is_right is_tested =
     is ∙ rw (is_left, is_right, is_tested) (sym (nine (codes "no ") word (codes " ") p.0 (codes " = ") p.1 (codes " ") (test_word test) (codes "\n")))

@@ -76,9 +76,9 @@ pub one_message : (input : Input) (a b : List ℕ) → IsMessageText input a →
 one_message input a b (t, held, is_a) (u, held', is_b) =
     let same : Ok a ≡ Ok b = sym is_a ∙ ap (λ (text : List ℕ). decode_of (digits_of text)) (held_once input max_message_text t u held held') ∙ is_b in cc
 
-pub message_or_not : (input : Input) (a told : List ℕ) → IsMessageText input a → IsNoMessageText input told → ⊥
-message_or_not input a told (t, held, is_a) (too_long over is_told) = not_over input max_message_text t held over
-message_or_not input a told (t, held, is_a) (not_hexadecimal u held' none is_told) = none (rw (held_once input max_message_text u t held' held, is_a) refl)
+pub message_or_not : (input : Input) (a recorded : List ℕ) → IsMessageText input a → IsNoMessageText input recorded → ⊥
+message_or_not input a recorded (t, held, is_a) (too_long over is_recorded) = not_over input max_message_text t held over
+message_or_not input a recorded (t, held, is_a) (not_hexadecimal u held' none is_recorded) = none (rw (held_once input max_message_text u t held' held, is_a) refl)
 
 pub one_message_reason : (input : Input) (m n : List ℕ) → IsNoMessageText input m → IsNoMessageText input n → m ≡ n
 one_message_reason input m n (too_long over is_m) (too_long over' is_n) = is_m ∙ sym is_n

@@ -13,7 +13,7 @@ use Rattle.dia_ccf.specs.Names.{same_bytes}
 use Rattle.dia_dict.specs.Dictionary.{Dictionary, DictEntry}
 use Rattle.dia_valid.specs.Valid.{known}
 use Rattle.dia_dict.proofs.LookUpsByName.{same_bytes-Decides}
-use Rattle.dia_run.specs.Listing.{Level, IsListing, end, bad_length, avp, group, bad_group, IsLeafText, unknown, leaf, IsGroup, behind, inside, avp_line, bad_length_line}
+use Rattle.dia_run.specs.Listing.{Level, IsListing, end, bad_length, avp, group, bad_group, IsLeafText, unknown, leaf, IsGroup, following, inside, avp_line, bad_length_line}
 
 -- texts that can't differ are one
 one_if_no_two : (a b : List ℕ) → (¬ (a ≡ b) → ⊥) → a ≡ b
@@ -74,25 +74,25 @@ at_bad_length d level t b (bad_group v e rest members begins is_group inner is_t
 
 -- the line of an AVP, and the listing of what is behind it
 abbrev AvpThen : Dictionary → Level → PlainAvp → List ℕ → List ℕ → List ℕ → List ℕ → Bool → Type 0
-AvpThen d level v rest name value t b = (more : List ℕ) × IsListing d (behind level v rest) more b × (t ≡ avp_line level.place level.depth v name value ++ more)
+AvpThen d level v rest name value t b = (more : List ℕ) × IsListing d (following level v rest) more b × (t ≡ avp_line level.place level.depth v name value ++ more)
 
 at_avp : (d : Dictionary) (level : Level) (t : List ℕ) (b : Bool) (v : PlainAvp) (rest name value : List ℕ) → IsListing d level t b → BeginsWith v level.bytes rest → IsLeafText d v name value
     → AvpThen d level v rest name value t b
 at_avp d level t b v rest name value (end none is_t is_b) begins text = absurd (omega (arith, begins_some v level.bytes rest begins, ap length none))
 at_avp d level t b v rest name value (bad_length some none is_t is_b) begins text = absurd (none v rest begins)
-at_avp d level t b v rest name value (avp w behind_it n u more begins' text' listing is_t) begins text =
-    let f = one_front level.bytes v w rest behind_it begins begins' in
+at_avp d level t b v rest name value (avp w after_it n u more begins' text' listing is_t) begins text =
+    let f = one_front level.bytes v w rest after_it begins begins' in
     let l = one_leaf d v name n value u text (rw f.0 text') in
     (more, rw (f.0, f.1) listing, rw (f.0, l.0, l.1) is_t)
-at_avp d level t b v rest name value (group w e behind_it members more begins' is_group inner listing is_t) begins text =
-    absurd (no_leaf d v e name value (rw (one_front level.bytes v w rest behind_it begins begins').0 is_group) text)
-at_avp d level t b v rest name value (bad_group w e behind_it members begins' is_group inner is_t is_b) begins text =
-    absurd (no_leaf d v e name value (rw (one_front level.bytes v w rest behind_it begins begins').0 is_group) text)
+at_avp d level t b v rest name value (group w e after_it members more begins' is_group inner listing is_t) begins text =
+    absurd (no_leaf d v e name value (rw (one_front level.bytes v w rest after_it begins begins').0 is_group) text)
+at_avp d level t b v rest name value (bad_group w e after_it members begins' is_group inner is_t is_b) begins text =
+    absurd (no_leaf d v e name value (rw (one_front level.bytes v w rest after_it begins begins').0 is_group) text)
 
 -- the line of a group, the listing of its members, and that of what is behind it, unless the members end at a bad length
 abbrev GroupThen : Dictionary → Level → PlainAvp → DictEntry → List ℕ → List ℕ → Bool → Type 0
 GroupThen d level v e rest t b =
-    ((members : List ℕ) × (more : List ℕ) × IsListing d (inside level v) members false × IsListing d (behind level v rest) more b
+    ((members : List ℕ) × (more : List ℕ) × IsListing d (inside level v) members false × IsListing d (following level v rest) more b
     × (t ≡ avp_line level.place level.depth v e.name (codes "group") ++ members ++ more))
     ⊎ ((members : List ℕ) × IsListing d (inside level v) members true × (t ≡ avp_line level.place level.depth v e.name (codes "group") ++ members) × (b ≡ true))
 
@@ -100,15 +100,15 @@ at_group : (d : Dictionary) (level : Level) (t : List ℕ) (b : Bool) (v : Plain
     → GroupThen d level v e rest t b
 at_group d level t b v e rest (end none is_t is_b) begins is_group = absurd (omega (arith, begins_some v level.bytes rest begins, ap length none))
 at_group d level t b v e rest (bad_length some none is_t is_b) begins is_group = absurd (none v rest begins)
-at_group d level t b v e rest (avp w behind_it n u more begins' text listing is_t) begins is_group =
-    absurd (no_leaf d v e n u is_group (rw (one_front level.bytes v w rest behind_it begins begins').0 text))
-at_group d level t b v e rest (group w f behind_it members more begins' is_group' inner listing is_t) begins is_group =
-    let o = one_front level.bytes v w rest behind_it begins begins' in
+at_group d level t b v e rest (avp w after_it n u more begins' text listing is_t) begins is_group =
+    absurd (no_leaf d v e n u is_group (rw (one_front level.bytes v w rest after_it begins begins').0 text))
+at_group d level t b v e rest (group w f after_it members more begins' is_group' inner listing is_t) begins is_group =
+    let o = one_front level.bytes v w rest after_it begins begins' in
     let also : IsGroup d v f = rw o.0 is_group' in
     let same = one_entry d v e f is_group.0 also.0 in
     inl (members, more, rw o.0 inner, rw (o.0, o.1) listing, rw (o.0, same) is_t)
-at_group d level t b v e rest (bad_group w f behind_it members begins' is_group' inner is_t is_b) begins is_group =
-    let o = one_front level.bytes v w rest behind_it begins begins' in
+at_group d level t b v e rest (bad_group w f after_it members begins' is_group' inner is_t is_b) begins is_group =
+    let o = one_front level.bytes v w rest after_it begins begins' in
     let also : IsGroup d v f = rw o.0 is_group' in
     let same = one_entry d v e f is_group.0 also.0 in
     inr (members, rw o.0 inner, rw (o.0, same) is_t, is_b)
@@ -118,13 +118,13 @@ one_listing d level t u b c (end none is_t is_b) second = let r = at_end d level
 one_listing d level t u b c (bad_length some none is_t is_b) second = let r = at_bad_length d level u c second some none in (is_t ∙ sym r.0, is_b ∙ sym r.1)
 one_listing d level t u b c (avp v rest name value more begins text listing is_t) second =
     let (more', listing', is_u) = at_avp d level u c v rest name value second begins text in
-    let r = one_listing d (behind level v rest) more more' b c listing listing' in
+    let r = one_listing d (following level v rest) more more' b c listing listing' in
     (is_t ∙ ap (λ (f : List ℕ). avp_line level.place level.depth v name value ++ f) r.0 ∙ sym is_u, r.1)
 one_listing d level t u b c (group v e rest members more begins is_group inner listing is_t) second =
     elim (at_group d level u c v e rest second begins is_group) [
       | inl (members', more', inner', listing', is_u) ↦
           let m = one_listing d (inside level v) members members' false false inner inner' in
-          let r = one_listing d (behind level v rest) more more' b c listing listing' in
+          let r = one_listing d (following level v rest) more more' b c listing listing' in
           (is_t ∙ rw (m.0, r.0) refl ∙ sym is_u, r.1)
       | inr (members', inner', is_u, is_c) ↦ absurd (false≢true (one_listing d (inside level v) members members' false true inner inner').1)
     ]

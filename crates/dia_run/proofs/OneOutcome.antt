@@ -140,15 +140,15 @@ of_message_once P one inputs t u x y (ended d a is_d is_a made) (ended e b is_e 
     let same_bytes = one_message inputs.message a b is_a is_b in
     one d a t u x y is_d.4 made (rw (same_book, same_bytes) made')
 of_message_once P one inputs t u x y (ended d a is_d is_a made) (no_dictionary why none refuses) = absurd (dictionary_or_not inputs.first d why is_d none)
-of_message_once P one inputs t u x y (ended d a is_d is_a made) (no_message e told is_e none refuses) = absurd (message_or_not inputs.message a told is_a none)
+of_message_once P one inputs t u x y (ended d a is_d is_a made) (no_message e recorded is_e none refuses) = absurd (message_or_not inputs.message a recorded is_a none)
 of_message_once P one inputs t u x y (no_dictionary why none refuses) (ended e b is_e is_b made) = absurd (dictionary_or_not inputs.first e why is_e none)
 of_message_once P one inputs t u x y (no_dictionary why none refuses) (no_dictionary why' none' refuses') =
     refused_once (dictionary_line 1 why) (dictionary_line 1 why') t u x y (ap (dictionary_line 1) (one_reason_for_dictionary inputs.first why why' none none')) refuses refuses'
-of_message_once P one inputs t u x y (no_dictionary why none refuses) (no_message e told is_e none' refuses') = absurd (dictionary_or_not inputs.first e why is_e none)
-of_message_once P one inputs t u x y (no_message d told is_d none refuses) (ended e b is_e is_b made) = absurd (message_or_not inputs.message b told is_b none)
-of_message_once P one inputs t u x y (no_message d told is_d none refuses) (no_dictionary why none' refuses') = absurd (dictionary_or_not inputs.first d why is_d none')
-of_message_once P one inputs t u x y (no_message d told is_d none refuses) (no_message e told' is_e none' refuses') =
-    refused_once told told' t u x y (one_message_reason inputs.message told told' none none') refuses refuses'
+of_message_once P one inputs t u x y (no_dictionary why none refuses) (no_message e recorded is_e none' refuses') = absurd (dictionary_or_not inputs.first e why is_e none)
+of_message_once P one inputs t u x y (no_message d recorded is_d none refuses) (ended e b is_e is_b made) = absurd (message_or_not inputs.message b recorded is_b none)
+of_message_once P one inputs t u x y (no_message d recorded is_d none refuses) (no_dictionary why none' refuses') = absurd (dictionary_or_not inputs.first d why is_d none')
+of_message_once P one inputs t u x y (no_message d recorded is_d none refuses) (no_message e recorded' is_e none' refuses') =
+    refused_once recorded recorded' t u x y (one_message_reason inputs.message recorded recorded' none none') refuses refuses'
 
 verdict_once : (d : Dictionary) (answer : Result Selected Refusal) (t u : List ℕ) (x y : Exit) → IsVerdict d answer t x → IsVerdict d answer u y → Same t u x y
 verdict_once d (Ok found) t u x y (c, is_c, is_t, is_x) (e, is_e, is_u, is_y) =

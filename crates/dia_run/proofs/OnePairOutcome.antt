@@ -57,10 +57,10 @@ one_table_text : (input : Input) (s t : PlainTable) → IsTableText input s → 
 one_table_text input s t (a, held, utf8, is_s) (b, held', utf8', is_t) =
     one_table_of (lines a) s t is_s (subst (λ (text : List ℕ). IsTable text t) (sym (held_once input max_table a b held held')) is_t)
 
-table_or_not : (input : Input) (t : PlainTable) (told : List ℕ) → IsTableText input t → IsNoTableText input told → ⊥
-table_or_not input t told (a, held, utf8, is_t) (too_long over is_told) = not_over input max_table a held over
-table_or_not input t told (a, held, utf8, is_t) (not_text b held' no_utf8 is_told) = no_utf8 (rw (held_once input max_table b a held' held) utf8)
-table_or_not input t told (a, held, utf8, is_t) (fault b f held' utf8' is_fault no_memory is_told) =
+table_or_not : (input : Input) (t : PlainTable) (recorded : List ℕ) → IsTableText input t → IsNoTableText input recorded → ⊥
+table_or_not input t recorded (a, held, utf8, is_t) (too_long over is_recorded) = not_over input max_table a held over
+table_or_not input t recorded (a, held, utf8, is_t) (not_text b held' no_utf8 is_recorded) = no_utf8 (rw (held_once input max_table b a held' held) utf8)
+table_or_not input t recorded (a, held, utf8, is_t) (fault b f held' utf8' is_fault no_memory is_recorded) =
     fault_or_table b f t is_fault no_memory (rw (held_once input max_table b a held' held) is_t)
 
 one_table_reason : (input : Input) (m n : List ℕ) → IsNoTableText input m → IsNoTableText input n → m ≡ n
@@ -88,12 +88,12 @@ answer_once table (answer.No pair.Command i test) t u x y first second = failure
 answer_once table (answer.No pair.Avp i test) t u x y first second = failure_once (codes "avp") table.avps i test t u x y first second
 
 comparison_once : (policy : Unknown) (input : Input) → HasOneOfPair (IsComparison policy input)
-comparison_once policy input a b t u x y sa sb (compared s answer is_s is_answer told) (compared r other is_r is_other told') =
+comparison_once policy input a b t u x y sa sb (compared s answer is_s is_answer recorded) (compared r other is_r is_other recorded') =
     let same_table = one_table_text input s r is_s is_r in
     let same_answer = one_comparison a b policy s answer other is_answer (rw same_table is_other) in
-    answer_once s answer t u x y told (rw (same_table, same_answer) told')
-comparison_once policy input a b t u x y sa sb (compared s answer is_s is_answer told) (no_table why none refuses) = absurd (table_or_not input s why is_s none)
-comparison_once policy input a b t u x y sa sb (no_table why none refuses) (compared r other is_r is_other told') = absurd (table_or_not input r why is_r none)
+    answer_once s answer t u x y recorded (rw (same_table, same_answer) recorded')
+comparison_once policy input a b t u x y sa sb (compared s answer is_s is_answer recorded) (no_table why none refuses) = absurd (table_or_not input s why is_s none)
+comparison_once policy input a b t u x y sa sb (no_table why none refuses) (compared r other is_r is_other recorded') = absurd (table_or_not input r why is_r none)
 comparison_once policy input a b t u x y sa sb (no_table why none refuses) (no_table why' none' refuses') = refused_once why why' t u x y (one_table_reason input why why' none none') refuses refuses'
 
 pub compare_once : (policy : Unknown) (inputs : Inputs) (t u : List ℕ) (x y : Exit) → IsCompareOutcome policy inputs t x → IsCompareOutcome policy inputs u y → Same t u x y
@@ -104,14 +104,14 @@ compare_once policy inputs = of_pair_once (IsComparison policy inputs.table) (co
 refuted_once : (policy : Unknown) (most : Levels) (input : Input) → HasOneOfPair (IsRefutation policy most input)
 refuted_once policy most input a b t u x y sa sb (refutes m is_m holds is_t is_x) (refutes n is_n holds' is_u is_y) = (is_t ∙ sym is_u, is_x ∙ sym is_y)
 refuted_once policy most input a b t u x y sa sb (refutes m is_m holds is_t is_x) (does_not n is_n fails is_u is_y) = absurd (fails (rw (one_message input n m is_n is_m) holds))
-refuted_once policy most input a b t u x y sa sb (refutes m is_m holds is_t is_x) (no_message told none refuses) = absurd (message_or_not input m told is_m none)
+refuted_once policy most input a b t u x y sa sb (refutes m is_m holds is_t is_x) (no_message recorded none refuses) = absurd (message_or_not input m recorded is_m none)
 refuted_once policy most input a b t u x y sa sb (does_not m is_m fails is_t is_x) (refutes n is_n holds is_u is_y) = absurd (fails (rw (one_message input m n is_m is_n) holds))
 refuted_once policy most input a b t u x y sa sb (does_not m is_m fails is_t is_x) (does_not n is_n fails' is_u is_y) = (is_t ∙ sym is_u, is_x ∙ sym is_y)
-refuted_once policy most input a b t u x y sa sb (does_not m is_m fails is_t is_x) (no_message told none refuses) = absurd (message_or_not input m told is_m none)
-refuted_once policy most input a b t u x y sa sb (no_message told none refuses) (refutes n is_n holds is_u is_y) = absurd (message_or_not input n told is_n none)
-refuted_once policy most input a b t u x y sa sb (no_message told none refuses) (does_not n is_n fails is_u is_y) = absurd (message_or_not input n told is_n none)
-refuted_once policy most input a b t u x y sa sb (no_message told none refuses) (no_message told' none' refuses') =
-    refused_once told told' t u x y (one_message_reason input told told' none none') refuses refuses'
+refuted_once policy most input a b t u x y sa sb (does_not m is_m fails is_t is_x) (no_message recorded none refuses) = absurd (message_or_not input m recorded is_m none)
+refuted_once policy most input a b t u x y sa sb (no_message recorded none refuses) (refutes n is_n holds is_u is_y) = absurd (message_or_not input n recorded is_n none)
+refuted_once policy most input a b t u x y sa sb (no_message recorded none refuses) (does_not n is_n fails is_u is_y) = absurd (message_or_not input n recorded is_n none)
+refuted_once policy most input a b t u x y sa sb (no_message recorded none refuses) (no_message recorded' none' refuses') =
+    refused_once recorded recorded' t u x y (one_message_reason input recorded recorded' none none') refuses refuses'
 
 pub refute_once : (policy : Unknown) (most : Levels) (inputs : Inputs) (t u : List ℕ) (x y : Exit) → IsRefuteOutcome policy most inputs t x → IsRefuteOutcome policy most inputs u y → Same t u x y
 refute_once policy most inputs = of_pair_once (IsRefutation policy most inputs.message) (refuted_once policy most inputs.message) inputs

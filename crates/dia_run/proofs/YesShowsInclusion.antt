@@ -27,7 +27,7 @@ not_bad exit is_bad is_yes = cc
 yes_includes : (u : Unknown) (inputs : Inputs) (a b : Dictionary) (table : PlainTable) (answer : Answer) (text : List ℕ) (exit : Exit) → IsDictionaryText inputs.first a
     → IsDictionaryText inputs.second b
     → IsTableText inputs.table table → IsTableAnswer a b u table answer → IsAnswerText table answer text exit → exit ≡ Yes → TextsInclude u inputs
-yes_includes u inputs a b table answer.Yes text exit is_a is_b is_table closed told is_yes = record {
+yes_includes u inputs a b table answer.Yes text exit is_a is_b is_table closed recorded is_yes = record {
   a = a;
   b = b;
   table = table;
@@ -38,13 +38,13 @@ yes_includes u inputs a b table answer.Yes text exit is_a is_b is_table closed t
       let shown = included a b is_a.4 is_b.4 u table closed most bytes c command (command.name, name) is_c listed refl valid in
       (shown.1, shown.3, (shown.0, shown.2, shown.4));
 }
-yes_includes u inputs a b table (answer.No pair.Command i test) text exit is_a is_b is_table failed told is_yes = absurd (not_no exit told.3 is_yes)
-yes_includes u inputs a b table (answer.No pair.Avp i test) text exit is_a is_b is_table failed told is_yes = absurd (not_no exit told.3 is_yes)
+yes_includes u inputs a b table (answer.No pair.Command i test) text exit is_a is_b is_table failed recorded is_yes = absurd (not_no exit recorded.3 is_yes)
+yes_includes u inputs a b table (answer.No pair.Avp i test) text exit is_a is_b is_table failed recorded is_yes = absurd (not_no exit recorded.3 is_yes)
 
 compare_includes : (u : Unknown) (inputs : Inputs) (text : List ℕ) (exit : Exit) → IsCompareOutcome u inputs text exit → exit ≡ Yes → TextsInclude u inputs
-compare_includes u inputs text exit (ended a b is_a is_b (compared table answer is_table is_answer told)) is_yes =
-    yes_includes u inputs a b table answer text exit is_a is_b is_table is_answer told is_yes
-compare_includes u inputs text exit (ended a b is_a is_b (no_table told none refuses)) is_yes = absurd (not_bad exit refuses.1 is_yes)
+compare_includes u inputs text exit (ended a b is_a is_b (compared table answer is_table is_answer recorded)) is_yes =
+    yes_includes u inputs a b table answer text exit is_a is_b is_table is_answer recorded is_yes
+compare_includes u inputs text exit (ended a b is_a is_b (no_table recorded none refuses)) is_yes = absurd (not_bad exit refuses.1 is_yes)
 compare_includes u inputs text exit (no_first why none refuses) is_yes = absurd (not_bad exit refuses.1 is_yes)
 compare_includes u inputs text exit (no_second a why is_a none refuses) is_yes = absurd (not_bad exit refuses.1 is_yes)
 

@@ -10,18 +10,18 @@ use Rattle.dia_check.specs.declared.Refusal.TheVariants as refusal
 use Rattle.dia_check.specs.declared.Reason.TheVariants as reason
 use Rattle.dia_check.specs.declared.Stream.{Stream}
 use Rattle.dia_check.specs.Streaming.{taken_of}
-use Rattle.dia_check.specs.Streams.{StandsFor}
+use Rattle.dia_check.specs.Streams.{Denotes}
 use Rattle.dia_run.specs.Texts.{SpellsNone}
 
 -- of these bytes a stream took those of the message, and this says whether others follow them
 pub record WasFed {B : Type 0} {ghosts : Ghosts B} (meaning : B → Dictionary) (s : Stream B ghosts)
     (d : Dictionary) (u : Unknown) (most : Levels) (bytes : List ℕ) (trailing : Bool) : Type 0 where
-  pub stands : StandsFor meaning s d u most (taken_of bytes)
+  pub occurs : Denotes meaning s d u most (taken_of bytes)
   pub follow : IsTrue trailing ↔ (length (taken_of bytes) < length bytes)
 
 -- the text spells no bytes, and this is told
 abbrev pub IsNoHexadecimal : List ℕ → List ℕ → Type 0
-IsNoHexadecimal text told = SpellsNone text × (told ≡ codes "message: not hexadecimal")
+IsNoHexadecimal text recorded = SpellsNone text × (recorded ≡ codes "message: not hexadecimal")
 
 -- the version or Message Length is at fault, so that it isn't known where the message ends
 abbrev pub IsEndless : Result Selected Refusal → Type 0

@@ -51,8 +51,8 @@ pub record Level : Type 0 where
   pub bytes : List ℕ
 
 -- what is behind an AVP at the front of a level
-abbrev pub behind : Level → PlainAvp → List ℕ → Level
-behind level v rest = record { depth = level.depth; place = level.place + padded_length v; bytes = rest }
+abbrev pub following : Level → PlainAvp → List ℕ → Level
+following level v rest = record { depth = level.depth; place = level.place + padded_length v; bytes = rest }
 
 -- the data of a group at the front of a level
 abbrev pub inside : Level → PlainAvp → Level
@@ -67,11 +67,11 @@ pub data IsListing (d : Dictionary) : Level → List ℕ → Bool → Type 0 whe
       → IsListing d level text bad
   avp : {level : Level} {text : List ℕ} {bad : Bool} (v : PlainAvp) (rest name value more : List ℕ)
       → BeginsWith v level.bytes rest → IsLeafText d v name value
-      → IsListing d (behind level v rest) more bad → text ≡ avp_line level.place level.depth v name value ++ more
+      → IsListing d (following level v rest) more bad → text ≡ avp_line level.place level.depth v name value ++ more
       → IsListing d level text bad
   group : {level : Level} {text : List ℕ} {bad : Bool} (v : PlainAvp) (e : DictEntry) (rest members more : List ℕ)
       → BeginsWith v level.bytes rest → IsGroup d v e
-      → IsListing d (inside level v) members false → IsListing d (behind level v rest) more bad
+      → IsListing d (inside level v) members false → IsListing d (following level v rest) more bad
       → text ≡ avp_line level.place level.depth v e.name (codes "group") ++ members ++ more → IsListing d level text bad
   bad_group : {level : Level} {text : List ℕ} {bad : Bool} (v : PlainAvp) (e : DictEntry) (rest members : List ℕ)
       → BeginsWith v level.bytes rest → IsGroup d v e

@@ -26,7 +26,7 @@ use Rattle.dia_io.specs.declared.Input.{Input}
 use Rattle.dia_io.specs.declared.Inputs.{Inputs}
 use Rattle.dia_io.specs.declared.Exit.{Exit}
 use Rattle.dia_io.specs.declared.Exit.TheVariants.{Yes, No, Bad}
-use Rattle.dia_report.specs.Refusals.{dictionary_line, TellsOf}
+use Rattle.dia_report.specs.Refusals.{dictionary_line, RecordsOf}
 use Rattle.dia_run.specs.Texts.{line, IsSourceText, IsNoSourceText, IsDictionaryText, IsNoDictionaryText}
 use Rattle.dia_run.specs.Texts.{IsMessageText, IsNoMessageText}
 use Rattle.dia_run.specs.Verdict.{IsVerdict}
@@ -35,7 +35,7 @@ use Rattle.dia_run.specs.Listing.{header_line, IsListing}
 
 -- an input is refused in one line
 abbrev pub Refuses : List ℕ → List ℕ → Exit → Type 0
-Refuses told text exit = (text ≡ line told) × (exit ≡ Bad)
+Refuses recorded text exit = (text ≡ line recorded) × (exit ≡ Bad)
 
 -- a bad length ends a listing with No
 abbrev pub listing_exit : Bool → Exit
@@ -63,8 +63,8 @@ pub data IsMessageOutcome (P : Dictionary → List ℕ → List ℕ → Exit →
       → P d bytes text exit → IsMessageOutcome P inputs text exit
   no_dictionary : (why : List ℕ) → IsNoDictionaryText inputs.first why → Refuses (dictionary_line 1 why) text exit
       → IsMessageOutcome P inputs text exit
-  no_message : (d : Dictionary) (told : List ℕ) → IsDictionaryText inputs.first d → IsNoMessageText inputs.message told
-      → Refuses told text exit → IsMessageOutcome P inputs text exit
+  no_message : (d : Dictionary) (recorded : List ℕ) → IsDictionaryText inputs.first d → IsNoMessageText inputs.message recorded
+      → Refuses recorded text exit → IsMessageOutcome P inputs text exit
 
 -- `show` of the inputs
 abbrev pub IsShowOutcome : Inputs → List ℕ → Exit → Type 0
@@ -100,7 +100,7 @@ pub data IsPairOutcome (P : Dictionary → Dictionary → List ℕ → Exit → 
 pub data IsComparison (u : Unknown) (input : Input) (a b : Dictionary) (text : List ℕ) (exit : Exit) : Type 0 where
   compared : (table : PlainTable) (answer : Answer) → IsTableText input table → IsCompared a b u table answer
       → IsAnswerText table answer text exit → IsComparison u input a b text exit
-  no_table : (told : List ℕ) → IsNoTableText input told → Refuses told text exit → IsComparison u input a b text exit
+  no_table : (recorded : List ℕ) → IsNoTableText input recorded → Refuses recorded text exit → IsComparison u input a b text exit
 
 -- `compare` of the inputs
 abbrev pub IsCompareOutcome : Unknown → Inputs → List ℕ → Exit → Type 0
@@ -117,7 +117,7 @@ pub data IsRefutation (u : Unknown) (most : Levels) (input : Input) (a b : Dicti
       → IsRefutation u most input a b text exit
   does_not : (bytes : List ℕ) → IsMessageText input bytes → ¬ IsRefuted u most a b bytes → text ≡ line (codes "does not refute")
       → exit ≡ No → IsRefutation u most input a b text exit
-  no_message : (told : List ℕ) → IsNoMessageText input told → Refuses told text exit → IsRefutation u most input a b text exit
+  no_message : (recorded : List ℕ) → IsNoMessageText input recorded → Refuses recorded text exit → IsRefutation u most input a b text exit
 
 -- `refute` of the inputs
 abbrev pub IsRefuteOutcome : Unknown → Levels → Inputs → List ℕ → Exit → Type 0
@@ -150,4 +150,4 @@ IsOutcome (Propose u names) inputs text exit = IsProposeOutcome u (map (λ name.
 -- what was made holds: an outcome, or the line of a refusal
 abbrev pub Ends : (List ℕ → Exit → Type 0) → Result Outcome Refused → Type 0
 Ends P (Ok o) = P (string_bytes o.text) o.exit
-Ends P (Err refused) = TellsOf (λ told. P (line told) Bad) refused
+Ends P (Err refused) = RecordsOf (λ recorded. P (line recorded) Bad) refused

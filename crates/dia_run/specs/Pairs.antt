@@ -31,12 +31,12 @@ table_fault_text (table.Limit n) = fault_at (codes "limit") n
 table_fault_text table.NoMemory = []
 
 -- the input is no table's text, and this is told
-pub data IsNoTableText (input : Input) (told : List ℕ) : Type 0 where
-  too_long : IsOver input max_table → told ≡ table_line (codes "too long") → IsNoTableText input told
-  not_text : (text : List ℕ) → Holds input max_table text → ¬ IsUtf8 text → told ≡ table_line (codes "not text")
-      → IsNoTableText input told
+pub data IsNoTableText (input : Input) (recorded : List ℕ) : Type 0 where
+  too_long : IsOver input max_table → recorded ≡ table_line (codes "too long") → IsNoTableText input recorded
+  not_text : (text : List ℕ) → Holds input max_table text → ¬ IsUtf8 text → recorded ≡ table_line (codes "not text")
+      → IsNoTableText input recorded
   fault : (text : List ℕ) (f : TableFault) → Holds input max_table text → IsUtf8 text → IsTableFault text f
-      → f ≢ table.NoMemory → told ≡ table_line (table_fault_text f) → IsNoTableText input told
+      → f ≢ table.NoMemory → recorded ≡ table_line (table_fault_text f) → IsNoTableText input recorded
 
 -- ---- what is written of pairs
 

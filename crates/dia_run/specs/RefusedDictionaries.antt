@@ -7,9 +7,9 @@ use Rattle.dia_run.specs.Texts.{IsDictionaryText, IsNoDictionaryText}
 
 -- the first dictionary is refused with this line
 abbrev pub RefusesFirst : Inputs → List ℕ → Type 0
-RefusesFirst inputs told = (why : List ℕ) × IsNoDictionaryText inputs.first why × (told ≡ dictionary_line 1 why)
+RefusesFirst inputs recorded = (why : List ℕ) × IsNoDictionaryText inputs.first why × (recorded ≡ dictionary_line 1 why)
 
 -- so is the second
 abbrev pub RefusesSecond : Inputs → List ℕ → Type 0
-RefusesSecond inputs told = (a : Dictionary) × IsDictionaryText inputs.first a
-    × ((why : List ℕ) × IsNoDictionaryText inputs.second why × (told ≡ dictionary_line 2 why))
+RefusesSecond inputs recorded = (a : Dictionary) × IsDictionaryText inputs.first a
+    × ((why : List ℕ) × IsNoDictionaryText inputs.second why × (recorded ≡ dictionary_line 2 why))

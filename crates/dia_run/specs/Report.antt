@@ -25,7 +25,7 @@ use Rattle.dia_report.specs.declared.refusing.Refused.TheVariants as refusal
 use Rattle.dia_report.specs.declared.bad_input.BadInput.TheVariants.{Dictionary, Table}
 use Rattle.dia_report.specs.declared.bad_input.BadDictionary.TheVariants.{NotText, NoSource, Wrong}
 use Rattle.dia_report.specs.declared.bad_input.BadTable.TheVariants as table
-use Rattle.dia_report.specs.Refusals.{TellsOf, bad_input_text}
+use Rattle.dia_report.specs.Refusals.{RecordsOf, bad_input_text}
 use Rattle.dia_run.specs.Outcome.{Refuses}
 use Rattle.dia_run.specs.Pairs.{IsTableText, IsAnswerText}
 use Rattle.dia_run.specs.Texts.{line, IsNoText, IsSourceText, IsDictionaryText, IsMessageText}
@@ -34,7 +34,7 @@ use Rattle.dia_run.specs.Verdict.{IsVerdict}
 -- what was made holds: a text and an end, or the line of a refusal
 abbrev pub Answers : (List ℕ → Exit → Type 0) → Result Answered AnyRefusal → Type 0
 Answers P (Ok answered) = P (string_bytes answered.text) answered.exit
-Answers P (Err refused) = TellsOf (λ told. P (line told) Bad) refused
+Answers P (Err refused) = RecordsOf (λ recorded. P (line recorded) Bad) refused
 
 -- the input is the text of the source, and names the dictionary
 abbrev pub IsReadFrom : (IndexedBook → AnyDictionary) → Input → ReadBook → Type 0
@@ -70,10 +70,10 @@ abbrev pub HasReport : (IndexedBook → AnyDictionary) → Inputs → Answered �
 HasReport meaning inputs answered = IsReport meaning inputs answered.report (string_bytes answered.text) answered.exit
 
 -- the report has the input that is refused, and its line was written. Where memory was refused there is no answer
-abbrev pub TellsRefusal : AnyRefusal → Answered → Type 0
-TellsRefusal (refusal.Bad bad) answered = (answered.report ≡ Refused bad)
+abbrev pub RecordsRefusal : AnyRefusal → Answered → Type 0
+RecordsRefusal (refusal.Bad bad) answered = (answered.report ≡ Refused bad)
     × Refuses (bad_input_text bad) (string_bytes answered.text) answered.exit
-TellsRefusal refusal.NoMemory answered = ⊥
+RecordsRefusal refusal.NoMemory answered = ⊥
 
 -- what is told of a dictionary was found in this input: where its text is refused, or what it says; and of a table, where its bytes are no text
 abbrev pub HasFinding : Input → AnyRefusal → Type 0

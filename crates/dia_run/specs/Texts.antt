@@ -64,10 +64,10 @@ abbrev pub IsMessageText : Input → List ℕ → Type 0
 IsMessageText input bytes = (text : List ℕ) × Holds input max_message_text text × (decode_of (digits_of text) ≡ Ok bytes)
 
 -- the input is no hexadecimal text within the limit, and this is told
-pub data IsNoMessageText (input : Input) (told : List ℕ) : Type 0 where
-  too_long : IsOver input max_message_text → told ≡ codes "message: too long" → IsNoMessageText input told
+pub data IsNoMessageText (input : Input) (recorded : List ℕ) : Type 0 where
+  too_long : IsOver input max_message_text → recorded ≡ codes "message: too long" → IsNoMessageText input recorded
   not_hexadecimal : (text : List ℕ) → Holds input max_message_text text → ¬ IsOk (decode_of (digits_of text))
-      → told ≡ codes "message: not hexadecimal" → IsNoMessageText input told
+      → recorded ≡ codes "message: not hexadecimal" → IsNoMessageText input recorded
 
 -- the text spells no bytes
 abbrev pub SpellsNone : List ℕ → Type 0

@@ -1,10 +1,10 @@
 //! The text of each command, and how it ends.
 
 ghost use Rattle.std.specs.Prelude.{◌≡◌, Ok, IfOk, IfErr, IsErr, string_bytes};
-ghost use Rattle.dia_run.specs.Report.{TellsRefusal};
+ghost use Rattle.dia_run.specs.Report.{RecordsRefusal};
 ghost use Rattle.dia_io.specs.declared.Exit.TheVariants.{Bad};
 ghost use Rattle.dia_run.specs.Texts.{line};
-ghost use Rattle.dia_report.specs.Refusals.{TellsOf, bad_input_text};
+ghost use Rattle.dia_report.specs.Refusals.{RecordsOf, bad_input_text};
 
 use dia_io::Exit;
 use dia_report::{Answered, BadInput, Refused, Report};
@@ -25,7 +25,7 @@ pub struct Outcome {
 }
 
 /// The outcome that writes this text.
-pub fn told(alloc: Global, text: &str, exit: Exit) -> Result<Outcome, AllocError>
+pub fn recorded(alloc: Global, text: &str, exit: Exit) -> Result<Outcome, AllocError>
     ensures text { IfOk result (λ outcome. string_bytes outcome.text ≡ text.now) }
     ensures exit { IfOk result (λ outcome. outcome.exit ≡ exit) }
 {
@@ -48,7 +48,7 @@ fn refuse(alloc: Global, bad: &BadInput) -> Result<Outcome, AllocError>
 pub fn outcome_of(alloc: Global, made: Result<Outcome, Refused>) -> Result<Outcome, AllocError>
     ensures done { IfOk made (λ outcome. result ≡ Ok outcome) }
     ensures text { IfErr made
-        (TellsOf (λ told. IfOk result (λ outcome. string_bytes outcome.text ≡ line told))) }
+        (RecordsOf (λ recorded. IfOk result (λ outcome. string_bytes outcome.text ≡ line recorded))) }
     ensures exit { IsErr made → IfOk result (λ outcome. outcome.exit ≡ Exit.Bad) }
     ensures memory { IfErr made (λ refused. refused ≡ Refused.NoMemory → IsErr result) }
 {
@@ -62,7 +62,7 @@ pub fn outcome_of(alloc: Global, made: Result<Outcome, Refused>) -> Result<Outco
 /// What is answered for a command: what was made, or the line of an input that is refused.
 pub fn answer_of(alloc: Global, made: Result<Answered, Refused>) -> Result<Answered, AllocError>
     ensures done { IfOk made (λ answered. result ≡ Ok answered) }
-    ensures refused { IfErr made (λ refused. IfOk result (TellsRefusal refused)) }
+    ensures refused { IfErr made (λ refused. IfOk result (RecordsRefusal refused)) }
 {
     match made {
         Ok(answered) => Ok(answered),

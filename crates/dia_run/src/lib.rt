@@ -22,9 +22,9 @@ mod inputs;
 mod running;
 
 pub use commands::check::{push_subject, verdict};
-pub use commands::compare::{test_word, told_answer};
+pub use commands::compare::{recorded_answer, test_word};
 pub use commands::show::{listing_exit, push_vendor, show_message};
-pub use commands::{Outcome, answer_of, outcome_of, told};
+pub use commands::{Outcome, answer_of, outcome_of, recorded};
 pub use dia_io::{
     Command, Exit, Failed, Feed, FromReader, Input, InputFault, Inputs, RunFault, Sink, ToWriter,
     read_input,

@@ -126,7 +126,7 @@ impl Feed for FailingFeed {
 }
 
 #[test]
-fn tells_a_feed_that_fails(rt: HostRuntime) {
+fn records_a_feed_that_fails(rt: HostRuntime) {
     for calls_left in 0..12 {
         let mut feed = FailingFeed {
             bytes_left: 10_000,
@@ -207,36 +207,36 @@ fn is_interrupted(failure: Option<io::Error>) -> bool {
 }
 
 /// Checks what a call tells.
-fn tells(rt: &impl Abort, told: Result<usize, Failed>, wanted: Result<usize, Failed>) {
-    assert!(rt; told == wanted);
+fn records(rt: &impl Abort, recorded: Result<usize, Failed>, wanted: Result<usize, Failed>) {
+    assert!(rt; recorded == wanted);
 }
 
 #[test]
 fn an_interrupted_call_of_a_feed_is_a_failure(rt: HostRuntime) {
     let mut buffer = [0u8; 4];
     let mut feed = FromReader::new(Interrupted { once: true });
-    tells(&rt, feed.get(&mut buffer), Err(Failed));
+    records(&rt, feed.get(&mut buffer), Err(Failed));
     assert!(rt; feed.failed());
     assert!(rt; is_interrupted(feed.failure()));
-    tells(&rt, feed.get(&mut buffer), Ok(1));
+    records(&rt, feed.get(&mut buffer), Ok(1));
     assert!(rt; feed.failed());
 }
 
 #[test]
 fn an_interrupted_call_of_a_sink_is_a_failure(rt: HostRuntime) {
     let mut sink = ToWriter::new(Interrupted { once: true });
-    tells(&rt, sink.put(b"text"), Err(Failed));
+    records(&rt, sink.put(b"text"), Err(Failed));
     assert!(rt; sink.failed());
     assert!(rt; is_interrupted(sink.failure()));
-    tells(&rt, sink.put(b"text"), Ok(4));
+    records(&rt, sink.put(b"text"), Ok(4));
     assert!(rt; sink.failed());
 }
 
 #[test]
 fn a_writer_that_takes_nothing_fails(rt: HostRuntime) {
     let mut sink = ToWriter::new(Full);
-    tells(&rt, sink.put(b""), Ok(0));
+    records(&rt, sink.put(b""), Ok(0));
     assert!(rt; !sink.failed());
-    tells(&rt, sink.put(b"text"), Err(Failed));
+    records(&rt, sink.put(b"text"), Err(Failed));
     assert!(rt; sink.failed());
 }

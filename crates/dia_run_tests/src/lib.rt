@@ -14,10 +14,10 @@ mod devices;
 #[cfg(test)]
 mod peer;
 #[cfg(test)]
+mod recorded;
+#[cfg(test)]
 mod refused;
 #[cfg(test)]
 mod rows;
-#[cfg(test)]
-mod told;
 #[cfg(test)]
 mod words;

@@ -42,7 +42,7 @@ fn relay(rt: &(impl AllocGlobal + Abort), config: Config, role: Role) -> Box<Cor
 }
 
 /// What a core does at an event. Where memory is refused, nothing has changed, and the event is given again.
-fn tell(rt: &impl Abort, core: &mut Core, event: Event<'_>) -> Vec<Output> {
+fn deliver(rt: &impl Abort, core: &mut Core, event: Event<'_>) -> Vec<Output> {
     let before = (core.state(), core.common().len());
     if let Ok(outputs) = core.step(event) {
         return outputs;

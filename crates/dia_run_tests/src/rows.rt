@@ -158,7 +158,7 @@ fn takes<B: Book>(
         let (count, taken) = piece.split_once('/').expect(rt, call);
         let (taken, end) = taken.split_once('/').expect(rt, call);
         let count = number_of(rt, count) as usize;
-        let (front, behind) = rest.split_at_checked(count).expect(rt, call);
+        let (front, following) = rest.split_at_checked(count).expect(rt, call);
         feed(
             rt,
             &mut stream,
@@ -166,7 +166,7 @@ fn takes<B: Book>(
             number_of(rt, taken) as usize,
             end == "done",
         );
-        rest = behind;
+        rest = following;
     }
     is_verdict(rt, book, stream.finish(), wanted);
 }

@@ -17,7 +17,7 @@ use Rattle.dia_run.specs.Listing.{IsGroup}
 use Rattle.dia_data.specs.Shown.{IsValueText}
 use Rattle.dia_show.specs.Dates.{AddsTime, IsTimeText}
 use Rattle.dia_show.specs.Words.{word_of}
-use Rattle.dia_show.specs.Listing.{Manner, IsDateOf, unknown, leaf, date, dated, columns, has_date, told_format, word_note, AddsAvp, AddsDateNote, AddsNameAndTold, AddsTold}
+use Rattle.dia_show.specs.Listing.{Manner, IsDateOf, unknown, leaf, date, dated, columns, has_date, recorded_format, word_note, AddsAvp, AddsDateNote, AddsNameAndRecorded, AddsRecorded}
 
 plain_format-Grouped : (f : Format) → plain_format f ≡ Grouped → f ≡ format.Grouped
 plain_format-Grouped format.Grouped h = refl
@@ -31,7 +31,7 @@ group_joined : (old front name : List ℕ) → ((old ++ front) ++ name) ++ codes
 group_joined old front name = simp append_assoc
 
 pub unknown_added : (m : Manner) (d : Dictionary) (place depth : ℕ) (v : PlainAvp) (old front new : List ℕ) → None ≡ entry_of d (key_of v) → front ≡ old ++ columns m.names place depth v
-    → AddsNameAndTold m (codes "?") (AnyBytes OctetString) v.bytes front new
+    → AddsNameAndRecorded m (codes "?") (AnyBytes OctetString) v.bytes front new
     → AddsAvp m d place depth v old new false
 unknown_added m d place depth v old front new none is_front (value, shown, is_new) = (
   codes "?",
@@ -54,7 +54,7 @@ group_added m d place depth v old front named new name e is_group is_front is_na
 -- an AVP that the book knows as no group has the name and the value that were added
 pub leaf_added : (m : Manner) (d : Dictionary) (place depth : ℕ) (v : PlainAvp) (i : ℕ) (f : Format) (name old front new : List ℕ) → Some i ≡ entry_of d (key_of v)
     → IfSome (slice_get d.entries i) (λ e. name ≡ e.name) → IfSome (slice_get d.entries i) (λ e. plain_format f ≡ e.format) → ¬ (f ≡ format.Grouped)
-    → front ≡ old ++ columns m.names place depth v → AddsNameAndTold m name (plain_format f) v.bytes front new → AddsAvp m d place depth v old new false
+    → front ≡ old ++ columns m.names place depth v → AddsNameAndRecorded m name (plain_format f) v.bytes front new → AddsAvp m d place depth v old new false
 leaf_added m d place depth v i f name old front new is_i is_name is_format no_group is_front (value, shown, is_new) =
     elim (slice_get_cases d.entries i).1 [
       | inl (e, inside, is_e, here) ↦
@@ -69,22 +69,22 @@ leaf_added m d place depth v i f name old front new is_i is_name is_format no_gr
       | inr (past, none) ↦ absurd (omega (arith, past, position-within (λ (e : DictEntry). same_key (key_of v) e.key) d.entries i (sym is_i)))
     ]
 
-told_joined : (old name blank told end : List ℕ) → (((old ++ name) ++ blank) ++ told) ++ end ≡ old ++ ((name ++ blank ++ told) ++ end)
-told_joined old name blank told end = simp append_assoc
+recorded_joined : (old name blank recorded end : List ℕ) → (((old ++ name) ++ blank) ++ recorded) ++ end ≡ old ++ ((name ++ blank ++ recorded) ++ end)
+recorded_joined old name blank recorded end = simp append_assoc
 
 -- the name and the data, which end a line
-pub told_behind : (m : Manner) (name : List ℕ) (format : PlainFormat) (bytes old one two three new : List ℕ) → one ≡ old ++ name → two ≡ one ++ codes " " → AddsTold m name format bytes two three
-    → new ≡ three ++ codes "\n" → AddsNameAndTold m name format bytes old new
-told_behind m name format bytes old one two three new is_one is_two (told, is_told, is_three) is_new = (
-  told,
-  is_told,
-  is_new ∙ ap (λ (t : List ℕ). t ++ codes "\n") (is_three ∙ ap (λ (t : List ℕ). t ++ told) (is_two ∙ ap (λ (t : List ℕ). t ++ codes " ") is_one)) ∙ told_joined old name (codes " ") told (codes "\n"),
+pub recorded_after : (m : Manner) (name : List ℕ) (format : PlainFormat) (bytes old one two three new : List ℕ) → one ≡ old ++ name → two ≡ one ++ codes " " → AddsRecorded m name format bytes two three
+    → new ≡ three ++ codes "\n" → AddsNameAndRecorded m name format bytes old new
+recorded_after m name format bytes old one two three new is_one is_two (recorded, is_recorded, is_three) is_new = (
+  recorded,
+  is_recorded,
+  is_new ∙ ap (λ (t : List ℕ). t ++ codes "\n") (is_three ∙ ap (λ (t : List ℕ). t ++ recorded) (is_two ∙ ap (λ (t : List ℕ). t ++ codes " ") is_one)) ∙ recorded_joined old name (codes " ") recorded (codes "\n"),
 )
 
 -- what is told of data: its value, its word and its date
-pub told_added : (m : Manner) (name : List ℕ) (format : PlainFormat) (bytes value old one two new : List ℕ) → IsValueText (told_format m.names format bytes) bytes value → one ≡ old ++ value
-    → two ≡ one ++ word_note (word_of m.words name value) → AddsDateNote m.names format bytes two new → AddsTold m name format bytes old new
-told_added m name format bytes value old one two new is_value is_one is_two (note, is_note, is_new) =
+pub recorded_added : (m : Manner) (name : List ℕ) (format : PlainFormat) (bytes value old one two new : List ℕ) → IsValueText (recorded_format m.names format bytes) bytes value → one ≡ old ++ value
+    → two ≡ one ++ word_note (word_of m.words name value) → AddsDateNote m.names format bytes two new → AddsRecorded m name format bytes old new
+recorded_added m name format bytes value old one two new is_value is_one is_two (note, is_note, is_new) =
     let word = word_note (word_of m.words name value) in (
       value ++ word ++ note,
       record { value = value; note = note; is_value = is_value; is_note = is_note; parts = refl },

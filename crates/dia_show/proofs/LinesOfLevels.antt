@@ -8,7 +8,7 @@ use Rattle.dia_wire.specs.Wire.{PlainAvp, head_length, avp_length, padded_length
 use Rattle.dia_wire.proofs.Spelling.{at_least_8, opened, rounded-le}
 use Rattle.dia_dict.specs.Dictionary.{Dictionary, DictEntry}
 use Rattle.dia_show.specs.declared.listing.Rest.{Rest}
-use Rattle.dia_run.specs.Listing.{Level, behind, inside, IsGroup, bad_length_line}
+use Rattle.dia_run.specs.Listing.{Level, following, inside, IsGroup, bad_length_line}
 use Rattle.dia_show.specs.Listing.{Manner, IsListing, end, bad_length, avp, group, bad_group, AddsAvp, AddsLevel, line_of}
 
 -- what is left of a level at a depth
@@ -32,19 +32,19 @@ Owes-front m d depth (r ∷ rs) level next front text bad f (inr (h, is_bad)) = 
 
 -- a group that is entered: its members come first, and then what is behind it
 Owes-group : (m : Manner) (d : Dictionary) (depth : ℕ) (rs : List Rest) (r : Rest) (level : Level) (v : PlainAvp) (e : DictEntry) (rest text : List ℕ) (bad : Bool) → BeginsWith v level.bytes rest → IsGroup d v e
-    → level_of (depth + length rs) r ≡ behind level v rest → Owes m d depth (rs ++ r ∷ []) (inside level v) text bad
+    → level_of (depth + length rs) r ≡ following level v rest → Owes m d depth (rs ++ r ∷ []) (inside level v) text bad
     → Owes m d depth rs level (line_of m.names level.place level.depth v e.name (codes "group") ++ text) bad
-Owes-group m d depth [] r level v e rest text bad begins is_group is_behind (inl (inner, outer, h, left, parts)) =
-    let here : level_of depth r ≡ behind level v rest = ap (λ (n : ℕ). level_of n r) (omega arith) ∙ is_behind in
+Owes-group m d depth [] r level v e rest text bad begins is_group is_after (inl (inner, outer, h, left, parts)) =
+    let here : level_of depth r ≡ following level v rest = ap (λ (n : ℕ). level_of n r) (omega arith) ∙ is_after in
     group v e rest inner outer begins is_group h (subst (λ (l : Level). IsListing m d l outer bad) here left)
     (ap (λ (t : List ℕ). line_of m.names level.place level.depth v e.name (codes "group") ++ t) parts ∙ sym (append_assoc (line_of m.names level.place level.depth v e.name (codes "group")) inner outer))
-Owes-group m d depth [] r level v e rest text bad begins is_group is_behind (inr (h, is_bad)) = bad_group v e rest text begins is_group h refl is_bad
-Owes-group m d depth (q ∷ rs) r level v e rest text bad begins is_group is_behind (inl (inner, outer, h, left, parts)) =
+Owes-group m d depth [] r level v e rest text bad begins is_group is_after (inr (h, is_bad)) = bad_group v e rest text begins is_group h refl is_bad
+Owes-group m d depth (q ∷ rs) r level v e rest text bad begins is_group is_after (inl (inner, outer, h, left, parts)) =
     let line = line_of m.names level.place level.depth v e.name (codes "group") in
-    let here : level_of (depth + 1 + length rs) r ≡ behind level v rest = ap (λ (n : ℕ). level_of n r) (omega arith) ∙ is_behind in
+    let here : level_of (depth + 1 + length rs) r ≡ following level v rest = ap (λ (n : ℕ). level_of n r) (omega arith) ∙ is_after in
     inl (line ++ inner, outer, Owes-group m d (depth + 1) rs r level v e rest inner false begins is_group here h, left, ap (λ (t : List ℕ). line ++ t) parts ∙ sym (append_assoc line inner outer))
-Owes-group m d depth (q ∷ rs) r level v e rest text bad begins is_group is_behind (inr (h, is_bad)) =
-    let here : level_of (depth + 1 + length rs) r ≡ behind level v rest = ap (λ (n : ℕ). level_of n r) (omega arith) ∙ is_behind in
+Owes-group m d depth (q ∷ rs) r level v e rest text bad begins is_group is_after (inr (h, is_bad)) =
+    let here : level_of (depth + 1 + length rs) r ≡ following level v rest = ap (λ (n : ℕ). level_of n r) (omega arith) ∙ is_after in
     inr (Owes-group m d (depth + 1) rs r level v e rest text true begins is_group here h, is_bad)
 
 -- a level that is done: what is left of the one round it comes next
@@ -104,12 +104,12 @@ started m d whole before r within same = record {
 pub leaf_added : (m : Manner) (d : Dictionary) (whole : Level) (before now new : List ℕ) (rs : List Rest) (r next : Rest) (depth : ℕ) (v : PlainAvp) → IsUnderWay m d whole before now rs r
     → BeginsWith v r.bytes.now next.bytes.now → next.end ≡ r.end
     → depth ≡ length rs → AddsAvp m d (r.end - length r.bytes.now) depth v now new false → IsUnderWay m d whole before new rs next
-leaf_added m d whole before now new rs r next depth v u begins same_end deep (name, told, is_leaf, added) =
+leaf_added m d whole before now new rs r next depth v u begins same_end deep (name, recorded, is_leaf, added) =
     let size = length-level v r.bytes.now next.bytes.now begins in
-    let line = line_of m.names (r.end - length r.bytes.now) (length rs) v name told in
-    let is_new : new ≡ now ++ line = added ∙ ap (λ (n : ℕ). now ++ line_of m.names (r.end - length r.bytes.now) n v name told) deep in
+    let line = line_of m.names (r.end - length r.bytes.now) (length rs) v name recorded in
+    let is_new : new ≡ now ++ line = added ∙ ap (λ (n : ℕ). now ++ line_of m.names (r.end - length r.bytes.now) n v name recorded) deep in
     let place : next.end - length next.bytes.now ≡ r.end - length r.bytes.now + padded_length v = omega (arith, size, u.within.0, same_end) in
-    let same : level_of (length rs) next ≡ behind (level_of (length rs) r) v next.bytes.now = ap (λ (n : ℕ). record { depth = length rs; place = n; bytes = next.bytes.now }) place in
+    let same : level_of (length rs) next ≡ following (level_of (length rs) r) v next.bytes.now = ap (λ (n : ℕ). record { depth = length rs; place = n; bytes = next.bytes.now }) place in
     record {
       lines = u.lines ++ line;
       text = is_new ∙ ap (λ (t : List ℕ). t ++ line) u.text ∙ append_assoc before u.lines line;
@@ -117,7 +117,7 @@ leaf_added m d whole before now new rs r next depth v u begins same_end deep (na
       all_within = u.all_within;
       goes_on = λ more bad h. subst (λ (t : List ℕ). IsListing m d whole t bad) (sym (append_assoc u.lines line more))
           (u.goes_on (line ++ more) bad (Owes-front m d 0 rs (level_of (length rs) r) (level_of (length rs) next) line more bad
-          (λ t b k. avp v next.bytes.now name told t begins is_leaf (subst (λ (l : Level). IsListing m d l t b) same k) refl) h));
+          (λ t b k. avp v next.bytes.now name recorded t begins is_leaf (subst (λ (l : Level). IsListing m d l t b) same k) refl) h));
     }
 
 pub group_entered : (m : Manner) (d : Dictionary) (whole : Level) (before now new : List ℕ) (rs : List Rest) (r next inner : Rest) (depth : ℕ) (v : PlainAvp) → IsUnderWay m d whole before now rs r
@@ -128,7 +128,7 @@ pub group_entered : (m : Manner) (d : Dictionary) (whole : Level) (before now ne
 group_entered m d whole before now new rs r next inner depth v u begins same_end is_data is_end deep (e, is_group, added) =
     let size = length-level v r.bytes.now next.bytes.now begins in
     let place : next.end - length next.bytes.now ≡ r.end - length r.bytes.now + padded_length v = omega (arith, size, u.within.0, same_end) in
-    let outside : level_of (0 + length rs) next ≡ behind (level_of (length rs) r) v next.bytes.now =
+    let outside : level_of (0 + length rs) next ≡ following (level_of (length rs) r) v next.bytes.now =
     ap (λ (n : ℕ). level_of n next) (omega arith) ∙ ap (λ (n : ℕ). record { depth = length rs; place = n; bytes = next.bytes.now }) place in
     let line = line_of m.names (r.end - length r.bytes.now) (length rs) v e.name (codes "group") in
     let is_new : new ≡ now ++ line = added ∙ ap (λ (n : ℕ). now ++ line_of m.names (r.end - length r.bytes.now) n v e.name (codes "group")) deep in
@@ -190,8 +190,8 @@ left_to_read rest outer = 2 * (length rest + bytes_left outer) + length outer
 shorter : (v : PlainAvp) (level rest : List ℕ) → BeginsWith v level rest → length rest + length v.bytes < length level
 shorter v level rest begins = omega (arith, length-level v level rest begins, rounded-le (avp_length v), at_least_8 v.vendor)
 
-pub less_behind : (v : PlainAvp) (level rest : List ℕ) (outer : List Rest) → BeginsWith v level rest → left_to_read rest outer < left_to_read level outer
-less_behind v level rest outer begins = omega (arith, shorter v level rest begins)
+pub less_following : (v : PlainAvp) (level rest : List ℕ) (outer : List Rest) → BeginsWith v level rest → left_to_read rest outer < left_to_read level outer
+less_following v level rest outer begins = omega (arith, shorter v level rest begins)
 
 pub less_inside : (v : PlainAvp) (level : List ℕ) (next : Rest) (outer waiting : List Rest) → BeginsWith v level next.bytes.now → waiting ≡ outer ++ next ∷ []
     → left_to_read v.bytes waiting < left_to_read level outer

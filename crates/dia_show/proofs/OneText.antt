@@ -14,7 +14,7 @@ use Rattle.dia_io.specs.declared.Input.{Input}
 use Rattle.dia_io.specs.declared.Input.TheVariants.{Bytes, TooLong}
 use Rattle.dia_io.specs.declared.Inputs.{Inputs}
 use Rattle.dia_io.specs.Inputs.{Holds, IsOver}
-use Rattle.dia_lines.specs.Lines.{IsLineInput, LineHasOneAnswer, told_lines}
+use Rattle.dia_lines.specs.Lines.{IsLineInput, LineHasOneAnswer, recorded_lines}
 use Rattle.dia_lines.proofs.OneAnswer.{text_once}
 use Rattle.dia_policy.specs.Limits.{max_message_text}
 use Rattle.dia_report.specs.Refusals.{dictionary_line}
@@ -56,10 +56,10 @@ module _ (inputs : Inputs) (m : Manner) (d : Dictionary) (bytes : List ℕ) (is_
         is_t ∙ ap (λ (head : Header). header_of m.names d head (length bytes) ++ lines) same ∙ ap (λ (ls : List ℕ). header_of m.names d k (length bytes) ++ ls) all.0 ∙ sym is_u,
         is_x ∙ ap listing_exit all.1 ∙ sym is_y,
       )
-  one_shown t u x y (listing h lines bad is_head is_length lists is_t is_x) (refused told is_y) = absurd (no_refusal d bytes u exits.Bad h is_head is_length told refl)
-  one_shown t u x y (refused told is_x) (listing h lines bad is_head is_length lists is_u is_y) = absurd (no_refusal d bytes t exits.Bad h is_head is_length told refl)
-  one_shown t u x y (refused told is_x) (refused told' is_y) =
-      ((one_outcome command.Show inputs t u exits.Bad exits.Bad (run.ended d bytes is_d is_message told) (run.ended d bytes is_d is_message told')).0, is_x ∙ sym is_y)
+  one_shown t u x y (listing h lines bad is_head is_length lists is_t is_x) (refused recorded is_y) = absurd (no_refusal d bytes u exits.Bad h is_head is_length recorded refl)
+  one_shown t u x y (refused recorded is_x) (listing h lines bad is_head is_length lists is_u is_y) = absurd (no_refusal d bytes t exits.Bad h is_head is_length recorded refl)
+  one_shown t u x y (refused recorded is_x) (refused recorded' is_y) =
+      ((one_outcome command.Show inputs t u exits.Bad exits.Bad (run.ended d bytes is_d is_message recorded) (run.ended d bytes is_d is_message recorded')).0, is_x ∙ sym is_y)
 
 -- ---- the words of values
 
@@ -76,9 +76,9 @@ fault_line fault.NoMemory = []
 
 -- why a text is none of words, and what is told of it
 abbrev IsRefusedWith : Input → List ℕ → Type 0
-IsRefusedWith input told = (IsOver input max_values × (told ≡ values_line bads.TooLong))
-    ⊎ (((text : List ℕ) × Holds input max_values text × (¬ IsUtf8 text) × (told ≡ values_line (bads.NotText 0)))
-    ⊎ ((f : ValuesFault) × HasFault input f × (told ≡ fault_line f)))
+IsRefusedWith input recorded = (IsOver input max_values × (recorded ≡ values_line bads.TooLong))
+    ⊎ (((text : List ℕ) × Holds input max_values text × (¬ IsUtf8 text) × (recorded ≡ values_line (bads.NotText 0)))
+    ⊎ ((f : ValuesFault) × HasFault input f × (recorded ≡ fault_line f)))
 
 refused_with : (input : Input) (bad : BadValues) → IsNoValuesText input bad → IsRefusedWith input (values_line bad)
 refused_with input bads.TooLong over = inl (over, refl)
@@ -91,19 +91,19 @@ one_fault_of : (input : Input) (f g : ValuesFault) → HasFault input f → HasF
 one_fault_of input f g (text, held, utf8, is) (other, held', utf8', is') =
     same_Some f g (sym is ∙ ap values_fault (held_once input max_values text other held held') ∙ is')
 
-told_once : (input : Input) (a b : List ℕ) → IsRefusedWith input a → IsRefusedWith input b → a ≡ b
-told_once input a b (inl (over, is)) (inl (over', is')) = is ∙ sym is'
-told_once input a b (inl (over, is)) (inr (inl (text, held, lacks, is'))) = absurd (not_over input max_values text held over)
-told_once input a b (inl (over, is)) (inr (inr (f, (text, held, utf8, wrong), is'))) = absurd (not_over input max_values text held over)
-told_once input a b (inr (inl (text, held, lacks, is))) (inl (over, is')) = absurd (not_over input max_values text held over)
-told_once input a b (inr (inl (text, held, lacks, is))) (inr (inl (other, held', lacks', is'))) = is ∙ sym is'
-told_once input a b (inr (inl (text, held, lacks, is))) (inr (inr (f, (other, held', utf8, wrong), is'))) = absurd (lacks (subst IsUtf8 (held_once input max_values other text held' held) utf8))
-told_once input a b (inr (inr (f, (text, held, utf8, wrong), is))) (inl (over, is')) = absurd (not_over input max_values text held over)
-told_once input a b (inr (inr (f, (text, held, utf8, wrong), is))) (inr (inl (other, held', lacks, is'))) = absurd (lacks (subst IsUtf8 (held_once input max_values text other held held') utf8))
-told_once input a b (inr (inr (f, has, is))) (inr (inr (g, has', is'))) = is ∙ ap fault_line (one_fault_of input f g has has') ∙ sym is'
+recorded_once : (input : Input) (a b : List ℕ) → IsRefusedWith input a → IsRefusedWith input b → a ≡ b
+recorded_once input a b (inl (over, is)) (inl (over', is')) = is ∙ sym is'
+recorded_once input a b (inl (over, is)) (inr (inl (text, held, lacks, is'))) = absurd (not_over input max_values text held over)
+recorded_once input a b (inl (over, is)) (inr (inr (f, (text, held, utf8, wrong), is'))) = absurd (not_over input max_values text held over)
+recorded_once input a b (inr (inl (text, held, lacks, is))) (inl (over, is')) = absurd (not_over input max_values text held over)
+recorded_once input a b (inr (inl (text, held, lacks, is))) (inr (inl (other, held', lacks', is'))) = is ∙ sym is'
+recorded_once input a b (inr (inl (text, held, lacks, is))) (inr (inr (f, (other, held', utf8, wrong), is'))) = absurd (lacks (subst IsUtf8 (held_once input max_values other text held' held) utf8))
+recorded_once input a b (inr (inr (f, (text, held, utf8, wrong), is))) (inl (over, is')) = absurd (not_over input max_values text held over)
+recorded_once input a b (inr (inr (f, (text, held, utf8, wrong), is))) (inr (inl (other, held', lacks, is'))) = absurd (lacks (subst IsUtf8 (held_once input max_values text other held held') utf8))
+recorded_once input a b (inr (inr (f, has, is))) (inr (inr (g, has', is'))) = is ∙ ap fault_line (one_fault_of input f g has has') ∙ sym is'
 
 one_bad : (input : Input) (bad other : BadValues) → IsNoValuesText input bad → IsNoValuesText input other → values_line bad ≡ values_line other
-one_bad input bad other h k = told_once input (values_line bad) (values_line other) (refused_with input bad h) (refused_with input other k)
+one_bad input bad other h k = recorded_once input (values_line bad) (values_line other) (refused_with input bad h) (refused_with input other k)
 
 -- ---- the inputs
 
@@ -113,24 +113,24 @@ one_named names inputs t u x y (shown d words bytes is_d are is h) (shown e othe
     (subst (λ (b : List ℕ). IsShown (record { words = words; names = names }) d b u y) (sym (one_message inputs.message bytes other is is'))
     (subst (λ (w : List Word). IsShown (record { words = w; names = names }) d other u y) (sym (one_words inputs.table words others are are'))
     (subst (λ (c : Dictionary). IsShown (record { words = others; names = names }) c other u y) (sym (one_dictionary inputs.first d e is_d is_e)) k)))
-one_named names inputs t u x y (shown d words bytes is_d are is h) (no_dictionary why none told) = absurd (dictionary_or_not inputs.first d why is_d none)
-one_named names inputs t u x y (shown d words bytes is_d are is h) (no_values e bad is_e none told) = absurd (values_or_not inputs.table words bad are none)
-one_named names inputs t u x y (shown d words bytes is_d are is h) (no_message e others why is_e are' none told) = absurd (message_or_not inputs.message bytes why is none)
-one_named names inputs t u x y (no_dictionary why none told) (shown e others other is_e are' is' k) = absurd (dictionary_or_not inputs.first e why is_e none)
-one_named names inputs t u x y (no_dictionary why none told) (no_dictionary why' none' told') =
-    refused_once (dictionary_line 1 why) (dictionary_line 1 why') t u x y (ap (dictionary_line 1) (one_reason_for_dictionary inputs.first why why' none none')) told told'
-one_named names inputs t u x y (no_dictionary why none told) (no_values e bad is_e none' told') = absurd (dictionary_or_not inputs.first e why is_e none)
-one_named names inputs t u x y (no_dictionary why none told) (no_message e others why' is_e are' none' told') = absurd (dictionary_or_not inputs.first e why is_e none)
-one_named names inputs t u x y (no_values d bad is_d none told) (shown e others other is_e are' is' k) = absurd (values_or_not inputs.table others bad are' none)
-one_named names inputs t u x y (no_values d bad is_d none told) (no_dictionary why none' told') = absurd (dictionary_or_not inputs.first d why is_d none')
-one_named names inputs t u x y (no_values d bad is_d none told) (no_values e bad' is_e none' told') =
-    refused_once (values_line bad) (values_line bad') t u x y (one_bad inputs.table bad bad' none none') told told'
-one_named names inputs t u x y (no_values d bad is_d none told) (no_message e others why is_e are' none' told') = absurd (values_or_not inputs.table others bad are' none)
-one_named names inputs t u x y (no_message d words why is_d are none told) (shown e others other is_e are' is' k) = absurd (message_or_not inputs.message other why is' none)
-one_named names inputs t u x y (no_message d words why is_d are none told) (no_dictionary why' none' told') = absurd (dictionary_or_not inputs.first d why' is_d none')
-one_named names inputs t u x y (no_message d words why is_d are none told) (no_values e bad is_e none' told') = absurd (values_or_not inputs.table words bad are none')
-one_named names inputs t u x y (no_message d words why is_d are none told) (no_message e others why' is_e are' none' told') =
-    refused_once why why' t u x y (one_message_reason inputs.message why why' none none') told told'
+one_named names inputs t u x y (shown d words bytes is_d are is h) (no_dictionary why none recorded) = absurd (dictionary_or_not inputs.first d why is_d none)
+one_named names inputs t u x y (shown d words bytes is_d are is h) (no_values e bad is_e none recorded) = absurd (values_or_not inputs.table words bad are none)
+one_named names inputs t u x y (shown d words bytes is_d are is h) (no_message e others why is_e are' none recorded) = absurd (message_or_not inputs.message bytes why is none)
+one_named names inputs t u x y (no_dictionary why none recorded) (shown e others other is_e are' is' k) = absurd (dictionary_or_not inputs.first e why is_e none)
+one_named names inputs t u x y (no_dictionary why none recorded) (no_dictionary why' none' recorded') =
+    refused_once (dictionary_line 1 why) (dictionary_line 1 why') t u x y (ap (dictionary_line 1) (one_reason_for_dictionary inputs.first why why' none none')) recorded recorded'
+one_named names inputs t u x y (no_dictionary why none recorded) (no_values e bad is_e none' recorded') = absurd (dictionary_or_not inputs.first e why is_e none)
+one_named names inputs t u x y (no_dictionary why none recorded) (no_message e others why' is_e are' none' recorded') = absurd (dictionary_or_not inputs.first e why is_e none)
+one_named names inputs t u x y (no_values d bad is_d none recorded) (shown e others other is_e are' is' k) = absurd (values_or_not inputs.table others bad are' none)
+one_named names inputs t u x y (no_values d bad is_d none recorded) (no_dictionary why none' recorded') = absurd (dictionary_or_not inputs.first d why is_d none')
+one_named names inputs t u x y (no_values d bad is_d none recorded) (no_values e bad' is_e none' recorded') =
+    refused_once (values_line bad) (values_line bad') t u x y (one_bad inputs.table bad bad' none none') recorded recorded'
+one_named names inputs t u x y (no_values d bad is_d none recorded) (no_message e others why is_e are' none' recorded') = absurd (values_or_not inputs.table others bad are' none)
+one_named names inputs t u x y (no_message d words why is_d are none recorded) (shown e others other is_e are' is' k) = absurd (message_or_not inputs.message other why is' none)
+one_named names inputs t u x y (no_message d words why is_d are none recorded) (no_dictionary why' none' recorded') = absurd (dictionary_or_not inputs.first d why' is_d none')
+one_named names inputs t u x y (no_message d words why is_d are none recorded) (no_values e bad is_e none' recorded') = absurd (values_or_not inputs.table words bad are none')
+one_named names inputs t u x y (no_message d words why is_d are none recorded) (no_message e others why' is_e are' none' recorded') =
+    refused_once why why' t u x y (one_message_reason inputs.message why why' none none') recorded recorded'
 
 -- ---- a line is one input
 
@@ -139,18 +139,18 @@ text_of (Bytes v) (Bytes w) bytes message h k (text, held, spells) = (text, (k.0
 text_of (Bytes v) TooLong bytes message h k (text, held, spells) = absurd (omega (arith, h.1, k))
 text_of TooLong b bytes message h k (text, held, spells) = absurd held
 
-none_of : (a b : Input) (bytes told : List ℕ) → IsLineInput a bytes → IsLineInput b bytes → IsNoMessageText a told → IsNoMessageText b told
-none_of (Bytes v) (Bytes w) bytes told h k (too_long over is) = too_long (subst (λ (x : List ℕ). max_message_text < length x) (h.0 ∙ sym k.0) over) is
-none_of (Bytes v) (Bytes w) bytes told h k (not_hexadecimal text held none is) = not_hexadecimal text (k.0 ∙ sym h.0 ∙ held.0, held.1) none is
-none_of (Bytes v) TooLong bytes told h k none = absurd (omega (arith, h.1, k))
-none_of TooLong (Bytes w) bytes told h k none = absurd (omega (arith, h, k.1))
-none_of TooLong TooLong bytes told h k none = none
+none_of : (a b : Input) (bytes recorded : List ℕ) → IsLineInput a bytes → IsLineInput b bytes → IsNoMessageText a recorded → IsNoMessageText b recorded
+none_of (Bytes v) (Bytes w) bytes recorded h k (too_long over is) = too_long (subst (λ (x : List ℕ). max_message_text < length x) (h.0 ∙ sym k.0) over) is
+none_of (Bytes v) (Bytes w) bytes recorded h k (not_hexadecimal text held none is) = not_hexadecimal text (k.0 ∙ sym h.0 ∙ held.0, held.1) none is
+none_of (Bytes v) TooLong bytes recorded h k none = absurd (omega (arith, h.1, k))
+none_of TooLong (Bytes w) bytes recorded h k none = absurd (omega (arith, h, k.1))
+none_of TooLong TooLong bytes recorded h k none = none
 
 same_input : (names : Bool) (inputs : Inputs) (a b : Input) (bytes : List ℕ) (answer : Answer) → IsLineInput a bytes → IsLineInput b bytes → OfLine names inputs a answer → OfLine names inputs b answer
-same_input names inputs a b bytes answer h k (shown d words message is_d are is told) = shown d words message is_d are (text_of a b bytes message h k is) told
-same_input names inputs a b bytes answer h k (no_dictionary why none told) = no_dictionary why none told
-same_input names inputs a b bytes answer h k (no_values d bad is_d none told) = no_values d bad is_d none told
-same_input names inputs a b bytes answer h k (no_message d words why is_d are none told) = no_message d words why is_d are (none_of a b bytes why h k none) told
+same_input names inputs a b bytes answer h k (shown d words message is_d are is recorded) = shown d words message is_d are (text_of a b bytes message h k is) recorded
+same_input names inputs a b bytes answer h k (no_dictionary why none recorded) = no_dictionary why none recorded
+same_input names inputs a b bytes answer h k (no_values d bad is_d none recorded) = no_values d bad is_d none recorded
+same_input names inputs a b bytes answer h k (no_message d words why is_d are none recorded) = no_message d words why is_d are (none_of a b bytes why h k none) recorded
 
 same_answer : (a b : Answer) → Same a.0 b.0 a.1 b.1 → a ≡ b
 same_answer (t, x) (u, y) (same_text, same_exit) = ap (λ (s : List ℕ). (s, x)) same_text ∙ ap (λ (e : Exit). (u, e)) same_exit
@@ -172,9 +172,9 @@ one_refusal inputs a b (inr (d, bad, is_d, none, is)) (inr (e, bad', is_e, none'
 pub one_text : (names : Bool) (inputs : Inputs) (bytes t u : List ℕ) (x y : Exit) → IsLinesOutcome names inputs bytes t x → IsLinesOutcome names inputs bytes u y → Same t u x y
 one_text names inputs bytes t u x y (all_shown answers sound h is_t is_x) (all_shown others sound' k is_u is_y) =
     let same = text_once (OfLine names inputs) (one_answer names inputs) bytes answers others h k in (
-      is_t ∙ ap (λ (a : List Answer). told_lines numbered a) same ∙ sym is_u,
+      is_t ∙ ap (λ (a : List Answer). recorded_lines numbered a) same ∙ sym is_u,
       is_x ∙ ap (λ (a : List Answer). if each_whole a then exits.Yes else exits.No) same ∙ sym is_y,
     )
-one_text names inputs bytes t u x y (all_shown answers sound h is_t is_x) (refused_input told refuses is_u) = absurd (sound told refuses)
-one_text names inputs bytes t u x y (refused_input told refuses is_t) (all_shown answers sound h is_u is_y) = absurd (sound told refuses)
-one_text names inputs bytes t u x y (refused_input told refuses is_t) (refused_input told' refuses' is_u) = refused_once told told' t u x y (one_refusal inputs told told' refuses refuses') is_t is_u
+one_text names inputs bytes t u x y (all_shown answers sound h is_t is_x) (refused_input recorded refuses is_u) = absurd (sound recorded refuses)
+one_text names inputs bytes t u x y (refused_input recorded refuses is_t) (all_shown answers sound h is_u is_y) = absurd (sound recorded refuses)
+one_text names inputs bytes t u x y (refused_input recorded refuses is_t) (refused_input recorded' refuses' is_u) = refused_once recorded recorded' t u x y (one_refusal inputs recorded recorded' refuses refuses') is_t is_u

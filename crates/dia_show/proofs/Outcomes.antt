@@ -12,7 +12,7 @@ use Rattle.dia_report.specs.declared.refusing.Refused.{Refused}
 use Rattle.dia_report.specs.declared.refusing.Refused.TheVariants.{Bad, NoMemory}
 use Rattle.dia_report.specs.declared.bad_input.BadInput.{BadInput}
 use Rattle.dia_report.specs.declared.reporting.Report.TheVariants as reports
-use Rattle.dia_report.specs.Refusals.{TellsOf, bad_input_text, dictionary_line}
+use Rattle.dia_report.specs.Refusals.{RecordsOf, bad_input_text, dictionary_line}
 use Rattle.dia_run.specs.Outcome.{Ends, IsMessageShown, listing_exit}
 use Rattle.dia_run.specs.Texts.{line, IsDictionaryText, IsNoDictionaryText, IsMessageText, IsNoMessageText}
 use Rattle.dia_show.specs.declared.reporting.Answered.{Answered}
@@ -20,7 +20,7 @@ use Rattle.dia_show.specs.declared.reporting.Report.{Report}
 use Rattle.dia_show.specs.declared.reporting.Report.TheVariants.{OfShow}
 use Rattle.dia_show.specs.Listing.{Manner, header_of, AddsLevel}
 use Rattle.dia_show.specs.Outcome.{Gives, IsNamedOutcome, IsShown, listing, refused, shown, no_dictionary, no_message}
-use Rattle.dia_show.specs.Report.{HasReport, IsTold, IsToldOfLines}
+use Rattle.dia_show.specs.Report.{HasReport, IsRecorded, IsRecordedOfLines}
 use Rattle.dia_show.specs.Words.{Word, IsValuesText}
 
 -- ---- one message
@@ -40,13 +40,13 @@ refused_so m d bytes NoMemory h = tt
 
 -- ---- the inputs
 
-pub gives_no_dictionary : (names : Bool) (inputs : Inputs) (r : Refused) → TellsOf (λ told. (why : List ℕ) × IsNoDictionaryText inputs.first why × (told ≡ dictionary_line 1 why)) r
+pub gives_no_dictionary : (names : Bool) (inputs : Inputs) (r : Refused) → RecordsOf (λ recorded. (why : List ℕ) × IsNoDictionaryText inputs.first why × (recorded ≡ dictionary_line 1 why)) r
     → Gives (IsNamedOutcome names inputs) (Err r)
 gives_no_dictionary names inputs (Bad bad) (why, h, e) = no_dictionary why h (ap line e, refl)
 gives_no_dictionary names inputs NoMemory h = tt
 
 pub gives_no_message : (names : Bool) (inputs : Inputs) (d : Dictionary) (words : List Word) (r : Refused) → IsDictionaryText inputs.first d → IsValuesText inputs.table words
-    → TellsOf (IsNoMessageText inputs.message) r → Gives (IsNamedOutcome names inputs) (Err r)
+    → RecordsOf (IsNoMessageText inputs.message) r → Gives (IsNamedOutcome names inputs) (Err r)
 gives_no_message names inputs d words (Bad bad) is_d are_words h = no_message d words (bad_input_text bad) is_d are_words h (refl, refl)
 gives_no_message names inputs d words NoMemory is_d are_words h = tt
 
@@ -64,16 +64,16 @@ refused_ends P bad (Err e) h text exit = tt
 
 -- ---- reports
 
-with_report : (meaning : IndexedBook → Dictionary) (inputs : Inputs) (a : Answered) (report : Report) → a.report ≡ report → IsTold meaning inputs report (string_bytes a.text) a.exit
+with_report : (meaning : IndexedBook → Dictionary) (inputs : Inputs) (a : Answered) (report : Report) → a.report ≡ report → IsRecorded meaning inputs report (string_bytes a.text) a.exit
     → HasReport meaning inputs a
-with_report meaning inputs a report is told = subst (λ (r : Report). IsTold meaning inputs r (string_bytes a.text) a.exit) (sym is) told
+with_report meaning inputs a report is recorded = subst (λ (r : Report). IsRecorded meaning inputs r (string_bytes a.text) a.exit) (sym is) recorded
 
-pub told_refused : {E : Type 0} (meaning : IndexedBook → Dictionary) (inputs : Inputs) (bad : BadInput) (r : Result Answered E) → IfOk r (λ a. string_bytes a.text ≡ line (bad_input_text bad))
+pub recorded_refused : {E : Type 0} (meaning : IndexedBook → Dictionary) (inputs : Inputs) (bad : BadInput) (r : Result Answered E) → IfOk r (λ a. string_bytes a.text ≡ line (bad_input_text bad))
     → IfOk r (λ a. a.exit ≡ exits.Bad) → IfOk r (λ a. a.report ≡ OfShow (reports.Refused bad)) → IfOk r (HasReport meaning inputs)
-told_refused meaning inputs bad (Ok a) text exit report = with_report meaning inputs a (OfShow (reports.Refused bad)) report (tt, (text, exit))
-told_refused meaning inputs bad (Err e) text exit report = tt
+recorded_refused meaning inputs bad (Ok a) text exit report = with_report meaning inputs a (OfShow (reports.Refused bad)) report (tt, (text, exit))
+recorded_refused meaning inputs bad (Err e) text exit report = tt
 
 -- the report of an input that is refused before the lines
-pub refused_before : (inputs : Inputs) (a : Answered) (report : Report) → a.report ≡ report → IsToldOfLines inputs report (string_bytes a.text) a.exit
-    → IsToldOfLines inputs a.report (string_bytes a.text) a.exit
-refused_before inputs a report is told = subst (λ (r : Report). IsToldOfLines inputs r (string_bytes a.text) a.exit) (sym is) told
+pub refused_before : (inputs : Inputs) (a : Answered) (report : Report) → a.report ≡ report → IsRecordedOfLines inputs report (string_bytes a.text) a.exit
+    → IsRecordedOfLines inputs a.report (string_bytes a.text) a.exit
+refused_before inputs a report is recorded = subst (λ (r : Report). IsRecordedOfLines inputs r (string_bytes a.text) a.exit) (sym is) recorded

@@ -22,7 +22,7 @@ use Rattle.dia_run.specs.Outcome.{IsMessageShown, IsShowOutcome}
 use Rattle.dia_run.specs.Outcome as run
 use Rattle.dia_show.specs.declared.reading.BadValues.{BadValues}
 use Rattle.dia_show.specs.declared.reading.BadValues.TheVariants as bads
-use Rattle.dia_show.specs.Listing.{IsDateNote, none, date, IsLeafTold, unknown, leaf, IsListing, end, bad_length, avp, group, bad_group, header_of, IsTold, plain_manner}
+use Rattle.dia_show.specs.Listing.{IsDateNote, none, date, IsLeafRecorded, unknown, leaf, IsListing, end, bad_length, avp, group, bad_group, header_of, IsRecorded, plain_manner}
 use Rattle.dia_show.specs.Outcome.{IsNamedOutcome, IsShown, listing, refused, shown, no_dictionary, no_values, no_message}
 use Rattle.dia_show.specs.Words.{IsNoValuesText, IsValuesText, Word, max_values, values_fault, words_of}
 
@@ -30,22 +30,22 @@ no_date : (format : PlainFormat) (bytes note : List ℕ) → IsDateNote false fo
 no_date format bytes note (none is_none is_note) = is_note
 no_date format bytes note (date text has is_text is_note) = absurd cc
 
-plain_told : (name : List ℕ) (format : PlainFormat) (bytes told : List ℕ) → IsTold plain_manner name format bytes told → IsValueText format bytes told
-plain_told name format bytes told t =
-    let alone : told ≡ t.value = t.parts ∙ ap (λ (n : List ℕ). (t.value ++ []) ++ n) (no_date format bytes t.note t.is_note) ∙ append-nil (t.value ++ []) ∙ append-nil t.value in
+plain_recorded : (name : List ℕ) (format : PlainFormat) (bytes recorded : List ℕ) → IsRecorded plain_manner name format bytes recorded → IsValueText format bytes recorded
+plain_recorded name format bytes recorded t =
+    let alone : recorded ≡ t.value = t.parts ∙ ap (λ (n : List ℕ). (t.value ++ []) ++ n) (no_date format bytes t.note t.is_note) ∙ append-nil (t.value ++ []) ∙ append-nil t.value in
     subst (IsValueText format bytes) (sym alone) t.is_value
 
-plain_leaf : (d : Dictionary) (v : PlainAvp) (name told : List ℕ) → IsLeafTold plain_manner d v name told → IsLeafText d v name told
-plain_leaf d v name told (unknown is_none is_name t) = plain.unknown is_none is_name ((plain_told (codes "?") (AnyBytes OctetString) v.bytes told t).accepted tt)
-plain_leaf d v name told (leaf e is_known no_group is_name t) = plain.leaf e is_known no_group is_name (plain_told e.name e.format v.bytes told t)
+plain_leaf : (d : Dictionary) (v : PlainAvp) (name recorded : List ℕ) → IsLeafRecorded plain_manner d v name recorded → IsLeafText d v name recorded
+plain_leaf d v name recorded (unknown is_none is_name t) = plain.unknown is_none is_name ((plain_recorded (codes "?") (AnyBytes OctetString) v.bytes recorded t).accepted tt)
+plain_leaf d v name recorded (leaf e is_known no_group is_name t) = plain.leaf e is_known no_group is_name (plain_recorded e.name e.format v.bytes recorded t)
 
 plain_listing : (d : Dictionary) (level : Level) (text : List ℕ) (bad : Bool) → IsListing plain_manner d level text bad → plain.IsListing d level text bad
 plain_listing d level text bad (end empty is_text is_bad) = plain.end empty is_text is_bad
 plain_listing d level text bad (bad_length some no_avp is_text is_bad) = plain.bad_length some no_avp is_text is_bad
-plain_listing d level text bad (avp v rest name told more begins is_leaf below is_text) =
-    plain.avp v rest name told more begins (plain_leaf d v name told is_leaf) (plain_listing d (plain.behind level v rest) more bad below) is_text
+plain_listing d level text bad (avp v rest name recorded more begins is_leaf below is_text) =
+    plain.avp v rest name recorded more begins (plain_leaf d v name recorded is_leaf) (plain_listing d (plain.following level v rest) more bad below) is_text
 plain_listing d level text bad (group v e rest members more begins is_group inner below is_text) =
-    plain.group v e rest members more begins is_group (plain_listing d (plain.inside level v) members false inner) (plain_listing d (plain.behind level v rest) more bad below) is_text
+    plain.group v e rest members more begins is_group (plain_listing d (plain.inside level v) members false inner) (plain_listing d (plain.following level v rest) more bad below) is_text
 plain_listing d level text bad (bad_group v e rest members begins is_group inner is_text is_bad) =
     plain.bad_group v e rest members begins is_group (plain_listing d (plain.inside level v) members true inner) is_text is_bad
 
@@ -83,6 +83,6 @@ pub law : (inputs : Inputs) (text : List ℕ) (exit : Exit) → Holds inputs.tab
 law inputs text exit empty (shown d words bytes is_d are_words is_message is_shown) =
     run.ended d bytes is_d is_message
     (plain_shown d bytes text exit (subst (λ (ws : List Word). IsShown (record { words = ws; names = false }) d bytes text exit) (no_words inputs.table words empty are_words) is_shown))
-law inputs text exit empty (no_dictionary why is_none told) = run.no_dictionary why is_none told
-law inputs text exit empty (no_values d bad is_d is_none told) = no_fault inputs.table bad empty is_none
-law inputs text exit empty (no_message d words told is_d are_words is_none refuses) = run.no_message d told is_d is_none refuses
+law inputs text exit empty (no_dictionary why is_none recorded) = run.no_dictionary why is_none recorded
+law inputs text exit empty (no_values d bad is_d is_none recorded) = no_fault inputs.table bad empty is_none
+law inputs text exit empty (no_message d words recorded is_d are_words is_none refuses) = run.no_message d recorded is_d is_none refuses

@@ -13,12 +13,12 @@ use Rattle.dia_io.specs.declared.Input.{Input}
 use Rattle.dia_io.specs.declared.Inputs.{Inputs}
 use Rattle.dia_io.specs.Writing.{AppendsFront}
 use Rattle.dia_lines.specs.FeedToSink.{AllAnswered, FrontAnswered, LinesAnswered}
-use Rattle.dia_lines.specs.Lines.{line_number, told_from, told_lines}
+use Rattle.dia_lines.specs.Lines.{line_number, recorded_from, recorded_lines}
 use Rattle.dia_lines.specs.Lines as lines
 use Rattle.dia_lines.proofs.OtherAnswers.{IsAnswered-map, FrontAnswered-map, LinesAnswered-map}
 use Rattle.dia_report.specs.declared.refusing.Refused.{Refused}
 use Rattle.dia_report.specs.declared.refusing.Refused.TheVariants.{Bad, NoMemory}
-use Rattle.dia_report.specs.Refusals.{TellsOf, bad_input_text}
+use Rattle.dia_report.specs.Refusals.{RecordsOf, bad_input_text}
 use Rattle.dia_run.specs.declared.commands.Outcome.{Outcome}
 use Rattle.dia_run.specs.Outcome.{Ends, Refuses}
 use Rattle.dia_run.specs.Texts.{line, IsDictionaryText, IsMessageText, IsNoMessageText}
@@ -30,7 +30,7 @@ use Rattle.dia_show.specs.declared.reporting.Answered.{Answered}
 use Rattle.dia_show.specs.declared.reporting.Report.{Report}
 use Rattle.dia_show.specs.declared.reporting.Report.TheVariants.{OfShow}
 use Rattle.dia_show.specs.declared.reporting.Reported.{Reported}
-use Rattle.dia_show.specs.Report.{HasLinesReport, IsToldOfLines}
+use Rattle.dia_show.specs.Report.{HasLinesReport, IsRecordedOfLines}
 use Rattle.dia_show.specs.Lines.{Answer, AreLinesListed, AreLinesShown, IsFrontShown, IsLineShown, IsLinesOutcome, OfLine, RefusesInputs, answer_of, each_whole, is_yes, numbered, refused, shown as all_lines}
 use Rattle.dia_show.specs.Listing.{Manner}
 use Rattle.dia_show.specs.Outcome.{IsShown, shown, no_message}
@@ -39,7 +39,7 @@ use Rattle.dia_show.specs.Words.{HasFault, IsNoValuesText, IsValuesText, Word, m
 -- ---- one line
 
 -- a line that spells no message
-pub line_refused : (m : Manner) (d : Dictionary) (message : Input) (r : Refused) → TellsOf (IsNoMessageText message) r → Ends (λ text exit. IsLineShown m d message (text, exit)) (Err r)
+pub line_refused : (m : Manner) (d : Dictionary) (message : Input) (r : Refused) → RecordsOf (IsNoMessageText message) r → Ends (λ text exit. IsLineShown m d message (text, exit)) (Err r)
 line_refused m d message (Bad bad) none = inr (bad_input_text bad, none, (refl, refl))
 line_refused m d message NoMemory none = tt
 
@@ -70,18 +70,18 @@ module _ (m : Manner) (d : Dictionary) where
   abbrev Says : Input → Outcome → Type 0
   Says message verdict = IsLineShown m d message (answer_of verdict)
 
-  abbrev told : List Outcome → List ℕ
-  told = told_lines (λ n verdict. numbered n (answer_of verdict))
+  abbrev recorded : List Outcome → List ℕ
+  recorded = recorded_lines (λ n verdict. numbered n (answer_of verdict))
 
-  same_from : (n : ℕ) (verdicts : List Outcome) → told_from (λ n verdict. numbered n (answer_of verdict)) n verdicts ≡ told_from numbered n (map answer_of verdicts)
+  same_from : (n : ℕ) (verdicts : List Outcome) → recorded_from (λ n verdict. numbered n (answer_of verdict)) n verdicts ≡ recorded_from numbered n (map answer_of verdicts)
   same_from n [] = refl
   same_from n (v ∷ vs) = ap (λ (t : List ℕ). numbered (line_number n) (answer_of v) ++ t) (same_from (suc n) vs)
 
-  same : (verdicts : List Outcome) → told verdicts ≡ told_lines numbered (map answer_of verdicts)
+  same : (verdicts : List Outcome) → recorded verdicts ≡ recorded_lines numbered (map answer_of verdicts)
   same verdicts = same_from 1 verdicts
 
   module _ (fed_old fed put_old put : Option (List ℕ)) where
-    pub all_listed : {W : Type 0} (saw : W → List Outcome → Type 0) (w x : W) → AllAnswered Says told saw fed_old fed put_old put w x → (each : Bool) (exit : Exit)
+    pub all_listed : {W : Type 0} (saw : W → List Outcome → Type 0) (w x : W) → AllAnswered Says recorded saw fed_old fed put_old put w x → (each : Bool) (exit : Exit)
         → exit ≡ (if each then exits.Yes else exits.No) → saw w [] → ((verdicts : List Outcome) → saw x verdicts → each ≡ each_whole (map answer_of verdicts))
         → AreLinesListed m d fed_old fed put_old put exit
     all_listed saw w x h each exit is nothing ends = record {
@@ -93,11 +93,11 @@ module _ (m : Manner) (d : Dictionary) where
       is_exit = is ∙ ap (λ (b : Bool). if b then exits.Yes else exits.No) (ends h.verdicts (h.seen [] nothing));
     }
 
-    pub front_listed : FrontAnswered Says told fed_old fed put_old put → FrontAnswered (IsLineShown m d) (told_lines numbered) fed_old fed put_old put
-    front_listed h = FrontAnswered-map Says (IsLineShown m d) answer_of (λ message verdict says. says) told (told_lines numbered) same fed_old fed put_old put h
+    pub front_listed : FrontAnswered Says recorded fed_old fed put_old put → FrontAnswered (IsLineShown m d) (recorded_lines numbered) fed_old fed put_old put
+    front_listed h = FrontAnswered-map Says (IsLineShown m d) answer_of (λ message verdict says. says) recorded (recorded_lines numbered) same fed_old fed put_old put h
 
-    pub lines_listed : LinesAnswered Says told fed_old fed put_old put → LinesAnswered (IsLineShown m d) (told_lines numbered) fed_old fed put_old put
-    lines_listed h = LinesAnswered-map Says (IsLineShown m d) answer_of (λ message verdict says. says) told (told_lines numbered) same fed_old fed put_old put h
+    pub lines_listed : LinesAnswered Says recorded fed_old fed put_old put → LinesAnswered (IsLineShown m d) (recorded_lines numbered) fed_old fed put_old put
+    lines_listed h = LinesAnswered-map Says (IsLineShown m d) answer_of (λ message verdict says. says) recorded (recorded_lines numbered) same fed_old fed put_old put h
 
 -- ---- of inputs that were read
 
@@ -116,56 +116,56 @@ same_answers [] = refl
 same_answers (a ∷ rest) = ap (λ (xs : List Answer). a ∷ xs) (same_answers rest)
 
 module _ (names : Bool) (inputs : Inputs) (m : Manner) (d : Dictionary) (is_d : IsDictionaryText inputs.first d) (are_words : IsValuesText inputs.table m.words) (is_names : m.names ≡ names) where
-  stands : (told : List ℕ) → ¬ RefusesInputs inputs told
-  stands told (inl (why, none, is)) = dictionary_or_not inputs.first d why is_d none
-  stands told (inr (e, bad, is_e, none, is)) = values_or_not inputs.table m.words bad are_words none
+  occurs : (recorded : List ℕ) → ¬ RefusesInputs inputs recorded
+  occurs recorded (inl (why, none, is)) = dictionary_or_not inputs.first d why is_d none
+  occurs recorded (inr (e, bad, is_e, none, is)) = values_or_not inputs.table m.words bad are_words none
 
   of_line : (message : Input) (answer : Answer) → IsLineShown m d message answer → OfLine names inputs message answer
   of_line message answer (inl (bytes, is, h)) =
       shown d m.words bytes is_d are_words is (subst (λ (n : Bool). IsShown (record { words = m.words; names = n }) d bytes answer.0 answer.1) is_names h)
-  of_line message answer (inr (told, none, refuses)) = no_message d m.words told is_d are_words none refuses
+  of_line message answer (inr (recorded, none, refuses)) = no_message d m.words recorded is_d are_words none refuses
 
-  same_told : (answers : List Answer) → told_lines numbered answers ≡ told_lines numbered (map (λ (a : Answer). a) answers)
-  same_told answers = ap (λ (xs : List Answer). told_lines numbered xs) (sym (same_answers answers))
+  same_recorded : (answers : List Answer) → recorded_lines numbered answers ≡ recorded_lines numbered (map (λ (a : Answer). a) answers)
+  same_recorded answers = ap (λ (xs : List Answer). recorded_lines numbered xs) (sym (same_answers answers))
 
   module _ (fed_old fed put_old put : Option (List ℕ)) where
     pub all_shown : (exit : Exit) → AreLinesListed m d fed_old fed put_old put exit → AreLinesShown names inputs fed_old fed put_old put exit
     all_shown exit h = record {
       bytes = h.bytes;
-      text = told_lines numbered h.answers;
+      text = recorded_lines numbered h.answers;
       consumed = h.consumed;
-      outcome = all_lines (map (λ (a : Answer). a) h.answers) stands
-          (IsAnswered-map (IsLineShown m d) (OfLine names inputs) (λ (a : Answer). a) of_line h.bytes h.answers h.answered) (same_told h.answers)
+      outcome = all_lines (map (λ (a : Answer). a) h.answers) occurs
+          (IsAnswered-map (IsLineShown m d) (OfLine names inputs) (λ (a : Answer). a) of_line h.bytes h.answers h.answered) (same_recorded h.answers)
           (h.is_exit ∙ ap (λ (xs : List Answer). if each_whole xs then exits.Yes else exits.No) (sym (same_answers h.answers)));
       is_put = h.is_put;
     }
 
-    pub front_shown : FrontAnswered (IsLineShown m d) (told_lines numbered) fed_old fed put_old put → IsFrontShown names inputs fed_old fed put_old put
+    pub front_shown : FrontAnswered (IsLineShown m d) (recorded_lines numbered) fed_old fed put_old put → IsFrontShown names inputs fed_old fed put_old put
     front_shown h =
-        inl (FrontAnswered-map (IsLineShown m d) (OfLine names inputs) (λ (a : Answer). a) of_line (told_lines numbered) (told_lines numbered) same_told fed_old fed put_old put h)
+        inl (FrontAnswered-map (IsLineShown m d) (OfLine names inputs) (λ (a : Answer). a) of_line (recorded_lines numbered) (recorded_lines numbered) same_recorded fed_old fed put_old put h)
 
-    pub lines_shown : LinesAnswered (IsLineShown m d) (told_lines numbered) fed_old fed put_old put → LinesAnswered (OfLine names inputs) (told_lines numbered) fed_old fed put_old put
-    lines_shown h = LinesAnswered-map (IsLineShown m d) (OfLine names inputs) (λ (a : Answer). a) of_line (told_lines numbered) (told_lines numbered) same_told fed_old fed put_old put h
+    pub lines_shown : LinesAnswered (IsLineShown m d) (recorded_lines numbered) fed_old fed put_old put → LinesAnswered (OfLine names inputs) (recorded_lines numbered) fed_old fed put_old put
+    lines_shown h = LinesAnswered-map (IsLineShown m d) (OfLine names inputs) (λ (a : Answer). a) of_line (recorded_lines numbered) (recorded_lines numbered) same_recorded fed_old fed put_old put h
 
 -- ---- of inputs that are refused
 
 module _ (names : Bool) (inputs : Inputs) (fed old new : Option (List ℕ)) where
-  pub refused_shown : (text : List ℕ) (ended exit : Exit) → (told : List ℕ) × RefusesInputs inputs told × Refuses told text ended → exit ≡ ended → Appends old new text
+  pub refused_shown : (text : List ℕ) (ended exit : Exit) → (recorded : List ℕ) × RefusesInputs inputs recorded × Refuses recorded text ended → exit ≡ ended → Appends old new text
       → AreLinesShown names inputs fed fed old new exit
-  refused_shown text ended exit (told, refuses, is) same is_put = record {
+  refused_shown text ended exit (recorded, refuses, is) same is_put = record {
     bytes = [];
     text = text;
     consumed = Consumes-nil fed;
-    outcome = refused told refuses (is.0, same ∙ is.1);
+    outcome = refused recorded refuses (is.0, same ∙ is.1);
     is_put = is_put;
   }
 
-  pub refused_front : (text : List ℕ) (ended : Exit) → (told : List ℕ) × RefusesInputs inputs told × Refuses told text ended → AppendsFront old new text → IsFrontShown names inputs fed fed old new
-  refused_front text ended (told, refuses, is) is_put = inr (told, refuses, Consumes-nil fed, subst (AppendsFront old new) is.0 is_put)
+  pub refused_front : (text : List ℕ) (ended : Exit) → (recorded : List ℕ) × RefusesInputs inputs recorded × Refuses recorded text ended → AppendsFront old new text → IsFrontShown names inputs fed fed old new
+  refused_front text ended (recorded, refuses, is) is_put = inr (recorded, refuses, Consumes-nil fed, subst (AppendsFront old new) is.0 is_put)
 
 -- the line of an input that is refused was put
 pub refusal_shown : {E : Type 0} (names : Bool) (inputs : Inputs) (fed old new : Option (List ℕ)) (text : List ℕ) (ended : Exit) (r : Result Reported E)
-    → (told : List ℕ) × RefusesInputs inputs told × Refuses told text ended → IfOk r (λ x. x.exit ≡ ended) → IfOk r (λ x. Appends old new text)
+    → (recorded : List ℕ) × RefusesInputs inputs recorded × Refuses recorded text ended → IfOk r (λ x. x.exit ≡ ended) → IfOk r (λ x. Appends old new text)
     → IfOk r (λ x. AreLinesShown names inputs fed fed old new x.exit)
 refusal_shown names inputs fed old new text ended (Ok x) refuses same is_put = refused_shown names inputs fed old new text ended x.exit refuses same is_put
 refusal_shown names inputs fed old new text ended (Err e) refuses same is_put = tt
@@ -175,19 +175,19 @@ pub lines_reported : {E : Type 0} (inputs : Inputs) (m : Manner) (d : Dictionary
     → IfOk r (λ x. AreLinesListed m d fed_old fed old new x.exit) → IfOk r (λ x. x.exit ≢ exits.Bad) → IfOk r (λ x. x.report ≡ OfShow reports.Done)
     → IfOk r (HasLinesReport inputs old new)
 lines_reported inputs m d fed_old fed old new (Ok x) listed some is =
-    let text = told_lines numbered listed.answers in
-    (text, subst (λ (k : Report). IsToldOfLines inputs k text x.exit) (sym is) some, listed.is_put)
+    let text = recorded_lines numbered listed.answers in
+    (text, subst (λ (k : Report). IsRecordedOfLines inputs k text x.exit) (sym is) some, listed.is_put)
 lines_reported inputs m d fed_old fed old new (Err e) listed some is = tt
 
 -- what is told of an input that is refused
 pub refusal_reported : {E : Type 0} (inputs : Inputs) (old new : Option (List ℕ)) (a : Answered) (r : Result Reported E)
-    → IsToldOfLines inputs a.report (string_bytes a.text) a.exit → IfOk r (λ x. x.report ≡ a.report) → IfOk r (λ x. x.exit ≡ a.exit)
+    → IsRecordedOfLines inputs a.report (string_bytes a.text) a.exit → IfOk r (λ x. x.report ≡ a.report) → IfOk r (λ x. x.exit ≡ a.exit)
     → IfOk r (λ x. Appends old new (string_bytes a.text)) → IfOk r (HasLinesReport inputs old new)
-refusal_reported inputs old new a (Ok x) told report exit is_put = (string_bytes a.text, rw (report, exit) told, is_put)
-refusal_reported inputs old new a (Err e) told report exit is_put = tt
+refusal_reported inputs old new a (Ok x) recorded report exit is_put = (string_bytes a.text, rw (report, exit) recorded, is_put)
+refusal_reported inputs old new a (Err e) recorded report exit is_put = tt
 
 -- no memory for the inputs
-pub no_lines : (names : Bool) (inputs : Inputs) (fed put : Option (List ℕ)) → LinesAnswered (OfLine names inputs) (told_lines numbered) fed fed put put
+pub no_lines : (names : Bool) (inputs : Inputs) (fed put : Option (List ℕ)) → LinesAnswered (OfLine names inputs) (recorded_lines numbered) fed fed put put
 no_lines names inputs fed put = record {
   lines = [];
   rest = [];

@@ -8,7 +8,7 @@ use Rattle.std.proofs.lemmas.List.{append-nil}
 use Rattle.dia_show.specs.declared.words.ValuesFault.{ValuesFault}
 use Rattle.dia_show.specs.declared.words.ValuesFault.TheVariants.{Syntax, Duplicate, Limit}
 use Rattle.indexmap.specs.IndexMap.{insert_entry}
-use Rattle.dia_show.specs.Words.{Word, fault_from, front_part, behind_part, has_form, is_key, is_skipped, line_fault, max_lines, plain_word, word_of, words_by}
+use Rattle.dia_show.specs.Words.{Word, fault_from, front_part, after_part, has_form, is_key, is_skipped, line_fault, max_lines, plain_word, word_of, words_by}
 
 -- ---- look-ups
 
@@ -116,7 +116,7 @@ within_limit n before line none = by (nat_lt max_lines n) refl none
   where
     by : (b : Bool) → nat_lt max_lines n ≡ b
         → cond b (Some (Limit n)) (cond (is_skipped line) None (cond (not (has_form line)) (Some (Syntax n))
-        (cond (is_some (word_of before (front_part line) (front_part (behind_part line)))) (Some (Duplicate n)) None))) ≡ None
+        (cond (is_some (word_of before (front_part line) (front_part (after_part line)))) (Some (Duplicate n)) None))) ≡ None
         → n ≤ max_lines
     by true e f = absurd (let z : Some (Limit n) ≡ None = f in cc)
     by false e f = grind arith

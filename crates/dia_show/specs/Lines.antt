@@ -11,7 +11,7 @@ use Rattle.dia_io.specs.declared.Input.{Input}
 use Rattle.dia_io.specs.declared.Inputs.{Inputs}
 use Rattle.dia_io.specs.Writing.{AppendsFront}
 use Rattle.dia_lines.specs.FeedToSink.{FrontAnswered}
-use Rattle.dia_lines.specs.Lines.{IsAnswered, told_lines}
+use Rattle.dia_lines.specs.Lines.{IsAnswered, recorded_lines}
 use Rattle.dia_report.specs.Refusals.{dictionary_line}
 use Rattle.dia_run.specs.declared.commands.Outcome.{Outcome}
 use Rattle.dia_run.specs.Outcome.{Refuses}
@@ -21,7 +21,7 @@ use Rattle.dia_show.specs.declared.lines.Opening.TheVariants.{Ready, Refused}
 use Rattle.dia_show.specs.declared.reading.BadValues.{BadValues}
 use Rattle.dia_show.specs.Listing.{Manner}
 use Rattle.dia_show.specs.Outcome.{IsNamedOutcome, IsShown}
-use Rattle.dia_show.specs.Report.{IsToldOfLines}
+use Rattle.dia_show.specs.Report.{IsRecordedOfLines}
 use Rattle.dia_show.specs.Words.{IsNoValuesText, IsValuesText, plain_words, values_line}
 
 -- what `show` writes for one message, and how it ends
@@ -51,15 +51,15 @@ each_whole answers = list_all (λ (a : Answer). is_yes a.1) answers
 
 -- the dictionary is refused with this line, or the words of values are
 abbrev pub RefusesInputs : Inputs → List ℕ → Type 0
-RefusesInputs inputs told = ((why : List ℕ) × IsNoDictionaryText inputs.first why × (told ≡ dictionary_line 1 why))
-    ⊎ ((d : Dictionary) × (bad : BadValues) × IsDictionaryText inputs.first d × IsNoValuesText inputs.table bad × (told ≡ values_line bad))
+RefusesInputs inputs recorded = ((why : List ℕ) × IsNoDictionaryText inputs.first why × (recorded ≡ dictionary_line 1 why))
+    ⊎ ((d : Dictionary) × (bad : BadValues) × IsDictionaryText inputs.first d × IsNoValuesText inputs.table bad × (recorded ≡ values_line bad))
 
 -- the text for the lines of these bytes, and how it ends: what is told of each line, in order, with yes where each was shown to its
 -- end; or one line of an input that is refused
 pub data IsLinesOutcome (names : Bool) (inputs : Inputs) (bytes text : List ℕ) (exit : Exit) : Type 0 where
-  shown : (answers : List Answer) → ((told : List ℕ) → ¬ RefusesInputs inputs told) → IsAnswered (OfLine names inputs) bytes answers
-      → text ≡ told_lines numbered answers → exit ≡ (if each_whole answers then Yes else No) → IsLinesOutcome names inputs bytes text exit
-  refused : (told : List ℕ) → RefusesInputs inputs told → Refuses told text exit → IsLinesOutcome names inputs bytes text exit
+  shown : (answers : List Answer) → ((recorded : List ℕ) → ¬ RefusesInputs inputs recorded) → IsAnswered (OfLine names inputs) bytes answers
+      → text ≡ recorded_lines numbered answers → exit ≡ (if each_whole answers then Yes else No) → IsLinesOutcome names inputs bytes text exit
+  refused : (recorded : List ℕ) → RefusesInputs inputs recorded → Refuses recorded text exit → IsLinesOutcome names inputs bytes text exit
 
 -- these bytes were read, and the text for their lines was put
 pub record AreLinesShown (names : Bool) (inputs : Inputs) (fed_old fed put_old put : Option (List ℕ)) (exit : Exit) : Type 0 where
@@ -71,15 +71,15 @@ pub record AreLinesShown (names : Bool) (inputs : Inputs) (fed_old fed put_old p
 
 -- a beginning of the text was put
 abbrev pub IsFrontShown : Bool → Inputs → (fed_old fed put_old put : Option (List ℕ)) → Type 0
-IsFrontShown names inputs fed_old fed put_old put = FrontAnswered (OfLine names inputs) (told_lines numbered) fed_old fed put_old put
-    ⊎ ((told : List ℕ) × RefusesInputs inputs told × Consumes fed_old fed [] × AppendsFront put_old put (line told))
+IsFrontShown names inputs fed_old fed put_old put = FrontAnswered (OfLine names inputs) (recorded_lines numbered) fed_old fed put_old put
+    ⊎ ((recorded : List ℕ) × RefusesInputs inputs recorded × Consumes fed_old fed [] × AppendsFront put_old put (line recorded))
 
 -- ---- with a dictionary and words that were read
 
 -- the answer to a line, in this manner
 abbrev pub IsLineShown : Manner → Dictionary → Input → Answer → Type 0
 IsLineShown m d message answer = ((bytes : List ℕ) × IsMessageText message bytes × IsShown m d bytes answer.0 answer.1)
-    ⊎ ((told : List ℕ) × IsNoMessageText message told × Refuses told answer.0 answer.1)
+    ⊎ ((recorded : List ℕ) × IsNoMessageText message recorded × Refuses recorded answer.0 answer.1)
 
 -- these bytes were read, and the answers to their lines were put
 pub record AreLinesListed (m : Manner) (d : Dictionary) (fed_old fed put_old put : Option (List ℕ)) (exit : Exit) : Type 0 where
@@ -87,12 +87,12 @@ pub record AreLinesListed (m : Manner) (d : Dictionary) (fed_old fed put_old put
   pub answers : List Answer
   pub consumed : Consumes fed_old fed bytes
   pub answered : IsAnswered (IsLineShown m d) bytes answers
-  pub is_put : Appends put_old put (told_lines numbered answers)
+  pub is_put : Appends put_old put (recorded_lines numbered answers)
   pub is_exit : exit ≡ (if each_whole answers then Yes else No)
 
 -- what was read before the lines: the dictionary and the words, or one of them is refused with this text
 abbrev pub IsOpening : (IndexedBook → Dictionary) → Bool → Inputs → Opening → Type 0
 IsOpening meaning names inputs (Ready manner first) =
     IsDictionaryText inputs.first (meaning first.value.book) × IsValuesText inputs.table (plain_words manner.value.words) × (manner.value.names ≡ names)
-IsOpening meaning names inputs (Refused answered) = IsToldOfLines inputs answered.report (string_bytes answered.text) answered.exit
-    × ((told : List ℕ) × RefusesInputs inputs told × Refuses told (string_bytes answered.text) answered.exit)
+IsOpening meaning names inputs (Refused answered) = IsRecordedOfLines inputs answered.report (string_bytes answered.text) answered.exit
+    × ((recorded : List ℕ) × RefusesInputs inputs recorded × Refuses recorded (string_bytes answered.text) answered.exit)

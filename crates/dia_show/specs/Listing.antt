@@ -10,7 +10,7 @@ use Rattle.dia_data.specs.Shown.{hex_byte, IsValueText}
 use Rattle.dia_dict.specs.Dictionary.{Dictionary, DictEntry, PlainDefinition, definitions, selected}
 use Rattle.dia_valid.specs.Valid.{known, class_of}
 use Rattle.dia_run.specs.Texts.{line}
-use Rattle.dia_run.specs.Listing.{Level, IsGroup, behind, inside, vendor_text, bad_length_line}
+use Rattle.dia_run.specs.Listing.{Level, IsGroup, following, inside, vendor_text, bad_length_line}
 use Rattle.dia_show.specs.Dates.{IsTimeText}
 use Rattle.dia_show.specs.Words.{Word, word_of}
 
@@ -89,7 +89,7 @@ abbrev pub columns : Bool → ℕ → ℕ → PlainAvp → List ℕ
 columns names place depth v = margin names depth ++ numbers names place depth v
 
 abbrev pub line_of : Bool → ℕ → ℕ → PlainAvp → List ℕ → List ℕ → List ℕ
-line_of names place depth v name told = line (columns names place depth v ++ name ++ codes " " ++ told)
+line_of names place depth v name recorded = line (columns names place depth v ++ name ++ codes " " ++ recorded)
 
 -- ---- values
 
@@ -106,8 +106,8 @@ is_text true (AnyBytes OctetString) bytes = is_printable bytes
 is_text true (AnyBytes name) bytes = true
 is_text names format bytes = false
 
-abbrev pub told_format : Bool → PlainFormat → List ℕ → PlainFormat
-told_format names format bytes = if is_text names format bytes then Utf8String else format
+abbrev pub recorded_format : Bool → PlainFormat → List ℕ → PlainFormat
+recorded_format names format bytes = if is_text names format bytes then Utf8String else format
 
 -- the word of a value behind it, if it has one
 abbrev pub word_note : Option (List ℕ) → List ℕ
@@ -128,7 +128,7 @@ pub data IsDateNote (names : Bool) (format : PlainFormat) (bytes note : List ℕ
 -- the word of the data of an AVP of this name, if it has one
 pub record IsWordOf (m : Manner) (name : List ℕ) (format : PlainFormat) (bytes : List ℕ) (word : Option (List ℕ)) : Type 0 where
   pub value : List ℕ
-  pub is_value : IsValueText (told_format m.names format bytes) bytes value
+  pub is_value : IsValueText (recorded_format m.names format bytes) bytes value
   pub is_word : word ≡ word_of m.words name value
 
 -- the date of the data, if it has one
@@ -138,18 +138,18 @@ pub data IsDateOf (names : Bool) (format : PlainFormat) (bytes : List ℕ) (date
       → IsDateOf names format bytes date
 
 -- the data of an AVP of this name: its value as `show` prints it, its word, and its date
-pub record IsTold (m : Manner) (name : List ℕ) (format : PlainFormat) (bytes told : List ℕ) : Type 0 where
+pub record IsRecorded (m : Manner) (name : List ℕ) (format : PlainFormat) (bytes recorded : List ℕ) : Type 0 where
   pub value : List ℕ
   pub note : List ℕ
-  pub is_value : IsValueText (told_format m.names format bytes) bytes value
+  pub is_value : IsValueText (recorded_format m.names format bytes) bytes value
   pub is_note : IsDateNote m.names format bytes note
-  pub parts : told ≡ value ++ word_note (word_of m.words name value) ++ note
+  pub parts : recorded ≡ value ++ word_note (word_of m.words name value) ++ note
 
 -- the name and the data of an AVP that the dictionary doesn't know, or knows as no group
-pub data IsLeafTold (m : Manner) (d : Dictionary) (v : PlainAvp) (name told : List ℕ) : Type 0 where
-  unknown : known d (key_of v) ≡ None → name ≡ codes "?" → IsTold m (codes "?") (AnyBytes OctetString) v.bytes told → IsLeafTold m d v name told
-  leaf : (e : DictEntry) → known d (key_of v) ≡ Some e → ¬ (e.format ≡ Grouped) → name ≡ e.name → IsTold m e.name e.format v.bytes told
-      → IsLeafTold m d v name told
+pub data IsLeafRecorded (m : Manner) (d : Dictionary) (v : PlainAvp) (name recorded : List ℕ) : Type 0 where
+  unknown : known d (key_of v) ≡ None → name ≡ codes "?" → IsRecorded m (codes "?") (AnyBytes OctetString) v.bytes recorded → IsLeafRecorded m d v name recorded
+  leaf : (e : DictEntry) → known d (key_of v) ≡ Some e → ¬ (e.format ≡ Grouped) → name ≡ e.name → IsRecorded m e.name e.format v.bytes recorded
+      → IsLeafRecorded m d v name recorded
 
 -- ---- levels
 
@@ -159,13 +159,13 @@ pub data IsListing (m : Manner) (d : Dictionary) : Level → List ℕ → Bool �
   bad_length : {level : Level} {text : List ℕ} {bad : Bool} → 0 < length level.bytes → BeginsWithNone level.bytes
       → text ≡ bad_length_line level.place → bad ≡ true
       → IsListing m d level text bad
-  avp : {level : Level} {text : List ℕ} {bad : Bool} (v : PlainAvp) (rest name told more : List ℕ)
-      → BeginsWith v level.bytes rest → IsLeafTold m d v name told
-      → IsListing m d (behind level v rest) more bad → text ≡ line_of m.names level.place level.depth v name told ++ more
+  avp : {level : Level} {text : List ℕ} {bad : Bool} (v : PlainAvp) (rest name recorded more : List ℕ)
+      → BeginsWith v level.bytes rest → IsLeafRecorded m d v name recorded
+      → IsListing m d (following level v rest) more bad → text ≡ line_of m.names level.place level.depth v name recorded ++ more
       → IsListing m d level text bad
   group : {level : Level} {text : List ℕ} {bad : Bool} (v : PlainAvp) (e : DictEntry) (rest members more : List ℕ)
       → BeginsWith v level.bytes rest → IsGroup d v e
-      → IsListing m d (inside level v) members false → IsListing m d (behind level v rest) more bad
+      → IsListing m d (inside level v) members false → IsListing m d (following level v rest) more bad
       → text ≡ line_of m.names level.place level.depth v e.name (codes "group") ++ members ++ more → IsListing m d level text bad
   bad_group : {level : Level} {text : List ℕ} {bad : Bool} (v : PlainAvp) (e : DictEntry) (rest members : List ℕ)
       → BeginsWith v level.bytes rest → IsGroup d v e
@@ -175,24 +175,24 @@ pub data IsListing (m : Manner) (d : Dictionary) : Level → List ℕ → Bool �
 -- ---- what was added
 
 -- the data of an AVP was told
-abbrev pub AddsTold : Manner → List ℕ → PlainFormat → List ℕ → List ℕ → List ℕ → Type 0
-AddsTold m name format bytes old new = (told : List ℕ) × IsTold m name format bytes told × (new ≡ old ++ told)
+abbrev pub AddsRecorded : Manner → List ℕ → PlainFormat → List ℕ → List ℕ → List ℕ → Type 0
+AddsRecorded m name format bytes old new = (recorded : List ℕ) × IsRecorded m name format bytes recorded × (new ≡ old ++ recorded)
 
 -- the date of a Time was added, if the data is one
 abbrev pub AddsDateNote : Bool → PlainFormat → List ℕ → List ℕ → List ℕ → Type 0
 AddsDateNote names format bytes old new = (note : List ℕ) × IsDateNote names format bytes note × (new ≡ old ++ note)
 
 -- the end of an AVP's line was added
-abbrev pub AddsNameAndTold : Manner → List ℕ → PlainFormat → List ℕ → List ℕ → List ℕ → Type 0
-AddsNameAndTold m name format bytes old new =
-    (told : List ℕ) × IsTold m name format bytes told × (new ≡ old ++ line (name ++ codes " " ++ told))
+abbrev pub AddsNameAndRecorded : Manner → List ℕ → PlainFormat → List ℕ → List ℕ → List ℕ → Type 0
+AddsNameAndRecorded m name format bytes old new =
+    (recorded : List ℕ) × IsRecorded m name format bytes recorded × (new ≡ old ++ line (name ++ codes " " ++ recorded))
 
 -- the line of an AVP was added, and it says whether the AVP is a known group
 abbrev pub AddsAvp : Manner → Dictionary → ℕ → ℕ → PlainAvp → List ℕ → List ℕ → Bool → Type 0
 AddsAvp m d place depth v old new true = (e : DictEntry) × IsGroup d v e
     × (new ≡ old ++ line_of m.names place depth v e.name (codes "group"))
-AddsAvp m d place depth v old new false = (name : List ℕ) × (told : List ℕ) × IsLeafTold m d v name told
-    × (new ≡ old ++ line_of m.names place depth v name told)
+AddsAvp m d place depth v old new false = (name : List ℕ) × (recorded : List ℕ) × IsLeafRecorded m d v name recorded
+    × (new ≡ old ++ line_of m.names place depth v name recorded)
 
 -- the lines of a level were added
 abbrev pub AddsLevel : Manner → Dictionary → Level → List ℕ → List ℕ → Bool → Type 0

@@ -7,7 +7,7 @@ use Rattle.dia_wire.specs.declared.Header.{Header}
 use Rattle.dia_wire.specs.Wire.{IsHead, IsMessageLength}
 use Rattle.dia_dict.specs.Dictionary.{Dictionary}
 use Rattle.dia_report.specs.declared.refusing.Refused.{Refused}
-use Rattle.dia_report.specs.Refusals.{TellsOf, dictionary_line}
+use Rattle.dia_report.specs.Refusals.{RecordsOf, dictionary_line}
 use Rattle.dia_run.specs.Outcome.{IsMessageShown, Refuses, listing_exit}
 use Rattle.dia_run.specs.Texts.{line, IsDictionaryText, IsNoDictionaryText, IsMessageText, IsNoMessageText}
 use Rattle.dia_show.specs.declared.reading.BadValues.{BadValues}
@@ -30,10 +30,10 @@ pub data IsNamedOutcome (names : Bool) (inputs : Inputs) (text : List ℕ) (exit
       → IsNamedOutcome names inputs text exit
   no_values : (d : Dictionary) (bad : BadValues) → IsDictionaryText inputs.first d → IsNoValuesText inputs.table bad
       → Refuses (values_line bad) text exit → IsNamedOutcome names inputs text exit
-  no_message : (d : Dictionary) (words : List Word) (told : List ℕ) → IsDictionaryText inputs.first d → IsValuesText inputs.table words
-      → IsNoMessageText inputs.message told → Refuses told text exit → IsNamedOutcome names inputs text exit
+  no_message : (d : Dictionary) (words : List Word) (recorded : List ℕ) → IsDictionaryText inputs.first d → IsValuesText inputs.table words
+      → IsNoMessageText inputs.message recorded → Refuses recorded text exit → IsNamedOutcome names inputs text exit
 
 -- what is answered has P, and so has the line of a refusal
 abbrev pub Gives : (List ℕ → Exit → Type 0) → Result Answered Refused → Type 0
 Gives P (Ok answered) = P (string_bytes answered.text) answered.exit
-Gives P (Err why) = TellsOf (λ told. P (line told) Bad) why
+Gives P (Err why) = RecordsOf (λ recorded. P (line recorded) Bad) why

@@ -18,20 +18,20 @@ use Rattle.dia_show.specs.declared.reporting.Report.TheVariants.{OfShow, NoValue
 use Rattle.dia_show.specs.Words.{IsNoValuesText, values_line}
 
 -- the report is one of `show`, or it has why the words of values are refused
-abbrev pub IsTold : (IndexedBook → Dictionary) → Inputs → Report → List ℕ → Exit → Type 0
-IsTold meaning inputs (OfShow report) text exit = IsOfShow report × IsReport meaning inputs report text exit
-IsTold meaning inputs (NoValues bad) text exit = IsNoValuesText inputs.table bad × Refuses (values_line bad) text exit
+abbrev pub IsRecorded : (IndexedBook → Dictionary) → Inputs → Report → List ℕ → Exit → Type 0
+IsRecorded meaning inputs (OfShow report) text exit = IsOfShow report × IsReport meaning inputs report text exit
+IsRecorded meaning inputs (NoValues bad) text exit = IsNoValuesText inputs.table bad × Refuses (values_line bad) text exit
 
 abbrev pub HasReport : (IndexedBook → Dictionary) → Inputs → Answered → Type 0
-HasReport meaning inputs answered = IsTold meaning inputs answered.report (string_bytes answered.text) answered.exit
+HasReport meaning inputs answered = IsRecorded meaning inputs answered.report (string_bytes answered.text) answered.exit
 
 -- what the report of `show --lines` tells: nothing of lines that were read, or else which input is refused
-abbrev pub IsToldOfLines : Inputs → Report → List ℕ → Exit → Type 0
-IsToldOfLines inputs (OfShow Done) text exit = exit ≢ Bad
-IsToldOfLines inputs (OfShow (Refused bad)) text exit = Refuses (bad_input_text bad) text exit
-IsToldOfLines inputs (OfShow report) text exit = ⊥
-IsToldOfLines inputs (NoValues bad) text exit = IsNoValuesText inputs.table bad × Refuses (values_line bad) text exit
+abbrev pub IsRecordedOfLines : Inputs → Report → List ℕ → Exit → Type 0
+IsRecordedOfLines inputs (OfShow Done) text exit = exit ≢ Bad
+IsRecordedOfLines inputs (OfShow (Refused bad)) text exit = Refuses (bad_input_text bad) text exit
+IsRecordedOfLines inputs (OfShow report) text exit = ⊥
+IsRecordedOfLines inputs (NoValues bad) text exit = IsNoValuesText inputs.table bad × Refuses (values_line bad) text exit
 
 -- and this is what was put
 abbrev pub HasLinesReport : Inputs → (put_old put : Option (List ℕ)) → Reported → Type 0
-HasLinesReport inputs put_old put reported = (text : List ℕ) × IsToldOfLines inputs reported.report text reported.exit × Appends put_old put text
+HasLinesReport inputs put_old put reported = (text : List ℕ) × IsRecordedOfLines inputs reported.report text reported.exit × Appends put_old put text

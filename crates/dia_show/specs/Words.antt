@@ -36,8 +36,8 @@ Word = (List ℕ × List ℕ) × List ℕ
 abbrev pub front_part : List ℕ → List ℕ
 front_part text = take (prefix_len (λ c. not (c == 32)) text) text
 
-abbrev pub behind_part : List ℕ → List ℕ
-behind_part text = after_first (λ c. c == 32) text
+abbrev pub after_part : List ℕ → List ℕ
+after_part text = after_first (λ c. c == 32) text
 
 -- letters, digits and dashes
 abbrev pub is_name : List ℕ → Bool
@@ -58,10 +58,10 @@ abbrev pub is_word : List ℕ → Bool
 is_word text = nat_lt 0 (length text) && list_all is_ascii_graphic text
 
 abbrev pub has_form : List ℕ → Bool
-has_form line = is_name (front_part line) && (is_number (front_part (behind_part line)) && is_word (behind_part (behind_part line)))
+has_form line = is_name (front_part line) && (is_number (front_part (after_part line)) && is_word (after_part (after_part line)))
 
 abbrev pub key_of_line : List ℕ → List ℕ × List ℕ
-key_of_line line = (front_part line, front_part (behind_part line))
+key_of_line line = (front_part line, front_part (after_part line))
 
 -- spaces and tabs alone, or a comment, which `#` (35) begins
 abbrev pub is_blank : ℕ → Bool
@@ -85,7 +85,7 @@ word_of words name number = lookup (is_key name number) words
 
 -- what a line adds
 abbrev pub words_by : List ℕ → List Word
-words_by line = if is_skipped line then [] else (key_of_line line, behind_part (behind_part line)) ∷ []
+words_by line = if is_skipped line then [] else (key_of_line line, after_part (after_part line)) ∷ []
 
 -- the words of a text: those of its lines, in order
 abbrev pub words_of : List ℕ → List Word
@@ -99,7 +99,7 @@ line_fault n before line =
     if nat_lt max_lines n then Some (fault.Limit n)
     else (if is_skipped line then None
     else (if not (has_form line) then Some (fault.Syntax n)
-    else (if is_some (word_of before (front_part line) (front_part (behind_part line))) then Some (fault.Duplicate n) else None)))
+    else (if is_some (word_of before (front_part line) (front_part (after_part line))) then Some (fault.Duplicate n) else None)))
 
 -- with lines that are numbered from n on: the first fault
 abbrev pub fault_from : ℕ → List Word → List (List ℕ) → Option ValuesFault

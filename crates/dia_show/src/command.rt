@@ -10,7 +10,7 @@ ghost use Rattle.dia_run.specs.Report.{IsReadFrom};
 ghost use Rattle.dia_run.specs.Texts.{line};
 ghost use Rattle.dia_show.specs.Manners.{plain_manner_of};
 ghost use Rattle.dia_show.specs.Outcome.{Gives, IsNamedOutcome, IsShown};
-ghost use Rattle.dia_show.specs.Report.{HasReport, IsTold};
+ghost use Rattle.dia_show.specs.Report.{HasReport, IsRecorded};
 ghost use Rattle.dia_report.specs.declared.reporting.Report.TheVariants.{Refused as OfRefusal};
 ghost use Rattle.dia_show.specs.Words.{IsValuesText, plain_words, values_line};
 
@@ -38,7 +38,7 @@ pub fn show<S: Sink>(
 ) -> Result<Reported, RunFault>
     requires { ¬ IsTrue (S.has_failed sink.old) }
     ensures text { IfOk result (λ reported. (text : List ℕ) × IsNamedOutcome names inputs.now text reported.exit
-        × IsTold ⟦<IndexedBook as Book>⟧.meaning inputs.now reported.report text reported.exit
+        × IsRecorded ⟦<IndexedBook as Book>⟧.meaning inputs.now reported.report text reported.exit
         × Appends (S.written sink.old) (S.written sink.new) text) }
     ensures device { (result ≡ Err RunFault.Device) ↔ IsTrue (S.has_failed sink.new) }
     ensures front { result ≡ Err RunFault.Device

@@ -37,7 +37,7 @@ impl<'a, 't, B: Book> Judge for ShowJudge<'a, 't, B> {
     ghost says = { λ judge line verdict. IsLineShown (plain_manner_of judge.manner.now)
         (B.Book.meaning judge.book.now) line (answer_of verdict) };
 
-    ghost told = { λ _ number verdict. numbered number (answer_of verdict) };
+    ghost recorded = { λ _ number verdict. numbered number (answer_of verdict) };
 
     fn judge(
         &self,

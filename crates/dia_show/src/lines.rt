@@ -6,8 +6,8 @@ ghost use Rattle.std.specs.Io.KnownBytes.{Appends, IsAtEnd};
 ghost use Rattle.dia_io.specs.Writing.{AppendsFront};
 ghost use Rattle.dia_lines.specs.declared.fault.LinesFault.TheVariants.{NoMemory, Device, Endless};
 ghost use Rattle.dia_lines.specs.FeedToSink.{FrontAnswered, LinesAnswered, most_pieces};
-ghost use Rattle.dia_lines.specs.Lines.{told_lines};
-ghost use Rattle.dia_report.specs.declared.reporting.Report.TheVariants.{Done as NothingToTell};
+ghost use Rattle.dia_lines.specs.Lines.{recorded_lines};
+ghost use Rattle.dia_report.specs.declared.reporting.Report.TheVariants.{Done as NothingToReport};
 ghost use Rattle.dia_run.specs.Texts.{IsDictionaryText};
 ghost use Rattle.dia_show.specs.Lines.{AreLinesListed, AreLinesShown, IsFrontShown, IsLineShown, IsOpening, OfLine, numbered};
 ghost use Rattle.dia_show.specs.Manners.{plain_manner_of};
@@ -45,9 +45,9 @@ pub fn show_lines<F: Feed, S: Sink>(
         ↔ (IsTrue (F.has_failed feed.new) ⊎ IsTrue (S.has_failed sink.new)) }
     ensures front { IsErr result → IsFrontShown names inputs.now
         (F.remaining feed.old) (F.remaining feed.new) (S.written sink.old) (S.written sink.new) }
-    ensures no_memory { result ≡ Err NoMemory → LinesAnswered (OfLine names inputs.now) (told_lines numbered)
+    ensures no_memory { result ≡ Err NoMemory → LinesAnswered (OfLine names inputs.now) (recorded_lines numbered)
         (F.remaining feed.old) (F.remaining feed.new) (S.written sink.old) (S.written sink.new) }
-    ensures endless { result ≡ Err Endless → LinesAnswered (OfLine names inputs.now) (told_lines numbered)
+    ensures endless { result ≡ Err Endless → LinesAnswered (OfLine names inputs.now) (recorded_lines numbered)
         (F.remaining feed.old) (F.remaining feed.new) (S.written sink.old) (S.written sink.new) }
     ensures pieces { result ≡ Err Endless
         → IfSome (F.remaining feed.old) (λ bytes. most_pieces ≤ length bytes) }
@@ -110,17 +110,17 @@ fn list_lines<B: Book, F: Feed, S: Sink>(
         (F.remaining feed.old) (F.remaining feed.new) (S.written sink.old) (S.written sink.new) reported.exit) }
     ensures all { IfOk result (λ reported. IsAtEnd (F.remaining feed.new)) }
     ensures exit { IfOk result (λ reported. reported.exit ≢ Exit.Bad) }
-    ensures report { IfOk result (λ reported. reported.report ≡ Report.OfShow NothingToTell) }
+    ensures report { IfOk result (λ reported. reported.report ≡ Report.OfShow NothingToReport) }
     ensures device { (result ≡ Err Device)
         ↔ (IsTrue (F.has_failed feed.new) ⊎ IsTrue (S.has_failed sink.new)) }
     ensures front { IsErr result
-        → FrontAnswered (IsLineShown (plain_manner_of manner.now) (B.meaning book.now)) (told_lines numbered)
+        → FrontAnswered (IsLineShown (plain_manner_of manner.now) (B.meaning book.now)) (recorded_lines numbered)
         (F.remaining feed.old) (F.remaining feed.new) (S.written sink.old) (S.written sink.new) }
     ensures no_memory { result ≡ Err NoMemory
-        → LinesAnswered (IsLineShown (plain_manner_of manner.now) (B.meaning book.now)) (told_lines numbered)
+        → LinesAnswered (IsLineShown (plain_manner_of manner.now) (B.meaning book.now)) (recorded_lines numbered)
         (F.remaining feed.old) (F.remaining feed.new) (S.written sink.old) (S.written sink.new) }
     ensures endless { result ≡ Err Endless
-        → LinesAnswered (IsLineShown (plain_manner_of manner.now) (B.meaning book.now)) (told_lines numbered)
+        → LinesAnswered (IsLineShown (plain_manner_of manner.now) (B.meaning book.now)) (recorded_lines numbered)
         (F.remaining feed.old) (F.remaining feed.new) (S.written sink.old) (S.written sink.new) }
     ensures pieces { result ≡ Err Endless
         → IfSome (F.remaining feed.old) (λ bytes. most_pieces ≤ length bytes) }
@@ -134,7 +134,7 @@ fn list_lines<B: Book, F: Feed, S: Sink>(
 /// How lines ended: yes where each was shown to its end.
 fn ended(each: bool) -> Reported
     ensures exit { result.exit ≡ (if each then Exit.Yes else Exit.No) }
-    ensures report { result.report ≡ Report.OfShow NothingToTell }
+    ensures report { result.report ≡ Report.OfShow NothingToReport }
 {
     let exit = if each { Exit::Yes } else { Exit::No };
     let report = Report::OfShow(dia_report::Report::Done);

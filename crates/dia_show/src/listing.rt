@@ -6,12 +6,12 @@ ghost use Rattle.std.specs.Fmt.{decimal};
 ghost use Rattle.dia_wire.specs.Wire.{plain_avp};
 ghost use Rattle.dia_data.specs.Plain.{plain_format};
 ghost use Rattle.dia_run.specs.Listing.{bad_length_line};
-ghost use Rattle.dia_show.specs.Listing.{AddsAvp, AddsLevel, AddsNameAndTold, columns, indent, margin, numbers};
+ghost use Rattle.dia_show.specs.Listing.{AddsAvp, AddsLevel, AddsNameAndRecorded, columns, indent, margin, numbers};
 ghost use Rattle.dia_show.specs.Manners.{plain_manner_of};
 
 use crate::flags::push_avp_flags;
 use crate::manner::Manner;
-use crate::values::push_told;
+use crate::values::push_recorded;
 use dia_data::push_decimal;
 use dia_dict::{Book, Format};
 use dia_run::push_vendor;
@@ -50,9 +50,9 @@ pub(crate) fn push_level<B: Book>(
     loop {
         let place = rest.end - rest.bytes.len();
         match next_avp(rest.bytes) {
-            Ok(Some((avp, behind))) => {
+            Ok(Some((avp, following))) => {
                 let is_group = push_avp(alloc, text, manner, book, place, outer.len(), &avp)?;
-                rest.bytes = behind;
+                rest.bytes = following;
                 if is_group {
                     outer.push(rest)?;
                     rest = Rest {
@@ -88,7 +88,7 @@ fn push_avp<B: Book>(
 {
     push_columns(text, manner.names, place, depth, avp)?;
     let Some(entry) = book.avp(key(avp)) else {
-        push_name_and_told(alloc, text, manner, "?", &Format::OctetString, avp.bytes)?;
+        push_name_and_recorded(alloc, text, manner, "?", &Format::OctetString, avp.bytes)?;
         return Ok(false);
     };
     let name = book.entry_name(entry);
@@ -99,7 +99,7 @@ fn push_avp<B: Book>(
             Ok(true)
         }
         format => {
-            push_name_and_told(alloc, text, manner, name, format, avp.bytes)?;
+            push_name_and_recorded(alloc, text, manner, name, format, avp.bytes)?;
             Ok(false)
         }
     }
@@ -173,7 +173,7 @@ fn push_number(text: &mut String, number: u64) -> Result<(), AllocError>
 }
 
 /// Adds the name and the data, which end the line of an AVP.
-fn push_name_and_told(
+fn push_name_and_recorded(
     alloc: Global,
     text: &mut String,
     manner: &Manner<'_>,
@@ -181,12 +181,12 @@ fn push_name_and_told(
     format: &Format,
     bytes: &[u8],
 ) -> Result<(), AllocError>
-    ensures { OnOk result (AddsNameAndTold (plain_manner_of manner.now) name.now (plain_format format.now) bytes.now
+    ensures { OnOk result (AddsNameAndRecorded (plain_manner_of manner.now) name.now (plain_format format.now) bytes.now
         (string_bytes text.old) (string_bytes text.new)) }
 {
     text.push_str(name)?;
     text.push(' ')?;
-    push_told(alloc, text, manner, name, format, bytes)?;
+    push_recorded(alloc, text, manner, name, format, bytes)?;
     text.push('\n')
 }
 

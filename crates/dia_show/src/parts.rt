@@ -1,7 +1,7 @@
 //! The parts of a line of words.
 
 ghost use Rattle.std.specs.Prelude.{◌≡◌, IfSome, None, false, true};
-ghost use Rattle.dia_show.specs.Words.{behind_part, front_part, has_form, is_comment, is_name};
+ghost use Rattle.dia_show.specs.Words.{after_part, front_part, has_form, is_comment, is_name};
 ghost use Rattle.dia_show.specs.Words.{is_number, is_positive, is_skipped, is_word};
 
 use crate::byte_kinds::{ByteKind, all_are};
@@ -18,8 +18,8 @@ pub(crate) struct Entry<'a> {
 pub(crate) fn entry_of(line: &str) -> Option<Entry<'_>>
     ensures form { IfSome result (λ entry. has_form line.now ≡ true) }
     ensures name { IfSome result (λ entry. entry.name.now ≡ front_part line.now) }
-    ensures number { IfSome result (λ entry. entry.number.now ≡ front_part (behind_part line.now)) }
-    ensures word { IfSome result (λ entry. entry.word.now ≡ behind_part (behind_part line.now)) }
+    ensures number { IfSome result (λ entry. entry.number.now ≡ front_part (after_part line.now)) }
+    ensures word { IfSome result (λ entry. entry.word.now ≡ after_part (after_part line.now)) }
     ensures none { result ≡ None → has_form line.now ≡ false }
 {
     let (name, rest) = parts(line);
@@ -50,10 +50,10 @@ fn is_comment(line: &[u8]) -> bool
 /// What stands before the first blank, and what behind it.
 fn parts(text: &str) -> (&str, &str)
     ensures front { result.0.now ≡ front_part text.now }
-    ensures behind { result.1.now ≡ behind_part text.now }
+    ensures following { result.1.now ≡ after_part text.now }
 {
     match text.split_once(' ') {
-        Some((front, behind)) => (front, behind),
+        Some((front, following)) => (front, following),
         None => (text, ""),
     }
 }

@@ -3,8 +3,8 @@
 ghost use Rattle.std.specs.Prelude.{◌≡◌, ◌++◌, IfOk, OnOk, option_map, string_bytes};
 ghost use Rattle.dia_data.specs.Plain.{plain_format};
 ghost use Rattle.dia_data.specs.Shown.{IsValueText};
-ghost use Rattle.dia_show.specs.Listing.{AddsDateNote, AddsTold, IsDateOf, IsWordOf, has_date, is_printable, is_text};
-ghost use Rattle.dia_show.specs.Listing.{told_format, word_note};
+ghost use Rattle.dia_show.specs.Listing.{AddsDateNote, AddsRecorded, IsDateOf, IsWordOf, has_date, is_printable, is_text};
+ghost use Rattle.dia_show.specs.Listing.{recorded_format, word_note};
 ghost use Rattle.dia_show.specs.Manners.{plain_manner_of};
 ghost use Rattle.dia_show.specs.Words.{plain_words, word_of};
 
@@ -21,7 +21,7 @@ use std::alloc::{AllocError, Global};
 const TIME_LENGTH: usize = 4;
 
 /// Adds what is told of the data of an AVP.
-pub(crate) fn push_told(
+pub(crate) fn push_recorded(
     alloc: Global,
     text: &mut String,
     manner: &Manner<'_>,
@@ -29,7 +29,7 @@ pub(crate) fn push_told(
     format: &Format,
     bytes: &[u8],
 ) -> Result<(), AllocError>
-    ensures { OnOk result (AddsTold (plain_manner_of manner.now) name.now (plain_format format.now) bytes.now
+    ensures { OnOk result (AddsRecorded (plain_manner_of manner.now) name.now (plain_format format.now) bytes.now
         (string_bytes text.old) (string_bytes text.new)) }
 {
     let value = value_of(alloc, manner.names, format, bytes)?;
@@ -74,7 +74,7 @@ pub fn date_of(
 
 /// The value of the data, as `show` prints it, or as a text.
 fn value_of(alloc: Global, names: bool, format: &Format, bytes: &[u8]) -> Result<String, AllocError>
-    ensures { IfOk result (λ value. IsValueText (told_format names (plain_format format.now) bytes.now)
+    ensures { IfOk result (λ value. IsValueText (recorded_format names (plain_format format.now) bytes.now)
         bytes.now (string_bytes value)) }
 {
     if is_text(names, format, bytes) {

@@ -33,9 +33,9 @@ stops_bad : (c : ℕ) (more : List ℕ) → hex_digit_value c ≡ None → Begin
 stops_bad c [] none = tt
 stops_bad c (x ∷ more) none = λ byte. no_pair_first c x byte none
 
-stops_behind : (half : Option ℕ) (left more : List ℕ) (c : ℕ) → IsHalf half left → hex_digit_value c ≡ None → BeginsNoPair ((left ++ c ∷ []) ++ more)
-stops_behind None left more c is none = subst (λ (l : List ℕ). BeginsNoPair ((l ++ c ∷ []) ++ more)) (sym is) (stops_bad c more none)
-stops_behind (Some v) left more c (d, is, value) none =
+stops_after : (half : Option ℕ) (left more : List ℕ) (c : ℕ) → IsHalf half left → hex_digit_value c ≡ None → BeginsNoPair ((left ++ c ∷ []) ++ more)
+stops_after None left more c is none = subst (λ (l : List ℕ). BeginsNoPair ((l ++ c ∷ []) ++ more)) (sym is) (stops_bad c more none)
+stops_after (Some v) left more c (d, is, value) none =
     subst (λ (l : List ℕ). BeginsNoPair ((l ++ c ∷ []) ++ more)) (sym is) (λ byte. no_pair_second d c byte none)
 
 pub stops_half : (half : Option ℕ) (left : List ℕ) → IsHalf half left → BeginsNoPair left
@@ -106,7 +106,7 @@ Takes-bad half half_new bytes c none black = let some : digits_of (c ∷ []) ≡
     parts = ap (λ (t : List ℕ). read ++ t) some ∙ ap (λ (r : List ℕ). r ++ c ∷ []) a.parts ∙ append_assoc a.digits a.left (c ∷ []);
     spelled = subst (AreSpelled a.digits) (sym (append-nil before)) a.spelled;
     some = let l = length-append a.left (c ∷ []) in omega (arith, l);
-    stops = λ more. stops_behind half a.left more c a.is_half none;
+    stops = λ more. stops_after half a.left more c a.is_half none;
   };
 }
 

@@ -2,7 +2,7 @@
 use Rattle.std.proofs.Common.{◌≡◌, ℕ, ◌+◌, ◌<◌, List, [], ◌∷◌, ◌++◌, length, take, Option, None, Some, refl, sym, ap, subst, ◌∙◌, append_assoc, inl, inr, arith}
 use Rattle.std.proofs.lemmas.List.{length-append}
 use Rattle.std.proofs.lemmas.Option.{same_Some}
-use Rattle.dia_streams.specs.Streams.{AreSpelled, AreTold, none, message, BeginsNoPair, IsEndTold, nothing, part, endless, no_digits, IsEndless, IsMessage, IsPair, IsPart, BytesHaveOneVerdict, StreamHasOneAnswer}
+use Rattle.dia_streams.specs.Streams.{AreSpelled, AreRecorded, none, message, BeginsNoPair, IsEndRecorded, nothing, part, endless, no_digits, IsEndless, IsMessage, IsPair, IsPart, BytesHaveOneVerdict, StreamHasOneAnswer}
 use Rattle.dia_wire.specs.Wire.{BeginsMessage}
 use Rattle.dia_streams.proofs.Fronts.{message_long, message_on, one_length}
 
@@ -67,7 +67,7 @@ part_not_endless bytes (inl few) (long, bad) = omega (arith, few, long)
 part_not_endless bytes (inr (n, m, less)) (long, bad) = bad n m
 
 module _ {V : Type 0} (P : Option (List ℕ) → V → Type 0) (once : BytesHaveOneVerdict P) where
-  no_message_left : (at : ℕ) (bytes left first more : List ℕ) (verdicts : List (ℕ × V)) → IsEndTold P at bytes left verdicts → IsMessage first → bytes ≡ first ++ more → ⊥
+  no_message_left : (at : ℕ) (bytes left first more : List ℕ) (verdicts : List (ℕ × V)) → IsEndRecorded P at bytes left verdicts → IsMessage first → bytes ≡ first ++ more → ⊥
   no_message_left at bytes left first more verdicts (nothing empty no_left are) is parts =
       let size = ap length parts in let zero = ap length empty in let both = length-append first more in let long = message_long first (length first) is in
       omega (arith, size, zero, both, long)
@@ -83,7 +83,7 @@ module _ {V : Type 0} (P : Option (List ℕ) → V → Type 0) (once : BytesHave
   none_and_some : (xs : List ℕ) → xs ≡ [] → 0 < length xs → ⊥
   none_and_some xs empty some = let zero = ap length empty in omega (arith, zero, some)
 
-  end_once : (at : ℕ) (bytes left : List ℕ) (vs us : List (ℕ × V)) → IsEndTold P at bytes left vs → IsEndTold P at bytes left us → vs ≡ us
+  end_once : (at : ℕ) (bytes left : List ℕ) (vs us : List (ℕ × V)) → IsEndRecorded P at bytes left vs → IsEndRecorded P at bytes left us → vs ≡ us
   end_once at bytes left vs us (nothing a b are) (nothing a' b' are') = are ∙ sym are'
   end_once at bytes left vs us (nothing a b are) (part v some few no_left says are') = absurd (none_and_some bytes a some)
   end_once at bytes left vs us (nothing a b are) (endless v bad says are') = let long = bad.0 in absurd (none_and_some bytes a (omega (arith, long)))
@@ -105,10 +105,10 @@ module _ {V : Type 0} (P : Option (List ℕ) → V → Type 0) (once : BytesHave
       same_verdict at v v' vs us (once None v v' says says') are are'
 
   messages_once : (at : ℕ) (whole rest whole' rest' left : List ℕ) (vs last us last' : List (ℕ × V))
-      → AreTold P at whole vs → IsEndTold P (at + length whole) rest left last → AreTold P at whole' us → IsEndTold P (at + length whole') rest' left last'
+      → AreRecorded P at whole vs → IsEndRecorded P (at + length whole) rest left last → AreRecorded P at whole' us → IsEndRecorded P (at + length whole') rest' left last'
       → whole ++ rest ≡ whole' ++ rest' → vs ++ last ≡ us ++ last'
   messages_once at _ rest _ rest' left _ last _ last' none end none end' same =
-      end_once (at + 0) rest left last last' end (subst (λ (b : List ℕ). IsEndTold P (at + 0) b left last') (sym same) end')
+      end_once (at + 0) rest left last last' end (subst (λ (b : List ℕ). IsEndRecorded P (at + 0) b left last') (sym same) end')
   messages_once at _ rest whole' rest' left _ last us last' none end (message first r v others is says h bytes are) end' same =
       absurd (no_message_left (at + 0) rest left first (r ++ rest') last end is (same ∙ ap (λ (b : List ℕ). b ++ rest') bytes ∙ append_assoc first r rest'))
   messages_once at whole rest _ rest' left vs last _ last' (message first r v others is says h bytes are) end none end' same =
@@ -125,9 +125,9 @@ module _ {V : Type 0} (P : Option (List ℕ) → V → Type 0) (once : BytesHave
       let place : at + length whole ≡ (at + length first) + length r = omega (arith, size) in
       let place' : at + length whole' ≡ (at + length first) + length r' = omega (arith, size', same_size) in
       let more = messages_once (at + length first) r rest r' rest' left others last others' last' h
-      (subst (λ (n : ℕ). IsEndTold P n rest left last) place end)
-      (subst (λ (b : List ℕ). AreTold P (at + length b) r' others') (sym same_first) h')
-      (subst (λ (n : ℕ). IsEndTold P n rest' left last') place' end') same_rest in
+      (subst (λ (n : ℕ). IsEndRecorded P n rest left last) place end)
+      (subst (λ (b : List ℕ). AreRecorded P (at + length b) r' others') (sym same_first) h')
+      (subst (λ (n : ℕ). IsEndRecorded P n rest' left last') place' end') same_rest in
       ap (λ (s : List (ℕ × V)). s ++ last) are ∙ ap (λ (z : V). (at, z) ∷ (others ++ last)) verdict ∙ ap (λ (s : List (ℕ × V)). (at, v') ∷ s) more
       ∙ ap (λ (s : List (ℕ × V)). s ++ last') (sym are')
 
@@ -135,10 +135,10 @@ module _ {V : Type 0} (P : Option (List ℕ) → V → Type 0) (once : BytesHave
   stream_once stream verdicts others a b =
       let (same_bytes, same_left) = spelled_once a.spells.digits a.left a.bytes b.spells.digits b.left b.bytes a.spells.spelled b.spells.spelled a.spells.stops b.spells.stops
       (sym a.spells.parts ∙ b.spells.parts) in
-      let same = messages_once 0 a.whole a.rest b.whole b.rest a.left a.earlier a.last b.earlier b.last a.told
-      (subst (λ (n : ℕ). IsEndTold P n a.rest a.left a.last) (zero_add (length a.whole)) a.end_told) b.told
-      (subst (λ (n : ℕ). IsEndTold P n b.rest a.left b.last) (zero_add (length b.whole))
-      (subst (λ (l : List ℕ). IsEndTold P (length b.whole) b.rest l b.last) (sym same_left) b.end_told))
+      let same = messages_once 0 a.whole a.rest b.whole b.rest a.left a.earlier a.last b.earlier b.last a.recorded
+      (subst (λ (n : ℕ). IsEndRecorded P n a.rest a.left a.last) (zero_add (length a.whole)) a.end_recorded) b.recorded
+      (subst (λ (n : ℕ). IsEndRecorded P n b.rest a.left b.last) (zero_add (length b.whole))
+      (subst (λ (l : List ℕ). IsEndRecorded P (length b.whole) b.rest l b.last) (sym same_left) b.end_recorded))
       (sym a.parts ∙ same_bytes ∙ b.parts) in
       a.are ∙ same ∙ sym b.are
     where

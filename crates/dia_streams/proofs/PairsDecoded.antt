@@ -124,10 +124,10 @@ module _ (digits bytes : List ℕ) (i seen byte : ℕ) (fits : 2 * i + 1 < lengt
 
   still_bad : AreDecoded digits bytes i seen → (16 ≤ seen) ⊎ (16 ≤ bit_or high low) → ¬ IsOk (decode_pairs 0 digits)
   still_bad h (inl before) = h.bad before
-  still_bad h (inr behind) = by (cases_lt seen 16)
+  still_bad h (inr following) = by (cases_lt seen 16)
     where
       by : (seen < 16) ⊎ (16 ≤ seen) → ¬ IsOk (decode_pairs 0 digits)
-      by (inl less) = bad_now h less (which high low behind)
+      by (inl less) = bad_now h less (which high low following)
       by (inr before) = h.bad before
 
   -- one more

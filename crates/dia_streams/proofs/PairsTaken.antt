@@ -82,8 +82,8 @@ Takes-lines good h0 h1 h2 h3 b0 b1 b2 b3 front rest at less x y z =
 pub of_parts : (line s t : List ℕ) (n : ℕ) → s ≡ take n line → t ≡ drop n line → s ++ t ≡ line
 of_parts line s t n front back = rw (front, back) (take-append-drop n line)
 
-pub of_three : (line s behind p l : List ℕ) → s ++ behind ≡ line → p ++ l ≡ behind → (s ++ p) ++ l ≡ line
-of_three line s behind p l outer inner = append_assoc s p l ∙ ap (λ (r : List ℕ). s ++ r) inner ∙ outer
+pub of_three : (line s following p l : List ℕ) → s ++ following ≡ line → p ++ l ≡ following → (s ++ p) ++ l ≡ line
+of_three line s following p l outer inner = append_assoc s p l ∙ ap (λ (r : List ℕ). s ++ r) inner ∙ outer
 
 pub if_ok_map : {A E : Type 0} {P Q : A → Type 0} (r : Result A E) → ((a : A) → P a → Q a) → IfOk r P → IfOk r Q
 if_ok_map (Ok a) f h = f a h

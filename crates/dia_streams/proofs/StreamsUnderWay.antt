@@ -7,22 +7,22 @@ use Rattle.std.proofs.lemmas.Grind.{flat_map-append}
 use Rattle.std.proofs.lemmas.List.{append-nil, length-append, take-append-le}
 use Rattle.std.proofs.lemmas.List.Concat.{flat_map-cons}
 use Rattle.dia_lines.proofs.LinesUnderWay.{Sees-both, Sees-nothing}
-use Rattle.dia_streams.specs.declared.told.Told.{Told}
+use Rattle.dia_streams.specs.declared.recorded.Recorded.{Recorded}
 use Rattle.dia_streams.specs.declared.streamed.Streamed.{Streamed}
-use Rattle.dia_streams.specs.Streams.{AreSpelled, AreTold, none, message, IsEndTold, nothing, part, endless, no_digits, IsEndless, IsMessage, IsPart, IsStreamTold, Spells, digits_of, is_white}
-use Rattle.dia_streams.specs.UnderWay.{AreDigits, AreTaken, Takes, HasTold, Adds, TellsWhole, BeginsNone, IsUnderWay, Reads, Ends}
+use Rattle.dia_streams.specs.Streams.{AreSpelled, AreRecorded, none, message, IsEndRecorded, nothing, part, endless, no_digits, IsEndless, IsMessage, IsPart, IsStreamRecorded, Spells, digits_of, is_white}
+use Rattle.dia_streams.specs.UnderWay.{AreDigits, AreTaken, Takes, HasRecorded, Adds, RecordsWhole, BeginsNone, IsUnderWay, Reads, Ends}
 use Rattle.dia_streams.proofs.DigitsTaken.{digits_both, spelled_both, spelled_front, stops_half}
 use Rattle.dia_streams.proofs.Fronts.{endless_on}
 
 -- the report of one verdict
-one_told : {V : Type 0} (told : V → List ℕ) (verdict : V) (old new : List ℕ) → new ≡ old ++ told verdict → new ≡ old ++ flat_map told (verdict ∷ [])
-one_told told verdict old new h = h ∙ ap (λ (t : List ℕ). old ++ t) (sym (flat_map-cons told verdict [] ∙ append-nil (told verdict)))
+one_recorded : {V : Type 0} (recorded : V → List ℕ) (verdict : V) (old new : List ℕ) → new ≡ old ++ recorded verdict → new ≡ old ++ flat_map recorded (verdict ∷ [])
+one_recorded recorded verdict old new h = h ∙ ap (λ (t : List ℕ). old ++ t) (sym (flat_map-cons recorded verdict [] ∙ append-nil (recorded verdict)))
 
 -- the report of verdicts, and then of more
-both_told : {V : Type 0} (told : V → List ℕ) (xs ys : List V) (a b c : List ℕ) → b ≡ a ++ flat_map told xs → c ≡ b ++ flat_map told ys
-    → c ≡ a ++ flat_map told (xs ++ ys)
-both_told told xs ys a b c h k = k ∙ ap (λ (t : List ℕ). t ++ flat_map told ys) h ∙ append_assoc a (flat_map told xs) (flat_map told ys)
-    ∙ ap (λ (t : List ℕ). a ++ t) (sym (flat_map-append told xs ys))
+both_recorded : {V : Type 0} (recorded : V → List ℕ) (xs ys : List V) (a b c : List ℕ) → b ≡ a ++ flat_map recorded xs → c ≡ b ++ flat_map recorded ys
+    → c ≡ a ++ flat_map recorded (xs ++ ys)
+both_recorded recorded xs ys a b c h k = k ∙ ap (λ (t : List ℕ). t ++ flat_map recorded ys) h ∙ append_assoc a (flat_map recorded xs) (flat_map recorded ys)
+    ∙ ap (λ (t : List ℕ). a ++ t) (sym (flat_map-append recorded xs ys))
 
 -- what digits that were taken spell
 record SpelledSoFar (read bytes : List ℕ) : Type 0 where
@@ -58,33 +58,33 @@ regroup whole kept more all w rest grows parts =
 
 module _ {V : Type 0} (P : Option (List ℕ) → V → Type 0) where
   -- one message more
-  AreTold-more : (at : ℕ) (whole : List ℕ) (verdicts : List (ℕ × V)) (first : List ℕ) (verdict : V) → AreTold P at whole verdicts → IsMessage first
-      → P (Some first) verdict → AreTold P at (whole ++ first) (verdicts ++ (at + length whole, verdict) ∷ [])
-  AreTold-more at _ _ first verdict none is says =
+  AreRecorded-more : (at : ℕ) (whole : List ℕ) (verdicts : List (ℕ × V)) (first : List ℕ) (verdict : V) → AreRecorded P at whole verdicts → IsMessage first
+      → P (Some first) verdict → AreRecorded P at (whole ++ first) (verdicts ++ (at + length whole, verdict) ∷ [])
+  AreRecorded-more at _ _ first verdict none is says =
       let place : at + 0 ≡ at = omega arith in
       message first [] verdict [] is says none (sym (append-nil first)) (ap (λ (n : ℕ). (n, verdict) ∷ []) place)
-  AreTold-more at whole verdicts first verdict (message a rest v others is_a says_a h bytes are) is says =
+  AreRecorded-more at whole verdicts first verdict (message a rest v others is_a says_a h bytes are) is says =
       let size = ap length bytes ∙ length-append a rest in
       let place : at + length whole ≡ (at + length a) + length rest = omega (arith, size) in
       message a (rest ++ first) v (others ++ ((at + length a) + length rest, verdict) ∷ []) is_a says_a
-      (AreTold-more (at + length a) rest others first verdict h is says)
+      (AreRecorded-more (at + length a) rest others first verdict h is says)
       (ap (λ (b : List ℕ). b ++ first) bytes ∙ append_assoc a rest first)
       (ap (λ (vs : List (ℕ × V)). vs ++ (at + length whole, verdict) ∷ []) are ∙ ap (λ (n : ℕ). (at, v) ∷ (others ++ (n, verdict) ∷ [])) place)
 
-  HasTold-more : (now new : Told) (whole : List ℕ) (verdicts : List (ℕ × V)) (first : List ℕ) (verdict : V) → HasTold P now whole verdicts → IsMessage first
-      → P (Some first) verdict → new.at ≡ now.at + length first → HasTold P new (whole ++ first) (verdicts ++ (now.at, verdict) ∷ [])
-  HasTold-more now new whole verdicts first verdict h is says at =
+  HasRecorded-more : (now new : Recorded) (whole : List ℕ) (verdicts : List (ℕ × V)) (first : List ℕ) (verdict : V) → HasRecorded P now whole verdicts → IsMessage first
+      → P (Some first) verdict → new.at ≡ now.at + length first → HasRecorded P new (whole ++ first) (verdicts ++ (now.at, verdict) ∷ [])
+  HasRecorded-more now new whole verdicts first verdict h is says at =
       let here = h.at in
       let size = length-append whole first in
       let place : 0 + length whole ≡ now.at = omega (arith, here) in record {
-        told = subst (λ (n : ℕ). AreTold P 0 (whole ++ first) (verdicts ++ (n, verdict) ∷ [])) place (AreTold-more 0 whole verdicts first verdict h.told is says);
+        recorded = subst (λ (n : ℕ). AreRecorded P 0 (whole ++ first) (verdicts ++ (n, verdict) ∷ [])) place (AreRecorded-more 0 whole verdicts first verdict h.recorded is says);
         at = omega (arith, here, size, at);
       }
 
   -- the verdict on what follows whole messages
-  whole_stream : (read bytes left rest : List ℕ) (verdict : V) (now : Told) (whole : List ℕ) (verdicts : List (ℕ × V)) → HasTold P now whole verdicts
-      → Spells read bytes left → bytes ≡ whole ++ rest → IsEndTold P (length whole) rest left ((length whole, verdict) ∷ [])
-      → IsStreamTold P read (verdicts ++ (now.at, verdict) ∷ [])
+  whole_stream : (read bytes left rest : List ℕ) (verdict : V) (now : Recorded) (whole : List ℕ) (verdicts : List (ℕ × V)) → HasRecorded P now whole verdicts
+      → Spells read bytes left → bytes ≡ whole ++ rest → IsEndRecorded P (length whole) rest left ((length whole, verdict) ∷ [])
+      → IsStreamRecorded P read (verdicts ++ (now.at, verdict) ∷ [])
   whole_stream read bytes left rest verdict now whole verdicts h spells parts end = record {
     bytes = bytes;
     left = left;
@@ -94,8 +94,8 @@ module _ {V : Type 0} (P : Option (List ℕ) → V → Type 0) where
     last = (length whole, verdict) ∷ [];
     spells = spells;
     parts = parts;
-    told = h.told;
-    end_told = end;
+    recorded = h.recorded;
+    end_recorded = end;
     are = ap (λ (n : ℕ). verdicts ++ (n, verdict) ∷ []) h.at;
   }
 
@@ -108,90 +108,90 @@ module _ {V : Type 0} (P : Option (List ℕ) → V → Type 0) where
   }
 
   module _ {W : Type 0} (text : ℕ × V → List ℕ) (saw : W → List (ℕ × V) → Type 0) where
-    pub TellsWhole-nothing : (now : Told) (w : W) (bytes : List ℕ) → TellsWhole P text saw now now w w bytes bytes
-    TellsWhole-nothing now w bytes = record {
+    pub RecordsWhole-nothing : (now : Recorded) (w : W) (bytes : List ℕ) → RecordsWhole P text saw now now w w bytes bytes
+    RecordsWhole-nothing now w bytes = record {
       whole = [];
       verdicts = [];
       parts = refl;
       lines = sym (append-nil (string_bytes now.text));
       seen = Sees-nothing saw w;
-      told = λ before earlier h. subst (λ (b : List ℕ). HasTold P now b (earlier ++ [])) (sym (append-nil before))
-          (subst (HasTold P now before) (sym (append-nil earlier)) h);
+      recorded = λ before earlier h. subst (λ (b : List ℕ). HasRecorded P now b (earlier ++ [])) (sym (append-nil before))
+          (subst (HasRecorded P now before) (sym (append-nil earlier)) h);
     }
 
-    pub TellsWhole-more : (old now mid new : Told) (w x y : W) (bytes rest first behind : List ℕ) (verdict : V) → TellsWhole P text saw old now w x bytes rest
-        → rest ≡ first ++ behind → IsMessage first → P (Some first) verdict → Adds text saw now mid x y verdict
-        → new.at ≡ mid.at + length first → string_bytes new.text ≡ string_bytes mid.text → TellsWhole P text saw old new w y bytes behind
-    TellsWhole-more old now mid new w x y bytes rest first behind verdict t parts is says adds at same =
+    pub RecordsWhole-more : (old now mid new : Recorded) (w x y : W) (bytes rest first following : List ℕ) (verdict : V) → RecordsWhole P text saw old now w x bytes rest
+        → rest ≡ first ++ following → IsMessage first → P (Some first) verdict → Adds text saw now mid x y verdict
+        → new.at ≡ mid.at + length first → string_bytes new.text ≡ string_bytes mid.text → RecordsWhole P text saw old new w y bytes following
+    RecordsWhole-more old now mid new w x y bytes rest first following verdict t parts is says adds at same =
         let stays = adds.at in
         let place : new.at ≡ now.at + length first = omega (arith, stays, at) in record {
           whole = t.whole ++ first;
           verdicts = t.verdicts ++ (now.at, verdict) ∷ [];
-          parts = t.parts ∙ ap (λ (b : List ℕ). t.whole ++ b) parts ∙ sym (append_assoc t.whole first behind);
-          lines = both_told text t.verdicts ((now.at, verdict) ∷ []) (string_bytes old.text) (string_bytes now.text) (string_bytes new.text) t.lines
-              (one_told text (now.at, verdict) (string_bytes now.text) (string_bytes new.text) (same ∙ adds.line));
+          parts = t.parts ∙ ap (λ (b : List ℕ). t.whole ++ b) parts ∙ sym (append_assoc t.whole first following);
+          lines = both_recorded text t.verdicts ((now.at, verdict) ∷ []) (string_bytes old.text) (string_bytes now.text) (string_bytes new.text) t.lines
+              (one_recorded text (now.at, verdict) (string_bytes now.text) (string_bytes new.text) (same ∙ adds.line));
           seen = Sees-both saw w x y t.verdicts ((now.at, verdict) ∷ []) t.seen adds.seen;
-          told = λ before earlier h. subst (λ (b : List ℕ). HasTold P new b (earlier ++ (t.verdicts ++ (now.at, verdict) ∷ []))) (append_assoc before t.whole first)
-              (subst (HasTold P new ((before ++ t.whole) ++ first)) (append_assoc earlier t.verdicts ((now.at, verdict) ∷ []))
-              (HasTold-more now new (before ++ t.whole) (earlier ++ t.verdicts) first verdict (t.told before earlier h) is says place));
+          recorded = λ before earlier h. subst (λ (b : List ℕ). HasRecorded P new b (earlier ++ (t.verdicts ++ (now.at, verdict) ∷ []))) (append_assoc before t.whole first)
+              (subst (HasRecorded P new ((before ++ t.whole) ++ first)) (append_assoc earlier t.verdicts ((now.at, verdict) ∷ []))
+              (HasRecorded-more now new (before ++ t.whole) (earlier ++ t.verdicts) first verdict (t.recorded before earlier h) is says place));
         }
 
     -- the digits of a piece were taken, and its messages reported
-    module _ (good : Bool) (half : Option ℕ) (all piece rest : List ℕ) (old : Streamed) (mid : Told) (w x : W)
-        (takes : Takes good old.digits.half half old.digits.bytes.items all piece) (tells : TellsWhole P text saw old.told mid w x all rest) where
-      taken : (read : List ℕ) (earlier : List (ℕ × V)) → (u : IsUnderWay P old read earlier) → AreTaken good half (digits_of (read ++ piece)) ((u.whole ++ tells.whole) ++ rest)
-      taken read earlier u = subst (λ (d : List ℕ). AreTaken good half d ((u.whole ++ tells.whole) ++ rest)) (sym (digits_both read piece))
+    module _ (good : Bool) (half : Option ℕ) (all piece rest : List ℕ) (old : Streamed) (mid : Recorded) (w x : W)
+        (takes : Takes good old.digits.half half old.digits.bytes.items all piece) (records : RecordsWhole P text saw old.recorded mid w x all rest) where
+      taken : (read : List ℕ) (earlier : List (ℕ × V)) → (u : IsUnderWay P old read earlier) → AreTaken good half (digits_of (read ++ piece)) ((u.whole ++ records.whole) ++ rest)
+      taken read earlier u = subst (λ (d : List ℕ). AreTaken good half d ((u.whole ++ records.whole) ++ rest)) (sym (digits_both read piece))
           (subst (AreTaken good half (digits_of read ++ digits_of piece))
-          (regroup u.whole old.digits.bytes.items takes.more all tells.whole rest takes.grows tells.parts)
+          (regroup u.whole old.digits.bytes.items takes.more all records.whole rest takes.grows records.parts)
           (takes.taken (digits_of read) (u.whole ++ old.digits.bytes.items) u.digits))
 
       -- the last verdict was reported
-      over : (new : Streamed) (y : W) (verdict : V) → Adds text saw mid new.told x y verdict
+      over : (new : Streamed) (y : W) (verdict : V) → Adds text saw mid new.recorded x y verdict
           → ((read : List ℕ) (earlier : List (ℕ × V)) → (u : IsUnderWay P old read earlier) → (chars : List ℕ)
-          → (bytes : List ℕ) × (left : List ℕ) × (behind : List ℕ) × Spells ((read ++ piece) ++ chars) bytes left
-          × (bytes ≡ (u.whole ++ tells.whole) ++ behind)
-          × IsEndTold P (length (u.whole ++ tells.whole)) behind left ((length (u.whole ++ tells.whole), verdict) ∷ []))
+          → (bytes : List ℕ) × (left : List ℕ) × (following : List ℕ) × Spells ((read ++ piece) ++ chars) bytes left
+          × (bytes ≡ (u.whole ++ records.whole) ++ following)
+          × IsEndRecorded P (length (u.whole ++ records.whole)) following left ((length (u.whole ++ records.whole), verdict) ∷ []))
           → Reads P text saw false old new w y piece
       over new y verdict adds ends = record {
-        verdicts = tells.verdicts ++ (mid.at, verdict) ∷ [];
-        lines = both_told text tells.verdicts ((mid.at, verdict) ∷ []) (string_bytes old.told.text) (string_bytes mid.text) (string_bytes new.told.text) tells.lines
-            (one_told text (mid.at, verdict) (string_bytes mid.text) (string_bytes new.told.text) adds.line);
-        seen = Sees-both saw w x y tells.verdicts ((mid.at, verdict) ∷ []) tells.seen adds.seen;
+        verdicts = records.verdicts ++ (mid.at, verdict) ∷ [];
+        lines = both_recorded text records.verdicts ((mid.at, verdict) ∷ []) (string_bytes old.recorded.text) (string_bytes mid.text) (string_bytes new.recorded.text) records.lines
+            (one_recorded text (mid.at, verdict) (string_bytes mid.text) (string_bytes new.recorded.text) adds.line);
+        seen = Sees-both saw w x y records.verdicts ((mid.at, verdict) ∷ []) records.seen adds.seen;
         reads = λ read earlier u chars.
-            let (bytes, left, behind, spells, parts, end) = ends read earlier u chars in
-            subst (IsStreamTold P ((read ++ piece) ++ chars)) (append_assoc earlier tells.verdicts ((mid.at, verdict) ∷ []))
-            (whole_stream ((read ++ piece) ++ chars) bytes left behind verdict mid (u.whole ++ tells.whole) (earlier ++ tells.verdicts)
-            (tells.told u.whole earlier u.told) spells parts end);
+            let (bytes, left, following, spells, parts, end) = ends read earlier u chars in
+            subst (IsStreamRecorded P ((read ++ piece) ++ chars)) (append_assoc earlier records.verdicts ((mid.at, verdict) ∷ []))
+            (whole_stream ((read ++ piece) ++ chars) bytes left following verdict mid (u.whole ++ records.whole) (earlier ++ records.verdicts)
+            (records.recorded u.whole earlier u.recorded) spells parts end);
       }
 
       -- the first bytes that are left begin no message
-      pub Reads-endless : (new : Streamed) (y : W) (verdict : V) → IsEndless rest → P (Some (take 20 rest)) verdict → Adds text saw mid new.told x y verdict
+      pub Reads-endless : (new : Streamed) (y : W) (verdict : V) → IsEndless rest → P (Some (take 20 rest)) verdict → Adds text saw mid new.recorded x y verdict
           → Reads P text saw false old new w y piece
       Reads-endless new y verdict bad says adds = over new y verdict adds (λ read earlier u chars.
-          let s = so_far good half (digits_of (read ++ piece)) ((u.whole ++ tells.whole) ++ rest) (taken read earlier u) in
+          let s = so_far good half (digits_of (read ++ piece)) ((u.whole ++ records.whole) ++ rest) (taken read earlier u) in
           let f = spelled_front (s.left ++ digits_of chars) in (
-            ((u.whole ++ tells.whole) ++ rest) ++ f.bytes,
+            ((u.whole ++ records.whole) ++ rest) ++ f.bytes,
             f.left,
             rest ++ f.bytes,
             record {
               digits = s.digits ++ f.digits;
               parts = digits_both (read ++ piece) chars ∙ ap (λ (d : List ℕ). d ++ digits_of chars) s.parts ∙ append_assoc s.digits s.left (digits_of chars)
                   ∙ ap (λ (d : List ℕ). s.digits ++ d) f.parts ∙ sym (append_assoc s.digits f.digits f.left);
-              spelled = spelled_both s.digits f.digits ((u.whole ++ tells.whole) ++ rest) f.bytes s.spelled f.spelled;
+              spelled = spelled_both s.digits f.digits ((u.whole ++ records.whole) ++ rest) f.bytes s.spelled f.spelled;
               stops = f.stops;
             },
-            append_assoc (u.whole ++ tells.whole) rest f.bytes,
+            append_assoc (u.whole ++ records.whole) rest f.bytes,
             endless verdict (endless_on rest f.bytes bad) (subst (λ (b : List ℕ). P (Some b) verdict) (sym (take-append-le 20 rest f.bytes bad.0)) says) refl,
           ))
 
     -- a character is no digit
-    pub Reads-stopped : (half : Option ℕ) (all piece rest : List ℕ) (old new : Streamed) (mid : Told) (w x y : W) (verdict : V)
-        → Takes false old.digits.half half old.digits.bytes.items all piece → TellsWhole P text saw old.told mid w x all rest
-        → IsPart rest → P None verdict → Adds text saw mid new.told x y verdict → Reads P text saw false old new w y piece
-    Reads-stopped half all piece rest old new mid w x y verdict takes tells few says adds =
-        over false half all piece rest old mid w x takes tells new y verdict adds (λ read earlier u chars.
-        let s = taken false half all piece rest old mid w x takes tells read earlier u in (
-          (u.whole ++ tells.whole) ++ rest,
+    pub Reads-stopped : (half : Option ℕ) (all piece rest : List ℕ) (old new : Streamed) (mid : Recorded) (w x y : W) (verdict : V)
+        → Takes false old.digits.half half old.digits.bytes.items all piece → RecordsWhole P text saw old.recorded mid w x all rest
+        → IsPart rest → P None verdict → Adds text saw mid new.recorded x y verdict → Reads P text saw false old new w y piece
+    Reads-stopped half all piece rest old new mid w x y verdict takes records few says adds =
+        over false half all piece rest old mid w x takes records new y verdict adds (λ read earlier u chars.
+        let s = taken false half all piece rest old mid w x takes records read earlier u in (
+          (u.whole ++ records.whole) ++ rest,
           s.left ++ digits_of chars,
           rest,
           record {
@@ -205,20 +205,20 @@ module _ {V : Type 0} (P : Option (List ℕ) → V → Type 0) where
         ))
 
     -- the next message goes on
-    pub Reads-on : (half : Option ℕ) (all piece rest : List ℕ) (old new : Streamed) (mid : Told) (w x : W)
-        → Takes true old.digits.half half old.digits.bytes.items all piece → TellsWhole P text saw old.told mid w x all rest
-        → IsPart rest → new.digits.half ≡ half → new.digits.bytes.items ≡ rest → new.told ≡ mid → Reads P text saw true old new w x piece
-    Reads-on half all piece rest old new mid w x takes tells few same_half same_bytes same_told = record {
-      verdicts = tells.verdicts;
-      lines = ap (λ (t : Told). string_bytes t.text) same_told ∙ tells.lines;
-      seen = tells.seen;
+    pub Reads-on : (half : Option ℕ) (all piece rest : List ℕ) (old new : Streamed) (mid : Recorded) (w x : W)
+        → Takes true old.digits.half half old.digits.bytes.items all piece → RecordsWhole P text saw old.recorded mid w x all rest
+        → IsPart rest → new.digits.half ≡ half → new.digits.bytes.items ≡ rest → new.recorded ≡ mid → Reads P text saw true old new w x piece
+    Reads-on half all piece rest old new mid w x takes records few same_half same_bytes same_recorded = record {
+      verdicts = records.verdicts;
+      lines = ap (λ (t : Recorded). string_bytes t.text) same_recorded ∙ records.lines;
+      seen = records.seen;
       reads = λ read earlier u. record {
-        whole = u.whole ++ tells.whole;
-        digits = subst (λ (h : Option ℕ). AreDigits h (digits_of (read ++ piece)) ((u.whole ++ tells.whole) ++ new.digits.bytes.items)) (sym same_half)
-            (subst (λ (b : List ℕ). AreDigits half (digits_of (read ++ piece)) ((u.whole ++ tells.whole) ++ b)) (sym same_bytes)
-            (taken true half all piece rest old mid w x takes tells read earlier u));
+        whole = u.whole ++ records.whole;
+        digits = subst (λ (h : Option ℕ). AreDigits h (digits_of (read ++ piece)) ((u.whole ++ records.whole) ++ new.digits.bytes.items)) (sym same_half)
+            (subst (λ (b : List ℕ). AreDigits half (digits_of (read ++ piece)) ((u.whole ++ records.whole) ++ b)) (sym same_bytes)
+            (taken true half all piece rest old mid w x takes records read earlier u));
         is_part = subst IsPart (sym same_bytes) few;
-        told = subst (λ (t : Told). HasTold P t (u.whole ++ tells.whole) (earlier ++ tells.verdicts)) (sym same_told) (tells.told u.whole earlier u.told);
+        recorded = subst (λ (t : Recorded). HasRecorded P t (u.whole ++ records.whole) (earlier ++ records.verdicts)) (sym same_recorded) (records.recorded u.whole earlier u.recorded);
       };
     }
 
@@ -240,7 +240,7 @@ module _ {V : Type 0} (P : Option (List ℕ) → V → Type 0) where
     pub Ends-nothing : (now : Streamed) (w : W) → now.digits.half ≡ None → length now.digits.bytes.items ≡ 0 → Ends P text saw now now w w
     Ends-nothing now w even empty = record {
       verdicts = [];
-      lines = sym (append-nil (string_bytes now.told.text));
+      lines = sym (append-nil (string_bytes now.recorded.text));
       seen = Sees-nothing saw w;
       ends = λ read earlier u. record {
         bytes = u.whole ++ now.digits.bytes.items;
@@ -251,35 +251,35 @@ module _ {V : Type 0} (P : Option (List ℕ) → V → Type 0) where
         last = [];
         spells = digits_end now read earlier u;
         parts = refl;
-        told = u.told.told;
-        end_told = nothing (no_bytes now.digits.bytes.items empty) (no_half now.digits.half (digits_of read) (u.whole ++ now.digits.bytes.items) even u.digits) refl;
+        recorded = u.recorded.recorded;
+        end_recorded = nothing (no_bytes now.digits.bytes.items empty) (no_half now.digits.half (digits_of read) (u.whole ++ now.digits.bytes.items) even u.digits) refl;
         are = refl;
       };
     }
 
     -- the last verdict was reported
-    last_told : (old new : Streamed) (w x : W) (verdict : V) → Adds text saw old.told new.told w x verdict
+    last_recorded : (old new : Streamed) (w x : W) (verdict : V) → Adds text saw old.recorded new.recorded w x verdict
         → ((read : List ℕ) (earlier : List (ℕ × V)) → (u : IsUnderWay P old read earlier)
-        → IsEndTold P (length u.whole) old.digits.bytes.items u.digits.left ((length u.whole, verdict) ∷ []))
+        → IsEndRecorded P (length u.whole) old.digits.bytes.items u.digits.left ((length u.whole, verdict) ∷ []))
         → Ends P text saw old new w x
-    last_told old new w x verdict adds end = record {
-      verdicts = (old.told.at, verdict) ∷ [];
-      lines = one_told text (old.told.at, verdict) (string_bytes old.told.text) (string_bytes new.told.text) adds.line;
+    last_recorded old new w x verdict adds end = record {
+      verdicts = (old.recorded.at, verdict) ∷ [];
+      lines = one_recorded text (old.recorded.at, verdict) (string_bytes old.recorded.text) (string_bytes new.recorded.text) adds.line;
       seen = adds.seen;
-      ends = λ read earlier u. whole_stream read (u.whole ++ old.digits.bytes.items) u.digits.left old.digits.bytes.items verdict old.told u.whole earlier u.told
+      ends = λ read earlier u. whole_stream read (u.whole ++ old.digits.bytes.items) u.digits.left old.digits.bytes.items verdict old.recorded u.whole earlier u.recorded
           (digits_end old read earlier u) refl (end read earlier u);
     }
 
     -- a part of a message is under way
     pub Ends-part : (old new : Streamed) (w x : W) (verdict : V) → old.digits.half ≡ None → 0 < length old.digits.bytes.items
-        → P (Some old.digits.bytes.items) verdict → Adds text saw old.told new.told w x verdict → Ends P text saw old new w x
-    Ends-part old new w x verdict even some says adds = last_told old new w x verdict adds (λ read earlier u.
+        → P (Some old.digits.bytes.items) verdict → Adds text saw old.recorded new.recorded w x verdict → Ends P text saw old new w x
+    Ends-part old new w x verdict even some says adds = last_recorded old new w x verdict adds (λ read earlier u.
         part verdict some u.is_part (no_half old.digits.half (digits_of read) (u.whole ++ old.digits.bytes.items) even u.digits) says refl)
 
     -- a digit is, without its pair
-    pub Ends-half : (old new : Streamed) (w x : W) (verdict : V) → old.digits.half ≢ None → P None verdict → Adds text saw old.told new.told w x verdict
+    pub Ends-half : (old new : Streamed) (w x : W) (verdict : V) → old.digits.half ≢ None → P None verdict → Adds text saw old.recorded new.recorded w x verdict
         → Ends P text saw old new w x
-    Ends-half old new w x verdict some says adds = last_told old new w x verdict adds (λ read earlier u.
+    Ends-half old new w x verdict some says adds = last_recorded old new w x verdict adds (λ read earlier u.
         no_digits verdict u.is_part (some_half old.digits.half (digits_of read) (u.whole ++ old.digits.bytes.items) some u.digits) says refl)
 
 -- no message can be found, or it isn't whole
@@ -308,7 +308,7 @@ some_by (b ∷ bytes) same is e = omega arith
 
 -- a place that can't be counted follows as many characters
 pub many_read : {V : Type 0} (P : Option (List ℕ) → V → Type 0) (old : Streamed) (good : Bool) (half : Option ℕ) (all piece : List ℕ) (most : ℕ) → Takes good old.digits.half half old.digits.bytes.items all piece
-    → most ≤ old.told.at + length all → (read : List ℕ) (verdicts : List (ℕ × V)) → IsUnderWay P old read verdicts → most ≤ length (read ++ piece)
+    → most ≤ old.recorded.at + length all → (read : List ℕ) (verdicts : List (ℕ × V)) → IsUnderWay P old read verdicts → most ≤ length (read ++ piece)
 many_read P old good half all piece most takes far read verdicts u =
     let kept = old.digits.bytes.items in
     let s = so_far good half (digits_of read ++ digits_of piece) ((u.whole ++ kept) ++ takes.more) (takes.taken (digits_of read) (u.whole ++ kept) u.digits) in
@@ -318,4 +318,4 @@ many_read P old good half all piece most takes far read verdicts u =
     let grown = ap (λ (b : List ℕ). length b) takes.grows ∙ length-append kept takes.more in
     let digits = sym (length-append (digits_of read) (digits_of piece)) ∙ ap (λ (b : List ℕ). length b) s.parts ∙ length-append s.digits s.left in
     let both = length-append read piece in
-    omega (arith, far, u.told.at, long, bytes, before, grown, digits, both, digits_short read, digits_short piece)
+    omega (arith, far, u.recorded.at, long, bytes, before, grown, digits, both, digits_short read, digits_short piece)

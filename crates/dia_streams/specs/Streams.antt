@@ -53,22 +53,22 @@ IsEndless bytes = (20 ≤ length bytes) × ((n : ℕ) → ¬ BeginsMessage bytes
 -- the place where its message begins
 
 -- the verdicts on whole messages, the first of them at a place
-pub data AreTold {V : Type 0} (P : Option (List ℕ) → V → Type 0) : (at : ℕ) (bytes : List ℕ) → List (ℕ × V) → Type 0 where
-  none : {at : ℕ} → AreTold P at [] []
+pub data AreRecorded {V : Type 0} (P : Option (List ℕ) → V → Type 0) : (at : ℕ) (bytes : List ℕ) → List (ℕ × V) → Type 0 where
+  none : {at : ℕ} → AreRecorded P at [] []
   message : {at : ℕ} {bytes : List ℕ} {verdicts : List (ℕ × V)} (first rest : List ℕ) (verdict : V) (others : List (ℕ × V))
-      → IsMessage first → P (Some first) verdict → AreTold P (at + length first) rest others
-      → bytes ≡ first ++ rest → verdicts ≡ (at, verdict) ∷ others → AreTold P at bytes verdicts
+      → IsMessage first → P (Some first) verdict → AreRecorded P (at + length first) rest others
+      → bytes ≡ first ++ rest → verdicts ≡ (at, verdict) ∷ others → AreRecorded P at bytes verdicts
 
 -- the verdict on what follows them, at a place: a part of a message, a bad header, or digits that spell nothing
-pub data IsEndTold {V : Type 0} (P : Option (List ℕ) → V → Type 0) (at : ℕ) (bytes left : List ℕ) (verdicts : List (ℕ × V)) : Type 0 where
-  nothing : bytes ≡ [] → left ≡ [] → verdicts ≡ [] → IsEndTold P at bytes left verdicts
+pub data IsEndRecorded {V : Type 0} (P : Option (List ℕ) → V → Type 0) (at : ℕ) (bytes left : List ℕ) (verdicts : List (ℕ × V)) : Type 0 where
+  nothing : bytes ≡ [] → left ≡ [] → verdicts ≡ [] → IsEndRecorded P at bytes left verdicts
   part : (verdict : V) → 0 < length bytes → IsPart bytes → left ≡ [] → P (Some bytes) verdict → verdicts ≡ (at, verdict) ∷ []
-      → IsEndTold P at bytes left verdicts
-  endless : (verdict : V) → IsEndless bytes → P (Some (take 20 bytes)) verdict → verdicts ≡ (at, verdict) ∷ [] → IsEndTold P at bytes left verdicts
-  no_digits : (verdict : V) → IsPart bytes → 0 < length left → P None verdict → verdicts ≡ (at, verdict) ∷ [] → IsEndTold P at bytes left verdicts
+      → IsEndRecorded P at bytes left verdicts
+  endless : (verdict : V) → IsEndless bytes → P (Some (take 20 bytes)) verdict → verdicts ≡ (at, verdict) ∷ [] → IsEndRecorded P at bytes left verdicts
+  no_digits : (verdict : V) → IsPart bytes → 0 < length left → P None verdict → verdicts ≡ (at, verdict) ∷ [] → IsEndRecorded P at bytes left verdicts
 
 -- the verdicts on a whole stream
-pub record IsStreamTold {V : Type 0} (P : Option (List ℕ) → V → Type 0) (stream : List ℕ) (verdicts : List (ℕ × V)) : Type 0 where
+pub record IsStreamRecorded {V : Type 0} (P : Option (List ℕ) → V → Type 0) (stream : List ℕ) (verdicts : List (ℕ × V)) : Type 0 where
   pub bytes : List ℕ
   pub left : List ℕ
   pub whole : List ℕ
@@ -77,19 +77,19 @@ pub record IsStreamTold {V : Type 0} (P : Option (List ℕ) → V → Type 0) (s
   pub last : List (ℕ × V)
   pub spells : Spells stream bytes left
   pub parts : bytes ≡ whole ++ rest
-  pub told : AreTold P 0 whole earlier
-  pub end_told : IsEndTold P (length whole) rest left last
+  pub recorded : AreRecorded P 0 whole earlier
+  pub end_recorded : IsEndRecorded P (length whole) rest left last
   pub are : verdicts ≡ earlier ++ last
 
 -- the verdicts on whole messages at the front of a stream, of which more may come
-pub record IsFrontTold {V : Type 0} (P : Option (List ℕ) → V → Type 0) (stream : List ℕ) (verdicts : List (ℕ × V)) : Type 0 where
+pub record IsFrontRecorded {V : Type 0} (P : Option (List ℕ) → V → Type 0) (stream : List ℕ) (verdicts : List (ℕ × V)) : Type 0 where
   pub digits : List ℕ
   pub left : List ℕ
   pub whole : List ℕ
   pub rest : List ℕ
   pub parts : digits_of stream ≡ digits ++ left
   pub spelled : AreSpelled digits (whole ++ rest)
-  pub told : AreTold P 0 whole verdicts
+  pub recorded : AreRecorded P 0 whole verdicts
 
 -- ---- from a feed into a sink. `text` has the line of a verdict
 
@@ -103,29 +103,29 @@ StillGives None rest = rest ≡ []
 StillGives (Some all) rest = rest ≡ all
 
 -- the lines of all that the feed gives were put, though not all may have been read
-pub record AllTold {V W : Type 0} (P : Option (List ℕ) → V → Type 0) (text : ℕ × V → List ℕ) (saw : W → List (ℕ × V) → Type 0)
+pub record AllRecorded {V W : Type 0} (P : Option (List ℕ) → V → Type 0) (text : ℕ × V → List ℕ) (saw : W → List (ℕ × V) → Type 0)
     (fed_old fed put_old put : Option (List ℕ)) (watch_old watch : W) : Type 0 where
   pub read : List ℕ
   pub verdicts : List (ℕ × V)
   pub consumed : Consumes fed_old fed read
-  pub told : (rest : List ℕ) → StillGives fed rest → IsStreamTold P (read ++ rest) verdicts
+  pub recorded : (rest : List ℕ) → StillGives fed rest → IsStreamRecorded P (read ++ rest) verdicts
   pub is_put : Appends put_old put (flat_map text verdicts)
   pub seen : Sees saw watch_old watch verdicts
 
 -- the lines of whole messages at the front of what was read were put, and nothing else
-pub record WholeTold {V : Type 0} (P : Option (List ℕ) → V → Type 0) (text : ℕ × V → List ℕ) (fed_old fed put_old put : Option (List ℕ)) : Type 0 where
+pub record WholeRecorded {V : Type 0} (P : Option (List ℕ) → V → Type 0) (text : ℕ × V → List ℕ) (fed_old fed put_old put : Option (List ℕ)) : Type 0 where
   pub read : List ℕ
   pub verdicts : List (ℕ × V)
   pub consumed : Consumes fed_old fed read
-  pub told : IsFrontTold P read verdicts
+  pub recorded : IsFrontRecorded P read verdicts
   pub is_put : Appends put_old put (flat_map text verdicts)
 
 -- what was put is a prefix of the lines: of whole messages at the front of what was read, or of all
-pub record SomeTold {V : Type 0} (P : Option (List ℕ) → V → Type 0) (text : ℕ × V → List ℕ) (fed_old fed put_old put : Option (List ℕ)) : Type 0 where
+pub record SomeRecorded {V : Type 0} (P : Option (List ℕ) → V → Type 0) (text : ℕ × V → List ℕ) (fed_old fed put_old put : Option (List ℕ)) : Type 0 where
   pub read : List ℕ
   pub verdicts : List (ℕ × V)
   pub consumed : Consumes fed_old fed read
-  pub told : IsFrontTold P read verdicts ⊎ ((rest : List ℕ) → StillGives fed rest → IsStreamTold P (read ++ rest) verdicts)
+  pub recorded : IsFrontRecorded P read verdicts ⊎ ((rest : List ℕ) → StillGives fed rest → IsStreamRecorded P (read ++ rest) verdicts)
   pub is_put : AppendsFront put_old put (flat_map text verdicts)
 
 -- bytes have one verdict
@@ -134,4 +134,4 @@ BytesHaveOneVerdict {V} P = (bytes : Option (List ℕ)) (verdict other : V) → 
 
 -- a stream has one list of verdicts
 abbrev pub StreamHasOneAnswer : {V : Type 0} → (Option (List ℕ) → V → Type 0) → Type 0
-StreamHasOneAnswer {V} P = (stream : List ℕ) (verdicts others : List (ℕ × V)) → IsStreamTold P stream verdicts → IsStreamTold P stream others → verdicts ≡ others
+StreamHasOneAnswer {V} P = (stream : List ℕ) (verdicts others : List (ℕ × V)) → IsStreamRecorded P stream verdicts → IsStreamRecorded P stream others → verdicts ≡ others

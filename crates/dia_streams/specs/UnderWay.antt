@@ -4,9 +4,9 @@ use Rattle.std.specs.List.{flat_map}
 use Rattle.std.specs.Io.KnownBytes.{Appends, Consumes}
 use Rattle.hex.specs.Hex.{hex_digit_value}
 use Rattle.dia_lines.specs.FeedToSink.{Sees}
-use Rattle.dia_streams.specs.declared.told.Told.{Told}
+use Rattle.dia_streams.specs.declared.recorded.Recorded.{Recorded}
 use Rattle.dia_streams.specs.declared.streamed.Streamed.{Streamed}
-use Rattle.dia_streams.specs.Streams.{AreTold, IsEndless, IsPart, IsStreamTold, AreSpelled, BeginsNoPair, digits_of}
+use Rattle.dia_streams.specs.Streams.{AreRecorded, IsEndless, IsPart, IsStreamRecorded, AreSpelled, BeginsNoPair, digits_of}
 
 -- ---- digits
 
@@ -49,12 +49,12 @@ pub record Takes (good : Bool) (half_old half : Option ℕ) (bytes_old bytes tex
 -- ---- verdicts
 
 -- these are the verdicts on whole messages that were reported
-pub record HasTold {V : Type 0} (P : Option (List ℕ) → V → Type 0) (now : Told) (whole : List ℕ) (verdicts : List (ℕ × V)) : Type 0 where
-  pub told : AreTold P 0 whole verdicts
+pub record HasRecorded {V : Type 0} (P : Option (List ℕ) → V → Type 0) (now : Recorded) (whole : List ℕ) (verdicts : List (ℕ × V)) : Type 0 where
+  pub recorded : AreRecorded P 0 whole verdicts
   pub at : now.at ≡ length whole
 
 -- a verdict was reported and seen, on what begins at the place
-pub record Adds {V W : Type 0} (text : ℕ × V → List ℕ) (saw : W → List (ℕ × V) → Type 0) (old now : Told) (watch_old watch : W) (verdict : V) : Type 0 where
+pub record Adds {V W : Type 0} (text : ℕ × V → List ℕ) (saw : W → List (ℕ × V) → Type 0) (old now : Recorded) (watch_old watch : W) (verdict : V) : Type 0 where
   pub line : string_bytes now.text ≡ string_bytes old.text ++ text (old.at, verdict)
   pub at : now.at ≡ old.at
   pub seen : Sees saw watch_old watch ((old.at, verdict) ∷ [])
@@ -64,14 +64,14 @@ abbrev pub BeginsNone : List ℕ → Type 0
 BeginsNone bytes = IsPart bytes ⊎ IsEndless bytes
 
 -- the whole messages at the front of the bytes were reported
-pub record TellsWhole {V W : Type 0} (P : Option (List ℕ) → V → Type 0) (text : ℕ × V → List ℕ) (saw : W → List (ℕ × V) → Type 0)
-    (old now : Told) (watch_old watch : W) (bytes rest : List ℕ) : Type 0 where
+pub record RecordsWhole {V W : Type 0} (P : Option (List ℕ) → V → Type 0) (text : ℕ × V → List ℕ) (saw : W → List (ℕ × V) → Type 0)
+    (old now : Recorded) (watch_old watch : W) (bytes rest : List ℕ) : Type 0 where
   pub whole : List ℕ
   pub verdicts : List (ℕ × V)
   pub parts : bytes ≡ whole ++ rest
   pub lines : string_bytes now.text ≡ string_bytes old.text ++ flat_map text verdicts
   pub seen : Sees saw watch_old watch verdicts
-  pub told : (before : List ℕ) (earlier : List (ℕ × V)) → HasTold P old before earlier → HasTold P now (before ++ whole) (earlier ++ verdicts)
+  pub recorded : (before : List ℕ) (earlier : List (ℕ × V)) → HasRecorded P old before earlier → HasRecorded P now (before ++ whole) (earlier ++ verdicts)
 
 -- ---- streams
 
@@ -80,11 +80,11 @@ pub record IsUnderWay {V : Type 0} (P : Option (List ℕ) → V → Type 0) (now
   pub whole : List ℕ
   pub digits : AreDigits now.digits.half (digits_of read) (whole ++ now.digits.bytes.items)
   pub is_part : IsPart now.digits.bytes.items
-  pub told : HasTold P now.told whole verdicts
+  pub recorded : HasRecorded P now.recorded whole verdicts
 
 -- all was reported, whatever follows
 abbrev pub IsOver : {V : Type 0} → (Option (List ℕ) → V → Type 0) → List ℕ → List (ℕ × V) → Type 0
-IsOver P read verdicts = (rest : List ℕ) → IsStreamTold P (read ++ rest) verdicts
+IsOver P read verdicts = (rest : List ℕ) → IsStreamRecorded P (read ++ rest) verdicts
 
 abbrev pub Goes : {V : Type 0} → (Option (List ℕ) → V → Type 0) → Bool → Streamed → List ℕ → List (ℕ × V) → Type 0
 Goes P true now read verdicts = IsUnderWay P now read verdicts
@@ -94,7 +94,7 @@ Goes P false now read verdicts = IsOver P read verdicts
 pub record Reads {V W : Type 0} (P : Option (List ℕ) → V → Type 0) (text : ℕ × V → List ℕ) (saw : W → List (ℕ × V) → Type 0)
     (goes_on : Bool) (old now : Streamed) (watch_old watch : W) (piece : List ℕ) : Type 0 where
   pub verdicts : List (ℕ × V)
-  pub lines : string_bytes now.told.text ≡ string_bytes old.told.text ++ flat_map text verdicts
+  pub lines : string_bytes now.recorded.text ≡ string_bytes old.recorded.text ++ flat_map text verdicts
   pub seen : Sees saw watch_old watch verdicts
   pub reads : (read : List ℕ) (earlier : List (ℕ × V)) → IsUnderWay P old read earlier → Goes P goes_on now (read ++ piece) (earlier ++ verdicts)
 
@@ -102,9 +102,9 @@ pub record Reads {V W : Type 0} (P : Option (List ℕ) → V → Type 0) (text :
 pub record Ends {V W : Type 0} (P : Option (List ℕ) → V → Type 0) (text : ℕ × V → List ℕ) (saw : W → List (ℕ × V) → Type 0)
     (old now : Streamed) (watch_old watch : W) : Type 0 where
   pub verdicts : List (ℕ × V)
-  pub lines : string_bytes now.told.text ≡ string_bytes old.told.text ++ flat_map text verdicts
+  pub lines : string_bytes now.recorded.text ≡ string_bytes old.recorded.text ++ flat_map text verdicts
   pub seen : Sees saw watch_old watch verdicts
-  pub ends : (read : List ℕ) (earlier : List (ℕ × V)) → IsUnderWay P old read earlier → IsStreamTold P read (earlier ++ verdicts)
+  pub ends : (read : List ℕ) (earlier : List (ℕ × V)) → IsUnderWay P old read earlier → IsStreamRecorded P read (earlier ++ verdicts)
 
 -- so many pieces were read from the feed and reported into the sink
 pub record AreRead {V W : Type 0} (P : Option (List ℕ) → V → Type 0) (text : ℕ × V → List ℕ) (saw : W → List (ℕ × V) → Type 0)
@@ -115,5 +115,5 @@ pub record AreRead {V W : Type 0} (P : Option (List ℕ) → V → Type 0) (text
   pub under_way : IsUnderWay P now read verdicts
   pub is_put : Appends put_old put (flat_map text verdicts)
   pub seen : Sees saw watch_old watch verdicts
-  pub nothing : string_bytes now.told.text ≡ []
+  pub nothing : string_bytes now.recorded.text ≡ []
   pub counted : pieces ≤ length read

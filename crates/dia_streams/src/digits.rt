@@ -61,11 +61,11 @@ impl Digits {
         ensures { IfOk result (λ good. Takes good self.old.half self.new.half
             self.old.bytes.items self.new.bytes.items line.now) }
     {
-        let (first, behind) = line.split_at(self.lacking(line));
+        let (first, following) = line.split_at(self.lacking(line));
         if !self.take_each(first)? {
             return Ok(false);
         }
-        let (pairs, last) = behind.split_at(behind.len() / 2 * 2);
+        let (pairs, last) = following.split_at(following.len() / 2 * 2);
         if !self.take_pairs(alloc, pairs)? {
             return Ok(false);
         }

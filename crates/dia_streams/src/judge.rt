@@ -11,7 +11,7 @@ pub trait MessageJudge {
     ghost says: { Self → Option (List ℕ) → Self.Verdict → Type 0 };
 
     // The line for a verdict on what begins at a place.
-    ghost told: { Self → ℕ × Self.Verdict → List ℕ };
+    ghost recorded: { Self → ℕ × Self.Verdict → List ℕ };
 
     /// The verdict on the bytes of a message that begins at a place. Its line is added to a text.
     fn judge(
@@ -22,10 +22,10 @@ pub trait MessageJudge {
         text: &mut String,
     ) -> Result<Self::Verdict, AllocError>
         ensures { IfOk result (λ verdict. says self.now (Some message.now) verdict
-            × (string_bytes text.new ≡ string_bytes text.old ++ told self.now (at, verdict))) };
+            × (string_bytes text.new ≡ string_bytes text.old ++ recorded self.now (at, verdict))) };
 
     /// The verdict on a text that isn't hexadecimal in the message that begins at a place. Its line is added to a text.
     fn judge_no_digits(&self, at: u64, text: &mut String) -> Result<Self::Verdict, AllocError>
         ensures { IfOk result (λ verdict. says self.now None verdict
-            × (string_bytes text.new ≡ string_bytes text.old ++ told self.now (at, verdict))) };
+            × (string_bytes text.new ≡ string_bytes text.old ++ recorded self.now (at, verdict))) };
 }

@@ -10,9 +10,9 @@ mod judge;
 mod laws;
 mod messages;
 mod pairs;
+mod recorded;
 mod streamed;
 mod streaming;
-mod told;
 
 pub use judge::MessageJudge;
 pub use laws::stream_has_one_answer;

@@ -3,7 +3,7 @@
 use crate::digits::Digits;
 use crate::judge::MessageJudge;
 use crate::messages::bad_header;
-use crate::told::Told;
+use crate::recorded::Recorded;
 use dia_lines::{LinesFault, Watch};
 use std::alloc::{AllocError, Global};
 
@@ -12,7 +12,7 @@ use std::alloc::{AllocError, Global};
 pub struct Streamed {
     /// The digits of the message under way.
     pub digits: Digits,
-    pub told: Told,
+    pub recorded: Recorded,
 }
 
 impl Streamed {
@@ -25,12 +25,12 @@ impl Streamed {
     pub fn new(alloc: Global) -> Streamed
         ensures half { result.digits.half ≡ None }
         ensures bytes { result.digits.bytes.items ≡ [] }
-        ensures at { result.told.at ≡ 0 }
-        ensures text { string_bytes result.told.text ≡ [] }
+        ensures at { result.recorded.at ≡ 0 }
+        ensures text { string_bytes result.recorded.text ≡ [] }
     {
         Streamed {
             digits: Digits::new(alloc),
-            told: Told::new(alloc),
+            recorded: Recorded::new(alloc),
         }
     }
 
@@ -46,18 +46,18 @@ impl Streamed {
         ensures endless { IfErr result (λ fault. fault ≡ Endless → (read : List ℕ)
             (verdicts : List (ℕ × J.Verdict)) → IsUnderWay (J.says judge.now) self.old read verdicts
             → most_places ≤ length (read ++ piece.now)) }
-        ensures reads { IfOk result (λ goes_on. Reads (J.says judge.now) (J.told judge.now) W.saw
+        ensures reads { IfOk result (λ goes_on. Reads (J.says judge.now) (J.recorded judge.now) W.saw
             goes_on self.old self.new watch.old watch.new piece.now) }
     {
         let hexadecimal = self.digits.take(alloc, piece)?;
         let bytes = self.digits.bytes.as_slice();
-        let rest = self.told.tell_whole(alloc, judge, watch, bytes)?;
+        let rest = self.recorded.report_whole(alloc, judge, watch, bytes)?;
         if let Some(header) = bad_header(rest) {
-            self.told.tell(alloc, judge, watch, header)?;
+            self.recorded.deliver(alloc, judge, watch, header)?;
             return Ok(false);
         }
         if !hexadecimal {
-            self.told.tell_no_digits(judge, watch)?;
+            self.recorded.report_no_digits(judge, watch)?;
             return Ok(false);
         }
         if rest.len() < bytes.len() {
@@ -73,16 +73,16 @@ impl Streamed {
         judge: &J,
         watch: &mut W,
     ) -> Result<(), AllocError>
-        ensures { OnOk result (Ends (J.says judge.now) (J.told judge.now) W.saw
+        ensures { OnOk result (Ends (J.says judge.now) (J.recorded judge.now) W.saw
             self.old self.new watch.old watch.new) }
     {
         let bytes = self.digits.bytes.as_slice();
         if self.digits.half.is_some() {
-            self.told.tell_no_digits(judge, watch)
+            self.recorded.report_no_digits(judge, watch)
         } else if bytes.is_empty() {
             Ok(())
         } else {
-            self.told.tell(alloc, judge, watch, bytes)
+            self.recorded.deliver(alloc, judge, watch, bytes)
         }
     }
 }

@@ -5,7 +5,7 @@ ghost use Rattle.std.specs.Prelude.{Ok, Err, IfSome, IsErr, IsTrue, OnOk, true, 
 ghost use Rattle.std.specs.Io.KnownBytes.{Appends};
 ghost use Rattle.dia_io.specs.Writing.{AppendsFront};
 ghost use Rattle.dia_lines.specs.declared.fault.LinesFault.TheVariants.{NoMemory, Device, Endless};
-ghost use Rattle.dia_streams.specs.Streams.{AllTold, SomeTold, WholeTold, most_places};
+ghost use Rattle.dia_streams.specs.Streams.{AllRecorded, SomeRecorded, WholeRecorded, most_places};
 ghost use Rattle.dia_streams.specs.UnderWay.{AreRead};
 
 use crate::judge::MessageJudge;
@@ -29,16 +29,16 @@ pub fn answer_stream<J: MessageJudge, W: Watch<(u64, J::Verdict)>, F: Feed, S: S
 ) -> Result<(), LinesFault>
     requires sound_feed { ¬ IsTrue (F.has_failed feed.old) }
     requires sound_sink { ¬ IsTrue (S.has_failed sink.old) }
-    ensures told { OnOk result (AllTold (J.says judge.now) (J.told judge.now) W.saw
+    ensures recorded { OnOk result (AllRecorded (J.says judge.now) (J.recorded judge.now) W.saw
         (F.remaining feed.old) (F.remaining feed.new) (S.written sink.old) (S.written sink.new)
         watch.old watch.new) }
     ensures device { (result ≡ Err Device)
         ↔ (IsTrue (F.has_failed feed.new) ⊎ IsTrue (S.has_failed sink.new)) }
-    ensures front { IsErr result → SomeTold (J.says judge.now) (J.told judge.now)
+    ensures front { IsErr result → SomeRecorded (J.says judge.now) (J.recorded judge.now)
         (F.remaining feed.old) (F.remaining feed.new) (S.written sink.old) (S.written sink.new) }
-    ensures no_memory { result ≡ Err NoMemory → WholeTold (J.says judge.now) (J.told judge.now)
+    ensures no_memory { result ≡ Err NoMemory → WholeRecorded (J.says judge.now) (J.recorded judge.now)
         (F.remaining feed.old) (F.remaining feed.new) (S.written sink.old) (S.written sink.new) }
-    ensures endless { result ≡ Err Endless → WholeTold (J.says judge.now) (J.told judge.now)
+    ensures endless { result ≡ Err Endless → WholeRecorded (J.says judge.now) (J.recorded judge.now)
         (F.remaining feed.old) (F.remaining feed.new) (S.written sink.old) (S.written sink.new) }
     ensures pieces { result ≡ Err Endless
         → IfSome (F.remaining feed.old) (λ bytes. most_places ≤ length bytes) }
@@ -68,29 +68,29 @@ fn answer_piece<J: MessageJudge, W: Watch<(u64, J::Verdict)>, F: Feed, S: Sink>(
     requires sound_feed { ¬ IsTrue (F.has_failed feed.old) }
     requires sound_sink { ¬ IsTrue (S.has_failed sink.old) }
     ensures more { (fed put : Option (List ℕ)) (begun : W) (n : ℕ) → result ≡ Ok true
-        → AreRead (J.says judge.now) (J.told judge.now) W.saw fed (F.remaining feed.old)
+        → AreRead (J.says judge.now) (J.recorded judge.now) W.saw fed (F.remaining feed.old)
         put (S.written sink.old) begun watch.old streamed.old n
-        → AreRead (J.says judge.now) (J.told judge.now) W.saw fed (F.remaining feed.new)
+        → AreRead (J.says judge.now) (J.recorded judge.now) W.saw fed (F.remaining feed.new)
         put (S.written sink.new) begun watch.new streamed.new (n + 1) }
     ensures end { (fed put : Option (List ℕ)) (begun : W) (n : ℕ) → result ≡ Ok false
-        → AreRead (J.says judge.now) (J.told judge.now) W.saw fed (F.remaining feed.old)
+        → AreRead (J.says judge.now) (J.recorded judge.now) W.saw fed (F.remaining feed.old)
         put (S.written sink.old) begun watch.old streamed.old n
-        → AllTold (J.says judge.now) (J.told judge.now) W.saw fed (F.remaining feed.new)
+        → AllRecorded (J.says judge.now) (J.recorded judge.now) W.saw fed (F.remaining feed.new)
         put (S.written sink.new) begun watch.new }
     ensures device { (result ≡ Err Device)
         ↔ (IsTrue (F.has_failed feed.new) ⊎ IsTrue (S.has_failed sink.new)) }
     ensures front { (fed put : Option (List ℕ)) (begun : W) (n : ℕ) → IsErr result
-        → AreRead (J.says judge.now) (J.told judge.now) W.saw fed (F.remaining feed.old)
+        → AreRead (J.says judge.now) (J.recorded judge.now) W.saw fed (F.remaining feed.old)
         put (S.written sink.old) begun watch.old streamed.old n
-        → SomeTold (J.says judge.now) (J.told judge.now) fed (F.remaining feed.new)
+        → SomeRecorded (J.says judge.now) (J.recorded judge.now) fed (F.remaining feed.new)
         put (S.written sink.new) }
     ensures whole { (fed put : Option (List ℕ)) (begun : W) (n : ℕ) → (result ≡ Err NoMemory) ⊎ (result ≡ Err Endless)
-        → AreRead (J.says judge.now) (J.told judge.now) W.saw fed (F.remaining feed.old)
+        → AreRead (J.says judge.now) (J.recorded judge.now) W.saw fed (F.remaining feed.old)
         put (S.written sink.old) begun watch.old streamed.old n
-        → WholeTold (J.says judge.now) (J.told judge.now) fed (F.remaining feed.new)
+        → WholeRecorded (J.says judge.now) (J.recorded judge.now) fed (F.remaining feed.new)
         put (S.written sink.new) }
     ensures pieces { (fed put : Option (List ℕ)) (begun : W) (n : ℕ) → result ≡ Err Endless
-        → AreRead (J.says judge.now) (J.told judge.now) W.saw fed (F.remaining feed.old)
+        → AreRead (J.says judge.now) (J.recorded judge.now) W.saw fed (F.remaining feed.old)
         put (S.written sink.old) begun watch.old streamed.old n
         → IfSome fed (λ bytes. most_places ≤ length bytes) }
 {
@@ -110,14 +110,14 @@ fn answer_piece<J: MessageJudge, W: Watch<(u64, J::Verdict)>, F: Feed, S: Sink>(
 fn put_lines<S: Sink>(streamed: &mut Streamed, sink: &mut S) -> Result<(), Failed>
     requires { ¬ IsTrue (S.has_failed sink.old) }
     ensures put { OnOk result
-        (Appends (S.written sink.old) (S.written sink.new) (string_bytes streamed.old.told.text)) }
-    ensures front { AppendsFront (S.written sink.old) (S.written sink.new) (string_bytes streamed.old.told.text) }
+        (Appends (S.written sink.old) (S.written sink.new) (string_bytes streamed.old.recorded.text)) }
+    ensures front { AppendsFront (S.written sink.old) (S.written sink.new) (string_bytes streamed.old.recorded.text) }
     ensures failed { IsErr result ↔ IsTrue (S.has_failed sink.new) }
-    ensures nothing { OnOk result (string_bytes streamed.new.told.text ≡ []) }
+    ensures nothing { OnOk result (string_bytes streamed.new.recorded.text ≡ []) }
     ensures digits { streamed.new.digits ≡ streamed.old.digits }
-    ensures at { streamed.new.told.at ≡ streamed.old.told.at }
+    ensures at { streamed.new.recorded.at ≡ streamed.old.recorded.at }
 {
-    put_all(sink, streamed.told.text.as_bytes())?;
-    streamed.told.text.clear();
+    put_all(sink, streamed.recorded.text.as_bytes())?;
+    streamed.recorded.text.clear();
     Ok(())
 }

@@ -11,7 +11,7 @@ use Rattle.dia_tables.specs.declared.table.TableFault.{TableFault}
 use Rattle.dia_tables.specs.declared.table.TableFault.TheVariants as fault
 use Rattle.dia_tables.specs.TableText.{PlainTable, most_pairs, Line, Blank, Command, Avp, command_pair, avp_pair, table_of, with_line}
 use Rattle.dia_tables.specs.TableText.{IsLine, HasForm, AreLines, HasShortNames, IsWithinLimits, IsTableOf, IsTable, IsFirstFault, IsTableFault}
-use Rattle.dia_tables.specs.Words.{first_word, behind_word, ArePairWords}
+use Rattle.dia_tables.specs.Words.{first_word, after_word, ArePairWords}
 use Rattle.dia_tables.specs.Lines.{Adds, PassesLimit, HasRoom}
 use Rattle.dia_tables.proofs.WordsOfLines.{IsWord, pair_words, tail_has_no_word}
 
@@ -26,8 +26,8 @@ avp_is_word = record { some = omega arith; bytes = refl }
 -- the words of a line that says this
 abbrev SaysInWords : Line → List ℕ → Type 0
 SaysInWords Blank text = first_word text ≡ []
-SaysInWords (Command a b) text = (first_word text ≡ codes "command") × ArePairWords a b (behind_word text)
-SaysInWords (Avp a b) text = (first_word text ≡ codes "avp") × ArePairWords a b (behind_word text)
+SaysInWords (Command a b) text = (first_word text ≡ codes "command") × ArePairWords a b (after_word text)
+SaysInWords (Avp a b) text = (first_word text ≡ codes "avp") × ArePairWords a b (after_word text)
 
 in_words : (l : Line) (text : List ℕ) → IsLine l text → SaysInWords l text
 in_words Blank text is = tail_has_no_word text is
@@ -36,7 +36,7 @@ in_words (Avp a b) text is = pair_words (codes "avp") a b text avp_is_word is
 
 -- with a first word that is none of the two, or with others after it, a line has no form
 pub has_no_form : (text : List ℕ) → first_word text ≢ []
-    → ((a b : List ℕ) → ArePairWords a b (behind_word text) → ((first_word text ≡ codes "command") ⊎ (first_word text ≡ codes "avp")) → ⊥) → ¬ HasForm text
+    → ((a b : List ℕ) → ArePairWords a b (after_word text) → ((first_word text ≡ codes "command") ⊎ (first_word text ≡ codes "avp")) → ⊥) → ¬ HasForm text
 has_no_form text some other (Blank, is) = some (in_words Blank text is)
 has_no_form text some other (Command a b, is) = let w = in_words (Command a b) text is in other a b w.1 (inl w.0)
 has_no_form text some other (Avp a b, is) = let w = in_words (Avp a b) text is in other a b w.1 (inr w.0)
@@ -62,11 +62,11 @@ one_line l m text x y = by l m (in_words l text x) (in_words m text y)
     by Blank (Command a b) p q = absurd (no_byte 99 (codes "ommand") (sym p ∙ q.0))
     by Blank (Avp a b) p q = absurd (no_byte 97 (codes "vp") (sym p ∙ q.0))
     by (Command a b) Blank p q = absurd (no_byte 99 (codes "ommand") (sym q ∙ p.0))
-    by (Command a b) (Command c d) p q = let s = same_pair a b c d (behind_word text) p.1 q.1 in ap (λ x. Command x b) s.0 ∙ ap (λ y. Command c y) s.1
+    by (Command a b) (Command c d) p q = let s = same_pair a b c d (after_word text) p.1 q.1 in ap (λ x. Command x b) s.0 ∙ ap (λ y. Command c y) s.1
     by (Command a b) (Avp c d) p q = absurd (no_heads 97 99 (codes "vp") (codes "ommand") (sym q.0 ∙ p.0) (omega arith))
     by (Avp a b) Blank p q = absurd (no_byte 97 (codes "vp") (sym q ∙ p.0))
     by (Avp a b) (Command c d) p q = absurd (no_heads 97 99 (codes "vp") (codes "ommand") (sym p.0 ∙ q.0) (omega arith))
-    by (Avp a b) (Avp c d) p q = let s = same_pair a b c d (behind_word text) p.1 q.1 in ap (λ x. Avp x b) s.0 ∙ ap (λ y. Avp c y) s.1
+    by (Avp a b) (Avp c d) p q = let s = same_pair a b c d (after_word text) p.1 q.1 in ap (λ x. Avp x b) s.0 ∙ ap (λ y. Avp c y) s.1
 
 -- ---- lists of lines
 

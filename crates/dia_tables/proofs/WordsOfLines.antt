@@ -13,8 +13,8 @@ use Rattle.std.proofs.lemmas.Str.{IsUtf8-from_ascii}
 use Rattle.std.proofs.lemmas.Str.Ascii.{IsAscii-nil, IsAscii-cons}
 use Rattle.dia_tables.specs.TableText.{is_blank, is_run_byte, is_name_run, IsSpace, IsGap, IsTail, IsPair}
 use Rattle.dia_tables.specs.declared.words.PairPart.{PairPart}
-use Rattle.dia_tables.specs.declared.words.PairPart.TheVariants.{Kind, First, Sign, Second, Behind}
-use Rattle.dia_tables.specs.Words.{is_word_byte, unblanked, first_word, behind_word, ArePairWords, PlainWords, words_in, fits, wrong_part}
+use Rattle.dia_tables.specs.declared.words.PairPart.TheVariants.{Kind, First, Sign, Second, After}
+use Rattle.dia_tables.specs.Words.{is_word_byte, unblanked, first_word, after_word, ArePairWords, PlainWords, words_in, fits, wrong_part}
 
 -- ---- the longest front that passes
 
@@ -51,7 +51,7 @@ prefix_ends p (c ∷ xs) =
 
 -- of a gap, a word and what follows, where the word ends there
 pub word_is : (gap word rest : List ℕ) → list_all is_blank gap ≡ true → begins is_blank (word ++ rest) ≡ false → list_all is_word_byte word ≡ true → begins is_word_byte rest ≡ false
-    → (first_word (gap ++ (word ++ rest)) ≡ word) × (behind_word (gap ++ (word ++ rest)) ≡ rest)
+    → (first_word (gap ++ (word ++ rest)) ≡ word) × (after_word (gap ++ (word ++ rest)) ≡ rest)
 word_is gap word rest blank ends word_bytes stops =
     let same : unblanked (gap ++ (word ++ rest)) ≡ word ++ rest = ap (λ n. drop n (gap ++ (word ++ rest))) (prefix_len-all is_blank gap (word ++ rest) blank ends)
     ∙ drop_at gap (word ++ rest) (length gap) refl in
@@ -64,7 +64,7 @@ word_is gap word rest blank ends word_bytes stops =
 abbrev gap_of : List ℕ → List ℕ
 gap_of text = take (prefix_len is_blank text) text
 
-parts_of : (text : List ℕ) → text ≡ gap_of text ++ (first_word text ++ behind_word text)
+parts_of : (text : List ℕ) → text ≡ gap_of text ++ (first_word text ++ after_word text)
 parts_of text =
     sym (take-append-drop (prefix_len is_blank text) text)
     ∙ ap (λ (t : List ℕ). gap_of text ++ t) (sym (take-append-drop (prefix_len is_word_byte (unblanked text)) (unblanked text)))
@@ -72,8 +72,8 @@ parts_of text =
 gap_is_space : (text : List ℕ) → IsSpace (gap_of text)
 gap_is_space text = prefix_all is_blank text
 
-stops_behind : (text : List ℕ) → begins is_word_byte (behind_word text) ≡ false
-stops_behind text = prefix_ends is_word_byte (unblanked text)
+stops_after : (text : List ℕ) → begins is_word_byte (after_word text) ≡ false
+stops_after text = prefix_ends is_word_byte (unblanked text)
 
 -- ---- bytes
 
@@ -118,7 +118,7 @@ gap_stops [] rest is = absurd (let h : 0 < length {A = ℕ} [] = is.0 in omega a
 gap_stops (c ∷ cs) rest is = blank_is_no_word c (and_parts (is_blank c) (list_all is_blank cs) is.1).0
 
 -- one word more
-word_then : (gap word rest : List ℕ) → IsSpace gap → IsWord word → begins is_word_byte rest ≡ false → (first_word (gap ++ (word ++ rest)) ≡ word) × (behind_word (gap ++ (word ++ rest)) ≡ rest)
+word_then : (gap word rest : List ℕ) → IsSpace gap → IsWord word → begins is_word_byte rest ≡ false → (first_word (gap ++ (word ++ rest)) ≡ word) × (after_word (gap ++ (word ++ rest)) ≡ rest)
 word_then gap word rest space is stops = word_is gap word rest space (word_begins word rest is) is.bytes stops
 
 -- ---- the end of a line
@@ -147,9 +147,9 @@ ends_of (c ∷ cs) no_blank no_word = inr (cs, ap (λ (x : ℕ). x ∷ cs) (eqb-
 
 pub no_word_is_tail : (text : List ℕ) → first_word text ≡ [] → IsTail text
 no_word_is_tail text none =
-    let same : unblanked text ≡ behind_word text = sym (take-append-drop (prefix_len is_word_byte (unblanked text)) (unblanked text)) ∙ ap (λ (w : List ℕ). w ++ behind_word text) none in
-    let no_blank : begins is_blank (behind_word text) ≡ false = ap (begins is_blank) (sym same) ∙ prefix_ends is_blank text in
-    (gap_of text, behind_word text, gap_is_space text, parts_of text ∙ ap (λ (w : List ℕ). gap_of text ++ (w ++ behind_word text)) none, ends_of (behind_word text) no_blank (stops_behind text))
+    let same : unblanked text ≡ after_word text = sym (take-append-drop (prefix_len is_word_byte (unblanked text)) (unblanked text)) ∙ ap (λ (w : List ℕ). w ++ after_word text) none in
+    let no_blank : begins is_blank (after_word text) ≡ false = ap (begins is_blank) (sym same) ∙ prefix_ends is_blank text in
+    (gap_of text, after_word text, gap_is_space text, parts_of text ∙ ap (λ (w : List ℕ). gap_of text ++ (w ++ after_word text)) none, ends_of (after_word text) no_blank (stops_after text))
 
 -- ---- a pair's line
 
@@ -160,7 +160,7 @@ sign_is_word : IsWord (codes "=")
 sign_is_word = record { some = omega arith; bytes = refl }
 
 -- the words of a pair's line
-pub pair_words : (word a b line : List ℕ) → IsWord word → IsPair word a b line → (first_word line ≡ word) × ArePairWords a b (behind_word line)
+pub pair_words : (word a b line : List ℕ) → IsWord word → IsPair word a b line → (first_word line ≡ word) × ArePairWords a b (after_word line)
 pair_words word a b line is pair =
     let named_a = name_is_word a pair.names.0 in
     let named_b = name_is_word b pair.names.1 in
@@ -173,10 +173,10 @@ pair_words word a b line is pair =
     let w1 = word_then pair.first a r2 pair.gaps.0.1 named_a (gap_stops pair.second (codes "=" ++ r3) pair.gaps.1) in
     let w2 = word_then pair.second (codes "=") r3 pair.gaps.1.1 sign_is_word (gap_stops pair.third (b ++ tail) pair.gaps.2) in
     let w3 = word_then pair.third b tail pair.gaps.2.1 named_b (tail_stops tail pair.is_tail) in
-    let b0 : behind_word line ≡ r1 = ap behind_word parts ∙ w0.1 in
-    let b1 : behind_word (behind_word line) ≡ r2 = ap behind_word b0 ∙ w1.1 in
-    let b2 : behind_word (behind_word (behind_word line)) ≡ r3 = ap behind_word b1 ∙ w2.1 in
-    let b3 : behind_word (behind_word (behind_word (behind_word line))) ≡ tail = ap behind_word b2 ∙ w3.1 in (
+    let b0 : after_word line ≡ r1 = ap after_word parts ∙ w0.1 in
+    let b1 : after_word (after_word line) ≡ r2 = ap after_word b0 ∙ w1.1 in
+    let b2 : after_word (after_word (after_word line)) ≡ r3 = ap after_word b1 ∙ w2.1 in
+    let b3 : after_word (after_word (after_word (after_word line))) ≡ tail = ap after_word b2 ∙ w3.1 in (
       ap first_word parts ∙ w0.0,
       record {
         first = ap first_word b0 ∙ w1.0;
@@ -192,8 +192,8 @@ gap_between : (text word : List ℕ) → begins is_word_byte text ≡ false → 
 gap_between text word stops e is = by (gap_of text) refl
   where
     by : (gap : List ℕ) → gap_of text ≡ gap → IsGap gap
-    by [] none = absurd (clash word (behind_word text) is (sym (ap (begins is_word_byte)
-        (parts_of text ∙ ap (λ (g : List ℕ). g ++ (first_word text ++ behind_word text)) none ∙ ap (λ (w : List ℕ). w ++ behind_word text) e)) ∙ stops))
+    by [] none = absurd (clash word (after_word text) is (sym (ap (begins is_word_byte)
+        (parts_of text ∙ ap (λ (g : List ℕ). g ++ (first_word text ++ after_word text)) none ∙ ap (λ (w : List ℕ). w ++ after_word text) e)) ∙ stops))
       where
         clash : (w rest : List ℕ) → IsWord w → begins is_word_byte (w ++ rest) ≡ false → ⊥
         clash [] rest is f = let h : 0 < length {A = ℕ} [] = is.some in omega arith
@@ -201,12 +201,12 @@ gap_between text word stops e is = by (gap_of text) refl
     by (c ∷ cs) some = (omega arith, subst IsSpace some (gap_is_space text))
 
 -- words that make a pair's line
-pub words_pair : (word a b line : List ℕ) → first_word line ≡ word → ArePairWords a b (behind_word line) → IsPair word a b line
+pub words_pair : (word a b line : List ℕ) → first_word line ≡ word → ArePairWords a b (after_word line) → IsPair word a b line
 words_pair word a b line e words =
-    let t1 = behind_word line in
-    let t2 = behind_word t1 in
-    let t3 = behind_word t2 in
-    let t4 = behind_word t3 in
+    let t1 = after_word line in
+    let t2 = after_word t1 in
+    let t3 = after_word t2 in
+    let t4 = after_word t3 in
     let p0 : line ≡ gap_of line ++ (word ++ t1) = parts_of line ∙ ap (λ (w : List ℕ). gap_of line ++ (w ++ t1)) e in
     let p1 : t1 ≡ gap_of t1 ++ (a ++ t2) = parts_of t1 ∙ ap (λ (w : List ℕ). gap_of t1 ++ (w ++ t2)) words.first in
     let p2 : t2 ≡ gap_of t2 ++ (codes "=" ++ t3) = parts_of t2 ∙ ap (λ (w : List ℕ). gap_of t2 ++ (w ++ t3)) words.sign in
@@ -221,9 +221,9 @@ words_pair word a b line e words =
           ∙ sym (regroup (gap_of line) word (gap_of t1) a (gap_of t2) (codes "=") (gap_of t3) b t4);
       is_front = gap_is_space line;
       gaps = (
-        gap_between t1 a (stops_behind line) words.first (name_is_word a words.names.0),
-        gap_between t2 (codes "=") (stops_behind t1) words.sign sign_is_word,
-        gap_between t3 b (stops_behind t2) words.second (name_is_word b words.names.1),
+        gap_between t1 a (stops_after line) words.first (name_is_word a words.names.0),
+        gap_between t2 (codes "=") (stops_after t1) words.sign sign_is_word,
+        gap_between t3 b (stops_after t2) words.second (name_is_word b words.names.1),
       );
       is_tail = no_word_is_tail t4 words.more;
       names = words.names;
@@ -237,41 +237,41 @@ pub record AllFit (words : PlainWords) : Type 0 where
   pub first : fits words First ≡ true
   pub sign : fits words Sign ≡ true
   pub second : fits words Second ≡ true
-  pub behind : fits words Behind ≡ true
+  pub following : fits words After ≡ true
 
 pub none_wrong : (words : PlainWords) → AllFit words → wrong_part words ≡ None
-none_wrong words all = rw (all.kind, all.first, all.sign, all.second, all.behind) refl
+none_wrong words all = rw (all.kind, all.first, all.sign, all.second, all.following) refl
 
 -- the first part that doesn't fit, by which do
-abbrev misfit : (kind first sign second behind : Bool) → Option PairPart
-misfit kind first sign second behind =
-    cond (not kind) (Some Kind) (cond (not first) (Some First) (cond (not sign) (Some Sign) (cond (not second) (Some Second) (cond (not behind) (Some Behind) None))))
+abbrev misfit : (kind first sign second following : Bool) → Option PairPart
+misfit kind first sign second following =
+    cond (not kind) (Some Kind) (cond (not first) (Some First) (cond (not sign) (Some Sign) (cond (not second) (Some Second) (cond (not following) (Some After) None))))
 
-five_fit : (kind first sign second behind : Bool) → misfit kind first sign second behind ≡ None → (kind ≡ true) × (first ≡ true) × (sign ≡ true) × (second ≡ true) × (behind ≡ true)
-five_fit false first sign second behind none = absurd cc
-five_fit true false sign second behind none = absurd cc
-five_fit true true false second behind none = absurd cc
-five_fit true true true false behind none = absurd cc
+five_fit : (kind first sign second following : Bool) → misfit kind first sign second following ≡ None → (kind ≡ true) × (first ≡ true) × (sign ≡ true) × (second ≡ true) × (following ≡ true)
+five_fit false first sign second following none = absurd cc
+five_fit true false sign second following none = absurd cc
+five_fit true true false second following none = absurd cc
+five_fit true true true false following none = absurd cc
 five_fit true true true true false none = absurd cc
 five_fit true true true true true none = (refl, refl, refl, refl, refl)
 
 pub all_fit : (words : PlainWords) → wrong_part words ≡ None → AllFit words
 all_fit words none =
-    let five = five_fit (fits words Kind) (fits words First) (fits words Sign) (fits words Second) (fits words Behind) none in
-    record { kind = five.0; first = five.1; sign = five.2; second = five.3; behind = five.4 }
+    let five = five_fit (fits words Kind) (fits words First) (fits words Sign) (fits words Second) (fits words After) none in
+    record { kind = five.0; first = five.1; sign = five.2; second = five.3; following = five.4 }
 
 -- a line whose words all fit is a pair's
-pub fit_pair : (line : List ℕ) (words : PlainWords) → words ≡ words_in line → AllFit words → ArePairWords words.first.text words.second.text (behind_word line)
+pub fit_pair : (line : List ℕ) (words : PlainWords) → words ≡ words_in line → AllFit words → ArePairWords words.first.text words.second.text (after_word line)
 fit_pair line words is all = record {
   first = sym (ap (λ (w : PlainWords). w.first.text) is);
   sign = sym (ap (λ (w : PlainWords). w.sign.text) is) ∙ (bytes_eq-Decides words.sign.text (codes "=")).0 all.sign;
   second = sym (ap (λ (w : PlainWords). w.second.text) is);
-  more = sym (ap (λ (w : PlainWords). w.more.text) is) ∙ nil_from_length words.more.text (eqb-true (length words.more.text) 0 all.behind);
+  more = sym (ap (λ (w : PlainWords). w.more.text) is) ∙ nil_from_length words.more.text (eqb-true (length words.more.text) 0 all.following);
   names = (all.first, all.second);
 }
 
 -- and the words of a pair's line all fit
-pub pair_fits : (line a b : List ℕ) (words : PlainWords) → words ≡ words_in line → ((first_word line ≡ codes "command") ⊎ (first_word line ≡ codes "avp")) → ArePairWords a b (behind_word line) → AllFit words
+pub pair_fits : (line a b : List ℕ) (words : PlainWords) → words ≡ words_in line → ((first_word line ≡ codes "command") ⊎ (first_word line ≡ codes "avp")) → ArePairWords a b (after_word line) → AllFit words
 pair_fits line a b words is kind pair =
     let word : words.kind.text ≡ first_word line = ap (λ (w : PlainWords). w.kind.text) is in
     record {
@@ -282,7 +282,7 @@ pair_fits line a b words is kind pair =
       first = ap is_name_run (ap (λ (w : PlainWords). w.first.text) is ∙ pair.first) ∙ pair.names.0;
       sign = (bytes_eq-Decides words.sign.text (codes "=")).1 (ap (λ (w : PlainWords). w.sign.text) is ∙ pair.sign);
       second = ap is_name_run (ap (λ (w : PlainWords). w.second.text) is ∙ pair.second) ∙ pair.names.1;
-      behind = ap (λ (text : List ℕ). length text == 0) (ap (λ (w : PlainWords). w.more.text) is ∙ pair.more);
+      following = ap (λ (text : List ℕ). length text == 0) (ap (λ (w : PlainWords). w.more.text) is ∙ pair.more);
     }
 
 -- the other of two words

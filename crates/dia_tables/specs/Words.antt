@@ -5,7 +5,7 @@ use Rattle.std.specs.Str.{bytes_eq}
 use Rattle.dia_tables.specs.declared.words.Word.{Word}
 use Rattle.dia_tables.specs.declared.words.PairWords.{PairWords}
 use Rattle.dia_tables.specs.declared.words.PairPart.{PairPart}
-use Rattle.dia_tables.specs.declared.words.PairPart.TheVariants.{Kind, First, Sign, Second, Behind}
+use Rattle.dia_tables.specs.declared.words.PairPart.TheVariants.{Kind, First, Sign, Second, After}
 use Rattle.dia_tables.specs.TableText.{is_blank, is_name_run, max_name}
 
 -- ---- words
@@ -21,15 +21,15 @@ unblanked text = drop (prefix_len is_blank text) text
 abbrev pub first_word : List ℕ → List ℕ
 first_word text = take_while is_word_byte (unblanked text)
 
-abbrev pub behind_word : List ℕ → List ℕ
-behind_word text = drop (prefix_len is_word_byte (unblanked text)) (unblanked text)
+abbrev pub after_word : List ℕ → List ℕ
+after_word text = drop (prefix_len is_word_byte (unblanked text)) (unblanked text)
 
 -- the words are `A = B`, where A and B are names of any length
 pub record ArePairWords (a b text : List ℕ) : Type 0 where
   pub first : first_word text ≡ a
-  pub sign : first_word (behind_word text) ≡ codes "="
-  pub second : first_word (behind_word (behind_word text)) ≡ b
-  pub more : first_word (behind_word (behind_word (behind_word text))) ≡ []
+  pub sign : first_word (after_word text) ≡ codes "="
+  pub second : first_word (after_word (after_word text)) ≡ b
+  pub more : first_word (after_word (after_word (after_word text))) ≡ []
   pub names : IsTrue (is_name_run a) × IsTrue (is_name_run b)
 
 -- ---- the words of a line, with their places
@@ -68,15 +68,15 @@ word_in line rest = word_at (length line - length (unblanked rest)) (first_word 
 
 abbrev pub words_in : List ℕ → PlainWords
 words_in line =
-    let behind_kind = behind_word line in
-    let behind_first = behind_word behind_kind in
-    let behind_sign = behind_word behind_first in
+    let after_kind = after_word line in
+    let after_first = after_word after_kind in
+    let after_sign = after_word after_first in
     record {
       kind = word_in line line;
-      first = word_in line behind_kind;
-      sign = word_in line behind_first;
-      second = word_in line behind_sign;
-      more = word_in line (behind_word behind_sign);
+      first = word_in line after_kind;
+      sign = word_in line after_first;
+      second = word_in line after_sign;
+      more = word_in line (after_word after_sign);
     }
 
 -- ---- which word is refused
@@ -86,7 +86,7 @@ word_of words Kind = words.kind
 word_of words First = words.first
 word_of words Sign = words.sign
 word_of words Second = words.second
-word_of words Behind = words.more
+word_of words After = words.more
 
 -- the word fits in the place of this part of `command A = B` or `avp A = B`, where names have any length
 abbrev pub fits : PlainWords → PairPart → Bool
@@ -94,11 +94,11 @@ fits words Kind = bytes_eq words.kind.text (codes "command") || bytes_eq words.k
 fits words First = is_name_run words.first.text
 fits words Sign = bytes_eq words.sign.text (codes "=")
 fits words Second = is_name_run words.second.text
-fits words Behind = length words.more.text == 0
+fits words After = length words.more.text == 0
 
 -- the first part whose word doesn't fit there
 abbrev pub wrong_part : PlainWords → Option PairPart
-wrong_part words = find (λ part. not (fits words part)) (Kind ∷ First ∷ Sign ∷ Second ∷ Behind ∷ [])
+wrong_part words = find (λ part. not (fits words part)) (Kind ∷ First ∷ Sign ∷ Second ∷ After ∷ [])
 
 -- the first name that is too long. Where none is, the pair is one too many
 abbrev pub limit_part : PlainWords → PairPart

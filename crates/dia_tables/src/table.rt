@@ -31,7 +31,7 @@ pub enum TableFault {
     Syntax { line: u32 },
     /// A name of the line's pair is longer than [`MAX_NAME`], or the pair is one more than [`MAX_PAIRS`]; or, on line 0,
     /// the text is longer than [`MAX_TABLE`].
-    #[error(fmt = tell_limit)]
+    #[error(fmt = report_limit)]
     Limit { line: u32 },
     /// Memory was refused.
     #[error("out of memory")]
@@ -39,7 +39,7 @@ pub enum TableFault {
 }
 
 /// Writes which limit is passed.
-fn tell_limit<W: fmt::Write>(line: &u32, f: &mut fmt::Formatter<W>) -> fmt::Result {
+fn report_limit<W: fmt::Write>(line: &u32, f: &mut fmt::Formatter<W>) -> fmt::Result {
     if *line == 0 {
         write!(f, "the text is too long")
     } else {

@@ -4,7 +4,7 @@ ghost use Rattle.std.specs.Char.{is_ascii_alphabetic};
 ghost use Rattle.std.specs.List.{list_all, list_any, prefix_len};
 ghost use Rattle.std.specs.Str.{IsUtf8};
 ghost use Rattle.dia_tables.specs.TableText.{is_blank, is_name_run, is_run_byte};
-ghost use Rattle.dia_tables.specs.Words.{is_word_byte, behind_word, plain_word, plain_words};
+ghost use Rattle.dia_tables.specs.Words.{is_word_byte, after_word, plain_word, plain_words};
 ghost use Rattle.dia_tables.specs.Words.{word_in, words_in};
 
 use dia_terms::MAX_NAME;
@@ -35,7 +35,7 @@ pub enum PairPart {
     First,
     Sign,
     Second,
-    Behind,
+    After,
 }
 
 /// The words of a line without its end. Spaces and tabs separate them, and a semicolon begins a comment (our profile).
@@ -59,12 +59,12 @@ pub fn words_of(line: &[u8]) -> PairWords<'_>
 /// The first word of the rest of a line, and the rest after it.
 fn next_word<'a>(line: &[u8], rest: &'a [u8]) -> (Word<'a>, &'a [u8])
     ensures word { plain_word result.0 ≡ word_in line.now rest.now }
-    ensures rest { result.1.now ≡ behind_word rest.now }
+    ensures rest { result.1.now ≡ after_word rest.now }
 {
     let rest = &rest[blanks_len(rest)..];
-    let (text, behind) = rest.split_at(word_len(rest));
+    let (text, following) = rest.split_at(word_len(rest));
     let at = line.len().saturating_sub(rest.len());
-    (Word { text, at }, behind)
+    (Word { text, at }, following)
 }
 
 /// How many blanks are at the front.
@@ -150,7 +150,7 @@ impl<'a> PairWords<'a> {
             PairPart::First => self.first,
             PairPart::Sign => self.sign,
             PairPart::Second => self.second,
-            PairPart::Behind => self.more,
+            PairPart::After => self.more,
         }
     }
 
@@ -163,7 +163,7 @@ impl<'a> PairWords<'a> {
             PairPart::First,
             PairPart::Sign,
             PairPart::Second,
-            PairPart::Behind,
+            PairPart::After,
         ]
         .iter()
         .copied()
@@ -180,7 +180,7 @@ impl<'a> PairWords<'a> {
             PairPart::First => self.first.is_name(),
             PairPart::Sign => self.sign.text == b"=".as_slice(),
             PairPart::Second => self.second.is_name(),
-            PairPart::Behind => self.more.is_empty(),
+            PairPart::After => self.more.is_empty(),
         }
     }
 

@@ -5,10 +5,10 @@ ghost use Rattle.dia_cli.specs.Ending.{stream};
 ghost use Rattle.dia_lines.specs.declared.fault.LinesFault.TheVariants.{Device};
 ghost use Rattle.dia_tasks.specs.Captures.{ArePut, Captures, IsBegun, IsEndingOf, fed, known_of, messages_word};
 
-use crate::front::{Front, is_telling};
+use crate::front::{Front, is_recording};
 use crate::inputs::word_of;
 use crate::manner::Manner;
-use crate::telling::tell_made;
+use crate::recording::report_made;
 use dia_captures::{Captured, Lines, check_lines, check_stream, refute_lines};
 use dia_cli::{Ending, Opener, Origin, Origins, STANDARD_INPUT, STANDARD_OUTPUT};
 use dia_explain_answers::{Asked, push_check_alone, push_refute_alone};
@@ -222,7 +222,7 @@ where
     match capture.run_as(alloc, manner.json, inputs, &mut feed, out) {
         Ok(captured) => {
             if !manner.quiet {
-                tell(rt, capture.lines, &captured, name, &feed.kept);
+                deliver(rt, capture.lines, &captured, name, &feed.kept);
             }
             Ok(captured.reported)
         }
@@ -231,7 +231,7 @@ where
 }
 
 /// Writes how many lines are as they should be, and what the others say, unless an input is refused or the device fails.
-fn tell<R: AllocGlobal + Eprint>(
+fn deliver<R: AllocGlobal + Eprint>(
     rt: &R,
     lines: Lines,
     captured: &Captured,
@@ -244,7 +244,7 @@ fn tell<R: AllocGlobal + Eprint>(
     if let Some(Ok(text)) = &captured.summary {
         let _ = rt.eprint(text);
     }
-    tell_front(rt, name, lines, front);
+    report_front(rt, name, lines, front);
 }
 
 /// How the program ends where lines weren't answered to their end. `name` is the word that names their text; `output` and `input`
@@ -281,15 +281,15 @@ fn advise<R: AllocGlobal + Eprint>(rt: &R, capture: Capture, origins: &Origins<'
         Lines::Refuted => push_refute_alone(&mut note, messages, &asked, first, second),
         Lines::Placed => {}
     }
-    tell_made(rt, note.finish());
+    report_made(rt, note.finish());
 }
 
 /// Writes what a text is whose prefix shows that it has no messages, or not one a line.
-pub fn tell_front<R: AllocGlobal + Eprint>(rt: &R, name: &str, lines: Lines, front: &[u8]) {
-    if !is_telling(front) {
+pub fn report_front<R: AllocGlobal + Eprint>(rt: &R, name: &str, lines: Lines, front: &[u8]) {
+    if !is_recording(front) {
         return;
     }
     let mut note = Note::new(rt.alloc());
     push_front(&mut note, name, front, lines != Lines::Placed);
-    tell_made(rt, note.finish());
+    report_made(rt, note.finish());
 }

@@ -29,7 +29,7 @@ impl<F: Feed> Front<F> {
 }
 
 /// Whether the record shows how the text begins: it is all of the text, or more than blanks.
-pub fn is_telling(kept: &[u8]) -> bool {
+pub fn is_recording(kept: &[u8]) -> bool {
     kept.len() < MOST || kept.iter().any(|byte| !is_white(*byte))
 }
 

@@ -9,9 +9,9 @@ mod inputs;
 mod listing;
 mod manner;
 mod notes;
+mod recording;
 mod running;
 mod showing;
-mod telling;
 mod text;
 
 pub use inputs::texts_of;

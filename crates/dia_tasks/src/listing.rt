@@ -4,10 +4,10 @@ ghost use Rattle.std.specs.Prelude.{IsTrue};
 ghost use Rattle.dia_cli.specs.Ending.{stream};
 ghost use Rattle.dia_tasks.specs.Captures.{Lists, known_of, messages_word};
 
-use crate::captured::{ending_of, tell_front};
+use crate::captured::{ending_of, report_front};
 use crate::front::Front;
 use crate::inputs::word_of;
-use crate::showing::told_of;
+use crate::showing::recorded_of;
 use dia_captures::Lines;
 use dia_cli::{BASE_DICTIONARY, Ending, Opener, Origin, Origins, STANDARD_INPUT};
 use dia_io::{Exit, FromReader, Inputs, Sink, ToWriter};
@@ -112,9 +112,9 @@ where
     match show_lines(alloc, names, inputs, &mut feed, out) {
         Ok(reported) => {
             if !quiet && !matches!(reported.exit, Exit::Bad) {
-                tell_front(rt, name, Lines::Checked, &feed.kept);
+                report_front(rt, name, Lines::Checked, &feed.kept);
             }
-            Ok(told_of(rt, reported, origins, quiet))
+            Ok(recorded_of(rt, reported, origins, quiet))
         }
         Err(fault) => Err(ending_of(fault, name, out.failure(), feed.feed.failure())),
     }

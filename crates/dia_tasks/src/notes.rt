@@ -1,6 +1,6 @@
 //! The diagnostics of a report: why an input is refused, and why an answer isn't yes.
 
-use crate::telling::tell_made;
+use crate::recording::report_made;
 use dia_explain_answers::{push_answer, push_unnamed};
 use dia_explain_inputs::{
     push_empty, push_length, push_no_pairs, push_refused, push_strangers, push_unknown_commands,
@@ -35,7 +35,7 @@ pub fn note<R: AllocGlobal + Eprint>(
         },
         Report::Done | Report::Shown(_) | Report::Cut(_) => {}
     }
-    tell_made(rt, note.finish());
+    report_made(rt, note.finish());
 }
 
 /// Writes how AVPs get names that the base dictionary doesn't have. `sign` is what was shown in place of a name. Where
@@ -47,5 +47,5 @@ pub fn note_unnamed<R: AllocGlobal + Eprint>(rt: &R, report: &Report, sign: &str
         Report::Cut(listing) => push_unnamed(&mut note, &listing.message, sign),
         _ => {}
     }
-    tell_made(rt, note.finish());
+    report_made(rt, note.finish());
 }

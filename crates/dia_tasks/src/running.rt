@@ -59,7 +59,7 @@ where
     match run_attempt(rt, opener, task, inputs, origins, manner, out) {
         Attempt::Ended(Ok(Reported { exit, report })) => {
             if !manner.quiet {
-                tell(rt, task, inputs, origins, &report);
+                deliver(rt, task, inputs, origins, &report);
             }
             Ok(Outcome::Done(exit))
         }
@@ -186,7 +186,7 @@ where
 }
 
 /// Explains what a task reports on standard error.
-fn tell<R: AllocGlobal + Eprint>(
+fn deliver<R: AllocGlobal + Eprint>(
     rt: &R,
     task: &Task,
     inputs: &Inputs,
@@ -195,7 +195,7 @@ fn tell<R: AllocGlobal + Eprint>(
 ) {
     note(rt, &texts_of(origins, inputs), names_of(task), report);
     if matches!(origins.first, Origin::Base) {
-        tell_unnamed(rt, task, report);
+        report_unnamed(rt, task, report);
     }
 }
 
@@ -208,7 +208,7 @@ fn names_of(task: &Task) -> &[String] {
 }
 
 /// Writes how AVPs get names that the base dictionary doesn't have, where a message was shown.
-fn tell_unnamed<R: AllocGlobal + Eprint>(rt: &R, task: &Task, report: &Report) {
+fn report_unnamed<R: AllocGlobal + Eprint>(rt: &R, task: &Task, report: &Report) {
     match task {
         Task::Whole(Command::Show) | Task::ShowNamed => note_unnamed(rt, report, "?"),
         Task::ShowText => note_unnamed(rt, report, "a number in place of a name"),

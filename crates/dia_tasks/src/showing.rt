@@ -69,7 +69,7 @@ where
     match put_all(out, text.as_bytes()) {
         Ok(()) => {
             let reported = dia_show::Reported { exit, report };
-            Ok(told_of(rt, reported, origins, quiet))
+            Ok(recorded_of(rt, reported, origins, quiet))
         }
         Err(failed) => Err(Ending::of_run(RunFault::from(failed), STANDARD_OUTPUT, out.failure())),
     }
@@ -94,13 +94,13 @@ where
         (⟦<ToWriter<W> as Sink>⟧.has_failed out.new)) result }
 {
     match show(rt.alloc(), names, inputs, out) {
-        Ok(reported) => Ok(told_of(rt, reported, origins, quiet)),
+        Ok(reported) => Ok(recorded_of(rt, reported, origins, quiet)),
         Err(fault) => Err(Ending::of_run(fault, STANDARD_OUTPUT, out.failure())),
     }
 }
 
 /// Explains why words of values are refused, unless it is to be quiet, and answers what else is reported.
-pub fn told_of<R: Eprint>(
+pub fn recorded_of<R: Eprint>(
     rt: &R,
     reported: dia_show::Reported,
     origins: &Origins<'_>,
@@ -113,7 +113,7 @@ pub fn told_of<R: Eprint>(
         Report::OfShow(report) => report,
         Report::NoValues(bad) => {
             if !quiet {
-                tell(rt, word_of(origins.table), bad);
+                deliver(rt, word_of(origins.table), bad);
             }
             dia_report::Report::Done
         }
@@ -122,7 +122,7 @@ pub fn told_of<R: Eprint>(
 }
 
 /// Writes to standard error why words of values are refused. Where the device fails, nothing is written.
-fn tell<R: Eprint>(rt: &R, name: &str, bad: BadValues) {
+fn deliver<R: Eprint>(rt: &R, name: &str, bad: BadValues) {
     match bad {
         BadValues::TooLong => {
             let _ = eprint!(rt; "{name}: the text has more than {MAX_VALUES} bytes\n");
@@ -130,8 +130,8 @@ fn tell<R: Eprint>(rt: &R, name: &str, bad: BadValues) {
         BadValues::NotText { at } => {
             let _ = eprint!(rt; "{name}: byte {at} and those after it are no UTF-8\n");
         }
-        BadValues::Syntax { line } => tell_line(rt, name, line, FORM),
-        BadValues::Duplicate { line } => tell_line(rt, name, line, DUPLICATE),
+        BadValues::Syntax { line } => report_line(rt, name, line, FORM),
+        BadValues::Duplicate { line } => report_line(rt, name, line, DUPLICATE),
         BadValues::Limit { line } => {
             let _ = eprint!(rt; "{name}:{line}: the text has more than {MAX_LINES} lines\n");
         }
@@ -139,6 +139,6 @@ fn tell<R: Eprint>(rt: &R, name: &str, bad: BadValues) {
 }
 
 /// Writes to standard error what is wrong with a line.
-fn tell_line<R: Eprint>(rt: &R, name: &str, line: u32, wrong: &str) {
+fn report_line<R: Eprint>(rt: &R, name: &str, line: u32, wrong: &str) {
     let _ = eprint!(rt; "{name}:{line}: {wrong}\n");
 }

@@ -7,7 +7,7 @@ ghost use Rattle.dia_make.specs.Shown.{IsShowTextOutcome};
 ghost use Rattle.dia_tasks.specs.Endings.{Breaks, Runs, Writes};
 
 use crate::inputs::word_of;
-use crate::telling::tell_made;
+use crate::recording::report_made;
 use dia_cli::{Ending, Origin, STANDARD_OUTPUT};
 use dia_io::{Inputs, Sink, ToWriter};
 use dia_make::{make, note, show_text};
@@ -111,11 +111,11 @@ fn explained<R: AllocGlobal + Eprint>(
 {
     let dia_make::Reported { exit, report } = made;
     if !quiet {
-        tell_made(rt, note(rt.alloc(), word_of(message), inputs, &report));
+        report_made(rt, note(rt.alloc(), word_of(message), inputs, &report));
     }
     let report = match report {
         dia_make::Report::Refused(bad) => Report::Refused(bad),
-        dia_make::Report::Text(_told) => Report::Done,
+        dia_make::Report::Text(_recorded) => Report::Done,
         dia_make::Report::Done | dia_make::Report::Cut { .. } => Report::Done,
     };
     Reported { exit, report }

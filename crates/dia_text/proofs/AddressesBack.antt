@@ -15,7 +15,7 @@ use Rattle.dia_terms.specs.Number.{number}
 use Rattle.dia_data.specs.Plain.{Address}
 use Rattle.dia_data.specs.Leaf.{IsAddress}
 use Rattle.dia_data.specs.Shown.{hex_digit, hex_byte, hexadecimal, groups, address}
-use Rattle.dia_text.specs.Words.{first_word, behind_word}
+use Rattle.dia_text.specs.Words.{first_word, after_word}
 use Rattle.dia_text.specs.Numbers.{number_below}
 use Rattle.dia_text.specs.Fields.{bytes_of}
 use Rattle.dia_text.specs.Values.{each, decimal_byte, if_decoded, byte_pair, in_family, address_of, family_at, value_of, words_at, value_at}
@@ -24,7 +24,7 @@ use Rattle.dia_text.proofs.NumbersOfWords.{digits_model}
 use Rattle.dia_text.proofs.Bytes.{AreBytes, bytes_split, number_back as bytes_of_number, number_small}
 use Rattle.dia_text.proofs.HexBack.{pairs_back, bytes_back}
 use Rattle.dia_text.proofs.FieldsBack.{keyword, number_back}
-use Rattle.dia_text.proofs.WordsBack.{is_sign, IsWord, next_is, behind_next, decimal_word, hexadecimal_word, no_feed_word, no_feed_both, signs_append}
+use Rattle.dia_text.proofs.WordsBack.{is_sign, IsWord, next_is, after_next, decimal_word, hexadecimal_word, no_feed_word, no_feed_both, signs_append}
 use Rattle.dia_text.proofs.ValueWords.{ReadsBack, IsValue, from_word, no_quote, value_of_words}
 
 -- ---- parts with a byte between them
@@ -224,10 +224,10 @@ joined k n b h s = simp append_assoc
 family_words : (family : ℕ) (rest : List ℕ) (ws : List (List ℕ)) → spaced (family_text family rest ∷ ws) ≡ spaced (codes "family" ∷ decimal family ∷ hexadecimal rest ∷ ws)
 family_words family rest ws = ap (λ (t : List ℕ). 32 ∷ t) (joined (codes "family ") (decimal family) (codes " ") (hexadecimal rest) (spaced ws))
 
-family_read : (text more behind word bytes number after : List ℕ) (n : ℕ) → first_word text ≡ codes "family" → behind_word text ≡ more → first_word more ≡ number → number_below (2 ^ 16) number ≡ Some n
-    → behind_word more ≡ behind → first_word behind ≡ word → bytes_of word ≡ Ok bytes → behind_word behind ≡ after → words_at (Some Address) text ≡ Ok (big_bytes 2 n ++ bytes, after)
+family_read : (text more following word bytes number after : List ℕ) (n : ℕ) → first_word text ≡ codes "family" → after_word text ≡ more → first_word more ≡ number → number_below (2 ^ 16) number ≡ Some n
+    → after_word more ≡ following → first_word following ≡ word → bytes_of word ≡ Ok bytes → after_word following ≡ after → words_at (Some Address) text ≡ Ok (big_bytes 2 n ++ bytes, after)
 unfolding words_at family_at
-family_read text more behind word bytes number after n f b m is e g v a = rw (f, b, m, is, e, g, v, a) refl
+family_read text more following word bytes number after n f b m is e g v a = rw (f, b, m, is, e, g, v, a) refl
 
 is_family : IsWord (codes "family")
 is_family = keyword (codes "family") (omega arith) refl
@@ -250,9 +250,9 @@ family_reads family rest small h =
           ap (value_at (Some Address)) (family_words family rest ws)
           ∙ value_of_words (Some Address) (spaced (codes "family" ∷ decimal family ∷ digits)) (no_quote (codes "family") (decimal family ∷ digits) is_family)
           ∙ family_read (spaced (codes "family" ∷ decimal family ∷ digits)) (spaced (decimal family ∷ digits)) (spaced digits) (hexadecimal rest) rest (decimal family) (spaced ws) family
-          (next_is (codes "family") (decimal family ∷ digits) is_family) (behind_next (codes "family") (decimal family ∷ digits) is_family)
-          (next_is (decimal family) digits (decimal_word family fits)) (number_back (2 ^ 16) family small fits) (behind_next (decimal family) digits (decimal_word family fits))
-          (next_is (hexadecimal rest) ws (hexadecimal_word rest)) (bytes_back rest h) (behind_next (hexadecimal rest) ws (hexadecimal_word rest));
+          (next_is (codes "family") (decimal family ∷ digits) is_family) (after_next (codes "family") (decimal family ∷ digits) is_family)
+          (next_is (decimal family) digits (decimal_word family fits)) (number_back (2 ^ 16) family small fits) (after_next (decimal family) digits (decimal_word family fits))
+          (next_is (hexadecimal rest) ws (hexadecimal_word rest)) (bytes_back rest h) (after_next (hexadecimal rest) ws (hexadecimal_word rest));
     }
 
 -- ---- by the family
@@ -279,11 +279,11 @@ by_family family rest small h four sixteen = by (family == 1) (family == 2) refl
 
 pub address_reads : (bytes : List ℕ) → IsAddress bytes → AreBytes bytes → ReadsBack (Some Address) bytes (address bytes)
 address_reads bytes a h =
-    let (front, behind) = bytes_split a.family a.rest (subst AreBytes a.parts h) in
+    let (front, following) = bytes_split a.family a.rest (subst AreBytes a.parts h) in
     let first : take 2 bytes ≡ a.family = ap (take 2) a.parts ∙ take_at a.family a.rest 2 a.width in
     let rest : drop 2 bytes ≡ a.rest = ap (drop 2) a.parts ∙ drop_at a.family a.rest 2 a.width in
     let is_shown : address bytes ≡ shown (number a.family) a.rest = ap (λ (t : List ℕ). shown (number t) (drop 2 bytes)) first ∙ ap (shown (number a.family)) rest in
     let is : big_bytes 2 (number a.family) ++ a.rest ≡ bytes = ap (λ (t : List ℕ). t ++ a.rest) (bytes_of_number 2 a.family a.width front) ∙ sym a.parts in
     subst (λ (b : List ℕ). ReadsBack (Some Address) b (address bytes)) is
     (subst (ReadsBack (Some Address) (big_bytes 2 (number a.family) ++ a.rest)) (sym is_shown)
-    (by_family (number a.family) a.rest (omega (arith, number_small 2 a.family a.width front)) behind a.ipv4 a.ipv6))
+    (by_family (number a.family) a.rest (omega (arith, number_small 2 a.family a.width front)) following a.ipv4 a.ipv6))

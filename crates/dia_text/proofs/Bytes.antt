@@ -16,7 +16,7 @@ use Rattle.dia_wire.proofs.Fields.{big_from-number}
 use Rattle.dia_text.specs.declared.line.Head.{Head}
 use Rattle.dia_text.specs.Drafts.{front_bytes}
 use Rattle.dia_text.specs.LineTexts.{code_at}
-use Rattle.dia_text.specs.TextOf.{behind_data}
+use Rattle.dia_text.specs.TextOf.{after_data}
 
 abbrev pub AreBytes : List ℕ → Type 0
 AreBytes bytes = AllByRecursion (λ (b : ℕ). b < 256) bytes
@@ -93,13 +93,13 @@ plain_head v = record { code = code_at v; flags = v.flags; said_length = None }
 
 -- the parts of an AVP that bytes spell
 pub record HasParts (v : PlainAvp) (front : List ℕ) : Type 0 where
-  pub is : front ≡ front_bytes (plain_head v) (avp_length v) ++ (v.bytes ++ behind_data v front)
+  pub is : front ≡ front_bytes (plain_head v) (avp_length v) ++ (v.bytes ++ after_data v front)
   pub code : v.code < 2 ^ 32
   pub flags : v.flags < 256
   pub vendor : IfSome v.vendor (λ n. n < 2 ^ 32)
   pub bytes : AreBytes v.bytes
-  pub behind : AreBytes (behind_data v front)
-  pub short : length (behind_data v front) < 4
+  pub following : AreBytes (after_data v front)
+  pub short : length (after_data v front) < 4
   pub len : avp_length v < 2 ^ 24
 
 vendor_width : (o : Option ℕ) (bytes : List ℕ) → IsVendorField o bytes → 8 + length bytes ≡ head_length o
@@ -134,19 +134,19 @@ parts_of v front s h =
       s.code_field.width,
       s.length_field.width,
     ) in
-    let is_behind : behind_data v front ≡ s.padding = ap (drop (avp_length v)) s.parts ∙ drop_at (s.code ++ (v.flags ∷ s.len) ++ s.vendor ++ v.bytes) s.padding (avp_length v) size in
+    let is_after : after_data v front ≡ s.padding = ap (drop (avp_length v)) s.parts ∙ drop_at (s.code ++ (v.flags ∷ s.len) ++ s.vendor ++ v.bytes) s.padding (avp_length v) size in
     let is_front : s.code ++ (v.flags ∷ s.len) ++ s.vendor ≡ front_bytes (plain_head v) (avp_length v) =
     ap (λ (t : List ℕ). t ++ (v.flags ∷ s.len) ++ s.vendor) is_code ∙ ap (λ (t : List ℕ). big_bytes 4 v.code ++ (v.flags ∷ t) ++ s.vendor) is_len
     ∙ ap (λ (t : List ℕ). big_bytes 4 v.code ++ (v.flags ∷ big_bytes 3 (avp_length v)) ++ t) is_vendor in
     record {
       is = s.parts ∙ append_assoc (s.code ++ (v.flags ∷ s.len) ++ s.vendor) v.bytes s.padding ∙ ap (λ (t : List ℕ). t ++ (v.bytes ++ s.padding)) is_front
-          ∙ ap (λ (t : List ℕ). front_bytes (plain_head v) (avp_length v) ++ (v.bytes ++ t)) (sym is_behind);
+          ∙ ap (λ (t : List ℕ). front_bytes (plain_head v) (avp_length v) ++ (v.bytes ++ t)) (sym is_after);
       code = omega (arith, field_small 4 v.code s.code s.code_field e.0);
       flags = e.1.0;
       vendor = vendor_small v.vendor s.vendor s.vendor_field c.1;
       bytes = b.1;
-      behind = subst AreBytes (sym is_behind) a.1;
-      short = subst (λ (t : List ℕ). length t < 4) (sym is_behind) s.short_padding;
+      following = subst AreBytes (sym is_after) a.1;
+      short = subst (λ (t : List ℕ). length t < 4) (sym is_after) s.short_padding;
       len = omega (arith, field_small 3 (avp_length v) s.len s.length_field len_bytes);
     }
 

@@ -10,14 +10,14 @@ use Rattle.dia_terms.specs.Names.{same_bytes}
 use Rattle.dia_wire.specs.Written.{padding}
 use Rattle.dia_data.specs.Shown.{hex_byte, hexadecimal}
 use Rattle.dia_text.specs.declared.fault.Wanted.{Wanted}
-use Rattle.dia_text.specs.Words.{first_word, behind_word}
+use Rattle.dia_text.specs.Words.{first_word, after_word}
 use Rattle.dia_text.specs.Numbers.{number_of, number_below, within}
 use Rattle.dia_text.specs.Fields.{flags_of, flags_field, number_field, length_field, padding_field, bytes_of}
 use Rattle.dia_text.specs.LineTexts.{spaced, flags_words, app_words, pad_words}
 use Rattle.dia_text.proofs.NumbersOfWords.{digits_model}
 use Rattle.dia_text.proofs.Bytes.{AreBytes}
 use Rattle.dia_text.proofs.HexBack.{hex_byte_back, bytes_back}
-use Rattle.dia_text.proofs.WordsBack.{is_sign, IsWord, AreWords, HaveNoFeeds, no_feed_words, next_is, behind_next, decimal_word, hex_byte_word, hexadecimal_word}
+use Rattle.dia_text.proofs.WordsBack.{is_sign, IsWord, AreWords, HaveNoFeeds, no_feed_words, next_is, after_next, decimal_word, hex_byte_word, hexadecimal_word}
 
 pub keyword : (w : List ℕ) → 0 < length w → list_all is_sign w ≡ true → IsWord w
 keyword w some signs = record { some = some; signs = signs }
@@ -40,7 +40,7 @@ number_back limit n less fits = ap (option_and_then (within limit)) (number_of_b
 
 -- ---- what a field says
 
-flags_there : (letters : List (ℕ × ℕ)) (wrong : Wanted) (default : Option ℕ) (wanted : Wanted) (text more word rest : List ℕ) (n : ℕ) → first_word text ≡ codes "flags" → behind_word text ≡ more → first_word more ≡ word → behind_word more ≡ rest
+flags_there : (letters : List (ℕ × ℕ)) (wrong : Wanted) (default : Option ℕ) (wanted : Wanted) (text more word rest : List ℕ) (n : ℕ) → first_word text ≡ codes "flags" → after_word text ≡ more → first_word more ≡ word → after_word more ≡ rest
     → flags_of letters word ≡ Some n → flags_field letters wrong default wanted text ≡ Ok (n, rest)
 unfolding flags_field
 flags_there letters wrong default wanted text more word rest n k b f e value = rw (k, b, f, e, value) refl
@@ -49,7 +49,7 @@ flags_not_there : (letters : List (ℕ × ℕ)) (wrong wanted : Wanted) (n : ℕ
 unfolding flags_field
 flags_not_there letters wrong wanted n text other = rw other refl
 
-number_there : (key : List ℕ) (default : Option ℕ) (wanted : Wanted) (text more word rest : List ℕ) (n : ℕ) → same_bytes (first_word text) key ≡ true → behind_word text ≡ more → first_word more ≡ word → behind_word more ≡ rest
+number_there : (key : List ℕ) (default : Option ℕ) (wanted : Wanted) (text more word rest : List ℕ) (n : ℕ) → same_bytes (first_word text) key ≡ true → after_word text ≡ more → first_word more ≡ word → after_word more ≡ rest
     → number_below (2 ^ 32) word ≡ Some n → number_field key default wanted text ≡ Ok (n, rest)
 unfolding number_field
 number_there key default wanted text more word rest n k b f e value = rw (k, b, f, e, value) refl
@@ -62,7 +62,7 @@ pub length_not_there : (text : List ℕ) → same_bytes (first_word text) (codes
 unfolding length_field
 length_not_there text other = rw other refl
 
-padding_there : (text more word rest bytes : List ℕ) → first_word text ≡ codes "pad" → behind_word text ≡ more → first_word more ≡ word → behind_word more ≡ rest
+padding_there : (text more word rest bytes : List ℕ) → first_word text ≡ codes "pad" → after_word text ≡ more → first_word more ≡ word → after_word more ≡ rest
     → bytes_of word ≡ Ok bytes → padding_field text ≡ Ok (Some bytes, rest)
 unfolding padding_field
 padding_there text more word rest bytes k b f e value = rw (k, b, f, e, value) refl
@@ -87,16 +87,16 @@ flags_back letters wrong wanted default flags ws small other = by (option_eq nat
     by true e = ap (λ (o : Option ℕ). flags_field letters wrong o wanted (spaced ws)) (option_same default flags e) ∙ flags_not_there letters wrong wanted flags (spaced ws) other
     by false e =
         flags_there letters wrong default wanted (spaced (codes "flags" ∷ hex_byte flags ∷ ws)) (spaced (hex_byte flags ∷ ws)) (hex_byte flags) (spaced ws) flags
-        (next_is (codes "flags") (hex_byte flags ∷ ws) (keyword (codes "flags") (omega arith) refl)) (behind_next (codes "flags") (hex_byte flags ∷ ws) (keyword (codes "flags") (omega arith) refl))
-        (next_is (hex_byte flags) ws (hex_byte_word flags)) (behind_next (hex_byte flags) ws (hex_byte_word flags)) (flags_value letters flags small)
+        (next_is (codes "flags") (hex_byte flags ∷ ws) (keyword (codes "flags") (omega arith) refl)) (after_next (codes "flags") (hex_byte flags ∷ ws) (keyword (codes "flags") (omega arith) refl))
+        (next_is (hex_byte flags) ws (hex_byte_word flags)) (after_next (hex_byte flags) ws (hex_byte_word flags)) (flags_value letters flags small)
 
 pub number_written : (key : List ℕ) (wanted : Wanted) (default : Option ℕ) (n : ℕ) (ws : List (List ℕ)) → n < 2 ^ 32 → IsWord key → same_bytes key key ≡ true
     → number_field key default wanted (spaced (key ∷ decimal n ∷ ws)) ≡ Ok (n, spaced ws)
 number_written key wanted default n ws small word same =
     let fits : n < 2 ^ 64 = omega (arith, small) in
     number_there key default wanted (spaced (key ∷ decimal n ∷ ws)) (spaced (decimal n ∷ ws)) (decimal n) (spaced ws) n
-    (ap (λ (w : List ℕ). same_bytes w key) (next_is key (decimal n ∷ ws) word) ∙ same) (behind_next key (decimal n ∷ ws) word)
-    (next_is (decimal n) ws (decimal_word n fits)) (behind_next (decimal n) ws (decimal_word n fits)) (number_back (2 ^ 32) n small fits)
+    (ap (λ (w : List ℕ). same_bytes w key) (next_is key (decimal n ∷ ws) word) ∙ same) (after_next key (decimal n ∷ ws) word)
+    (next_is (decimal n) ws (decimal_word n fits)) (after_next (decimal n) ws (decimal_word n fits)) (number_back (2 ^ 32) n small fits)
 
 pub app_back : (wanted : Wanted) (default : Option ℕ) (n : ℕ) (ws : List (List ℕ)) → n < 2 ^ 32 → same_bytes (first_word (spaced ws)) (codes "app") ≡ false
     → number_field (codes "app") default wanted (spaced (app_words default n ++ ws)) ≡ Ok (n, spaced ws)
@@ -122,8 +122,8 @@ padding_back len pad bytes = by (same_bytes pad (padding len))
     by true = no_padding
     by false =
         padding_there (spaced (codes "pad" ∷ hexadecimal pad ∷ [])) (spaced (hexadecimal pad ∷ [])) (hexadecimal pad) [] pad
-        (next_is (codes "pad") (hexadecimal pad ∷ []) (keyword (codes "pad") (omega arith) refl)) (behind_next (codes "pad") (hexadecimal pad ∷ []) (keyword (codes "pad") (omega arith) refl))
-        (next_is (hexadecimal pad) [] (hexadecimal_word pad)) (behind_next (hexadecimal pad) [] (hexadecimal_word pad)) (bytes_back pad bytes)
+        (next_is (codes "pad") (hexadecimal pad ∷ []) (keyword (codes "pad") (omega arith) refl)) (after_next (codes "pad") (hexadecimal pad ∷ []) (keyword (codes "pad") (omega arith) refl))
+        (next_is (hexadecimal pad) [] (hexadecimal_word pad)) (after_next (hexadecimal pad) [] (hexadecimal_word pad)) (bytes_back pad bytes)
 
 -- ---- they are words
 

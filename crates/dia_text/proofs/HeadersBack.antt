@@ -13,14 +13,14 @@ use Rattle.dia_book.specs.Dictionary.{Dictionary, PlainDefinition, IsDictionary}
 use Rattle.dia_book.proofs.Members.{at_find}
 use Rattle.dia_text.specs.declared.fault.Wanted.TheVariants as want
 use Rattle.dia_text.specs.declared.commands.Start.{Start}
-use Rattle.dia_text.specs.Words.{first_word, behind_word}
+use Rattle.dia_text.specs.Words.{first_word, after_word}
 use Rattle.dia_text.specs.Numbers.{number_below}
 use Rattle.dia_text.specs.Fields.{flags_field, number_field}
 use Rattle.dia_text.specs.Keys.{class_flags, p_flag, start_of, command_named, start_named}
 use Rattle.dia_text.specs.Lines.{header_letters, no_more, start_at, header_at, header_of}
 use Rattle.dia_text.specs.LineTexts.{spaced, app_words, identifier_words, field_words, code_start, code_header, named_header, header_text, header_line, class_bits, serves, names_header}
 use Rattle.dia_text.proofs.Bytes.{HasFields}
-use Rattle.dia_text.proofs.WordsBack.{AreWords, HasNoFeed, first_is, behind_is, next_is, behind_next, no_feed_words, no_feed_line, decimal_word}
+use Rattle.dia_text.proofs.WordsBack.{AreWords, HasNoFeed, first_is, after_is, next_is, after_next, no_feed_words, no_feed_line, decimal_word}
 use Rattle.dia_text.proofs.FieldsBack.{keyword, number_back, flags_back, app_back, number_written, flags_are_words, app_are_words}
 use Rattle.dia_text.proofs.KeysBack.{name_begins, member_has, found_by_name}
 
@@ -29,12 +29,12 @@ use Rattle.dia_text.proofs.KeysBack.{name_begins, member_has, found_by_name}
 no_word : no_more [] ≡ Ok tt
 no_word = refl
 
-start_by_code : (d : Dictionary) (text more word rest : List ℕ) (n : ℕ) → first_word text ≡ codes "code" → behind_word text ≡ more → first_word more ≡ word → behind_word more ≡ rest
+start_by_code : (d : Dictionary) (text more word rest : List ℕ) (n : ℕ) → first_word text ≡ codes "code" → after_word text ≡ more → first_word more ≡ word → after_word more ≡ rest
     → number_below (2 ^ 24) word ≡ Some n → start_at d text ≡ Ok (record { code = n; flags = None; app = None }, rest)
 unfolding start_at
 start_by_code d text more word rest n k b f e value = rw (k, b, f, e, value) refl
 
-start_by_name : (d : Dictionary) (text name rest : List ℕ) (s : Start) → first_word text ≡ name → behind_word text ≡ rest → same_bytes name (codes "code") ≡ false → start_named d name ≡ Ok s
+start_by_name : (d : Dictionary) (text name rest : List ℕ) (s : Start) → first_word text ≡ name → after_word text ≡ rest → same_bytes name (codes "code") ≡ false → start_named d name ≡ Ok s
     → start_at d text ≡ Ok (s, rest)
 unfolding start_at
 start_by_name d text name rest s is b other named = rw (is, other, named, b) refl
@@ -90,8 +90,8 @@ by_code d h n b f =
     let fits : h.code < 2 ^ 64 = omega (arith, f.code) in
     let number = decimal_word h.code fits in
     let first = first_is (codes "code") ws word in
-    let start = start_by_code d (code_header h) (spaced ws) (decimal h.code) (spaced (field_words h (code_start h))) h.code first (behind_is (codes "code") ws word)
-    (next_is (decimal h.code) (field_words h (code_start h)) number) (behind_next (decimal h.code) (field_words h (code_start h)) number) (number_back (2 ^ 24) h.code f.code fits) in
+    let start = start_by_code d (code_header h) (spaced ws) (decimal h.code) (spaced (field_words h (code_start h))) h.code first (after_is (codes "code") ws word)
+    (next_is (decimal h.code) (field_words h (code_start h)) number) (after_next (decimal h.code) (field_words h (code_start h)) number) (number_back (2 ^ 24) h.code f.code fits) in
     record {
       reads = line_is_header d (code_header h) h (omega (arith, ap length first)) (fields_back d h (code_start h) n b (code_header h) f refl start);
       feeds = no_feed_line (codes "code") ws word (no_feed_words ws (number, field_are_words h (code_start h) n b f));
@@ -127,7 +127,7 @@ by_name d h n b c s sound f found is =
     let line = c.name ++ spaced ws in
     let first = first_is c.name ws begins.word in
     let named = named_start d c.name c s (found_by_name (λ (x : PlainDefinition). x.name) d.commands sound.distinct_commands i c at) is in
-    let start = start_by_name d line c.name (spaced ws) s first (behind_is c.name ws begins.word) (no_code (same_bytes c.name (codes "code")) tests.1) named in
+    let start = start_by_name d line c.name (spaced ws) s first (after_is c.name ws begins.word) (no_code (same_bytes c.name (codes "code")) tests.1) named in
     let some = begins.word.some in
     record {
       reads = line_is_header d line h (omega (arith, ap length first, some)) (fields_back d h s n b line f (served_code h c.head s tests.0 is) start);

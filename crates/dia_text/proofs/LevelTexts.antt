@@ -9,13 +9,13 @@ use Rattle.dia_wire.proofs.Spelling.{one_spelling, opened, rounded-le, at_least_
 use Rattle.dia_book.specs.Dictionary.{Dictionary}
 use Rattle.dia_book.proofs.Members.{append-none}
 use Rattle.dia_text.specs.LineTexts.{leaf_line, open_line, close_line}
-use Rattle.dia_text.specs.TextOf.{AreAvps, IsOpened, IsLevelText, end, leaf, group, behind_data, fed, BehindData, AddsAvp, AddsLevel}
+use Rattle.dia_text.specs.TextOf.{AreAvps, IsOpened, IsLevelText, end, leaf, group, after_data, fed, AfterData, AddsAvp, AddsLevel}
 
 -- ---- levels that are AVPs to their end
 
-pub avps_behind : (v : PlainAvp) (level front rest : List ℕ) → Spells v front → level ≡ front ++ rest → AreAvps level → AreAvps rest
-avps_behind v level front rest s parts ([], none) = ([], (append-none front rest (sym parts ∙ none)).1)
-avps_behind v level front rest s parts (w ∷ ws, (f, r, t, parts', all)) =
+pub avps_after : (v : PlainAvp) (level front rest : List ℕ) → Spells v front → level ≡ front ++ rest → AreAvps level → AreAvps rest
+avps_after v level front rest s parts ([], none) = ([], (append-none front rest (sym parts ∙ none)).1)
+avps_after v level front rest s parts (w ∷ ws, (f, r, t, parts', all)) =
     let joined : front ++ rest ≡ f ++ r = sym parts ∙ parts' in
     let fronts : front ≡ f = (one_spelling v w front f rest r s t joined).1 in
     let rests : rest ≡ r = append_cancel_left front rest r (joined ∙ ap (λ (x : List ℕ). x ++ r) (sym fronts)) in
@@ -36,7 +36,7 @@ pub empty_level : (level : List ℕ) → length level ≡ 0 → AreAvps level
 empty_level level h = ([], empty_avps level h)
 
 pub avps_step : (v : PlainAvp) (level rest : List ℕ) → BeginsWith v level rest → AreAvps rest ↔ AreAvps level
-avps_step v level rest (front, s, parts) = (λ h. avps_from v level front rest s parts h, λ h. avps_behind v level front rest s parts h)
+avps_step v level rest (front, s, parts) = (λ h. avps_from v level front rest s parts h, λ h. avps_after v level front rest s parts h)
 
 pub length-level : (v : PlainAvp) (level front rest : List ℕ) → Spells v front → level ≡ front ++ rest → length level ≡ length front + length rest
 length-level v level front rest s parts = ap length parts ∙ length-append front rest
@@ -52,8 +52,8 @@ shorter v level rest begins = omega (arith, room v level rest begins, at_least_8
 abbrev pub left_to_read : List ℕ → List (Bor (List ℕ)) → ℕ
 left_to_read rest outer = 2 * (length rest + sum_by (λ (r : Bor (List ℕ)). length r.now) outer) + length outer
 
-pub less_behind : (v : PlainAvp) (level rest : List ℕ) (outer : List (Bor (List ℕ))) → BeginsWith v level rest → left_to_read rest outer < left_to_read level outer
-less_behind v level rest outer begins = omega (arith, shorter v level rest begins)
+pub less_following : (v : PlainAvp) (level rest : List ℕ) (outer : List (Bor (List ℕ))) → BeginsWith v level rest → left_to_read rest outer < left_to_read level outer
+less_following v level rest outer begins = omega (arith, shorter v level rest begins)
 
 pub less_inside : (v : PlainAvp) (level : List ℕ) (rest : Bor (List ℕ)) (outer waiting : List (Bor (List ℕ))) → BeginsWith v level rest.now → waiting ≡ outer ++ rest ∷ []
     → left_to_read v.bytes waiting < left_to_read level outer
@@ -66,7 +66,7 @@ less_after level outer waiting next is =
     let size = sum_by-append (λ (r : Bor (List ℕ)). length r.now) waiting (next ∷ []) in
     rw is (omega (arith, size, length-append waiting (next ∷ [])))
 
-pub pad_of : (v : PlainAvp) (level rest part : List ℕ) (n : ℕ) → n ≡ avp_length v → part ≡ take (length level - length rest) level → BehindData v level rest (take (length part - n) (drop n part))
+pub pad_of : (v : PlainAvp) (level rest part : List ℕ) (n : ℕ) → n ≡ avp_length v → part ≡ take (length level - length rest) level → AfterData v level rest (take (length part - n) (drop n part))
 pad_of v level rest part n is_length is_part = λ front s parts.
     let size : length front ≡ length level - length rest = omega (arith, length-level v level front rest s parts) in
     let whole : part ≡ front = is_part ∙ ap (take (length level - length rest)) parts ∙ take_at front rest (length level - length rest) size in
@@ -123,14 +123,14 @@ line_more : (lines : List (List ℕ)) (l before now new : List ℕ) → now ≡ 
 line_more lines l before now new so_far is_new = is_new ∙ ap (λ (t : List ℕ). t ++ fed l) so_far ∙ flat_map_more fed before lines l
 
 pub leaf_written : (d : Dictionary) (whole before now new : List ℕ) (rs : List (Bor (List ℕ))) (rest next pad : List ℕ) (v : PlainAvp) → IsUnderWay d whole before now rs rest → BeginsWith v rest next
-    → BehindData v rest next pad → AddsAvp d v pad now new false → IsUnderWay d whole before new rs next
+    → AfterData v rest next pad → AddsAvp d v pad now new false → IsUnderWay d whole before new rs next
 leaf_written d whole before now new rs rest next pad v u (front, s, parts) is_pad (not_opened, (word, is_word, is_new)) =
-    let line = leaf_line d v word (behind_data v front) in
+    let line = leaf_line d v word (after_data v front) in
     let added : new ≡ now ++ fed line = is_new ∙ ap (λ (t : List ℕ). now ++ fed (leaf_line d v word t)) (is_pad front s parts) in
     record {
       lines = u.lines ++ (line ∷ []);
       text = line_more u.lines line before now new u.text added;
-      reads = λ h. let both = u.reads h in (avps_behind v rest front next s parts both.0, both.1);
+      reads = λ h. let both = u.reads h in (avps_after v rest front next s parts both.0, both.1);
       goes_on = λ more h. subst (IsLevelText d whole) (sym (append_assoc u.lines (line ∷ []) more))
           (u.goes_on (line ∷ more) (Owes-front d rs rest next line more (λ t k. leaf v front next word t s parts not_opened is_word k refl) h));
     }
@@ -142,7 +142,7 @@ group_entered d whole before now new rs rest pad inner next v u (front, s, parts
     record {
       lines = u.lines ++ (line ∷ []);
       text = line_more u.lines line before now new u.text is_new;
-      reads = λ h. let both = u.reads h in (subst AreAvps (sym is_data) is_opened.1, read_push rs next both.1 (avps_behind v rest front next.now s parts both.0));
+      reads = λ h. let both = u.reads h in (subst AreAvps (sym is_data) is_opened.1, read_push rs next both.1 (avps_after v rest front next.now s parts both.0));
       goes_on = λ more h. subst (IsLevelText d whole) (sym (append_assoc u.lines (line ∷ []) more))
           (u.goes_on (line ∷ more) (Owes-group d rs next rest front v more s parts is_opened (subst (λ (t : List ℕ). Owes d (rs ++ (next ∷ [])) t more) is_data h)));
     }

@@ -10,7 +10,7 @@ use Rattle.dia_book.proofs.LookUpsByName.{same_bytes-true}
 use Rattle.dia_text.specs.declared.fault.Wanted.TheVariants.{AvpFlags}
 use Rattle.dia_text.specs.declared.keys.AvpCode.{AvpCode}
 use Rattle.dia_text.specs.declared.line.Head.{Head}
-use Rattle.dia_text.specs.Words.{first_word, behind_word}
+use Rattle.dia_text.specs.Words.{first_word, after_word}
 use Rattle.dia_text.specs.Reading.{◌>>=◌}
 use Rattle.dia_text.specs.Fields.{flags_field, length_field, padding_field}
 use Rattle.dia_text.specs.Keys.{code_of, default_flags, format_at}
@@ -19,16 +19,16 @@ use Rattle.dia_text.specs.Lines.{PlainLine, Blank, Leaf, Open, Close, avp_letter
 use Rattle.dia_text.specs.Drafts.{Level, added, avp_of}
 use Rattle.dia_text.specs.Made.{in_line, line_added}
 use Rattle.dia_text.specs.LineTexts.{spaced, avp_word, code_at, avp_flags, IsWordOf, pad_words, leaf_line, open_line, close_line}
-use Rattle.dia_text.specs.TextOf.{behind_data}
+use Rattle.dia_text.specs.TextOf.{after_data}
 use Rattle.dia_text.proofs.Bytes.{HasParts, plain_head}
-use Rattle.dia_text.proofs.WordsBack.{HasNoFeed, first_is, behind_is, next_is, behind_next, no_feed_words, no_feeds_both, no_feed_line}
+use Rattle.dia_text.proofs.WordsBack.{HasNoFeed, first_is, after_is, next_is, after_next, no_feed_words, no_feeds_both, no_feed_line}
 use Rattle.dia_text.proofs.FieldsBack.{keyword, flags_back, length_not_there, padding_back, said_pad, flags_are_words, flags_have_no_feeds, pad_are_words}
 use Rattle.dia_text.proofs.ValuesBack.{value_back}
 use Rattle.dia_text.proofs.KeysBack.{NamesAvp, word_names}
 
 -- ---- what a line says
 
-head_read : (d : Dictionary) (text t1 t2 : List ℕ) (code : AvpCode) (flags : ℕ) → code_of d (first_word text) ≡ Ok code → behind_word text ≡ t1
+head_read : (d : Dictionary) (text t1 t2 : List ℕ) (code : AvpCode) (flags : ℕ) → code_of d (first_word text) ≡ Ok code → after_word text ≡ t1
     → flags_field avp_letters AvpFlags (Some (default_flags d code)) AvpFlags t1 ≡ Ok (flags, t2) → length_field t2 ≡ Ok (None, t2) → head_at d text ≡ Ok (record { code = code; flags = flags; said_length = None }, t2)
 unfolding head_at
 head_read d text t1 t2 code flags a b c e = rw (a, b, c, e) refl
@@ -46,7 +46,7 @@ avp_is_leaf : (d : Dictionary) (text t : List ℕ) (head : Head) (l : PlainLine)
 unfolding avp_at
 avp_is_leaf d text t head l a other b = rw (a, other, b) refl
 
-avp_is_open : (d : Dictionary) (text t : List ℕ) (head : Head) → head_at d text ≡ Ok (head, t) → same_bytes (first_word t) (codes "{") ≡ true → behind_word t ≡ [] → avp_at d text ≡ Ok (Open head)
+avp_is_open : (d : Dictionary) (text t : List ℕ) (head : Head) → head_at d text ≡ Ok (head, t) → same_bytes (first_word t) (codes "{") ≡ true → after_word t ≡ [] → avp_at d text ≡ Ok (Open head)
 unfolding avp_at
 avp_is_open d text t head a same b = rw (a, same, b, opens head) refl
 
@@ -74,7 +74,7 @@ head_back d v front ws p names no_flags no_length =
     let w = avp_word d (code_at v) in
     let first = first_is w (avp_flags d v ++ ws) names.begins.word in
     head_read d (w ++ spaced (avp_flags d v ++ ws)) (spaced (avp_flags d v ++ ws)) (spaced ws) (code_at v) v.flags (ap (code_of d) first ∙ names.reads)
-    (behind_is w (avp_flags d v ++ ws) names.begins.word) (flags_back avp_letters AvpFlags AvpFlags (Some (default_flags d (code_at v))) v.flags ws p.flags no_flags) (length_not_there (spaced ws) no_length)
+    (after_is w (avp_flags d v ++ ws) names.begins.word) (flags_back avp_letters AvpFlags AvpFlags (Some (default_flags d (code_at v))) v.flags ws p.flags no_flags) (length_not_there (spaced ws) no_length)
 
 -- a line that is read so
 pub record IsLineOf (d : Dictionary) (l : PlainLine) (line : List ℕ) : Type 0 where
@@ -82,17 +82,17 @@ pub record IsLineOf (d : Dictionary) (l : PlainLine) (line : List ℕ) : Type 0 
   pub feeds : HasNoFeed line
 
 pub leaf_back : (d : Dictionary) (v : PlainAvp) (front word : List ℕ) → IsDictionary d → HasParts v front → IsWordOf d v word
-    → IsLineOf d (Leaf (plain_head v) v.bytes (said_pad (avp_length v) (behind_data v front))) (leaf_line d v word (behind_data v front))
+    → IsLineOf d (Leaf (plain_head v) v.bytes (said_pad (avp_length v) (after_data v front))) (leaf_line d v word (after_data v front))
 leaf_back d v front word sound p is_word =
     let names = word_names d (code_at v) sound p.code p.vendor in
     let value = value_back (format_at d (code_at v)) v.bytes word p.bytes is_word in
     let w = avp_word d (code_at v) in
-    let pads = pad_words (avp_length v) (behind_data v front) in
+    let pads = pad_words (avp_length v) (after_data v front) in
     let ws : List (List ℕ) = word ∷ pads in
-    let line = leaf_line d v word (behind_data v front) in
+    let line = leaf_line d v word (after_data v front) in
     let head = head_back d v front ws p names (value.flags pads) (value.len pads) in
-    let leaf = leaf_read d (plain_head v) (spaced ws) (spaced pads) v.bytes (said_pad (avp_length v) (behind_data v front)) (value.reads pads)
-    (padding_back (avp_length v) (behind_data v front) p.behind) in
+    let leaf = leaf_read d (plain_head v) (spaced ws) (spaced pads) v.bytes (said_pad (avp_length v) (after_data v front)) (value.reads pads)
+    (padding_back (avp_length v) (after_data v front) p.following) in
     let first = first_is w (avp_flags d v ++ ws) names.begins.word in
     let some = names.begins.word.some in
     record {
@@ -100,7 +100,7 @@ leaf_back d v front word sound p is_word =
           (avp_is_leaf d line (spaced ws) (plain_head v) _ head (value.brace pads) leaf);
       feeds = no_feed_line w (avp_flags d v ++ ws) names.begins.word
           (no_feeds_both (avp_flags d v) ws (flags_have_no_feeds (Some (default_flags d (code_at v))) v.flags)
-          (value.feeds, no_feed_words pads (pad_are_words (avp_length v) (behind_data v front))));
+          (value.feeds, no_feed_words pads (pad_are_words (avp_length v) (after_data v front))));
     }
 
 pub open_back : (d : Dictionary) (v : PlainAvp) (front : List ℕ) → IsDictionary d → HasParts v front → IsLineOf d (Open (plain_head v)) (open_line d v)
@@ -116,13 +116,13 @@ open_back d v front sound p =
     let some = names.begins.word.some in
     record {
       reads = line_is_avp d line _ (omega (arith, ap length first, some)) (ap (λ (t : List ℕ). same_bytes t (codes "}")) first ∙ names.begins.brace)
-          (avp_is_open d line (spaced ws) (plain_head v) head (ap (λ (t : List ℕ). same_bytes t (codes "{")) next) (behind_next (codes "{") [] brace));
+          (avp_is_open d line (spaced ws) (plain_head v) head (ap (λ (t : List ℕ). same_bytes t (codes "{")) next) (after_next (codes "{") [] brace));
       feeds = no_feed_line w (avp_flags d v ++ ws) names.begins.word (no_feed_words (avp_flags d v ++ ws) (flags_are_words (Some (default_flags d (code_at v))) v.flags ws (brace, tt)));
     }
 
 -- ---- what they add
 
-avp_with : (v : PlainAvp) (front : List ℕ) (pad : Option (List ℕ)) → HasParts v front → unwrap_or pad (padding (avp_length v)) ≡ behind_data v front → avp_of (plain_head v) v.bytes pad ≡ Ok front
+avp_with : (v : PlainAvp) (front : List ℕ) (pad : Option (List ℕ)) → HasParts v front → unwrap_or pad (padding (avp_length v)) ≡ after_data v front → avp_of (plain_head v) v.bytes pad ≡ Ok front
 unfolding avp_of
 avp_with v front pad p ends =
     rw (lt-ltb (avp_length v) (2 ^ 24) p.len, ends) (ap Ok (sym p.is))
@@ -141,12 +141,12 @@ adds : (d : Dictionary) (l : List ℕ) (line : PlainLine) (at next : Level) → 
 adds d l line at next reads is = bound (line_of d l) line (λ x. in_line d l x (added at x)) (Ok next) reads (ap (in_line d l line) is)
 
 pub leaf_added : (d : Dictionary) (v : PlainAvp) (front word : List ℕ) (at : Level) → IsDictionary d → HasParts v front → IsWordOf d v word
-    → line_added d (leaf_line d v word (behind_data v front)) at ≡ Ok (record { outer = at.outer; bytes = at.bytes ++ front })
+    → line_added d (leaf_line d v word (after_data v front)) at ≡ Ok (record { outer = at.outer; bytes = at.bytes ++ front })
 leaf_added d v front word at sound p is_word =
-    adds d (leaf_line d v word (behind_data v front)) (Leaf (plain_head v) v.bytes (said_pad (avp_length v) (behind_data v front))) at (record { outer = at.outer; bytes = at.bytes ++ front })
+    adds d (leaf_line d v word (after_data v front)) (Leaf (plain_head v) v.bytes (said_pad (avp_length v) (after_data v front))) at (record { outer = at.outer; bytes = at.bytes ++ front })
     (leaf_back d v front word sound p is_word).reads
-    (bound (avp_of (plain_head v) v.bytes (said_pad (avp_length v) (behind_data v front))) front (λ avp. Ok (record { outer = at.outer; bytes = at.bytes ++ avp })) (Ok (record { outer = at.outer; bytes = at.bytes ++ front }))
-    (avp_with v front (said_pad (avp_length v) (behind_data v front)) p (said_ends (avp_length v) (behind_data v front))) refl)
+    (bound (avp_of (plain_head v) v.bytes (said_pad (avp_length v) (after_data v front))) front (λ avp. Ok (record { outer = at.outer; bytes = at.bytes ++ avp })) (Ok (record { outer = at.outer; bytes = at.bytes ++ front }))
+    (avp_with v front (said_pad (avp_length v) (after_data v front)) p (said_ends (avp_length v) (after_data v front))) refl)
 
 -- a group that is opened
 abbrev pub framed : PlainAvp → Level → Level
@@ -155,7 +155,7 @@ framed v at = record { outer = record { before = at.bytes; head = plain_head v }
 pub open_added : (d : Dictionary) (v : PlainAvp) (front : List ℕ) (at : Level) → IsDictionary d → HasParts v front → line_added d (open_line d v) at ≡ Ok (framed v at)
 open_added d v front at sound p = adds d (open_line d v) (Open (plain_head v)) at (framed v at) (open_back d v front sound p).reads refl
 
-pub close_added : (d : Dictionary) (v : PlainAvp) (front : List ℕ) (at : Level) → HasParts v front → padding (avp_length v) ≡ behind_data v front
+pub close_added : (d : Dictionary) (v : PlainAvp) (front : List ℕ) (at : Level) → HasParts v front → padding (avp_length v) ≡ after_data v front
     → line_added d close_line (record { outer = record { before = at.bytes; head = plain_head v } ∷ at.outer; bytes = v.bytes }) ≡ Ok (record { outer = at.outer; bytes = at.bytes ++ front })
 close_added d v front at p ends =
     let inside : Level = record { outer = record { before = at.bytes; head = plain_head v } ∷ at.outer; bytes = v.bytes } in
@@ -176,10 +176,10 @@ no_bytes : (bytes : List ℕ) → length bytes ≡ 0 → bytes ≡ []
 no_bytes [] h = refl
 no_bytes (b ∷ bytes) h = absurd (omega (arith, h))
 
-pub group_ends : (v : PlainAvp) (front : List ℕ) → Spells v front → HasParts v front → length v.bytes % 4 ≡ 0 → padding (avp_length v) ≡ behind_data v front
+pub group_ends : (v : PlainAvp) (front : List ℕ) → Spells v front → HasParts v front → length v.bytes % 4 ≡ 0 → padding (avp_length v) ≡ after_data v front
 group_ends v front s p even =
     let long : avp_length v % 4 ≡ 0 = omega (arith, even, head_aligned v.vendor) in
     let whole = s.aligned in
     let short = p.short in
-    let none : length (behind_data v front) ≡ 0 = omega (arith, length-drop (avp_length v) front, long, whole, short) in
-    ap (λ (n : ℕ). take ((4 - n) % 4) (0 ∷ 0 ∷ 0 ∷ [])) long ∙ sym (no_bytes (behind_data v front) none)
+    let none : length (after_data v front) ≡ 0 = omega (arith, length-drop (avp_length v) front, long, whole, short) in
+    ap (λ (n : ℕ). take ((4 - n) % 4) (0 ∷ 0 ∷ 0 ∷ [])) long ∙ sym (no_bytes (after_data v front) none)

@@ -11,7 +11,7 @@ use Rattle.dia_text.specs.declared.fault.Fault.{Fault}
 use Rattle.dia_text.specs.declared.fault.NotMade.{NotMade}
 use Rattle.dia_text.specs.declared.fault.NotMade.TheVariants as not_made
 use Rattle.dia_text.specs.Words.{first_word}
-use Rattle.dia_text.specs.Made.{is_empty, has_word, then_text, part_text, parts_text, message_from, told_behind, digits_line, behind_lines, IsWithin, IsPartAdded, Misses}
+use Rattle.dia_text.specs.Made.{is_empty, has_word, then_text, part_text, parts_text, message_from, recorded_after, digits_line, after_lines, IsWithin, IsPartAdded, Misses}
 use Rattle.dia_text.proofs.LinesOfTexts.{front}
 
 pub then_nothing : (r : Result (List ℕ) Fault) → then_text (Ok []) r ≡ r
@@ -59,9 +59,9 @@ last_missed d n out e rest all h = missed e out (part_text d n rest) (parts_text
 
 -- ---- one part
 
-pub told_fault : (n : ℕ) (e : NotMade) (r : Result (List ℕ) Fault) → Misses e r → Misses (behind_lines n e) (told_behind n r)
-told_fault n not_made.NoMemory r h = tt
-told_fault n (not_made.Fault f) r h = ap (told_behind n) h
+pub recorded_fault : (n : ℕ) (e : NotMade) (r : Result (List ℕ) Fault) → Misses e r → Misses (after_lines n e) (recorded_after n r)
+recorded_fault n not_made.NoMemory r h = tt
+recorded_fault n (not_made.Fault f) r h = ap (recorded_after n) h
 
 pub within_more : (n m : ℕ) (e : NotMade) → n ≤ m → IsWithin n e → IsWithin m e
 within_more n m not_made.NoMemory le h = tt
@@ -198,9 +198,9 @@ last_failed d ls s i out e ends (so_far, le, full) h =
 pub no_part : (d : Dictionary) (n : ℕ) (ls : List (List ℕ)) (old : List ℕ) → has_word ls ≡ false → IsPartAdded (part_text d n ls) (Ok tt) old old
 no_part d n ls old none = ([], rw none refl, sym (append-nil old))
 
-pub some_part : (d : Dictionary) (n : ℕ) (ls : List (List ℕ)) (old new : List ℕ) (r : Result (Unit {0}) NotMade) → has_word ls ≡ true → IsPartAdded (told_behind n (message_from d 0 ls)) r old new
+pub some_part : (d : Dictionary) (n : ℕ) (ls : List (List ℕ)) (old new : List ℕ) (r : Result (Unit {0}) NotMade) → has_word ls ≡ true → IsPartAdded (recorded_after n (message_from d 0 ls)) r old new
     → IsPartAdded (part_text d n ls) r old new
 some_part d n ls old new r some h = rw some h
 
-pub message_added : (n : ℕ) (read : Result (List ℕ) Fault) (bytes old new : List ℕ) → read ≡ Ok bytes → new ≡ old ++ digits_line bytes → IsPartAdded (told_behind n read) (Ok tt) old new
-message_added n read bytes old new is is_new = (digits_line bytes, ap (told_behind n) is, is_new)
+pub message_added : (n : ℕ) (read : Result (List ℕ) Fault) (bytes old new : List ℕ) → read ≡ Ok bytes → new ≡ old ++ digits_line bytes → IsPartAdded (recorded_after n read) (Ok tt) old new
+message_added n read bytes old new is is_new = (digits_line bytes, ap (recorded_after n) is, is_new)

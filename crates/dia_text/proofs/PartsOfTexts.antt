@@ -27,13 +27,13 @@ other_byte c byte h = ne_eqb c byte h
 same_byte : (byte : ℕ) → (byte == byte) ≡ true
 same_byte byte = eq-eqb byte byte refl
 
-pub more_parts : (byte : ℕ) (found : List (Bor (List ℕ))) (part : Bor (List ℕ)) (rest behind : List ℕ) → rest ≡ part.now ++ byte ∷ behind → All (λ c. c ≢ byte) part.now
-    → map (λ (x : Bor (List ℕ)). x.now) (found ++ part ∷ []) ++ slice_split (λ b. b == byte) behind ≡ map (λ (x : Bor (List ℕ)). x.now) found ++ slice_split (λ b. b == byte) rest
-more_parts byte found part rest behind is all =
-    ap (λ (t : List (List ℕ)). t ++ slice_split (λ b. b == byte) behind) (map-append (λ (x : Bor (List ℕ)). x.now) found (part ∷ []))
-    ∙ append_assoc (map (λ (x : Bor (List ℕ)). x.now) found) (part.now ∷ []) (slice_split (λ b. b == byte) behind)
+pub more_parts : (byte : ℕ) (found : List (Bor (List ℕ))) (part : Bor (List ℕ)) (rest following : List ℕ) → rest ≡ part.now ++ byte ∷ following → All (λ c. c ≢ byte) part.now
+    → map (λ (x : Bor (List ℕ)). x.now) (found ++ part ∷ []) ++ slice_split (λ b. b == byte) following ≡ map (λ (x : Bor (List ℕ)). x.now) found ++ slice_split (λ b. b == byte) rest
+more_parts byte found part rest following is all =
+    ap (λ (t : List (List ℕ)). t ++ slice_split (λ b. b == byte) following) (map-append (λ (x : Bor (List ℕ)). x.now) found (part ∷ []))
+    ∙ append_assoc (map (λ (x : Bor (List ℕ)). x.now) found) (part.now ∷ []) (slice_split (λ b. b == byte) following)
     ∙ ap (λ (t : List (List ℕ)). map (λ (x : Bor (List ℕ)). x.now) found ++ t)
-    (sym (ap (slice_split (λ b. b == byte)) is ∙ slice_split_at (λ b. b == byte) part.now byte behind (λ k d lt. other_byte _ byte (all k d lt)) (same_byte byte)))
+    (sym (ap (slice_split (λ b. b == byte)) is ∙ slice_split_at (λ b. b == byte) part.now byte following (λ k d lt. other_byte _ byte (all k d lt)) (same_byte byte)))
 
 pub last_part : (byte : ℕ) (found : List (Bor (List ℕ))) (rest : Bor (List ℕ)) → All (λ c. c ≢ byte) rest.now
     → map (λ (x : Bor (List ℕ)). x.now) (found ++ rest ∷ []) ≡ map (λ (x : Bor (List ℕ)). x.now) found ++ slice_split (λ b. b == byte) rest.now
@@ -53,17 +53,17 @@ around_byte byte text at within passes =
 -- ---- the first such byte
 
 -- where it stands, and what is in front of it and behind it
-pub first_byte : (byte : ℕ) (text front behind : List ℕ) → text ≡ front ++ byte ∷ behind → All (λ c. c ≢ byte) front
-    → (prefix_len (λ c. not (c == byte)) text ≡ length front) × ((length front == length text) ≡ false) × (take (length front) text ≡ front) × (drop (length front + 1) text ≡ behind)
-first_byte byte text front behind is others = (
+pub first_byte : (byte : ℕ) (text front following : List ℕ) → text ≡ front ++ byte ∷ following → All (λ c. c ≢ byte) front
+    → (prefix_len (λ c. not (c == byte)) text ≡ length front) × ((length front == length text) ≡ false) × (take (length front) text ≡ front) × (drop (length front + 1) text ≡ following)
+first_byte byte text front following is others = (
   ap (prefix_len (λ c. not (c == byte))) is ∙ up_to front (recursion_from_All (λ c. c ≢ byte) front others),
-  ne_eqb (length front) (length text) (λ e. omega (arith, e, ap length is, length-append front (byte ∷ behind))),
-  ap (take (length front)) is ∙ take_at front (byte ∷ behind) (length front) refl,
-  ap (drop (length front + 1)) (is ∙ sym (append_assoc front (byte ∷ []) behind))
-      ∙ drop_at (front ++ byte ∷ []) behind (length front + 1) (omega (arith, length-append front (byte ∷ []))),
+  ne_eqb (length front) (length text) (λ e. omega (arith, e, ap length is, length-append front (byte ∷ following))),
+  ap (take (length front)) is ∙ take_at front (byte ∷ following) (length front) refl,
+  ap (drop (length front + 1)) (is ∙ sym (append_assoc front (byte ∷ []) following))
+      ∙ drop_at (front ++ byte ∷ []) following (length front + 1) (omega (arith, length-append front (byte ∷ []))),
 )
   where
-    up_to : (front : List ℕ) → AllByRecursion (λ c. c ≢ byte) front → prefix_len (λ c. not (c == byte)) (front ++ byte ∷ behind) ≡ length front
+    up_to : (front : List ℕ) → AllByRecursion (λ c. c ≢ byte) front → prefix_len (λ c. not (c == byte)) (front ++ byte ∷ following) ≡ length front
     up_to [] others = rw (same_byte byte) refl
     up_to (c ∷ front) others = rw (other_byte c byte others.0, up_to front others.1) (omega arith)
 
@@ -94,8 +94,8 @@ vendor_cut at word =
 pub code_and_vendor : (word code vendor : List ℕ) (a b : Option ℕ) → word ≡ code ++ 47 ∷ vendor → All (λ c. c ≢ 47) code → a ≡ number_below (2 ^ 32) code → b ≡ number_below (2 ^ 32) vendor
     → vendor_code word ≡ option_and_then (λ n. option_map (with_vendor n) b) a
 code_and_vendor word code vendor a b is others is_code is_vendor =
-    let (at, within, front, behind) = first_byte 47 word code vendor is others in
-    ap (λ (n : ℕ). vendor_cut n word) at ∙ rw (within, front, behind, sym is_code, sym is_vendor) refl
+    let (at, within, front, following) = first_byte 47 word code vendor is others in
+    ap (λ (n : ℕ). vendor_cut n word) at ∙ rw (within, front, following, sym is_code, sym is_vendor) refl
 
 pub no_vendor : (word : List ℕ) → All (λ c. c ≢ 47) word → vendor_code word ≡ None
 no_vendor word others = rw (no_such_byte 47 word others) refl
@@ -103,27 +103,27 @@ no_vendor word others = rw (no_such_byte 47 word others) refl
 abbrev text_cut : ℕ → List ℕ → Option (List ℕ × List ℕ)
 text_cut at text = if at == length text then None else option_map (λ bytes. (bytes, drop (at + 1) text)) (unescaped (slice_split (λ c. c == 92) (take at text)))
 
-pub quoted_text : (text quoted behind : List ℕ) → text ≡ quoted ++ 34 ∷ behind → All (λ c. c ≢ 34) quoted
-    → text_at text ≡ option_map (λ bytes. (bytes, behind)) (unescaped (slice_split (λ c. c == 92) quoted))
-quoted_text text quoted behind is others =
-    let (at, within, front, rest) = first_byte 34 text quoted behind is others in
+pub quoted_text : (text quoted following : List ℕ) → text ≡ quoted ++ 34 ∷ following → All (λ c. c ≢ 34) quoted
+    → text_at text ≡ option_map (λ bytes. (bytes, following)) (unescaped (slice_split (λ c. c == 92) quoted))
+quoted_text text quoted following is others =
+    let (at, within, front, rest) = first_byte 34 text quoted following is others in
     ap (λ (n : ℕ). text_cut n text) at ∙ rw (within, front, rest) refl
 
 pub no_quoted_text : (text : List ℕ) → All (λ c. c ≢ 34) text → text_at text ≡ None
 no_quoted_text text others = rw (no_such_byte 34 text others) refl
 
 -- the bytes of a text, and what is behind it
-pub text_read : (text quoted behind bytes : List ℕ) → text ≡ quoted ++ 34 ∷ behind → All (λ c. c ≢ 34) quoted → some_or (unescaped (slice_split (λ c. c == 92) quoted)) Value ≡ Ok bytes
-    → some_or (text_at text) Value ≡ Ok (bytes, behind)
-text_read text quoted behind bytes is others read =
-    ap (λ (o : Option (List ℕ × List ℕ)). some_or o Value) (quoted_text text quoted behind is others ∙ ap (option_map (λ (b : List ℕ). (b, behind))) (some_read _ bytes read))
+pub text_read : (text quoted following bytes : List ℕ) → text ≡ quoted ++ 34 ∷ following → All (λ c. c ≢ 34) quoted → some_or (unescaped (slice_split (λ c. c == 92) quoted)) Value ≡ Ok bytes
+    → some_or (text_at text) Value ≡ Ok (bytes, following)
+text_read text quoted following bytes is others read =
+    ap (λ (o : Option (List ℕ × List ℕ)). some_or o Value) (quoted_text text quoted following is others ∙ ap (option_map (λ (b : List ℕ). (b, following))) (some_read _ bytes read))
 
-pub text_refused : (text quoted behind : List ℕ) (e : Misread) → text ≡ quoted ++ 34 ∷ behind → All (λ c. c ≢ 34) quoted → Fails e (some_or (unescaped (slice_split (λ c. c == 92) quoted)) Value)
+pub text_refused : (text quoted following : List ℕ) (e : Misread) → text ≡ quoted ++ 34 ∷ following → All (λ c. c ≢ 34) quoted → Fails e (some_or (unescaped (slice_split (λ c. c == 92) quoted)) Value)
     → Fails e (some_or (text_at text) Value)
-text_refused text quoted behind misread.NoMemory is others fails = tt
-text_refused text quoted behind (misread.Fault kind) is others fails =
+text_refused text quoted following misread.NoMemory is others fails = tt
+text_refused text quoted following (misread.Fault kind) is others fails =
     let (none, is_value) = none_read _ kind fails in
-    ap (λ (o : Option (List ℕ × List ℕ)). some_or o Value) (quoted_text text quoted behind is others ∙ ap (option_map (λ (b : List ℕ). (b, behind))) none) ∙ ap (λ (k : Kind). Err k) (sym is_value)
+    ap (λ (o : Option (List ℕ × List ℕ)). some_or o Value) (quoted_text text quoted following is others ∙ ap (option_map (λ (b : List ℕ). (b, following))) none) ∙ ap (λ (k : Kind). Err k) (sym is_value)
 
 -- ---- the bytes of parts
 

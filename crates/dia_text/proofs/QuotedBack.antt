@@ -10,7 +10,7 @@ use Rattle.dia_terms.specs.Names.{same_bytes}
 use Rattle.dia_data.specs.Plain.{PlainFormat}
 use Rattle.dia_data.specs.Shown.{hex_digit, hex_byte, quoted_byte, quoted}
 use Rattle.dia_text.specs.Words.{is_word_byte, unblanked, first_word}
-use Rattle.dia_text.specs.Fields.{behind_letter}
+use Rattle.dia_text.specs.Fields.{after_letter}
 use Rattle.dia_text.specs.Values.{each, escaped, unescaped, is_no_quote, text_at, may_be_text, value_at}
 use Rattle.dia_text.specs.LineTexts.{spaced}
 use Rattle.dia_text.proofs.Bytes.{AreBytes}
@@ -111,16 +111,16 @@ text_back bytes rest h =
     let other : (length text == length (text ++ (34 ∷ rest))) ≡ false = ne_eqb (length text) (length (text ++ (34 ∷ rest))) (λ e. omega (arith, e, whole)) in
     let front : take (length text) (text ++ (34 ∷ rest)) ≡ text = take_at text (34 ∷ rest) (length text) refl in
     let one : length (text ++ (34 ∷ [])) ≡ length text + 1 = omega (arith, length-append text (34 ∷ [])) in
-    let behind : drop (length text + 1) (text ++ (34 ∷ rest)) ≡ rest =
+    let following : drop (length text + 1) (text ++ (34 ∷ rest)) ≡ rest =
     ap (drop (length text + 1)) (sym (append_assoc text (34 ∷ []) rest)) ∙ drop_at (text ++ (34 ∷ [])) rest (length text + 1) one in
-    ap (λ (n : ℕ). text_cut n (text ++ (34 ∷ rest))) at ∙ rw (other, front, behind, quoted_back bytes h) refl
+    ap (λ (n : ℕ). text_cut n (text ++ (34 ∷ rest))) at ∙ rw (other, front, following, quoted_back bytes h) refl
 
 -- ---- texts in quotes
 
-text_value : (format : Option PlainFormat) (text behind bytes rest : List ℕ) → behind_letter 34 (unblanked text) ≡ Some behind → may_be_text format ≡ true → text_at behind ≡ Some (bytes, rest)
+text_value : (format : Option PlainFormat) (text following bytes rest : List ℕ) → after_letter 34 (unblanked text) ≡ Some following → may_be_text format ≡ true → text_at following ≡ Some (bytes, rest)
     → value_at format text ≡ Ok (bytes, rest)
 unfolding value_at
-text_value format text behind bytes rest quote may is = rw (quote, may, is) refl
+text_value format text following bytes rest quote may is = rw (quote, may, is) refl
 
 first_quote : (text : List ℕ) → first_word (32 ∷ 34 ∷ text) ≡ 34 ∷ take (prefix_len is_word_byte text) text
 first_quote text =
@@ -138,12 +138,12 @@ quoted_feeds (b ∷ bytes) = no_feed_both (quoted_byte b) (flat_map quoted_byte 
 pub quoted_reads : (format : Option PlainFormat) (bytes : List ℕ) → may_be_text format ≡ true → AreBytes bytes → ReadsBack format bytes (quoted bytes)
 quoted_reads format bytes may h = record {
   feeds = (refl, no_feed_both (flat_map quoted_byte bytes) (34 ∷ []) (quoted_feeds bytes) (refl, tt));
-  flags = λ ws. ap (λ (t : List ℕ). same_bytes t (codes "flags")) (first_quote (behind ws));
-  len = λ ws. ap (λ (t : List ℕ). same_bytes t (codes "length")) (first_quote (behind ws));
-  brace = λ ws. ap (λ (t : List ℕ). same_bytes t (codes "{")) (first_quote (behind ws));
-  reads = λ ws. text_value format (spaced (quoted bytes ∷ ws)) (behind ws) bytes (spaced ws) refl may
+  flags = λ ws. ap (λ (t : List ℕ). same_bytes t (codes "flags")) (first_quote (following ws));
+  len = λ ws. ap (λ (t : List ℕ). same_bytes t (codes "length")) (first_quote (following ws));
+  brace = λ ws. ap (λ (t : List ℕ). same_bytes t (codes "{")) (first_quote (following ws));
+  reads = λ ws. text_value format (spaced (quoted bytes ∷ ws)) (following ws) bytes (spaced ws) refl may
       (ap text_at (append_assoc (flat_map quoted_byte bytes) (34 ∷ []) (spaced ws)) ∙ text_back bytes (spaced ws) h);
 }
   where
-    behind : List (List ℕ) → List ℕ
-    behind ws = (flat_map quoted_byte bytes ++ (34 ∷ [])) ++ spaced ws
+    following : List (List ℕ) → List ℕ
+    following ws = (flat_map quoted_byte bytes ++ (34 ∷ [])) ++ spaced ws

@@ -12,7 +12,7 @@ use Rattle.dia_text.specs.Lines.{header_of}
 use Rattle.dia_text.specs.Drafts.{Frame, Level}
 use Rattle.dia_text.specs.Made.{lines, made, message_from, body_from, begin, step, finished, no_level, line_added}
 use Rattle.dia_text.specs.LineTexts.{leaf_line, open_line, close_line, header_line}
-use Rattle.dia_text.specs.TextOf.{IsLevelText, end, leaf, group, IsTextOf, behind_data}
+use Rattle.dia_text.specs.TextOf.{IsLevelText, end, leaf, group, IsTextOf, after_data}
 use Rattle.dia_text.proofs.Bytes.{AreBytes, bytes_split, bytes_take, bytes_drop, parts_of, fields_of}
 use Rattle.dia_text.proofs.WordsBack.{HasNoFeed, lines_back}
 use Rattle.dia_text.proofs.HeadersBack.{header_back}
@@ -60,7 +60,7 @@ level_back d h level ls sound (leaf v front rest word more s parts no_group is_w
     let (here, there) = bytes_split front rest (subst AreBytes parts bytes) in
     let next : Level = record { outer = at.outer; bytes = at.bytes ++ front } in
     ap (λ (xs : List (List ℕ)). body_from d h n (xs ++ after) at) is_lines
-    ∙ line_step d h n (leaf_line d v word (behind_data v front)) (more ++ after) at next (leaf_added d v front word at sound (parts_of v front s here) is_word)
+    ∙ line_step d h n (leaf_line d v word (after_data v front)) (more ++ after) at next (leaf_added d v front word at sound (parts_of v front s here) is_word)
     ∙ level_back d h rest more sound text there (n + 1) next after
     ∙ same_place d h (n + 1 + length more) (n + length ls) after at.outer ((at.bytes ++ front) ++ rest) (at.bytes ++ level) (omega (arith, ap length is_lines))
     (append_assoc at.bytes front rest ∙ ap (λ (t : List ℕ). at.bytes ++ t) (sym parts))

@@ -10,7 +10,7 @@ use Rattle.std.proofs.lemmas.List.{take_at, drop_at}
 use Rattle.std.proofs.lemmas.List.Elements.{All-from_recursion}
 use Rattle.std.proofs.lemmas.List.Splits.{slice_split_at}
 use Rattle.dia_data.specs.Shown.{hex_digit, hex_byte, hexadecimal}
-use Rattle.dia_text.specs.Words.{is_blank, is_word_byte, unblanked, first_word, behind_word}
+use Rattle.dia_text.specs.Words.{is_blank, is_word_byte, unblanked, first_word, after_word}
 use Rattle.dia_text.specs.Made.{lines}
 use Rattle.dia_text.specs.LineTexts.{spaced}
 use Rattle.dia_text.specs.TextOf.{fed}
@@ -89,15 +89,15 @@ word_length (c ∷ w) ws all =
 pub first_is : (w : List ℕ) (ws : List (List ℕ)) → IsWord w → first_word (w ++ spaced ws) ≡ w
 first_is w ws h = ap (take_while is_word_byte) (unblanked_word w (spaced ws) h) ∙ take_at w (spaced ws) _ (sym (word_length w ws h.signs))
 
-pub behind_is : (w : List ℕ) (ws : List (List ℕ)) → IsWord w → behind_word (w ++ spaced ws) ≡ spaced ws
-behind_is w ws h =
+pub after_is : (w : List ℕ) (ws : List (List ℕ)) → IsWord w → after_word (w ++ spaced ws) ≡ spaced ws
+after_is w ws h =
     ap (λ (t : List ℕ). drop (prefix_len is_word_byte t) t) (unblanked_word w (spaced ws) h) ∙ drop_at w (spaced ws) _ (sym (word_length w ws h.signs))
 
 pub next_is : (w : List ℕ) (ws : List (List ℕ)) → IsWord w → first_word (spaced (w ∷ ws)) ≡ w
 next_is w ws h = ap (take_while is_word_byte) (blank_first (w ++ spaced ws)) ∙ first_is w ws h
 
-pub behind_next : (w : List ℕ) (ws : List (List ℕ)) → IsWord w → behind_word (spaced (w ∷ ws)) ≡ spaced ws
-behind_next w ws h = ap (λ (t : List ℕ). drop (prefix_len is_word_byte t) t) (blank_first (w ++ spaced ws)) ∙ behind_is w ws h
+pub after_next : (w : List ℕ) (ws : List (List ℕ)) → IsWord w → after_word (spaced (w ∷ ws)) ≡ spaced ws
+after_next w ws h = ap (λ (t : List ℕ). drop (prefix_len is_word_byte t) t) (blank_first (w ++ spaced ws)) ∙ after_is w ws h
 
 -- ---- lines
 

@@ -55,10 +55,10 @@ added level (Close pad) = closed level.outer level.bytes pad
 -- ---- how the program keeps them
 
 -- the bytes of all levels, one behind the other, with a length of 0 in the head of each open group; and where these begin
-abbrev pub Stands : List Frame → List ℕ → List ℕ → List Opened → Type 0
-Stands [] bytes out groups = (out ≡ bytes) × (groups ≡ [])
-Stands (f ∷ fs) bytes out groups = (o : List ℕ) × (rest : List Opened) × (groups ≡ rest ++ record { place = length o; head = f.head } ∷ [])
-    × (out ≡ o ++ (front_bytes f.head 0 ++ bytes)) × Stands fs f.before o rest
+abbrev pub Occurs : List Frame → List ℕ → List ℕ → List Opened → Type 0
+Occurs [] bytes out groups = (out ≡ bytes) × (groups ≡ [])
+Occurs (f ∷ fs) bytes out groups = (o : List ℕ) × (rest : List Opened) × (groups ≡ rest ++ record { place = length o; head = f.head } ∷ [])
+    × (out ≡ o ++ (front_bytes f.head 0 ++ bytes)) × Occurs fs f.before o rest
 
 -- the bytes that are read were added, unless memory was refused
 abbrev pub IsAppended : Result (List ℕ) Kind → Result (Unit {0}) Misread → List ℕ → List ℕ → Type 0
@@ -66,5 +66,5 @@ IsAppended read (Ok u) old new = (avp : List ℕ) × (read ≡ Ok avp) × (new �
 IsAppended read (Err e) old new = Fails e read
 
 abbrev pub IsAdded : Result Level Kind → Result (Unit {0}) Misread → List ℕ → List Opened → Type 0
-IsAdded read (Ok u) out groups = (level : Level) × (read ≡ Ok level) × Stands level.outer level.bytes out groups
+IsAdded read (Ok u) out groups = (level : Level) × (read ≡ Ok level) × Occurs level.outer level.bytes out groups
 IsAdded read (Err e) out groups = Fails e read

@@ -9,7 +9,7 @@ use Rattle.dia_text.specs.declared.fault.Kind.TheVariants.{Syntax, Value}
 use Rattle.dia_text.specs.declared.fault.Wanted.{Wanted}
 use Rattle.dia_text.specs.declared.fault.Wanted.TheVariants.{Number, AvpLength, Bytes}
 use Rattle.dia_text.specs.declared.fault.Misfit.{Misfit}
-use Rattle.dia_text.specs.Words.{first_word, behind_word}
+use Rattle.dia_text.specs.Words.{first_word, after_word}
 use Rattle.dia_text.specs.Numbers.{number_below, hex_byte_of, within}
 use Rattle.dia_text.specs.Reading.{◌>>=◌, some_or, at_word}
 
@@ -17,13 +17,13 @@ use Rattle.dia_text.specs.Reading.{◌>>=◌, some_or, at_word}
 unfoldable pub number_field : List ℕ → Option ℕ → Wanted → List ℕ → Result (ℕ × List ℕ) Misfit
 number_field keyword default wanted text =
     if same_bytes (first_word text) keyword
-    then (at_word (behind_word text) Number (some_or (number_below (2 ^ 32) (first_word (behind_word text))) Value) >>= λ n. Ok (n, behind_word (behind_word text)))
+    then (at_word (after_word text) Number (some_or (number_below (2 ^ 32) (first_word (after_word text))) Value) >>= λ n. Ok (n, after_word (after_word text)))
     else (at_word text wanted (some_or default Syntax) >>= λ n. Ok (n, text))
 
 -- what follows the letter at the front
-abbrev pub behind_letter : ℕ → List ℕ → Option (List ℕ)
-behind_letter letter [] = None
-behind_letter letter (c ∷ cs) = if c == letter then Some cs else None
+abbrev pub after_letter : ℕ → List ℕ → Option (List ℕ)
+after_letter letter [] = None
+after_letter letter (c ∷ cs) = if c == letter then Some cs else None
 
 abbrev pub letter_then : ℕ → (List ℕ → Option ℕ) → List ℕ → Option (List ℕ) → Option ℕ
 letter_then flag more word None = more word
@@ -33,7 +33,7 @@ letter_then flag more word (Some rest) = option_map (λ n. flag + n) (more rest)
 abbrev pub letters_value : List (ℕ × ℕ) → List ℕ → Option ℕ
 letters_value [] [] = Some 0
 letters_value [] (c ∷ cs) = None
-letters_value (l ∷ ls) word = letter_then l.1 (letters_value ls) word (behind_letter l.0 word)
+letters_value (l ∷ ls) word = letter_then l.1 (letters_value ls) word (after_letter l.0 word)
 
 -- flags: a dash for none, two hexadecimal digits, or letters
 abbrev pub flags_of : List (ℕ × ℕ) → List ℕ → Option ℕ
@@ -45,14 +45,14 @@ flags_of letters (c ∷ cs) =
 unfoldable pub flags_field : List (ℕ × ℕ) → Wanted → Option ℕ → Wanted → List ℕ → Result (ℕ × List ℕ) Misfit
 flags_field letters flags default wanted text =
     if same_bytes (first_word text) (codes "flags")
-    then (at_word (behind_word text) flags (some_or (flags_of letters (first_word (behind_word text))) Value) >>= λ n. Ok (n, behind_word (behind_word text)))
+    then (at_word (after_word text) flags (some_or (flags_of letters (first_word (after_word text))) Value) >>= λ n. Ok (n, after_word (after_word text)))
     else (at_word text wanted (some_or default Syntax) >>= λ n. Ok (n, text))
 
 -- an AVP Length that its field can say
 unfoldable pub length_field : List ℕ → Result (Option ℕ × List ℕ) Misfit
 length_field text =
     if same_bytes (first_word text) (codes "length")
-    then (at_word (behind_word text) AvpLength (some_or (number_below (2 ^ 24) (first_word (behind_word text))) Value) >>= λ n. Ok (Some n, behind_word (behind_word text)))
+    then (at_word (after_word text) AvpLength (some_or (number_below (2 ^ 24) (first_word (after_word text))) Value) >>= λ n. Ok (Some n, after_word (after_word text)))
     else Ok (None, text)
 
 abbrev pub decoded : Result (List ℕ) FromHexError → Result (List ℕ) Kind
@@ -67,5 +67,5 @@ bytes_of (c ∷ cs) = if c == 120 then decoded (decode_of cs) else Err Value
 unfoldable pub padding_field : List ℕ → Result (Option (List ℕ) × List ℕ) Misfit
 padding_field text =
     if same_bytes (first_word text) (codes "pad")
-    then (at_word (behind_word text) Bytes (bytes_of (first_word (behind_word text))) >>= λ bytes. Ok (Some bytes, behind_word (behind_word text)))
+    then (at_word (after_word text) Bytes (bytes_of (first_word (after_word text))) >>= λ bytes. Ok (Some bytes, after_word (after_word text)))
     else Ok (None, text)

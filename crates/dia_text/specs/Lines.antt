@@ -12,7 +12,7 @@ use Rattle.dia_text.specs.declared.commands.Start.{Start}
 use Rattle.dia_text.specs.declared.line.Head.{Head}
 use Rattle.dia_text.specs.declared.line.Line.{Line}
 use Rattle.dia_text.specs.declared.line.Line.TheVariants as line
-use Rattle.dia_text.specs.Words.{first_word, behind_word}
+use Rattle.dia_text.specs.Words.{first_word, after_word}
 use Rattle.dia_text.specs.Numbers.{number_below}
 use Rattle.dia_text.specs.Reading.{◌>>=◌, some_or, misfit, at_word}
 use Rattle.dia_text.specs.Fields.{number_field, flags_field, length_field, padding_field}
@@ -50,7 +50,7 @@ plain_line (line.Close padding) = Close (option_map (λ p. p.items) padding)
 unfoldable pub head_at : Dictionary → List ℕ → Result (Head × List ℕ) Misfit
 head_at d text = do
   code ← at_word text want.AvpName (code_of d (first_word text))
-  flags ← flags_field avp_letters want.AvpFlags (Some (default_flags d code)) want.AvpFlags (behind_word text)
+  flags ← flags_field avp_letters want.AvpFlags (Some (default_flags d code)) want.AvpFlags (after_word text)
   len ← length_field flags.1
   Ok (record { code = code; flags = flags.0; said_length = len.0 }, len.1)
 
@@ -76,13 +76,13 @@ close_at text = do
 unfoldable pub avp_at : Dictionary → List ℕ → Result PlainLine Misfit
 avp_at d text = do
   head ← head_at d text
-  if same_bytes (first_word head.1) (codes "{") then open_at head.0 (behind_word head.1) else leaf_at d head.0 head.1
+  if same_bytes (first_word head.1) (codes "{") then open_at head.0 (after_word head.1) else leaf_at d head.0 head.1
 
 -- a line in a message, behind its header
 unfoldable pub line_of : Dictionary → List ℕ → Result PlainLine Misfit
 line_of d text =
     if length (first_word text) == 0 then Ok Blank
-    else if same_bytes (first_word text) (codes "}") then close_at (behind_word text)
+    else if same_bytes (first_word text) (codes "}") then close_at (after_word text)
     else avp_at d text
 
 -- ---- the line of a header
@@ -91,13 +91,13 @@ line_of d text =
 unfoldable pub start_at : Dictionary → List ℕ → Result (Start × List ℕ) Misfit
 start_at d text =
     if same_bytes (first_word text) (codes "code")
-    then (at_word (behind_word text) want.CommandCode (some_or (number_below (2 ^ 24) (first_word (behind_word text))) Value) >>= λ code.
-    Ok (record { code = code; flags = None; app = None }, behind_word (behind_word text)))
-    else (at_word text want.CommandName (start_named d (first_word text)) >>= λ start. Ok (start, behind_word text))
+    then (at_word (after_word text) want.CommandCode (some_or (number_below (2 ^ 24) (first_word (after_word text))) Value) >>= λ code.
+    Ok (record { code = code; flags = None; app = None }, after_word (after_word text)))
+    else (at_word text want.CommandName (start_named d (first_word text)) >>= λ start. Ok (start, after_word text))
 
 -- the numbers behind the flags
-abbrev pub header_behind : Start → ℕ → List ℕ → Result Header Misfit
-header_behind start flags text = do
+abbrev pub header_after : Start → ℕ → List ℕ → Result Header Misfit
+header_after start flags text = do
   app ← number_field (codes "app") start.app want.App text
   hop ← number_field (codes "hop") None want.Hop app.1
   e2e ← number_field (codes "end") None want.End hop.1
@@ -108,7 +108,7 @@ unfoldable pub header_at : Dictionary → List ℕ → Result Header Misfit
 header_at d text = do
   start ← start_at d text
   flags ← flags_field header_letters want.CommandFlags start.0.flags want.Flags start.1
-  header_behind start.0 flags.0 flags.1
+  header_after start.0 flags.0 flags.1
 
 -- a line in front of the header, or the header
 unfoldable pub header_of : Dictionary → List ℕ → Result (Option Header) Misfit

@@ -21,7 +21,7 @@ use Rattle.dia_text.specs.declared.line.Head.{Head}
 use Rattle.dia_text.specs.Words.{unblanked, first_word}
 use Rattle.dia_text.specs.Reading.{◌>>=◌, FailsAt, misfit}
 use Rattle.dia_text.specs.Lines.{PlainLine, Blank, Leaf, Open, Close, head_at, line_of, header_of}
-use Rattle.dia_text.specs.Drafts.{Level, Frame, Stands, added}
+use Rattle.dia_text.specs.Drafts.{Level, Frame, Occurs, added}
 
 abbrev pub lines : List ℕ → List (List ℕ)
 lines text = slice_split (λ b. b == 10) text
@@ -81,7 +81,7 @@ line_added d l level = line_of d l >>= λ line. in_line d l line (added level li
 
 -- the line was added, unless memory was refused
 abbrev pub IsTaken : Result Level Misfit → Result (Unit {0}) NotRead → List ℕ → List Opened → Type 0
-IsTaken read (Ok u) out groups = (level : Level) × (read ≡ Ok level) × Stands level.outer level.bytes out groups
+IsTaken read (Ok u) out groups = (level : Level) × (read ≡ Ok level) × Occurs level.outer level.bytes out groups
 IsTaken read (Err e) out groups = FailsAt e read
 
 -- the lines behind the first n, which end with the line of the header
@@ -136,12 +136,12 @@ abbrev pub digits_line : List ℕ → List ℕ
 digits_line bytes = flat_map hex_byte bytes ++ (10 ∷ [])
 
 -- the line of a message that is written behind n lines of the text, or its fault by its line in the text
-abbrev pub told_behind : ℕ → Result (List ℕ) Fault → Result (List ℕ) Fault
-told_behind n (Ok bytes) = Ok (digits_line bytes)
-told_behind n (Err f) = Err (further n f)
+abbrev pub recorded_after : ℕ → Result (List ℕ) Fault → Result (List ℕ) Fault
+recorded_after n (Ok bytes) = Ok (digits_line bytes)
+recorded_after n (Err f) = Err (further n f)
 
 abbrev pub part_text : Dictionary → ℕ → List (List ℕ) → Result (List ℕ) Fault
-part_text d n ls = if has_word ls then told_behind n (message_from d 0 ls) else Ok []
+part_text d n ls = if has_word ls then recorded_after n (message_from d 0 ls) else Ok []
 
 -- one text behind another, or the first fault
 abbrev pub then_text : Result (List ℕ) Fault → Result (List ℕ) Fault → Result (List ℕ) Fault
@@ -174,6 +174,6 @@ abbrev pub IsWithin : ℕ → NotMade → Type 0
 IsWithin n (not_made.Fault f) = f.line ≤ n
 IsWithin n not_made.NoMemory = Unit {0}
 
-abbrev pub behind_lines : ℕ → NotMade → NotMade
-behind_lines n (not_made.Fault f) = not_made.Fault (further n f)
-behind_lines n not_made.NoMemory = not_made.NoMemory
+abbrev pub after_lines : ℕ → NotMade → NotMade
+after_lines n (not_made.Fault f) = not_made.Fault (further n f)
+after_lines n not_made.NoMemory = not_made.NoMemory

@@ -23,15 +23,15 @@ abbrev pub IsOpened : Dictionary → PlainAvp → Type 0
 IsOpened d v = (format_at d (code_at v) ≡ Some Grouped) × AreAvps v.bytes
 
 -- what stands behind the data of an AVP that these bytes spell
-abbrev pub behind_data : PlainAvp → List ℕ → List ℕ
-behind_data v front = drop (avp_length v) front
+abbrev pub after_data : PlainAvp → List ℕ → List ℕ
+after_data v front = drop (avp_length v) front
 
 -- the lines of a level of AVPs
 pub data IsLevelText (d : Dictionary) : List ℕ → List (List ℕ) → Type 0 where
   end : {level : List ℕ} {lines : List (List ℕ)} → level ≡ [] → lines ≡ [] → IsLevelText d level lines
   leaf : {level : List ℕ} {lines : List (List ℕ)} (v : PlainAvp) (front rest word : List ℕ) (more : List (List ℕ))
       → Spells v front → level ≡ front ++ rest → ¬ IsOpened d v → IsWordOf d v word
-      → IsLevelText d rest more → lines ≡ leaf_line d v word (behind_data v front) ∷ more → IsLevelText d level lines
+      → IsLevelText d rest more → lines ≡ leaf_line d v word (after_data v front) ∷ more → IsLevelText d level lines
   group : {level : List ℕ} {lines : List (List ℕ)} (v : PlainAvp) (front rest : List ℕ) (members more : List (List ℕ))
       → Spells v front → level ≡ front ++ rest → IsOpened d v
       → IsLevelText d v.bytes members → IsLevelText d rest more
@@ -65,8 +65,8 @@ HasNoText NoMemory bytes = ⊤
 -- ---- what the program adds
 
 -- the bytes behind the data, where the level begins with the AVP
-abbrev pub BehindData : PlainAvp → List ℕ → List ℕ → List ℕ → Type 0
-BehindData v level rest pad = (front : List ℕ) → Spells v front → level ≡ front ++ rest → pad ≡ behind_data v front
+abbrev pub AfterData : PlainAvp → List ℕ → List ℕ → List ℕ → Type 0
+AfterData v level rest pad = (front : List ℕ) → Spells v front → level ≡ front ++ rest → pad ≡ after_data v front
 
 -- the word of data was added
 abbrev pub AddsValueWord : Option PlainFormat → List ℕ → List ℕ → List ℕ → Type 0

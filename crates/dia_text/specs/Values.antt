@@ -16,10 +16,10 @@ use Rattle.dia_text.specs.declared.fault.Kind.TheVariants.{Syntax, Value}
 use Rattle.dia_text.specs.declared.fault.Wanted.{Wanted}
 use Rattle.dia_text.specs.declared.fault.Wanted.TheVariants as want
 use Rattle.dia_text.specs.declared.fault.Misfit.{Misfit}
-use Rattle.dia_text.specs.Words.{unblanked, first_word, behind_word}
+use Rattle.dia_text.specs.Words.{unblanked, first_word, after_word}
 use Rattle.dia_text.specs.Numbers.{number_of, number_below, signed_below, hex_byte_of}
 use Rattle.dia_text.specs.Reading.{◌>>=◌, some_or, at_word}
-use Rattle.dia_text.specs.Fields.{behind_letter, bytes_of}
+use Rattle.dia_text.specs.Fields.{after_letter, bytes_of}
 
 -- the bytes of all parts, if each has some
 abbrev pub each : (List ℕ → Option (List ℕ)) → List (List ℕ) → Option (List ℕ)
@@ -62,14 +62,14 @@ address_of word =
 unfoldable pub family_at : List ℕ → Result (List ℕ × List ℕ) Misfit
 family_at text = do
   family ← at_word text want.Family (number_bytes 2 (number_below (2 ^ 16) (first_word text)))
-  address ← at_word (behind_word text) want.Bytes (bytes_of (first_word (behind_word text)))
-  Ok (family ++ address, behind_word (behind_word text))
+  address ← at_word (after_word text) want.Bytes (bytes_of (first_word (after_word text)))
+  Ok (family ++ address, after_word (after_word text))
 
 -- ---- texts
 
 -- what stands between a backslash and the next one: `x` and two digits for a byte, and bytes that stand for themselves
 abbrev pub escaped : List ℕ → Option (List ℕ)
-escaped text = option_and_then (λ rest. option_map (λ byte. byte ∷ drop 2 rest) (hex_byte_of (take 2 rest))) (behind_letter 120 text)
+escaped text = option_and_then (λ rest. option_map (λ byte. byte ∷ drop 2 rest) (hex_byte_of (take 2 rest))) (after_letter 120 text)
 
 -- the parts between backslashes: in the first one each byte stands for itself
 abbrev pub unescaped : List (List ℕ) → Option (List ℕ)
@@ -160,8 +160,8 @@ value_wanted format (c ∷ cs) = format_wanted format
 -- a value of words, and what follows it
 unfoldable pub words_at : Option PlainFormat → List ℕ → Result (List ℕ × List ℕ) Misfit
 words_at format text =
-    if is_address format && same_bytes (first_word text) (codes "family") then family_at (behind_word text)
-    else (at_word text (value_wanted format (first_word text)) (value_of format (first_word text)) >>= λ bytes. Ok (bytes, behind_word text))
+    if is_address format && same_bytes (first_word text) (codes "family") then family_at (after_word text)
+    else (at_word text (value_wanted format (first_word text)) (value_of format (first_word text)) >>= λ bytes. Ok (bytes, after_word text))
 
 -- a value of words, or of what stands behind an opening quote
 abbrev pub value_or_text : Option PlainFormat → List ℕ → Option (List ℕ) → Result (List ℕ × List ℕ) Misfit
@@ -170,4 +170,4 @@ value_or_text format text (Some rest) = at_word text (format_wanted format) (if 
 
 -- a value, and what follows it
 unfoldable pub value_at : Option PlainFormat → List ℕ → Result (List ℕ × List ℕ) Misfit
-value_at format text = value_or_text format text (behind_letter 34 (unblanked text))
+value_at format text = value_or_text format text (after_letter 34 (unblanked text))

@@ -17,5 +17,5 @@ unblanked text = drop (prefix_len is_blank text) text
 abbrev pub first_word : List ℕ → List ℕ
 first_word text = take_while is_word_byte (unblanked text)
 
-abbrev pub behind_word : List ℕ → List ℕ
-behind_word text = drop (prefix_len is_word_byte (unblanked text)) (unblanked text)
+abbrev pub after_word : List ℕ → List ℕ
+after_word text = drop (prefix_len is_word_byte (unblanked text)) (unblanked text)

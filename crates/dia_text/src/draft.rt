@@ -8,7 +8,7 @@ ghost use Rattle.dia_wire.specs.Written.{padding, vendor_bytes};
 ghost use Rattle.dia_text.specs.Reading.{Gives};
 ghost use Rattle.dia_text.specs.Lines.{plain_line, Open, Close};
 ghost use Rattle.dia_text.specs.Drafts.{front_bytes, length_of, end_bytes, avp_of};
-ghost use Rattle.dia_text.specs.Drafts.{Level, Stands, IsAppended, IsAdded, added};
+ghost use Rattle.dia_text.specs.Drafts.{Level, Occurs, IsAppended, IsAdded, added};
 
 use crate::fault::{Kind, Misread};
 use crate::line::{Head, Line};
@@ -33,8 +33,8 @@ pub(crate) fn add(
     groups: &mut Vec<Opened>,
     line: &Line,
 ) -> Result<(), Misread>
-    requires { (level : Level) × Stands level.outer level.bytes out.old.items groups.old.items }
-    ensures { (level : Level) → Stands level.outer level.bytes out.old.items groups.old.items
+    requires { (level : Level) × Occurs level.outer level.bytes out.old.items groups.old.items }
+    ensures { (level : Level) → Occurs level.outer level.bytes out.old.items groups.old.items
         → IsAdded (added level (plain_line line.now)) result out.new.items groups.new.items }
 {
     match line {
@@ -145,7 +145,7 @@ pub(crate) fn push_byte_and_u24(out: &mut Vec<u8>, byte: u8, number: u32) -> Res
 }
 
 fn open_group(out: &mut Vec<u8>, groups: &mut Vec<Opened>, head: &Head) -> Result<(), Misread>
-    ensures { (level : Level) → Stands level.outer level.bytes out.old.items groups.old.items
+    ensures { (level : Level) → Occurs level.outer level.bytes out.old.items groups.old.items
         → IsAdded (added level (Open head.now)) result out.new.items groups.new.items }
 {
     let place = out.len();
@@ -160,8 +160,8 @@ fn close_group(
     groups: &mut Vec<Opened>,
     pad: &Option<Vec<u8>>,
 ) -> Result<(), Misread>
-    requires { (level : Level) × Stands level.outer level.bytes out.old.items groups.old.items }
-    ensures { (level : Level) → Stands level.outer level.bytes out.old.items groups.old.items
+    requires { (level : Level) × Occurs level.outer level.bytes out.old.items groups.old.items }
+    ensures { (level : Level) → Occurs level.outer level.bytes out.old.items groups.old.items
         → IsAdded (added level (Close (option_map (λ p. p.items) pad.now))) result
         out.new.items groups.new.items }
 {

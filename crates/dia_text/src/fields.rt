@@ -4,7 +4,7 @@ ghost use Rattle.std.specs.Prelude.{option_and_then};
 ghost use Rattle.std.specs.Option.{option_map};
 ghost use Rattle.dia_text.specs.Fields.{number_field, flags_field, flags_of};
 ghost use Rattle.dia_text.specs.Fields.{length_field, padding_field, bytes_of};
-ghost use Rattle.dia_text.specs.Fields.{letters_value, behind_letter, decoded};
+ghost use Rattle.dia_text.specs.Fields.{letters_value, after_letter, decoded};
 ghost use Rattle.hex.specs.Hex.{decode_of};
 ghost use Rattle.dia_text.specs.Numbers.{number_below, within};
 ghost use Rattle.dia_text.specs.Reading.{Gives, Reads, some_or, at_word};
@@ -28,10 +28,10 @@ pub(crate) fn number_field<'a>(
     ensures { Reads (λ x. (x.0, x.1.now)) result
         (number_field keyword.now default wanted text.entry.now) }
 {
-    let (word, behind) = next_word(text);
+    let (word, following) = next_word(text);
     if word == keyword {
-        let number = number_at(behind)?;
-        let (_, rest) = next_word(behind);
+        let number = number_at(following)?;
+        let (_, rest) = next_word(following);
         Ok((number, rest))
     } else {
         let number = default_at(text, wanted, default)?;
@@ -53,10 +53,10 @@ pub(crate) fn flags_field<'a>(
     ensures { Reads (λ x. (x.0, x.1.now)) result
         (flags_field letters.now flags default wanted text.entry.now) }
 {
-    let (word, behind) = next_word(text);
+    let (word, following) = next_word(text);
     if word == b"flags".as_slice() {
-        let found = flags_at(letters, flags, behind)?;
-        let (_, rest) = next_word(behind);
+        let found = flags_at(letters, flags, following)?;
+        let (_, rest) = next_word(following);
         Ok((found, rest))
     } else {
         let found = default_at(text, wanted, default)?;
@@ -129,10 +129,10 @@ fn flags_by_letters(letters: &[(u8, u8)], word: &[u8]) -> Option<u8>
 pub(crate) fn length_field(text: &[u8]) -> Result<(Option<u32>, &[u8]), NotRead>
     ensures { Reads (λ x. (x.0, x.1.now)) result (length_field text.entry.now) }
 {
-    let (word, behind) = next_word(text);
+    let (word, following) = next_word(text);
     if word == b"length".as_slice() {
-        let length = three_byte_number(behind, Wanted::AvpLength)?;
-        let (_, rest) = next_word(behind);
+        let length = three_byte_number(following, Wanted::AvpLength)?;
+        let (_, rest) = next_word(following);
         Ok((Some(length), rest))
     } else {
         Ok((None, text))
@@ -158,10 +158,10 @@ pub(crate) fn padding_field(alloc: Global, text: &[u8]) -> Result<(Option<Vec<u8
     ensures { Reads (λ x. (option_map (λ bytes. bytes.items) x.0, x.1.now)) result
         (padding_field text.entry.now) }
 {
-    let (word, behind) = next_word(text);
+    let (word, following) = next_word(text);
     if word == b"pad".as_slice() {
-        let bytes = bytes_at(alloc, behind)?;
-        let (_, rest) = next_word(behind);
+        let bytes = bytes_at(alloc, following)?;
+        let (_, rest) = next_word(following);
         Ok((Some(bytes), rest))
     } else {
         Ok((None, text))
@@ -209,20 +209,20 @@ fn letters_value(letters: &[(u8, u8)], word: &[u8]) -> Option<u32>
     let mut total = 0u32;
     let mut rest = word;
     for row in letters {
-        if let Some(behind) = behind_letter(row.0, rest) {
+        if let Some(following) = after_letter(row.0, rest) {
             total += u32::from(row.1);
-            rest = behind;
+            rest = following;
         }
     }
     if rest.is_empty() { Some(total) } else { None }
 }
 
 /// What follows a byte at the front.
-pub(crate) fn behind_letter(letter: u8, word: &[u8]) -> Option<&[u8]>
-    ensures { option_copied result ≡ behind_letter letter word.entry.now }
+pub(crate) fn after_letter(letter: u8, word: &[u8]) -> Option<&[u8]>
+    ensures { option_copied result ≡ after_letter letter word.entry.now }
 {
     match word {
-        [first, behind @ ..] if *first == letter => Some(behind),
+        [first, following @ ..] if *first == letter => Some(following),
         _ => None,
     }
 }

@@ -3,7 +3,7 @@ ghost use Rattle.std.specs.Prelude.{◌≡◌, ◌<◌, ◌^◌, IfOk, IfSome};
 ghost use Rattle.dia_text.specs.Reading.{Reads, at_word};
 ghost use Rattle.dia_text.specs.Lines.{plain_line, no_more, head_at, leaf_at};
 ghost use Rattle.dia_text.specs.Lines.{open_at, close_at, avp_at, line_of};
-ghost use Rattle.dia_text.specs.Lines.{start_at, header_behind, header_at, header_of};
+ghost use Rattle.dia_text.specs.Lines.{start_at, header_after, header_at, header_of};
 ghost use Rattle.dia_text.specs.Keys.{code_of, start_named};
 ghost use Rattle.dia_text.specs.Words.{first_word};
 
@@ -163,12 +163,12 @@ fn header_at<B: Book>(named: &NamedBook<'_, B>, text: &[u8]) -> Result<Header, N
         Wanted::Flags,
         rest,
     )?;
-    header_behind(&start, flags, rest)
+    header_after(&start, flags, rest)
 }
 
 /// The header of this start and these flags, with the numbers behind them.
-fn header_behind(start: &Start, flags: u8, text: &[u8]) -> Result<Header, NotRead>
-    ensures value { Reads (λ header. header) result (header_behind start.now flags text.now) }
+fn header_after(start: &Start, flags: u8, text: &[u8]) -> Result<Header, NotRead>
+    ensures value { Reads (λ header. header) result (header_after start.now flags text.now) }
     ensures code { IfOk result (λ header. header.code ≡ start.now.code) }
 {
     let (app, rest) = number_field(b"app", start.app, Wanted::App, text)?;
@@ -193,10 +193,10 @@ fn start_at<'a, B: Book>(
         (start_at named.now text.entry.now) }
     ensures small { IfOk result (λ x. x.0.code < 2 ^ 24) }
 {
-    let (word, behind) = next_word(text);
+    let (word, following) = next_word(text);
     if word == b"code".as_slice() {
-        let code = three_byte_number(behind, Wanted::CommandCode)?;
-        let (_, rest) = next_word(behind);
+        let code = three_byte_number(following, Wanted::CommandCode)?;
+        let (_, rest) = next_word(following);
         let start = Start {
             code,
             flags: None,
@@ -205,7 +205,7 @@ fn start_at<'a, B: Book>(
         Ok((start, rest))
     } else {
         let start = command_at(named, text)?;
-        Ok((start, behind))
+        Ok((start, following))
     }
 }
 

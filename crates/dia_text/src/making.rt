@@ -2,7 +2,7 @@
 ghost use Rattle.std.specs.Prelude.{◌≡◌, ◌<◌, ◌≤◌, ◌^◌, ◌++◌};
 ghost use Rattle.std.specs.Prelude.{IfOk, Err, IfErr, OnOk, length, drop, map};
 ghost use Rattle.dia_wire.specs.Written.{header_bytes};
-ghost use Rattle.dia_text.specs.Drafts.{Level, Stands};
+ghost use Rattle.dia_text.specs.Drafts.{Level, Occurs};
 ghost use Rattle.dia_text.specs.Made.{lines, made, body_from, no_level, finished};
 ghost use Rattle.dia_text.specs.Made.{line_added, placed, IsMade, IsBegun, IsTaken, IsWithin, message_from};
 ghost use Rattle.dia_text.specs.Made.{fault_at, brace_wanted, in_line, value_misfit};
@@ -131,8 +131,8 @@ fn take_line<B: Book>(
     groups: &mut Vec<Opened>,
     text: &[u8],
 ) -> Result<(), NotRead>
-    requires { (level : Level) × Stands level.outer level.bytes out.old.items groups.old.items }
-    ensures { (level : Level) → Stands level.outer level.bytes out.old.items groups.old.items
+    requires { (level : Level) × Occurs level.outer level.bytes out.old.items groups.old.items }
+    ensures { (level : Level) → Occurs level.outer level.bytes out.old.items groups.old.items
         → IsTaken (line_added named.now text.now level) result
         out.new.items groups.new.items }
 {
@@ -188,7 +188,7 @@ fn finish(
     line: usize,
 ) -> Result<Vec<u8>, NotMade>
     requires { header.now.code < 2 ^ 24 }
-    ensures made { (level : Level) → Stands level.outer level.bytes body.now.items groups.now.items
+    ensures made { (level : Level) → Occurs level.outer level.bytes body.now.items groups.now.items
         → IsMade result (finished header.now level.outer level.bytes line) }
     ensures line { IfErr result (IsWithin line) }
 {

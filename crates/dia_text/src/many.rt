@@ -6,7 +6,7 @@ ghost use Rattle.dia_data.specs.Shown.{hex_byte};
 ghost use Rattle.dia_text.specs.Words.{first_word};
 ghost use Rattle.dia_text.specs.Made.{is_empty, has_word, part_text, parts_text};
 ghost use Rattle.dia_text.specs.Made.{made_lines, digits_line, IsMadeText, IsPartAdded};
-ghost use Rattle.dia_text.specs.Made.{IsWithin, behind_lines, told_behind, message_from};
+ghost use Rattle.dia_text.specs.Made.{IsWithin, after_lines, recorded_after, message_from};
 
 use crate::fault::{Fault, Kind, NotMade, Wanted};
 use crate::making::{ends, lines_of, make_lines};
@@ -79,7 +79,7 @@ fn push_message<B: Book>(
 ) -> Result<(), NotMade>
     requires { at < 2 ^ 63 }
     ensures { IsPartAdded
-        (told_behind at (message_from named.now 0 (map (λ x. x.now) lines.now))) result
+        (recorded_after at (message_from named.now 0 (map (λ x. x.now) lines.now))) result
         (string_bytes out.old) (string_bytes out.new) }
 {
     match make_lines(alloc, named, lines) {
@@ -87,15 +87,15 @@ fn push_message<B: Book>(
             push_digits(out, &message)?;
             Ok(())
         }
-        Err(fault) => Err(behind(at, fault)),
+        Err(fault) => Err(following(at, fault)),
     }
 }
 
 /// The fault of lines that are behind others.
-fn behind(at: usize, fault: NotMade) -> NotMade
+fn following(at: usize, fault: NotMade) -> NotMade
     requires line { IsWithin (2 ^ 63) fault }
     requires small { at < 2 ^ 63 }
-    ensures { result ≡ behind_lines at fault }
+    ensures { result ≡ after_lines at fault }
 {
     match fault {
         NotMade::Fault(fault) => NotMade::Fault(Fault {

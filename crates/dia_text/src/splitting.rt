@@ -12,9 +12,9 @@ pub(crate) fn split(alloc: Global, byte: u8, text: &[u8]) -> Result<Vec<&[u8]>, 
 {
     let mut found = Vec::new(alloc);
     let mut rest = text;
-    while let Some((part, behind)) = split_once(byte, rest) {
+    while let Some((part, following)) = split_once(byte, rest) {
         found.push(part)?;
-        rest = behind;
+        rest = following;
     }
     found.push(rest)?;
     Ok(found)

@@ -7,7 +7,7 @@ ghost use Rattle.dia_text.specs.Drafts.{IsAppended};
 ghost use Rattle.dia_text.specs.ValueParts.{part_bytes};
 
 use crate::fault::{Kind, Misread};
-use crate::fields::behind_letter;
+use crate::fields::after_letter;
 use crate::numbers::{hex_byte_of, number_below};
 use hex::decode_to_slice;
 
@@ -73,16 +73,16 @@ fn push_escaped(out: &mut Vec<u8>, text: &[u8]) -> Result<(), Misread>
     ensures { IsAppended (some_or (escaped text.now) Value) result
         out.old.items out.new.items }
 {
-    let Some(behind) = behind_letter(b'x', text) else {
+    let Some(following) = after_letter(b'x', text) else {
         return Err(Misread::Fault(Kind::Value));
     };
-    if behind.len() < 2 {
+    if following.len() < 2 {
         return Err(Misread::Fault(Kind::Value));
     }
-    let Some(byte) = hex_byte_of(&behind[..2]) else {
+    let Some(byte) = hex_byte_of(&following[..2]) else {
         return Err(Misread::Fault(Kind::Value));
     };
     out.push(byte)?;
-    out.extend_from_slice(&behind[2..])?;
+    out.extend_from_slice(&following[2..])?;
     Ok(())
 }

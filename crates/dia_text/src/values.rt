@@ -6,7 +6,7 @@ ghost use Rattle.dia_data.specs.Plain.{plain_format};
 ghost use Rattle.dia_text.specs.declared.fault.Kind.TheVariants.{Value};
 ghost use Rattle.dia_text.specs.Words.{unblanked, first_word};
 ghost use Rattle.dia_text.specs.Numbers.{number_below};
-ghost use Rattle.dia_text.specs.Fields.{behind_letter};
+ghost use Rattle.dia_text.specs.Fields.{after_letter};
 ghost use Rattle.dia_text.specs.Reading.{Gives, Reads, some_or, at_word};
 ghost use Rattle.dia_text.specs.Values.{value_at, words_at, text_at, family_at, value_of, formatted};
 ghost use Rattle.dia_text.specs.Values.{number_bytes, address_of, in_family, each, unescaped};
@@ -16,7 +16,7 @@ ghost use Rattle.dia_text.specs.Values.{eight_read, formatted_as, four_read};
 ghost use Rattle.dia_text.specs.ValueParts.{part_bytes};
 
 use crate::fault::{Kind, Misread, NotRead, Wanted};
-use crate::fields::{behind_letter, bytes_at, bytes_of};
+use crate::fields::{after_letter, bytes_at, bytes_of};
 use crate::numbers::{number_below, number_of, signed_below};
 use crate::splitting::{split, split_once};
 use crate::value_parts::{Part, push_parts};
@@ -35,7 +35,7 @@ pub(crate) fn value_at<'a>(
     ensures { Reads (λ x. (x.0.items, x.1.now)) result
         (value_at (option_map (λ format. plain_format format.now) format.entry) text.entry.now) }
 {
-    match behind_quote(text) {
+    match after_quote(text) {
         None => words_at(alloc, format, text),
         Some(rest) => match quoted_at(alloc, format, rest) {
             Ok(value) => Ok(value),
@@ -103,10 +103,10 @@ fn value_wanted(format: Option<&Format>, word: &[u8]) -> Wanted
 }
 
 /// What follows the opening quote of a text.
-fn behind_quote(text: &[u8]) -> Option<&[u8]>
-    ensures { option_copied result ≡ behind_letter 34 (unblanked text.entry.now) }
+fn after_quote(text: &[u8]) -> Option<&[u8]>
+    ensures { option_copied result ≡ after_letter 34 (unblanked text.entry.now) }
 {
-    behind_letter(b'"', without_blanks(text))
+    after_letter(b'"', without_blanks(text))
 }
 
 fn may_be_text(format: Option<&Format>) -> bool
@@ -150,17 +150,12 @@ fn unescaped(alloc: Global, text: &[u8]) -> Result<Vec<u8>, Misread>
     let parts = split(alloc, b'\\', text)?;
     match parts.as_slice() {
         [] => Ok(Vec::new(alloc)),
-        [first, rest @ ..] => parts_behind(alloc, first, Part::Escaped, rest),
+        [first, rest @ ..] => parts_after(alloc, first, Part::Escaped, rest),
     }
 }
 
 /// These bytes, and then those of parts.
-fn parts_behind(
-    alloc: Global,
-    front: &[u8],
-    part: Part,
-    texts: &[&[u8]],
-) -> Result<Vec<u8>, Misread>
+fn parts_after(alloc: Global, front: &[u8], part: Part, texts: &[&[u8]]) -> Result<Vec<u8>, Misread>
     ensures { Gives (λ bytes. bytes.items) result (some_or (option_map (λ rest. front.now ++ rest)
         (each (part_bytes part) (map (λ x. x.now) texts.now))) Value) }
 {
@@ -202,10 +197,10 @@ fn family_at(alloc: Global, text: &[u8]) -> Result<(Vec<u8>, &[u8]), NotRead>
     ensures { Reads (λ x. (x.0.items, x.1.now)) result (family_at text.entry.now) }
 {
     let mut bytes = number_at(alloc, text)?;
-    let (_, behind) = next_word(text);
-    let address = bytes_at(alloc, behind)?;
+    let (_, following) = next_word(text);
+    let address = bytes_at(alloc, following)?;
     bytes.extend_from_slice(&address)?;
-    let (_, rest) = next_word(behind);
+    let (_, rest) = next_word(following);
     Ok((bytes, rest))
 }
 
@@ -301,7 +296,7 @@ fn in_family(alloc: Global, family: u8, part: Part, texts: &[&[u8]]) -> Result<V
     ensures { Gives (λ bytes. bytes.items) result
         (some_or (in_family family (each (part_bytes part) (map (λ x. x.now) texts.now))) Value) }
 {
-    parts_behind(alloc, &[0, family], part, texts)
+    parts_after(alloc, &[0, family], part, texts)
 }
 
 fn two(alloc: Global, number: Option<u64>) -> Result<Vec<u8>, Misread>

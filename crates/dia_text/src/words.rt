@@ -2,13 +2,13 @@
 ghost use Rattle.std.specs.Prelude.{◌≡◌, ◌≤◌, length};
 ghost use Rattle.std.specs.List.{prefix_len};
 ghost use Rattle.dia_text.specs.Words.{is_blank, is_word_byte};
-ghost use Rattle.dia_text.specs.Words.{unblanked, first_word, behind_word};
+ghost use Rattle.dia_text.specs.Words.{unblanked, first_word, after_word};
 
 /// The first word, which is empty where there is none, and what follows it. Blanks separate words, and `#` begins a
 /// comment, up to the end of the line.
 pub(crate) fn next_word(text: &[u8]) -> (&[u8], &[u8])
     ensures word { result.0.now ≡ first_word text.entry.now }
-    ensures rest { result.1.now ≡ behind_word text.entry.now }
+    ensures rest { result.1.now ≡ after_word text.entry.now }
 {
     let text = without_blanks(text);
     let end = word_len(text);

@@ -5,7 +5,7 @@ ghost use Rattle.dia_wire.specs.Wire.{plain_avp, BeginsWith};
 ghost use Rattle.dia_data.specs.Plain.{Grouped};
 ghost use Rattle.dia_text.specs.Keys.{format_at};
 ghost use Rattle.dia_text.specs.Made.{made};
-ghost use Rattle.dia_text.specs.TextOf.{AreAvps, IsTextOf, BehindData, AddsAvp, AddsLevel};
+ghost use Rattle.dia_text.specs.TextOf.{AreAvps, IsTextOf, AfterData, AddsAvp, AddsLevel};
 ghost use Rattle.dia_text.specs.TextOf.{HasNoText, HasNoLines};
 
 use crate::avp_lines::{push_leaf, push_open};
@@ -97,10 +97,10 @@ fn push_level<B: Book>(
     let mut rest = level;
     loop {
         match next_avp(rest) {
-            Ok(Some((avp, behind))) => {
-                let pad = behind_data(rest, &avp, behind);
+            Ok(Some((avp, following))) => {
+                let pad = after_data(rest, &avp, following);
                 let is_open = push_avp(text, book, &avp, pad)?;
-                rest = behind;
+                rest = following;
                 if is_open {
                     outer.push(rest)?;
                     rest = avp.bytes;
@@ -119,11 +119,11 @@ fn push_level<B: Book>(
 }
 
 /// The padding of the AVP at the front of a level.
-fn behind_data<'a>(level: &'a [u8], avp: &Avp<'_>, behind: &[u8]) -> &'a [u8]
-    requires { BeginsWith (plain_avp avp.now) level.now behind.now }
-    ensures { BehindData (plain_avp avp.now) level.entry.now behind.now result.now }
+fn after_data<'a>(level: &'a [u8], avp: &Avp<'_>, following: &[u8]) -> &'a [u8]
+    requires { BeginsWith (plain_avp avp.now) level.now following.now }
+    ensures { AfterData (plain_avp avp.now) level.entry.now following.now result.now }
 {
-    let end = level.len() - behind.len();
+    let end = level.len() - following.len();
     let front = &level[..end];
     &front[avp.length()..]
 }
@@ -169,7 +169,7 @@ fn are_avps(bytes: &[u8]) -> bool
     let mut rest = bytes;
     loop {
         match next_avp(rest) {
-            Ok(Some((_, behind))) => rest = behind,
+            Ok(Some((_, following))) => rest = following,
             Ok(None) => return true,
             Err(AvpFault::Length) => return false,
         }

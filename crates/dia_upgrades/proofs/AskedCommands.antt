@@ -34,8 +34,8 @@ module _ (d : Dictionary) (sound : IsDictionary d) (number : ℕ) (command : Pla
       subst IsCommandHead own.1 head
 
   -- a command's number is its place behind the groups
-  pub command_stands : Contains d.commands command → slice_get (definitions d) number ≡ Some command → IsCommandAt d number command
-  command_stands inside at = by (at_append (groups d) d.commands number command at)
+  pub command_occurs : Contains d.commands command → slice_get (definitions d) number ≡ Some command → IsCommandAt d number command
+  command_occurs inside at = by (at_append (groups d) d.commands number command at)
     where
       head : IsCommandHead command.head
       head = All-contains (λ (c : PlainDefinition). IsCommandHead c.head) d.commands command sound.command_heads inside

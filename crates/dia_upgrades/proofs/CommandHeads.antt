@@ -17,8 +17,8 @@ has_head (Command code class app p) is = refl
 has_head (Error p) is = refl
 
 -- a command has a head, at its place behind the groups
-pub head_stands : (d : Dictionary) (sound : IsDictionary d) (place : ℕ) → place < length d.commands → IsSome (head_at d (length (groups d) + place))
-head_stands d sound place less =
+pub head_occurs : (d : Dictionary) (sound : IsDictionary d) (place : ℕ) → place < length d.commands → IsSome (head_at d (length (groups d) + place))
+head_occurs d sound place less =
     let x = there_is d.commands place less in
     let head = All-contains (λ (c : PlainDefinition). IsCommandHead c.head) d.commands x.0 sound.command_heads (contains_in d.commands x.0 (in_at d.commands place x.0 x.1)) in
     subst (λ (o : Option PlainDefinition). IsSome (option_and_then (λ y. head_in y.head) o)) (sym (slice_get-append_right (groups d) d.commands place ∙ x.1)) (has_head x.0.head head)

@@ -8,7 +8,7 @@ use Rattle.std.proofs.lemmas.List.{append-nil, length-append, take-append-drop, 
 use Rattle.dia_io.specs.declared.RunFault.{RunFault}
 use Rattle.dia_io.specs.declared.RunFault.TheVariants.{Device, NoMemory}
 use Rattle.dia_io.specs.Writing.{AppendsFront}
-use Rattle.dia_accepted.specs.Accepted.{PlainEntry, PlainTold, left_of}
+use Rattle.dia_accepted.specs.Accepted.{PlainEntry, PlainRecorded, left_of}
 use Rattle.dia_accepted.specs.Seen.{is_command}
 use Rattle.dia_breaking.specs.Confirmed.{most_checked_together}
 use Rattle.dia_breaking.specs.Messages.{Stock}
@@ -18,27 +18,27 @@ use Rattle.dia_upgrades.specs.declared.lines.Listing.{Listing}
 use Rattle.dia_upgrades.specs.declared.pending.Pending.{Pending}
 use Rattle.dia_upgrades.specs.Places.{IsEachNew}
 use Rattle.dia_breaking.specs.Stocks.{IsStockOf}
-use Rattle.dia_upgrades.specs.Told.{AreBothParts, AreShortest, IsToldOf}
-use Rattle.dia_upgrades.specs.UnderWay.{AreAllPut, AreFirstLines, AreSeen, AreUnderWay, GoesOn, IsPut, IsUnderWay, Stands, StandsBehind, StandsPut, StopsIn, among, before, text_shown}
+use Rattle.dia_upgrades.specs.Recorded.{AreBothParts, AreShortest, IsRecordedOf}
+use Rattle.dia_upgrades.specs.UnderWay.{AreAllPut, AreFirstLines, AreSeen, AreUnderWay, GoesOn, IsPut, IsUnderWay, Occurs, OccursAfter, OccursPut, StopsIn, among, before, text_shown}
 use Rattle.dia_upgrades.proofs.Listings.{none_of_place}
-use Rattle.dia_upgrades.proofs.LinesToTell.{left_both, nothing_shown}
+use Rattle.dia_upgrades.proofs.LinesToReport.{left_both, nothing_shown}
 use Rattle.dia_upgrades.proofs.Parts.{both_more}
 use Rattle.dia_upgrades.proofs.Puts.{none_put}
 
 module _ (s : Sides) (k : Stock) (asked : Asked) (lengths : List ℕ) (forgets : Bool) (list : List PlainEntry) (begun : Option (List ℕ)) where
-  abbrev Tells : ℕ → ℕ → ℕ → List PlainTold → List PlainTold → Type 0
-  Tells = IsToldOf s k asked.messages asked.meaning lengths
+  abbrev Records : ℕ → ℕ → ℕ → List PlainRecorded → List PlainRecorded → Type 0
+  Records = IsRecordedOf s k asked.messages asked.meaning lengths
 
   -- the lines of the first commands are known, and put or pending
   pub record AreSome (places : List ℕ) (put : Option (List ℕ)) (listing : Listing) : Type 0 where
-    pub told : List PlainTold
-    pub apart : List PlainTold
+    pub recorded : List PlainRecorded
+    pub apart : List PlainRecorded
     pub place : ℕ
-    pub are_both : AreBothParts (IsToldOf s k asked.messages asked.meaning lengths) places most_checked_together listing.budget told apart
-    pub under_way : IsUnderWay asked forgets list place (length places) begun put listing told apart
+    pub are_both : AreBothParts (IsRecordedOf s k asked.messages asked.meaning lengths) places most_checked_together listing.budget recorded apart
+    pub under_way : IsUnderWay asked forgets list place (length places) begun put listing recorded apart
 
   pub none_yet : (put : Option (List ℕ)) (listing : Listing) (place : ℕ) → listing.budget ≡ most_checked_together → IsUnderWay asked forgets list place 0 begun put listing [] [] → AreSome [] put listing
-  none_yet put listing place all way = record { told = []; apart = []; place = place; are_both = (all, refl, refl); under_way = way }
+  none_yet put listing place all way = record { recorded = []; apart = []; place = place; are_both = (all, refl, refl); under_way = way }
 
   length_next : (places : List ℕ) (i d : ℕ) → i < length places → length (take (i + 1) places) ≡ length (take i places) + 1
   length_next places i d less = ap length (take_more places i d less) ∙ length-append (take i places) (get_or places i d ∷ [])
@@ -48,121 +48,121 @@ module _ (s : Sides) (k : Stock) (asked : Asked) (lengths : List ℕ) (forgets :
     visits = length (take i places) + 1
 
     -- the next command begins
-    module _ (next : (told apart : List PlainTold) → (forgets ≡ true → (list_any (is_command (get_or places i d)) told ≡ false) × (list_any (is_command (get_or places i d)) apart ≡ false))
-        → AreSeen asked forgets list some.place (length (take i places)) old.seen told apart → AreSeen asked forgets list (get_or places i d) visits begin.seen told apart)
+    module _ (next : (recorded apart : List PlainRecorded) → (forgets ≡ true → (list_any (is_command (get_or places i d)) recorded ≡ false) × (list_any (is_command (get_or places i d)) apart ≡ false))
+        → AreSeen asked forgets list some.place (length (take i places)) old.seen recorded apart → AreSeen asked forgets list (get_or places i d) visits begin.seen recorded apart)
         (pending : begin.pending ≡ old.pending) (budget : begin.budget ≡ old.budget) (new_ones : forgets ≡ true → IsEachNew places) (small : visits < 2 ^ 63) where
-      begins : IsUnderWay asked forgets list (get_or places i d) visits begun a begin some.told some.apart
+      begins : IsUnderWay asked forgets list (get_or places i d) visits begun a begin some.recorded some.apart
       begins =
           record {
-            seen = next some.told some.apart (λ e. none_of_place s k asked.messages asked.meaning lengths (get_or places i d) (take i places) most_checked_together old.budget some.told some.apart some.are_both (new_ones e i d less))
+            seen = next some.recorded some.apart (λ e. none_of_place s k asked.messages asked.meaning lengths (get_or places i d) (take i places) most_checked_together old.budget some.recorded some.apart some.are_both (new_ones e i d less))
                 some.under_way.seen;
-            is_put = subst (λ p. IsPut begun a p (text_shown asked (left_of list some.told))) (sym pending) some.under_way.is_put;
+            is_put = subst (λ p. IsPut begun a p (text_shown asked (left_of list some.recorded))) (sym pending) some.under_way.is_put;
           }
 
-      pub goes_next : (told apart : List PlainTold) → Tells (get_or places i d) begin.budget new.budget told apart → GoesOn asked (get_or places i d) a c begin new told apart → AreSome (take (i + 1) places) c new
-      goes_next told apart is goes = record {
-        told = some.told ++ told;
+      pub goes_next : (recorded apart : List PlainRecorded) → Records (get_or places i d) begin.budget new.budget recorded apart → GoesOn asked (get_or places i d) a c begin new recorded apart → AreSome (take (i + 1) places) c new
+      goes_next recorded apart is goes = record {
+        recorded = some.recorded ++ recorded;
         apart = some.apart ++ apart;
         place = get_or places i d;
-        are_both = both_more Tells places i d most_checked_together old.budget new.budget some.told some.apart told apart less some.are_both
-            (subst (λ (n : ℕ). Tells (get_or places i d) n new.budget told apart) budget is);
-        under_way = subst (λ (n : ℕ). IsUnderWay asked forgets list (get_or places i d) n begun c new (some.told ++ told) (some.apart ++ apart)) (sym (length_next places i d less))
-            (goes forgets list visits begun some.told some.apart small begins);
+        are_both = both_more Records places i d most_checked_together old.budget new.budget some.recorded some.apart recorded apart less some.are_both
+            (subst (λ (n : ℕ). Records (get_or places i d) n new.budget recorded apart) budget is);
+        under_way = subst (λ (n : ℕ). IsUnderWay asked forgets list (get_or places i d) n begun c new (some.recorded ++ recorded) (some.apart ++ apart)) (sym (length_next places i d less))
+            (goes forgets list visits begun some.recorded some.apart small begins);
       }
 
       -- or it stops there
       pub stops_there : AreShortest s.sender s.sends lengths → IsStockOf s lengths k → (fault : RunFault) → StopsIn s k asked lengths (get_or places i d) fault a c begin new
-          → (first : List PlainTold) × AreFirstLines s asked list places first × Stands fault begun c new.pending (text_shown asked first)
+          → (first : List PlainRecorded) × AreFirstLines s asked list places first × Occurs fault begun c new.pending (text_shown asked first)
       stops_there shortest is_stock fault (before stops) = (
-        left_of list some.told,
+        left_of list some.recorded,
         record {
           front = take i places;
           back = drop i places;
-          told = some.told;
+          recorded = some.recorded;
           apart = some.apart;
           more = [];
           parts = sym (take-append-drop i places);
-          are_told = record { lengths = lengths; stock = k; behind = old.budget; are_shortest = shortest; is_stock = is_stock; each = some.are_both };
-          left_are = sym (append-nil (left_of list some.told));
+          are_recorded = record { lengths = lengths; stock = k; following = old.budget; are_shortest = shortest; is_stock = is_stock; each = some.are_both };
+          left_are = sym (append-nil (left_of list some.recorded));
         },
-        subst (λ (xs : List PlainTold). Stands fault begun c new.pending (text_shown asked (left_of list xs))) (append-nil some.told)
-            (stops forgets list visits begun some.told some.apart small begins),
+        subst (λ (xs : List PlainRecorded). Occurs fault begun c new.pending (text_shown asked (left_of list xs))) (append-nil some.recorded)
+            (stops forgets list visits begun some.recorded some.apart small begins),
       )
-      stops_there shortest is_stock fault (among behind more rest others is stops) = (
-        left_of list (some.told ++ more),
+      stops_there shortest is_stock fault (among following more rest others is stops) = (
+        left_of list (some.recorded ++ more),
         record {
           front = take (i + 1) places;
           back = drop (i + 1) places;
-          told = some.told ++ (more ++ rest);
+          recorded = some.recorded ++ (more ++ rest);
           apart = some.apart ++ others;
           more = left_of list rest;
           parts = sym (take-append-drop (i + 1) places);
-          are_told = record {
+          are_recorded = record {
             lengths = lengths;
             stock = k;
-            behind = behind;
+            following = following;
             are_shortest = shortest;
             is_stock = is_stock;
-            each = both_more Tells places i d most_checked_together old.budget behind some.told some.apart (more ++ rest) others less some.are_both
-                (subst (λ (n : ℕ). Tells (get_or places i d) n behind (more ++ rest) others) budget is);
+            each = both_more Records places i d most_checked_together old.budget following some.recorded some.apart (more ++ rest) others less some.are_both
+                (subst (λ (n : ℕ). Records (get_or places i d) n following (more ++ rest) others) budget is);
           };
-          left_are = ap (left_of list) (sym (append_assoc some.told more rest)) ∙ left_both list (some.told ++ more) rest;
+          left_are = ap (left_of list) (sym (append_assoc some.recorded more rest)) ∙ left_both list (some.recorded ++ more) rest;
         },
-        stops forgets list visits begun some.told some.apart small begins,
+        stops forgets list visits begun some.recorded some.apart small begins,
       )
 
   -- all of them
   pub all_some : (places : List ℕ) (put : Option (List ℕ)) (listing : Listing) → AreShortest s.sender s.sends lengths → IsStockOf s lengths k → AreSome places put listing
       → AreUnderWay s asked forgets list places begun put listing
   all_some places put listing shortest is_stock some = record {
-    told = some.told;
+    recorded = some.recorded;
     apart = some.apart;
     place = some.place;
-    are_told = record { lengths = lengths; stock = k; behind = listing.budget; are_shortest = shortest; is_stock = is_stock; each = some.are_both };
+    are_recorded = record { lengths = lengths; stock = k; following = listing.budget; are_shortest = shortest; is_stock = is_stock; each = some.are_both };
     under_way = some.under_way;
   }
 
 -- ---- what is pending is put
 
-pub failed_behind : (U : Type 0) (fault : RunFault) (put new : Option (List ℕ)) (pending : Pending) → fault ≡ NoMemory
-    → ((begun : Option (List ℕ)) (text : List ℕ) → IsPut begun put pending text → AppendsFront begun new text) → StandsBehind {U = U} (Err fault) Device put new pending
-failed_behind U fault put new pending is front = subst (λ (f : RunFault). StandsBehind {U = U} (Err f) Device put new pending) (sym is) front
+pub failed_after : (U : Type 0) (fault : RunFault) (put new : Option (List ℕ)) (pending : Pending) → fault ≡ NoMemory
+    → ((begun : Option (List ℕ)) (text : List ℕ) → IsPut begun put pending text → AppendsFront begun new text) → OccursAfter {U = U} (Err fault) Device put new pending
+failed_after U fault put new pending is front = subst (λ (f : RunFault). OccursAfter {U = U} (Err f) Device put new pending) (sym is) front
 
 module _ (s : Sides) (asked : Asked) (forgets : Bool) (list : List PlainEntry) (places : List ℕ) (begun put new : Option (List ℕ)) (listing : Listing) where
   -- of all lines
-  all_first : (way : AreUnderWay s asked forgets list places begun put listing) → AreFirstLines s asked list places (left_of list way.told)
+  all_first : (way : AreUnderWay s asked forgets list places begun put listing) → AreFirstLines s asked list places (left_of list way.recorded)
   all_first way = record {
     front = places;
     back = [];
-    told = way.told;
+    recorded = way.recorded;
     apart = way.apart;
     more = [];
     parts = sym (append-nil places);
-    are_told = way.are_told;
-    left_are = sym (append-nil (left_of list way.told));
+    are_recorded = way.are_recorded;
+    left_are = sym (append-nil (left_of list way.recorded));
   }
 
-  pub rest_stands : {U : Type 0} (found : Result U RunFault) → OnOk found (AreUnderWay s asked forgets list places begun put listing)
-      → IfErr found (λ fault. (first : List PlainTold) × AreFirstLines s asked list places first × Stands fault begun put listing.pending (text_shown asked first))
-      → (fault : RunFault) → StandsBehind found fault put new listing.pending → (first : List PlainTold) × AreFirstLines s asked list places first × StandsPut fault begun new (text_shown asked first)
-  rest_stands (Ok u) way stops Device front = (left_of list way.told, all_first way, front begun (text_shown asked (left_of list way.told)) way.under_way.is_put)
-  rest_stands (Ok u) way stops NoMemory never = absurd never
-  rest_stands (Err NoMemory) way (first, are, stands) fault behind = (first, are, behind begun (text_shown asked first) stands)
-  rest_stands (Err Device) way (first, are, stands) Device (same, put_same) =
-      (first, are, subst (λ (o : Option (List ℕ)). AppendsFront begun o (text_shown asked first)) (sym put_same) stands)
-  rest_stands (Err Device) way (first, are, stands) NoMemory (same, put_same) = absurd (let z : NoMemory ≡ Device = same in cc)
+  pub rest_occurs : {U : Type 0} (found : Result U RunFault) → OnOk found (AreUnderWay s asked forgets list places begun put listing)
+      → IfErr found (λ fault. (first : List PlainRecorded) × AreFirstLines s asked list places first × Occurs fault begun put listing.pending (text_shown asked first))
+      → (fault : RunFault) → OccursAfter found fault put new listing.pending → (first : List PlainRecorded) × AreFirstLines s asked list places first × OccursPut fault begun new (text_shown asked first)
+  rest_occurs (Ok u) way stops Device front = (left_of list way.recorded, all_first way, front begun (text_shown asked (left_of list way.recorded)) way.under_way.is_put)
+  rest_occurs (Ok u) way stops NoMemory never = absurd never
+  rest_occurs (Err NoMemory) way (first, are, occurs) fault following = (first, are, following begun (text_shown asked first) occurs)
+  rest_occurs (Err Device) way (first, are, occurs) Device (same, put_same) =
+      (first, are, subst (λ (o : Option (List ℕ)). AppendsFront begun o (text_shown asked first)) (sym put_same) occurs)
+  rest_occurs (Err Device) way (first, are, occurs) NoMemory (same, put_same) = absurd (let z : NoMemory ≡ Device = same in cc)
 
   pub all_put : {U : Type 0} (found : Result U RunFault) → IsOk found → OnOk found (AreUnderWay s asked forgets list places begun put listing)
       → ((start : Option (List ℕ)) (text : List ℕ) → IsPut start put listing.pending text → Appends start new text) → AreAllPut s asked list places begun new listing.seen
   all_put (Ok u) ok way out = record {
-    told = way.told;
+    recorded = way.recorded;
     apart = way.apart;
     forgets = forgets;
     place = way.place;
     visits = length places;
-    are_told = way.are_told;
+    are_recorded = way.are_recorded;
     are_seen = way.under_way.seen;
-    is_put = out begun (text_shown asked (left_of list way.told)) way.under_way.is_put;
+    is_put = out begun (text_shown asked (left_of list way.recorded)) way.under_way.is_put;
   }
   all_put (Err fault) ok way out = absurd (let z : false ≡ true = ok in cc)
 
@@ -175,17 +175,17 @@ start asked forgets list put listing seen nothing =
 
 -- nothing was written of any line
 pub none_first : (s : Sides) (k : Stock) (asked : Asked) (list : List PlainEntry) (lengths places : List ℕ) (put : Option (List ℕ)) → AreShortest s.sender s.sends lengths → IsStockOf s lengths k
-    → (first : List PlainTold) × AreFirstLines s asked list places first × StandsPut NoMemory put put (text_shown asked first)
+    → (first : List PlainRecorded) × AreFirstLines s asked list places first × OccursPut NoMemory put put (text_shown asked first)
 none_first s k asked list lengths places put shortest is_stock = (
   [],
   record {
     front = [];
     back = places;
-    told = [];
+    recorded = [];
     apart = [];
     more = [];
     parts = refl;
-    are_told = record { lengths = lengths; stock = k; behind = most_checked_together; are_shortest = shortest; is_stock = is_stock; each = (refl, refl, refl) };
+    are_recorded = record { lengths = lengths; stock = k; following = most_checked_together; are_shortest = shortest; is_stock = is_stock; each = (refl, refl, refl) };
     left_are = refl;
   },
   subst (Appends put put) (sym (nothing_shown asked)) (Appends-nil put),

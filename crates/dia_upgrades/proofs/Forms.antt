@@ -2,16 +2,16 @@
 use Rattle.std.proofs.Common.{◌≡◌, ◌∙◌, ℕ, ◌+◌, ◌<◌, true, List, [], ◌∷◌, ◌++◌, Bor, Option, Result, Ok, Err, ap, get_or, length, map, sym, take, codes}
 use Rattle.std.specs.Prelude.{OnOk}
 use Rattle.std.specs.List.{flat_map}
-use Rattle.dia_accepted.specs.Accepted.{PlainTold}
+use Rattle.dia_accepted.specs.Accepted.{PlainRecorded}
 use Rattle.dia_breaking_json.specs.declared.Names.{Names}
 use Rattle.dia_upgrades.specs.declared.asked.Asked.{Asked}
 use Rattle.dia_upgrades.specs.declared.asked.Form.TheVariants.{Text, Json}
 use Rattle.dia_upgrades.specs.Forms.{line_in, object_in}
-use Rattle.dia_upgrades.specs.Told.{told_text, written}
+use Rattle.dia_upgrades.specs.Recorded.{recorded_text, written}
 use Rattle.dia_upgrades.specs.declared.reporting.Found.{Found}
 use Rattle.dia_upgrades.specs.declared.seen.Seen.{Seen}
 use Rattle.dia_upgrades.specs.UnderWay.{Ends, Finds, end_text, fails_of}
-use Rattle.dia_accepted.specs.Accepted.{PlainEntry, plain_entry, plain_told}
+use Rattle.dia_accepted.specs.Accepted.{PlainEntry, plain_entry, plain_recorded}
 use Rattle.dia_io.specs.Writing.{AppendsFront}
 use Rattle.dia_io.specs.declared.RunFault.{RunFault}
 use Rattle.dia_io.specs.declared.RunFault.TheVariants.{Device, NoMemory}
@@ -19,16 +19,16 @@ use Rattle.dia_run.specs.Texts.{line}
 use Rattle.std.proofs.lemmas.Grind.{flat_map-append}
 use Rattle.std.proofs.lemmas.List.{append-nil, map-append, take_more}
 use Rattle.dia_accepted.specs.declared.list.Entry.{Entry}
-use Rattle.dia_accepted.specs.declared.told.Told.{Told}
+use Rattle.dia_accepted.specs.declared.recorded.Recorded.{Recorded}
 use Rattle.std.specs.Global.{Vec}
 
 -- in words
-pub written_text : (asked : Asked) (told : List PlainTold) → asked.form ≡ Text → told_text told ≡ written asked told
-written_text asked told e = ap (λ f. flat_map (line_in f asked.once) told) (sym e)
+pub written_text : (asked : Asked) (recorded : List PlainRecorded) → asked.form ≡ Text → recorded_text recorded ≡ written asked recorded
+written_text asked recorded e = ap (λ f. flat_map (line_in f asked.once) recorded) (sym e)
 
 -- as JSON, where each cause is told once
-pub written_json : (asked : Asked) (names : Bor Names) (told : List PlainTold) → asked.form ≡ Json names → asked.once ≡ true → flat_map (object_in names.now true) told ≡ written asked told
-written_json asked names told e once = λ i. flat_map (line_in (sym e i) (sym once i)) told
+pub written_json : (asked : Asked) (names : Bor Names) (recorded : List PlainRecorded) → asked.form ≡ Json names → asked.once ≡ true → flat_map (object_in names.now true) recorded ≡ written asked recorded
+written_json asked names recorded e once = λ i. flat_map (line_in (sym e i) (sym once i)) recorded
 
 -- an object is a line
 pub object_shown : (written object : List ℕ) → written ≡ object → line written ++ [] ≡ line object
@@ -40,19 +40,19 @@ object_added (Err f) old new written object is e = tt
 
 -- what stands behind all lines isn't written whole
 pub ends_fault : {U : Type 0} (asked : Asked) (seen : Seen) (unused stale : Vec Entry) (old new : Option (List ℕ)) (fault : RunFault) (is : Found) (finds : Finds seen unused stale is)
-    → (r : Result U RunFault) → r ≡ Err fault → (r ≡ Err Device → AppendsFront old new (end_text asked seen.lines seen.is_some (map plain_told finds.causes.items) (fails_of asked stale))) → (r ≡ Err NoMemory → new ≡ old)
+    → (r : Result U RunFault) → r ≡ Err fault → (r ≡ Err Device → AppendsFront old new (end_text asked seen.lines seen.is_some (map plain_recorded finds.causes.items) (fails_of asked stale))) → (r ≡ Err NoMemory → new ≡ old)
     → Ends asked seen unused stale old new (Err fault)
 ends_fault asked seen unused stale old new Device is finds r e front nothing = (is, finds, front e)
 ends_fault asked seen unused stale old new NoMemory is finds r e front nothing = nothing e
 
 -- an object more
-pub objects_more : (f : PlainTold → List ℕ) (lines : List Told) (i : ℕ) (t : Told) → i < length lines → t ≡ get_or lines i t → (old new : List ℕ) → old ≡ flat_map f (map plain_told (take i lines))
-    → new ≡ old ++ f (plain_told t) → new ≡ flat_map f (map plain_told (take (i + 1) lines))
+pub objects_more : (f : PlainRecorded → List ℕ) (lines : List Recorded) (i : ℕ) (t : Recorded) → i < length lines → t ≡ get_or lines i t → (old new : List ℕ) → old ≡ flat_map f (map plain_recorded (take i lines))
+    → new ≡ old ++ f (plain_recorded t) → new ≡ flat_map f (map plain_recorded (take (i + 1) lines))
 objects_more f lines i t less is old new before added =
-    let more : map plain_told (take (i + 1) lines) ≡ map plain_told (take i lines) ++ plain_told t ∷ [] =
-    ap (map plain_told) (take_more lines i t less ∙ ap (λ (x : Told). take i lines ++ x ∷ []) (sym is)) ∙ map-append plain_told (take i lines) (t ∷ []) in
-    added ∙ ap (λ (o : List ℕ). o ++ f (plain_told t)) before ∙ ap (λ (o : List ℕ). flat_map f (map plain_told (take i lines)) ++ o) (sym (append-nil (f (plain_told t))))
-    ∙ sym (flat_map-append f (map plain_told (take i lines)) (plain_told t ∷ [])) ∙ ap (flat_map f) (sym more)
+    let more : map plain_recorded (take (i + 1) lines) ≡ map plain_recorded (take i lines) ++ plain_recorded t ∷ [] =
+    ap (map plain_recorded) (take_more lines i t less ∙ ap (λ (x : Recorded). take i lines ++ x ∷ []) (sym is)) ∙ map-append plain_recorded (take i lines) (t ∷ []) in
+    added ∙ ap (λ (o : List ℕ). o ++ f (plain_recorded t)) before ∙ ap (λ (o : List ℕ). flat_map f (map plain_recorded (take i lines)) ++ o) (sym (append-nil (f (plain_recorded t))))
+    ∙ sym (flat_map-append f (map plain_recorded (take i lines)) (plain_recorded t ∷ [])) ∙ ap (flat_map f) (sym more)
 
 -- a line of a stale entry more
 pub stale_more : (f : PlainEntry → List ℕ) (entries : List Entry) (i : ℕ) (e : Entry) → i < length entries → e ≡ get_or entries i e → (old new : List ℕ) → old ≡ flat_map f (map plain_entry (take i entries))

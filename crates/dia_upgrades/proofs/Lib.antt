@@ -3,11 +3,11 @@ pub mod AskedCommands
 pub mod CommandHeads
 pub mod Commands
 pub mod Forms
-pub mod LinesToTell
+pub mod LinesToReport
 pub mod Listings
 pub mod Outcomes
 pub mod Parts
 pub mod Puts
 pub mod Reports
-pub mod ToldCommands
-pub mod ToldLines
+pub mod RecordedCommands
+pub mod RecordedLines

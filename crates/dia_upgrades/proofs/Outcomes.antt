@@ -14,9 +14,9 @@ use Rattle.dia_io.specs.declared.Inputs.{Inputs}
 use Rattle.dia_io.specs.declared.Exit.{Exit}
 use Rattle.dia_io.specs.declared.Exit.TheVariants.{Yes, No, Bad}
 use Rattle.dia_io.specs.Inputs.{Holds, IsOver}
-use Rattle.dia_accepted.specs.Accepted.{PlainEntry, PlainTold, left_of, list_fault, max_list}
+use Rattle.dia_accepted.specs.Accepted.{PlainEntry, PlainRecorded, left_of, list_fault, max_list}
 use Rattle.dia_accepted.specs.declared.Entry.{Entry}
-use Rattle.dia_accepted.specs.declared.Told.{Told}
+use Rattle.dia_accepted.specs.declared.Recorded.{Recorded}
 use Rattle.dia_accepted.specs.declared.ListFault.{ListFault}
 use Rattle.dia_run.specs.Texts.{IsDictionaryText}
 use Rattle.dia_run.specs.Outcome.{ended, no_first, no_second}
@@ -29,7 +29,7 @@ use Rattle.dia_upgrades.specs.declared.reporting.Found.TheVariants as founds
 use Rattle.dia_upgrades.specs.Asking.{names_of}
 use Rattle.dia_upgrades.specs.Forms.{said}
 use Rattle.dia_upgrades.specs.Lists.{IsListText, IsNoListText}
-use Rattle.dia_upgrades.specs.Outcome.{AreAllTold, AreLeft, AreRead, CanAsk, CannotAnswer, HasLines, HasNoLines, IsAnswerable, IsBreakingOutcome, IsListed, NoneIsStale, TellsFound, counted, nothing_else_breaks, nothing_else_differs, nothing_left}
+use Rattle.dia_upgrades.specs.Outcome.{AreAllRecorded, AreLeft, AreRead, CanAsk, CannotAnswer, HasLines, HasNoLines, IsAnswerable, IsBreakingOutcome, IsListed, NoneIsStale, RecordsFound, counted, nothing_else_breaks, nothing_else_differs, nothing_left}
 use Rattle.dia_upgrades.specs.Stale.{AreStale, failing}
 use Rattle.dia_upgrades.specs.Outcome.{nothing, nothing_else, lines, bad_list, no_commands, no_command}
 use Rattle.dia_upgrades.specs.Outcome.{AreRefused, bad_first, bad_second, bad_accepted, none_there, bad_name, IsSafeUpgrade, safe, accepted, IsUnsafeUpgrade}
@@ -55,18 +55,18 @@ list_or_not input list (lists.Limit n) (text, holds, utf8, none, is) (other, hel
 
 -- ---- how much is left
 
-module _ (asked : Asked) (input : Input) (a b : Dictionary) (text : List ℕ) (exit : Exit) (is : Found) (unused old : Vec Entry) (n known : ℕ) (causes meanings : Vec Told) where
-  same_lines : (list : List PlainEntry) (told apart : List PlainTold) (stale : List PlainEntry) → is ≡ founds.Listed unused old n known causes meanings → TellsFound asked.once list told apart stale is → n ≡ counted (length (left_of list told))
-  same_lines list told apart stale e f =
+module _ (asked : Asked) (input : Input) (a b : Dictionary) (text : List ℕ) (exit : Exit) (is : Found) (unused old : Vec Entry) (n known : ℕ) (causes meanings : Vec Recorded) where
+  same_lines : (list : List PlainEntry) (recorded apart : List PlainRecorded) (stale : List PlainEntry) → is ≡ founds.Listed unused old n known causes meanings → RecordsFound asked.once list recorded apart stale is → n ≡ counted (length (left_of list recorded))
+  same_lines list recorded apart stale e f =
       let z : founds.Listed unused old n known causes meanings ≡ founds.Listed f.unused f.stale_ones f.lines f.accepted f.causes f.meanings = sym e ∙ f.is_listed in let same : n ≡ f.lines = cc in same ∙ f.lines_are
 
-  left_by : (list : List PlainEntry) (told apart : List PlainTold) (stale : List PlainEntry) → is ≡ founds.Listed unused old n known causes meanings → IsAnswerable asked input a b list told apart stale is → AreLeft asked input a b n
-  left_by list told apart stale e can = (list, told, apart, can.list_is, can.all_told, same_lines list told apart stale e can.tells)
+  left_by : (list : List PlainEntry) (recorded apart : List PlainRecorded) (stale : List PlainEntry) → is ≡ founds.Listed unused old n known causes meanings → IsAnswerable asked input a b list recorded apart stale is → AreLeft asked input a b n
+  left_by list recorded apart stale e can = (list, recorded, apart, can.list_is, can.all_recorded, same_lines list recorded apart stale e can.records)
 
   pub lines_are_left : IsListed asked input a b text exit is → is ≡ founds.Listed unused old n known causes meanings → AreLeft asked input a b n
   lines_are_left (nothing list apart stale can breaks differs none is_text is_exit) e = left_by list [] apart stale e can
-  lines_are_left (nothing_else list told apart stale can left some breaks none is_text is_exit) e = left_by list told apart stale e can
-  lines_are_left (lines list told apart stale can left is_text is_exit) e = left_by list told apart stale e can
+  lines_are_left (nothing_else list recorded apart stale can left some breaks none is_text is_exit) e = left_by list recorded apart stale e can
+  lines_are_left (lines list recorded apart stale can left is_text is_exit) e = left_by list recorded apart stale e can
   lines_are_left (bad_list bad none refuses what) e = absurd (let z : founds.NoList bad ≡ founds.Listed unused old n known causes meanings = sym what ∙ e in cc)
   lines_are_left (no_commands list is_list none refuses what) e = absurd (let z : founds.NoCommands ≡ founds.Listed unused old n known causes meanings = sym what ∙ e in cc)
   lines_are_left (no_command list name is_list some first refuses what) e = absurd (let z : founds.NoCommand ≡ founds.Listed unused old n known causes meanings = sym what ∙ e in cc)
@@ -77,11 +77,11 @@ left_in asked input a b text exit is None listed has = tt
 left_in asked input a b text exit is (Some n) listed (unused, old, known, causes, meanings, e) = lines_are_left asked input a b text exit is unused old n known causes meanings listed e
 
 -- where the lines could be told, no answer is a refusal
-module _ (asked : Asked) (input : Input) (a b : Dictionary) (list : List PlainEntry) (told apart : List PlainTold) (stale : List PlainEntry) (has : Found) (can : IsAnswerable asked input a b list told apart stale has) where
+module _ (asked : Asked) (input : Input) (a b : Dictionary) (list : List PlainEntry) (recorded apart : List PlainRecorded) (stale : List PlainEntry) (has : Found) (can : IsAnswerable asked input a b list recorded apart stale has) where
   pub answered_or_not : (text : List ℕ) (is : Found) → IsListed asked input a b text Bad is → ⊥
   answered_or_not text is (nothing list' apart' stale' can' breaks differs none is_text is_exit) = absurd (let e : Bad ≡ Yes = is_exit in cc)
-  answered_or_not text is (nothing_else list' told' apart' stale' can' left some breaks none is_text is_exit) = absurd (let e : Bad ≡ Yes = is_exit in cc)
-  answered_or_not text is (lines list' told' apart' stale' can' left is_text is_exit) = absurd (let e : Bad ≡ No = is_exit in cc)
+  answered_or_not text is (nothing_else list' recorded' apart' stale' can' left some breaks none is_text is_exit) = absurd (let e : Bad ≡ Yes = is_exit in cc)
+  answered_or_not text is (lines list' recorded' apart' stale' can' left is_text is_exit) = absurd (let e : Bad ≡ No = is_exit in cc)
   answered_or_not text is (bad_list bad none refuses what) = list_or_not input list bad can.list_is none
   answered_or_not text is (no_commands list' is_list none refuses what) = can.can_ask.some none
   answered_or_not text is (no_command list' name is_list some first refuses what) =
@@ -91,9 +91,9 @@ module _ (asked : Asked) (input : Input) (a b : Dictionary) (list : List PlainEn
 module _ (asked : Asked) (input : Input) (a b : Dictionary) (text : List ℕ) (exit : Exit) (is : Found) where
   -- without lines it ends so
   refused_by : IsListed asked input a b text exit is → HasNoLines is → CannotAnswer asked input a b
-  refused_by (nothing list apart stale can breaks differs none_fails is_text is_exit) none = absurd (subst HasNoLines can.tells.is_listed none)
-  refused_by (nothing_else list told apart stale can left some breaks none_fails is_text is_exit) none = absurd (subst HasNoLines can.tells.is_listed none)
-  refused_by (lines list told apart stale can left is_text is_exit) none = absurd (subst HasNoLines can.tells.is_listed none)
+  refused_by (nothing list apart stale can breaks differs none_fails is_text is_exit) none = absurd (subst HasNoLines can.records.is_listed none)
+  refused_by (nothing_else list recorded apart stale can left some breaks none_fails is_text is_exit) none = absurd (subst HasNoLines can.records.is_listed none)
+  refused_by (lines list recorded apart stale can left is_text is_exit) none = absurd (subst HasNoLines can.records.is_listed none)
   refused_by (bad_list bad un refuses what) none = (text, is, bad_list bad un (refuses.0, refl) what)
   refused_by (no_commands list is_list un refuses what) none = (text, is, no_commands list is_list un (refuses.0, refl) what)
   refused_by (no_command list name is_list some first refuses what) none = (text, is, no_command list name is_list some first (refuses.0, refl) what)
@@ -101,8 +101,8 @@ module _ (asked : Asked) (input : Input) (a b : Dictionary) (text : List ℕ) (e
   -- and where it ends so, it has no lines
   never_refused : (n : ℕ) → IsListed asked input a b text exit is → HasLines is n → CannotAnswer asked input a b → ⊥
   never_refused n (nothing list apart stale can breaks differs none is_text is_exit) has (t, f, cannot) = answered_or_not asked input a b list [] apart stale is can t f cannot
-  never_refused n (nothing_else list told apart stale can left some breaks none is_text is_exit) has (t, f, cannot) = answered_or_not asked input a b list told apart stale is can t f cannot
-  never_refused n (lines list told apart stale can left is_text is_exit) has (t, f, cannot) = answered_or_not asked input a b list told apart stale is can t f cannot
+  never_refused n (nothing_else list recorded apart stale can left some breaks none is_text is_exit) has (t, f, cannot) = answered_or_not asked input a b list recorded apart stale is can t f cannot
+  never_refused n (lines list recorded apart stale can left is_text is_exit) has (t, f, cannot) = answered_or_not asked input a b list recorded apart stale is can t f cannot
   never_refused n (bad_list bad none refuses what) (unused, old, known, causes, meanings, e) cannot = absurd (let z : founds.NoList bad ≡ founds.Listed unused old n known causes meanings = sym what ∙ e in cc)
   never_refused n (no_commands list is_list none refuses what) (unused, old, known, causes, meanings, e) cannot = absurd (let z : founds.NoCommands ≡ founds.Listed unused old n known causes meanings = sym what ∙ e in cc)
   never_refused n (no_command list name is_list some first refuses what) (unused, old, known, causes, meanings, e) cannot = absurd (let z : founds.NoCommand ≡ founds.Listed unused old n known causes meanings = sym what ∙ e in cc)
@@ -117,22 +117,22 @@ module _ (asked : Asked) (inputs : Inputs) (text : List ℕ) (exit : Exit) where
   read : (a b : Dictionary) (list : List PlainEntry) → IsDictionaryText inputs.first a → IsDictionaryText inputs.second b → IsListText inputs.table list → CanAsk asked a → AreRead asked inputs a b list
   read a b list is_a is_b is_list can = record { first = is_a; second = is_b; list_is = is_list; can_ask = can }
 
-  else_left : (meaning : Bool) (told : List PlainTold) → told ≢ [] → nothing_left meaning told ≡ cond meaning nothing_else_differs nothing_else_breaks
+  else_left : (meaning : Bool) (recorded : List PlainRecorded) → recorded ≢ [] → nothing_left meaning recorded ≡ cond meaning nothing_else_differs nothing_else_breaks
   else_left meaning [] some = absurd (some refl)
-  else_left meaning (t ∷ told) some = refl
+  else_left meaning (t ∷ recorded) some = refl
 
   -- where each stale entry fails, and none does, none is stale
-  none_stale : (a b : Dictionary) (list : List PlainEntry) (told apart : List PlainTold) (stale : List PlainEntry) → failing asked.stale stale ≡ [] → AreAllTold asked a b told apart
-      → AreStale asked a b list told apart stale → NoneIsStale asked a b list
-  none_stale a b list told apart stale none all are fails =
-      (told, apart, all, subst (AreStale asked a b list told apart) (ap (λ s. failing s stale) (sym fails) ∙ none) are)
+  none_stale : (a b : Dictionary) (list : List PlainEntry) (recorded apart : List PlainRecorded) (stale : List PlainEntry) → failing asked.stale stale ≡ [] → AreAllRecorded asked a b recorded apart
+      → AreStale asked a b list recorded apart stale → NoneIsStale asked a b list
+  none_stale a b list recorded apart stale none all are fails =
+      (recorded, apart, all, subst (AreStale asked a b list recorded apart) (ap (λ s. failing s stale) (sym fails) ∙ none) are)
 
   -- a yes says that nothing breaks, or nothing else
   pub yes_is_safe : IsBreakingOutcome asked inputs text exit → exit ≡ Yes → IsSafeUpgrade asked inputs text
-  yes_is_safe (ended a b is_a is_b (is, nothing list apart stale can breaks differs none is_text is_exit)) is_yes = safe a b list (read a b list is_a is_b can.list_is can.can_ask) breaks differs (none_stale a b list [] apart stale none can.all_told can.are_stale) is_text
-  yes_is_safe (ended a b is_a is_b (is, nothing_else list told apart stale can left some breaks none is_text is_exit)) is_yes =
-      accepted a b list (read a b list is_a is_b can.list_is can.can_ask) breaks (none_stale a b list told apart stale none can.all_told can.are_stale) (is_text ∙ ap (said asked.form) (else_left asked.meaning told some))
-  yes_is_safe (ended a b is_a is_b (is, lines list told apart stale can left is_text is_exit)) is_yes = absurd (let e : No ≡ Yes = sym is_exit ∙ is_yes in cc)
+  yes_is_safe (ended a b is_a is_b (is, nothing list apart stale can breaks differs none is_text is_exit)) is_yes = safe a b list (read a b list is_a is_b can.list_is can.can_ask) breaks differs (none_stale a b list [] apart stale none can.all_recorded can.are_stale) is_text
+  yes_is_safe (ended a b is_a is_b (is, nothing_else list recorded apart stale can left some breaks none is_text is_exit)) is_yes =
+      accepted a b list (read a b list is_a is_b can.list_is can.can_ask) breaks (none_stale a b list recorded apart stale none can.all_recorded can.are_stale) (is_text ∙ ap (said asked.form) (else_left asked.meaning recorded some))
+  yes_is_safe (ended a b is_a is_b (is, lines list recorded apart stale can left is_text is_exit)) is_yes = absurd (let e : No ≡ Yes = sym is_exit ∙ is_yes in cc)
   yes_is_safe (ended a b is_a is_b (is, bad_list bad none refuses what)) is_yes = absurd (let e : Bad ≡ Yes = sym refuses.1 ∙ is_yes in cc)
   yes_is_safe (ended a b is_a is_b (is, no_commands list is_list none refuses what)) is_yes = absurd (let e : Bad ≡ Yes = sym refuses.1 ∙ is_yes in cc)
   yes_is_safe (ended a b is_a is_b (is, no_command list name is_list some first refuses what)) is_yes = absurd (let e : Bad ≡ Yes = sym refuses.1 ∙ is_yes in cc)
@@ -141,9 +141,9 @@ module _ (asked : Asked) (inputs : Inputs) (text : List ℕ) (exit : Exit) where
 
   -- a no says which lines are left
   pub no_is_unsafe : IsBreakingOutcome asked inputs text exit → exit ≡ No → IsUnsafeUpgrade asked inputs text
-  no_is_unsafe (ended a b is_a is_b (is, lines list told apart stale can left is_text is_exit)) is_no = (a, b, list, told, apart, stale, read a b list is_a is_b can.list_is can.can_ask, can.all_told, can.are_stale, left, is_text)
+  no_is_unsafe (ended a b is_a is_b (is, lines list recorded apart stale can left is_text is_exit)) is_no = (a, b, list, recorded, apart, stale, read a b list is_a is_b can.list_is can.can_ask, can.all_recorded, can.are_stale, left, is_text)
   no_is_unsafe (ended a b is_a is_b (is, nothing list apart stale can breaks differs none is_text is_exit)) is_no = absurd (let e : Yes ≡ No = sym is_exit ∙ is_no in cc)
-  no_is_unsafe (ended a b is_a is_b (is, nothing_else list told apart stale can left some breaks none is_text is_exit)) is_no = absurd (let e : Yes ≡ No = sym is_exit ∙ is_no in cc)
+  no_is_unsafe (ended a b is_a is_b (is, nothing_else list recorded apart stale can left some breaks none is_text is_exit)) is_no = absurd (let e : Yes ≡ No = sym is_exit ∙ is_no in cc)
   no_is_unsafe (ended a b is_a is_b (is, bad_list bad none refuses what)) is_no = absurd (let e : Bad ≡ No = sym refuses.1 ∙ is_no in cc)
   no_is_unsafe (ended a b is_a is_b (is, no_commands list is_list none refuses what)) is_no = absurd (let e : Bad ≡ No = sym refuses.1 ∙ is_no in cc)
   no_is_unsafe (ended a b is_a is_b (is, no_command list name is_list some first refuses what)) is_no = absurd (let e : Bad ≡ No = sym refuses.1 ∙ is_no in cc)
@@ -165,8 +165,8 @@ module _ (asked : Asked) (inputs : Inputs) (text : List ℕ) (exit : Exit) where
 
   refused : IsBreakingOutcome asked inputs text exit → exit ≡ Bad → AreRefused asked inputs
   refused (ended a b is_a is_b (is, nothing list apart stale can breaks differs none is_text is_exit)) is_bad = absurd (let e : Yes ≡ Bad = sym is_exit ∙ is_bad in cc)
-  refused (ended a b is_a is_b (is, nothing_else list told apart stale can left some breaks none is_text is_exit)) is_bad = absurd (let e : Yes ≡ Bad = sym is_exit ∙ is_bad in cc)
-  refused (ended a b is_a is_b (is, lines list told apart stale can left is_text is_exit)) is_bad = absurd (let e : No ≡ Bad = sym is_exit ∙ is_bad in cc)
+  refused (ended a b is_a is_b (is, nothing_else list recorded apart stale can left some breaks none is_text is_exit)) is_bad = absurd (let e : Yes ≡ Bad = sym is_exit ∙ is_bad in cc)
+  refused (ended a b is_a is_b (is, lines list recorded apart stale can left is_text is_exit)) is_bad = absurd (let e : No ≡ Bad = sym is_exit ∙ is_bad in cc)
   refused (ended a b is_a is_b (is, bad_list bad none refuses what)) is_bad = bad_accepted bad none
   refused (ended a b is_a is_b (is, no_commands list is_list none refuses what)) is_bad = none_there a is_a none
   refused (ended a b is_a is_b (is, no_command list name is_list some first refuses what)) is_bad = bad_name a name is_a (first_unknown a (names_of asked) name first) first.unknown
@@ -175,9 +175,9 @@ module _ (asked : Asked) (inputs : Inputs) (text : List ℕ) (exit : Exit) where
 
   bad_exit : IsBreakingOutcome asked inputs text exit → AreRefused asked inputs → exit ≡ Bad
   bad_exit (ended a b is_a is_b (is, nothing list apart stale can breaks differs none is_text is_exit)) none_read = absurd (read_or_refused a b list (read a b list is_a is_b can.list_is can.can_ask) none_read)
-  bad_exit (ended a b is_a is_b (is, nothing_else list told apart stale can left some breaks none is_text is_exit)) none_read =
+  bad_exit (ended a b is_a is_b (is, nothing_else list recorded apart stale can left some breaks none is_text is_exit)) none_read =
       absurd (read_or_refused a b list (read a b list is_a is_b can.list_is can.can_ask) none_read)
-  bad_exit (ended a b is_a is_b (is, lines list told apart stale can left is_text is_exit)) none_read = absurd (read_or_refused a b list (read a b list is_a is_b can.list_is can.can_ask) none_read)
+  bad_exit (ended a b is_a is_b (is, lines list recorded apart stale can left is_text is_exit)) none_read = absurd (read_or_refused a b list (read a b list is_a is_b can.list_is can.can_ask) none_read)
   bad_exit (ended a b is_a is_b (is, bad_list bad none refuses what)) none_read = refuses.1
   bad_exit (ended a b is_a is_b (is, no_commands list is_list none refuses what)) none_read = refuses.1
   bad_exit (ended a b is_a is_b (is, no_command list name is_list some first refuses what)) none_read = refuses.1

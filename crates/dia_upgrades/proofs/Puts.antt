@@ -16,8 +16,8 @@ front_of_more old new x y (front, rest, parts, is) = (front, rest ++ y, ap (λ (
 pub whole_is_front : (old new : Option (List ℕ)) (x : List ℕ) → Appends old new x → AppendsFront old new x
 whole_is_front old new x is = (x, [], sym (append-nil x), is)
 
-pub front_behind : (a b c : Option (List ℕ)) (x y : List ℕ) → Appends a b x → AppendsFront b c y → AppendsFront a c (x ++ y)
-front_behind a b c x y h (front, rest, parts, k) =
+pub front_after : (a b c : Option (List ℕ)) (x y : List ℕ) → Appends a b x → AppendsFront b c y → AppendsFront a c (x ++ y)
+front_after a b c x y h (front, rest, parts, k) =
     (x ++ front, rest, ap (λ (t : List ℕ). x ++ t) parts ∙ sym (append_assoc x front rest), Appends-trans a b c x front h k)
 
 -- a call that puts a text, or a beginning of it
@@ -46,7 +46,7 @@ all_out begun put next pending text bytes is more (out, appended, parts) =
 pub front_out : (begun put next : Option (List ℕ)) (pending : Pending) (text bytes : List ℕ) → bytes ≡ pending.bytes.items → AppendsFront put next bytes → IsPut begun put pending text
     → AppendsFront begun next text
 front_out begun put next pending text bytes is more (out, appended, parts) =
-    subst (AppendsFront begun next) (sym (parts ∙ ap (λ (t : List ℕ). out ++ t) (sym is))) (front_behind begun put next out bytes appended more)
+    subst (AppendsFront begun next) (sym (parts ∙ ap (λ (t : List ℕ). out ++ t) (sym is))) (front_after begun put next out bytes appended more)
 
 -- and so is a text behind it
 pub both_out : (begun put next : Option (List ℕ)) (pending : Pending) (before text : List ℕ) → pending.bytes.items ≡ [] → Appends begun put before → Appends put next text

@@ -53,9 +53,9 @@ module _ (meaning : IndexedBook → Dictionary) (asked : Asked) (inputs : Inputs
     fault_reports Device (text, inr (exit, is), front) = (text, inr (exit, ended a b are_read.0.1 are_read.1.1 is), front)
     fault_reports NoMemory (text, is, put) = (text, begun a b are_read.0.1 are_read.1.1 is, put)
 
-  refused_so : (told : List ℕ) → IsRefusedText inputs told → IsBreakingOutcome asked inputs (line told) Bad
-  refused_so told (inl (why, none, e)) = no_first why none (ap line e, refl)
-  refused_so told (inr (d, is_d, (why, none, e))) = no_second d why is_d none (ap line e, refl)
+  refused_so : (recorded : List ℕ) → IsRefusedText inputs recorded → IsBreakingOutcome asked inputs (line recorded) Bad
+  refused_so recorded (inl (why, none, e)) = no_first why none (ap line e, refl)
+  refused_so recorded (inr (d, is_d, (why, none, e))) = no_second d why is_d none (ap line e, refl)
 
   pub refusal_reports : (bad : BadInput) (r : Result Reported RunFault) → IsRefusedText inputs (bad_input_text bad) → IfOk r (λ reported. Appends old new (line (bad_input_text bad)))
       → IfOk r (λ reported. reported.exit ≡ Bad) → IfOk r (λ reported. reported.report ≡ reports.Refused bad) → (r ≡ Err Device → AppendsFront old new (line (bad_input_text bad)))
@@ -76,11 +76,11 @@ module _ (meaning : IndexedBook → Dictionary) (asked : Asked) (inputs : Inputs
   text_of (Ok reported) has = has
   text_of (Err fault) has = tt
 
-  pub yes_of : (r : Result Reported RunFault) → Reports meaning asked inputs old new r → IfOk r (λ reported. reported.exit ≡ Yes → (told : List ℕ) × IsSafeUpgrade asked inputs told × Appends old new told)
+  pub yes_of : (r : Result Reported RunFault) → Reports meaning asked inputs old new r → IfOk r (λ reported. reported.exit ≡ Yes → (recorded : List ℕ) × IsSafeUpgrade asked inputs recorded × Appends old new recorded)
   yes_of (Ok reported) (text, outcome, report, put) = λ is_yes. (text, yes_is_safe asked inputs text reported.exit outcome is_yes, put)
   yes_of (Err fault) has = tt
 
-  pub no_of : (r : Result Reported RunFault) → Reports meaning asked inputs old new r → IfOk r (λ reported. reported.exit ≡ No → (told : List ℕ) × IsUnsafeUpgrade asked inputs told × Appends old new told)
+  pub no_of : (r : Result Reported RunFault) → Reports meaning asked inputs old new r → IfOk r (λ reported. reported.exit ≡ No → (recorded : List ℕ) × IsUnsafeUpgrade asked inputs recorded × Appends old new recorded)
   no_of (Ok reported) (text, outcome, report, put) = λ is_no. (text, no_is_unsafe asked inputs text reported.exit outcome is_no, put)
   no_of (Err fault) has = tt
 

@@ -1,6 +1,6 @@
 -- The forms in which lines are written.
 use Rattle.std.specs.Prelude.{ℕ, Bool, List, [], ◌++◌}
-use Rattle.dia_accepted.specs.Accepted.{PlainTold}
+use Rattle.dia_accepted.specs.Accepted.{PlainRecorded}
 use Rattle.dia_breaking_json.specs.declared.Names.{Names}
 use Rattle.dia_breaking_json.specs.Keys.{key_in}
 use Rattle.dia_breaking_json.specs.Lines.{line_json}
@@ -9,10 +9,10 @@ use Rattle.dia_upgrades.specs.declared.asked.Form.{Form}
 use Rattle.dia_upgrades.specs.declared.asked.Form.TheVariants.{Text, Json}
 
 -- what is written of a line
-abbrev pub object_in : Names → Bool → PlainTold → List ℕ
+abbrev pub object_in : Names → Bool → PlainRecorded → List ℕ
 object_in names once t = line (line_json (key_in names.first) (key_in names.second) once t.words t.message)
 
-abbrev pub line_in : Form → Bool → PlainTold → List ℕ
+abbrev pub line_in : Form → Bool → PlainRecorded → List ℕ
 line_in Text once t = line t.words ++ t.message
 line_in (Json names) once t = object_in names.now once t
 

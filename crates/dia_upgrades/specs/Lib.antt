@@ -6,5 +6,5 @@ pub mod Outcome
 pub mod Places
 pub mod Report
 pub mod Stale
-pub mod Told
+pub mod Recorded
 pub mod UnderWay

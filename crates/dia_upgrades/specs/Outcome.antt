@@ -12,10 +12,10 @@ use Rattle.dia_io.specs.declared.Exit.{Exit}
 use Rattle.dia_io.specs.declared.Exit.TheVariants.{Yes, No, Bad}
 use Rattle.dia_run.specs.Texts.{IsDictionaryText, IsNoDictionaryText}
 use Rattle.dia_run.specs.Outcome.{IsPairOutcome}
-use Rattle.dia_accepted.specs.Accepted.{PlainEntry, PlainTold, accepts, is_accepted, kept, left_of, plain_entry, plain_told, unused_of}
+use Rattle.dia_accepted.specs.Accepted.{PlainEntry, PlainRecorded, accepts, is_accepted, kept, left_of, plain_entry, plain_recorded, unused_of}
 use Rattle.dia_accepted.specs.Causes.{once_of}
 use Rattle.dia_accepted.specs.declared.Entry.{Entry}
-use Rattle.dia_accepted.specs.declared.Told.{Told}
+use Rattle.dia_accepted.specs.declared.Recorded.{Recorded}
 use Rattle.dia_breaking.specs.declared.line.Line.{Line}
 use Rattle.dia_breaking.specs.declared.line.Site.{Site}
 use Rattle.dia_breaking.specs.Free.{AreValidWhereFree}
@@ -33,7 +33,7 @@ use Rattle.dia_upgrades.specs.Forms.{said}
 use Rattle.dia_upgrades.specs.Lists.{IsListText, IsNoListText, list_line}
 use Rattle.dia_upgrades.specs.Places.{asked_places}
 use Rattle.dia_upgrades.specs.Stale.{AreStale, failing, stale_text}
-use Rattle.dia_upgrades.specs.Told.{AreShortest, AreTold, words_at, written}
+use Rattle.dia_upgrades.specs.Recorded.{AreShortest, AreRecorded, words_at, written}
 
 -- ---- what is claimed
 
@@ -84,8 +84,8 @@ NothingElseBreaks asked list a b = OfEach asked a (IsAcceptedWhole (sides_in ask
 -- ---- what is told
 
 -- these are the lines of the commands that are asked for, and these the ones of meanings that aren't
-abbrev pub AreAllTold : Asked → Dictionary → Dictionary → List PlainTold → List PlainTold → Type 0
-AreAllTold asked a b told apart = AreTold (sides_in asked a b) asked.messages asked.meaning (asked_places a (names_of asked)) told apart
+abbrev pub AreAllRecorded : Asked → Dictionary → Dictionary → List PlainRecorded → List PlainRecorded → Type 0
+AreAllRecorded asked a b recorded apart = AreRecorded (sides_in asked a b) asked.messages asked.meaning (asked_places a (names_of asked)) recorded apart
 
 abbrev pub nothing_breaks : List ℕ
 nothing_breaks = codes "nothing breaks"
@@ -106,9 +106,9 @@ abbrev pub nothing_for : Bool → Bool → List ℕ
 nothing_for meaning is_some = if is_some then (if meaning then nothing_else_differs else nothing_else_breaks) else (if meaning then nothing_differs else nothing_breaks)
 
 -- where none of these lines is left
-abbrev pub nothing_left : Bool → List PlainTold → List ℕ
+abbrev pub nothing_left : Bool → List PlainRecorded → List ℕ
 nothing_left meaning [] = nothing_for meaning false
-nothing_left meaning (told ∷ more) = nothing_for meaning true
+nothing_left meaning (recorded ∷ more) = nothing_for meaning true
 
 -- what is told of a dictionary without commands
 abbrev pub no_commands_line : List ℕ
@@ -119,8 +119,8 @@ abbrev pub no_command_line : List ℕ → List ℕ
 no_command_line name = codes "breaking: no command " ++ name
 
 -- it ends with these words, where words are written
-abbrev pub Tells : Form → List ℕ → List ℕ → Exit → Type 0
-Tells form told text exit = (text ≡ said form told) × (exit ≡ Bad)
+abbrev pub Records : Form → List ℕ → List ℕ → Exit → Type 0
+Records form recorded text exit = (text ≡ said form recorded) × (exit ≡ Bad)
 
 -- there are commands, and each name that is given is that of one
 pub record CanAsk (asked : Asked) (a : Dictionary) : Type 0 where
@@ -128,7 +128,7 @@ pub record CanAsk (asked : Asked) (a : Dictionary) : Type 0 where
   pub known : AreCommands a (names_of asked)
 
 -- what is written of the lines that are left: these lines, or with `--once` one for each cause
-abbrev pub shown : Bool → List PlainTold → List PlainTold
+abbrev pub shown : Bool → List PlainRecorded → List PlainRecorded
 shown is_once left = if is_once then once_of left else left
 
 -- so many are counted of n lines: no more than the greatest number of 64 bits
@@ -136,48 +136,48 @@ abbrev pub counted : ℕ → ℕ
 counted n = min n 18446744073709551615
 
 -- the lines that the list accepts
-abbrev pub accepted_of : List PlainEntry → List PlainTold → List PlainTold
-accepted_of list told = filter (is_accepted list) told
+abbrev pub accepted_of : List PlainEntry → List PlainRecorded → List PlainRecorded
+accepted_of list recorded = filter (is_accepted list) recorded
 
 -- what was found tells which entries of the list accept none of these, and which of them are stale, how many of the first are left and how many accepted, their causes,
 -- with their messages where each cause is told once, and the causes of the meanings that aren't asked for and that the list doesn't accept
-pub record TellsFound (is_once : Bool) (list : List PlainEntry) (told apart : List PlainTold) (stale : List PlainEntry) (is : Found) : Type 0 where
+pub record RecordsFound (is_once : Bool) (list : List PlainEntry) (recorded apart : List PlainRecorded) (stale : List PlainEntry) (is : Found) : Type 0 where
   pub unused : Vec Entry
   pub stale_ones : Vec Entry
   pub lines : ℕ
   pub accepted : ℕ
-  pub causes : Vec Told
-  pub meanings : Vec Told
+  pub causes : Vec Recorded
+  pub meanings : Vec Recorded
   pub is_listed : is ≡ found.Listed unused stale_ones lines accepted causes meanings
-  pub unused_are : map plain_entry unused.items ≡ unused_of list (told ++ apart)
+  pub unused_are : map plain_entry unused.items ≡ unused_of list (recorded ++ apart)
   pub stale_are : map plain_entry stale_ones.items ≡ stale
-  pub lines_are : lines ≡ counted (length (left_of list told))
-  pub accepted_are : accepted ≡ counted (length (accepted_of list told))
-  pub causes_are : map plain_told causes.items ≡ once_of (map (kept is_once) (left_of list told))
-  pub meanings_are : map plain_told meanings.items ≡ once_of (left_of list apart)
+  pub lines_are : lines ≡ counted (length (left_of list recorded))
+  pub accepted_are : accepted ≡ counted (length (accepted_of list recorded))
+  pub causes_are : map plain_recorded causes.items ≡ once_of (map (kept is_once) (left_of list recorded))
+  pub meanings_are : map plain_recorded meanings.items ≡ once_of (left_of list apart)
 
 -- the inputs can be asked for, and the list, the lines and the stale entries are these
-pub record IsAnswerable (asked : Asked) (input : Input) (a b : Dictionary) (list : List PlainEntry) (told apart : List PlainTold) (stale : List PlainEntry) (is : Found) : Type 0 where
+pub record IsAnswerable (asked : Asked) (input : Input) (a b : Dictionary) (list : List PlainEntry) (recorded apart : List PlainRecorded) (stale : List PlainEntry) (is : Found) : Type 0 where
   pub list_is : IsListText input list
   pub can_ask : CanAsk asked a
-  pub all_told : AreAllTold asked a b told apart
-  pub are_stale : AreStale asked a b list told apart stale
-  pub tells : TellsFound asked.once list told apart stale is
+  pub all_recorded : AreAllRecorded asked a b recorded apart
+  pub are_stale : AreStale asked a b list recorded apart stale
+  pub records : RecordsFound asked.once list recorded apart stale is
 
 -- `breaking` of two dictionaries and a list: what is written, how it ends, and what was found
 pub data IsListed (asked : Asked) (input : Input) (a b : Dictionary) (text : List ℕ) (exit : Exit) (is : Found) : Type 0 where
-  nothing : (list : List PlainEntry) (apart : List PlainTold) (stale : List PlainEntry) → IsAnswerable asked input a b list [] apart stale is → NothingBreaks asked a b → NothingDiffers asked a b
+  nothing : (list : List PlainEntry) (apart : List PlainRecorded) (stale : List PlainEntry) → IsAnswerable asked input a b list [] apart stale is → NothingBreaks asked a b → NothingDiffers asked a b
       → failing asked.stale stale ≡ [] → text ≡ said asked.form (nothing_left asked.meaning []) → exit ≡ Yes → IsListed asked input a b text exit is
-  nothing_else : (list : List PlainEntry) (told apart : List PlainTold) (stale : List PlainEntry) → IsAnswerable asked input a b list told apart stale is → left_of list told ≡ [] → told ≢ []
-      → NothingElseBreaks asked list a b → failing asked.stale stale ≡ [] → text ≡ said asked.form (nothing_left asked.meaning told) → exit ≡ Yes → IsListed asked input a b text exit is
-  lines : (list : List PlainEntry) (told apart : List PlainTold) (stale : List PlainEntry) → IsAnswerable asked input a b list told apart stale is
-      → (left_of list told ≢ []) ⊎ (failing asked.stale stale ≢ [])
-      → text ≡ written asked (shown asked.once (left_of list told)) ++ stale_text asked.form (failing asked.stale stale) → exit ≡ No → IsListed asked input a b text exit is
-  bad_list : (bad : BadList) → IsNoListText input bad → Tells asked.form (list_line bad) text exit → is ≡ found.NoList bad → IsListed asked input a b text exit is
-  no_commands : (list : List PlainEntry) → IsListText input list → a.commands ≡ [] → Tells asked.form no_commands_line text exit → is ≡ found.NoCommands
+  nothing_else : (list : List PlainEntry) (recorded apart : List PlainRecorded) (stale : List PlainEntry) → IsAnswerable asked input a b list recorded apart stale is → left_of list recorded ≡ [] → recorded ≢ []
+      → NothingElseBreaks asked list a b → failing asked.stale stale ≡ [] → text ≡ said asked.form (nothing_left asked.meaning recorded) → exit ≡ Yes → IsListed asked input a b text exit is
+  lines : (list : List PlainEntry) (recorded apart : List PlainRecorded) (stale : List PlainEntry) → IsAnswerable asked input a b list recorded apart stale is
+      → (left_of list recorded ≢ []) ⊎ (failing asked.stale stale ≢ [])
+      → text ≡ written asked (shown asked.once (left_of list recorded)) ++ stale_text asked.form (failing asked.stale stale) → exit ≡ No → IsListed asked input a b text exit is
+  bad_list : (bad : BadList) → IsNoListText input bad → Records asked.form (list_line bad) text exit → is ≡ found.NoList bad → IsListed asked input a b text exit is
+  no_commands : (list : List PlainEntry) → IsListText input list → a.commands ≡ [] → Records asked.form no_commands_line text exit → is ≡ found.NoCommands
       → IsListed asked input a b text exit is
   no_command : (list : List PlainEntry) (name : List ℕ) → IsListText input list → a.commands ≢ [] → IsFirstUnknown a (names_of asked) name
-      → Tells asked.form (no_command_line name) text exit → is ≡ found.NoCommand → IsListed asked input a b text exit is
+      → Records asked.form (no_command_line name) text exit → is ≡ found.NoCommand → IsListed asked input a b text exit is
 
 -- the same, whatever was found
 abbrev pub IsAnyListed : Asked → Input → Dictionary → Dictionary → List ℕ → Exit → Type 0
@@ -185,7 +185,7 @@ IsAnyListed asked input a b text exit = (is : Found) × IsListed asked input a b
 
 -- what was found has so many lines
 abbrev pub HasLines : Found → ℕ → Type 0
-HasLines is n = (unused : Vec Entry) × (stale : Vec Entry) × (accepted : ℕ) × (causes : Vec Told) × (meanings : Vec Told) × (is ≡ found.Listed unused stale n accepted causes meanings)
+HasLines is n = (unused : Vec Entry) × (stale : Vec Entry) × (accepted : ℕ) × (causes : Vec Recorded) × (meanings : Vec Recorded) × (is ≡ found.Listed unused stale n accepted causes meanings)
 
 -- what was found has no lines
 abbrev pub HasNoLines : Found → Type 0
@@ -196,8 +196,8 @@ HasNoLines found.NoCommand = ⊤
 
 -- so many lines are told that the list doesn't accept
 abbrev pub AreLeft : Asked → Input → Dictionary → Dictionary → ℕ → Type 0
-AreLeft asked input a b n = (list : List PlainEntry) × (told : List PlainTold) × (apart : List PlainTold) × IsListText input list × AreAllTold asked a b told apart
-    × (n ≡ counted (length (left_of list told)))
+AreLeft asked input a b n = (list : List PlainEntry) × (recorded : List PlainRecorded) × (apart : List PlainRecorded) × IsListText input list × AreAllRecorded asked a b recorded apart
+    × (n ≡ counted (length (left_of list recorded)))
 
 -- the list is refused, or the commands can't be asked for: so it ends
 abbrev pub CannotAnswer : Asked → Input → Dictionary → Dictionary → Type 0
@@ -218,13 +218,13 @@ pub record AreRead (asked : Asked) (inputs : Inputs) (a b : Dictionary) (list : 
 
 -- what a no says: this is the text of the lines that the list doesn't accept, or of their causes, and of its stale entries, for which the answer is no; and there is one
 abbrev pub IsUnsafeUpgrade : Asked → Inputs → List ℕ → Type 0
-IsUnsafeUpgrade asked inputs text = (a : Dictionary) × (b : Dictionary) × (list : List PlainEntry) × (told : List PlainTold) × (apart : List PlainTold) × (stale : List PlainEntry) × AreRead asked inputs a b list
-    × AreAllTold asked a b told apart × AreStale asked a b list told apart stale × ((left_of list told ≢ []) ⊎ (failing asked.stale stale ≢ []))
-    × (text ≡ written asked (shown asked.once (left_of list told)) ++ stale_text asked.form (failing asked.stale stale))
+IsUnsafeUpgrade asked inputs text = (a : Dictionary) × (b : Dictionary) × (list : List PlainEntry) × (recorded : List PlainRecorded) × (apart : List PlainRecorded) × (stale : List PlainEntry) × AreRead asked inputs a b list
+    × AreAllRecorded asked a b recorded apart × AreStale asked a b list recorded apart stale × ((left_of list recorded ≢ []) ⊎ (failing asked.stale stale ≢ []))
+    × (text ≡ written asked (shown asked.once (left_of list recorded)) ++ stale_text asked.form (failing asked.stale stale))
 
 -- no entry is stale, where the answer is no for one
 abbrev pub NoneIsStale : Asked → Dictionary → Dictionary → List PlainEntry → Type 0
-NoneIsStale asked a b list = asked.stale ≡ Fails → (told : List PlainTold) × (apart : List PlainTold) × AreAllTold asked a b told apart × AreStale asked a b list told apart []
+NoneIsStale asked a b list = asked.stale ≡ Fails → (recorded : List PlainRecorded) × (apart : List PlainRecorded) × AreAllRecorded asked a b recorded apart × AreStale asked a b list recorded apart []
 
 -- what a yes says: nothing breaks, or nothing but what the list accepts; with `--meaning` nothing is read as another format, either, or
 -- nothing but what the list accepts; no entry of the list is stale; and what is written says which

@@ -14,10 +14,10 @@ use Rattle.dia_upgrades.specs.declared.reporting.Report.TheVariants.{Refused, Re
 use Rattle.dia_upgrades.specs.Outcome.{IsListed}
 
 abbrev pub IsRefusedFirst : Inputs → List ℕ → Type 0
-IsRefusedFirst inputs told = (why : List ℕ) × IsNoDictionaryText inputs.first why × (told ≡ dictionary_line 1 why)
+IsRefusedFirst inputs recorded = (why : List ℕ) × IsNoDictionaryText inputs.first why × (recorded ≡ dictionary_line 1 why)
 
 abbrev pub IsRefusedSecond : Inputs → List ℕ → Type 0
-IsRefusedSecond inputs told = (why : List ℕ) × IsNoDictionaryText inputs.second why × (told ≡ dictionary_line 2 why)
+IsRefusedSecond inputs recorded = (why : List ℕ) × IsNoDictionaryText inputs.second why × (recorded ≡ dictionary_line 2 why)
 
 -- the report has what the inputs say, and what was found, and this is what was written
 abbrev pub IsReport : (IndexedBook → Dictionary) → Asked → Inputs → Report → List ℕ → Exit → Type 0
@@ -27,4 +27,4 @@ IsReport meaning asked inputs (Read books is) text exit =
 
 -- a dictionary is refused, in these words
 abbrev pub IsRefusedText : Inputs → List ℕ → Type 0
-IsRefusedText inputs told = IsRefusedFirst inputs told ⊎ ((a : Dictionary) × IsDictionaryText inputs.first a × IsRefusedSecond inputs told)
+IsRefusedText inputs recorded = IsRefusedFirst inputs recorded ⊎ ((a : Dictionary) × IsDictionaryText inputs.first a × IsRefusedSecond inputs recorded)

@@ -1,7 +1,7 @@
 -- Which entries of the list of accepted lines are stale, and what is done about them.
 use Rattle.std.specs.Prelude.{◌≡◌, ◌⊎◌, false, List, [], ◌++◌, ℕ, codes, filter}
 use Rattle.std.specs.List.{flat_map}
-use Rattle.dia_accepted.specs.Accepted.{PlainEntry, PlainTold, is_about, unused_of}
+use Rattle.dia_accepted.specs.Accepted.{PlainEntry, PlainRecorded, is_about, unused_of}
 use Rattle.dia_book.specs.Dictionary.{Dictionary}
 use Rattle.dia_breaking.specs.Sides.{sides}
 use Rattle.dia_policy.specs.declared.Sends.{Sends}
@@ -16,13 +16,13 @@ use Rattle.dia_upgrades.specs.declared.asked.Stale.{Stale}
 use Rattle.dia_upgrades.specs.declared.asked.Stale.TheVariants.{Fails, Allowed, Ignored}
 use Rattle.dia_upgrades.specs.Asking.{names_of}
 use Rattle.dia_upgrades.specs.Places.{asked_places}
-use Rattle.dia_upgrades.specs.Told.{AreTold}
+use Rattle.dia_upgrades.specs.Recorded.{AreRecorded}
 
 -- ---- which they are
 
 -- what is told of the commands that are asked for, with these policies
-abbrev pub AreToldWith : Asked → Dictionary → Dictionary → Sends → Unknown → List PlainTold → List PlainTold → Type 0
-AreToldWith asked a b sends unknown told apart = AreTold (sides a b sends unknown) false asked.meaning (asked_places a (names_of asked)) told apart
+abbrev pub AreRecordedWith : Asked → Dictionary → Dictionary → Sends → Unknown → List PlainRecorded → List PlainRecorded → Type 0
+AreRecordedWith asked a b sends unknown recorded apart = AreRecorded (sides a b sends unknown) false asked.meaning (asked_places a (names_of asked)) recorded apart
 
 -- of entries that accept no line of the answer, those that accept none with these policies, either. They are all, if these are the policies
 -- that are asked for
@@ -30,7 +30,7 @@ abbrev pub AreUnusedWith : Asked → Dictionary → Dictionary → Sends → Unk
 AreUnusedWith asked a b sends unknown list left =
     ((list ≡ []) × (left ≡ []))
     ⊎ (((sends ≡ asked.sends) × (unknown ≡ asked.unknown) × (left ≡ list))
-    ⊎ ((told : List PlainTold) × (apart : List PlainTold) × AreToldWith asked a b sends unknown told apart × (left ≡ unused_of list (told ++ apart))))
+    ⊎ ((recorded : List PlainRecorded) × (apart : List PlainRecorded) × AreRecordedWith asked a b sends unknown recorded apart × (left ≡ unused_of list (recorded ++ apart))))
 
 -- with either `--unknown`
 abbrev pub AreUnusedBy : Asked → Dictionary → Dictionary → Sends → List PlainEntry → List PlainEntry → Type 0
@@ -50,9 +50,9 @@ AreLookedFor Ignored asked a b list stale = stale ≡ []
 
 -- an entry is stale if it is about a command that is asked for, and accepts none of these lines, which are told, and no line that is told with
 -- any `--sends` and either `--unknown`
-abbrev pub AreStale : Asked → Dictionary → Dictionary → List PlainEntry → List PlainTold → List PlainTold → List PlainEntry → Type 0
-AreStale asked a b list told apart stale =
-    AreLookedFor asked.stale asked a b (filter (is_about (names_of asked)) (unused_of list (told ++ apart))) stale
+abbrev pub AreStale : Asked → Dictionary → Dictionary → List PlainEntry → List PlainRecorded → List PlainRecorded → List PlainEntry → Type 0
+AreStale asked a b list recorded apart stale =
+    AreLookedFor asked.stale asked a b (filter (is_about (names_of asked)) (unused_of list (recorded ++ apart))) stale
 
 -- ---- what is done
 

@@ -15,9 +15,9 @@ use Rattle.dia_io.specs.declared.RunFault.TheVariants.{Device, NoMemory}
 use Rattle.dia_io.specs.Writing.{AppendsFront}
 use Rattle.dia_dict.specs.declared.IndexedBook.{IndexedBook}
 use Rattle.dia_run.specs.Texts.{line}
-use Rattle.dia_accepted.specs.Accepted.{PlainEntry, PlainTold, kept, left_of, plain_entry, plain_told}
+use Rattle.dia_accepted.specs.Accepted.{PlainEntry, PlainRecorded, kept, left_of, plain_entry, plain_recorded}
 use Rattle.dia_accepted.specs.declared.list.Entry.{Entry}
-use Rattle.dia_accepted.specs.declared.told.Told.{Told}
+use Rattle.dia_accepted.specs.declared.recorded.Recorded.{Recorded}
 use Rattle.dia_accepted.specs.declared.counting.Causes.{Causes}
 use Rattle.dia_accepted.specs.Causes.{has_cause, once_of}
 use Rattle.dia_accepted.specs.Words.{cause_text}
@@ -44,7 +44,7 @@ use Rattle.dia_upgrades.specs.Forms.{said}
 use Rattle.dia_upgrades.specs.Outcome.{IsBreakingOutcome, IsListed, accepted_of, counted, nothing_for}
 use Rattle.dia_upgrades.specs.Report.{IsReport}
 use Rattle.dia_upgrades.specs.Stale.{failing, stale_text}
-use Rattle.dia_upgrades.specs.Told.{AreParts, AreTold, IsBehind, IsLineTold, IsToldOf, written}
+use Rattle.dia_upgrades.specs.Recorded.{AreParts, AreRecorded, IsAfter, IsLineRecorded, IsRecordedOf, written}
 
 -- ---- what is put
 
@@ -53,21 +53,21 @@ abbrev pub IsPut : Option (List ℕ) → Option (List ℕ) → Pending → List 
 IsPut begun put pending text = (out : List ℕ) × Appends begun put out × (text ≡ out ++ pending.bytes.items)
 
 -- what stands where a call fails of a text that was to be put and to be pending
-abbrev pub Stands : RunFault → Option (List ℕ) → Option (List ℕ) → Pending → List ℕ → Type 0
-Stands Device begun put pending text = AppendsFront begun put text
-Stands NoMemory begun put pending text = IsPut begun put pending text
+abbrev pub Occurs : RunFault → Option (List ℕ) → Option (List ℕ) → Pending → List ℕ → Type 0
+Occurs Device begun put pending text = AppendsFront begun put text
+Occurs NoMemory begun put pending text = IsPut begun put pending text
 
 -- and where nothing is pending any more
-abbrev pub StandsPut : RunFault → Option (List ℕ) → Option (List ℕ) → List ℕ → Type 0
-StandsPut Device begun put text = AppendsFront begun put text
-StandsPut NoMemory begun put text = Appends begun put text
+abbrev pub OccursPut : RunFault → Option (List ℕ) → Option (List ℕ) → List ℕ → Type 0
+OccursPut Device begun put text = AppendsFront begun put text
+OccursPut NoMemory begun put text = Appends begun put text
 
 -- the same of a call that puts what is pending, behind one that ended so
-abbrev pub StandsBehind : {U : Type 0} → Result U RunFault → RunFault → Option (List ℕ) → Option (List ℕ) → Pending → Type 0
-StandsBehind (Err Device) fault put new pending = (fault ≡ Device) × (new ≡ put)
-StandsBehind (Err NoMemory) fault put new pending = (begun : Option (List ℕ)) (text : List ℕ) → IsPut begun put pending text → StandsPut fault begun new text
-StandsBehind (Ok u) Device put new pending = (begun : Option (List ℕ)) (text : List ℕ) → IsPut begun put pending text → AppendsFront begun new text
-StandsBehind (Ok u) NoMemory put new pending = ⊥
+abbrev pub OccursAfter : {U : Type 0} → Result U RunFault → RunFault → Option (List ℕ) → Option (List ℕ) → Pending → Type 0
+OccursAfter (Err Device) fault put new pending = (fault ≡ Device) × (new ≡ put)
+OccursAfter (Err NoMemory) fault put new pending = (begun : Option (List ℕ)) (text : List ℕ) → IsPut begun put pending text → OccursPut fault begun new text
+OccursAfter (Ok u) Device put new pending = (begun : Option (List ℕ)) (text : List ℕ) → IsPut begun put pending text → AppendsFront begun new text
+OccursAfter (Ok u) NoMemory put new pending = ⊥
 
 -- the digits of a message, on a line of their own
 abbrev pub digits_text : Option (String Global) → List ℕ
@@ -80,45 +80,45 @@ shown_text None = []
 shown_text (Some shown) = line (string_bytes shown.words) ++ digits_text shown.digits
 
 -- what is written of lines as they are found: with `--once` nothing
-abbrev pub text_shown : Asked → List PlainTold → List ℕ
+abbrev pub text_shown : Asked → List PlainRecorded → List ℕ
 text_shown asked left = if asked.once then [] else written asked left
 
 -- ---- what is known
 
-abbrev pub is_any : List PlainTold → Bool
+abbrev pub is_any : List PlainRecorded → Bool
 is_any [] = false
-is_any (t ∷ told) = true
+is_any (t ∷ recorded) = true
 
 -- how many lines are counted, where one more comes that counts or not
 abbrev pub lines_after : Bool → ℕ → ℕ
 lines_after is_other n = if is_other then n else counted (n + 1)
 
 -- the list was asked for these lines, and they are counted
-pub record AreJudged (list : List PlainEntry) (seen : Seen) (told apart : List PlainTold) : Type 0 where
-  pub accepting : HasSeen seen.accepting list (told ++ apart)
-  pub lines_are : seen.lines ≡ counted (length (left_of list told))
-  pub accepted_are : seen.accepted ≡ counted (length (accepted_of list told))
-  pub is_some_is : seen.is_some ≡ is_any told
+pub record AreJudged (list : List PlainEntry) (seen : Seen) (recorded apart : List PlainRecorded) : Type 0 where
+  pub accepting : HasSeen seen.accepting list (recorded ++ apart)
+  pub lines_are : seen.lines ≡ counted (length (left_of list recorded))
+  pub accepted_are : seen.accepted ≡ counted (length (accepted_of list recorded))
+  pub is_some_is : seen.is_some ≡ is_any recorded
 
 -- the causes of those that are left are kept
-pub record AreKept (asked : Asked) (forgets : Bool) (list : List PlainEntry) (place visits : ℕ) (seen : Seen) (told apart : List PlainTold) : Type 0 where
-  pub causes : AreCauses forgets seen.causes (map (kept asked.once) (left_of list told)) place visits
+pub record AreKept (asked : Asked) (forgets : Bool) (list : List PlainEntry) (place visits : ℕ) (seen : Seen) (recorded apart : List PlainRecorded) : Type 0 where
+  pub causes : AreCauses forgets seen.causes (map (kept asked.once) (left_of list recorded)) place visits
   pub meanings : AreCauses forgets seen.meanings (left_of list apart) place visits
 
 -- so these lines are known, the last ones of the command at this place
-pub record AreSeen (asked : Asked) (forgets : Bool) (list : List PlainEntry) (place visits : ℕ) (seen : Seen) (told apart : List PlainTold) : Type 0 where
-  pub judged : AreJudged list seen told apart
-  pub are_kept : AreKept asked forgets list place visits seen told apart
+pub record AreSeen (asked : Asked) (forgets : Bool) (list : List PlainEntry) (place visits : ℕ) (seen : Seen) (recorded apart : List PlainRecorded) : Type 0 where
+  pub judged : AreJudged list seen recorded apart
+  pub are_kept : AreKept asked forgets list place visits seen recorded apart
 
 -- one more line is known, and this text is written of it
-abbrev pub Sees : Asked → ℕ → Seen → Seen → PlainTold → List ℕ → Type 0
-Sees asked place old new t text = (forgets : Bool) (list : List PlainEntry) (visits : ℕ) (told apart : List PlainTold) → visits < 2 ^ 63
-    → AreSeen asked forgets list place visits old told apart → AreSeen asked forgets list place visits new (told ++ t ∷ []) apart × (text ≡ text_shown asked (left_of list (t ∷ [])))
+abbrev pub Sees : Asked → ℕ → Seen → Seen → PlainRecorded → List ℕ → Type 0
+Sees asked place old new t text = (forgets : Bool) (list : List PlainEntry) (visits : ℕ) (recorded apart : List PlainRecorded) → visits < 2 ^ 63
+    → AreSeen asked forgets list place visits old recorded apart → AreSeen asked forgets list place visits new (recorded ++ t ∷ []) apart × (text ≡ text_shown asked (left_of list (t ∷ [])))
 
 -- these more lines are known, of meanings that aren't shown
-abbrev pub SeesApart : Asked → ℕ → Seen → Seen → List PlainTold → Type 0
-SeesApart asked place old new more = (forgets : Bool) (list : List PlainEntry) (visits : ℕ) (told apart : List PlainTold) → visits < 2 ^ 63
-    → AreSeen asked forgets list place visits old told apart → AreSeen asked forgets list place visits new told (apart ++ more)
+abbrev pub SeesApart : Asked → ℕ → Seen → Seen → List PlainRecorded → Type 0
+SeesApart asked place old new more = (forgets : Bool) (list : List PlainEntry) (visits : ℕ) (recorded apart : List PlainRecorded) → visits < 2 ^ 63
+    → AreSeen asked forgets list place visits old recorded apart → AreSeen asked forgets list place visits new recorded (apart ++ more)
 
 module _ {A B : Type 0} {a : Reads A} {b : Reads B} where
   -- the bytes are the message of a line of what was found of a command
@@ -126,90 +126,90 @@ module _ {A B : Type 0} {a : Reads A} {b : Reads B} where
   IsMessageIn up breaks = IsLineMessage (sides_of up) (stock_of up) breaks.command breaks.sites.items
 
   -- such a line is told so
-  abbrev pub IsToldIn : Upgrade A B a b → Breaks → ℕ → Bool → Line → List PlainTold → Type 0
-  IsToldIn up breaks place messages =
-      IsLineTold place messages (words_of (sides_of up) (other_length_of up) breaks.command breaks.sites.items) (IsMessageIn up breaks)
+  abbrev pub IsRecordedIn : Upgrade A B a b → Breaks → ℕ → Bool → Line → List PlainRecorded → Type 0
+  IsRecordedIn up breaks place messages =
+      IsLineRecorded place messages (words_of (sides_of up) (other_length_of up) breaks.command breaks.sites.items) (IsMessageIn up breaks)
 
 -- the message that is kept with the cause of these words, of a line that has one behind it or not: nothing, if the cause is known
 pub record IsMessageFor (causes : Causes) (words : List ℕ) (are : List ℕ → Type 0) (has : Bool) (text : List ℕ) : Type 0 where
   pub message : List ℕ
-  pub is_behind : IsBehind are has message
-  pub is_kept : (forgets : Bool) (told : List PlainTold) (command visits : ℕ) → AreCauses forgets causes told command visits
-      → (message ≡ text) ⊎ (list_any (has_cause (cause_text words)) told ≡ true)
+  pub is_after : IsAfter are has message
+  pub is_kept : (forgets : Bool) (recorded : List PlainRecorded) (command visits : ℕ) → AreCauses forgets causes recorded command visits
+      → (message ≡ text) ⊎ (list_any (has_cause (cause_text words)) recorded ≡ true)
 
 -- ---- both
 
 -- these lines are known, and what is to be written of them is put or pending
-pub record IsUnderWay (asked : Asked) (forgets : Bool) (list : List PlainEntry) (place visits : ℕ) (begun put : Option (List ℕ)) (listing : Listing) (told apart : List PlainTold) : Type 0 where
-  pub seen : AreSeen asked forgets list place visits listing.seen told apart
-  pub is_put : IsPut begun put listing.pending (text_shown asked (left_of list told))
+pub record IsUnderWay (asked : Asked) (forgets : Bool) (list : List PlainEntry) (place visits : ℕ) (begun put : Option (List ℕ)) (listing : Listing) (recorded apart : List PlainRecorded) : Type 0 where
+  pub seen : AreSeen asked forgets list place visits listing.seen recorded apart
+  pub is_put : IsPut begun put listing.pending (text_shown asked (left_of list recorded))
 
 -- it goes on with these lines, and with these apart
-abbrev pub GoesOn : Asked → ℕ → Option (List ℕ) → Option (List ℕ) → Listing → Listing → List PlainTold → List PlainTold → Type 0
-GoesOn asked place put_old put old new more others = (forgets : Bool) (list : List PlainEntry) (visits : ℕ) (begun : Option (List ℕ)) (told apart : List PlainTold) → visits < 2 ^ 63
-    → IsUnderWay asked forgets list place visits begun put_old old told apart → IsUnderWay asked forgets list place visits begun put new (told ++ more) (apart ++ others)
+abbrev pub GoesOn : Asked → ℕ → Option (List ℕ) → Option (List ℕ) → Listing → Listing → List PlainRecorded → List PlainRecorded → Type 0
+GoesOn asked place put_old put old new more others = (forgets : Bool) (list : List PlainEntry) (visits : ℕ) (begun : Option (List ℕ)) (recorded apart : List PlainRecorded) → visits < 2 ^ 63
+    → IsUnderWay asked forgets list place visits begun put_old old recorded apart → IsUnderWay asked forgets list place visits begun put new (recorded ++ more) (apart ++ others)
 
 -- it stops behind these lines, or in the last of them
-abbrev pub StopsBehind : Asked → ℕ → RunFault → Option (List ℕ) → Option (List ℕ) → Listing → Listing → List PlainTold → Type 0
-StopsBehind asked place fault put_old put old new more = (forgets : Bool) (list : List PlainEntry) (visits : ℕ) (begun : Option (List ℕ)) (told apart : List PlainTold) → visits < 2 ^ 63
-    → IsUnderWay asked forgets list place visits begun put_old old told apart → Stands fault begun put new.pending (text_shown asked (left_of list (told ++ more)))
+abbrev pub StopsAfter : Asked → ℕ → RunFault → Option (List ℕ) → Option (List ℕ) → Listing → Listing → List PlainRecorded → Type 0
+StopsAfter asked place fault put_old put old new more = (forgets : Bool) (list : List PlainEntry) (visits : ℕ) (begun : Option (List ℕ)) (recorded apart : List PlainRecorded) → visits < 2 ^ 63
+    → IsUnderWay asked forgets list place visits begun put_old old recorded apart → Occurs fault begun put new.pending (text_shown asked (left_of list (recorded ++ more)))
 
 -- among lines that tell these
-pub record StopsAmong (asked : Asked) (place : ℕ) (fault : RunFault) (put_old put : Option (List ℕ)) (old new : Listing) (is : Line → List PlainTold → Type 0) (lines : List Line) : Type 0 where
-  pub more : List PlainTold
-  pub rest : List PlainTold
+pub record StopsAmong (asked : Asked) (place : ℕ) (fault : RunFault) (put_old put : Option (List ℕ)) (old new : Listing) (is : Line → List PlainRecorded → Type 0) (lines : List Line) : Type 0 where
+  pub more : List PlainRecorded
+  pub rest : List PlainRecorded
   pub are_parts : AreParts is lines (more ++ rest)
-  pub stops : StopsBehind asked place fault put_old put old new more
+  pub stops : StopsAfter asked place fault put_old put old new more
 
 -- before the lines of a command, or among them
 pub data StopsIn (s : Sides) (k : Stock) (asked : Asked) (lengths : List ℕ) (place : ℕ) (fault : RunFault) (put_old put : Option (List ℕ)) (old new : Listing) : Type 0 where
-  before : StopsBehind asked place fault put_old put old new [] → StopsIn s k asked lengths place fault put_old put old new
-  among : (behind : ℕ) (more rest others : List PlainTold) → IsToldOf s k asked.messages asked.meaning lengths place old.budget behind (more ++ rest) others
-      → StopsBehind asked place fault put_old put old new more → StopsIn s k asked lengths place fault put_old put old new
+  before : StopsAfter asked place fault put_old put old new [] → StopsIn s k asked lengths place fault put_old put old new
+  among : (following : ℕ) (more rest others : List PlainRecorded) → IsRecordedOf s k asked.messages asked.meaning lengths place old.budget following (more ++ rest) others
+      → StopsAfter asked place fault put_old put old new more → StopsIn s k asked lengths place fault put_old put old new
 
 -- among the lines of commands, of which these are left
-pub record AreFirstLines (s : Sides) (asked : Asked) (list : List PlainEntry) (places : List ℕ) (first : List PlainTold) : Type 0 where
+pub record AreFirstLines (s : Sides) (asked : Asked) (list : List PlainEntry) (places : List ℕ) (first : List PlainRecorded) : Type 0 where
   pub front : List ℕ
   pub back : List ℕ
-  pub told : List PlainTold
-  pub apart : List PlainTold
-  pub more : List PlainTold
+  pub recorded : List PlainRecorded
+  pub apart : List PlainRecorded
+  pub more : List PlainRecorded
   pub parts : places ≡ front ++ back
-  pub are_told : AreTold s asked.messages asked.meaning front told apart
-  pub left_are : left_of list told ≡ first ++ more
+  pub are_recorded : AreRecorded s asked.messages asked.meaning front recorded apart
+  pub left_are : left_of list recorded ≡ first ++ more
 
 -- ---- all lines
 
 -- these are the lines of the commands, they are known, and what is to be written of them is put or pending
 pub record AreUnderWay (s : Sides) (asked : Asked) (forgets : Bool) (list : List PlainEntry) (places : List ℕ) (begun put : Option (List ℕ)) (listing : Listing) : Type 0 where
-  pub told : List PlainTold
-  pub apart : List PlainTold
+  pub recorded : List PlainRecorded
+  pub apart : List PlainRecorded
   pub place : ℕ
-  pub are_told : AreTold s asked.messages asked.meaning places told apart
-  pub under_way : IsUnderWay asked forgets list place (length places) begun put listing told apart
+  pub are_recorded : AreRecorded s asked.messages asked.meaning places recorded apart
+  pub under_way : IsUnderWay asked forgets list place (length places) begun put listing recorded apart
 
 -- these are the lines of the commands, they are known, and what is to be written of them is put
 pub record AreAllPut (s : Sides) (asked : Asked) (list : List PlainEntry) (places : List ℕ) (begun put : Option (List ℕ)) (seen : Seen) : Type 0 where
-  pub told : List PlainTold
-  pub apart : List PlainTold
+  pub recorded : List PlainRecorded
+  pub apart : List PlainRecorded
   pub forgets : Bool
   pub place : ℕ
   pub visits : ℕ
-  pub are_told : AreTold s asked.messages asked.meaning places told apart
-  pub are_seen : AreSeen asked forgets list place visits seen told apart
-  pub is_put : Appends begun put (text_shown asked (left_of list told))
+  pub are_recorded : AreRecorded s asked.messages asked.meaning places recorded apart
+  pub are_seen : AreSeen asked forgets list place visits seen recorded apart
+  pub is_put : Appends begun put (text_shown asked (left_of list recorded))
 
 -- what is said where no line is left: nothing, if so many entries fail
 abbrev pub nothing_said : Form → Bool → Bool → ℕ → List ℕ
 nothing_said form meaning is_some failing = if failing == 0 then said form (nothing_for meaning is_some) else []
 
 -- what is written behind all lines of what is left of them
-abbrev pub lines_end : Asked → ℕ → Bool → List PlainTold → ℕ → List ℕ
+abbrev pub lines_end : Asked → ℕ → Bool → List PlainRecorded → ℕ → List ℕ
 lines_end asked lines is_some causes failing =
     if lines == 0 then nothing_said asked.form asked.meaning is_some failing else (if asked.once then written asked causes else [])
 
 -- what is written behind all lines, where these entries fail
-abbrev pub end_text : Asked → ℕ → Bool → List PlainTold → List PlainEntry → List ℕ
+abbrev pub end_text : Asked → ℕ → Bool → List PlainRecorded → List PlainEntry → List ℕ
 end_text asked lines is_some causes fails = lines_end asked lines is_some causes (length fails) ++ stale_text asked.form fails
 
 abbrev pub exit_of : ℕ → ℕ → Exit
@@ -220,18 +220,18 @@ fails_of asked stale = failing asked.stale (map plain_entry stale.items)
 
 -- what was found of the lines that are known, with these entries of the list
 pub record Finds (seen : Seen) (unused stale : Vec Entry) (is : Found) : Type 0 where
-  pub causes : Vec Told
-  pub meanings : Vec Told
+  pub causes : Vec Recorded
+  pub meanings : Vec Recorded
   pub found_is : is ≡ found.Listed unused stale seen.lines seen.accepted causes meanings
-  pub causes_are : (forgets : Bool) (told : List PlainTold) (command visits : ℕ) → AreCauses forgets seen.causes told command visits → map plain_told causes.items ≡ once_of told
-  pub meanings_are : (forgets : Bool) (told : List PlainTold) (command visits : ℕ) → AreCauses forgets seen.meanings told command visits → map plain_told meanings.items ≡ once_of told
+  pub causes_are : (forgets : Bool) (recorded : List PlainRecorded) (command visits : ℕ) → AreCauses forgets seen.causes recorded command visits → map plain_recorded causes.items ≡ once_of recorded
+  pub meanings_are : (forgets : Bool) (recorded : List PlainRecorded) (command visits : ℕ) → AreCauses forgets seen.meanings recorded command visits → map plain_recorded meanings.items ≡ once_of recorded
 
 -- what was found, how it ends, and what was written behind all lines; or why not
 abbrev pub Ends : Asked → Seen → Vec Entry → Vec Entry → Option (List ℕ) → Option (List ℕ) → Result Listed RunFault → Type 0
 Ends asked seen unused stale old new (Ok listed) = (finds : Finds seen unused stale listed.found) × (listed.exit ≡ exit_of seen.lines (length (fails_of asked stale)))
-    × Appends old new (end_text asked seen.lines seen.is_some (map plain_told finds.causes.items) (fails_of asked stale))
+    × Appends old new (end_text asked seen.lines seen.is_some (map plain_recorded finds.causes.items) (fails_of asked stale))
 Ends asked seen unused stale old new (Err Device) = (is : Found) × (finds : Finds seen unused stale is)
-    × AppendsFront old new (end_text asked seen.lines seen.is_some (map plain_told finds.causes.items) (fails_of asked stale))
+    × AppendsFront old new (end_text asked seen.lines seen.is_some (map plain_recorded finds.causes.items) (fails_of asked stale))
 Ends asked seen unused stale old new (Err NoMemory) = new ≡ old
 
 -- ---- what is answered

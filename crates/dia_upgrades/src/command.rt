@@ -3,7 +3,7 @@
 ghost use Rattle.std.specs.Prelude.{◌≡◌, ◌↔◌, ℕ, List, IfErr, IfOk, Err, IsTrue};
 ghost use Rattle.std.specs.Io.KnownBytes.{Appends};
 ghost use Rattle.dia_io.specs.Writing.{AppendsFront};
-ghost use Rattle.dia_report.specs.Refusals.{TellsOf, bad_input_text};
+ghost use Rattle.dia_report.specs.Refusals.{RecordsOf, bad_input_text};
 ghost use Rattle.dia_run.specs.Report.{AreReadFrom};
 ghost use Rattle.dia_run.specs.Texts.{line};
 ghost use Rattle.dia_upgrades.specs.Begun.{IsOutcomeBegun, IsOutcomeBegunOrWhole};
@@ -43,12 +43,12 @@ pub fn breaking<S: Sink>(
         × Appends (S.written sink.old) (S.written sink.new) text) }
     // Where it answers yes, nothing breaks, or nothing but what the list accepts, and it has said which; with `meaning` nothing
     // is read as another format, either, but for what the list accepts.
-    ensures yes { IfOk result (λ reported. reported.exit ≡ Exit.Yes → (told : List ℕ) × IsSafeUpgrade asked.entry inputs.now told
-        × Appends (S.written sink.old) (S.written sink.new) told) }
+    ensures yes { IfOk result (λ reported. reported.exit ≡ Exit.Yes → (recorded : List ℕ) × IsSafeUpgrade asked.entry inputs.now recorded
+        × Appends (S.written sink.old) (S.written sink.new) recorded) }
     // Where it answers no, it has written the lines that the list doesn't accept, and at least one.
     ensures no { IfOk result (λ reported. reported.exit ≡ Exit.No
-        → (told : List ℕ) × IsUnsafeUpgrade asked.entry inputs.now told
-        × Appends (S.written sink.old) (S.written sink.new) told) }
+        → (recorded : List ℕ) × IsUnsafeUpgrade asked.entry inputs.now recorded
+        × Appends (S.written sink.old) (S.written sink.new) recorded) }
     ensures bad { IfOk result
         (λ reported. (reported.exit ≡ Exit.Bad) ↔ AreRefused asked.entry inputs.now) }
     ensures device { (result ≡ Err RunFault.Device) ↔ IsTrue (S.has_failed sink.new) }
@@ -84,7 +84,7 @@ fn reported<S: Sink>(
 /// The dictionaries, or why one is refused.
 fn read_both(alloc: Global, inputs: &Inputs) -> Result<BothBooks, Refused>
     ensures books { IfOk result (AreReadFrom ⟦<IndexedBook as Book>⟧.meaning inputs.now) }
-    ensures refused { IfErr result (TellsOf (IsRefusedText inputs.now)) }
+    ensures refused { IfErr result (RecordsOf (IsRefusedText inputs.now)) }
 {
     let first = read_dictionary(alloc, 1, &inputs.first)?;
     let second = read_dictionary(alloc, 2, &inputs.second)?;

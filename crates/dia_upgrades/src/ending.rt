@@ -6,18 +6,18 @@ ghost use Rattle.std.specs.Io.KnownBytes.{Appends};
 ghost use Rattle.dia_io.specs.declared.RunFault.TheVariants.{Device, NoMemory};
 ghost use Rattle.dia_io.specs.Writing.{AppendsFront};
 ghost use Rattle.dia_run.specs.Texts.{line};
-ghost use Rattle.dia_accepted.specs.Accepted.{plain_entry, plain_told};
+ghost use Rattle.dia_accepted.specs.Accepted.{plain_entry, plain_recorded};
 ghost use Rattle.dia_upgrades.specs.Outcome.{nothing_for};
 ghost use Rattle.dia_upgrades.specs.Stale.{failing, stale_line, stale_text};
 ghost use Rattle.dia_upgrades.specs.Forms.{object_in, said};
-ghost use Rattle.dia_upgrades.specs.Told.{told_text, written};
+ghost use Rattle.dia_upgrades.specs.Recorded.{recorded_text, written};
 ghost use Rattle.dia_upgrades.specs.UnderWay.{Ends, IsPut, end_text, exit_of, lines_end, nothing_said};
 
 use crate::asked::{Asked, Form, Stale};
 use crate::pending::Pending;
 use crate::reporting::{Found, Listed};
 use crate::seen::Seen;
-use dia_accepted::{Entry, Told};
+use dia_accepted::{Entry, Recorded};
 use dia_breaking_json::{Names, line_json};
 use dia_io::{Exit, Failed, RunFault, Sink, put_all};
 use std::alloc::{AllocError, Global};
@@ -93,15 +93,15 @@ fn put_ending<S: Sink>(
     asked: Asked<'_>,
     lines: usize,
     is_some: bool,
-    causes: &[Told],
+    causes: &[Recorded],
     stale: &[Entry],
     sink: &mut S,
 ) -> Result<(), RunFault>
     requires { ¬ IsTrue (S.has_failed sink.old) }
     ensures put { OnOk result (Appends (S.written sink.old) (S.written sink.new)
-        (end_text asked.entry lines is_some (map plain_told causes.now) (failing asked.entry.stale (map plain_entry stale.now)))) }
+        (end_text asked.entry lines is_some (map plain_recorded causes.now) (failing asked.entry.stale (map plain_entry stale.now)))) }
     ensures front { result ≡ Err Device → AppendsFront (S.written sink.old) (S.written sink.new)
-        (end_text asked.entry lines is_some (map plain_told causes.now) (failing asked.entry.stale (map plain_entry stale.now))) }
+        (end_text asked.entry lines is_some (map plain_recorded causes.now) (failing asked.entry.stale (map plain_entry stale.now))) }
     ensures device { (result ≡ Err Device) ↔ IsTrue (S.has_failed sink.new) }
     ensures no_memory { result ≡ Err NoMemory → S.written sink.new ≡ S.written sink.old }
 {
@@ -147,15 +147,15 @@ fn put_end<S: Sink>(
     asked: Asked<'_>,
     lines: usize,
     is_some: bool,
-    causes: &[Told],
+    causes: &[Recorded],
     failing: usize,
     sink: &mut S,
 ) -> Result<(), RunFault>
     requires { ¬ IsTrue (S.has_failed sink.old) }
     ensures put { OnOk result (Appends (S.written sink.old) (S.written sink.new)
-        (lines_end asked.entry lines is_some (map plain_told causes.now) failing)) }
+        (lines_end asked.entry lines is_some (map plain_recorded causes.now) failing)) }
     ensures front { result ≡ Err Device → AppendsFront (S.written sink.old) (S.written sink.new)
-        (lines_end asked.entry lines is_some (map plain_told causes.now) failing) }
+        (lines_end asked.entry lines is_some (map plain_recorded causes.now) failing) }
     ensures device { (result ≡ Err Device) ↔ IsTrue (S.has_failed sink.new) }
     ensures no_memory { result ≡ Err NoMemory → S.written sink.new ≡ S.written sink.old }
 {
@@ -174,15 +174,15 @@ fn put_end<S: Sink>(
 fn put_once<S: Sink>(
     alloc: Global,
     asked: Asked<'_>,
-    causes: &[Told],
+    causes: &[Recorded],
     sink: &mut S,
 ) -> Result<(), RunFault>
     requires sound { ¬ IsTrue (S.has_failed sink.old) }
     requires once { asked.once ≡ true }
     ensures put { OnOk result (Appends (S.written sink.old) (S.written sink.new)
-        (written asked.entry (map plain_told causes.now))) }
+        (written asked.entry (map plain_recorded causes.now))) }
     ensures front { result ≡ Err Device → AppendsFront (S.written sink.old) (S.written sink.new)
-        (written asked.entry (map plain_told causes.now)) }
+        (written asked.entry (map plain_recorded causes.now)) }
     ensures device { (result ≡ Err Device) ↔ IsTrue (S.has_failed sink.new) }
     ensures no_memory { result ≡ Err NoMemory → S.written sink.new ≡ S.written sink.old }
 {
@@ -197,12 +197,12 @@ fn put_once<S: Sink>(
 }
 
 /// The objects of causes.
-fn causes_json(alloc: Global, names: &Names, causes: &[Told]) -> Result<String, AllocError>
-    ensures { IfOk result (λ text. string_bytes text ≡ flat_map (object_in names.now true) (map plain_told causes.now)) }
+fn causes_json(alloc: Global, names: &Names, causes: &[Recorded]) -> Result<String, AllocError>
+    ensures { IfOk result (λ text. string_bytes text ≡ flat_map (object_in names.now true) (map plain_recorded causes.now)) }
 {
     let mut text = String::new(alloc);
-    for told in causes {
-        push_cause(alloc, &mut text, names, told)?;
+    for recorded in causes {
+        push_cause(alloc, &mut text, names, recorded)?;
     }
     Ok(text)
 }
@@ -212,16 +212,16 @@ fn push_cause(
     alloc: Global,
     text: &mut String,
     names: &Names,
-    told: &Told,
+    recorded: &Recorded,
 ) -> Result<(), AllocError>
-    ensures { OnOk result (string_bytes text.new ≡ string_bytes text.old ++ object_in names.now true (plain_told told.now)) }
+    ensures { OnOk result (string_bytes text.new ≡ string_bytes text.old ++ object_in names.now true (plain_recorded recorded.now)) }
 {
     let object = line_json(
         alloc,
         names,
         true,
-        told.words.as_str(),
-        told.message.as_str(),
+        recorded.words.as_str(),
+        recorded.message.as_str(),
     )?;
     write!(text, "{object}\n")
 }
@@ -257,35 +257,39 @@ fn nothing_left(is_some: bool, meaning: bool) -> &'static str
 }
 
 /// Writes a line for each cause, with its message behind it, if it has one.
-fn put_causes<S: Sink>(alloc: Global, causes: &[Told], sink: &mut S) -> Result<(), Failed>
+fn put_causes<S: Sink>(alloc: Global, causes: &[Recorded], sink: &mut S) -> Result<(), Failed>
     requires { ¬ IsTrue (S.has_failed sink.old) }
-    ensures put { OnOk result (Appends (S.written sink.old) (S.written sink.new) (told_text (map plain_told causes.now))) }
-    ensures front { AppendsFront (S.written sink.old) (S.written sink.new) (told_text (map plain_told causes.now)) }
+    ensures put { OnOk result (Appends (S.written sink.old) (S.written sink.new) (recorded_text (map plain_recorded causes.now))) }
+    ensures front { AppendsFront (S.written sink.old) (S.written sink.new) (recorded_text (map plain_recorded causes.now)) }
     ensures failed { IsErr result ↔ IsTrue (S.has_failed sink.new) }
 {
     let mut pending = Pending::new(alloc);
-    for told in causes {
-        add_told(&mut pending, sink, told)?;
+    for recorded in causes {
+        add_recorded(&mut pending, sink, recorded)?;
     }
     pending.put(sink)
 }
 
 /// Adds a line, and its message.
-fn add_told<S: Sink>(pending: &mut Pending, sink: &mut S, told: &Told) -> Result<(), Failed>
+fn add_recorded<S: Sink>(
+    pending: &mut Pending,
+    sink: &mut S,
+    recorded: &Recorded,
+) -> Result<(), Failed>
     requires { ¬ IsTrue (S.has_failed sink.old) }
     ensures added { OnOk result ((begun : Option (List ℕ)) (before : List ℕ)
         → IsPut begun (S.written sink.old) pending.old before
         → IsPut begun (S.written sink.new) pending.new
-        (before ++ (line (string_bytes told.now.words) ++ string_bytes told.now.message))) }
+        (before ++ (line (string_bytes recorded.now.words) ++ string_bytes recorded.now.message))) }
     ensures front { IsErr result → (begun : Option (List ℕ)) (before : List ℕ)
         → IsPut begun (S.written sink.old) pending.old before
         → AppendsFront begun (S.written sink.new)
-        (before ++ (line (string_bytes told.now.words) ++ string_bytes told.now.message)) }
+        (before ++ (line (string_bytes recorded.now.words) ++ string_bytes recorded.now.message)) }
     ensures failed { IsErr result ↔ IsTrue (S.has_failed sink.new) }
 {
-    pending.add(sink, told.words.as_bytes())?;
+    pending.add(sink, recorded.words.as_bytes())?;
     pending.add(sink, b"\n")?;
-    pending.add(sink, told.message.as_bytes())
+    pending.add(sink, recorded.message.as_bytes())
 }
 
 /// Writes the text of a refusal.

@@ -1,5 +1,5 @@
 //! What holds of what is told.
-ghost use Rattle.dia_upgrades.specs.Told.{ConfirmedTextsBreak, MessageTextsAreOne};
+ghost use Rattle.dia_upgrades.specs.Recorded.{ConfirmedTextsBreak, MessageTextsAreOne};
 
 use dia_breaking::line_messages_are_one;
 

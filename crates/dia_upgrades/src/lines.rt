@@ -6,12 +6,12 @@ ghost use Rattle.dia_breaking.specs.Upgrades.{facts_of, sides_of, stock_of};
 ghost use Rattle.dia_breaking.specs.Confirmed.{most_checked_together};
 ghost use Rattle.std.specs.Io.KnownBytes.{Appends};
 ghost use Rattle.dia_io.specs.declared.RunFault.TheVariants.{Device};
-ghost use Rattle.dia_accepted.specs.Accepted.{PlainEntry, PlainTold, plain_entry};
+ghost use Rattle.dia_accepted.specs.Accepted.{PlainEntry, PlainRecorded, plain_entry};
 ghost use Rattle.dia_upgrades.specs.declared.asked.Asked.{Asked as AnyAsked};
-ghost use Rattle.dia_upgrades.specs.UnderWay.{AreAllPut, AreFirstLines, AreUnderWay, GoesOn, IsPut, IsToldIn, IsUnderWay};
-ghost use Rattle.dia_upgrades.specs.UnderWay.{SeesApart, Stands, StandsBehind, StandsPut, StopsAmong, StopsIn, text_shown};
+ghost use Rattle.dia_upgrades.specs.UnderWay.{AreAllPut, AreFirstLines, AreUnderWay, GoesOn, IsPut, IsRecordedIn, IsUnderWay};
+ghost use Rattle.dia_upgrades.specs.UnderWay.{SeesApart, Occurs, OccursAfter, OccursPut, StopsAmong, StopsIn, text_shown};
 ghost use Rattle.dia_upgrades.specs.Places.{IsEachNew};
-ghost use Rattle.dia_upgrades.specs.Told.{AreParts, IsToldOf};
+ghost use Rattle.dia_upgrades.specs.Recorded.{AreParts, IsRecordedOf};
 
 use crate::asked::Asked;
 use crate::naming::are_distinct;
@@ -49,9 +49,9 @@ pub(crate) fn put_lines<'l, A: Book, B: Book, S: Sink>(
     requires places { All (λ place. place < length (sides_of upgrade.now).sender.commands) places.now }
     ensures all { IfOk result (λ listing. AreAllPut (sides_of upgrade.now) asked.entry (map plain_entry list.now) places.now
         (S.written sink.old) (S.written sink.new) listing.value.seen) }
-    ensures front { IfErr result (λ fault. (first : List PlainTold)
+    ensures front { IfErr result (λ fault. (first : List PlainRecorded)
         × AreFirstLines (sides_of upgrade.now) asked.entry (map plain_entry list.now) places.now first
-        × StandsPut fault (S.written sink.old) (S.written sink.new) (text_shown asked.entry first)) }
+        × OccursPut fault (S.written sink.old) (S.written sink.new) (text_shown asked.entry first)) }
     ensures device { (result ≡ Err Device) ↔ IsTrue (S.has_failed sink.new) }
 {
     let forgets = are_distinct(alloc, places)?;
@@ -85,7 +85,7 @@ fn put_rest<S: Sink>(
     requires { IsTrue (S.has_failed sink.old) ↔ (found ≡ Err Device) }
     ensures all { OnOk result (IsOk found × ((begun : Option (List ℕ)) (text : List ℕ)
         → IsPut begun (S.written sink.old) pending.old text → Appends begun (S.written sink.new) text)) }
-    ensures front { IfErr result (λ fault. StandsBehind found fault (S.written sink.old) (S.written sink.new) pending.old) }
+    ensures front { IfErr result (λ fault. OccursAfter found fault (S.written sink.old) (S.written sink.new) pending.old) }
     ensures device { (result ≡ Err Device) ↔ IsTrue (S.has_failed sink.new) }
 {
     match found {
@@ -120,8 +120,8 @@ fn put_commands<A: Book, B: Book, S: Sink>(
     ensures stops { IfErr result (λ fault. (list : List PlainEntry) (begun : Option (List ℕ)) (place : ℕ) → (forgets ≡ true → IsEachNew places.now)
         → listing.old.budget ≡ most_checked_together
         → IsUnderWay asked.entry forgets list place 0 begun (S.written sink.old) listing.old [] []
-        → (first : List PlainTold) × AreFirstLines (sides_of upgrade.now) asked.entry list places.now first
-        × Stands fault begun (S.written sink.new) listing.new.pending (text_shown asked.entry first)) }
+        → (first : List PlainRecorded) × AreFirstLines (sides_of upgrade.now) asked.entry list places.now first
+        × Occurs fault begun (S.written sink.new) listing.new.pending (text_shown asked.entry first)) }
     ensures device { (result ≡ Err Device) ↔ IsTrue (S.has_failed sink.new) }
 {
     for place in places {
@@ -142,10 +142,10 @@ fn put_command<A: Book, B: Book, S: Sink>(
 ) -> Result<(), RunFault>
     requires sound { ¬ IsTrue (S.has_failed sink.old) }
     requires place { place < length (sides_of upgrade.now).sender.commands }
-    ensures all { OnOk result ((told apart : List PlainTold)
-        × IsToldOf (sides_of upgrade.now) (stock_of upgrade.now) asked.entry.messages asked.entry.meaning
-        (facts_of upgrade.now).lengths place listing.old.budget listing.new.budget told apart
-        × GoesOn asked.entry place (S.written sink.old) (S.written sink.new) listing.old listing.new told apart) }
+    ensures all { OnOk result ((recorded apart : List PlainRecorded)
+        × IsRecordedOf (sides_of upgrade.now) (stock_of upgrade.now) asked.entry.messages asked.entry.meaning
+        (facts_of upgrade.now).lengths place listing.old.budget listing.new.budget recorded apart
+        × GoesOn asked.entry place (S.written sink.old) (S.written sink.new) listing.old listing.new recorded apart) }
     ensures stops { IfErr result (λ fault. StopsIn (sides_of upgrade.now) (stock_of upgrade.now) asked.entry
         (facts_of upgrade.now).lengths place fault (S.written sink.old) (S.written sink.new) listing.old listing.new) }
     ensures device { (result ≡ Err Device) ↔ IsTrue (S.has_failed sink.new) }
@@ -172,11 +172,11 @@ fn put_each<A: Book, B: Book, S: Sink>(
     asked: Asked<'_>,
 ) -> Result<(), RunFault>
     requires { ¬ IsTrue (S.has_failed sink.old) }
-    ensures all { OnOk result ((told : List PlainTold)
-        × AreParts (IsToldIn upgrade.now breaks.now place asked.entry.messages) lines.now told
-        × GoesOn asked.entry place (S.written sink.old) (S.written sink.new) listing.old listing.new told []) }
+    ensures all { OnOk result ((recorded : List PlainRecorded)
+        × AreParts (IsRecordedIn upgrade.now breaks.now place asked.entry.messages) lines.now recorded
+        × GoesOn asked.entry place (S.written sink.old) (S.written sink.new) listing.old listing.new recorded []) }
     ensures stops { IfErr result (λ fault. StopsAmong asked.entry place fault (S.written sink.old) (S.written sink.new)
-        listing.old listing.new (IsToldIn upgrade.now breaks.now place asked.entry.messages) lines.now) }
+        listing.old listing.new (IsRecordedIn upgrade.now breaks.now place asked.entry.messages) lines.now) }
     ensures budget { listing.new.budget ≡ listing.old.budget }
     ensures device { (result ≡ Err Device) ↔ IsTrue (S.has_failed sink.new) }
 {
@@ -198,11 +198,11 @@ fn put_line<A: Book, B: Book, S: Sink>(
     asked: Asked<'_>,
 ) -> Result<(), RunFault>
     requires { ¬ IsTrue (S.has_failed sink.old) }
-    ensures all { OnOk result ((t : PlainTold)
-        × IsToldIn upgrade.now breaks.now place asked.entry.messages line.now (t ∷ [])
+    ensures all { OnOk result ((t : PlainRecorded)
+        × IsRecordedIn upgrade.now breaks.now place asked.entry.messages line.now (t ∷ [])
         × GoesOn asked.entry place (S.written sink.old) (S.written sink.new) listing.old listing.new (t ∷ []) []) }
     ensures stops { IfErr result (λ fault. StopsAmong asked.entry place fault (S.written sink.old) (S.written sink.new)
-        listing.old listing.new (IsToldIn upgrade.now breaks.now place asked.entry.messages) (line.now ∷ [])) }
+        listing.old listing.new (IsRecordedIn upgrade.now breaks.now place asked.entry.messages) (line.now ∷ [])) }
     ensures budget { listing.new.budget ≡ listing.old.budget }
     ensures device { (result ≡ Err Device) ↔ IsTrue (S.has_failed sink.new) }
 {
@@ -228,8 +228,8 @@ fn see_each_apart<A: Book, B: Book>(
     lines: &[Line],
     place: usize,
 ) -> Result<(), AllocError>
-    ensures { OnOk result ((others : List PlainTold)
-        × AreParts (IsToldIn upgrade.now breaks.now place false) lines.now others
+    ensures { OnOk result ((others : List PlainRecorded)
+        × AreParts (IsRecordedIn upgrade.now breaks.now place false) lines.now others
         × ((asked : AnyAsked) → SeesApart asked place seen.old seen.new others)) }
 {
     for line in lines {
@@ -247,8 +247,8 @@ fn see_apart<A: Book, B: Book>(
     line: &Line,
     place: usize,
 ) -> Result<(), AllocError>
-    ensures { OnOk result ((others : List PlainTold)
-        × IsToldIn upgrade.now breaks.now place false line.now others
+    ensures { OnOk result ((others : List PlainRecorded)
+        × IsRecordedIn upgrade.now breaks.now place false line.now others
         × ((asked : AnyAsked) → SeesApart asked place seen.old seen.new others)) }
 {
     let mut words = String::new(alloc);

@@ -1,7 +1,7 @@
 //! What is answered: how it ends, and what was read and found.
 
 use crate::list::BadList;
-use dia_accepted::{Entry, Told};
+use dia_accepted::{Entry, Recorded};
 use dia_io::Exit;
 use dia_report::{BadInput, BothBooks};
 
@@ -19,10 +19,10 @@ pub enum Found {
         /// How many the list accepts, counted in the same way.
         accepted: usize,
         /// A line for each cause of these. It has its message only where each cause is told once.
-        causes: Vec<Told>,
+        causes: Vec<Recorded>,
         /// Where meanings aren't asked for: a line for each AVP that the second side reads as another format, but for those
         /// that the list accepts.
-        meanings: Vec<Told>,
+        meanings: Vec<Recorded>,
     },
     /// The text of the list is refused.
     NoList(BadList),

@@ -25,11 +25,11 @@ pub(crate) struct Seen<'l> {
 impl<'l> Seen<'l> {
     ghost use Rattle.std.specs.Prelude.{◌≡◌, ◌<◌, ◌+◌, ◌++◌, ◌∷◌, Bool, List, ℕ, [], IfOk, OnOk, map, true, false};
     ghost use Rattle.std.specs.List.{list_any};
-    ghost use Rattle.dia_accepted.specs.Accepted.{PlainEntry, PlainTold, accepts, kept, plain_entry};
+    ghost use Rattle.dia_accepted.specs.Accepted.{PlainEntry, PlainRecorded, accepts, kept, plain_entry};
     ghost use Rattle.dia_accepted.specs.Seen.{is_command};
     ghost use Rattle.dia_upgrades.specs.declared.asked.Asked.{Asked as AnyAsked};
     ghost use Rattle.dia_upgrades.specs.UnderWay.{AreJudged, AreSeen, SeesApart};
-    ghost use Rattle.dia_upgrades.specs.Told.{told_as};
+    ghost use Rattle.dia_upgrades.specs.Recorded.{recorded_as};
 
     /// No line is known.
     pub fn new(alloc: Global, list: &'l [Entry]) -> Result<Seen<'l>, AllocError>
@@ -48,10 +48,10 @@ impl<'l> Seen<'l> {
 
     /// Begins with the lines of the command at a place. `forgets` says whether none of the places so far comes again.
     pub fn begin(&mut self, forgets: bool)
-        ensures { (asked : AnyAsked) (list : List PlainEntry) (before place visits : ℕ) (told apart : List PlainTold)
-            → (forgets ≡ true → (list_any (is_command place) told ≡ false) × (list_any (is_command place) apart ≡ false))
-            → AreSeen asked forgets list before visits self.old told apart
-            → AreSeen asked forgets list place (visits + 1) self.new told apart }
+        ensures { (asked : AnyAsked) (list : List PlainEntry) (before place visits : ℕ) (recorded apart : List PlainRecorded)
+            → (forgets ≡ true → (list_any (is_command place) recorded ≡ false) × (list_any (is_command place) apart ≡ false))
+            → AreSeen asked forgets list before visits self.old recorded apart
+            → AreSeen asked forgets list place (visits + 1) self.new recorded apart }
     {
         self.causes.begin(forgets);
         self.meanings.begin(forgets);
@@ -59,10 +59,10 @@ impl<'l> Seen<'l> {
 
     /// A line comes. Answers whether the list accepts it; its cause isn't kept yet.
     pub fn judge(&mut self, alloc: Global, words: &str) -> Result<bool, AllocError>
-        ensures accepted { IfOk result (λ known. (list : List PlainEntry) (told apart : List PlainTold)
-            → AreJudged list self.old told apart → known ≡ list_any (accepts words.now) list) }
-        ensures judged { OnOk result ((list : List PlainEntry) (told apart : List PlainTold) (t : PlainTold) → t.words ≡ words.now
-            → AreJudged list self.old told apart → AreJudged list self.new (told ++ t ∷ []) apart) }
+        ensures accepted { IfOk result (λ known. (list : List PlainEntry) (recorded apart : List PlainRecorded)
+            → AreJudged list self.old recorded apart → known ≡ list_any (accepts words.now) list) }
+        ensures judged { OnOk result ((list : List PlainEntry) (recorded apart : List PlainRecorded) (t : PlainRecorded) → t.words ≡ words.now
+            → AreJudged list self.old recorded apart → AreJudged list self.new (recorded ++ t ∷ []) apart) }
         ensures causes { OnOk result (self.new.causes ≡ self.old.causes) }
         ensures meanings { OnOk result (self.new.meanings ≡ self.old.meanings) }
     {
@@ -75,7 +75,7 @@ impl<'l> Seen<'l> {
 
     /// A line of a meaning that isn't asked for comes.
     pub fn see_apart(&mut self, alloc: Global, place: usize, words: &str) -> Result<(), AllocError>
-        ensures { OnOk result ((asked : AnyAsked) → SeesApart asked place self.old self.new (told_as place words.now [] ∷ [])) }
+        ensures { OnOk result ((asked : AnyAsked) → SeesApart asked place self.old self.new (recorded_as place words.now [] ∷ [])) }
     {
         let known = self.accepting.accepts(alloc, words)?;
         if known {

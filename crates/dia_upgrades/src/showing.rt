@@ -2,9 +2,9 @@
 
 ghost use Rattle.std.specs.Prelude.{◌≡◌, ◌∷◌, ℕ, IfOk, OnOk, Some, [], string_bytes};
 ghost use Rattle.dia_breaking.specs.Orders.{IsInOrderOf};
-ghost use Rattle.dia_accepted.specs.Accepted.{PlainTold};
-ghost use Rattle.dia_upgrades.specs.Told.{AreShown, IsBehind, apart_of, has_message, message_line, place_of, told_as};
-ghost use Rattle.dia_upgrades.specs.UnderWay.{IsMessageFor, IsMessageIn, IsToldIn, Sees, digits_text, shown_text};
+ghost use Rattle.dia_accepted.specs.Accepted.{PlainRecorded};
+ghost use Rattle.dia_upgrades.specs.Recorded.{AreShown, IsAfter, apart_of, has_message, message_line, place_of, recorded_as};
+ghost use Rattle.dia_upgrades.specs.UnderWay.{IsMessageFor, IsMessageIn, IsRecordedIn, Sees, digits_text, shown_text};
 ghost use Rattle.dia_upgrades.specs.Forms.{line_in};
 
 use crate::asked::{Asked, Form};
@@ -27,26 +27,34 @@ pub(crate) fn see_line<A: Book, B: Book>(
     place: usize,
     asked: Asked<'_>,
 ) -> Result<Option<Shown>, AllocError>
-    ensures { IfOk result (λ shown. (t : PlainTold)
-        × IsToldIn upgrade.now breaks.now place asked.entry.messages line.now (t ∷ [])
+    ensures { IfOk result (λ shown. (t : PlainRecorded)
+        × IsRecordedIn upgrade.now breaks.now place asked.entry.messages line.now (t ∷ [])
         × Sees asked.entry place seen.old seen.new t (shown_text shown)) }
 {
     let mut words = String::new(alloc);
     upgrade.push_words(alloc, &mut words, breaks, line)?;
-    let told = words.as_str();
-    let known = seen.judge(alloc, told)?;
+    let recorded = words.as_str();
+    let known = seen.judge(alloc, recorded)?;
     if known {
         return Ok(None);
     }
     let messages = asked.messages;
     if asked.once {
-        let message = message_for(alloc, &seen.causes, upgrade, breaks, line, messages, told)?;
-        seen.causes.add(alloc, place, told, message)?;
+        let message = message_for(
+            alloc,
+            &seen.causes,
+            upgrade,
+            breaks,
+            line,
+            messages,
+            recorded,
+        )?;
+        seen.causes.add(alloc, place, recorded, message)?;
         return Ok(None);
     }
     let digits = digits_of(alloc, upgrade, breaks, line, messages)?;
     let none = String::new(alloc);
-    seen.causes.add(alloc, place, told, none)?;
+    seen.causes.add(alloc, place, recorded, none)?;
     let shown = in_form(alloc, asked, words, digits)?;
     Ok(Some(shown))
 }
@@ -59,7 +67,7 @@ fn in_form(
     digits: Option<String>,
 ) -> Result<Shown, AllocError>
     ensures { IfOk result (λ shown. (place : ℕ) → shown_text (Some shown)
-        ≡ line_in asked.entry.form asked.entry.once (told_as place (string_bytes words) (digits_text digits))) }
+        ≡ line_in asked.entry.form asked.entry.once (recorded_as place (string_bytes words) (digits_text digits))) }
 {
     match asked.form {
         Form::Text => Ok(Shown { words, digits }),
@@ -115,7 +123,7 @@ fn digits_of<A: Book, B: Book>(
     line: &Line,
     messages: bool,
 ) -> Result<Option<String>, AllocError>
-    ensures { IfOk result (λ digits. IsBehind (IsMessageIn upgrade.now breaks.now line.now)
+    ensures { IfOk result (λ digits. IsAfter (IsMessageIn upgrade.now breaks.now line.now)
         (has_message messages line.now.standing) (digits_text digits)) }
 {
     if has_message(messages, line.standing) {

@@ -2,7 +2,7 @@
 use Rattle.std.proofs.Common.{ℕ, List, [], ◌++◌, refl}
 use Rattle.std.specs.Prelude.{filter}
 use Rattle.std.specs.Borrow.{Bor}
-use Rattle.dia_accepted.specs.Accepted.{PlainEntry, PlainTold, is_about, unused_of}
+use Rattle.dia_accepted.specs.Accepted.{PlainEntry, PlainRecorded, is_about, unused_of}
 use Rattle.dia_book.specs.Dictionary.{Dictionary}
 use Rattle.dia_breaking_json.specs.declared.Names.{Names}
 use Rattle.dia_io.specs.declared.Inputs.{Inputs}
@@ -23,19 +23,19 @@ module _ (asked : Asked) (names : Bor Names) (inputs : Inputs) where
   looked_in_words Allowed a b list stale are = are
   looked_in_words Ignored a b list stale are = are
 
-  stale_in_words : (a b : Dictionary) (list : List PlainEntry) (told apart : List PlainTold) (stale : List PlainEntry) → AreStale (as_json asked names) a b list told apart stale
-      → AreStale asked a b list told apart stale
-  stale_in_words a b list told apart stale are = looked_in_words asked.stale a b (filter (is_about (names_of asked)) (unused_of list (told ++ apart))) stale are
+  stale_in_words : (a b : Dictionary) (list : List PlainEntry) (recorded apart : List PlainRecorded) (stale : List PlainEntry) → AreStale (as_json asked names) a b list recorded apart stale
+      → AreStale asked a b list recorded apart stale
+  stale_in_words a b list recorded apart stale are = looked_in_words asked.stale a b (filter (is_about (names_of asked)) (unused_of list (recorded ++ apart))) stale are
 
   none_in_words : (a b : Dictionary) (list : List PlainEntry) → NoneIsStale (as_json asked names) a b list → NoneIsStale asked a b list
-  none_in_words a b list none fails = let (told, apart, all, are) = none fails in (told, apart, all, stale_in_words a b list told apart [] are)
+  none_in_words a b list none fails = let (recorded, apart, all, are) = none fails in (recorded, apart, all, stale_in_words a b list recorded apart [] are)
 
   pub safe_in_words : (text : List ℕ) → IsSafeUpgrade (as_json asked names) inputs text → (words : List ℕ) × IsSafeUpgrade asked inputs words
   safe_in_words text (safe a b list is breaks differs none is_text) = (_, safe a b list (are_read a b list is) breaks differs (none_in_words a b list none) refl)
   safe_in_words text (accepted a b list is breaks none is_text) = (_, accepted a b list (are_read a b list is) breaks (none_in_words a b list none) refl)
 
   pub unsafe_in_words : (text : List ℕ) → IsUnsafeUpgrade (as_json asked names) inputs text → (words : List ℕ) × IsUnsafeUpgrade asked inputs words
-  unsafe_in_words text (a, b, list, told, apart, stale, is, all, are, left, is_text) = (_, (a, b, list, told, apart, stale, are_read a b list is, all, stale_in_words a b list told apart stale are, left, refl))
+  unsafe_in_words text (a, b, list, recorded, apart, stale, is, all, are, left, is_text) = (_, (a, b, list, recorded, apart, stale, are_read a b list is, all, stale_in_words a b list recorded apart stale are, left, refl))
 
   pub refused_in_words : AreRefused (as_json asked names) inputs → AreRefused asked inputs
   refused_in_words (bad_first why none) = bad_first why none

@@ -12,12 +12,12 @@ use Rattle.dia_io.specs.declared.Input.{Input}
 use Rattle.dia_io.specs.declared.Inputs.{Inputs}
 use Rattle.dia_io.specs.declared.RunFault.{RunFault}
 use Rattle.dia_io.specs.declared.RunFault.TheVariants.{Device, NoMemory}
-use Rattle.dia_refused_json.specs.Telling.{IsDictionaryRefusal, RefusedDictionaries, TellsBad}
+use Rattle.dia_refused_json.specs.Recording.{IsDictionaryRefusal, RefusedDictionaries, RecordsBad}
 use Rattle.dia_report.specs.declared.bad_input.BadInput.{BadInput}
 use Rattle.dia_report.specs.declared.refusing.Refused.{Refused}
 use Rattle.dia_report.specs.declared.refusing.Refused.TheVariants as refusals
 use Rattle.dia_report.specs.declared.reporting.BothBooks.{BothBooks}
-use Rattle.dia_report.specs.Refusals.{TellsOf}
+use Rattle.dia_report.specs.Refusals.{RecordsOf}
 use Rattle.dia_run.specs.Outcome.{ended}
 use Rattle.dia_run.specs.Report.{AreReadFrom, HasFinding}
 use Rattle.dia_upgrades.specs.declared.asked.Asked.{Asked}
@@ -32,7 +32,7 @@ use Rattle.dia_upgrades_json.specs.Objects.{as_json}
 use Rattle.dia_upgrades_json.specs.Outcome.{IsBreakingJson, IsJsonReport}
 use Rattle.dia_upgrades_json.specs.UnderWay.{Answers, RefusesFor, Reports}
 use Rattle.dia_upgrades_json.proofs.Forms.{refused_as_json, refused_in_words, safe_in_words, unsafe_in_words}
-use Rattle.dia_refused_json.proofs.Telling.{dictionary_refused}
+use Rattle.dia_refused_json.proofs.Recording.{dictionary_refused}
 
 module _ (meaning : IndexedBook → Dictionary) (asked : Asked) (inputs : Inputs) (old new : Option (List ℕ)) where
   -- ---- over dictionaries that were read
@@ -62,30 +62,30 @@ module _ (meaning : IndexedBook → Dictionary) (asked : Asked) (inputs : Inputs
   -- ---- where one is refused, of which R tells this as text
 
   module _ (input : Input) (R : List ℕ → Type 0) (refuses : (text : List ℕ) (exit : Exit) → IsDictionaryRefusal R input text exit → RefusedDictionaries inputs text exit)
-      (reports_so : (bad : BadInput) (text : List ℕ) (exit : Exit) → TellsBad input (refusals.Bad bad) text exit → IsJsonReport meaning asked inputs (reports.Refused bad) text exit) where
-    refused_so : (bad : BadInput) → TellsOf R (refusals.Bad bad) → HasFinding input (refusals.Bad bad) → (text : List ℕ) (exit : Exit) → TellsBad input (refusals.Bad bad) text exit → IsBreakingJson asked inputs text exit
-    refused_so bad told kept text exit tells = inr (refuses text exit (dictionary_refused R input (refusals.Bad bad) told kept text exit tells))
+      (reports_so : (bad : BadInput) (text : List ℕ) (exit : Exit) → RecordsBad input (refusals.Bad bad) text exit → IsJsonReport meaning asked inputs (reports.Refused bad) text exit) where
+    refused_so : (bad : BadInput) → RecordsOf R (refusals.Bad bad) → HasFinding input (refusals.Bad bad) → (text : List ℕ) (exit : Exit) → RecordsBad input (refusals.Bad bad) text exit → IsBreakingJson asked inputs text exit
+    refused_so bad recorded kept text exit records = inr (refuses text exit (dictionary_refused R input (refusals.Bad bad) recorded kept text exit records))
 
     nothing_put : new ≡ old → Reports meaning asked inputs old new (Err NoMemory)
     nothing_put same = ([], nothing refl, subst (λ (o : Option (List ℕ)). Appends old o []) (sym same) (Appends-nil old))
 
-    refusal_reports : (why : Refused) → TellsOf R why → HasFinding input why → (r : Result Reported RunFault) → RefusesFor input why old new r → Reports meaning asked inputs old new r
-    refusal_reports (refusals.Bad bad) told kept (Ok reported) (report, text, tells, put) = (
+    refusal_reports : (why : Refused) → RecordsOf R why → HasFinding input why → (r : Result Reported RunFault) → RefusesFor input why old new r → Reports meaning asked inputs old new r
+    refusal_reports (refusals.Bad bad) recorded kept (Ok reported) (report, text, records, put) = (
       text,
-      refused_so bad told kept text reported.exit tells,
-      subst (λ (r : Report). IsJsonReport meaning asked inputs r text reported.exit) (sym report) (reports_so bad text reported.exit tells),
+      refused_so bad recorded kept text reported.exit records,
+      subst (λ (r : Report). IsJsonReport meaning asked inputs r text reported.exit) (sym report) (reports_so bad text reported.exit records),
       put,
     )
-    refusal_reports (refusals.Bad bad) told kept (Err Device) (text, tells, front) = (text, inr (Bad, refused_so bad told kept text Bad tells), front)
-    refusal_reports (refusals.Bad bad) told kept (Err NoMemory) same = nothing_put same
-    refusal_reports refusals.NoMemory told kept r (is, same) = subst (Reports meaning asked inputs old new) (sym is) (nothing_put same)
+    refusal_reports (refusals.Bad bad) recorded kept (Err Device) (text, records, front) = (text, inr (Bad, refused_so bad recorded kept text Bad records), front)
+    refusal_reports (refusals.Bad bad) recorded kept (Err NoMemory) same = nothing_put same
+    refusal_reports refusals.NoMemory recorded kept r (is, same) = subst (Reports meaning asked inputs old new) (sym is) (nothing_put same)
 
-  pub first_reports : (why : Refused) → TellsOf (RefusesFirst inputs) why → HasFinding inputs.first why → (r : Result Reported RunFault) → RefusesFor inputs.first why old new r → Reports meaning asked inputs old new r
-  first_reports why told kept r is = refusal_reports inputs.first (RefusesFirst inputs) (λ text exit h. inl h) (λ bad text exit h. inl h) why told kept r is
+  pub first_reports : (why : Refused) → RecordsOf (RefusesFirst inputs) why → HasFinding inputs.first why → (r : Result Reported RunFault) → RefusesFor inputs.first why old new r → Reports meaning asked inputs old new r
+  first_reports why recorded kept r is = refusal_reports inputs.first (RefusesFirst inputs) (λ text exit h. inl h) (λ bad text exit h. inl h) why recorded kept r is
 
-  pub second_reports : (why : Refused) → TellsOf (RefusesSecond inputs) why → HasFinding inputs.second why → (r : Result Reported RunFault) → RefusesFor inputs.second why old new r
+  pub second_reports : (why : Refused) → RecordsOf (RefusesSecond inputs) why → HasFinding inputs.second why → (r : Result Reported RunFault) → RefusesFor inputs.second why old new r
       → Reports meaning asked inputs old new r
-  second_reports why told kept r is = refusal_reports inputs.second (RefusesSecond inputs) (λ text exit h. inr h) (λ bad text exit h. inr h) why told kept r is
+  second_reports why recorded kept r is = refusal_reports inputs.second (RefusesSecond inputs) (λ text exit h. inr h) (λ bad text exit h. inr h) why recorded kept r is
 
   -- ---- what the clauses say
 
@@ -95,8 +95,8 @@ module _ (meaning : IndexedBook → Dictionary) (asked : Asked) (inputs : Inputs
   text_of (Err fault) has = tt
 
   refusal_is_bad : (text : List ℕ) (exit : Exit) → RefusedDictionaries inputs text exit → exit ≡ Bad
-  refusal_is_bad text exit (inl (bad, found, told, is_text, is_exit)) = is_exit
-  refusal_is_bad text exit (inr (bad, found, told, is_text, is_exit)) = is_exit
+  refusal_is_bad text exit (inl (bad, found, recorded, is_text, is_exit)) = is_exit
+  refusal_is_bad text exit (inr (bad, found, recorded, is_text, is_exit)) = is_exit
 
   refusal_refuses : (text : List ℕ) (exit : Exit) → RefusedDictionaries inputs text exit → AreRefused asked inputs
   refusal_refuses text exit (inl (bad, found, (why, none, e), is_text, is_exit)) = bad_first why none

@@ -21,7 +21,7 @@ use Rattle.dia_upgrades.specs.declared.reporting.Listed.{Listed}
 use Rattle.dia_upgrades.specs.Asking.{AreCommands, names_of}
 use Rattle.dia_upgrades.specs.Begun.{IsBegun, IsBegunOrWhole}
 use Rattle.dia_upgrades.specs.Outcome.{IsListed, bad_list, lines, no_command, no_commands, nothing, nothing_else}
-use Rattle.dia_upgrades.proofs.Puts.{front_behind}
+use Rattle.dia_upgrades.proofs.Puts.{front_after}
 use Rattle.dia_upgrades_json.specs.Begun.{nothing_yet, some_objects}
 use Rattle.dia_upgrades_json.specs.Objects.{AreNamesOf, IsEnding, as_json}
 use Rattle.dia_upgrades_json.specs.Outcome.{IsListedJson}
@@ -31,11 +31,11 @@ use Rattle.dia_upgrades_json.specs.UnderWay.{Answers, Ends}
 pub name_unknown : (asked : Asked) (input : Input) (a b : Dictionary) (text : List ℕ) (exit : Exit) (is : Found) → IsListed asked input a b text exit is → is ≡ founds.NoCommand
     → AreCommands a (names_of asked) → ⊥
 name_unknown asked input a b text exit is (nothing list apart stale can breaks differs none is_text is_exit) e known =
-    let f = can.tells in absurd (let z : founds.Listed f.unused f.stale_ones f.lines f.accepted f.causes f.meanings ≡ founds.NoCommand = sym f.is_listed ∙ e in cc)
-name_unknown asked input a b text exit is (nothing_else list told apart stale can left some breaks none is_text is_exit) e known =
-    let f = can.tells in absurd (let z : founds.Listed f.unused f.stale_ones f.lines f.accepted f.causes f.meanings ≡ founds.NoCommand = sym f.is_listed ∙ e in cc)
-name_unknown asked input a b text exit is (lines list told apart stale can left is_text is_exit) e known =
-    let f = can.tells in absurd (let z : founds.Listed f.unused f.stale_ones f.lines f.accepted f.causes f.meanings ≡ founds.NoCommand = sym f.is_listed ∙ e in cc)
+    let f = can.records in absurd (let z : founds.Listed f.unused f.stale_ones f.lines f.accepted f.causes f.meanings ≡ founds.NoCommand = sym f.is_listed ∙ e in cc)
+name_unknown asked input a b text exit is (nothing_else list recorded apart stale can left some breaks none is_text is_exit) e known =
+    let f = can.records in absurd (let z : founds.Listed f.unused f.stale_ones f.lines f.accepted f.causes f.meanings ≡ founds.NoCommand = sym f.is_listed ∙ e in cc)
+name_unknown asked input a b text exit is (lines list recorded apart stale can left is_text is_exit) e known =
+    let f = can.records in absurd (let z : founds.Listed f.unused f.stale_ones f.lines f.accepted f.causes f.meanings ≡ founds.NoCommand = sym f.is_listed ∙ e in cc)
 name_unknown asked input a b text exit is (bad_list bad none refuses what) e known = absurd (let z : founds.NoList bad ≡ founds.NoCommand = sym what ∙ e in cc)
 name_unknown asked input a b text exit is (no_commands list is_list none refuses what) e known = absurd (let z : founds.NoCommands ≡ founds.NoCommand = sym what ∙ e in cc)
 name_unknown asked input a b text exit is (no_command list name is_list some first refuses what) e known =
@@ -74,6 +74,6 @@ module _ (asked : Asked) (input : Input) (a b : Dictionary) where
         Appends-trans old mid new text ending put more,
       )
       all_answered (Err Device) (ending, is_ending, front) =
-          (text ++ ending, inr (listed.exit, (listed.found, whole ending is_ending)), front_behind old mid new text ending put front)
+          (text ++ ending, inr (listed.exit, (listed.found, whole ending is_ending)), front_after old mid new text ending put front)
       all_answered (Err NoMemory) same =
           (text, some_objects names are_names (inr (listed.exit, (listed.found, is))), subst (λ (o : Option (List ℕ)). Appends old o text) (sym same) put)

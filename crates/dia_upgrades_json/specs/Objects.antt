@@ -3,7 +3,7 @@ use Rattle.std.specs.Prelude.{◌≡◌, ℕ, Bool, List, [], ◌++◌, codes, l
 use Rattle.std.specs.Borrow.{Bor}
 use Rattle.std.specs.List.{flat_map}
 use Rattle.serde_json.specs.Written.{compact_text}
-use Rattle.dia_accepted.specs.Accepted.{PlainEntry, PlainTold, plain_entry}
+use Rattle.dia_accepted.specs.Accepted.{PlainEntry, PlainRecorded, plain_entry}
 use Rattle.dia_book.specs.Dictionary.{Dictionary}
 use Rattle.dia_breaking_json.specs.declared.Names.{Names}
 use Rattle.dia_breaking_json.specs.Fields.{Field, object_of, text_field}
@@ -45,11 +45,11 @@ as_json asked names = record {
 }
 
 -- the object of a line over two dictionaries, or of one of `--once`
-abbrev pub object_over : Dictionary → Dictionary → Bool → PlainTold → List ℕ
+abbrev pub object_over : Dictionary → Dictionary → Bool → PlainRecorded → List ℕ
 object_over a b once t = line (line_json (key_named a) (key_named b) once t.words t.message)
 
-abbrev pub objects_over : Dictionary → Dictionary → Bool → List PlainTold → List ℕ
-objects_over a b once told = flat_map (object_over a b once) told
+abbrev pub objects_over : Dictionary → Dictionary → Bool → List PlainRecorded → List ℕ
+objects_over a b once recorded = flat_map (object_over a b once) recorded
 
 -- ---- behind them
 

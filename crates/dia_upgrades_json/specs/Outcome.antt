@@ -7,7 +7,7 @@ use Rattle.dia_dict.specs.declared.IndexedBook.{IndexedBook}
 use Rattle.dia_io.specs.declared.Exit.{Exit}
 use Rattle.dia_io.specs.declared.Input.{Input}
 use Rattle.dia_io.specs.declared.Inputs.{Inputs}
-use Rattle.dia_refused_json.specs.Telling.{RefusedDictionaries, TellsBad}
+use Rattle.dia_refused_json.specs.Recording.{RefusedDictionaries, RecordsBad}
 use Rattle.dia_report.specs.declared.refusing.Refused.TheVariants.{Bad}
 use Rattle.dia_run.specs.Report.{AreReadFrom}
 use Rattle.dia_run.specs.Texts.{IsDictionaryText}
@@ -41,6 +41,6 @@ IsBreakingJson asked inputs text exit =
 
 -- the report has what the inputs say, and what was found, and this is what was written
 abbrev pub IsJsonReport : (IndexedBook → Dictionary) → Asked → Inputs → Report → List ℕ → Exit → Type 0
-IsJsonReport meaning asked inputs (Refused bad) text exit = TellsBad inputs.first (Bad bad) text exit ⊎ TellsBad inputs.second (Bad bad) text exit
+IsJsonReport meaning asked inputs (Refused bad) text exit = RecordsBad inputs.first (Bad bad) text exit ⊎ RecordsBad inputs.second (Bad bad) text exit
 IsJsonReport meaning asked inputs (Read books is) text exit =
     AreReadFrom meaning inputs books × IsListedJson asked inputs.table (meaning books.first.value.book) (meaning books.second.value.book) text exit is

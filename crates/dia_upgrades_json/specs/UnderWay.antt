@@ -9,7 +9,7 @@ use Rattle.dia_io.specs.declared.Inputs.{Inputs}
 use Rattle.dia_io.specs.declared.RunFault.{RunFault}
 use Rattle.dia_io.specs.declared.RunFault.TheVariants.{Device, NoMemory}
 use Rattle.dia_io.specs.Writing.{AppendsFront}
-use Rattle.dia_refused_json.specs.Telling.{TellsBad}
+use Rattle.dia_refused_json.specs.Recording.{RecordsBad}
 use Rattle.dia_report.specs.declared.bad_input.BadInput.{BadInput}
 use Rattle.dia_report.specs.declared.refusing.Refused.{Refused}
 use Rattle.dia_report.specs.declared.refusing.Refused.TheVariants as refused
@@ -36,8 +36,8 @@ Answers asked input a b old new (Err NoMemory) = (text : List ℕ) × IsListedBe
 
 -- the object of an input that is refused is written; or why not
 abbrev pub Refuses : Input → BadInput → Option (List ℕ) → Option (List ℕ) → Result Reported RunFault → Type 0
-Refuses input bad old new (Ok reported) = (reported.report ≡ report.Refused bad) × (text : List ℕ) × TellsBad input (refused.Bad bad) text reported.exit × Appends old new text
-Refuses input bad old new (Err Device) = (text : List ℕ) × TellsBad input (refused.Bad bad) text Bad × AppendsFront old new text
+Refuses input bad old new (Ok reported) = (reported.report ≡ report.Refused bad) × (text : List ℕ) × RecordsBad input (refused.Bad bad) text reported.exit × Appends old new text
+Refuses input bad old new (Err Device) = (text : List ℕ) × RecordsBad input (refused.Bad bad) text Bad × AppendsFront old new text
 Refuses input bad old new (Err NoMemory) = new ≡ old
 
 -- the same for a dictionary that can't be read. Where memory was refused, nothing is written

@@ -122,10 +122,10 @@ runs_are_longest [] keys rest h distinct others = (tt, h)
 runs_are_longest (r ∷ rules) keys rest (run, after, parts, all, bounds, more) distinct others =
     let stops = none_starts r rules after rest more distinct.0 others.0 in
     let n : prefix_len (is_of r) keys ≡ length run = rw parts (prefix_len-run (is_of r) run after (passes_of r run all) stops) in
-    let behind : drop (prefix_len (is_of r) keys) keys ≡ after = ap (λ (k : ℕ). drop k keys) n ∙ ap (λ (f : List Key). drop (length run) f) parts ∙ drop_at run after (length run) refl in
+    let following : drop (prefix_len (is_of r) keys) keys ≡ after = ap (λ (k : ℕ). drop k keys) n ∙ ap (λ (f : List Key). drop (length run) f) parts ∙ drop_at run after (length run) refl in
     let ih = runs_are_longest rules after rest more distinct.1 others.1 in (
-      (subst (InBounds r) (sym n) bounds, subst (λ (f : List Key). AllInBounds rules (runs rules f)) (sym behind) ih.0),
+      (subst (InBounds r) (sym n) bounds, subst (λ (f : List Key). AllInBounds rules (runs rules f)) (sym following) ih.0),
       ap (λ (k : ℕ). drop k keys) (sum-cons (prefix_len (is_of r) keys) (runs rules (drop (prefix_len (is_of r) keys) keys)))
           ∙ sym (drop-drop (sum (runs rules (drop (prefix_len (is_of r) keys) keys))) (prefix_len (is_of r) keys) keys)
-          ∙ ap (λ (f : List Key). drop (sum (runs rules f)) f) behind ∙ ih.1,
+          ∙ ap (λ (f : List Key). drop (sum (runs rules f)) f) following ∙ ih.1,
     )

@@ -63,8 +63,8 @@ runs_some (s ∷ rules) keys rest k r (run, after, parts, all, bounds, more) dis
     let both = count_append (λ (q : Key). same_key q k) run after in
     let own : s.key ≡ Some k = ap (λ (x : DRule). x.key) (sym same) ∙ e in
     let ones = own_run s run k own all in
-    let behind = runs_none rules after rest k more (all_map (λ (t : DRule). (key : Key) → s.key ≡ Some key → t.key ≢ Some key) (λ (t : DRule). t.key ≢ Some k) (λ t new. new k own) rules distinct.0) in
-    (length run, omega (arith, here, both, ones, behind), subst (λ (t : DRule). InBounds t (length run)) (sym same) bounds)
+    let following = runs_none rules after rest k more (all_map (λ (t : DRule). (key : Key) → s.key ≡ Some key → t.key ≢ Some key) (λ (t : DRule). t.key ≢ Some k) (λ t new. new k own) rules distinct.0) in
+    (length run, omega (arith, here, both, ones, following), subst (λ (t : DRule). InBounds t (length run)) (sym same) bounds)
 runs_some (s ∷ rules) keys rest k r (run, after, parts, all, bounds, more) distinct (inr i) e =
     let here = ap (times k) parts in
     let both = count_append (λ (q : Key). same_key q k) run after in

@@ -87,17 +87,17 @@ same_runs (r ∷ rules) (suc m) keys k (less, at) none =
     ∙ ap (λ (t : List ℕ). n ∷ t) (same_runs rules m (drop n keys) k at none)
 
 -- then the level is past all the runs
-pub behind_all : (rules : List DRule) (m : ℕ) (keys : List Key) (k : Key) → IsAt rules m keys → NoneFrom rules m k → IsAt rules (length rules) (keys ++ k ∷ [])
-behind_all [] m keys k at none = refl
-behind_all (r ∷ rules) zero keys k at (other, none) =
+pub after_all : (rules : List DRule) (m : ℕ) (keys : List Key) (k : Key) → IsAt rules m keys → NoneFrom rules m k → IsAt rules (length rules) (keys ++ k ∷ [])
+after_all [] m keys k at none = refl
+after_all (r ∷ rules) zero keys k at (other, none) =
     let n : prefix_len (is_of r) (keys ++ k ∷ []) ≡ length keys = goes_on (is_of r) keys (k ∷ []) at ∙ omega (arith, one_no (is_of r) k other) in
     let rest : drop (prefix_len (is_of r) (keys ++ k ∷ [])) (keys ++ k ∷ []) ≡ k ∷ [] = ap (λ (j : ℕ). drop j (keys ++ k ∷ [])) n ∙ drop-append_seam keys (k ∷ []) in
-    (omega (arith, n, length-append keys (k ∷ [])), rw rest (behind_all rules 0 [] k (at_start rules) none))
-behind_all (r ∷ rules) (suc m) keys k (less, at) none =
+    (omega (arith, n, length-append keys (k ∷ [])), rw rest (after_all rules 0 [] k (at_start rules) none))
+after_all (r ∷ rules) (suc m) keys k (less, at) none =
     let n = prefix_len (is_of r) keys in
     let same = stops_inside (is_of r) keys (k ∷ []) less in
     let rest : drop (prefix_len (is_of r) (keys ++ k ∷ [])) (keys ++ k ∷ []) ≡ drop n keys ++ k ∷ [] = ap (λ (j : ℕ). drop j (keys ++ k ∷ [])) same ∙ rest_more n keys k less in
-    (omega (arith, same, less, length-append keys (k ∷ [])), rw rest (behind_all rules m (drop n keys) k at none))
+    (omega (arith, same, less, length-append keys (k ∷ [])), rw rest (after_all rules m (drop n keys) k at none))
 
 -- ---- a key of a rule from here on
 

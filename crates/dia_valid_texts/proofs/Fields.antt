@@ -18,7 +18,7 @@ use Rattle.dia_text.specs.declared.fault.Kind.TheVariants.{Syntax, Name, Value}
 use Rattle.dia_text.specs.declared.keys.AvpCode.{AvpCode}
 use Rattle.dia_text.specs.declared.commands.Start.{Start}
 use Rattle.dia_text.specs.declared.line.Head.{Head}
-use Rattle.dia_text.specs.Words.{first_word, behind_word}
+use Rattle.dia_text.specs.Words.{first_word, after_word}
 use Rattle.dia_text.specs.Numbers.{number_of, number_below, within}
 use Rattle.dia_text.specs.Reading.{◌>>=◌, some_or, at_word}
 use Rattle.dia_text.specs.Fields.{number_field, flags_field, length_field, padding_field}
@@ -126,8 +126,8 @@ unfolding head_at
 head_fits d text fit =
     reads CodeFits (λ x. CodeFits x.0.code) (at_word text want.AvpName (code_of d (first_word text))) _
     (at_fits CodeFits text want.AvpName (code_of d (first_word text)) (code_fits d (first_word text) fit))
-    (λ code h. reads (λ _. ⊤) (λ x. CodeFits x.0.code) (flags_field avp_letters want.AvpFlags (Some (default_flags d code)) want.AvpFlags (behind_word text)) _
-    (any (flags_field avp_letters want.AvpFlags (Some (default_flags d code)) want.AvpFlags (behind_word text)))
+    (λ code h. reads (λ _. ⊤) (λ x. CodeFits x.0.code) (flags_field avp_letters want.AvpFlags (Some (default_flags d code)) want.AvpFlags (after_word text)) _
+    (any (flags_field avp_letters want.AvpFlags (Some (default_flags d code)) want.AvpFlags (after_word text)))
     (λ flags u. reads (λ _. ⊤) (λ x. CodeFits x.0.code) (length_field flags.1) _ (any (length_field flags.1)) (λ len v. h)))
 
 -- the head of a line, if it has one
@@ -157,13 +157,13 @@ avp_fits : (d : Dictionary) (text : List ℕ) → NumbersFit d → IfOk (avp_at 
 unfolding avp_at
 avp_fits d text fit =
     reads (λ x. CodeFits x.0.code) LineFits (head_at d text) _ (head_fits d text fit)
-    (λ head h. if_ok LineFits (same_bytes (first_word head.1) (codes "{")) (open_at head.0 (behind_word head.1)) (leaf_at d head.0 head.1) (open_fits head.0 (behind_word head.1) h) (leaf_fits d head.0 head.1 h))
+    (λ head h. if_ok LineFits (same_bytes (first_word head.1) (codes "{")) (open_at head.0 (after_word head.1)) (leaf_at d head.0 head.1) (open_fits head.0 (after_word head.1) h) (leaf_fits d head.0 head.1 h))
 
 pub line_fits : (d : Dictionary) (text : List ℕ) → NumbersFit d → IfOk (line_of d text) LineFits
 unfolding line_of
 line_fits d text fit =
-    if_ok LineFits (length (first_word text) == 0) (Ok Blank) (if same_bytes (first_word text) (codes "}") then close_at (behind_word text) else avp_at d text) tt
-    (if_ok LineFits (same_bytes (first_word text) (codes "}")) (close_at (behind_word text)) (avp_at d text) (close_fits (behind_word text)) (avp_fits d text fit))
+    if_ok LineFits (length (first_word text) == 0) (Ok Blank) (if same_bytes (first_word text) (codes "}") then close_at (after_word text) else avp_at d text) tt
+    (if_ok LineFits (same_bytes (first_word text) (codes "}")) (close_at (after_word text)) (avp_at d text) (close_fits (after_word text)) (avp_fits d text fit))
 
 -- ---- headers
 
@@ -180,11 +180,11 @@ field_fits : (keyword : List ℕ) (default : Option ℕ) (wanted : Wanted) (text
     → IfOk (number_field keyword default wanted text) (λ x. x.0 < 2 ^ 32)
 unfolding number_field
 field_fits keyword default wanted text h =
-    let number = some_or (number_below (2 ^ 32) (first_word (behind_word text))) Value in
+    let number = some_or (number_below (2 ^ 32) (first_word (after_word text))) Value in
     if_ok (λ x. x.0 < 2 ^ 32) (same_bytes (first_word text) keyword) _ _
-    (reads (λ n. n < 2 ^ 32) (λ x. x.0 < 2 ^ 32) (at_word (behind_word text) want.Number number) _
-    (at_fits (λ n. n < 2 ^ 32) (behind_word text) want.Number number
-    (some_fits (λ n. n < 2 ^ 32) (number_below (2 ^ 32) (first_word (behind_word text))) Value (number_fits (2 ^ 32) (first_word (behind_word text))))) (λ n k. k))
+    (reads (λ n. n < 2 ^ 32) (λ x. x.0 < 2 ^ 32) (at_word (after_word text) want.Number number) _
+    (at_fits (λ n. n < 2 ^ 32) (after_word text) want.Number number
+    (some_fits (λ n. n < 2 ^ 32) (number_below (2 ^ 32) (first_word (after_word text))) Value (number_fits (2 ^ 32) (first_word (after_word text))))) (λ n k. k))
     (reads (λ n. n < 2 ^ 32) (λ x. x.0 < 2 ^ 32) (at_word text wanted (some_or default Syntax)) _
     (at_fits (λ n. n < 2 ^ 32) text wanted (some_or default Syntax) (some_fits (λ n. n < 2 ^ 32) default Syntax h)) (λ n k. k))
 
@@ -213,11 +213,11 @@ name_fits d word fit =
 begins_fit : (d : Dictionary) (text : List ℕ) → NumbersFit d → IfOk (start_at d text) (λ x. StartFits x.0)
 unfolding start_at
 begins_fit d text fit =
-    let code = some_or (number_below (2 ^ 24) (first_word (behind_word text))) Value in
+    let code = some_or (number_below (2 ^ 24) (first_word (after_word text))) Value in
     if_ok (λ x. StartFits x.0) (same_bytes (first_word text) (codes "code")) _ _
-    (reads (λ n. n < 2 ^ 24) (λ x. StartFits x.0) (at_word (behind_word text) want.CommandCode code) _
-    (at_fits (λ n. n < 2 ^ 24) (behind_word text) want.CommandCode code
-    (some_fits (λ n. n < 2 ^ 24) (number_below (2 ^ 24) (first_word (behind_word text))) Value (number_fits (2 ^ 24) (first_word (behind_word text))))) (λ n k. (k, tt)))
+    (reads (λ n. n < 2 ^ 24) (λ x. StartFits x.0) (at_word (after_word text) want.CommandCode code) _
+    (at_fits (λ n. n < 2 ^ 24) (after_word text) want.CommandCode code
+    (some_fits (λ n. n < 2 ^ 24) (number_below (2 ^ 24) (first_word (after_word text))) Value (number_fits (2 ^ 24) (first_word (after_word text))))) (λ n k. (k, tt)))
     (reads StartFits (λ x. StartFits x.0) (at_word text want.CommandName (start_named d (first_word text))) _
     (at_fits StartFits text want.CommandName (start_named d (first_word text)) (name_fits d (first_word text) fit)) (λ s k. k))
 

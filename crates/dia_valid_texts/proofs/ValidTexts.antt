@@ -121,10 +121,10 @@ abbrev Reads : Dictionary → Unknown → Header → List Key → Result (List �
 Reads d u h keys whole after at = IsLong whole ⊎ GoesOn d u h keys whole after at
 
 -- what follows an AVP whose bytes were added
-behind_avp : (d : Dictionary) (u : Unknown) (h : Header) (keys others : List Key) (whole more : Result (List ℕ) Fault) (after : List (List ℕ)) (at : Level) (head : Head) (bytes front : List ℕ) (n : ℕ)
+after_avp : (d : Dictionary) (u : Unknown) (h : Header) (keys others : List Key) (whole more : Result (List ℕ) Fault) (after : List (List ℕ)) (at : Level) (head : Head) (bytes front : List ℕ) (n : ℕ)
     → Spells (drawn head bytes) front → Fits d u n (drawn head bytes) → keys ≡ key_at head ∷ others → whole ≡ more → Reads d u h others more after (with_bytes at front) → Reads d u h keys whole after at
-behind_avp d u h keys others whole more after at head bytes front n s fits is_keys is (inl long) = inl (subst IsLong (sym is) long)
-behind_avp d u h keys others whole more after at head bytes front n s fits is_keys is (inr r) = inr (record {
+after_avp d u h keys others whole more after at head bytes front n s fits is_keys is (inl long) = inl (subst IsLong (sym is) long)
+after_avp d u h keys others whole more after at head bytes front n s fits is_keys is (inr r) = inr (record {
   bytes = front ++ r.bytes;
   added = avp_added d u keys others head bytes front r.bytes n s fits is_keys r.added;
   line = r.line;
@@ -141,7 +141,7 @@ leaf_read d u h keys others l more head e bytes is_leaf own code none fits is_ke
         → Reads d u h keys (body_from d h n (l ∷ (more ++ after)) at) after at
     by (inl long) = inl (too_long d h n l (more ++ after) at (value_misfit d l Limit) refl
         (leaf_line d l at head bytes (Err Limit) is_leaf (bad (avp_of head bytes None) Limit (λ avp. Ok (with_bytes at avp)) long)))
-    by (inr (is, s)) = behind_avp d u h keys others (body_from d h n (l ∷ (more ++ after)) at) _ after at head bytes (bytes_drawn head bytes) 0 s (leaf_fits d u head e bytes own none fits) is_keys
+    by (inr (is, s)) = after_avp d u h keys others (body_from d h n (l ∷ (more ++ after)) at) _ after at head bytes (bytes_drawn head bytes) 0 s (leaf_fits d u head e bytes own none fits) is_keys
         (goes_on d h n l (more ++ after) at (with_bytes at (bytes_drawn head bytes)) (leaf_line d l at head bytes (Ok (with_bytes at (bytes_drawn head bytes))) is_leaf (appended at head bytes (bytes_drawn head bytes) is))) next
 
 group_read : (d : Dictionary) (u : Unknown) (h : Header) (keys members others : List Key) (close : List ℕ) (more : List (List ℕ)) (head : Head) (e : DictEntry) (x : PlainDefinition)
@@ -158,7 +158,7 @@ group_read d u h keys members others close more head e x is_close own code is_gr
     by : (avp_of head r.bytes None ≡ Err Limit) ⊎ ((avp_of head r.bytes None ≡ Ok (bytes_drawn head r.bytes)) × Spells (drawn head r.bytes) (bytes_drawn head r.bytes)) → Reads d u h keys whole after at
     by (inl long) = inl (subst IsLong (sym r.rest) (too_long d h r.line close (more ++ after) (inside at head r.bytes) (misfit close (brace_wanted Limit) Limit) refl
         (close_line d close at head r.bytes (Err Limit) is_close (bad (avp_of head r.bytes None) Limit (λ avp. Ok (with_bytes at avp)) long))))
-    by (inr (is, s)) = behind_avp d u h keys others whole _ after at head r.bytes (bytes_drawn head r.bytes) (suc r.added.depth) s (group_fits d u r.added.depth head e x r.bytes own is_group level) is_keys
+    by (inr (is, s)) = after_avp d u h keys others whole _ after at head r.bytes (bytes_drawn head r.bytes) (suc r.added.depth) s (group_fits d u r.added.depth head e x r.bytes own is_group level) is_keys
         (r.rest ∙ goes_on d h r.line close (more ++ after) (inside at head r.bytes) (with_bytes at (bytes_drawn head r.bytes))
         (close_line d close at head r.bytes (Ok (with_bytes at (bytes_drawn head r.bytes))) is_close (appended at head r.bytes (bytes_drawn head r.bytes) is))) (next (r.line + 1) r.bytes)
 

@@ -22,9 +22,9 @@ no_fault bytes n Version short version len (h, is_head, long) = (version refl).1
 no_fault bytes n Length short version len (h, is_head, long) = (len refl).2 (subst IsMessageLength (sym (head_says h n bytes is_head).2) long)
 
 -- what is reported of a fault of the header
-pub told_of : {X : Type 0} (r : Result X MessageFault) (e : HeadFault) (k : MessageFault) → IsErrAnd r (λ m. m ≡ message_fault e) → r ≡ Err k → k ≡ message_fault e
-told_of (Ok x) e k h is = absurd cc
-told_of (Err m) e k h is = cc
+pub recorded_of : {X : Type 0} (r : Result X MessageFault) (e : HeadFault) (k : MessageFault) → IsErrAnd r (λ m. m ≡ message_fault e) → r ≡ Err k → k ≡ message_fault e
+recorded_of (Ok x) e k h is = absurd cc
+recorded_of (Err m) e k h is = cc
 
 pub not_truncated : (e : HeadFault) → message_fault e ≢ Truncated
 not_truncated Short k = absurd cc

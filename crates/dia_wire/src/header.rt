@@ -72,7 +72,7 @@ impl From<HeadFault> for MessageFault {
     ghost use Rattle.std.specs.Prelude.{◌≡◌};
     ghost use Rattle.dia_wire.specs.Faults.{message_fault};
 
-    ghost from_gives = { λ fault told. told ≡ message_fault fault };
+    ghost from_gives = { λ fault recorded. recorded ≡ message_fault fault };
 
     fn from(fault: HeadFault) -> Self {
         match fault {

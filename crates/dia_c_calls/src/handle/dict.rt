@@ -74,7 +74,7 @@ pub fn check_in(
 ) -> Result<Verdict, AllocError>
     requires { ∥ MayBeDict (Some held.old) ∥₁ }
     ensures kept { held.new ≡ held.old }
-    ensures told { IfOk result (λ verdict. IfSome (dict_in (Some held.old)) (λ d. (answer : Result Selected Refusal)
+    ensures recorded { IfOk result (λ verdict. IfSome (dict_in (Some held.old)) (λ d. (answer : Result Selected Refusal)
         × IsAnswer d unknown levels message.now answer × IsVerdict answer verdict)) }
 {
     match held {

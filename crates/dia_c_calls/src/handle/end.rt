@@ -27,7 +27,7 @@ pub fn peer_in(held: &Held) -> &Peer
 }
 
 /// Delivers an event to the end in a handle.
-pub fn tell_in(held: &mut Held, event: Event<'_>) -> u32
+pub fn report_in(held: &mut Held, event: Event<'_>) -> u32
     requires { ∥ MayBePeer (Some held.old) ∥₁ }
     ensures ends { (result ≡ DONE) ⊎ (result ≡ NO_MEMORY) ⊎ (result ≡ OUTPUTS_LEFT) }
     ensures done { result ≡ DONE → IfSome (peer_in (Some held.old))
@@ -38,7 +38,7 @@ pub fn tell_in(held: &mut Held, event: Event<'_>) -> u32
     ensures only { ∥ MayBePeer (Some held.new) ∥₁ }
 {
     match held {
-        Held::Peer(peer) => peer.tell(event),
+        Held::Peer(peer) => peer.deliver(event),
         Held::Dict(..) => unreachable!(),
         Held::Text(_) => unreachable!(),
         Held::Faults(_) => unreachable!(),

@@ -17,7 +17,7 @@ pub(super) struct Opening {
 
 /// What follows some rules of a definition.
 #[derive(Drop)]
-enum Behind {
+enum After {
     /// One more rule.
     Rule(Rule),
     /// The next definition's name, in angle brackets.
@@ -44,11 +44,11 @@ impl<'a> Reader<'a> {
     ghost use Rattle.dia_ccf.specs.Limits.{max_number};
     ghost use Rattle.dia_ccf.specs.ReaderFunctions.{Accepts, Leads, Takes, Wants};
     ghost use Rattle.dia_ccf.specs.ReaderFunctions.{Reads_by, course, begins_with};
-    ghost use Rattle.dia_ccf.specs.ReaderFunctions.{left, behind, after_rules};
+    ghost use Rattle.dia_ccf.specs.ReaderFunctions.{left, following, after_rules};
     ghost use Rattle.dia_ccf.specs.ReaderFunctions.{KeepsOrder, NamesNext, Goes};
-    ghost use Rattle.dia_ccf.specs.ReaderFunctions.{Derived, From, Passed_behind, Placed_behind, unread};
+    ghost use Rattle.dia_ccf.specs.ReaderFunctions.{Derived, From, Passed_after, Placed_after, unread};
     ghost use Rattle.dia_ccf.specs.Grammar.{◌then◌, one, name, rule, bracketed, count, qualifier};
-    ghost use Rattle.dia_ccf.specs.Places.{DefStands, RulesStand, opened};
+    ghost use Rattle.dia_ccf.specs.Places.{DefOccurs, RulesStand, opened};
 
     /// The name of a definition, in angle brackets or bare.
     pub(super) fn defined_name(&mut self) -> Result<String, Refusal>
@@ -90,10 +90,10 @@ impl<'a> Reader<'a> {
         requires begun { From opening.at (opened (string_bytes opening.name)) self.old }
         ensures read { (done : PlainSource)
             → Leads (course (done, Def_assign (string_bytes opening.name)) self.old)
-            (λ found. (add_def done (plain_def found.0), behind found.1)) result self.new }
+            (λ found. (add_def done (plain_def found.0), following found.1)) result self.new }
         ensures named { IfOk result
             (λ found. IfSome found.1 (λ next. IsTrue (is_name (string_bytes next.name)))) }
-        ensures placed { IfOk result (λ found. DefStands self.new.text.now found.0) }
+        ensures placed { IfOk result (λ found. DefOccurs self.new.text.now found.0) }
         ensures begins { IfOk result (λ found. found.0.at ≡ opening.at) }
         ensures begun { IfOk result (λ found. IfSome found.1
             (λ next. From next.at (opened (string_bytes next.name)) self.new)) }
@@ -123,7 +123,7 @@ impl<'a> Reader<'a> {
             (λ found. (
               add_def done
                   (record { name = name; head = head; rules = map plain_rule found.0.items }),
-              behind found.1,
+              following found.1,
             )) result self.new }
         ensures ordered { IfOk result
             (λ found. IsTrue (fixed_first (map (λ r. r.kind) found.0.items))) }
@@ -139,34 +139,34 @@ impl<'a> Reader<'a> {
         let mut rules = Vec::new(self.alloc);
         let mut only_fixed = true;
         loop {
-            match self.behind_rules(only_fixed)? {
-                Behind::Rule(rule) => {
+            match self.following_rules(only_fixed)? {
+                After::Rule(rule) => {
                     only_fixed = is_fixed(rule.kind);
                     rules.push(rule)?;
                 }
-                Behind::Definition(opening) => return Ok((rules, Some(opening))),
-                Behind::Nothing => return Ok((rules, None)),
+                After::Definition(opening) => return Ok((rules, Some(opening))),
+                After::Nothing => return Ok((rules, None)),
             }
         }
     }
 
     /// What follows the rules that were read; `only_fixed` is whether all of them are fixed.
-    fn behind_rules(&mut self, only_fixed: bool) -> Result<Behind, Refusal>
+    fn following_rules(&mut self, only_fixed: bool) -> Result<After, Refusal>
         ensures read { (done : PlainSource) (d : PlainDef) → all_fixed d.rules ≡ only_fixed
             → Leads (course (done, Rules d) self.old) (after_rules done d) result self.new }
         ensures ordered { IfOk result (λ found. KeepsOrder found only_fixed) }
         ensures named { IfOk result NamesNext }
-        ensures placed { IfOk result (λ found. Placed_behind found self.old) }
-        ensures derived { IfOk result (λ found. Passed_behind found self.old self.new) }
+        ensures placed { IfOk result (λ found. Placed_after found self.old) }
+        ensures derived { IfOk result (λ found. Passed_after found self.old self.new) }
         ensures farther { IfOk result (λ found. Goes found self.old.taken self.new.taken) }
     {
         let at = self.at;
         if self.takes(Sign::Less) {
             let name = self.name_in_angles()?;
             if self.is_at_definition(only_fixed) {
-                return Ok(Behind::Definition(Opening { at, name }));
+                return Ok(After::Definition(Opening { at, name }));
             }
-            return Ok(Behind::Rule(Rule {
+            return Ok(After::Rule(Rule {
                 at,
                 kind: RuleKind::Fixed,
                 name: Some(name),
@@ -175,13 +175,13 @@ impl<'a> Reader<'a> {
         }
         if self.is_at_qualifier() {
             let rule = self.qualified(only_fixed)?;
-            return Ok(Behind::Rule(rule));
+            return Ok(After::Rule(rule));
         }
         if self.is_at_loose() {
             let rule = self.loose(at, None)?;
-            return Ok(Behind::Rule(rule));
+            return Ok(After::Rule(rule));
         }
-        Ok(Behind::Nothing)
+        Ok(After::Nothing)
     }
 
     /// Whether the name in angle brackets before this place begins a definition: `::=` is ahead, or no

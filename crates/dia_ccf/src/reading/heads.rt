@@ -129,8 +129,8 @@ impl<'a> Reader<'a> {
         ensures farther { self.old.taken ≤ self.new.taken }
     {
         if self.takes_keyword(word) {
-            let behind = self.takes(Sign::Comma);
-            return (true, behind);
+            let following = self.takes(Sign::Comma);
+            return (true, following);
         }
         (false, comma)
     }

@@ -4,12 +4,12 @@ ghost use Rattle.std.specs.Prelude.{◌≡◌, ◌≢◌, ◌<◌, ◌≤◌, �
 ghost use Rattle.std.specs.Prelude.{Some, drop, insert, slice_get, slice_set, take, vec_len, vec_capacity};
 ghost use Rattle.dia_check.specs.declared.open_levels.tally.Met.{Met as AnyMet};
 ghost use Rattle.dia_check.specs.Tallies.{count_in, never, unmet};
-ghost use Rattle.dia_check.specs.Tallies.{AreBelow, AreRising, HasPlaceFor, IsPlaceOf, IsTold};
+ghost use Rattle.dia_check.specs.Tallies.{AreBelow, AreRising, HasPlaceFor, IsPlaceOf, IsRecorded};
 ghost use Rattle.dia_check.specs.LaidOutTallies.{laid_out};
 
 /// While a tally records fewer rules than these, one more is inserted, and those after it move; from here on, one more
 /// has all the rules of the level laid out at once.
-const MANY_TOLD: usize = 128;
+const MANY_RECORDED: usize = 128;
 
 /// How often a rule was met.
 #[derive(Clone, Copy)]
@@ -18,7 +18,7 @@ pub(crate) struct Met {
     pub(super) count: u32,
 }
 
-/// Records the first rules, as ones that were not met: each is at its own place then, where `told_at` looks first. There
+/// Records the first rules, as ones that were not met: each is at its own place then, where `recorded_at` looks first. There
 /// is room.
 #[inline(always)]
 pub(super) fn lay_out(tallies: &mut Vec<Met>, many: usize)
@@ -51,22 +51,22 @@ fn place_of(tally: &[Met], rule: usize) -> usize
 /// The place of a rule in the tally that begins at a place of the list and goes to its end. A rule that isn't recorded
 /// there is recorded then, as one that was not met. There is room.
 #[inline(always)]
-pub(super) fn told_at(tallies: &mut Vec<Met>, base: usize, many: usize, rule: usize) -> usize
+pub(super) fn recorded_at(tallies: &mut Vec<Met>, base: usize, many: usize, rule: usize) -> usize
     requires { HasPlaceFor tallies.old.items (vec_capacity tallies.old) base many rule }
-    ensures told { IsTold tallies.old.items tallies.new.items base many rule result }
+    ensures recorded { IsRecorded tallies.old.items tallies.new.items base many rule result }
     ensures capacity { vec_capacity tallies.old ≤ vec_capacity tallies.new }
 {
     match tallies.get(base + rule) {
         Some(met) if met.rule as usize == rule => base + rule,
-        _ => tell(tallies, base, many, rule),
+        _ => deliver(tallies, base, many, rule),
     }
 }
 
 /// The same for a rule that isn't at its own place.
 #[inline(never)]
-fn tell(tallies: &mut Vec<Met>, base: usize, many: usize, rule: usize) -> usize
+fn deliver(tallies: &mut Vec<Met>, base: usize, many: usize, rule: usize) -> usize
     requires { HasPlaceFor tallies.old.items (vec_capacity tallies.old) base many rule }
-    ensures told { IsTold tallies.old.items tallies.new.items base many rule result }
+    ensures recorded { IsRecorded tallies.old.items tallies.new.items base many rule result }
     ensures capacity { vec_capacity tallies.old ≤ vec_capacity tallies.new }
 {
     let tally = &tallies[base..];
@@ -74,7 +74,7 @@ fn tell(tallies: &mut Vec<Met>, base: usize, many: usize, rule: usize) -> usize
     if is_at(tally, place, rule) {
         return base + place;
     }
-    if tally.len() >= MANY_TOLD {
+    if tally.len() >= MANY_RECORDED {
         lay_out_all(tallies, base, many);
         return base + rule;
     }
@@ -88,7 +88,7 @@ fn tell(tallies: &mut Vec<Met>, base: usize, many: usize, rule: usize) -> usize
 #[inline(never)]
 fn lay_out_all(tallies: &mut Vec<Met>, base: usize, many: usize)
     requires room { (base ≤ vec_len tallies.old) × (base + many ≤ vec_capacity tallies.old) × (many ≤ 1024) }
-    requires told { AreRising 0 (drop base tallies.old.items) × AreBelow many (drop base tallies.old.items) }
+    requires recorded { AreRising 0 (drop base tallies.old.items) × AreBelow many (drop base tallies.old.items) }
     ensures front { take base tallies.new.items ≡ take base tallies.old.items }
     ensures rules { drop base tallies.new.items ≡ laid_out (drop base tallies.old.items) 0 many }
     ensures capacity { vec_capacity tallies.new ≡ vec_capacity tallies.old }

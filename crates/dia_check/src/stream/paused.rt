@@ -7,7 +7,7 @@ ghost use Rattle.dia_policy.specs.declared.Levels.{Levels as AnyLevels};
 ghost use Rattle.dia_check.specs.Pauses.{HasPaused, HasSeenPaused, IsPauseOf, IsPauseOfPart};
 ghost use Rattle.dia_check.specs.Pauses.{IsPausedFor, IsResumeOf, IsResumeOfPart, WasSpent};
 ghost use Rattle.dia_check.specs.Reading.{HasSeen};
-ghost use Rattle.dia_check.specs.Streams.{IsSpent, StandsFor, dictionary_of};
+ghost use Rattle.dia_check.specs.Streams.{IsSpent, Denotes, dictionary_of};
 
 use crate::basis::Basis;
 use crate::fault::{Refusal, Selected};
@@ -70,7 +70,7 @@ impl<'a, B: Book> Stream<'a, B> {
     /// Pauses the stream, without its dictionary. Takes no memory.
     pub fn pause(self) -> Paused
         ensures paused { (d : Dictionary) (u : AnyPolicy) (most : AnyLevels) (bytes : List ℕ)
-            → StandsFor B.meaning self.entry d u most bytes → HasPaused result d u most bytes }
+            → Denotes B.meaning self.entry d u most bytes → HasPaused result d u most bytes }
         ensures fits { ∥ IsPausedFor (dictionary_of B.meaning self.entry) result ∥₁ }
         ensures spent { WasSpent result ↔ IsSpent self.entry }
     {
@@ -90,9 +90,9 @@ impl Paused {
     pub fn resume<'a, B: Book>(self, book: &'a B) -> Stream<'a, B>
         requires fits { ∥ IsPausedFor (B.meaning book.now) self ∥₁ }
         ensures dictionary { dictionary_of B.meaning result ≡ B.meaning book.now }
-        ensures stands { (d : Dictionary) (u : AnyPolicy) (most : AnyLevels) (bytes : List ℕ)
+        ensures occurs { (d : Dictionary) (u : AnyPolicy) (most : AnyLevels) (bytes : List ℕ)
             → HasPaused self d u most bytes → B.meaning book.now ≡ d
-            → StandsFor B.meaning result d u most bytes }
+            → Denotes B.meaning result d u most bytes }
         ensures spent { IsSpent result ↔ WasSpent self }
     {
         Stream {

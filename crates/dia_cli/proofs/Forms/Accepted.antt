@@ -38,7 +38,7 @@ pub accepted : (words : List Text) (program : Text) (quiet : Bool) (form : Form)
 accepted words program quiet form (Ok request) are plain asked refused =
     let t = program_taken asked.0 program quiet form asked.1 plain in
     request_of_form asked.0 words quiet form t.0 (ap (fault_of asked.0) are ∙ t.1.fine) (ap (subcommand_of asked.0) are ∙ t.1.finds) plain t.2 request asked.3
-accepted words program quiet form (Err (ending.Told error)) are plain asked refused =
+accepted words program quiet form (Err (ending.Recorded error)) are plain asked refused =
     let t = program_taken refused.0 program quiet form refused.1 plain in
     elim refused.2 [
       | inl among ↦ none_among (fault_of refused.0 words) (ap (fault_of refused.0) are ∙ t.1.fine) (kind_of error) among

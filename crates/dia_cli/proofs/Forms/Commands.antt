@@ -27,7 +27,7 @@ use Rattle.dia_cli.proofs.Forms.Named.{also, has_flag, has_limit, has_policy, ha
 use Rattle.dia_cli.proofs.Forms.Says.{first_value, flag_found, flag_given, names_found, not_given, number_found, policy_found, sender_found, some_names, text_found}
 use Rattle.dia_cli.proofs.Forms.Steps.{values_of}
 use Rattle.dia_cli.proofs.Forms.Walked.{Names_at}
-use Rattle.dia_cli.proofs.Forms.Walks.{behind}
+use Rattle.dia_cli.proofs.Forms.Walks.{following}
 
 -- the options with `--quiet` or without it
 abbrev pub all_options : Bool → Form → List Slot
@@ -36,7 +36,7 @@ all_options quiet form = flag (codes "quiet") quiet ∷ form_options form
 module _ (policies senders : Bor (List (Bor Text))) (two : texts policies.now ≡ policy_word Kept ∷ policy_word Refused ∷ [])
     (three : texts senders.now ≡ sends_word Any ∷ sends_word Known ∷ sends_word Listed ∷ []) where
   pub form_fits : (quiet : Bool) (form : Form) → IsRow (shape policies senders (form_row form)) (all_options quiet form) (form_inputs form)
-  form_fits quiet (show telling dictionary message) =
+  form_fits quiet (show recording dictionary message) =
       row_fits policies senders two three show_row _ _ refl (refl, tt, (refl, tt, (refl, tt, (refl, tt, (refl, tt, (refl, tt, (refl, tt, tt))))))) (record { by_index = refl; by_id = refl; next = refl }, tt) refl refl refl refl
   form_fits quiet (make dictionary written) =
       row_fits policies senders two three make_row _ _ refl (refl, tt, (refl, tt, tt)) (record { by_index = refl; by_id = refl; next = refl }, tt) refl refl refl refl
@@ -64,7 +64,7 @@ module _ (policies senders : Bor (List (Bor Text))) (two : texts policies.now �
   -- the name of its command is that of its row
   pub form_named : (form : Form) → Names_at (built (line_shape policies senders)) (form_name form) (shape policies senders (form_row form)) × ((shape policies senders (form_row form)).name ≡ form_name form)
   unfolding clap_on_literals
-  form_named (show telling dictionary message) = (record { stops = refl; fine = refl; finds = refl; rest = refl }, refl)
+  form_named (show recording dictionary message) = (record { stops = refl; fine = refl; finds = refl; rest = refl }, refl)
   form_named (make dictionary written) = (record { stops = refl; fine = refl; finds = refl; rest = refl }, refl)
   form_named (check manner json unknown levels dictionary message) = (record { stops = refl; fine = refl; finds = refl; rest = refl }, refl)
   form_named (render dictionary) = (record { stops = refl; fine = refl; finds = refl; rest = refl }, refl)
@@ -79,10 +79,10 @@ SaysPair unknown first second rows = (first_of (codes "unknown") rows ≡ Some (
 
 -- what is found of the options and inputs of a form
 abbrev pub SaysForm : Form → List Row → Type 0
-SaysForm (show telling dictionary message) rows =
+SaysForm (show recording dictionary message) rows =
     (first_of (codes "dict") rows ≡ Some (unwrap_or dictionary (codes "@base"))) × (first_of (codes "MESSAGE") rows ≡ Some message)
-    × (first_of (codes "as-text") rows ≡ Some (flag_word (is_text telling))) × (first_of (codes "names") rows ≡ Some (flag_word (has_names telling)))
-    × (first_of (codes "values") rows ≡ Some (unwrap_or (values_given telling) (codes "@none"))) × (first_of (codes "lines") rows ≡ Some (flag_word (has_lines telling)))
+    × (first_of (codes "as-text") rows ≡ Some (flag_word (is_text recording))) × (first_of (codes "names") rows ≡ Some (flag_word (has_names recording)))
+    × (first_of (codes "values") rows ≡ Some (unwrap_or (values_given recording) (codes "@none"))) × (first_of (codes "lines") rows ≡ Some (flag_word (has_lines recording)))
 SaysForm (make dictionary written) rows = (first_of (codes "dict") rows ≡ Some (unwrap_or dictionary (codes "@base"))) × (first_of (codes "TEXT") rows ≡ Some written)
 SaysForm (check manner json unknown levels dictionary message) rows =
     (first_of (codes "lines") rows ≡ Some (flag_word (is_lines manner))) × (first_of (codes "stream") rows ≡ Some (flag_word (is_stream manner)))
@@ -105,22 +105,22 @@ Says quiet form rows = (first_of (codes "quiet") rows ≡ Some (flag_word quiet)
     × (form_json form ≡ is_given (first_of (codes "json") rows))
 
 module _ (policies senders : Bor (List (Bor Text))) (quiet : Bool) (rows : List Row) where
-  pub form_says : (form : Form) → ((id : Text) → first_of id rows ≡ first_value (or_found (values_from CommandLine (values_of id (behind (all_options quiet form ++ form_inputs form) [])))
+  pub form_says : (form : Form) → ((id : Text) → first_of id rows ≡ first_value (or_found (values_from CommandLine (values_of id (following (all_options quiet form ++ form_inputs form) [])))
       (default_found id (shape policies senders (form_row form)).rules)))
-      → ((id : Text) → all_of id rows ≡ option_map (λ (f : Found). f.0) (or_found (values_from CommandLine (values_of id (behind (all_options quiet form ++ form_inputs form) [])))
+      → ((id : Text) → all_of id rows ≡ option_map (λ (f : Found). f.0) (or_found (values_from CommandLine (values_of id (following (all_options quiet form ++ form_inputs form) [])))
       (default_found id (shape policies senders (form_row form)).rules)))
       → Says quiet form rows
-  form_says (show telling dictionary message) first all = (
+  form_says (show recording dictionary message) first all = (
     first (codes "quiet") ∙ flag_found quiet,
     (
       first (codes "dict") ∙ text_found dictionary (codes "@base"),
       first (codes "MESSAGE"),
-      first (codes "as-text") ∙ flag_found (is_text telling),
-      first (codes "names") ∙ flag_found (has_names telling),
-      first (codes "values") ∙ text_found (values_given telling) (codes "@none"),
-      first (codes "lines") ∙ flag_found (has_lines telling),
+      first (codes "as-text") ∙ flag_found (is_text recording),
+      first (codes "names") ∙ flag_found (has_names recording),
+      first (codes "values") ∙ text_found (values_given recording) (codes "@none"),
+      first (codes "lines") ∙ flag_found (has_lines recording),
     ),
-    flag_given (is_json telling) (first (codes "json") ∙ flag_found (is_json telling)),
+    flag_given (is_json recording) (first (codes "json") ∙ flag_found (is_json recording)),
   )
   form_says (make dictionary written) first all =
       (first (codes "quiet") ∙ flag_found quiet, (first (codes "dict") ∙ text_found dictionary (codes "@base"), first (codes "TEXT")), not_given (first (codes "json")))
@@ -176,8 +176,8 @@ module _ (policies senders : Bor (List (Bor Text))) (quiet : Bool) (rows : List 
 
 -- the arguments of its command are there
 pub form_has : (form : Form) (rows : List Row) → is_plain_form form ≡ true → SaysForm form rows → has_arguments (form_name form) rows ≡ true
-form_has (show telling dictionary message) rows plain says =
-    also (has_some _ (unwrap_or dictionary (codes "@base")) says.0) (also (has_some _ message says.1) (has_some _ (unwrap_or (values_given telling) (codes "@none")) says.4))
+form_has (show recording dictionary message) rows plain says =
+    also (has_some _ (unwrap_or dictionary (codes "@base")) says.0) (also (has_some _ message says.1) (has_some _ (unwrap_or (values_given recording) (codes "@none")) says.4))
 form_has (make dictionary written) rows plain says =
     also (has_some _ (unwrap_or dictionary (codes "@base")) says.0) (has_some _ written says.1)
 form_has (check manner json unknown levels first second) rows plain says =

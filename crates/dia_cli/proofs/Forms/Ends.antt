@@ -15,7 +15,7 @@ use Rattle.dia_cli.specs.Slots.{Slot, is_plain_slot, slot_words, words_of_slots}
 use Rattle.dia_cli.proofs.Forms.Lookup.{Found, default_found, found, found_default, given_found, or_found, values_from}
 use Rattle.dia_cli.proofs.Forms.Steps.{Holds, values_of}
 use Rattle.dia_cli.proofs.Forms.Walked.{Ends, IsTaken, Names_at, Walks, rest_fault, taken, walk_at, walks_on}
-use Rattle.dia_cli.proofs.Forms.Walks.{FitInputs, FitOptions, are_apart, behind, takes_inputs, takes_options}
+use Rattle.dia_cli.proofs.Forms.Walks.{FitInputs, FitOptions, are_apart, following, takes_inputs, takes_options}
 
 -- each default passes
 abbrev pub HasFineDefaults : List Rule → Type 0
@@ -75,23 +75,23 @@ pub record IsRow (s : Shape) (options inputs : List Slot) : Type 0 where
   pub inputs_fit : FitInputs s 1 inputs
   pub apart : are_apart (options ++ inputs) [] ≡ true
   pub defaults : HasFineDefaults s.rules
-  pub given : list_any (λ (a : Rule). a.required && lacks (values_of a.id (behind (options ++ inputs) []))) s.rules ≡ false
+  pub given : list_any (λ (a : Rule). a.required && lacks (values_of a.id (following (options ++ inputs) []))) s.rules ≡ false
   pub no_help : s.arg_required_else_help ≡ false
   pub no_subcommand : s.subcommand_required ≡ false
 
 abbrev pub Finds : Shape → List Slot → List Row → Type 0
-Finds s slots rows = (id : Text) → found id rows ≡ or_found (values_from CommandLine (values_of id (behind slots []))) (default_found id s.rules)
+Finds s slots rows = (id : Text) → found id rows ≡ or_found (values_from CommandLine (values_of id (following slots []))) (default_found id s.rules)
 
-apart_parts : (one two before : List Slot) → are_apart (one ++ two) before ≡ true → (are_apart one before ≡ true) × (are_apart two (behind one before) ≡ true)
+apart_parts : (one two before : List Slot) → are_apart (one ++ two) before ≡ true → (are_apart one before ≡ true) × (are_apart two (following one before) ≡ true)
 apart_parts [] two before apart = (refl, apart)
 apart_parts (slot ∷ rest) two before apart =
     let parts = both _ (are_apart (rest ++ two) (slot ∷ before)) apart in
     let more = apart_parts rest two (slot ∷ before) parts.1 in
     (ap₂ (λ (a b : Bool). a && b) parts.0 more.0, more.1)
 
-behind_append : (one two before : List Slot) → behind (one ++ two) before ≡ behind two (behind one before)
-behind_append [] two before = refl
-behind_append (slot ∷ rest) two before = behind_append rest two (slot ∷ before)
+after_append : (one two before : List Slot) → following (one ++ two) before ≡ following two (following one before)
+after_append [] two before = refl
+after_append (slot ∷ rest) two before = after_append rest two (slot ∷ before)
 
 words_append : (one two : List Slot) → words_of_slots (one ++ two) ≡ words_of_slots one ++ words_of_slots two
 words_append [] two = refl
@@ -112,14 +112,14 @@ row_taken line program name s options inputs skips is named row plain =
     let aparts = apart_parts options inputs [] row.apart in
     let start : Holds s nothing_held [] = record { fine = refl; at = λ id. refl; waits = λ id none. refl } in
     let first = takes_options s nothing_held [] options start row.options_fit plains.0 aparts.0 in
-    let second = takes_inputs s first.0 1 (behind options []) inputs first.2 row.inputs_fit plains.1 aparts.1 in
+    let second = takes_inputs s first.0 1 (following options []) inputs first.2 row.inputs_fit plains.1 aparts.1 in
     let to = second.0 in
     let rows = finished s.rules to.held in
     let finds : Finds s (options ++ inputs) rows =
     λ id. found_default id (settled s.rules to.held).rows s.rules
     ∙ ap (λ (o : Option Found). or_found o (default_found id s.rules)) (second.2.at id)
-    ∙ ap (λ (slots : List Slot). or_found (values_from CommandLine (values_of id slots)) (default_found id s.rules)) (sym (behind_append options inputs [])) in
-    let wanted = none_wanted (behind (options ++ inputs) []) rows s.rules s.rules finds row.given in
+    ∙ ap (λ (slots : List Slot). or_found (values_from CommandLine (values_of id slots)) (default_found id s.rules)) (sym (after_append options inputs [])) in
+    let wanted = none_wanted (following (options ++ inputs) []) rows s.rules s.rules finds row.given in
     let checked : check_fault s rows false ≡ [] = checks s rows row.no_help row.no_subcommand wanted in
     let rest : rest_fault s to.held false ≡ [] = ap₂ or_else second.2.fine (ap₂ or_else (defaults_fine (settled s.rules to.held).rows s.rules row.defaults) checked) in
     let walks = walks_on s (walk_from nothing_held) (walk_at first.0 1) to (words_of_slots options) (words_of_slots inputs) first.1 second.1 in

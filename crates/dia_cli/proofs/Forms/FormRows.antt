@@ -20,7 +20,7 @@ use Rattle.dia_cli.proofs.Forms.Ends.{HasFineDefaults, IsRow, lacks}
 use Rattle.dia_cli.proofs.Forms.Fits.{MatchOptions, defaults_pass, option_built, options_fit}
 use Rattle.dia_cli.proofs.Forms.Steps.{values_of}
 use Rattle.dia_cli.proofs.Forms.Walked.{leaf_of}
-use Rattle.dia_cli.proofs.Forms.Walks.{FitInputs, Passes, are_apart, behind}
+use Rattle.dia_cli.proofs.Forms.Walks.{FitInputs, Passes, are_apart, following}
 
 abbrev among : List Text → Text → Bool
 among names word = list_any (λ (name : Text). bytes_eq name word) names
@@ -45,7 +45,7 @@ module _ (policies senders : Bor (List (Bor Text))) (two : texts policies.now �
 
   pub row_fits : (row : CommandRow) (options inputs : List Slot) → (shape policies senders row).rules ≡ map (option_built policies senders) row.options ++ filled_from 1 (map input_rule row.inputs ++ help_rule ∷ [])
       → MatchOptions policies senders row.options options → FitInputs (shape policies senders row) 1 inputs → are_apart (options ++ inputs) [] ≡ true
-      → list_any (λ (a : Rule). a.required && lacks (values_of a.id (behind (options ++ inputs) []))) (shape policies senders row).rules ≡ false
+      → list_any (λ (a : Rule). a.required && lacks (values_of a.id (following (options ++ inputs) []))) (shape policies senders row).rules ≡ false
       → (shape policies senders row).arg_required_else_help ≡ false → (shape policies senders row).subcommand_required ≡ false → IsRow (shape policies senders row) options inputs
   row_fits row options inputs rules matches fit apart given no_help no_subcommand = record {
     options_fit = options_fit policies senders (shape policies senders row) row.options (filled_from 1 (map input_rule row.inputs ++ help_rule ∷ [])) options rules matches;

@@ -7,7 +7,7 @@ use Rattle.dia_policy.specs.declared.Sends.TheVariants.{Any, Known, Listed}
 use Rattle.dia_policy.specs.declared.Unknown.TheVariants.{Kept, Refused}
 use Rattle.dia_cli.specs.Apart.{show_apart}
 use Rattle.dia_cli.specs.Asking.{HasLinesAndStream, IsApart, IsRequestOf, is_asked, line_shape}
-use Rattle.dia_cli.specs.Forms.{Form, IsOfForm, Telling, alone, as_json, as_listing, as_text, check, form_inputs, form_json, form_name, form_row, has_lines, has_names, in_lines, in_stream, is_json, is_plain_form, is_text, show, values_given, words_of}
+use Rattle.dia_cli.specs.Forms.{Form, IsOfForm, Recording, alone, as_json, as_listing, as_text, check, form_inputs, form_json, form_name, form_row, has_lines, has_names, in_lines, in_stream, is_json, is_plain_form, is_text, show, values_given, words_of}
 use Rattle.dia_cli.specs.Words.{apart_in, flag_word, is_file, is_given, policy_word, sends_word}
 use Rattle.dia_cli.specs.declared.apart.Apart.{Apart}
 use Rattle.dia_cli.specs.declared.apart.Apart.TheVariants.{LinesAndStream, AsTextAndNames, AsTextAndValues, AsTextAndLines, AsTextAndJson, JsonAndLines}
@@ -46,23 +46,23 @@ form_reads_one_way quiet form rows says bad = unlike (form_name form) (codes "ch
 
 -- what a form says of `show` goes together
 module _ (rows : List Row) where
-  told_together : (telling : Telling) → show_apart (is_text telling) (has_names telling) (is_file (Some (unwrap_or (values_given telling) (codes "@none")))) (has_lines telling) (is_json telling) ≡ None
-  told_together as_text = refl
-  told_together (as_json names values) = refl
-  told_together (as_listing many names values) = refl
+  recorded_together : (recording : Recording) → show_apart (is_text recording) (has_names recording) (is_file (Some (unwrap_or (values_given recording) (codes "@none")))) (has_lines recording) (is_json recording) ≡ None
+  recorded_together as_text = refl
+  recorded_together (as_json names values) = refl
+  recorded_together (as_listing many names values) = refl
 
-  shown_together : (telling : Telling) → first_of (codes "as-text") rows ≡ Some (flag_word (is_text telling)) → first_of (codes "names") rows ≡ Some (flag_word (has_names telling))
-      → first_of (codes "values") rows ≡ Some (unwrap_or (values_given telling) (codes "@none")) → first_of (codes "lines") rows ≡ Some (flag_word (has_lines telling))
-      → is_json telling ≡ is_given (first_of (codes "json") rows) → apart_in rows ≡ None
-  shown_together telling text names values lines json =
-      let t = same_given (first_of (codes "as-text") rows) (is_text telling) (is_given (first_of (codes "as-text") rows)) text refl in
-      let n = same_given (first_of (codes "names") rows) (has_names telling) (is_given (first_of (codes "names") rows)) names refl in
-      let l = same_given (first_of (codes "lines") rows) (has_lines telling) (is_given (first_of (codes "lines") rows)) lines refl in
-      let v = ap is_file values in (λ i. show_apart (t i) (n i) (v i) (l i) (sym json i)) ∙ told_together telling
+  shown_together : (recording : Recording) → first_of (codes "as-text") rows ≡ Some (flag_word (is_text recording)) → first_of (codes "names") rows ≡ Some (flag_word (has_names recording))
+      → first_of (codes "values") rows ≡ Some (unwrap_or (values_given recording) (codes "@none")) → first_of (codes "lines") rows ≡ Some (flag_word (has_lines recording))
+      → is_json recording ≡ is_given (first_of (codes "json") rows) → apart_in rows ≡ None
+  shown_together recording text names values lines json =
+      let t = same_given (first_of (codes "as-text") rows) (is_text recording) (is_given (first_of (codes "as-text") rows)) text refl in
+      let n = same_given (first_of (codes "names") rows) (has_names recording) (is_given (first_of (codes "names") rows)) names refl in
+      let l = same_given (first_of (codes "lines") rows) (has_lines recording) (is_given (first_of (codes "lines") rows)) lines refl in
+      let v = ap is_file values in (λ i. show_apart (t i) (n i) (v i) (l i) (sym json i)) ∙ recorded_together recording
 
   show_goes_together : (quiet : Bool) (form : Form) (apart : Apart) → Says quiet form rows → (form_name form ≡ codes "show") × (apart_in rows ≡ Some apart) → ⊥
-  show_goes_together quiet (show telling dictionary message) apart says bad =
-      let none = sym (shown_together telling says.1.2 says.1.3 says.1.4 says.1.5 says.2) ∙ bad.1 in absurd cc
+  show_goes_together quiet (show recording dictionary message) apart says bad =
+      let none = sym (shown_together recording says.1.2 says.1.3 says.1.4 says.1.5 says.2) ∙ bad.1 in absurd cc
   show_goes_together quiet form apart says bad = unlike (form_name form) (codes "show") refl bad.0
 
 -- no form has two options that don't go together

@@ -13,7 +13,7 @@ use Rattle.dia_cli.specs.Words.{flag_word, is_given, policy_word, sends_word}
 use Rattle.dia_cli.proofs.Forms.Ends.{Finds}
 use Rattle.dia_cli.proofs.Forms.Lookup.{Found, all_found, default_found, first_found, or_found, values_from}
 use Rattle.dia_cli.proofs.Forms.Steps.{flag_values, option_values, values_of}
-use Rattle.dia_cli.proofs.Forms.Walks.{behind}
+use Rattle.dia_cli.proofs.Forms.Walks.{following}
 
 -- the names of commands that are found, where there are any
 abbrev pub some_names : List Text → Option (List Text)
@@ -65,8 +65,8 @@ names_found (name ∷ names) = refl
 -- ---- what is found
 
 module _ (s : Shape) (slots : List Slot) (rows : List Row) (finds : Finds s slots rows) where
-  pub first_is : (id : Text) → first_of id rows ≡ first_value (or_found (values_from CommandLine (values_of id (behind slots []))) (default_found id s.rules))
+  pub first_is : (id : Text) → first_of id rows ≡ first_value (or_found (values_from CommandLine (values_of id (following slots []))) (default_found id s.rules))
   first_is id = first_found id rows ∙ ap first_value (finds id)
 
-  pub all_are : (id : Text) → all_of id rows ≡ option_map (λ (f : Found). f.0) (or_found (values_from CommandLine (values_of id (behind slots []))) (default_found id s.rules))
+  pub all_are : (id : Text) → all_of id rows ≡ option_map (λ (f : Found). f.0) (or_found (values_from CommandLine (values_of id (following slots []))) (default_found id s.rules))
   all_are id = all_found id rows ∙ ap (λ (o : Option Found). option_map (λ (f : Found). f.0) o) (finds id)

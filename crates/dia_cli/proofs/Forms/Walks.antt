@@ -74,9 +74,9 @@ are_apart [] before = true
 are_apart (slot ∷ rest) before = not (has_slot (slot_id slot) before) && are_apart rest (slot ∷ before)
 
 -- the slots, followed by those before, from the last to the first
-abbrev pub behind : List Slot → List Slot → List Slot
-behind [] before = before
-behind (slot ∷ rest) before = behind rest (slot ∷ before)
+abbrev pub following : List Slot → List Slot → List Slot
+following [] before = before
+following (slot ∷ rest) before = following rest (slot ∷ before)
 
 no_values : (id : Text) (slots : List Slot) → not (has_slot id slots) ≡ true → values_of id slots ≡ []
 no_values id [] e = refl
@@ -162,7 +162,7 @@ takes_option s h before (words id given) holds fresh is plain = absurd is
 -- ---- all options
 
 pub takes_options : (s : Shape) (h : Held) (before slots : List Slot) → Holds s h before → FitOptions s slots → list_all is_plain_slot slots ≡ true
-    → are_apart slots before ≡ true → (k : Held) × Walks s (walk_at h 1) (words_of_slots slots) (walk_at k 1) × Holds s k (behind slots before)
+    → are_apart slots before ≡ true → (k : Held) × Walks s (walk_at h 1) (words_of_slots slots) (walk_at k 1) × Holds s k (following slots before)
 unfolding walk_fault
 takes_options s h before [] holds fit plain apart = (h, record { ends = refl; fine = refl }, holds)
 takes_options s h before (slot ∷ rest) holds fit plain apart =
@@ -187,7 +187,7 @@ fewer vs few = let less = leb-true _ _ few in lt-ltb _ _ (omega arith)
 
 -- where a walk of the inputs from a place on ends, and what is held then
 abbrev TakesFrom : Shape → Held → ℕ → List Slot → List Slot → Type 0
-TakesFrom s h n before slots = (to : Walk) × Walks s (walk_at h n) (words_of_slots slots) to × Holds s to.held (behind slots before)
+TakesFrom s h n before slots = (to : Walk) × Walks s (walk_at h n) (words_of_slots slots) to × Holds s to.held (following slots before)
 
 word_walks : (s : Shape) (h : Held) (n : ℕ) (id v : Text) → settle_fault s.rules s.args_override_self h ≡ [] → IsInput s n id (word_filled id n) → IsNoOption v
     → Walks s (walk_at h n) (v ∷ []) (walk_at (given s.rules h id v) (n + 1))
@@ -211,7 +211,7 @@ words_walk s h n id v vs required settles new is plain =
     walks_on s (walk_at h n) (many_at (settled s.rules h) id (v ∷ []) n) (many_at (settled s.rules h) id (v ∷ vs) n) (v ∷ []) vs one
     (walks_names s (settled s.rules h) id n (v ∷ []) vs collects parts.1)
 
-takes_none_from : (s : Shape) (h : Held) (n : ℕ) (before : List Slot) (slots : List Slot) → words_of_slots slots ≡ [] → Holds s h (behind slots before) → TakesFrom s h n before slots
+takes_none_from : (s : Shape) (h : Held) (n : ℕ) (before : List Slot) (slots : List Slot) → words_of_slots slots ≡ [] → Holds s h (following slots before) → TakesFrom s h n before slots
 unfolding walk_fault
 takes_none_from s h n before slots silent holds =
     (walk_at h n, subst (λ (ws : List Text). Walks s (walk_at h n) ws (walk_at h n)) (sym silent) (record { ends = refl; fine = refl }), holds)

@@ -69,18 +69,18 @@ module _ (rows : List Row) (groups commands : List Definition) (numbered : numbe
   -- and has the places of its rules
   pub place-of_slot : (def : ℕ) (table : KeyTable) (d : Definition) → slice_get tables def ≡ Some table → slice_get (definitions (held rows groups commands)) def ≡ Some (plain_definition d)
       → (key : Key) (found : Option ℕ) → ((place : Key → Option ℕ) → IsIndexOf table.rows.items place → found ≡ place key) → found ≡ position (lists_key key) d.rules.items
-  place-of_slot def table d at on key found told = ∥∥₁_elim slotted (option-prop _ _) (λ s.
+  place-of_slot def table d at on key found recorded = ∥∥₁_elim slotted (option-prop _ _) (λ s.
       let one = image_at plain_definition (slice_get (groups ++ commands) def) (plain_definition d) (sym (definitions-held rows groups commands numbered def) ∙ on) in
-      told (place_among (rule_keys one.0.rules.items)) (s.1 def table one.0 at one.1) ∙ place-of_rule one.0.rules.items key ∙ ap (λ (p : PlainDefinition). position (lists_key key) p.rules) one.2)
+      recorded (place_among (rule_keys one.0.rules.items)) (s.1 def table one.0 at one.1) ∙ place-of_rule one.0.rules.items key ∙ ap (λ (p : PlainDefinition). position (lists_key key) p.rules) one.2)
 
   -- as a look-up reads them
   pub found_slot : (def i : ℕ) (table : KeyTable) (d : Definition) → i ≡ def → def < length (definitions (held rows groups commands)) → table ≡ get_or tables i table
       → slice_get (definitions (held rows groups commands)) def ≡ Some (plain_definition d)
       → (key : Key) (found : Option ℕ) → ((place : Key → Option ℕ) → IsIndexOf table.rows.items place → found ≡ place key)
       → found ≡ position (lists_key key) d.rules.items
-  found_slot def i table d same within read on key found told =
+  found_slot def i table d same within read on key found recorded =
       let short : def < length tables = omega (arith, within, length-tables, length-definitions-held rows groups commands numbered) in
-      place-of_slot def table d (slice_get_read tables (length tables) def table refl short (subst (λ (k : ℕ). table ≡ get_or tables k table) same read)) on key found told
+      place-of_slot def table d (slice_get_read tables (length tables) def table refl short (subst (λ (k : ℕ). table ≡ get_or tables k table) same read)) on key found recorded
 
 -- the places of commands that a message selects
 pub selected-places : (rows : List Row) (groups commands : List Definition) (code : ℕ) (class : Class) (app : ℕ) → selected (held rows groups commands) code class app

@@ -39,13 +39,13 @@ fn push_finding<'a>(findings: &mut Vec<Finding<'a>>, finding: Finding<'a>) -> Re
 /// Adds a finding where it applies.
 fn push_if<'a>(
     findings: &mut Vec<Finding<'a>>,
-    stands: bool,
+    occurs: bool,
     finding: Finding<'a>,
 ) -> Result<(), AllocError>
     ensures { OnOk result (map plain_finding findings.new.items ≡ map plain_finding findings.old.items
-        ++ (if stands then plain_finding finding.entry ∷ [] else [])) }
+        ++ (if occurs then plain_finding finding.entry ∷ [] else [])) }
 {
-    if stands {
+    if occurs {
         push_finding(findings, finding)
     } else {
         Ok(())

@@ -1,10 +1,10 @@
-use crate::findings::Told;
+use crate::findings::Recorded;
 use std::alloc::AllocError;
 
 /// Why a check does not pass.
 #[derive(Clone, Copy)]
 pub(super) enum Refusal<'a> {
-    Stands(Told<'a>),
+    Occurs(Recorded<'a>),
     NoMemory,
 }
 

@@ -37,13 +37,13 @@ fn a_rule_names_its_slot(rt: HostRuntime) {
 }
 
 #[test]
-fn tells_names(rt: HostRuntime) {
+fn records_names(rt: HostRuntime) {
     let long = "n".repeat(rt.alloc(), 129).expect(&rt, "memory");
     assert!(rt; is_name("3GPP-IMSI") && !is_name(long.as_str()) && !is_name("AVP"));
 }
 
 /// What people are told of faults.
-const TOLD: [(CcfFault, &str); 5] = [
+const RECORDED: [(CcfFault, &str); 5] = [
     (
         CcfFault::Syntax { token: 3, line: 2 },
         "line 2: token 3 is not expected here",
@@ -58,8 +58,8 @@ const TOLD: [(CcfFault, &str); 5] = [
 ];
 
 #[test]
-fn tells_people_of_a_fault(rt: HostRuntime) {
-    for (fault, words) in TOLD.iter() {
+fn records_people_of_a_fault(rt: HostRuntime) {
+    for (fault, words) in RECORDED.iter() {
         let text = fault.to_string(rt.alloc()).expect(&rt, words);
         same(&rt, text.as_bytes(), words.as_bytes(), words);
     }

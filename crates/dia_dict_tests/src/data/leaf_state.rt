@@ -5,10 +5,10 @@ use dia_data::{Format, Leaf, LeafState};
 use std::process::Abort;
 
 /// What a format says of data that comes in these two pieces.
-fn in_two_pieces(format: &Format, front: &[u8], behind: &[u8]) -> Leaf {
+fn in_two_pieces(format: &Format, front: &[u8], following: &[u8]) -> Leaf {
     let mut state = LeafState::start(format);
     state.feed(front);
-    state.feed(behind);
+    state.feed(following);
     state.finish()
 }
 
@@ -30,8 +30,8 @@ pub(super) fn is_leaf_in_pieces(
     line: &str,
 ) {
     for place in 0..data.len() + 1 {
-        let (front, behind) = data.split_at(place);
-        is_leaf(rt, in_two_pieces(format, front, behind), wanted, line);
+        let (front, following) = data.split_at(place);
+        is_leaf(rt, in_two_pieces(format, front, following), wanted, line);
     }
     is_leaf(rt, in_bytes(format, data), wanted, line);
 }

@@ -34,17 +34,17 @@ $T$RULE*1025 => Limit T
 ";
 
 #[test]
-fn tells_the_first_fault(rt: HostRuntime) {
+fn records_the_first_fault(rt: HostRuntime) {
     let mut names = Names::new(rt.alloc());
     for line in ROWS.lines() {
         if let Some(row) = names.row(line).expect(&rt, line) {
-            tells(&rt, &names, &row);
+            records(&rt, &names, &row);
         }
     }
 }
 
 /// Checks the fault of the text of a row.
-fn tells(rt: &(impl AllocGlobal + Abort), names: &Names, row: &Row<'_>) {
+fn records(rt: &(impl AllocGlobal + Abort), names: &Names, row: &Row<'_>) {
     let text = names.text(row.call).expect(rt, row.line);
     let text = str::from_utf8(text.as_slice()).expect(rt, row.line);
     let fault = read(rt, text).err().expect(rt, row.line);
@@ -55,7 +55,7 @@ fn tells(rt: &(impl AllocGlobal + Abort), names: &Names, row: &Row<'_>) {
 /// The kind of a fault, and the names that are told.
 fn fault_words(alloc: Global, fault: &DictFault) -> Result<String, AllocError> {
     match fault {
-        DictFault::Stands { kind, name, slot } => {
+        DictFault::Occurs { kind, name, slot } => {
             let mut text = format!(in alloc; "{kind:?}")?;
             for part in [name.as_str(), slot.as_str()] {
                 if !part.is_empty() {
@@ -69,7 +69,7 @@ fn fault_words(alloc: Global, fault: &DictFault) -> Result<String, AllocError> {
 }
 
 /// A fault's message for people has the names that there are, and no blanks where there are none.
-const TOLD: [(&str, &str); 2] = [
+const RECORDED: [(&str, &str); 2] = [
     (
         "<T> ::= < Diameter Header: 302, REQ > { Z }",
         "undefined-name: T Z",
@@ -78,10 +78,10 @@ const TOLD: [(&str, &str); 2] = [
 ];
 
 #[test]
-fn tells_people_of_a_fault(rt: HostRuntime) {
-    for (text, words) in TOLD.iter() {
+fn records_people_of_a_fault(rt: HostRuntime) {
+    for (text, words) in RECORDED.iter() {
         let fault = read(&rt, text).err().expect(&rt, text);
-        let told = fault.to_string(rt.alloc()).expect(&rt, "memory");
-        same(&rt, told.as_bytes(), words.as_bytes(), words);
+        let recorded = fault.to_string(rt.alloc()).expect(&rt, "memory");
+        same(&rt, recorded.as_bytes(), words.as_bytes(), words);
     }
 }

@@ -34,7 +34,7 @@ const WANTED: &[&str] = &[
 ];
 
 #[test]
-fn tells_all_faults_with_their_places(rt: HostRuntime) {
+fn records_all_faults_with_their_places(rt: HostRuntime) {
     let source = parse(rt.alloc(), TEXT).expect(&rt, TEXT);
     let findings = faults(rt.alloc(), &source).expect(&rt, "memory");
     assert!(rt; findings.len() == WANTED.len());
@@ -46,9 +46,9 @@ fn tells_all_faults_with_their_places(rt: HostRuntime) {
 
 fn words_of(alloc: Global, finding: &Finding<'_>) -> Result<String, AllocError> {
     let mut out = String::new(alloc);
-    let kind = finding.told.kind;
-    let name = finding.told.name;
-    let slot = finding.told.slot;
+    let kind = finding.recorded.kind;
+    let name = finding.recorded.name;
+    let slot = finding.recorded.slot;
     write!(out, "{kind} {name}")?;
     if !slot.is_empty() {
         write!(out, " {slot}")?;

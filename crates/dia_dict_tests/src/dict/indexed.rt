@@ -16,7 +16,7 @@ fn rules(alloc: Global, count: u32) -> Result<String, AllocError> {
 }
 
 /// Checks the slot of an AVP in the command.
-fn stands(rt: &impl Abort, book: &IndexedBook, code: u32, slot: Slot) {
+fn occurs(rt: &impl Abort, book: &IndexedBook, code: u32, slot: Slot) {
     let key = Key { code, vendor: 0 };
     let found = book
         .select(302, Class::Request, 0)
@@ -28,9 +28,9 @@ fn stands(rt: &impl Abort, book: &IndexedBook, code: u32, slot: Slot) {
 fn finds_rules(rt: &impl Abort, book: &IndexedBook) {
     for code in 0..1024u32 {
         let slot = Slot::Loose(code as usize);
-        stands(rt, book, code, slot);
+        occurs(rt, book, code, slot);
     }
-    stands(rt, book, 1024, Slot::Unlisted);
+    occurs(rt, book, 1024, Slot::Unlisted);
 }
 
 #[test]

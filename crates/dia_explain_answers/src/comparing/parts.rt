@@ -16,21 +16,21 @@ pub fn push_lines(note: &mut Note, pair: &Pair<'_>, lines: &str) {
 }
 
 fn push_line(note: &mut Note, pair: &Pair<'_>, line: &str) {
-    let Some((part, told)) = line.split_once(": ") else {
+    let Some((part, recorded)) = line.split_once(": ") else {
         return;
     };
     match word_named(part) {
-        Some(Word::Hint) => push_hint(note, pair, told),
+        Some(Word::Hint) => push_hint(note, pair, recorded),
         Some(part @ (Word::Own | Word::Other | Word::A | Word::B | Word::Lack)) => {
-            push_of_avp(note, pair, part, told)
+            push_of_avp(note, pair, part, recorded)
         }
-        Some(part) => push_of_definition(note, pair, part, told),
+        Some(part) => push_of_definition(note, pair, part, recorded),
         None => {}
     }
 }
 
 /// Adds a line about a definition, or about a rule of it.
-fn push_of_definition(note: &mut Note, pair: &Pair<'_>, part: Word, told: &str) {
+fn push_of_definition(note: &mut Note, pair: &Pair<'_>, part: Word, recorded: &str) {
     let place = match part {
         Word::Sent | Word::Unsent => pair.places().0,
         Word::Taken => pair.places().1,
@@ -40,14 +40,14 @@ fn push_of_definition(note: &mut Note, pair: &Pair<'_>, part: Word, told: &str) 
     match (part, place) {
         (Word::Sent, None) | (Word::Unsent, Some(_)) => {}
         (Word::X | Word::Sent | Word::Unsent, _) => {
-            push_defined(note, &pair.pairing.a, pair.x, place, told)
+            push_defined(note, &pair.pairing.a, pair.x, place, recorded)
         }
-        _ => push_defined(note, &pair.pairing.b, pair.y, place, told),
+        _ => push_defined(note, &pair.pairing.b, pair.y, place, recorded),
     }
 }
 
 /// Adds a line about an AVP, or about a dictionary that doesn't know it.
-fn push_of_avp(note: &mut Note, pair: &Pair<'_>, part: Word, told: &str) {
+fn push_of_avp(note: &mut Note, pair: &Pair<'_>, part: Word, recorded: &str) {
     let side = match part {
         Word::Own | Word::A => &pair.pairing.a,
         _ => &pair.pairing.b,
@@ -58,13 +58,13 @@ fn push_of_avp(note: &mut Note, pair: &Pair<'_>, part: Word, told: &str) {
         _ => pair.known_in(side),
     };
     match (part, avp) {
-        (Word::Lack, None) => side.push_part(note, None, pair, told),
+        (Word::Lack, None) => side.push_part(note, None, pair, recorded),
         (Word::Lack, Some(_)) | (_, None) => {}
         (_, Some(avp)) => side.push_part(
             note,
             side.avp_at(avp.name),
             &Declared { pair, avp },
-            told,
+            recorded,
         ),
     }
 }
@@ -83,14 +83,14 @@ fn push_defined<'a>(
     side: &'a Side<'a>,
     def: Option<&'a Definition>,
     place: Option<usize>,
-    told: &str,
+    recorded: &str,
 ) {
     let Some(def) = def else {
         return;
     };
     let rule = rule_at(Some(def), place);
     let defined = Defined { side, def, rule };
-    side.push_part(note, side.definition_at(def, place), &defined, told)
+    side.push_part(note, side.definition_at(def, place), &defined, recorded)
 }
 
 impl Scene for Defined<'_> {

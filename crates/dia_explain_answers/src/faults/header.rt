@@ -12,7 +12,7 @@ use dia_explain_places::Note;
 use dia_wire::{COMMAND_ERROR, COMMAND_PROXIABLE, COMMAND_REQUEST, COMMAND_RETRANSMITTED, Header};
 
 /// How many applications are reported.
-const TOLD: usize = 5;
+const RECORDED: usize = 5;
 
 /// The fields by which a command is found.
 const HEADER: &str = "\n  header: flags {flags}, code {code}, application {app}\n";
@@ -72,21 +72,20 @@ impl InHeader<'_> {
         }
     }
 
-    fn push_command(&self, note: &mut Note, command: &Definition, told: &str) {
-        self.side
-            .push_part(note, self.side.definition_at(command, None), self, told)
+    fn push_command(&self, note: &mut Note, command: &Definition, recorded: &str) {
+        self.side.push_part(note, self.side.definition_at(command, None), self, recorded)
     }
 
     /// Adds the first commands of the code and the class of the header, with their applications.
     fn push_applications(&self, note: &mut Note) {
-        let mut told = 0usize;
+        let mut recorded = 0usize;
         for place in 0..self.side.book.commands() {
             let command = command_at(self.side.book, place);
             let scene = InHeader { command, ..*self };
             match command {
-                Some(command) if told < TOLD && scene.application().is_some() => {
+                Some(command) if recorded < RECORDED && scene.application().is_some() => {
                     scene.push_command(note, command, "{name} is for application {theirs}");
-                    told = told.saturating_add(1);
+                    recorded = recorded.saturating_add(1);
                 }
                 _ => {}
             }

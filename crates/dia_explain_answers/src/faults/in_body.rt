@@ -17,7 +17,7 @@ use dia_check::{Fault, Levels, Reason, Subject};
 use dia_explain_places::Note;
 
 /// How many groups are reported at each end of a long way.
-const TOLD: usize = 4;
+const RECORDED: usize = 4;
 
 /// A fault in the body of a message.
 #[derive(Clone, Copy)]
@@ -80,11 +80,11 @@ impl<'a> InBody<'a> {
     fn push_groups(&self, note: &mut Note) {
         note.put_all(&["\n  in ", self.outermost]);
         let many = self.groups.len();
-        let between = many.saturating_sub(TOLD).saturating_sub(TOLD);
+        let between = many.saturating_sub(RECORDED).saturating_sub(RECORDED);
         for (index, group) in self.groups.iter().enumerate() {
-            if between < 2 || index < TOLD || index.saturating_add(TOLD) >= many {
+            if between < 2 || index < RECORDED || index.saturating_add(RECORDED) >= many {
                 push_group(note, self.side, group);
-            } else if index == TOLD {
+            } else if index == RECORDED {
                 note.put(", .. ");
                 note.put_number(between as u64);
                 note.put(" groups ..");
@@ -110,12 +110,12 @@ impl<'a> InBody<'a> {
     fn push_declared(&self, note: &mut Note) {
         match (topic_of(self.fault.reason), self.def()) {
             (Topic::Rules, Some(def)) => {
-                let (place, told) = match self.counting {
+                let (place, recorded) = match self.counting {
                     Some(counting) => (Some(counting.place), "the rule is {rule}"),
                     None => (None, "{level} is defined here"),
                 };
                 let at = self.side.definition_at(def, place);
-                self.side.push_part(note, at, self, told)
+                self.side.push_part(note, at, self, recorded)
             }
             _ => {
                 // the AVP of the fault, or of an unknown one an AVP with its code

@@ -5,7 +5,7 @@ use crate::faults::avp::{data_of, same_code, text_of_value};
 use crate::faults::avp_bytes::{head_of, length_of};
 use crate::faults::in_body::InBody;
 use crate::faults::level::Counting;
-use crate::faults::rules::{other_vendor, place_behind};
+use crate::faults::rules::{other_vendor, place_after};
 use dia_book::{Class, Definition};
 use dia_check::{Reason, Unknown, class_of};
 use dia_wire::{AVP_HEAD_LENGTH, Header};
@@ -124,9 +124,9 @@ fn text_of_rule(scene: &InBody<'_>) -> &'static str {
         Reason::Missing if scene.own().is_empty() =>
             "{subject} is missing at the end of {level}: {wanted} wanted, {found} found\n\
              have the sender add {subject}, or, where it may be missing, write {optional}",
-        Reason::Missing => match place_behind(scene) {
+        Reason::Missing => match place_after(scene) {
             Some(_) => "{subject} is missing before this AVP: {wanted} wanted, {found} found\n\
-                 it is at {behind}, and a fixed rule wants it at the front: fix the sender, or write {loose}",
+                 it is at {following}, and a fixed rule wants it at the front: fix the sender, or write {loose}",
             None => "{subject} is missing before this AVP: {wanted} wanted, {found} found\n\
                  a fixed rule wants its AVP at the front: have the sender put it here; \
                  or, if it may occur elsewhere, write {loose}",

@@ -8,10 +8,10 @@ use dia_book::{DRule, RuleKind};
 use dia_explain_places::Note;
 
 /// The place of the AVP that is missing, if one follows the fault.
-pub fn place_behind(scene: &InBody<'_>) -> Option<usize> {
+pub fn place_after(scene: &InBody<'_>) -> Option<usize> {
     let key = scene.key()?;
-    let (behind, _) = find_key(scene.own(), &[key])?;
-    Some((scene.fault.place as usize).saturating_add(behind))
+    let (following, _) = find_key(scene.own(), &[key])?;
+    Some((scene.fault.place as usize).saturating_add(following))
 }
 
 /// The place of an unknown AVP in the level, of the code of the one that is missing and another vendor; and this vendor.
@@ -41,7 +41,7 @@ pub fn push_rule_word(note: &mut Note, scene: &InBody<'_>, word: Word) {
         Word::Found => note.put_number(*found as u64),
         // with the AVP at the place
         Word::Count => note.put_number(found.saturating_add(1) as u64),
-        Word::Behind => note.put_number(place_behind(scene).unwrap_or(0) as u64),
+        Word::After => note.put_number(place_after(scene).unwrap_or(0) as u64),
         Word::Wanted => push_wanted(note, rule),
         Word::Most => push_most(note, rule.max),
         Word::Loose => push_loose(note, scene.side, rule),

@@ -63,14 +63,19 @@ impl Walk {
         }
     }
 
-    /// Goes past an AVP, after which the level continues at `behind`, or into it.
-    fn pass<B: Book>(&mut self, book: &B, avp: &Avp<'_>, behind: usize) -> Result<(), AllocError> {
+    /// Goes past an AVP, after which the level continues at `following`, or into it.
+    fn pass<B: Book>(
+        &mut self,
+        book: &B,
+        avp: &Avp<'_>,
+        following: usize,
+    ) -> Result<(), AllocError> {
         let key = key(avp);
         let place = self.at;
         let end = place.saturating_add(avp.length());
         self.has_unnamed = self.has_unnamed || book.avp(key).is_none();
         if group_of(book, key).is_none() {
-            self.at = behind;
+            self.at = following;
         } else {
             self.groups.push(Group { place, key, end })?;
             self.at = end.saturating_sub(avp.bytes.len());

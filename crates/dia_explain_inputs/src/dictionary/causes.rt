@@ -41,7 +41,7 @@ fn hint_at(scene: &Scene<'_>) -> Option<&'static str> {
     if scene.token.is_none() && is_cut_by_comment(scene.text) {
         return Some(RETURNS);
     }
-    let places = [before(scene), scene.place, "Token", behind(scene)];
+    let places = [before(scene), scene.place, "Token", following(scene)];
     match hint_of(&places, &scene.sight()) {
         None if scene.earlier.is_none() => Some(DICTIONARY),
         found => found,
@@ -70,17 +70,17 @@ fn before(scene: &Scene<'_>) -> &'static str {
 
 /// Whether a format is at the place, followed by a number that no format follows.
 fn is_format_first(scene: &Scene<'_>) -> bool {
-    let number = scene.behind(scene.token);
+    let number = scene.following(scene.token);
     is_format(scene, scene.token)
         && number.is_some_and(|token| token.kind == Kind::Number)
-        && !is_format(scene, behind_code(scene, number))
+        && !is_format(scene, after_code(scene, number))
 }
 
 /// The token after a code, and after a vendor, if there is one.
-fn behind_code(scene: &Scene<'_>, code: Option<Lexeme>) -> Option<Lexeme> {
-    let next = scene.behind(code);
+fn after_code(scene: &Scene<'_>, code: Option<Lexeme>) -> Option<Lexeme> {
+    let next = scene.following(code);
     if scene.word(next) == b"vendor".as_slice() {
-        scene.behind(scene.behind(next))
+        scene.following(scene.following(next))
     } else {
         next
     }
@@ -94,7 +94,7 @@ fn is_format(scene: &Scene<'_>, token: Option<Lexeme>) -> bool {
 }
 
 /// Which hints follow those of the place: what a text seems to be where a token follows a name that begins a definition.
-fn behind(scene: &Scene<'_>) -> &'static str {
+fn following(scene: &Scene<'_>) -> &'static str {
     let sight = scene.sight();
     if scene.place != "Assign" {
         ""
@@ -117,14 +117,14 @@ fn push_last(note: &mut Note, scene: &Scene<'_>) {
     if place.line == place_of(scene.text, scene.misfit.at).line {
         return;
     }
-    let told = if scene.token.is_none() {
+    let recorded = if scene.token.is_none() {
         "hint: its last word is at "
     } else if scene.place == "Close" {
         "hint: the name before it is at "
     } else {
         return;
     };
-    note.put(told);
+    note.put(recorded);
     push_line_column(note, place);
     note.put("\n");
 }

@@ -3,11 +3,11 @@
 ghost use Rattle.std.specs.Prelude.{IfSome, slice_get};
 ghost use Rattle.dia_explain_places.specs.Parts.{part_place};
 ghost use Rattle.dia_explain_places.specs.Places.{start_text};
-ghost use Rattle.dia_explain_inputs.specs.Beginnings.{BeginsWith, TellsFirst};
+ghost use Rattle.dia_explain_inputs.specs.Beginnings.{BeginsWith, RecordsFirst};
 
 mod parts;
+mod recorded;
 mod texts;
-mod told;
 mod values;
 
 use crate::names::{Named, names_of};
@@ -16,9 +16,9 @@ use dia_dict::{DictKind, Finding, base_text, faults};
 use dia_explain_places::{NamedText, Note, Place, nearest_name};
 use dia_report::WrongSource;
 use parts::Parts;
+use recorded::{RecordedFault, recorded_faults};
 use std::alloc::{AllocError, Global};
 use texts::{push_filled, text_of};
-use told::{ToldFault, told_faults};
 
 /// The most faults that are reported.
 const MOST: usize = 50;
@@ -28,7 +28,7 @@ const MOST_NAMES: usize = 200;
 
 /// Adds the faults of meaning of a text that spells a source, the one of the report first.
 pub fn push_meaning(note: &mut Note, name: &str, text: &str, wrong: &WrongSource)
-    ensures { TellsFirst name.now text.now wrong.now note.old note.new }
+    ensures { RecordsFirst name.now text.now wrong.now note.old note.new }
 {
     let source = &*wrong.source;
     let parts = Parts { source, name, text };
@@ -50,26 +50,26 @@ fn push_findings(note: &mut Note, parts: &Parts<'_>, findings: &[Finding<'_>])
         name: parts.name,
         text: parts.text.as_bytes(),
     };
-    let told = told_of(note.allocator(), parts, findings);
-    push_made(note, &input, parts.at(first.part), told);
+    let recorded = recorded_of(note.allocator(), parts, findings);
+    push_made(note, &input, parts.at(first.part), recorded);
 }
 
 /// The diagnostic of all faults, after the place of the first.
-fn told_of<'a>(
+fn recorded_of<'a>(
     alloc: Global,
     parts: &Parts<'a>,
     findings: &[Finding<'a>],
 ) -> Result<String, AllocError> {
-    let faults = told_faults(alloc, findings)?;
+    let faults = recorded_faults(alloc, findings)?;
     let names = names_of(alloc, parts.source, Named::Avp)?;
-    let mut told = Note::new(alloc);
-    push_first(&mut told, parts, &names, &faults);
-    push_rest(&mut told, parts.name, &faults);
-    told.finish()
+    let mut recorded = Note::new(alloc);
+    push_first(&mut recorded, parts, &names, &faults);
+    push_rest(&mut recorded, parts.name, &faults);
+    recorded.finish()
 }
 
 /// Adds the first faults one by one, without the place of the very first. The hint for each kind of fault is given once.
-fn push_first(note: &mut Note, parts: &Parts<'_>, names: &[&str], faults: &[ToldFault<'_>]) {
+fn push_first(note: &mut Note, parts: &Parts<'_>, names: &[&str], faults: &[RecordedFault<'_>]) {
     let mut advised = None;
     let mut is_first = true;
     for fault in faults.get(..MOST).unwrap_or(faults) {
@@ -88,14 +88,14 @@ fn push_fault(
     note: &mut Note,
     parts: &Parts<'_>,
     names: &[&str],
-    fault: &ToldFault<'_>,
+    fault: &RecordedFault<'_>,
     advised: Option<DictKind>,
 ) -> Option<DictKind> {
     let text = text_of(parts, fault);
-    let (told, advice) = text.split_once('\n').unwrap_or((text, ""));
-    push_filled(note, parts, fault, told);
+    let (recorded, advice) = text.split_once('\n').unwrap_or((text, ""));
+    push_filled(note, parts, fault, recorded);
     push_place(note, parts.place(fault.other));
-    let kind = fault.finding.told.kind;
+    let kind = fault.finding.recorded.kind;
     if push_meant(note, names, fault) || is_advised(kind, advised) {
         return advised;
     }
@@ -120,15 +120,15 @@ fn is_advised(kind: DictKind, advised: Option<DictKind>) -> bool {
 }
 
 /// Adds where an undefined name may come from, the base dictionary or a slip, and returns whether that is known.
-fn push_meant(note: &mut Note, names: &[&str], fault: &ToldFault<'_>) -> bool {
-    let told = &fault.finding.told;
-    if !matches!(told.kind, DictKind::UndefinedName) {
+fn push_meant(note: &mut Note, names: &[&str], fault: &RecordedFault<'_>) -> bool {
+    let recorded = &fault.finding.recorded;
+    if !matches!(recorded.kind, DictKind::UndefinedName) {
         return false;
     }
-    if push_of_base(note, told.slot) {
+    if push_of_base(note, recorded.slot) {
         return true;
     }
-    match nearest_name(told.slot, names) {
+    match nearest_name(recorded.slot, names) {
         Some(near) => {
             note.put_all(&["hint: did you mean ", near, "?\n"]);
             true
@@ -150,28 +150,28 @@ fn push_of_base(note: &mut Note, name: &str) -> bool {
     is_group
 }
 
-/// The line of the base dictionary that has `front` before a name, and `behind` after it.
-fn line_of_base(front: &str, name: &str, behind: &str) -> Option<&'static str> {
+/// The line of the base dictionary that has `front` before a name, and `following` after it.
+fn line_of_base(front: &str, name: &str, following: &str) -> Option<&'static str> {
     for line in base_text().lines() {
-        if is_line_of(line, front, name, behind) {
+        if is_line_of(line, front, name, following) {
             return Some(line);
         }
     }
     None
 }
 
-fn is_line_of(line: &str, front: &str, name: &str, behind: &str) -> bool {
+fn is_line_of(line: &str, front: &str, name: &str, following: &str) -> bool {
     let Some(named) = line.strip_prefix(front) else {
         return false;
     };
     match named.strip_prefix(name) {
-        Some(rest) => rest.starts_with(behind),
+        Some(rest) => rest.starts_with(following),
         None => false,
     }
 }
 
 /// Adds how many faults more there are, and which other names are undefined.
-fn push_rest(note: &mut Note, name: &str, faults: &[ToldFault<'_>]) {
+fn push_rest(note: &mut Note, name: &str, faults: &[RecordedFault<'_>]) {
     let Some(rest) = faults.get(MOST..) else {
         return;
     };
@@ -191,13 +191,13 @@ fn push_rest(note: &mut Note, name: &str, faults: &[ToldFault<'_>]) {
 }
 
 /// Adds the first undefined names of faults. Returns how many these are.
-fn push_undefined(note: &mut Note, faults: &[ToldFault<'_>]) -> usize {
+fn push_undefined(note: &mut Note, faults: &[RecordedFault<'_>]) -> usize {
     let mut count = 0usize;
     let mut between = "hint: these names aren't defined either: ";
     for fault in faults {
-        let told = &fault.finding.told;
-        if count < MOST_NAMES && matches!(told.kind, DictKind::UndefinedName) {
-            note.put_all(&[between, told.slot]);
+        let recorded = &fault.finding.recorded;
+        if count < MOST_NAMES && matches!(recorded.kind, DictKind::UndefinedName) {
+            note.put_all(&[between, recorded.slot]);
             between = ", ";
             count = count.saturating_add(1);
         }

@@ -51,7 +51,7 @@ impl<'a> Scene<'a> {
     }
 
     /// The token after another.
-    pub fn behind(&self, token: Option<Lexeme>) -> Option<Lexeme> {
+    pub fn following(&self, token: Option<Lexeme>) -> Option<Lexeme> {
         next_lexeme(str::from_utf8(self.text).ok()?, token?.end)
     }
 

@@ -87,7 +87,7 @@ fn is_selected<A: Book, B: Book>(
             None => false,
         },
         None => match commands.only_for(command.head) {
-            Some(other) => stands_beside(beside, command, other),
+            Some(other) => occurs_beside(beside, command, other),
             None => false,
         },
     }
@@ -108,7 +108,7 @@ fn has_all<A: Book, B: Book>(
 }
 
 /// Whether the table has the definitions as a pair.
-fn stands_beside(beside: &IndexSet<(&str, &str)>, command: &Definition, other: &Definition) -> bool
+fn occurs_beside(beside: &IndexSet<(&str, &str)>, command: &Definition, other: &Definition) -> bool
     ensures { result ≡ list_any
         (is_pair (plain_definition command.now).name (plain_definition other.now).name)
         (map plain_names beside.now.keys) }
@@ -157,7 +157,7 @@ pub(super) fn is_ready<A: Book, B: Book>(
     ensures { result ≡ is_ready sides.now (map plain_names beside.now.keys)
         (plain_definition command.now) (plain_definition other.now) }
 {
-    !is_wanted(sides, &command.head, &other.head) || stands_beside(beside, command, other)
+    !is_wanted(sides, &command.head, &other.head) || occurs_beside(beside, command, other)
 }
 
 /// Whether a command of the second may be selected for messages of one of the first.

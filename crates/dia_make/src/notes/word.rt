@@ -5,19 +5,19 @@
 pub fn word_at(text: &[u8], at: usize) -> &[u8] {
     let rest = text.get(at..).unwrap_or(b"".as_slice());
     let length = match rest {
-        [b'"', behind @ ..] => quoted_length(behind),
+        [b'"', following @ ..] => quoted_length(following),
         _ => rest.iter().take_while(|byte| is_of_word(**byte)).count(),
     };
     rest.get(..length).unwrap_or(rest)
 }
 
 /// How long a text in quotes is, with its quotes, of which the opening one is in front of these bytes.
-fn quoted_length(behind: &[u8]) -> usize {
-    let inside = behind
+fn quoted_length(following: &[u8]) -> usize {
+    let inside = following
         .iter()
         .take_while(|byte| !matches!(byte, b'"' | b'\n'))
         .count();
-    let is_closed = matches!(behind.get(inside), Some(b'"'));
+    let is_closed = matches!(following.get(inside), Some(b'"'));
     inside.saturating_add(if is_closed { 2 } else { 1 })
 }
 

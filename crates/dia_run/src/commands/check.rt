@@ -13,7 +13,7 @@ ghost use Rattle.dia_run.specs.Verdict.{IsVerdict, fault_line, subject_text};
 mod feeding;
 
 use crate::commands::check::feeding::{CheckedMessage, check_message};
-use crate::commands::{Outcome, told};
+use crate::commands::{Outcome, recorded};
 use crate::inputs::dictionary::read_dictionary;
 use dia_check::{Fault, Levels, Refusal, Selected, Subject, Unknown};
 use dia_dict::{Book, DefId, IndexedBook};
@@ -67,8 +67,8 @@ pub fn verdict<B: Book>(
     match answer {
         Ok(found) => valid(alloc, book, found.def),
         Err(Refusal::Fault(fault)) => faulty(alloc, book, fault),
-        Err(Refusal::Truncated) => told(alloc, "truncated\n", Exit::No),
-        Err(Refusal::Trailing) => told(alloc, "trailing\n", Exit::No),
+        Err(Refusal::Truncated) => recorded(alloc, "truncated\n", Exit::No),
+        Err(Refusal::Trailing) => recorded(alloc, "trailing\n", Exit::No),
         Err(Refusal::NoMemory) => Err(AllocError),
         Err(Refusal::Spent) => unreachable!(),
     }

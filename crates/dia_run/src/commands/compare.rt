@@ -7,7 +7,7 @@ ghost use Rattle.dia_run.specs.Outcome.{IsCompareOutcome};
 ghost use Rattle.dia_run.specs.Pairs.{IsAnswerText, NamesPair, failure_line, test_word};
 ghost use Rattle.dia_run.specs.Report.{Answers, HasReport};
 
-use crate::commands::{Outcome, told};
+use crate::commands::{Outcome, recorded};
 use crate::inputs::dictionary::read_dictionary;
 use crate::inputs::table::read_table;
 use dia_check::Unknown;
@@ -28,7 +28,7 @@ pub fn compare(alloc: Global, unknown: Unknown, inputs: &Inputs) -> Result<Answe
     let second = read_dictionary(alloc, 2, &inputs.second)?;
     let table = read_table(alloc, &inputs.table)?;
     let verdict = judge_table(alloc, &first.book, &second.book, unknown, &table)?;
-    let Outcome { text, exit } = told_answer(alloc, &table, verdict.answer)?;
+    let Outcome { text, exit } = recorded_answer(alloc, &table, verdict.answer)?;
     let Verdict { answer, failings } = verdict;
     let report = Report::Compared(Compared {
         books: BothBooks { first, second },
@@ -41,13 +41,13 @@ pub fn compare(alloc: Global, unknown: Unknown, inputs: &Inputs) -> Result<Answe
 }
 
 /// The line of an answer about this table, and how the program ends.
-pub fn told_answer(alloc: Global, table: &Table, answer: Answer) -> Result<Outcome, AllocError>
+pub fn recorded_answer(alloc: Global, table: &Table, answer: Answer) -> Result<Outcome, AllocError>
     requires { NamesPair (plain_table table.now) answer }
     ensures { IfOk result (λ outcome. IsAnswerText
         (plain_table table.now) answer (string_bytes outcome.text) outcome.exit) }
 {
     match answer {
-        Answer::Yes => told(alloc, "yes\n", Exit::Yes),
+        Answer::Yes => recorded(alloc, "yes\n", Exit::Yes),
         Answer::No { kind, pair, reason } => match kind {
             PairKind::Command => failed(alloc, "command", &table.commands[pair], reason),
             PairKind::Avp => failed(alloc, "avp", &table.avps[pair], reason),

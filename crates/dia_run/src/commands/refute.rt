@@ -7,7 +7,7 @@ ghost use Rattle.dia_run.specs.Kinds.{IsOfRefute, Reports};
 ghost use Rattle.dia_run.specs.Outcome.{IsRefuteOutcome};
 ghost use Rattle.dia_run.specs.Report.{Answers, HasReport};
 
-use crate::commands::{Outcome, told};
+use crate::commands::{Outcome, recorded};
 use crate::inputs::dictionary::read_dictionary;
 use crate::inputs::message::read_message;
 use dia_check::{Levels, Refusal, Selected, Unknown, check};
@@ -33,11 +33,11 @@ pub fn refute(
     let under_first = checked(alloc, &first.book, unknown, levels, message.as_slice())?;
     let under_second = checked(alloc, &second.book, unknown, levels, message.as_slice())?;
     if is_refuted(&under_first, &under_second) {
-        let Outcome { text, exit } = told(alloc, "refutes\n", Exit::Yes)?;
+        let Outcome { text, exit } = recorded(alloc, "refutes\n", Exit::Yes)?;
         let report = Report::Done;
         return Ok(Answered { text, exit, report });
     }
-    let Outcome { text, exit } = told(alloc, "does not refute\n", Exit::No)?;
+    let Outcome { text, exit } = recorded(alloc, "does not refute\n", Exit::No)?;
     let report = Report::Unrefuting(Unrefuting {
         books: BothBooks { first, second },
         message,

@@ -10,7 +10,7 @@ ghost use Rattle.dia_io.specs.Inputs.{Holds};
 ghost use Rattle.dia_dict.specs.Dictionary.{IsDictionary};
 ghost use Rattle.dia_run.specs.Texts.{IsSourceText, IsNoSourceText};
 ghost use Rattle.dia_run.specs.Texts.{IsDictionaryText, IsNoDictionaryText};
-ghost use Rattle.dia_report.specs.Refusals.{dictionary_line, TellsOf, bad_dictionary_text};
+ghost use Rattle.dia_report.specs.Refusals.{dictionary_line, RecordsOf, bad_dictionary_text};
 ghost use Rattle.dia_run.specs.Texts.{refused_text};
 ghost use Rattle.dia_run.specs.Report.{HasFinding};
 
@@ -23,23 +23,23 @@ use std::alloc::{AllocError, AllocFailed, Global};
 /// The source that an input's text spells. `number` says which dictionary of the command it is, from 1.
 pub fn read_source(alloc: Global, number: u8, input: &Input) -> Result<Source, Refused>
     ensures source { IfOk result (λ source. IsSourceText input.now (plain_source source)) }
-    ensures told { IfErr result (TellsOf (λ told. (why : List ℕ) × IsNoSourceText input.now why
-        × (told ≡ dictionary_line number why))) }
+    ensures recorded { IfErr result (RecordsOf (λ recorded. (why : List ℕ) × IsNoSourceText input.now why
+        × (recorded ≡ dictionary_line number why))) }
     ensures kept { IfErr result (HasFinding input.now) }
 {
     let Some(bytes) = input.within(MAX_TEXT) else {
-        return Err(tell(number, BadDictionary::TooLong));
+        return Err(deliver(number, BadDictionary::TooLong));
     };
     let text = match str::from_utf8(bytes) {
         Ok(text) => text,
         Err(error) => {
             let at = error.valid_up_to();
-            return Err(tell(number, BadDictionary::NotText { at }));
+            return Err(deliver(number, BadDictionary::NotText { at }));
         }
     };
     match read(alloc, text) {
         Ok(source) => Ok(source),
-        Err(refused) => Err(tell_text(number, refused)),
+        Err(refused) => Err(report_text(number, refused)),
     }
 }
 
@@ -49,17 +49,17 @@ pub fn read_dictionary(alloc: Global, number: u8, input: &Input) -> Result<Box<R
     ensures source { IfOk result (λ read. IsSourceText input.now (plain_source read.value.source)) }
     ensures book { IfOk result
         (λ read. IsDictionaryText input.now (⟦<IndexedBook as Book>⟧.meaning read.value.book)) }
-    ensures told { IfErr result (TellsOf (λ told. (why : List ℕ) × IsNoDictionaryText input.now why
-        × (told ≡ dictionary_line number why))) }
+    ensures recorded { IfErr result (RecordsOf (λ recorded. (why : List ℕ) × IsNoDictionaryText input.now why
+        × (recorded ≡ dictionary_line number why))) }
     ensures kept { IfErr result (HasFinding input.now) }
 {
     let source = read_source(alloc, number, input)?;
     match book_of(alloc, &source) {
         Ok(book) => indexed(alloc, source, book),
         Err(DictFault::NoMemory) => Err(Refused::NoMemory),
-        Err(DictFault::Stands { kind, name, slot }) => {
+        Err(DictFault::Occurs { kind, name, slot }) => {
             let found = boxed(alloc, source, kind, name, slot)?;
-            Err(tell(number, BadDictionary::Wrong(found)))
+            Err(deliver(number, BadDictionary::Wrong(found)))
         }
     }
 }
@@ -86,23 +86,23 @@ fn has_dictionary<B: Book>(book: &B)
     ensures { IsDictionary (B.meaning book.now) }
 {}
 
-fn tell(number: u8, why: BadDictionary) -> Refused
-    ensures told { TellsOf (λ told. told ≡ dictionary_line number (bad_dictionary_text why)) result }
+fn deliver(number: u8, why: BadDictionary) -> Refused
+    ensures recorded { RecordsOf (λ recorded. recorded ≡ dictionary_line number (bad_dictionary_text why)) result }
     ensures bad { result ≡ Refused.Bad (BadInput.Dictionary number why) }
 {
     Refused::Bad(BadInput::Dictionary { number, why })
 }
 
 /// The refusal of a text that the grammar refuses for this, or out of memory.
-fn tell_text(number: u8, why: Unread) -> Refused
-    ensures told { TellsOf (λ told. told ≡ dictionary_line number (refused_text why)) result }
+fn report_text(number: u8, why: Unread) -> Refused
+    ensures recorded { RecordsOf (λ recorded. recorded ≡ dictionary_line number (refused_text why)) result }
     ensures memory { result ≡ Refused.NoMemory ↔ why ≡ Unread.NoMemory }
     ensures kept { (input : AnyInput) (text : List ℕ) → Holds input max_text text → IsRefused text why
         → HasFinding input result }
 {
     match why {
-        Unread::TooLong => tell(number, BadDictionary::TooLong),
-        Unread::At(misfit) => tell(number, BadDictionary::NoSource(misfit)),
+        Unread::TooLong => deliver(number, BadDictionary::TooLong),
+        Unread::At(misfit) => deliver(number, BadDictionary::NoSource(misfit)),
         Unread::NoMemory => Refused::NoMemory,
     }
 }

@@ -5,7 +5,7 @@ ghost use Rattle.hex.specs.Hex.{decode_of};
 ghost use Rattle.dia_io.specs.Inputs.{Holds};
 ghost use Rattle.dia_policy.specs.Limits.{max_message_text};
 ghost use Rattle.dia_run.specs.Texts.{IsMessageText, IsNoMessageText, digits_of};
-ghost use Rattle.dia_report.specs.Refusals.{TellsOf};
+ghost use Rattle.dia_report.specs.Refusals.{RecordsOf};
 
 use dia_io::Input;
 use dia_policy::MAX_MESSAGE_TEXT;
@@ -17,7 +17,7 @@ use std::alloc::{AllocError, Global};
 /// The text of a message, if it is within the limit.
 pub fn message_text(input: &Input) -> Result<&[u8], Refused>
     ensures text { IfOk result (λ text. Holds input.entry.now max_message_text text.now) }
-    ensures told { IfErr result (TellsOf (IsNoMessageText input.entry.now)) }
+    ensures recorded { IfErr result (RecordsOf (IsNoMessageText input.entry.now)) }
     ensures bad { IfErr result (λ refused. refused ≢ Refused.NoMemory) }
 {
     let Some(text) = input.within(MAX_MESSAGE_TEXT) else {
@@ -29,7 +29,7 @@ pub fn message_text(input: &Input) -> Result<&[u8], Refused>
 /// The bytes that a text spells: pairs of hexadecimal digits of either letter case, its white space taken out first.
 pub fn read_message(alloc: Global, input: &Input) -> Result<Vec<u8>, Refused>
     ensures message { IfOk result (λ bytes. IsMessageText input.now bytes.items) }
-    ensures told { IfErr result (TellsOf (IsNoMessageText input.now)) }
+    ensures recorded { IfErr result (RecordsOf (IsNoMessageText input.now)) }
 {
     let text = message_text(input)?;
     match decode(alloc, text) {

@@ -3,7 +3,7 @@
 ghost use Rattle.std.specs.Prelude.{◌≡◌, ◌≢◌, IfOk, IfErr};
 ghost use Rattle.dia_io.specs.declared.Input.{Input as AnyInput};
 ghost use Rattle.dia_tables.specs.TableText.{plain_table};
-ghost use Rattle.dia_report.specs.Refusals.{table_line, TellsOf, bad_table_text};
+ghost use Rattle.dia_report.specs.Refusals.{table_line, RecordsOf, bad_table_text};
 ghost use Rattle.dia_run.specs.Pairs.{IsTableText, IsNoTableText, table_fault_text};
 ghost use Rattle.dia_run.specs.Report.{HasFinding};
 
@@ -16,42 +16,42 @@ use std::alloc::Global;
 /// a line that is no pair, or a line past the most pairs.
 pub fn read_table(alloc: Global, input: &Input) -> Result<Table, Refused>
     ensures table { IfOk result (λ table. IsTableText input.now (plain_table table)) }
-    ensures told { IfErr result (TellsOf (IsNoTableText input.now)) }
+    ensures recorded { IfErr result (RecordsOf (IsNoTableText input.now)) }
     ensures kept { IfErr result (HasFinding input.now) }
 {
     let Some(bytes) = input.within(MAX_TABLE) else {
-        return Err(tell(BadTable::TooLong));
+        return Err(deliver(BadTable::TooLong));
     };
     let text = match str::from_utf8(bytes) {
         Ok(text) => text,
         Err(error) => {
             let at = error.valid_up_to();
-            return Err(tell(BadTable::NotText { at }));
+            return Err(deliver(BadTable::NotText { at }));
         }
     };
     match parse_table(alloc, text) {
         Ok(table) => Ok(table),
-        Err(fault) => Err(tell_fault(fault)),
+        Err(fault) => Err(report_fault(fault)),
     }
 }
 
-fn tell(why: BadTable) -> Refused
-    ensures told { TellsOf (λ told. told ≡ table_line (bad_table_text why)) result }
+fn deliver(why: BadTable) -> Refused
+    ensures recorded { RecordsOf (λ recorded. recorded ≡ table_line (bad_table_text why)) result }
     ensures bad { result ≡ Refused.Bad (BadInput.Table why) }
 {
     Refused::Bad(BadInput::Table(why))
 }
 
 /// The refusal of a text with this fault, or out of memory.
-fn tell_fault(fault: TableFault) -> Refused
-    ensures told { TellsOf (λ told. (fault ≢ TableFault.NoMemory)
-        × (told ≡ table_line (table_fault_text fault))) result }
+fn report_fault(fault: TableFault) -> Refused
+    ensures recorded { RecordsOf (λ recorded. (fault ≢ TableFault.NoMemory)
+        × (recorded ≡ table_line (table_fault_text fault))) result }
     ensures memory { result ≡ Refused.NoMemory → fault ≡ TableFault.NoMemory }
     ensures kept { (input : AnyInput) → HasFinding input result }
 {
     match fault {
-        TableFault::Syntax { line } => tell(BadTable::Syntax { line }),
-        TableFault::Limit { line } => tell(BadTable::Limit { line }),
+        TableFault::Syntax { line } => deliver(BadTable::Syntax { line }),
+        TableFault::Limit { line } => deliver(BadTable::Limit { line }),
         TableFault::NoMemory => Refused::NoMemory,
     }
 }

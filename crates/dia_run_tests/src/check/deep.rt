@@ -24,9 +24,9 @@ fn groups(
     requires { depth ≤ 1000000 }
 {
     let (command, code) = heads;
-    let (before, inside, behind) = around;
+    let (before, inside, following) = around;
     let inner = inside.len() / 2;
-    let length = 8 * depth as usize + 20 + (before.len() + behind.len()) / 2 + inner;
+    let length = 8 * depth as usize + 20 + (before.len() + following.len()) / 2 + inner;
     let mut text = format!(in alloc;
         "01{length:06x}80{command:06x}000000000000000100000002{before}"
     )?;
@@ -34,7 +34,7 @@ fn groups(
         let length = 8 * (depth - outer) as usize + inner;
         write!(text, "{code:08x}00{length:06x}")?;
     }
-    write!(text, "{inside}{behind}")?;
+    write!(text, "{inside}{following}")?;
     bytes_of(alloc, text.as_bytes())
 }
 
@@ -44,7 +44,7 @@ pub(super) fn nested(
     alloc: Global,
     depth: u32,
     before: &str,
-    behind: &str,
+    following: &str,
 ) -> Result<Vec<u8>, RowFault>
     requires { depth ≤ 1000000 }
 {
@@ -52,7 +52,7 @@ pub(super) fn nested(
         alloc,
         (280, 279),
         depth,
-        (before, "0000270f00000008", behind),
+        (before, "0000270f00000008", following),
     )
 }
 

@@ -24,8 +24,8 @@ const COUNT: u32 = 2_097_146;
 const UNKNOWN: [u8; 8] = [0, 0, 0x27, 0x0f, 0, 0, 0, 8];
 
 /// The first bytes of a watchdog request of the greatest length, whose AVPs begin with an Origin-Host and an Origin-Realm.
-fn front(alloc: Global, behind: &str) -> Result<Vec<u8>, RowFault> {
-    let text = format!(in alloc; "{HEADER}{AVPS}{behind}")?;
+fn front(alloc: Global, following: &str) -> Result<Vec<u8>, RowFault> {
+    let text = format!(in alloc; "{HEADER}{AVPS}{following}")?;
     bytes_of(alloc, text.as_bytes())
 }
 

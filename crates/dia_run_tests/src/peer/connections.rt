@@ -14,7 +14,7 @@
 
 use super::names::NAMES;
 use super::steps::STEPS;
-use super::{Ends, end, first, relay, second, tell};
+use super::{Ends, deliver, end, first, relay, second};
 use crate::words::{number_of, same};
 use dia_peer::{App, Cause, Core, Event, Kind, Output, Role};
 use dia_rows::{Names, Row, bytes_of, field, without_blanks, word};
@@ -124,8 +124,8 @@ fn done(rt: &(impl AllocGlobal + Abort), names: &Names, core: &mut Core, call: &
         "stop" => Event::Stop(cause_of(word(call, 2))),
         _ => Event::Bytes(bytes.as_slice()),
     };
-    let outputs = tell(rt, core, event);
-    told(rt.alloc(), core, outputs.as_slice()).expect(rt, "memory")
+    let outputs = deliver(rt, core, event);
+    recorded(rt.alloc(), core, outputs.as_slice()).expect(rt, "memory")
 }
 
 fn cause_of(word: &str) -> Cause {
@@ -152,7 +152,7 @@ pub(super) fn common(alloc: Global, core: &Core) -> Result<String, AllocError> {
 }
 
 /// The state that an end is in behind an event, and what it did, as text.
-fn told(alloc: Global, core: &Core, outputs: &[Output]) -> Result<String, AllocError> {
+fn recorded(alloc: Global, core: &Core, outputs: &[Output]) -> Result<String, AllocError> {
     let state = core.state();
     let mut text = format!(in alloc; "{state:?}")?;
     for output in outputs {

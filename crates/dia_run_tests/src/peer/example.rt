@@ -5,7 +5,7 @@ use dia_peer::{Cause, Core, Event, Output, Role, State};
 use std::process::Abort;
 
 /// What a core sends at an event.
-fn told(rt: &(impl AllocGlobal + Abort), core: &mut Core, event: Event<'_>) -> Vec<Vec<u8>> {
+fn recorded(rt: &(impl AllocGlobal + Abort), core: &mut Core, event: Event<'_>) -> Vec<Vec<u8>> {
     let mut sent = Vec::new(rt.alloc());
     for output in core.step(event).expect(rt, "memory") {
         if let Output::Send(bytes) = output {
@@ -17,9 +17,9 @@ fn told(rt: &(impl AllocGlobal + Abort), core: &mut Core, event: Event<'_>) -> V
 
 /// One end is told of an event, and the messages of both ends are delivered until none is left.
 fn exchanged(rt: &(impl AllocGlobal + Abort), core: &mut Core, event: Event<'_>, other: &mut Core) {
-    for request in told(rt, core, event) {
-        for answer in told(rt, other, Event::Bytes(&request)) {
-            told(rt, core, Event::Bytes(&answer));
+    for request in recorded(rt, core, event) {
+        for answer in recorded(rt, other, Event::Bytes(&request)) {
+            recorded(rt, core, Event::Bytes(&answer));
         }
     }
 }
@@ -31,7 +31,7 @@ fn are(rt: &impl Abort, initiator: &Core, responder: &Core, state: State) {
 
 /// The capabilities are exchanged, a watchdog is sent and answered, and the initiator goes.
 fn from_start_to_end(rt: &(impl AllocGlobal + Abort), initiator: &mut Core, responder: &mut Core) {
-    told(rt, responder, Event::Start);
+    recorded(rt, responder, Event::Start);
     exchanged(rt, initiator, Event::Start, responder);
     are(rt, initiator, responder, State::Open);
 

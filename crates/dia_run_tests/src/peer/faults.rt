@@ -102,7 +102,7 @@ fn apps(rt: &(impl AllocGlobal + Abort), text: &str) -> Vec<App> {
 }
 
 /// What people are told of each fault.
-const TOLD: [(ConfigFault, &str); 6] = [
+const RECORDED: [(ConfigFault, &str); 6] = [
     (
         ConfigFault::Host,
         "the host is no DiameterIdentity of at most 255 bytes",
@@ -127,8 +127,8 @@ const TOLD: [(ConfigFault, &str); 6] = [
 ];
 
 #[test]
-fn tells_people_of_a_fault(rt: HostRuntime) {
-    for (fault, words) in TOLD.iter() {
+fn records_people_of_a_fault(rt: HostRuntime) {
+    for (fault, words) in RECORDED.iter() {
         let text = fault.to_string(rt.alloc()).expect(&rt, words);
         same(&rt, text.as_bytes(), words.as_bytes(), words);
     }

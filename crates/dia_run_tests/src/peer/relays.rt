@@ -8,7 +8,7 @@
 //! applications that it then has in common with the other.
 
 use super::connections::{apps_of, common};
-use super::{end, first, relay, second, tell};
+use super::{deliver, end, first, relay, second};
 use crate::words::same;
 use dia_peer::{Config, ConfigFault, Core, Event, Manner, Output, Role};
 use dia_rows::{Names, Row, field, without_blanks};
@@ -46,13 +46,13 @@ fn exchanges_capabilities(rt: HostRuntime) {
 fn exchanges(rt: &(impl AllocGlobal + Abort), row: &Row<'_>) {
     let mut initiator = end_of(rt, field(row.call, 0), Role::Initiator);
     let mut responder = end_of(rt, field(row.call, 1), Role::Responder);
-    tell(rt, &mut responder, Event::Start);
-    for request in tell(rt, &mut initiator, Event::Start) {
+    deliver(rt, &mut responder, Event::Start);
+    for request in deliver(rt, &mut initiator, Event::Start) {
         for answer in taken(rt, &mut responder, &request) {
             taken(rt, &mut initiator, &answer);
         }
     }
-    let (ours, theirs) = (told(rt, &initiator), told(rt, &responder));
+    let (ours, theirs) = (recorded(rt, &initiator), recorded(rt, &responder));
     let found = format!(in rt.alloc(); "{ours}|{theirs}").expect(rt, "memory");
     let found = without_blanks(rt.alloc(), found.as_bytes()).expect(rt, "memory");
     let wanted = without_blanks(rt.alloc(), row.wanted.as_bytes()).expect(rt, "memory");
@@ -62,8 +62,8 @@ fn exchanges(rt: &(impl AllocGlobal + Abort), row: &Row<'_>) {
 /// What an end does with what the other has sent.
 fn taken(rt: &impl Abort, core: &mut Core, output: &Output) -> Vec<Output> {
     match output {
-        Output::Send(bytes) => tell(rt, core, Event::Bytes(bytes)),
-        Output::Close(_) => tell(rt, core, Event::Lost),
+        Output::Send(bytes) => deliver(rt, core, Event::Bytes(bytes)),
+        Output::Close(_) => deliver(rt, core, Event::Lost),
     }
 }
 
@@ -85,7 +85,7 @@ fn config_of(rt: &(impl AllocGlobal + Abort), apps: &str, role: Role) -> Config 
 }
 
 /// The state of an end and its common applications, as text.
-fn told(rt: &(impl AllocGlobal + Abort), core: &Core) -> String {
+fn recorded(rt: &(impl AllocGlobal + Abort), core: &Core) -> String {
     let state = core.state();
     let common = common(rt.alloc(), core).expect(rt, "memory");
     format!(in rt.alloc(); "{state:?} {common}").expect(rt, "memory")

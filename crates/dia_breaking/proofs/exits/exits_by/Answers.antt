@@ -13,10 +13,10 @@ loop-rule-preserved g c =
     let rules = c.args.rules.now in
     let i = c.loop-rule.rule-index in
     one_exit_more
-    (exit_by c.args.telling.now (costs_of c.args.lengths.now).listed c.args.cost.now) rules i _ c.exit_by.result c.loop-rule.listed.items
+    (exit_by c.args.recording.now (costs_of c.args.lengths.now).listed c.args.cost.now) rules i _ c.exit_by.result c.loop-rule.listed.items
     c.push_exit.new.listed.items c.in_ok-push_exit.ensures c.exit_by.ensures c.loop-rule.invariant (slice_get-get_or rules i (record { kind = Fixed; key = None; min = 0; max = None }) (omega arith))
 
 pub returns : goal.returns
 returns g c =
     c.loop-rule.invariant
-    ∙ ap (filter_map (exit_by c.args.telling.now (costs_of c.args.lengths.now).listed c.args.cost.now)) (take_all c.loop-rule.rule-index c.args.rules.now c.loop-rule-test.false)
+    ∙ ap (filter_map (exit_by c.args.recording.now (costs_of c.args.lengths.now).listed c.args.cost.now)) (take_all c.loop-rule.rule-index c.args.rules.now c.loop-rule-test.false)

@@ -6,4 +6,4 @@ use Rattle.dia_breaking.proofs.exits.exits_by.Given as goal
 
 abbrev pub invariant-loop-rule : goal.invariant-loop-rule
 invariant-loop-rule g l =
-    l.listed.items ≡ filter_map (exit_by l.telling (costs_of l.lengths).listed l.cost) (take l.rule-index l.rules)
+    l.listed.items ≡ filter_map (exit_by l.recording (costs_of l.lengths).listed l.cost) (take l.rule-index l.rules)

@@ -20,6 +20,6 @@ returns-clause-exact g c =
     let da = sender_in c.args.lengths.now in
     let db = g.B.Book.meaning c.args.b.now in (
       groups_of da db c.args.key c.group_of.result c.group_of-2.result c.in-Some.a_def c.in-Some-group_of.b_def c.in-Some.is c.in-Some-group_of.is c.group_of.ensures.group c.group_of-2.ensures.group,
-      inner_found da c.args.telling.now (costs_of c.args.lengths.now) c.args.key c.in-Some.a_def _
+      inner_found da c.args.recording.now (costs_of c.args.lengths.now) c.args.key c.in-Some.a_def _
           (rules_of_group da c.args.key c.in-Some.a_def c.group_of.result c.in-Some.is c.group_of.ensures.definition) (search rules) (search rules),
     )

@@ -13,10 +13,10 @@ loop-own-preserved g c =
     let da = sender_in c.args.lengths.now in
     let db = g.B.Book.meaning c.args.b.now in
     let k = costs_of c.args.lengths.now in
-    let telling = c.args.telling.now in
+    let recording = c.args.recording.now in
     let i = c.loop-own.own-index in (
       all_more (HasLevelLines da db k) c.loop-own.outlooks.items _ _ c.in_ok-push.ensures.items c.loop-own.invariant.0 c.in_ok-inner.ensures.levels,
-      one_outlook_more da db telling k i _ _ c.loop-own.outlooks.items _ c.in_ok-push.ensures.items
+      one_outlook_more da db recording k i _ _ c.loop-own.outlooks.items _ c.in_ok-push.ensures.items
           (ap (λ (xs : List Own). slice_get xs i) (sym c.deref-own-items.ensures.value)
           ∙ slice_get-get_or c.deref-own-items.result.now i (record { key = record { code = 0; vendor = 0 }; is_group = false; breaks = false; is_other = false }) (omega arith)) refl c.loop-own.invariant.1
           (record { other_is = c.other.ensures; inner_is = c.in_ok-inner.ensures.exact }),
@@ -24,7 +24,7 @@ loop-own-preserved g c =
 
 pub returns : goal.returns
 returns g c = record {
-  exact = all_outlooks (sender_in c.args.lengths.now) (g.B.Book.meaning c.args.b.now) c.args.telling.now (costs_of c.args.lengths.now) c.loop-own.own-index c.loop-own.outlooks.items (omega arith)
+  exact = all_outlooks (sender_in c.args.lengths.now) (g.B.Book.meaning c.args.b.now) c.args.recording.now (costs_of c.args.lengths.now) c.loop-own.own-index c.loop-own.outlooks.items (omega arith)
       c.loop-own.invariant.1;
   levels = c.loop-own.invariant.0;
 }

@@ -9,4 +9,4 @@ invariant-loop-own g l =
     let da = sender_in l.lengths in
     let db = g.B.Book.meaning l.b in
     let k = costs_of l.lengths in
-    All (HasLevelLines da db k) l.outlooks.items × AreFirstOutlooks da db l.telling k l.own-index l.outlooks.items
+    All (HasLevelLines da db k) l.outlooks.items × AreFirstOutlooks da db l.recording k l.own-index l.outlooks.items

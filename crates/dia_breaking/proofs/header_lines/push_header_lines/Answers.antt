@@ -5,7 +5,7 @@ use Rattle.std.proofs.lemmas.Option.{slice_get-get_or}
 use Rattle.dia_breaking.specs.declared.readings.Reading.{Reading}
 use Rattle.dia_breaking.specs.Listing.{header_lines}
 use Rattle.dia_breaking.specs.Readings.{as_sent}
-use Rattle.dia_breaking.proofs.ToldLists.{adds_at, adds_none, adds_part, adds_each}
+use Rattle.dia_breaking.proofs.RecordedLists.{adds_at, adds_none, adds_part, adds_each}
 use Rattle.dia_breaking.proofs.header_lines.push_header_lines.Goals as goal
 
 pub loop-site-init : goal.loop-site-init

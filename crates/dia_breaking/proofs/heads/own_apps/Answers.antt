@@ -1,6 +1,6 @@
 use Rattle.std.proofs.Common.{arith}
 use Rattle.std.proofs.lemmas.Option.{slice_get-get_or}
-use Rattle.dia_breaking.specs.ToldApps.{selects}
+use Rattle.dia_breaking.specs.RecordedApps.{selects}
 use Rattle.dia_breaking.proofs.FoundApps.{filtered}
 use Rattle.dia_breaking.proofs.heads.own_apps.Goals as goal
 

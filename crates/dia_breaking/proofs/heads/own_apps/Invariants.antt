@@ -1,5 +1,5 @@
 use Rattle.std.proofs.Common.{◌≡◌, filter, take}
-use Rattle.dia_breaking.specs.ToldApps.{selects}
+use Rattle.dia_breaking.specs.RecordedApps.{selects}
 use Rattle.dia_breaking.proofs.heads.own_apps.Given as goal
 
 abbrev pub invariant-loop-app : goal.invariant-loop-app

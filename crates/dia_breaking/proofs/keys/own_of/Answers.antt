@@ -3,8 +3,8 @@ use Rattle.dia_breaking.proofs.OwnBreaks.{exactly_silent}
 use Rattle.dia_breaking.proofs.Tellings.{silent_of}
 use Rattle.dia_breaking.proofs.keys.own_of.Goals as goal
 
-pub returns-clause-told : goal.returns-clause-told
-returns-clause-told g c = record {
+pub returns-clause-recorded : goal.returns-clause-recorded
+returns-clause-recorded g c = record {
   key_is = refl;
   silent = λ e. silent_of (g.A.Book.meaning c.args.a.now) (g.B.Book.meaning c.args.b.now) c.args.sends c.args.unknown c.args.key c.avp_breaks-breaks.result c.avp_breaks-breaks.ensures.head
       c.avp_breaks-breaks.ensures.alone

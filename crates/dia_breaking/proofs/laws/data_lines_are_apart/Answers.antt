@@ -2,4 +2,4 @@ use Rattle.dia_breaking.proofs.DataLines.{apart}
 use Rattle.dia_breaking.proofs.laws.data_lines_are_apart.Goals as goal
 
 pub returns : goal.returns
-returns c = λ s key cause is tells. apart s key cause is tells
+returns c = λ s key cause is records. apart s key cause is records

@@ -6,7 +6,7 @@ use Rattle.std.proofs.lemmas.Option.{slice_get-map}
 use Rattle.dia_breaking_levels.specs.declared.line.Line.{Line as LevelLine}
 use Rattle.dia_breaking.specs.Listing.{command_levels}
 use Rattle.dia_breaking.proofs.Lists.{at_place}
-use Rattle.dia_breaking.proofs.ToldLists.{adds_at, adds_none, adds_part, adds_each}
+use Rattle.dia_breaking.proofs.RecordedLists.{adds_at, adds_none, adds_part, adds_each}
 use Rattle.dia_breaking.proofs.lines.push_command_levels.Goals as goal
 
 pub loop-site-init : goal.loop-site-init

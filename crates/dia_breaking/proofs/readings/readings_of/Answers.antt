@@ -2,8 +2,8 @@ use Rattle.std.proofs.Common.{ℕ, List, ◌++◌, map, ap, subst, ◌∙◌}
 use Rattle.std.specs.Prelude.{option_to_list}
 use Rattle.dia_breaking.specs.declared.apps.BothApps.{BothApps}
 use Rattle.dia_breaking.specs.declared.readings.Reading.{Reading}
-use Rattle.dia_breaking.specs.Readings.{as_sent, reading_behind}
-use Rattle.dia_breaking.specs.ToldApps.{AreToldApps}
+use Rattle.dia_breaking.specs.Readings.{as_sent, reading_after}
+use Rattle.dia_breaking.specs.RecordedApps.{AreRecordedApps}
 use Rattle.dia_breaking.specs.Upgrades.{sides_of}
 use Rattle.dia_breaking.proofs.readings.readings_of.Goals as goal
 
@@ -14,7 +14,7 @@ returns g c =
     let head = c.args.head.now in
     let apps = c.in_ok-apps.apps.items in (
       apps,
-      subst (λ (both : BothApps). AreToldApps s.sender both c.args.command head apps) c.deref.ensures c.in_ok-apps.ensures,
-      c.in_ok-push_behind.ensures ∙ ap (λ (readings : List Reading). readings ++ option_to_list (reading_behind s.sender s.receiver head))
+      subst (λ (both : BothApps). AreRecordedApps s.sender both c.args.command head apps) c.deref.ensures c.in_ok-apps.ensures,
+      c.in_ok-push_after.ensures ∙ ap (λ (readings : List Reading). readings ++ option_to_list (reading_after s.sender s.receiver head))
           (c.in_ok-readings.ensures ∙ ap (λ (apps : List ℕ). map as_sent apps) c.deref-2.ensures.value),
     )

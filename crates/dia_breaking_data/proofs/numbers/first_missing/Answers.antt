@@ -1,5 +1,5 @@
 use Rattle.std.proofs.Common.{◌+◌, ◌<◌, ℕ, ap, arith}
-use Rattle.dia_breaking_data.proofs.RangesOfNumbers.{before_first, behind_first, first_is}
+use Rattle.dia_breaking_data.proofs.RangesOfNumbers.{before_first, after_first, first_is}
 use Rattle.dia_breaking_data.proofs.numbers.first_missing.Goals as goal
 
 pub returns-then-low-gt0-clause-some : goal.returns-then-low-gt0-clause-some
@@ -10,4 +10,4 @@ returns-then-low-gt0-clause-some c =
 
 pub returns-else-low-gt0-clause-some : goal.returns-else-low-gt0-clause-some
 returns-else-low-gt0-clause-some c =
-    behind_first c.args.ranges.now c.in-Some.field-0.now c.checked_add.result (c.in-Some.field-0.now.1 + 1 < 4294967296) c.in-Some.ensures.value c.requires c.checked_add.ensures
+    after_first c.args.ranges.now c.in-Some.field-0.now c.checked_add.result (c.in-Some.field-0.now.1 + 1 < 4294967296) c.in-Some.ensures.value c.requires c.checked_add.ensures

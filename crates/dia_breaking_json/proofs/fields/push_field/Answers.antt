@@ -3,4 +3,4 @@ use Rattle.dia_breaking_json.proofs.Added.{one_added}
 use Rattle.dia_breaking_json.proofs.fields.push_field.Goals as goal
 
 pub returns : goal.returns
-returns c = on_ok_weaker c.write.result (λ e told is. one_added _ _ c.args.name.now _ _ told c.in_ok-name.ensures is e) c.write.ensures.bytes
+returns c = on_ok_weaker c.write.result (λ e recorded is. one_added _ _ c.args.name.now _ _ recorded c.in_ok-name.ensures is e) c.write.ensures.bytes

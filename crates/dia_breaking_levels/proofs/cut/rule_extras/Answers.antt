@@ -15,4 +15,4 @@ loop-rule-preserved g c =
     let within = subst (λ (rs : List DRule). i < length rs) c.list-rule-items.ensures c.loop-rule-test.true in
     extras_more r c.args.wanted cut c.extra.new.cut a i _ c.extra.result c.loop-rule.extras.items _ _ within
     (c.extra.ensures.extra ∙ ap (λ (rs : List DRule). extra_of r c.args.wanted cut (get_or rs i _)) c.list-rule-items.ensures)
-    (c.extra.ensures.behind ∙ ap (λ (rs : List DRule). cut_after r c.args.wanted cut (get_or rs i _)) c.list-rule-items.ensures) c.in_ok-push.ensures.items c.loop-rule.invariant
+    (c.extra.ensures.following ∙ ap (λ (rs : List DRule). cut_after r c.args.wanted cut (get_or rs i _)) c.list-rule-items.ensures) c.in_ok-push.ensures.items c.loop-rule.invariant

@@ -5,7 +5,7 @@ use Rattle.dia_tables.specs.declared.TableFault.TheVariants as table
 use Rattle.dia_tables.specs.TableText.{IsTable, max_table, plain_table}
 use Rattle.dia_c_calls.specs.Comparisons.{IsCompared}
 use Rattle.dia_c_calls.proofs.NoTables.{has_fault}
-use Rattle.dia_c_calls.proofs.Told.{if_ok}
+use Rattle.dia_c_calls.proofs.Recorded.{if_ok}
 use Rattle.dia_c_calls.proofs.comparison.outcome_of.Goals as goal
 
 pub returns-in-Ok-parse_table-clause-done : goal.returns-in-Ok-parse_table-clause-done
@@ -18,6 +18,6 @@ returns-in-Ok-parse_table-clause-done g c =
 pub returns-in-Err-clause-problem : goal.returns-in-Err-clause-problem
 returns-in-Err-clause-problem g c p is =
     let same = c.in-Ok.ensures.cases.0 in
-    let told = c.refusal_of.ensures p is in
+    let recorded = c.refusal_of.ensures p is in
     let long : max_table < length c.in-Ok.words.now → c.in-Err.fault ≡ table.Limit 0 = λ more. grind (arith, c.in-Err.ensures.too_long more) in
-    rw (← same) (has_fault c.in-Ok.words.now c.in-Err.fault p (subst IsUtf8 (sym same) c.in-Ok.ensures.cases.1) long c.in-Err.ensures.fault told.0 told.1)
+    rw (← same) (has_fault c.in-Ok.words.now c.in-Err.fault p (subst IsUtf8 (sym same) c.in-Ok.ensures.cases.1) long c.in-Err.ensures.fault recorded.0 recorded.1)

@@ -8,4 +8,4 @@ returns-in-Ok-clause-done c is =
     c.in-Some.ensures.some.0 c.in-Ok.ensures.done
 
 pub returns-in-Bad-clause-refused : goal.returns-in-Bad-clause-refused
-returns-in-Bad-clause-refused c is = of_err _ c.compared-answer.result c.in-Err.refused c.in-Err.is c.compared-answer.ensures.problem c.in-Bad.told c.in-Bad.is
+returns-in-Bad-clause-refused c is = of_err _ c.compared-answer.result c.in-Err.refused c.in-Err.is c.compared-answer.ensures.problem c.in-Bad.recorded c.in-Bad.is

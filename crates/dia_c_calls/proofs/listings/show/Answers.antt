@@ -8,4 +8,4 @@ returns-in-Ok-clause-done c is =
     (dict_of _ _ _ _ c.deref.ensures c.owner_in.ensures c.deref-2.ensures) c.in-Ok.ensures.done
 
 pub returns-in-NoMessage-clause-refused : goal.returns-in-NoMessage-clause-refused
-returns-in-NoMessage-clause-refused c is = of_err _ c.shown-answer.result c.in-Err.unshown c.in-Err.is c.shown-answer.ensures.no_message c.in-NoMessage.told c.in-NoMessage.is
+returns-in-NoMessage-clause-refused c is = of_err _ c.shown-answer.result c.in-Err.unshown c.in-Err.is c.shown-answer.ensures.no_message c.in-NoMessage.recorded c.in-NoMessage.is

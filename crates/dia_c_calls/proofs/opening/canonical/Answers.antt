@@ -8,7 +8,7 @@ use Rattle.dia_ccf.specs.Tokens.{tokens}
 use Rattle.dia_ccf.specs.Grammar.{Derives}
 use Rattle.dia_c_calls.specs.Held.{text_in}
 use Rattle.dia_c_calls.specs.Openings.{IsRenderedOf}
-use Rattle.dia_c_calls.proofs.Told.{if_ok, has_fault}
+use Rattle.dia_c_calls.proofs.Recorded.{if_ok, has_fault}
 use Rattle.dia_c_calls.proofs.opening.canonical.Goals as goal
 
 pub returns-in_ok-rendered-in-Ok-parse-clause-text : goal.returns-in_ok-rendered-in-Ok-parse-clause-text
@@ -20,6 +20,6 @@ returns-in_ok-rendered-in-Ok-parse-clause-text c =
 
 pub returns-in-Err-clause-problem : goal.returns-in-Err-clause-problem
 returns-in-Err-clause-problem c p is =
-    let told = c.problem_of.ensures p is in
+    let recorded = c.problem_of.ensures p is in
     let long : max_text < length c.in-Ok.words.now → c.in-Err.fault ≡ ccf.Limit 0 = λ more. grind (arith, c.in-Err.ensures.too_long more) in
-    rw (← c.in-Ok.ensures.cases.0) (has_fault c.in-Ok.words.now c.in-Err.fault p long c.in-Err.ensures.fault told.0 told.1)
+    rw (← c.in-Ok.ensures.cases.0) (has_fault c.in-Ok.words.now c.in-Err.fault p long c.in-Err.ensures.fault recorded.0 recorded.1)

@@ -9,7 +9,7 @@ use Rattle.dia_c_calls.specs.declared.opening.Problem.{Problem}
 use Rattle.dia_c_calls.specs.declared.opening.Refused.TheVariants.{Bad}
 use Rattle.dia_c_calls.specs.Held.{dict_in}
 use Rattle.dia_c_calls.specs.Openings.{HasProblem, IsTextOf}
-use Rattle.dia_c_calls.proofs.Told.{if_err, if_ok, has_fault}
+use Rattle.dia_c_calls.proofs.Recorded.{if_err, if_ok, has_fault}
 use Rattle.dia_c_calls.proofs.opening.opened.Goals as goal
 
 pub returns-in-Ok-parse-clause-text : goal.returns-in-Ok-parse-clause-text
@@ -26,10 +26,10 @@ returns-in-Ok-parse-clause-problem c =
     let same = c.in-Ok.ensures.cases.0 in
     let derived = subst (λ (t : List ℕ). Derives (tokens t) (plain_source c.in-Ok-parse.source)) same c.in-Ok-parse.ensures.found in
     if_err {Q = λ e. (p : Problem) → e ≡ Bad p → HasProblem c.args.text.now p} c.named.result
-    (λ e told p is. HasProblem.wrong_source (plain_source c.in-Ok-parse.source) derived (told p is)) c.named.ensures.problem
+    (λ e recorded p is. HasProblem.wrong_source (plain_source c.in-Ok-parse.source) derived (recorded p is)) c.named.ensures.problem
 
 pub returns-in-Err-clause-problem : goal.returns-in-Err-clause-problem
 returns-in-Err-clause-problem c p is =
-    let told = c.problem_of.ensures p is in
+    let recorded = c.problem_of.ensures p is in
     let long : max_text < length c.in-Ok.words.now → c.in-Err.fault ≡ ccf.Limit 0 = λ more. grind (arith, c.in-Err.ensures.too_long more) in
-    HasProblem.unread (rw (← c.in-Ok.ensures.cases.0) (has_fault c.in-Ok.words.now c.in-Err.fault p long c.in-Err.ensures.fault told.0 told.1))
+    HasProblem.unread (rw (← c.in-Ok.ensures.cases.0) (has_fault c.in-Ok.words.now c.in-Err.fault p long c.in-Err.ensures.fault recorded.0 recorded.1))

@@ -1,4 +1,4 @@
-use Rattle.dia_c_calls.proofs.FedStreams.{err_is, has_fed, opens_in, stands_for_none}
+use Rattle.dia_c_calls.proofs.FedStreams.{err_is, has_fed, opens_in, occurs_for_none}
 use Rattle.dia_c_calls.proofs.streams.stream_feed.Goals as goal
 
 pub returns-in-Ok-clause-done : goal.returns-in-Ok-clause-done
@@ -13,4 +13,4 @@ returns-in-NoMemory-clause-no_memory c is =
 
 pub returns-in-Spent-clause-nothing : goal.returns-in-Spent-clause-nothing
 returns-in-Spent-clause-nothing c is =
-    stands_for_none _ _ _ c.in-Some.ensures.some c.feeding_in.ensures _ (err_is _ _ _ c.in-Err.is c.in-Spent.is) c.fed-feeding.ensures.never
+    occurs_for_none _ _ _ c.in-Some.ensures.some c.feeding_in.ensures _ (err_is _ _ _ c.in-Err.is c.in-Spent.is) c.fed-feeding.ensures.never

@@ -10,6 +10,6 @@ returns-in-Ok-clause-done c is =
 
 pub returns-in-Bad-clause-refused : goal.returns-in-Bad-clause-refused
 returns-in-Bad-clause-refused c is =
-    in_dict (λ d. IsNotListed d c.args.commands.now c.args.accepted.now c.in-Bad.told) _ _ _ c.in-Some-take.ensures.some
+    in_dict (λ d. IsNotListed d c.args.commands.now c.args.accepted.now c.in-Bad.recorded) _ _ _ c.in-Some-take.ensures.some
     (dict_of _ _ _ _ c.deref.ensures c.owner_in.ensures c.deref-2.ensures)
-    (of_err _ c.listed-answer.result c.in-Err.refused c.in-Err.is c.listed-answer.ensures.problem c.in-Bad.told c.in-Bad.is)
+    (of_err _ c.listed-answer.result c.in-Err.refused c.in-Err.is c.listed-answer.ensures.problem c.in-Bad.recorded c.in-Bad.is)

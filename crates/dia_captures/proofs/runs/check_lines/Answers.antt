@@ -8,7 +8,7 @@ use Rattle.dia_captures.specs.Ending.{ended_of}
 use Rattle.dia_captures.specs.Lines.{checks}
 use Rattle.dia_captures.specs.Verdicts.{checked_exit}
 use Rattle.dia_captures.proofs.OneMessage.{of_check}
-use Rattle.dia_captures.proofs.LinesOfMessages.{all_answered, front_put, lines_answered, first_stands}
+use Rattle.dia_captures.proofs.LinesOfMessages.{all_answered, front_put, lines_answered, first_occurs}
 use Rattle.dia_captures.proofs.RefusedRuns.{refusal_answered, refusal_front, refusal_nothing}
 use Rattle.dia_captures.proofs.Summed.{check_summed, unsummed}
 use Rattle.dia_captures.proofs.Tallies.{exits_in_lines}
@@ -18,13 +18,13 @@ pub returns-in-Err-clause-answered : goal.returns-in-Err-clause-answered
 returns-in-Err-clause-answered g c =
     refusal_answered (checks c.args.unknown c.args.levels) c.args.inputs.now (g.F.Feed.remaining c.args.feed.now) (g.S.Sink.written c.args.sink.now) (g.S.Sink.written c.refuse.new.sink)
     c.in-Err.refused c.refuse.result
-    c.in-Err.ensures.told c.refuse.ensures.memory c.refuse.ensures.exit c.refuse.ensures.put
+    c.in-Err.ensures.recorded c.refuse.ensures.memory c.refuse.ensures.exit c.refuse.ensures.put
 
 pub returns-in-Err-clause-front : goal.returns-in-Err-clause-front
 returns-in-Err-clause-front g c =
     refusal_front (checks c.args.unknown c.args.levels) c.args.inputs.now (g.F.Feed.remaining c.args.feed.now) (g.S.Sink.written c.args.sink.now) (g.S.Sink.written c.refuse.new.sink)
     c.in-Err.refused c.refuse.result
-    c.in-Err.ensures.told c.refuse.ensures.memory c.refuse.ensures.front c.refuse.ensures.no_memory c.refuse.ensures.counted
+    c.in-Err.ensures.recorded c.refuse.ensures.memory c.refuse.ensures.front c.refuse.ensures.no_memory c.refuse.ensures.counted
 
 pub returns-in-Err-clause-no_memory : goal.returns-in-Err-clause-no_memory
 returns-in-Err-clause-no_memory g c = λ is.
@@ -55,7 +55,7 @@ returns-clause-answered g c =
     all_answered (checks c.args.unknown c.args.levels) c.args.inputs.now _ _ checked_exit
     (of_check c.args.unknown c.args.levels c.args.inputs.now _ (rw (← c.deref.ensures) at c.in-Ok.ensures.book)) _ _ _ _ _ c.new-tally.result c.answer_lines.new.watch
     c.in_ok-answer_lines.ensures.answered
-    c.answer_lines.new.watch.ended c.ended.result.reported.exit (first_stands c.args.inputs.now _ (rw (← c.deref.ensures) at c.in-Ok.ensures.book)) c.ended.ensures.exit
+    c.answer_lines.new.watch.ended c.ended.result.reported.exit (first_occurs c.args.inputs.now _ (rw (← c.deref.ensures) at c.in-Ok.ensures.book)) c.ended.ensures.exit
     c.new-tally.ensures (λ verdicts counted. counted.ended ∙ ap ended_of (exits_in_lines checked_exit checked_flaw 1 verdicts))
 
 pub returns-in-Err-clause-summary : goal.returns-in-Err-clause-summary

@@ -14,13 +14,13 @@ pub returns-in-Err-clause-answered : goal.returns-in-Err-clause-answered
 returns-in-Err-clause-answered g c =
     stream_refused c.args.unknown c.args.levels c.args.inputs.now (g.F.Feed.remaining c.args.feed.now) (g.S.Sink.written c.args.sink.now) (g.S.Sink.written c.refuse.new.sink)
     c.in-Err.refused c.refuse.result
-    c.in-Err.ensures.told c.refuse.ensures.memory c.refuse.ensures.exit c.refuse.ensures.put
+    c.in-Err.ensures.recorded c.refuse.ensures.memory c.refuse.ensures.exit c.refuse.ensures.put
 
 pub returns-in-Err-clause-front : goal.returns-in-Err-clause-front
 returns-in-Err-clause-front g c =
     stream_refused_front c.args.unknown c.args.levels c.args.inputs.now (g.F.Feed.remaining c.args.feed.now) (g.S.Sink.written c.args.sink.now) (g.S.Sink.written c.refuse.new.sink)
     c.in-Err.refused c.refuse.result
-    c.in-Err.ensures.told c.refuse.ensures.memory c.refuse.ensures.front c.refuse.ensures.no_memory c.refuse.ensures.counted
+    c.in-Err.ensures.recorded c.refuse.ensures.memory c.refuse.ensures.front c.refuse.ensures.no_memory c.refuse.ensures.counted
 
 pub returns-in-Err-clause-no_memory : goal.returns-in-Err-clause-no_memory
 returns-in-Err-clause-no_memory g c =
@@ -46,7 +46,7 @@ returns-in_err-answer_stream-clause-endless g c = λ e.
 pub returns-clause-answered : goal.returns-clause-answered
 returns-clause-answered g c =
     stream_answered c.args.unknown c.args.levels c.args.inputs.now _ (rw (← c.deref.ensures) at c.in-Ok.ensures.book) _ _ _ _ _ c.new-tally.result c.answer_stream.new.watch
-    c.in_ok-answer_stream.ensures.told
+    c.in_ok-answer_stream.ensures.recorded
     c.answer_stream.new.watch.ended c.ended.result.reported.exit c.ended.ensures.exit c.new-tally.ensures (λ verdicts counted. counted.ended ∙ ap ended_of (exits_placed verdicts))
 
 pub returns-in-Err-clause-summary : goal.returns-in-Err-clause-summary
@@ -58,5 +58,5 @@ returns-in-Err-clause-no_summary g c = IfOk-weaker c.refuse.result _ _ (λ captu
 pub returns-clause-summary : goal.returns-clause-summary
 returns-clause-summary g c = λ _.
     stream_summed string_bytes _ _ _ _ c.args.unknown c.args.levels c.args.inputs.now _ (rw (← c.deref.ensures) at c.in-Ok.ensures.book) _ c.new-tally.result c.answer_stream.new.watch
-    c.in_ok-answer_stream.ensures.told c.new-tally.ensures c.summary.result c.ended.result.summary c.ended.ensures.summary
+    c.in_ok-answer_stream.ensures.recorded c.new-tally.ensures c.summary.result c.ended.result.summary c.ended.ensures.summary
     (λ verdicts counted. c.summary.ensures (placed_items verdicts) counted)

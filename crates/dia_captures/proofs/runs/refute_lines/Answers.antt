@@ -9,7 +9,7 @@ use Rattle.dia_captures.specs.Lines.{refutations}
 use Rattle.dia_captures.specs.Verdicts.{refuted_exit}
 use Rattle.dia_captures.proofs.OneMessage.{of_refute}
 use Rattle.dia_captures.proofs.LinesOfMessages.{all_answered, front_put, lines_answered, both_stand}
-use Rattle.dia_captures.proofs.RefusedRuns.{first_tells, second_tells, refusal_answered, refusal_front, refusal_nothing}
+use Rattle.dia_captures.proofs.RefusedRuns.{first_records, second_records, refusal_answered, refusal_front, refusal_nothing}
 use Rattle.dia_captures.proofs.Summed.{refute_summed, unsummed}
 use Rattle.dia_captures.proofs.Tallies.{exits_in_lines}
 use Rattle.dia_captures.proofs.runs.refute_lines.Goals as goal
@@ -18,13 +18,13 @@ pub returns-in-Err-clause-answered : goal.returns-in-Err-clause-answered
 returns-in-Err-clause-answered g c =
     refusal_answered (refutations c.args.unknown c.args.levels) c.args.inputs.now (g.F.Feed.remaining c.args.feed.now) (g.S.Sink.written c.args.sink.now) (g.S.Sink.written
     c.refuse.new.sink) c.in-Err.refused c.refuse.result
-    (first_tells c.args.unknown c.args.levels c.args.inputs.now c.in-Err.refused c.in-Err.ensures.told) c.refuse.ensures.memory c.refuse.ensures.exit c.refuse.ensures.put
+    (first_records c.args.unknown c.args.levels c.args.inputs.now c.in-Err.refused c.in-Err.ensures.recorded) c.refuse.ensures.memory c.refuse.ensures.exit c.refuse.ensures.put
 
 pub returns-in-Err-clause-front : goal.returns-in-Err-clause-front
 returns-in-Err-clause-front g c =
     refusal_front (refutations c.args.unknown c.args.levels) c.args.inputs.now (g.F.Feed.remaining c.args.feed.now) (g.S.Sink.written c.args.sink.now) (g.S.Sink.written c.refuse.new.sink)
     c.in-Err.refused c.refuse.result
-    (first_tells c.args.unknown c.args.levels c.args.inputs.now c.in-Err.refused c.in-Err.ensures.told) c.refuse.ensures.memory c.refuse.ensures.front c.refuse.ensures.no_memory
+    (first_records c.args.unknown c.args.levels c.args.inputs.now c.in-Err.refused c.in-Err.ensures.recorded) c.refuse.ensures.memory c.refuse.ensures.front c.refuse.ensures.no_memory
     c.refuse.ensures.counted
 
 pub returns-in-Err-clause-no_memory : goal.returns-in-Err-clause-no_memory
@@ -36,14 +36,14 @@ pub returns-in-Err-read_dictionary-clause-answered : goal.returns-in-Err-read_di
 returns-in-Err-read_dictionary-clause-answered g c =
     refusal_answered (refutations c.args.unknown c.args.levels) c.args.inputs.now (g.F.Feed.remaining c.args.feed.now) (g.S.Sink.written c.args.sink.now) (g.S.Sink.written
     c.refuse-in-Err-read_dictionary.new.sink) c.in-Err-read_dictionary.refused c.refuse-in-Err-read_dictionary.result
-    (second_tells c.args.unknown c.args.levels c.args.inputs.now _ c.in-Err-read_dictionary.refused c.in-Ok.ensures.book c.in-Err-read_dictionary.ensures.told)
+    (second_records c.args.unknown c.args.levels c.args.inputs.now _ c.in-Err-read_dictionary.refused c.in-Ok.ensures.book c.in-Err-read_dictionary.ensures.recorded)
     c.refuse-in-Err-read_dictionary.ensures.memory c.refuse-in-Err-read_dictionary.ensures.exit c.refuse-in-Err-read_dictionary.ensures.put
 
 pub returns-in-Err-read_dictionary-clause-front : goal.returns-in-Err-read_dictionary-clause-front
 returns-in-Err-read_dictionary-clause-front g c =
     refusal_front (refutations c.args.unknown c.args.levels) c.args.inputs.now (g.F.Feed.remaining c.args.feed.now) (g.S.Sink.written c.args.sink.now) (g.S.Sink.written
     c.refuse-in-Err-read_dictionary.new.sink) c.in-Err-read_dictionary.refused c.refuse-in-Err-read_dictionary.result
-    (second_tells c.args.unknown c.args.levels c.args.inputs.now _ c.in-Err-read_dictionary.refused c.in-Ok.ensures.book c.in-Err-read_dictionary.ensures.told)
+    (second_records c.args.unknown c.args.levels c.args.inputs.now _ c.in-Err-read_dictionary.refused c.in-Ok.ensures.book c.in-Err-read_dictionary.ensures.recorded)
     c.refuse-in-Err-read_dictionary.ensures.memory c.refuse-in-Err-read_dictionary.ensures.front c.refuse-in-Err-read_dictionary.ensures.no_memory c.refuse-in-Err-read_dictionary.ensures.counted
 
 pub returns-in-Err-read_dictionary-clause-no_memory : goal.returns-in-Err-read_dictionary-clause-no_memory

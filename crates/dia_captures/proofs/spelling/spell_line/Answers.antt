@@ -10,4 +10,4 @@ returns-in-Ok-clause-message c = subst (IsMessageText c.args.line.now) (sym (tak
 
 pub returns-in_ok-flaw-in-Err-clause-refused : goal.returns-in_ok-flaw-in-Err-clause-refused
 returns-in_ok-flaw-in-Err-clause-refused c =
-    refused_flaw c.args.line.now c.in-Err.refused c.in_ok-flaw-in-Err.flaw c.in_ok-flaw-in-Err.ensures.bad (λ none. false≢true (c.in_ok-flaw-in-Err.ensures.memory none)) c.in-Err.ensures.told
+    refused_flaw c.args.line.now c.in-Err.refused c.in_ok-flaw-in-Err.flaw c.in_ok-flaw-in-Err.ensures.bad (λ none. false≢true (c.in_ok-flaw-in-Err.ensures.memory none)) c.in-Err.ensures.recorded

@@ -1,5 +1,5 @@
 use Rattle.std.proofs.Common.{◌<◌}
-use Rattle.dia_ccf.specs.Places.{DeclStands}
+use Rattle.dia_ccf.specs.Places.{DeclOccurs}
 use Rattle.dia_ccf.specs.declared.source.Decl.{Decl}
 use Rattle.dia_ccf.specs.declared.source.Def.{Def}
 use Rattle.dia_ccf.proofs.ReaderPlaces.{all_pushed, rise_pushed, further}
@@ -13,7 +13,7 @@ returns-clause-placed c = λ text at h one less.
     let grown = c.in_ok-push.ensures.items in
     record {
       placed = record {
-        avps = all_pushed (DeclStands text) old.avps.items more d grown h.placed.avps one;
+        avps = all_pushed (DeclOccurs text) old.avps.items more d grown h.placed.avps one;
         groups = h.placed.groups;
         commands = h.placed.commands;
         avps_rise = rise_pushed (λ (a : Decl). a.at) old.avps.items more d grown h.placed.avps_rise h.avps;

@@ -1,5 +1,5 @@
 use Rattle.std.proofs.Common.{◌<◌}
-use Rattle.dia_ccf.specs.Places.{DefStands}
+use Rattle.dia_ccf.specs.Places.{DefOccurs}
 use Rattle.dia_ccf.specs.declared.source.Decl.{Decl}
 use Rattle.dia_ccf.specs.declared.source.Def.{Def}
 use Rattle.dia_ccf.proofs.ReaderPlaces.{all_pushed, rise_pushed, further, command_kept}
@@ -14,7 +14,7 @@ returns-in_ok-push-in-Group-clause-placed c = λ text at h one less.
     record {
       placed = record {
         avps = h.placed.avps;
-        groups = all_pushed (DefStands text) old.groups.items more d grown h.placed.groups one;
+        groups = all_pushed (DefOccurs text) old.groups.items more d grown h.placed.groups one;
         commands = h.placed.commands;
         avps_rise = h.placed.avps_rise;
         groups_rise = rise_pushed (λ (a : Def). a.at) old.groups.items more d grown h.placed.groups_rise h.groups;
@@ -37,7 +37,7 @@ returns-in_ok-push-in-Command-clause-placed c = λ text at h one less.
     record {
       placed = record {
         avps = h.placed.avps;
-        commands = all_pushed (DefStands text) old.commands.items more d grown h.placed.commands one;
+        commands = all_pushed (DefOccurs text) old.commands.items more d grown h.placed.commands one;
         groups = h.placed.groups;
         avps_rise = h.placed.avps_rise;
         commands_rise = rise_pushed (λ (a : Def). a.at) old.commands.items more d grown h.placed.commands_rise h.commands;

@@ -54,7 +54,7 @@ check_avp-requires g c =
     let at = c.loop-avp.at in let from = c.args.from in let piece = c.args.piece.now in let kept = c.innermost-end.result in let until = c.min-until.result in
     let same = c.innermost-end.ensures in let is = c.min-until.ensures in let (le, reached, some, on) = c.loop-avp.invariant in
     ∥∥₁_map some (λ x. let (bytes, good, small, w, lies) = x in
-    let room = few d (g.met.B.Book.sound c.args.basis.now.book.now) u m bytes good o at w in (map so_far w.rests, so_far w.s, w.stands, omega (arith, room, small)))
+    let room = few d (g.met.B.Book.sound c.args.basis.now.book.now) u m bytes good o at w in (map so_far w.rests, so_far w.s, w.occurs, omega (arith, room, small)))
 
 pub open_group-requires-clause-def : goal.open_group-requires-clause-def
 open_group-requires-clause-def g c =
@@ -62,7 +62,7 @@ open_group-requires-clause-def g c =
     let at = c.loop-avp.at in let from = c.args.from in let piece = c.args.piece.now in let kept = c.innermost-end.result in let until = c.min-until.result in
     let same = c.innermost-end.ensures in let is = c.min-until.ensures in let (le, reached, some, on) = c.loop-avp.invariant in
     ∥∥₁_elim some le_prop (λ x. let (bytes, good, small, w, lies) = x in
-    let says = c.in-Ok-Some-check_avp.ensures (map so_far w.rests) (so_far w.s) w.stands in
+    let says = c.in-Ok-Some-check_avp.ensures (map so_far w.rests) (so_far w.s) w.occurs in
     number_within d (g.met.B.Book.sound c.args.basis.now.book.now) u m bytes good o at w (plain_avp c.in-Ok-Some.avp) c.in-Ok-Some-check_avp.group (rw c.in-Ok-Some-check_avp.field-0-is at says.0))
 
 pub open_group-requires-clause-open : goal.open_group-requires-clause-open
@@ -71,7 +71,7 @@ open_group-requires-clause-open g c =
     let at = c.loop-avp.at in let from = c.args.from in let piece = c.args.piece.now in let kept = c.innermost-end.result in let until = c.min-until.result in
     let same = c.innermost-end.ensures in let is = c.min-until.ensures in let (le, reached, some, on) = c.loop-avp.invariant in
     ∥∥₁_map some (λ x. let (bytes, good, small, w, lies) = x in
-    let says = c.in-Ok-Some-check_avp.ensures (map so_far w.rests) (so_far w.s) w.stands in
+    let says = c.in-Ok-Some-check_avp.ensures (map so_far w.rests) (so_far w.s) w.occurs in
     (map so_far w.rests, and_key (so_far w.s) (key_of (plain_avp c.in-Ok-Some.avp)), says.1))
 
 pub returns-in_err-open_group-in-Ok-Some-check_avp-clause-next : goal.returns-in_err-open_group-in-Ok-Some-check_avp-clause-next
@@ -80,7 +80,7 @@ returns-in_err-open_group-in-Ok-Some-check_avp-clause-next g c bytes good old li
     let at = c.loop-avp.at in let from = c.args.from in let piece = c.args.piece.now in let kept = c.innermost-end.result in let until = c.min-until.result in
     let same = c.innermost-end.ensures in let is = c.min-until.ensures in let (le, reached, some, on) = c.loop-avp.invariant in
     let w = on bytes good old lies in
-    let says = c.in-Ok-Some-check_avp.ensures (map so_far w.rests) (so_far w.s) w.stands in
+    let says = c.in-Ok-Some-check_avp.ensures (map so_far w.rests) (so_far w.s) w.occurs in
     let p = err_from_is_err_and c.from_residual.result c.from_residual.ensures.1 in
     rw (p.1, p.2) (avps.group_begins d (g.met.B.Book.sound c.args.basis.now.book.now) u m bytes good o at w kept same from piece lies until is le reached
     (plain_avp c.in-Ok-Some.avp) c.in-Ok-Some.rest.now c.in-Ok-Some-check_avp.group
@@ -93,7 +93,7 @@ loop-avp-smaller-in-Ok-Some-check_avp g c =
     let same = c.innermost-end.ensures in let is = c.min-until.ensures in let (le, reached, some, on) = c.loop-avp.invariant in
     let v = plain_avp c.in-Ok-Some.avp in let to = at + (c.length-length.result - length c.in-Ok-Some.avp.bytes.now) in let e = c.length-length.ensures in
     ∥∥₁_elim some le_prop (λ x. let (bytes, good, small, w, lies) = x in
-    let says = c.in-Ok-Some-check_avp.ensures (map so_far w.rests) (so_far w.s) w.stands in
+    let says = c.in-Ok-Some-check_avp.ensures (map so_far w.rests) (so_far w.s) w.occurs in
     avps.less_entered d (g.met.B.Book.sound c.args.basis.now.book.now) u m bytes good o at w kept same from piece lies until is le reached v c.in-Ok-Some.rest.now c.in-Ok-Some-check_avp.group
     c.open_group.new.open_levels
     (at + c.length-length.result) to (rw c.in-Ok-Some.field-0-is at c.in-Ok-Some.ensures.avp) (rw c.in-Ok-Some-check_avp.field-0-is at says.0)
@@ -107,7 +107,7 @@ loop-avp-preserved-in-Ok-Some-check_avp g c =
     let v = plain_avp c.in-Ok-Some.avp in let to = at + (c.length-length.result - length c.in-Ok-Some.avp.bytes.now) in let e = c.length-length.ensures in
     let next : (bytes : List ℕ) (good : HasGoodHeader d bytes) (w : IsUnderWay d u m bytes good o at) → LiesAt bytes from piece
     → IsUnderWay d u m bytes good c.open_group.new.open_levels to × (to ≤ from + length piece) = λ bytes good w lies.
-    let says = c.in-Ok-Some-check_avp.ensures (map so_far w.rests) (so_far w.s) w.stands in
+    let says = c.in-Ok-Some-check_avp.ensures (map so_far w.rests) (so_far w.s) w.occurs in
     let begins = (rw c.in-Ok-Some.field-0-is at c.in-Ok-Some.ensures.avp) in
     let (place, whole, eight) =
     avps.whole_here d (g.met.B.Book.sound c.args.basis.now.book.now) u m bytes good o at w kept same from piece lies until is le reached v c.in-Ok-Some.rest.now
@@ -132,7 +132,7 @@ loop-avp-smaller-in-Ok-None-check_avp g c =
     let same = c.innermost-end.ensures in let is = c.min-until.ensures in let (le, reached, some, on) = c.loop-avp.invariant in
     let v = plain_avp c.in-Ok-Some.avp in
     ∥∥₁_elim some le_prop (λ x. let (bytes, good, small, w, lies) = x in
-    let says = c.in-Ok-None-check_avp.ensures (map so_far w.rests) (so_far w.s) w.stands in
+    let says = c.in-Ok-None-check_avp.ensures (map so_far w.rests) (so_far w.s) w.occurs in
     avps.less_passed d (g.met.B.Book.sound c.args.basis.now.book.now) u m bytes good o at w kept same from piece lies until is le reached v c.in-Ok-Some.rest.now
     c.check_avp.new.open_levels (and_key (so_far w.s) (key_of v)) (rw c.in-Ok-Some.field-0-is at c.in-Ok-Some.ensures.avp) says.1)
 
@@ -144,7 +144,7 @@ loop-avp-preserved-in-Ok-None-check_avp g c =
     let v = plain_avp c.in-Ok-Some.avp in let to = until - length c.in-Ok-Some.rest.now in
     let next : (bytes : List ℕ) (good : HasGoodHeader d bytes) (w : IsUnderWay d u m bytes good o at) → LiesAt bytes from piece
     → IsUnderWay d u m bytes good c.check_avp.new.open_levels to × (from ≤ to) × (to ≤ from + length piece) = λ bytes good w lies.
-    let says = c.in-Ok-None-check_avp.ensures (map so_far w.rests) (so_far w.s) w.stands in
+    let says = c.in-Ok-None-check_avp.ensures (map so_far w.rests) (so_far w.s) w.occurs in
     let begins = (rw c.in-Ok-Some.field-0-is at c.in-Ok-Some.ensures.avp) in
     let (place, whole, eight) =
     avps.whole_here d (g.met.B.Book.sound c.args.basis.now.book.now) u m bytes good o at w kept same from piece lies until is le reached v c.in-Ok-Some.rest.now
@@ -177,7 +177,7 @@ returns-in-Err-clause-next g c bytes good old lies =
     let w = on bytes good old lies in let v = plain_avp c.in-Ok-Some.avp in
     rw c.fault.ensures (found_wrong d (g.met.B.Book.sound c.args.basis.now.book.now) u m bytes good o at w v _ c.in-Err.wrong (avps.begins d (g.met.B.Book.sound c.args.basis.now.book.now) u m bytes
     good o at w kept same from piece lies until is le reached v c.in-Ok-Some.rest.now (rw c.in-Ok-Some.field-0-is at c.in-Ok-Some.ensures.avp))
-    (c.in-Err.ensures (map so_far w.rests) (so_far w.s) w.stands))
+    (c.in-Err.ensures (map so_far w.rests) (so_far w.s) w.occurs))
 
 pub missing_at_end-requires : goal.missing_at_end-requires
 missing_at_end-requires g c =
@@ -211,7 +211,7 @@ returns-in-Some-clause-next g c bytes good old lies =
     (omega (arith, c.if-stop-end.false)) (c.in-Ok-None.ensures.end.0 (rw c.in-Ok-None.field-0-is refl)) in
     let place = ap (λ (k : OpenLevel). k.end) (sym same) in
     rw (c.fault-in-Some.ensures, ← place) (found_missing d (g.met.B.Book.sound c.args.basis.now.book.now) u m bytes good o at w c.in-Some.wrong none
-    (c.in-Some.ensures (map so_far w.rests) (so_far w.s) w.stands))
+    (c.in-Some.ensures (map so_far w.rests) (so_far w.s) w.occurs))
 
 pub returns-then-not-close-clause-next : goal.returns-then-not-close-clause-next
 returns-then-not-close-clause-next g c bytes good old lies =
@@ -221,9 +221,9 @@ returns-then-not-close-clause-next g c bytes good old lies =
     let w = on bytes good old lies in
     let none = avps.nothing_left d (g.met.B.Book.sound c.args.basis.now.book.now) u m bytes good o at w kept same from piece lies until is le reached
     (omega (arith, c.if-stop-end.false)) (c.in-Ok-None.ensures.end.0 (rw c.in-Ok-None.field-0-is refl)) in
-    let alone = c.if-not-close.ensures.last refl (definitions d) (map so_far w.rests) (so_far w.s) w.stands in
+    let alone = c.if-not-close.ensures.last refl (definitions d) (map so_far w.rests) (so_far w.s) w.occurs in
     let end = all_reached d (g.met.B.Book.sound c.args.basis.now.book.now) u m bytes good o at w none alone in let room = lies.1 in (
-      all_done d (g.met.B.Book.sound c.args.basis.now.book.now) u m bytes good o at w none (c.in_default.ensures (map so_far w.rests) (so_far w.s) w.stands) alone,
+      all_done d (g.met.B.Book.sound c.args.basis.now.book.now) u m bytes good o at w none (c.in_default.ensures (map so_far w.rests) (so_far w.s) w.occurs) alone,
       omega (arith, end, reached, room),
     )
 
@@ -233,7 +233,7 @@ loop-avp-smaller g c =
     let at = c.loop-avp.at in let from = c.args.from in let piece = c.args.piece.now in let kept = c.innermost-end.result in let until = c.min-until.result in
     let same = c.innermost-end.ensures in let is = c.min-until.ensures in let (le, reached, some, on) = c.loop-avp.invariant in
     ∥∥₁_elim some le_prop (λ x. let (bytes, good, small, w, lies) = x in
-    let (others, next, parts, now) = c.if-not-close.ensures.inner refl (definitions d) (map so_far w.rests) (so_far w.s) w.stands in
+    let (others, next, parts, now) = c.if-not-close.ensures.inner refl (definitions d) (map so_far w.rests) (so_far w.s) w.occurs in
     avps.less_done d (g.met.B.Book.sound c.args.basis.now.book.now) u m bytes good o at w kept same from piece lies until is le reached c.close.new.self others next parts now)
 
 pub loop-avp-preserved : goal.loop-avp-preserved
@@ -245,8 +245,8 @@ loop-avp-preserved g c =
     → IsUnderWay d u m bytes good c.close.new.self at = λ bytes good w lies.
     let none = avps.nothing_left d (g.met.B.Book.sound c.args.basis.now.book.now) u m bytes good o at w kept same from piece lies until is le reached
     (omega (arith, c.if-stop-end.false)) (c.in-Ok-None.ensures.end.0 (rw c.in-Ok-None.field-0-is refl)) in
-    let (others, next, parts, now) = c.if-not-close.ensures.inner refl (definitions d) (map so_far w.rests) (so_far w.s) w.stands in
-    done d (g.met.B.Book.sound c.args.basis.now.book.now) u m bytes good o at w c.close.new.self none (c.in_default.ensures (map so_far w.rests) (so_far w.s) w.stands) others next parts now in (
+    let (others, next, parts, now) = c.if-not-close.ensures.inner refl (definitions d) (map so_far w.rests) (so_far w.s) w.occurs in
+    done d (g.met.B.Book.sound c.args.basis.now.book.now) u m bytes good o at w c.close.new.self none (c.in_default.ensures (map so_far w.rests) (so_far w.s) w.occurs) others next parts now in (
       le,
       reached,
       ∥∥₁_map some (λ x. let (bytes, good, small, w, lies) = x in (bytes, good, small, closed bytes good w lies, lies)),

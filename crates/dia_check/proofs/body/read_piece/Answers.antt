@@ -25,7 +25,7 @@ returns-in_err-at-clause-next g c bytes good old lies =
     (λ begins. record {
       level = begins.level;
       is_open = begins.is_open;
-      behind = (let b = begins.behind in omega (arith, b, le));
+      following = (let b = begins.following in omega (arith, b, le));
       within = (let b = begins.within in omega (arith, b, left, le, reached));
     })
     _ (c.in_err-at.ensures.next bytes good (on bytes good old lies) (avps.lies_from bytes piece from start le reached lies)))
@@ -46,9 +46,9 @@ enter_at-requires g c =
     let now : (bytes : List ℕ) (good : HasGoodHeader d bytes) → IsUnderWay d u m bytes good c.loop-at.open_levels start → LiesAt bytes from piece
     → IsUnderWay d u m bytes good c.read_avps.new.open_levels c.in-Some.at =
     λ bytes good w lies. rw c.in-Some.is at (c.in_ok-at.ensures.next bytes good w (avps.lies_from bytes piece from start le reached lies)) in
-    let (behind, within) = rw c.in-Some.is at c.in_ok-at.ensures.within in
+    let (following, within) = rw c.in-Some.is at c.in_ok-at.ensures.within in
     let to : c.in-Some.at ≤ from + length piece = omega (arith, within, left, le, reached) in
-    let up : from ≤ c.in-Some.at = omega (arith, behind, le) in
+    let up : from ≤ c.in-Some.at = omega (arith, following, le) in
     ∥∥₁_map some (λ x. let (bytes, good, small, w, lies) = x in (bytes, good, small, now bytes good w lies, avps.lies_from bytes piece from c.in-Some.at up to lies))
 
 pub returns-in_err-inner-clause-next : goal.returns-in_err-inner-clause-next
@@ -59,9 +59,9 @@ returns-in_err-inner-clause-next g c bytes good old lies =
     let now : (bytes : List ℕ) (good : HasGoodHeader d bytes) → IsUnderWay d u m bytes good c.loop-at.open_levels start → LiesAt bytes from piece
     → IsUnderWay d u m bytes good c.read_avps.new.open_levels c.in-Some.at =
     λ bytes good w lies. rw c.in-Some.is at (c.in_ok-at.ensures.next bytes good w (avps.lies_from bytes piece from start le reached lies)) in
-    let (behind, within) = rw c.in-Some.is at c.in_ok-at.ensures.within in
+    let (following, within) = rw c.in-Some.is at c.in_ok-at.ensures.within in
     let to : c.in-Some.at ≤ from + length piece = omega (arith, within, left, le, reached) in
-    let up : from ≤ c.in-Some.at = omega (arith, behind, le) in
+    let up : from ≤ c.in-Some.at = omega (arith, following, le) in
     let p = err_from_is_err_and c.from_residual-in_err-inner.result c.from_residual-in_err-inner.ensures.1 in
     let at = c.in-Some.at in
     let ahead = avps.size_from piece from at in
@@ -70,7 +70,7 @@ returns-in_err-inner-clause-next g c bytes good old lies =
     (λ begins. record {
       level = begins.level;
       is_open = begins.is_open;
-      behind = (let b = begins.behind in omega (arith, b, up));
+      following = (let b = begins.following in omega (arith, b, up));
       within = (let b = begins.within in omega (arith, b, ahead, up, to));
     })
     _ (c.in_err-inner.ensures.next bytes good (now bytes good (on bytes good old lies) lies) (avps.lies_from bytes piece from at up to lies)))
@@ -80,8 +80,8 @@ returns-in_default-2-clause-within g c =
     let d = g.B.Book.meaning c.args.basis.now.book.now in let u = c.args.basis.now.unknown in let m = c.args.basis.now.levels in let from = c.args.from in let piece = c.args.piece.now in
     let start = c.loop-at.start in let (le, reached, some, on) = c.loop-at.invariant in
     let left = avps.size_from piece from start in
-    let (behind, within) = rw c.in-Some.is at c.in_ok-at.ensures.within in
-    (omega (arith, behind, le), omega (arith, within, left, le, reached))
+    let (following, within) = rw c.in-Some.is at c.in_ok-at.ensures.within in
+    (omega (arith, following, le), omega (arith, within, left, le, reached))
 
 pub returns-in_default-2-clause-goes_on : goal.returns-in_default-2-clause-goes_on
 returns-in_default-2-clause-goes_on g c =
@@ -99,9 +99,9 @@ returns-in_default-2-clause-next g c bytes good old lies =
     let now : (bytes : List ℕ) (good : HasGoodHeader d bytes) → IsUnderWay d u m bytes good c.loop-at.open_levels start → LiesAt bytes from piece
     → IsUnderWay d u m bytes good c.read_avps.new.open_levels c.in-Some.at =
     λ bytes good w lies. rw c.in-Some.is at (c.in_ok-at.ensures.next bytes good w (avps.lies_from bytes piece from start le reached lies)) in
-    let (behind, within) = rw c.in-Some.is at c.in_ok-at.ensures.within in
+    let (following, within) = rw c.in-Some.is at c.in_ok-at.ensures.within in
     let to : c.in-Some.at ≤ from + length piece = omega (arith, within, left, le, reached) in
-    let up : from ≤ c.in-Some.at = omega (arith, behind, le) in
+    let up : from ≤ c.in-Some.at = omega (arith, following, le) in
     rw (c.in_ok-inner.ensures.kept (ap (λ o. Ok o) c.in_default-2.is)) (now bytes good (on bytes good old lies) lies)
 
 pub loop-at-smaller : goal.loop-at-smaller
@@ -112,12 +112,12 @@ loop-at-smaller g c =
     let now : (bytes : List ℕ) (good : HasGoodHeader d bytes) → IsUnderWay d u m bytes good c.loop-at.open_levels start → LiesAt bytes from piece
     → IsUnderWay d u m bytes good c.read_avps.new.open_levels c.in-Some.at =
     λ bytes good w lies. rw c.in-Some.is at (c.in_ok-at.ensures.next bytes good w (avps.lies_from bytes piece from start le reached lies)) in
-    let (behind, within) = rw c.in-Some.is at c.in_ok-at.ensures.within in
+    let (following, within) = rw c.in-Some.is at c.in_ok-at.ensures.within in
     let to : c.in-Some.at ≤ from + length piece = omega (arith, within, left, le, reached) in
-    let up : from ≤ c.in-Some.at = omega (arith, behind, le) in
+    let up : from ≤ c.in-Some.at = omega (arith, following, le) in
     let ahead = avps.size_from piece from c.in-Some.at in
     let (farther, last) = rw c.in-Some-2.is at c.in_ok-inner.ensures.within in
-    omega (arith, farther, last, ahead, behind, up, to)
+    omega (arith, farther, last, ahead, following, up, to)
 
 pub loop-at-preserved : goal.loop-at-preserved
 loop-at-preserved g c =
@@ -127,9 +127,9 @@ loop-at-preserved g c =
     let now : (bytes : List ℕ) (good : HasGoodHeader d bytes) → IsUnderWay d u m bytes good c.loop-at.open_levels start → LiesAt bytes from piece
     → IsUnderWay d u m bytes good c.read_avps.new.open_levels c.in-Some.at =
     λ bytes good w lies. rw c.in-Some.is at (c.in_ok-at.ensures.next bytes good w (avps.lies_from bytes piece from start le reached lies)) in
-    let (behind, within) = rw c.in-Some.is at c.in_ok-at.ensures.within in
+    let (following, within) = rw c.in-Some.is at c.in_ok-at.ensures.within in
     let to : c.in-Some.at ≤ from + length piece = omega (arith, within, left, le, reached) in
-    let up : from ≤ c.in-Some.at = omega (arith, behind, le) in
+    let up : from ≤ c.in-Some.at = omega (arith, following, le) in
     let ahead = avps.size_from piece from c.in-Some.at in
     let (farther, last) = rw c.in-Some-2.is at c.in_ok-inner.ensures.within in
     let next : (bytes : List ℕ) (good : HasGoodHeader d bytes) → IsUnderWay d u m bytes good c.loop-at.open_levels start → LiesAt bytes from piece

@@ -28,8 +28,8 @@ pub slice_bounds-body-start : goal.slice_bounds-body-start
 slice_bounds-body-start g c = ∥∥₁_elim c.requires le_prop (λ x. let (good, is, sized, few) = x in sized.long)
 
 -- the body, after the header
-lies_behind : (bytes : List ℕ) → 20 ≤ length bytes → LiesAt bytes 20 (take (length bytes - 20) (drop 20 bytes))
-lies_behind bytes long = subst (LiesAt bytes 20) (sym (take_rest bytes 20)) (lies_whole bytes 20 long)
+lies_after : (bytes : List ℕ) → 20 ≤ length bytes → LiesAt bytes 20 (take (length bytes - 20) (drop 20 bytes))
+lies_after bytes long = subst (LiesAt bytes 20) (sym (take_rest bytes 20)) (lies_whole bytes 20 long)
 
 pub read_avps-requires : goal.read_avps-requires
 read_avps-requires g c =
@@ -40,7 +40,7 @@ read_avps-requires g c =
       few,
       opens_body d (g.met.B.Book.sound c.args.basis.now.book.now) c.args.basis.now.unknown c.args.basis.now.levels c.args.bytes.now c.reopen_body.new.open_levels c.args.def (length c.args.bytes.now) good is refl
           c.in_ok-reopen_body.ensures,
-      lies_behind c.args.bytes.now sized.long,
+      lies_after c.args.bytes.now sized.long,
     ))
 
 pub returns-in_err-reopen_body : goal.returns-in_err-reopen_body
@@ -56,24 +56,24 @@ returns-in_err-read_avps g c good is sized =
     let p = err_from_is_err_and c.from_residual-in_err-read_avps.result c.from_residual-in_err-read_avps.ensures.1 in
     rw (p.1, p.2)
     (found_answers d (g.met.B.Book.sound c.args.basis.now.book.now) c.args.basis.now.unknown c.args.basis.now.levels bytes sized good c.in_err-read_avps.field-0.0
-    (found_at_stop d c.args.basis.now.unknown c.args.basis.now.levels bytes good _ c.in_err-read_avps.field-0.0 (c.in_err-read_avps.ensures.next bytes good way (lies_behind bytes sized.long))))
+    (found_at_stop d c.args.basis.now.unknown c.args.basis.now.levels bytes good _ c.in_err-read_avps.field-0.0 (c.in_err-read_avps.ensures.next bytes good way (lies_after bytes sized.long))))
 
 pub unreachable-requires : goal.unreachable-requires
 unreachable-requires g c = ∥∥₁_elim c.requires (hlevel props) (λ x. let (good, is, sized, few) = x in
     let d = g.B.Book.meaning c.args.basis.now.book.now in
     let bytes = c.args.bytes.now in
     let way = opens_body d (g.met.B.Book.sound c.args.basis.now.book.now) c.args.basis.now.unknown c.args.basis.now.levels bytes c.reopen_body.new.open_levels c.args.def (length bytes) good is refl c.in_ok-reopen_body.ensures in
-    let now = rw c.in-Some.is at (c.in_ok-read_avps.ensures.next bytes good way (lies_behind bytes sized.long)) in
+    let now = rw c.in-Some.is at (c.in_ok-read_avps.ensures.next bytes good way (lies_after bytes sized.long)) in
     let end = (place d (g.met.B.Book.sound c.args.basis.now.book.now) c.args.basis.now.unknown c.args.basis.now.levels bytes good c.read_avps.new.open_levels c.in-Some.field-0 now).1 in
-    let behind : 20 + length (take (length bytes - 20) (drop 20 bytes)) < c.read_avps.new.open_levels.innermost.end = rw c.in-Some.is at c.in_ok-read_avps.ensures.goes_on in
+    let following : 20 + length (take (length bytes - 20) (drop 20 bytes)) < c.read_avps.new.open_levels.innermost.end = rw c.in-Some.is at c.in_ok-read_avps.ensures.goes_on in
     let size = ap length (take_rest bytes 20) in
     let left = length-drop 20 bytes in
-    omega (arith, end, behind, size, left, sized.long))
+    omega (arith, end, following, size, left, sized.long))
 
 pub returns : goal.returns
 returns g c good is sized =
     let d = g.B.Book.meaning c.args.basis.now.book.now in
     let bytes = c.args.bytes.now in
     let way = opens_body d (g.met.B.Book.sound c.args.basis.now.book.now) c.args.basis.now.unknown c.args.basis.now.levels bytes c.reopen_body.new.open_levels c.args.def (length bytes) good is refl c.in_ok-reopen_body.ensures in
-    let (walk, end) = rw c.in-None.is at (c.in_ok-read_avps.ensures.next bytes good way (lies_behind bytes sized.long)) in
+    let (walk, end) = rw c.in-None.is at (c.in_ok-read_avps.ensures.next bytes good way (lies_after bytes sized.long)) in
     subst (IsValidOf d c.args.basis.now.unknown c.args.basis.now.levels bytes) is (walk_answers d (g.met.B.Book.sound c.args.basis.now.book.now) c.args.basis.now.unknown c.args.basis.now.levels bytes sized good None walk)

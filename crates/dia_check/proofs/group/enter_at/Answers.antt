@@ -6,7 +6,7 @@ use Rattle.dia_wire.proofs.Spelling.{at_least_8}
 use Rattle.dia_check.specs.declared.open_levels.OpenLevel.{OpenLevel}
 use Rattle.dia_check.proofs.UnderWay.{place}
 use Rattle.dia_check.proofs.DataInPieces.{each_entered, stop_ahead}
-use Rattle.dia_check.proofs.HeadsInPieces.{stands_here, is_there}
+use Rattle.dia_check.proofs.HeadsInPieces.{occurs_here, is_there}
 use Rattle.dia_check.proofs.group.enter_at.Goals as goal
 
 pub overflow_sub-room : goal.overflow_sub-room
@@ -26,7 +26,7 @@ enter_group-requires g c =
       bytes,
       good,
       few,
-      stands_here d (g.met.B.Book.sound c.args.basis.now.book.now) c.args.basis.now.unknown c.args.basis.now.levels bytes good o c.args.at w c.args.bytes.now lies c.in-Ok-Some.head has.0 has.1
+      occurs_here d (g.met.B.Book.sound c.args.basis.now.book.now) c.args.basis.now.unknown c.args.basis.now.levels bytes good o c.args.at w c.args.bytes.now lies c.in-Ok-Some.head has.0 has.1
           (λ bad. let f : false ≡ true = c.in-Ok-Some.ensures.refused.1 (rw (← same) at bad) in cc),
     ))
 
@@ -46,7 +46,7 @@ returns-in-Ok-Some-clause-next g c bytes good w lies =
     let d = g.B.Book.meaning c.args.basis.now.book.now in let o = c.args.open_levels.now in
     let has = rw c.in-Ok-Some.field-0-is at c.in-Ok-Some.ensures.head in
     let same = ap (λ (k : OpenLevel). k.end) c.innermost.ensures in
-    let avp = stands_here d (g.met.B.Book.sound c.args.basis.now.book.now) c.args.basis.now.unknown c.args.basis.now.levels bytes good o c.args.at w c.args.bytes.now lies c.in-Ok-Some.head has.0 has.1
+    let avp = occurs_here d (g.met.B.Book.sound c.args.basis.now.book.now) c.args.basis.now.unknown c.args.basis.now.levels bytes good o c.args.at w c.args.bytes.now lies c.in-Ok-Some.head has.0 has.1
     (λ bad. let f : false ≡ true = c.in-Ok-Some.ensures.refused.1 (rw (← same) at bad) in cc) in
     let there = is_there d (g.met.B.Book.sound c.args.basis.now.book.now) c.args.basis.now.unknown c.args.basis.now.levels bytes good o c.args.at w c.args.bytes.now lies c.in-Ok-Some.head has.0 has.1
     (λ bad. let f : false ≡ true = c.in-Ok-Some.ensures.refused.1 (rw (← same) at bad) in cc) in
@@ -55,7 +55,7 @@ returns-in-Ok-Some-clause-next g c bytes good w lies =
     (λ begins. record {
       level = begins.level;
       is_open = begins.is_open;
-      behind = (let s = begins.start in omega (arith, s, least));
+      following = (let s = begins.start in omega (arith, s, least));
       within = (let s = begins.start in omega (arith, s, there));
     })
     (c.enter_group.ensures.next bytes good avp)

@@ -17,7 +17,7 @@ returns-in_default-clause-no_group g c is = rw (c.in_default.is, c.head_key-key.
 pub admit-requires-clause-open_levels : goal.admit-requires-clause-open_levels
 admit-requires-clause-open_levels g c = ∥∥₁_map c.requires (λ x. let (bytes, good, small, h) = x in
     let room = few (g.B.Book.meaning c.args.basis.now.book.now) (g.met.B.Book.sound c.args.basis.now.book.now) c.args.basis.now.unknown c.args.basis.now.levels bytes good c.args.open_levels.now c.args.at h.under_way in
-    (map so_far h.under_way.rests, so_far h.under_way.s, h.under_way.stands, omega (arith, room, small)))
+    (map so_far h.under_way.rests, so_far h.under_way.s, h.under_way.occurs, omega (arith, room, small)))
 
 pub fault-requires : goal.fault-requires
 fault-requires g c =
@@ -31,7 +31,7 @@ returns-in-Some-admit-clause-next g c bytes good h =
     let d = g.B.Book.meaning c.args.basis.now.book.now in
     let key = c.head_key-key.ensures ∙ same_key d (g.met.B.Book.sound c.args.basis.now.book.now) c.args.basis.now.unknown c.args.basis.now.levels bytes good c.args.open_levels.now c.args.at c.args.head.now h _ refl in
     rw c.fault.ensures (not_admitted d (g.met.B.Book.sound c.args.basis.now.book.now) c.args.basis.now.unknown c.args.basis.now.levels bytes good c.args.open_levels.now c.args.at c.args.head.now h _ key c.in-Some-admit.wrong
-    (c.in-Some-admit.ensures (map so_far h.under_way.rests) (so_far h.under_way.s) h.under_way.stands))
+    (c.in-Some-admit.ensures (map so_far h.under_way.rests) (so_far h.under_way.s) h.under_way.occurs))
 
 pub fault-requires-then-not-may_open : goal.fault-requires-then-not-may_open
 fault-requires-then-not-may_open g c =
@@ -44,10 +44,10 @@ pub returns-then-not-may_open-clause-next : goal.returns-then-not-may_open-claus
 returns-then-not-may_open-clause-next g c bytes good h =
     let d = g.B.Book.meaning c.args.basis.now.book.now in
     let key = c.head_key-key.ensures ∙ same_key d (g.met.B.Book.sound c.args.basis.now.book.now) c.args.basis.now.unknown c.args.basis.now.levels bytes good c.args.open_levels.now c.args.at c.args.head.now h _ refl in
-    let admits = c.in_default-admit.ensures (map so_far h.under_way.rests) (so_far h.under_way.s) h.under_way.stands in
+    let admits = c.in_default-admit.ensures (map so_far h.under_way.rests) (so_far h.under_way.s) h.under_way.occurs in
     rw (c.fault-then-not-may_open.ensures, c.avp.ensures)
     (not_entered d (g.met.B.Book.sound c.args.basis.now.book.now) c.args.basis.now.unknown c.args.basis.now.levels bytes good c.args.open_levels.now c.args.at c.args.head.now h _ key c.depth-depth.result c.in-Some.group
-    (c.depth-depth.ensures (definitions d) (map so_far h.under_way.rests) (so_far h.under_way.s) h.under_way.stands) admits.0 c.in-Some.ensures
+    (c.depth-depth.ensures (definitions d) (map so_far h.under_way.rests) (so_far h.under_way.s) h.under_way.occurs) admits.0 c.in-Some.ensures
     (λ may. both_ways c.may_open.result c.if-not-may_open.true (c.may_open.ensures.1 may)))
 
 pub overflow_add-end : goal.overflow_add-end
@@ -62,18 +62,18 @@ open_group-requires-clause-def g c = group_number (g.B.Book.meaning c.args.basis
 
 pub open_group-requires-clause-open : goal.open_group-requires-clause-open
 open_group-requires-clause-open g c = ∥∥₁_map c.requires (λ x. let (bytes, good, small, h) = x in
-    let admits = c.in_default-admit.ensures (map so_far h.under_way.rests) (so_far h.under_way.s) h.under_way.stands in
+    let admits = c.in_default-admit.ensures (map so_far h.under_way.rests) (so_far h.under_way.s) h.under_way.occurs in
     (map so_far h.under_way.rests, and_key (so_far h.under_way.s) c.head_key-key.result, admits.1))
 
 pub returns-in_err-open_group-clause-next : goal.returns-in_err-open_group-clause-next
 returns-in_err-open_group-clause-next g c bytes good h =
     let d = g.B.Book.meaning c.args.basis.now.book.now in
     let key = c.head_key-key.ensures ∙ same_key d (g.met.B.Book.sound c.args.basis.now.book.now) c.args.basis.now.unknown c.args.basis.now.levels bytes good c.args.open_levels.now c.args.at c.args.head.now h _ refl in
-    let admits = c.in_default-admit.ensures (map so_far h.under_way.rests) (so_far h.under_way.s) h.under_way.stands in
+    let admits = c.in_default-admit.ensures (map so_far h.under_way.rests) (so_far h.under_way.s) h.under_way.occurs in
     let p = err_from_is_err_and c.from_residual.result c.from_residual.ensures.1 in
     rw (p.1, p.2) (level_begins d (g.met.B.Book.sound c.args.basis.now.book.now)
     c.args.basis.now.unknown c.args.basis.now.levels bytes good c.args.open_levels.now c.args.at c.args.head.now h _ key c.admit.new.open_levels admits.0 admits.1
-    c.in-Some.group c.depth-depth.result (c.depth-depth.ensures (definitions d) (map so_far h.under_way.rests) (so_far h.under_way.s) h.under_way.stands)
+    c.in-Some.group c.depth-depth.result (c.depth-depth.ensures (definitions d) (map so_far h.under_way.rests) (so_far h.under_way.s) h.under_way.occurs)
     c.in-Some.ensures (c.may_open.ensures.0 c.if-not-may_open.false))
 
 pub overflow_add-result : goal.overflow_add-result
@@ -91,9 +91,9 @@ pub returns-clause-next : goal.returns-clause-next
 returns-clause-next g c bytes good h =
     let d = g.B.Book.meaning c.args.basis.now.book.now in
     let key = c.head_key-key.ensures ∙ same_key d (g.met.B.Book.sound c.args.basis.now.book.now) c.args.basis.now.unknown c.args.basis.now.levels bytes good c.args.open_levels.now c.args.at c.args.head.now h _ refl in
-    let admits = c.in_default-admit.ensures (map so_far h.under_way.rests) (so_far h.under_way.s) h.under_way.stands in
+    let admits = c.in_default-admit.ensures (map so_far h.under_way.rests) (so_far h.under_way.s) h.under_way.occurs in
     rw c.head_length.ensures (group_entered d (g.met.B.Book.sound c.args.basis.now.book.now) c.args.basis.now.unknown
     c.args.basis.now.levels bytes good c.args.open_levels.now c.args.at c.args.head.now h _ key c.admit.new.open_levels admits.0 admits.1
-    c.in-Some.group c.depth-depth.result (c.depth-depth.ensures (definitions d) (map so_far h.under_way.rests) (so_far h.under_way.s) h.under_way.stands)
+    c.in-Some.group c.depth-depth.result (c.depth-depth.ensures (definitions d) (map so_far h.under_way.rests) (so_far h.under_way.s) h.under_way.occurs)
     c.in-Some.ensures (c.may_open.ensures.0 c.if-not-may_open.false) c.open_group.new.open_levels _
     (λ definition here. c.in_ok-open_group.ensures definition (map so_far h.under_way.rests) (and_key (so_far h.under_way.s) _) here admits.1) refl)

@@ -1,7 +1,7 @@
 use Rattle.std.proofs.Common.{length, drop, sym, subst, arith}
 use Rattle.std.specs.Str.{IsValidUpTo}
 use Rattle.std.proofs.lemmas.List.{length-drop}
-use Rattle.dia_data.proofs.Texts.{StartsWithNoChar-empty, StartsWithNoChar-behind}
+use Rattle.dia_data.proofs.Texts.{StartsWithNoChar-empty, StartsWithNoChar-following}
 use Rattle.dia_data.proofs.seen_text.whole_len.Goals as goal
 
 pub returns-in-Ok-clause-rest : goal.returns-in-Ok-clause-rest
@@ -11,4 +11,4 @@ returns-in-Ok-clause-rest c =
 
 pub returns-in-Err-clause-rest : goal.returns-in-Err-clause-rest
 returns-in-Err-clause-rest c =
-    StartsWithNoChar-behind c.args.bytes.now _ (subst (IsValidUpTo c.args.bytes.now) (sym c.valid_up_to.ensures) c.in-Err.ensures.cases.1)
+    StartsWithNoChar-following c.args.bytes.now _ (subst (IsValidUpTo c.args.bytes.now) (sym c.valid_up_to.ensures) c.in-Err.ensures.cases.1)

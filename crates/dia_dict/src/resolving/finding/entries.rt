@@ -9,12 +9,12 @@ ghost use Rattle.dia_dict.specs.Resolution.{wrong, wrong_entries, no_groups, lac
 ghost use Rattle.dia_dict.specs.Resolution.{header_mismatches, mismatch_of, is_mismatched, duplicate_keys, placed_names};
 ghost use Rattle.dia_dict.specs.Resolution.{duplicate_commands, key_of_decl, group_key, is_bare};
 ghost use Rattle.dia_dict.specs.SourceChecks.{plain_finding, placed_decl, placed_def};
-ghost use Rattle.dia_dict.specs.SourceChecks.{keyed_key, told_key, keyed_selector, told_selector};
+ghost use Rattle.dia_dict.specs.SourceChecks.{keyed_key, recorded_key, keyed_selector, recorded_selector};
 
 use super::repeats::{Keyed, push_repeats};
 use super::{push_finding, push_if};
 use crate::fault::DictKind;
-use crate::findings::{Finding, Part, Told};
+use crate::findings::{Finding, Part, Recorded};
 use crate::resolving::building::head;
 use crate::resolving::checks::{is_grouped, is_mismatch};
 use crate::resolving::names::{Names, key_of_declaration, key_of_group};
@@ -46,7 +46,7 @@ fn push_lacking<'a>(findings: &mut Vec<Finding<'a>>, names: &Names<'a>) -> Resul
 {
     let decls = names.first_avps();
     for decl in decls {
-        let finding = Told::of(DictKind::NoGroupFormat, &decl.item.name).at(decl.part);
+        let finding = Recorded::of(DictKind::NoGroupFormat, &decl.item.name).at(decl.part);
         push_if(findings, lacks_group(names, decl.item), finding)?;
     }
     Ok(())
@@ -97,7 +97,7 @@ fn mismatch<'a>(names: &Names<'_>, group: PlacedDef<'a>) -> Finding<'a>
         Some(declaration) => Some(declaration.part),
         None => None,
     };
-    Told::of(DictKind::HeaderMismatch, name).at_both(group.part, declaration)
+    Recorded::of(DictKind::HeaderMismatch, name).at_both(group.part, declaration)
 }
 
 /// Adds the AVPs with the key of one before them.
@@ -116,7 +116,7 @@ fn push_keys<'a>(
 /// The declared AVPs, and then the groups without a declaration.
 fn keyed_avps<'a>(alloc: Global, names: &Names<'a>) -> Result<Vec<Keyed<'a, Key>>, AllocError>
     ensures { IfOk result (λ avps. map keyed_key avps.items
-        ≡ map told_key (placed_names (plain_source names.now.source.now))) }
+        ≡ map recorded_key (placed_names (plain_source names.now.source.now))) }
 {
     let mut avps = Vec::new(alloc);
     push_declared(&mut avps, names.first_avps())?;
@@ -129,10 +129,10 @@ fn push_declared<'a>(
     decls: &[PlacedDecl<'a>],
 ) -> Result<(), AllocError>
     ensures { OnOk result (map keyed_key avps.new.items ≡ map keyed_key avps.old.items
-        ++ map told_key (map (λ d. (d.0, (d.1.name, key_of_decl d.1))) (map placed_decl decls.now))) }
+        ++ map recorded_key (map (λ d. (d.0, (d.1.name, key_of_decl d.1))) (map placed_decl decls.now))) }
 {
     for decl in decls {
-        avps.push(told_avp(decl.part, key_of_declaration(decl.item), &decl.item.name))?;
+        avps.push(recorded_avp(decl.part, key_of_declaration(decl.item), &decl.item.name))?;
     }
     Ok(())
 }
@@ -143,24 +143,24 @@ fn push_bare<'a>(
     groups: &[PlacedDef<'a>],
 ) -> Result<(), AllocError>
     ensures { OnOk result (map keyed_key avps.new.items
-        ≡ map keyed_key avps.old.items ++ map told_key (map (λ g. (g.0, (g.1.name, group_key g.1.head)))
+        ≡ map keyed_key avps.old.items ++ map recorded_key (map (λ g. (g.0, (g.1.name, group_key g.1.head)))
         (filter (λ g. is_bare (plain_source names.now.source.now) g.1) (map placed_def groups.now)))) }
 {
     for group in groups {
         if !names.is_declared(&group.item.name) {
-            avps.push(told_avp(group.part, key_of_group(group.item), &group.item.name))?;
+            avps.push(recorded_avp(group.part, key_of_group(group.item), &group.item.name))?;
         }
     }
     Ok(())
 }
 
-fn told_avp(part: Part, key: Key, name: &str) -> Keyed<'_, Key>
-    ensures { keyed_key result ≡ told_key (part, (name.now, key)) }
+fn recorded_avp(part: Part, key: Key, name: &str) -> Keyed<'_, Key>
+    ensures { keyed_key result ≡ recorded_key (part, (name.now, key)) }
 {
     Keyed {
         part,
         key,
-        told: Told::of(DictKind::DuplicateKey, name),
+        recorded: Recorded::of(DictKind::DuplicateKey, name),
     }
 }
 
@@ -183,22 +183,22 @@ fn selecting<'a>(
 ) -> Result<Vec<Keyed<'a, Selector>>, AllocError>
     requires { IsTrue (list_all (λ d. not (is_group d.item.now.head)) commands.now) }
     ensures { IfOk result (λ selecting. map keyed_selector selecting.items
-        ≡ map told_selector (map placed_def commands.now)) }
+        ≡ map recorded_selector (map placed_def commands.now)) }
 {
     let mut selecting = Vec::new(alloc);
     for command in commands {
         let selector = Selector::of(head(command.item.head));
-        selecting.push(told_command(command.part, selector, &command.item.name))?;
+        selecting.push(recorded_command(command.part, selector, &command.item.name))?;
     }
     Ok(selecting)
 }
 
-fn told_command(part: Part, selector: Selector, name: &str) -> Keyed<'_, Selector>
+fn recorded_command(part: Part, selector: Selector, name: &str) -> Keyed<'_, Selector>
     ensures { keyed_selector result ≡ (part, (selector, wrong DuplicateCommand name.now [])) }
 {
     Keyed {
         part,
         key: selector,
-        told: Told::of(DictKind::DuplicateCommand, name),
+        recorded: Recorded::of(DictKind::DuplicateCommand, name),
     }
 }

@@ -7,7 +7,7 @@ ghost use Rattle.dia_dict.specs.SourceChecks.{plain_finding};
 
 use super::push_if;
 use crate::fault::DictKind;
-use crate::findings::{Finding, PartKind, Told};
+use crate::findings::{Finding, PartKind, Recorded};
 use crate::resolving::checks::{MAX_PARTS, is_long};
 use dia_ccf::{Decl, Def, Source};
 use std::alloc::AllocError;
@@ -33,7 +33,7 @@ fn push_many(findings: &mut Vec<Finding<'_>>, source: &Source) -> Result<(), All
     push_if(
         findings,
         parts > MAX_PARTS,
-        Told::of(DictKind::Limit, "").of_source(),
+        Recorded::of(DictKind::Limit, "").of_source(),
     )
 }
 
@@ -63,7 +63,7 @@ fn push_long<'a>(
         ++ too_many_rules (placed (part_at kind) (map plain_def defs.now))) }
 {
     for (index, def) in defs.iter().enumerate() {
-        let finding = Told::of(DictKind::Limit, &def.name).at(kind.at(index));
+        let finding = Recorded::of(DictKind::Limit, &def.name).at(kind.at(index));
         push_if(findings, is_long(def), finding)?;
     }
     Ok(())

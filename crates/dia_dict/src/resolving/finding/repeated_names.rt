@@ -8,7 +8,7 @@ ghost use Rattle.dia_dict.specs.SourceChecks.{plain_finding, keyed_text};
 
 use super::repeats::{Keyed, push_repeats};
 use crate::fault::DictKind;
-use crate::findings::{Finding, Part, PartKind, Told};
+use crate::findings::{Finding, Part, PartKind, Recorded};
 use crate::resolving::parts::Named;
 use dia_ccf::Source;
 use std::alloc::{AllocError, Global};
@@ -49,6 +49,6 @@ fn named(part: Part, name: &str) -> Keyed<'_, &str>
     Keyed {
         part,
         key: name,
-        told: Told::of(DictKind::DuplicateName, name),
+        recorded: Recorded::of(DictKind::DuplicateName, name),
     }
 }

@@ -4,10 +4,10 @@ ghost use Rattle.std.specs.Prelude.{if◌then◌else◌};
 ghost use Rattle.std.specs.Option.{option_map_or};
 ghost use Rattle.indexmap.specs.IndexMap.{get};
 ghost use Rattle.dia_dict.specs.Resolution.{finding, repeats};
-ghost use Rattle.dia_dict.specs.SourceChecks.{told, plain_finding};
+ghost use Rattle.dia_dict.specs.SourceChecks.{recorded, plain_finding};
 
 use super::push_finding;
-use crate::findings::{Finding, Part, Told};
+use crate::findings::{Finding, Part, Recorded};
 use crate::resolving::noting::note;
 use indexmap::IndexMap;
 use std::alloc::{AllocError, Global};
@@ -18,7 +18,7 @@ use std::hash::Hash;
 pub(super) struct Keyed<'a, T> {
     pub part: Part,
     pub key: T,
-    pub told: Told<'a>,
+    pub recorded: Recorded<'a>,
 }
 
 /// Adds what is reported of the items that are equal to one before them.
@@ -28,12 +28,12 @@ pub(super) fn push_repeats<'a, T: Eq + Hash + Copy>(
     items: &[Keyed<'a, T>],
 ) -> Result<(), AllocError>
     ensures { OnOk result (map plain_finding findings.new.items ≡ map plain_finding findings.old.items
-        ++ map (λ p. finding (told p.0.told) p.0.part (Some p.1.part))
+        ++ map (λ p. finding (recorded p.0.recorded) p.0.part (Some p.1.part))
         (repeats (λ a b. T.eq a.key b.key) [] items.now)) }
 {
     let mut parts = Box::new(alloc, IndexMap::new(alloc))?;
     for item in items {
-        push_repeat(findings, &mut parts, item.key, item.part, item.told)?;
+        push_repeat(findings, &mut parts, item.key, item.part, item.recorded)?;
     }
     Ok(())
 }
@@ -44,10 +44,10 @@ fn push_repeat<'a, T: Eq + Hash + Copy>(
     parts: &mut IndexMap<T, Part>,
     key: T,
     part: Part,
-    fault: Told<'a>,
+    fault: Recorded<'a>,
 ) -> Result<(), AllocError>
     ensures findings { OnOk result (map plain_finding findings.new.items ≡ map plain_finding findings.old.items
-        ++ option_map_or (λ first. finding (told fault.entry) part (Some first) ∷ []) (get T.eq parts.old key) []) }
+        ++ option_map_or (λ first. finding (recorded fault.entry) part (Some first) ∷ []) (get T.eq parts.old key) []) }
     ensures parts { OnOk result (parts.new.entries ≡ (if is_some (get T.eq parts.old key)
         then parts.old.entries else parts.old.entries ++ (key, part) ∷ [])) }
 {

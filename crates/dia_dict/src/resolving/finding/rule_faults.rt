@@ -11,7 +11,7 @@ ghost use Rattle.dia_dict.specs.SourceChecks.{plain_finding, placed_def, keyed_t
 use super::push_if;
 use super::repeats::{Keyed, push_repeats};
 use crate::fault::DictKind;
-use crate::findings::{Finding, PartKind, Told};
+use crate::findings::{Finding, PartKind, Recorded};
 use crate::resolving::names::Names;
 use crate::resolving::parts::{Placed, PlacedDef};
 use crate::resolving::rules::is_bad;
@@ -100,11 +100,11 @@ fn push_rule<'a>(
         then finding (wrong kind (placed_def def.entry).1.name (slot_name (plain_rule rule.now)))
         (rule_at def.entry.part index) None ∷ [] else [])) }
 {
-    let told = Told::of_rule(kind, &def.item.name, rule.slot_name());
+    let recorded = Recorded::of_rule(kind, &def.item.name, rule.slot_name());
     push_if(
         findings,
         is_bad(names, kind, rule),
-        told.at(def.part.rule_at(index)),
+        recorded.at(def.part.rule_at(index)),
     )
 }
 
@@ -174,6 +174,6 @@ fn slot_in<'a>(def: PlacedDef<'a>, index: usize, rule: &'a Rule) -> Keyed<'a, &'
     Keyed {
         part: def.part.rule_at(index),
         key: slot,
-        told: Told::of_rule(DictKind::RepeatedSlot, &def.item.name, slot),
+        recorded: Recorded::of_rule(DictKind::RepeatedSlot, &def.item.name, slot),
     }
 }

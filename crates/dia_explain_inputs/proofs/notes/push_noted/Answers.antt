@@ -8,6 +8,6 @@ returns-in-Some c =
     let name = c.args.input.now.name.now in
     let text = c.args.input.now.text.now in
     let old = c.args.note.now in
-    let mid = c.push_told.new.note in
+    let mid = c.push_recorded.new.note in
     begins_more (place_text name text c.args.at) (codes "hint: " ++ c.in-Some.hint.now ++ codes "\n") old mid c.put_hint.new.self
-    (begins_note name text c.args.told.now c.args.at old mid c.push_told.ensures) c.put_hint.ensures
+    (begins_note name text c.args.recorded.now c.args.at old mid c.push_recorded.ensures) c.put_hint.ensures

@@ -2,19 +2,19 @@
 //! fault.
 
 use super::parts::Parts;
-use super::told::ToldFault;
+use super::recorded::RecordedFault;
 use super::values::{push_value, word_named};
 use dia_ccf::{Decl, FormatName, Head, Qual, Rule, RuleKind};
 use dia_dict::{DictKind, Part, PartKind};
 use dia_explain_places::Note;
 
-pub fn text_of(parts: &Parts<'_>, fault: &ToldFault<'_>) -> &'static str {
+pub fn text_of(parts: &Parts<'_>, fault: &RecordedFault<'_>) -> &'static str {
     let part = fault.finding.part;
     let Some(Part { kind, .. }) = part else {
         return "$parts$ declarations, groups and commands; a dictionary has at most $limit$\n\
                 leave out what the comparison doesn't need";
     };
-    match fault.finding.told.kind {
+    match fault.finding.recorded.kind {
         DictKind::Limit => "$name$ has $rules$ rules; a definition has at most $limit$\n\
              leave out what the comparison doesn't need",
         DictKind::DuplicateName => match kind {
@@ -85,7 +85,7 @@ fn text_of_counts(rule: Option<&Rule>) -> &'static str {
 }
 
 /// Adds a text with the values of a fault.
-pub fn push_filled(note: &mut Note, parts: &Parts<'_>, fault: &ToldFault<'_>, text: &str) {
+pub fn push_filled(note: &mut Note, parts: &Parts<'_>, fault: &RecordedFault<'_>, text: &str) {
     let mut is_word = false;
     for piece in text.split('$') {
         match word_named(piece) {

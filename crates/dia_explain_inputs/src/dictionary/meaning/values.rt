@@ -1,7 +1,7 @@
 //! The values of the words in texts on faults of meaning.
 
 use super::parts::Parts;
-use super::told::ToldFault;
+use super::recorded::RecordedFault;
 use crate::notes::push_line_column;
 use dia_ccf::{Head, Rule};
 use dia_dict::{MAX_PARTS, MAX_RULES, Part, greatest_count, least_count};
@@ -56,11 +56,11 @@ pub fn word_named(name: &str) -> Option<Word> {
 }
 
 /// Adds the value of a word.
-pub fn push_value(note: &mut Note, parts: &Parts<'_>, fault: &ToldFault<'_>, word: Word) {
+pub fn push_value(note: &mut Note, parts: &Parts<'_>, fault: &RecordedFault<'_>, word: Word) {
     let finding = fault.finding;
     match word {
-        Word::Name => note.put(finding.told.name),
-        Word::Slot => note.put(finding.told.slot),
+        Word::Name => note.put(finding.recorded.name),
+        Word::Slot => note.put(finding.recorded.slot),
         Word::First => note.put(parts.name(fault.other).unwrap_or("")),
         Word::Declared => push_coded(note, parts.key(fault.other)),
         Word::More => push_more(note, fault.more),

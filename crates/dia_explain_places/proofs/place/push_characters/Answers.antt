@@ -8,4 +8,4 @@ use Rattle.dia_explain_places.proofs.place.push_characters.Goals as goal
 pub returns : goal.returns
 returns c =
     let end = YieldsList-end (YieldsList-from_chars c.args.text.now c.utf8.text cc) c.loop-c.yielded _ c.loop-c.yielded_by _ _ c.in-None.is c.next.ensures.steps in
-    c.loop-c.invariant ∙ ap (λ told. string_bytes c.args.out.now ++ flat_map shown_char told) (sym (map-id c.loop-c.yielded) ∙ end.0)
+    c.loop-c.invariant ∙ ap (λ recorded. string_bytes c.args.out.now ++ flat_map shown_char recorded) (sym (map-id c.loop-c.yielded) ∙ end.0)

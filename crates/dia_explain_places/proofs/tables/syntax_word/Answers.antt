@@ -1,7 +1,7 @@
 use Rattle.std.proofs.Common.{◌≡◌, sym, ap, ap₂, ◌∙◌}
 use Rattle.std.specs.Prelude.{unwrap_or}
 use Rattle.dia_tables.specs.Words.{PlainWords, plain_words, word_of, wrong_part}
-use Rattle.dia_tables.specs.declared.PairPart.TheVariants.{Behind}
+use Rattle.dia_tables.specs.declared.PairPart.TheVariants.{After}
 use Rattle.dia_tables.specs.declared.PairPart.{PairPart}
 use Rattle.dia_explain_places.specs.Places.{line_at}
 use Rattle.dia_explain_places.proofs.TableWords.{IsWordAt, words_are, place_is, on_line}
@@ -11,7 +11,7 @@ pub returns-clause-part : goal.returns-clause-part
 returns-clause-part c =
     let words = plain_words c.words_of-words.result in
     let are = words_are c.args.text.now c.line_from.result.now c.args.line c.start_of_line-start.result words c.line_from.ensures.line c.words_of-words.ensures c.start_of_line-start.ensures.start in
-    c.refused_word.ensures.part ∙ (c.unwrap_or-part.ensures ∙ ap (λ o. unwrap_or o Behind) c.wrong_part.ensures) ∙ ap (λ (w : PlainWords). unwrap_or (wrong_part w) Behind) are
+    c.refused_word.ensures.part ∙ (c.unwrap_or-part.ensures ∙ ap (λ o. unwrap_or o After) c.wrong_part.ensures) ∙ ap (λ (w : PlainWords). unwrap_or (wrong_part w) After) are
 
 pub returns-clause-text : goal.returns-clause-text
 returns-clause-text c =
@@ -24,8 +24,8 @@ returns-clause-place c =
     let words = plain_words c.words_of-words.result in
     let is : IsWordAt c.args.text.now c.line_from.result.now c.start_of_line-start.result words c.unwrap_or-part.result c.refused_word.result.at
     = record { is_line = c.line_from.ensures.line; are_words = c.words_of-words.ensures; within = c.line_from.ensures.within; is_at = c.refused_word.ensures.place } in
-    place_is c.args.text.now c.line_from.result.now c.args.line c.start_of_line-start.result words (λ (w : PlainWords). unwrap_or (wrong_part w) Behind) c.unwrap_or-part.result c.refused_word.result.at is
-    c.start_of_line-start.ensures.start (c.unwrap_or-part.ensures ∙ ap (λ o. unwrap_or o Behind) c.wrong_part.ensures)
+    place_is c.args.text.now c.line_from.result.now c.args.line c.start_of_line-start.result words (λ (w : PlainWords). unwrap_or (wrong_part w) After) c.unwrap_or-part.result c.refused_word.result.at is
+    c.start_of_line-start.ensures.start (c.unwrap_or-part.ensures ∙ ap (λ o. unwrap_or o After) c.wrong_part.ensures)
 
 pub returns-clause-on_line : goal.returns-clause-on_line
 returns-clause-on_line c k within here =

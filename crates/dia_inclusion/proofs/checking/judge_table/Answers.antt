@@ -4,7 +4,7 @@ use Rattle.dia_tables.specs.TableText.{plain_table}
 use Rattle.dia_inclusion.specs.Sides.{Compared}
 use Rattle.dia_inclusion.specs.FirstFailures.{IsAnswerOf}
 use Rattle.dia_inclusion.specs.Failings.{AreFailingsIn}
-use Rattle.dia_inclusion.proofs.ComparisonAnswers.{told_included, told_failings, told_none}
+use Rattle.dia_inclusion.proofs.ComparisonAnswers.{recorded_included, recorded_failings, recorded_none}
 use Rattle.dia_inclusion.proofs.checking.judge_table.Goals as goal
 
 pub returns-clause-answer : goal.returns-clause-answer
@@ -12,18 +12,18 @@ returns-clause-answer g c = subst (λ (z : Compared). IfOk c.verdict.result (λ 
 
 pub returns-clause-inclusion : goal.returns-clause-inclusion
 returns-clause-inclusion g c =
-    told_included (g.A.Book.meaning c.args.a.now) (g.B.Book.meaning c.args.b.now) c.args.unknown (plain_table c.args.table.now) c.verdict.result
+    recorded_included (g.A.Book.meaning c.args.a.now) (g.B.Book.meaning c.args.b.now) c.args.unknown (plain_table c.args.table.now) c.verdict.result
     (g.met.A.Book.sound c.args.a.now) (g.met.B.Book.sound c.args.b.now)
     (subst (λ (z : Compared). IfOk c.verdict.result (λ v. IsAnswerOf z v.answer)) (c.deref.ensures ∙ c.in_ok-comparison.ensures) c.verdict.ensures.answer)
 
 pub returns-clause-failings : goal.returns-clause-failings
 returns-clause-failings g c =
-    told_failings (g.A.Book.meaning c.args.a.now) (g.B.Book.meaning c.args.b.now) c.args.unknown (plain_table c.args.table.now) c.verdict.result
+    recorded_failings (g.A.Book.meaning c.args.a.now) (g.B.Book.meaning c.args.b.now) c.args.unknown (plain_table c.args.table.now) c.verdict.result
     (subst (λ (z : Compared). IfOk c.verdict.result (λ v. AreFailingsIn z v.answer v.failings.items)) (c.deref.ensures ∙ c.in_ok-comparison.ensures) c.verdict.ensures.failings)
 
 pub returns-clause-none : goal.returns-clause-none
 returns-clause-none g c =
-    told_none (g.A.Book.meaning c.args.a.now) (g.B.Book.meaning c.args.b.now) c.args.unknown (plain_table c.args.table.now) c.verdict.result
+    recorded_none (g.A.Book.meaning c.args.a.now) (g.B.Book.meaning c.args.b.now) c.args.unknown (plain_table c.args.table.now) c.verdict.result
     (g.met.A.Book.sound c.args.a.now) (g.met.B.Book.sound c.args.b.now)
     (subst (λ (z : Compared). IfOk c.verdict.result (λ v. IsAnswerOf z v.answer)) (c.deref.ensures ∙ c.in_ok-comparison.ensures) c.verdict.ensures.answer)
     (subst (λ (z : Compared). IfOk c.verdict.result (λ v. AreFailingsIn z v.answer v.failings.items)) (c.deref.ensures ∙ c.in_ok-comparison.ensures) c.verdict.ensures.failings)

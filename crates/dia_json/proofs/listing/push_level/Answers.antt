@@ -1,5 +1,5 @@
 use Rattle.std.proofs.Common.{ℕ, ◌+◌, ◌-◌, length, refl, sym, ap, ◌∙◌, arith}
-use Rattle.dia_json.proofs.ObjectsOfLevels.{started, leaf_added, group_entered, level_ended, all_ended, bad_found, less_after, less_behind, less_inside, room, level_at_place}
+use Rattle.dia_json.proofs.ObjectsOfLevels.{started, leaf_added, group_entered, level_ended, all_ended, bad_found, less_after, less_following, less_inside, room, level_at_place}
 use Rattle.dia_json.proofs.listing.push_level.Goals as goal
 
 pub loop-avp-init : goal.loop-avp-init
@@ -14,7 +14,7 @@ overflow_add-rest-then-is_group g c =
 pub loop-avp-preserved-then-is_group : goal.loop-avp-preserved-then-is_group
 loop-avp-preserved-then-is_group g c =
     rw c.in_ok-push-in-Ok-Some.ensures.items
-    (group_entered _ _ _ _ _ _ _ _ (record { bytes = c.in-Ok-Some.behind; end = c.loop-avp.rest.end }) _ _ _ c.loop-avp.invariant (rw c.in-Ok-Some.field-0-is at c.in-Ok-Some.ensures.avp) refl refl
+    (group_entered _ _ _ _ _ _ _ _ (record { bytes = c.in-Ok-Some.following; end = c.loop-avp.rest.end }) _ _ _ c.loop-avp.invariant (rw c.in-Ok-Some.field-0-is at c.in-Ok-Some.ensures.avp) refl refl
     (ap (λ (n : ℕ). c.loop-avp.rest.end - length c.loop-avp.rest.bytes.now + n) c.length.ensures) (c.len.ensures ∙ c.loop-avp.outer.ok.0)
     (rw c.if-is_group.true at c.in_ok-is_group-in-Ok-Some.ensures))
 
@@ -34,11 +34,11 @@ returns-in-Err-Length g c = bad_found _ _ _ _ _ _ _ _ c.loop-avp.invariant c.in-
 
 pub loop-avp-smaller-then-is_group : goal.loop-avp-smaller-then-is_group
 loop-avp-smaller-then-is_group g c =
-    less_inside _ _ (record { bytes = c.in-Ok-Some.behind; end = c.loop-avp.rest.end }) c.loop-avp.outer.items _ (rw c.in-Ok-Some.field-0-is at c.in-Ok-Some.ensures.avp)
+    less_inside _ _ (record { bytes = c.in-Ok-Some.following; end = c.loop-avp.rest.end }) c.loop-avp.outer.items _ (rw c.in-Ok-Some.field-0-is at c.in-Ok-Some.ensures.avp)
     c.in_ok-push-in-Ok-Some.ensures.items
 
 pub loop-avp-smaller-else-is_group : goal.loop-avp-smaller-else-is_group
-loop-avp-smaller-else-is_group g c = less_behind _ _ _ c.loop-avp.outer.items (rw c.in-Ok-Some.field-0-is at c.in-Ok-Some.ensures.avp)
+loop-avp-smaller-else-is_group g c = less_following _ _ _ c.loop-avp.outer.items (rw c.in-Ok-Some.field-0-is at c.in-Ok-Some.ensures.avp)
 
 pub loop-avp-smaller : goal.loop-avp-smaller
 loop-avp-smaller g c = less_after _ c.loop-avp.outer.items _ _ c.in-Some.ensures.items

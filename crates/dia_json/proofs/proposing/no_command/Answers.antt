@@ -1,5 +1,5 @@
-use Rattle.dia_json.proofs.Pairs.{no_command_told}
+use Rattle.dia_json.proofs.Pairs.{no_command_recorded}
 use Rattle.dia_json.proofs.proposing.no_command.Goals as goal
 
 pub returns-clause-text : goal.returns-clause-text
-returns-clause-text c = no_command_told c.args.name.now _ _ c.in_ok-name.ensures c.in_ok-text.ensures.ok
+returns-clause-text c = no_command_recorded c.args.name.now _ _ c.in_ok-name.ensures c.in_ok-text.ensures.ok

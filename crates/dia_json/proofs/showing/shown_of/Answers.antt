@@ -7,9 +7,9 @@ use Rattle.dia_json.proofs.showing.shown_of.Goals as goal
 pub objects_of-requires : goal.objects_of-requires
 objects_of-requires g c = c.requires.room
 
-pub returns-clause-told : goal.returns-clause-told
-returns-clause-told g c =
+pub returns-clause-recorded : goal.returns-clause-recorded
+returns-clause-recorded g c =
     IfOk-weaker c.objects_of.result _ _
     (λ shown is. message_is (plain_manner_of c.args.manner.now) (g.B.Book.meaning c.args.book.now) c.args.bytes.now c.args.body.now c.args.header.now (length c.args.bytes.now) _ _
     c.requires.head c.requires.long c.requires.body refl is)
-    c.objects_of.ensures.told
+    c.objects_of.ensures.recorded

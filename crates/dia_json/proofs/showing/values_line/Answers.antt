@@ -1,6 +1,6 @@
 use Rattle.std.proofs.Common.{◌≡◌, ◌∙◌, sym}
 use Rattle.std.proofs.lemmas.Result.{IfOk-weaker}
-use Rattle.dia_json.proofs.Shown.{long_is, no_text_is, syntax_told, duplicate_told, limit_told}
+use Rattle.dia_json.proofs.Shown.{long_is, no_text_is, syntax_recorded, duplicate_recorded, limit_recorded}
 use Rattle.dia_json.proofs.showing.values_line.Goals as goal
 
 pub returns-in-TooLong : goal.returns-in-TooLong
@@ -11,10 +11,10 @@ returns-in-NotText c =
     rw c.in-NotText.is (IfOk-weaker c.from_str-in-NotText.result _ _ (λ text is. is ∙ sym (no_text_is c.in-NotText.at)) c.from_str-in-NotText.ensures.ok)
 
 pub returns-in-Syntax : goal.returns-in-Syntax
-returns-in-Syntax c = rw c.in-Syntax.is (IfOk-weaker c.format.result _ _ (λ text is. syntax_told c.in-Syntax.line _ is) c.format.ensures.ok)
+returns-in-Syntax c = rw c.in-Syntax.is (IfOk-weaker c.format.result _ _ (λ text is. syntax_recorded c.in-Syntax.line _ is) c.format.ensures.ok)
 
 pub returns-in-Duplicate : goal.returns-in-Duplicate
-returns-in-Duplicate c = rw c.in-Duplicate.is (IfOk-weaker c.format-in-Duplicate.result _ _ (λ text is. duplicate_told c.in-Duplicate.line _ is) c.format-in-Duplicate.ensures.ok)
+returns-in-Duplicate c = rw c.in-Duplicate.is (IfOk-weaker c.format-in-Duplicate.result _ _ (λ text is. duplicate_recorded c.in-Duplicate.line _ is) c.format-in-Duplicate.ensures.ok)
 
 pub returns-in-Limit : goal.returns-in-Limit
-returns-in-Limit c = rw c.in-Limit.is (IfOk-weaker c.format-in-Limit.result _ _ (λ text is. limit_told c.in-Limit.line _ is) c.format-in-Limit.ensures.ok)
+returns-in-Limit c = rw c.in-Limit.is (IfOk-weaker c.format-in-Limit.result _ _ (λ text is. limit_recorded c.in-Limit.line _ is) c.format-in-Limit.ensures.ok)

@@ -8,7 +8,7 @@ loop-pieces_left-init g c = record {
   sound_feed = c.requires.sound_feed;
   sound_sink = c.requires.sound_sink;
   few = omega arith;
-  are_read = first_read (g.J.Judge.says c.args.judge.now) (g.J.Judge.told c.args.judge.now) g.W.Watch.saw (g.F.Feed.remaining c.args.feed.now)
+  are_read = first_read (g.J.Judge.says c.args.judge.now) (g.J.Judge.recorded c.args.judge.now) g.W.Watch.saw (g.F.Feed.remaining c.args.feed.now)
       (g.S.Sink.written c.args.sink.now) c.args.watch.now c.new-answered.result c.new-answered.ensures.line c.new-answered.ensures.count c.new-answered.ensures.text;
 }
 

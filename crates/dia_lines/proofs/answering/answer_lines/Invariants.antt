@@ -9,7 +9,7 @@ invariant-loop-pieces_left g l = record {
   sound_feed : ¬ IsTrue (g.F.Feed.has_failed l.feed);
   sound_sink : ¬ IsTrue (g.S.Sink.has_failed l.sink);
   few : l.pieces_left ≤ most_pieces;
-  are_read : AreRead (g.J.Judge.says l.judge) (g.J.Judge.told l.judge) g.W.Watch.saw (g.F.Feed.remaining l.initial.feed) (g.F.Feed.remaining l.feed)
+  are_read : AreRead (g.J.Judge.says l.judge) (g.J.Judge.recorded l.judge) g.W.Watch.saw (g.F.Feed.remaining l.initial.feed) (g.F.Feed.remaining l.feed)
       (g.S.Sink.written l.initial.sink) (g.S.Sink.written l.sink) l.initial.watch l.watch l.answered (most_pieces - l.pieces_left);
 }
 

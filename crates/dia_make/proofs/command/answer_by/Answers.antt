@@ -7,4 +7,4 @@ pub returns-in-Ok-clause-outcome : goal.returns-in-Ok-clause-outcome
 returns-in-Ok-clause-outcome c = made _ c.requires.1 (rw c.deref.ensures at (rw c.in-Ok.is at c.in_ok-text.ensures.made)) refl
 
 pub returns-in-Err-clause-outcome : goal.returns-in-Err-clause-outcome
-returns-in-Err-clause-outcome c = not_made c.args.inputs.now _ _ _ c.requires.1 (rw c.deref.ensures at (rw c.in-Err.is at c.in_ok-text.ensures.none)) c.tell.ensures.text c.tell.ensures.exit
+returns-in-Err-clause-outcome c = not_made c.args.inputs.now _ _ _ c.requires.1 (rw c.deref.ensures at (rw c.in-Err.is at c.in_ok-text.ensures.none)) c.deliver.ensures.text c.deliver.ensures.exit

@@ -10,19 +10,19 @@ use Rattle.dia_peer.proofs.applications.are_distinct.Goals as goal
 abbrev none : App
 none = record { kind = Auth; id = 0; vendor = None }
 
-pub returns-then-stands_again : goal.returns-then-stands_again
-returns-then-stands_again c = let apps = c.args.apps.now in let place = c.loop-place.place in (
+pub returns-then-occurs_again : goal.returns-then-occurs_again
+returns-then-occurs_again c = let apps = c.args.apps.now in let place = c.loop-place.place in (
   λ t. absurd cc,
   λ d. absurd (decides_none apps (drop (place + 1) apps) (get_or apps place none)
       (decides_at apps place none c.loop-place-test.true c.loop-place.invariant)
-      (c.if-stands_again.ensures (get_or apps place none) (slice_get-get_or apps place none c.loop-place-test.true)) d),
+      (c.if-occurs_again.ensures (get_or apps place none) (slice_get-get_or apps place none c.loop-place-test.true)) d),
 )
 
 pub loop-place-preserved : goal.loop-place-preserved
 loop-place-preserved c = let apps = c.args.apps.now in let place = c.loop-place.place in
     decides_more apps (drop (place + 1) apps) (get_or apps place none)
     (decides_at apps place none c.loop-place-test.true c.loop-place.invariant)
-    (c.if-stands_again.ensures (get_or apps place none) (slice_get-get_or apps place none c.loop-place-test.true))
+    (c.if-occurs_again.ensures (get_or apps place none) (slice_get-get_or apps place none c.loop-place-test.true))
 
 pub returns : goal.returns
 returns c = (

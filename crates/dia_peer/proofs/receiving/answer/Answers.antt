@@ -2,9 +2,9 @@ use Rattle.std.proofs.Common.{◌↔◌, ℕ, false, sym, subst}
 use Rattle.dia_wire.specs.Wire.{SpellsAll}
 use Rattle.dia_peer.specs.Core.{Pair}
 use Rattle.dia_peer.specs.Messages.{IsGood}
-use Rattle.dia_peer.specs.Incoming.{Has, Tells, SaidBy}
+use Rattle.dia_peer.specs.Incoming.{Has, Records, SaidBy}
 use Rattle.dia_peer.proofs.ValidMessageAvps.{reads, answer_good, third}
-use Rattle.dia_peer.proofs.ToldApplications.{rest_of, advertised, has_result}
+use Rattle.dia_peer.proofs.RecordedApplications.{rest_of, advertised, has_result}
 use Rattle.dia_peer.proofs.ResultCode.{cea_placed, cea_has_result}
 use Rattle.dia_peer.proofs.receiving.answer.Goals as goal
 
@@ -29,7 +29,7 @@ returns-then-header-eq-CAPABILITIES_EXCHANGE c =
     let h = c.args.header.now in let b = c.args.bytes.now in let r = reads h b c.requires.head c.requires.valid in
     let good = answer_good h b c.ids_of-ids.result r c.requires.valid c.requires.clear c.ids_of-ids.ensures in
     let body = subst (SpellsAll r.avps) (sym (rest_of b)) r.body in
-    let named : (p : Pair) → Has c.in_ok-named.named p ↔ SaidBy Tells r.avps p = c.in_ok-named.ensures.told r.avps body r.readable in (
+    let named : (p : Pair) → Has c.in_ok-named.named p ↔ SaidBy Records r.avps p = c.in_ok-named.ensures.recorded r.avps body r.readable in (
       r.avps,
       subst (λ (n : ℕ). IsGood b n false false c.ids_of-ids.result r.avps) c.if-header-eq-CAPABILITIES_EXCHANGE.true good,
       has_result r.avps c.in-Some.result_code (c.in-Some.ensures r.avps body r.coded),

@@ -27,6 +27,6 @@ returns-in-Ok-clause-some c =
 
 pub returns-in-Err-clause-none : goal.returns-in-Err-clause-none
 returns-in-Err-clause-none c is =
-    let told = c.in-Err.ensures in
-    no_length c.args.bytes.now c.in-Err.field-0 (λ e. told.short.0 (ap Err e))
-    (λ e. told.version.0 (ap Err e)) (λ e. told.length_fault.0 (ap Err e)) (λ e. told.truncated.0 (ap Err e)) (λ e. told.trailing.0 (ap Err e))
+    let recorded = c.in-Err.ensures in
+    no_length c.args.bytes.now c.in-Err.field-0 (λ e. recorded.short.0 (ap Err e))
+    (λ e. recorded.version.0 (ap Err e)) (λ e. recorded.length_fault.0 (ap Err e)) (λ e. recorded.truncated.0 (ap Err e)) (λ e. recorded.trailing.0 (ap Err e))

@@ -6,4 +6,4 @@ pub returns-in-Ok : goal.returns-in-Ok
 returns-in-Ok g c = run _ c.run.ensures
 
 pub returns-in-Err : goal.returns-in-Err
-returns-in-Err g c = unread c.in-Err.ending c.in-Err.ensures (c.requires.out, refl) c.tell_error.ensures
+returns-in-Err g c = unread c.in-Err.ending c.in-Err.ensures (c.requires.out, refl) c.report_error.ensures

@@ -8,9 +8,9 @@ ghost use Rattle.dia_check.specs.declared.Unknown.{Unknown as AnyPolicy};
 ghost use Rattle.dia_check.specs.declared.Levels.{Levels as AnyLevels};
 ghost use Rattle.dia_check.specs.Faults.{IsAnswer};
 ghost use Rattle.dia_check.specs.Streaming.{taken_of};
-ghost use Rattle.dia_check.specs.Streams.{StandsFor, IsSpent};
+ghost use Rattle.dia_check.specs.Streams.{Denotes, IsSpent};
 ghost use Rattle.dia_run.specs.Texts.{IsMessageText, IsNoMessageText, SpellsFirst, digits_of};
-ghost use Rattle.dia_report.specs.Refusals.{TellsOf};
+ghost use Rattle.dia_report.specs.Refusals.{RecordsOf};
 ghost use Rattle.dia_run.specs.FedTexts.{WasFed, IsEndless, IsNoHexadecimal};
 
 use crate::inputs::message::message_text;
@@ -48,7 +48,7 @@ pub(crate) fn check_message<B: Book>(
     ensures message { IfOk result (λ checked. IsMessageText input.now checked.bytes.items) }
     ensures answer { IfOk result
         (λ checked. IsAnswer (B.meaning book.now) unknown levels checked.bytes.items checked.answer) }
-    ensures told { IfErr result (TellsOf (IsNoMessageText input.now)) }
+    ensures recorded { IfErr result (RecordsOf (IsNoMessageText input.now)) }
 {
     let text = message_text(input)?;
     let mut bytes = Vec::with_capacity(alloc, text.len() / 2)?;
@@ -70,10 +70,10 @@ fn feed_text<'a, B: Book>(
     requires empty { bytes.old.items ≡ [] }
     ensures spelled { OnOk result (decode_of (digits_of text.now) ≡ Ok bytes.new.items) }
     ensures fed { IfOk result (λ trailing. (d : Dictionary) (u : AnyPolicy) (most : AnyLevels)
-        → StandsFor B.meaning stream.old d u most []
+        → Denotes B.meaning stream.old d u most []
         → WasFed B.meaning stream.new d u most bytes.new.items trailing) }
     ensures goes_on { OnOk result (¬ IsSpent stream.new) }
-    ensures told { IfErr result (TellsOf (IsNoHexadecimal text.now)) }
+    ensures recorded { IfErr result (RecordsOf (IsNoHexadecimal text.now)) }
 {
     let mut fed = Fed {
         rest: text,
@@ -101,7 +101,7 @@ fn feed_piece<'a, 'b, B: Book>(
     ensures shorter { 0 < length fed.entry.rest.now
         → IfOk result (λ next. length next.rest.now < length fed.entry.rest.now) }
     ensures goes_on { OnOk result (¬ IsSpent stream.new) }
-    ensures told { IfErr result (TellsOf (IsNoHexadecimal fed.entry.rest.now)) }
+    ensures recorded { IfErr result (RecordsOf (IsNoHexadecimal fed.entry.rest.now)) }
 {
     let mut space = [0u8; MAX_PIECE];
     let piece = next_piece(fed.rest, &mut space)?;

@@ -7,7 +7,7 @@ use Rattle.dia_show.proofs.command.attempt.Goals as goal
 pub returns-in_err-first-clause-outcome : goal.returns-in_err-first-clause-outcome
 returns-in_err-first-clause-outcome c =
     let p = err_from_is_err_and c.from_residual.result c.from_residual.ensures.1 in
-    rw (p.1, p.2) (gives_no_dictionary c.args.names c.args.inputs.now _ c.in_err-first.ensures.told)
+    rw (p.1, p.2) (gives_no_dictionary c.args.names c.args.inputs.now _ c.in_err-first.ensures.recorded)
 
 pub returns-in_err-manner-clause-outcome : goal.returns-in_err-manner-clause-outcome
 returns-in_err-manner-clause-outcome c = let p = err_from_is_err_and c.from_residual-in_err-manner.result c.from_residual-in_err-manner.ensures.1 in rw (p.1, p.2) tt

@@ -6,7 +6,7 @@ use Rattle.dia_show.proofs.command.listed.Goals as goal
 pub returns-in_err-message-clause-outcome : goal.returns-in_err-message-clause-outcome
 returns-in_err-message-clause-outcome c = λ is_read are_words.
     let p = err_from_is_err_and c.from_residual.result c.from_residual.ensures.1 in
-    rw (p.1, p.2) (gives_no_message c.args.manner.now.names c.args.inputs.now _ _ _ is_read.1 are_words c.in_err-message.ensures.told)
+    rw (p.1, p.2) (gives_no_message c.args.manner.now.names c.args.inputs.now _ _ _ is_read.1 are_words c.in_err-message.ensures.recorded)
 
 pub returns-in_err-text-clause-outcome : goal.returns-in_err-text-clause-outcome
 returns-in_err-text-clause-outcome c = λ is_read are_words.

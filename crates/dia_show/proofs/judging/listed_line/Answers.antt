@@ -6,7 +6,7 @@ use Rattle.dia_show.proofs.judging.listed_line.Goals as goal
 pub returns-in_err-message : goal.returns-in_err-message
 returns-in_err-message g c =
     let p = err_from_is_err_and c.from_residual.result c.from_residual.ensures.1 in
-    rw (p.1, p.2) (line_refused (plain_manner_of c.args.manner.now) _ c.args.line.now _ c.in_err-message.ensures.told)
+    rw (p.1, p.2) (line_refused (plain_manner_of c.args.manner.now) _ c.args.line.now _ c.in_err-message.ensures.recorded)
 
 pub returns : goal.returns
 returns g c =

@@ -10,7 +10,7 @@ use Rattle.dia_show.proofs.listing.push_avp.Goals as goal
 pub returns-in_default : goal.returns-in_default
 returns-in_default g c =
     let is_none = c.in_default.ensures ∙ ap (λ (key : Key). entry_of (g.B.Book.meaning c.args.book.now) key) c.key.ensures in
-    unknown_added (plain_manner_of c.args.manner.now) _ _ _ _ _ _ _ is_none c.in_ok-push_columns.ensures c.in_ok-push_name_and_told.ensures
+    unknown_added (plain_manner_of c.args.manner.now) _ _ _ _ _ _ _ is_none c.in_ok-push_columns.ensures c.in_ok-push_name_and_recorded.ensures
 
 pub returns-in_ok-push_str-in-Grouped-2 : goal.returns-in_ok-push_str-in-Grouped-2
 returns-in_ok-push_str-in-Grouped-2 g c =
@@ -20,8 +20,8 @@ returns-in_ok-push_str-in-Grouped-2 g c =
     group_added (plain_manner_of c.args.manner.now) (g.B.Book.meaning c.args.book.now) _ _
     (plain_avp c.args.avp.now) _ _ _ _ _ e is_group c.in_ok-push_columns.ensures c.in_ok-push_str-in-Grouped.ensures.bytes is_name c.in_ok-push_str-in-Grouped-2.ensures.bytes
 
-pub returns-in_ok-push_name_and_told-in_default-format : goal.returns-in_ok-push_name_and_told-in_default-format
-returns-in_ok-push_name_and_told-in_default-format g c =
+pub returns-in_ok-push_name_and_recorded-in_default-format : goal.returns-in_ok-push_name_and_recorded-in_default-format
+returns-in_ok-push_name_and_recorded-in_default-format g c =
     let is_entry = c.in-Some.ensures ∙ ap (λ (key : Key). entry_of (g.B.Book.meaning c.args.book.now) key) c.key.ensures in
     leaf_added (plain_manner_of c.args.manner.now) _ _ _ _ c.in-Some.entry c.format.result.now _ _ _ _ is_entry c.entry_name-name.ensures c.format.ensures c.in_default-format.not-Grouped
-    c.in_ok-push_columns.ensures c.in_ok-push_name_and_told-in_default-format.ensures
+    c.in_ok-push_columns.ensures c.in_ok-push_name_and_recorded-in_default-format.ensures

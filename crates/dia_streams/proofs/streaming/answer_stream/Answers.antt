@@ -10,7 +10,7 @@ loop-pieces_left-init g c = record {
   sound_feed = c.requires.sound_feed;
   sound_sink = c.requires.sound_sink;
   few = omega arith;
-  are_read = first_read (g.J.MessageJudge.says c.args.judge.now) (g.J.MessageJudge.told c.args.judge.now) g.W.Watch.saw
+  are_read = first_read (g.J.MessageJudge.says c.args.judge.now) (g.J.MessageJudge.recorded c.args.judge.now) g.W.Watch.saw
       (g.F.Feed.remaining c.args.feed.now) (g.S.Sink.written c.args.sink.now) c.args.watch.now c.new-streamed.result
       c.new-streamed.ensures.half c.new-streamed.ensures.bytes c.new-streamed.ensures.at c.new-streamed.ensures.text;
 }
@@ -30,18 +30,18 @@ returns-in_err-answer_piece-clause-endless g c = λ e.
     let is : c.in_err-answer_piece.field-0.0 ≡ Endless = cc in
     c.in_err-answer_piece.ensures.whole _ _ _ _ (inr (ap (λ f. Err f) is)) c.loop-pieces_left.invariant.are_read
 
-pub returns-then-not-branch-clause-told : goal.returns-then-not-branch-clause-told
-returns-then-not-branch-clause-told g c =
+pub returns-then-not-branch-clause-recorded : goal.returns-then-not-branch-clause-recorded
+returns-then-not-branch-clause-recorded g c =
     c.in_ok-answer_piece.ensures.end _ _ _ _ (ap (λ b. Ok b) c.if-not-branch.true) c.loop-pieces_left.invariant.are_read
 
 pub returns-clause-front : goal.returns-clause-front
 returns-clause-front g c = λ _.
-    some_of_whole (g.J.MessageJudge.says c.args.judge.now) (g.J.MessageJudge.told c.args.judge.now) g.W.Watch.saw _ _ _ _
-    (whole_now (g.J.MessageJudge.says c.args.judge.now) (g.J.MessageJudge.told c.args.judge.now) g.W.Watch.saw _ _ _ _ _ _ c.loop-pieces_left.streamed _ c.loop-pieces_left.invariant.are_read)
+    some_of_whole (g.J.MessageJudge.says c.args.judge.now) (g.J.MessageJudge.recorded c.args.judge.now) g.W.Watch.saw _ _ _ _
+    (whole_now (g.J.MessageJudge.says c.args.judge.now) (g.J.MessageJudge.recorded c.args.judge.now) g.W.Watch.saw _ _ _ _ _ _ c.loop-pieces_left.streamed _ c.loop-pieces_left.invariant.are_read)
 
 pub returns-clause-endless : goal.returns-clause-endless
 returns-clause-endless g c = λ _.
-    whole_now (g.J.MessageJudge.says c.args.judge.now) (g.J.MessageJudge.told c.args.judge.now) g.W.Watch.saw _ _ _ _ _ _ c.loop-pieces_left.streamed _ c.loop-pieces_left.invariant.are_read
+    whole_now (g.J.MessageJudge.says c.args.judge.now) (g.J.MessageJudge.recorded c.args.judge.now) g.W.Watch.saw _ _ _ _ _ _ c.loop-pieces_left.streamed _ c.loop-pieces_left.invariant.are_read
 
 pub returns-in_err-answer_piece-clause-pieces : goal.returns-in_err-answer_piece-clause-pieces
 returns-in_err-answer_piece-clause-pieces g c = λ e.

@@ -4,7 +4,7 @@ use Rattle.std.proofs.lemmas.List.{nil_from_length}
 use Rattle.std.proofs.lemmas.Bool.{eqb-true, eqb-false, both_ways}
 use Rattle.std.proofs.lemmas.Slice.Eq.{bytes_eq-Decides}
 use Rattle.std.specs.Str.{bytes_eq}
-use Rattle.dia_tables.specs.Words.{PlainWords, ArePairWords, behind_word, first_word, plain_words, words_in}
+use Rattle.dia_tables.specs.Words.{PlainWords, ArePairWords, after_word, first_word, plain_words, words_in}
 use Rattle.dia_tables.proofs.WordsOfLines.{no_word_is_tail, words_pair, none_wrong, all_fit, fit_pair, pair_fits, other_word, no_part, name_is_text}
 use Rattle.dia_tables.proofs.TableLines.{has_no_form}
 use Rattle.dia_tables.proofs.line.read_line.Goals as goal
@@ -46,7 +46,7 @@ returns-then-eq-clause-some c =
     let is : words ≡ words_in text = c.words_of-words.ensures ∙ ap words_in c.as_bytes.ensures.value in
     let all = all_fit words (sym c.wrong_part.ensures ∙ no_part c.wrong_part.result (sym c.if-is_some.ensures)) in
     let kind = (bytes_eq-Decides words.kind.text (codes "command")).0 (ap (bytes_eq words.kind.text) (sym c.as_slice.ensures) ∙ sym c.if-eq.ensures) in
-    let pair : ArePairWords first second (behind_word text) = rw (c.in_ok-first.ensures.text, c.in_ok-second.ensures.text) (fit_pair text words is all) in
+    let pair : ArePairWords first second (after_word text) = rw (c.in_ok-first.ensures.text, c.in_ok-second.ensures.text) (fit_pair text words is all) in
     words_pair (codes "command") first second text (sym (ap (λ (w : PlainWords). w.kind.text) is) ∙ kind) pair
 
 pub returns-else-eq-clause-some : goal.returns-else-eq-clause-some
@@ -59,5 +59,5 @@ returns-else-eq-clause-some c =
     let all = all_fit words (sym c.wrong_part.ensures ∙ no_part c.wrong_part.result (sym c.if-is_some.ensures)) in
     let avp = other_word (bytes_eq words.kind.text (codes "command")) (bytes_eq words.kind.text (codes "avp")) (ap (bytes_eq words.kind.text) (sym c.as_slice.ensures) ∙ sym c.if-eq.ensures) all.kind in
     let kind = (bytes_eq-Decides words.kind.text (codes "avp")).0 avp in
-    let pair : ArePairWords first second (behind_word text) = rw (c.in_ok-first.ensures.text, c.in_ok-second.ensures.text) (fit_pair text words is all) in
+    let pair : ArePairWords first second (after_word text) = rw (c.in_ok-first.ensures.text, c.in_ok-second.ensures.text) (fit_pair text words is all) in
     words_pair (codes "avp") first second text (sym (ap (λ (w : PlainWords). w.kind.text) is) ∙ kind) pair

@@ -6,7 +6,7 @@ use Rattle.dia_tasks.specs.Captures.{fed}
 use Rattle.dia_tasks.proofs.listing.list.Goals as goal
 
 pub returns-in-Ok : goal.returns-in-Ok
-returns-in-Ok g c = rw c.told_of.ensures (
+returns-in-Ok g c = rw c.recorded_of.ensures (
   sound_sink_at_ok _ _ _ _ c.in-Ok.ensures.device,
   (
     fed (g.D.Read.remaining c.new-feed.result.feed.reader) (g.D.Read.remaining c.show_lines.new.feed.feed.reader),

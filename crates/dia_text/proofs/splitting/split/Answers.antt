@@ -4,7 +4,7 @@ use Rattle.dia_text.proofs.splitting.split.Goals as goal
 
 pub loop-part-preserved : goal.loop-part-preserved
 loop-part-preserved c =
-    rw c.in_ok-push.ensures.items (more_parts c.args.byte c.loop-part.found.items c.in-Some.part c.loop-part.rest.now c.in-Some.behind.now c.in-Some.ensures.some c.in-Some.ensures.part
+    rw c.in_ok-push.ensures.items (more_parts c.args.byte c.loop-part.found.items c.in-Some.part c.loop-part.rest.now c.in-Some.following.now c.in-Some.ensures.some c.in-Some.ensures.part
     ∙ c.loop-part.invariant)
 
 pub returns : goal.returns

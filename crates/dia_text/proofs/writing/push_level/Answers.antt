@@ -1,22 +1,22 @@
 use Rattle.std.proofs.Common.{refl, sym, ◌∙◌}
-use Rattle.dia_text.proofs.LevelTexts.{started, leaf_written, group_entered, level_ended, all_ended, bad_found, less_inside, less_behind, less_after}
+use Rattle.dia_text.proofs.LevelTexts.{started, leaf_written, group_entered, level_ended, all_ended, bad_found, less_inside, less_following, less_after}
 use Rattle.dia_text.proofs.writing.push_level.Goals as goal
 
 pub loop-avp-init : goal.loop-avp-init
 loop-avp-init g c = rw c.new-outer.ensures.items (started _ _ _)
 
-pub behind_data-pad-requires : goal.behind_data-pad-requires
-behind_data-pad-requires g c = rw c.in-Ok-Some.field-0-is at c.in-Ok-Some.ensures.avp
+pub after_data-pad-requires : goal.after_data-pad-requires
+after_data-pad-requires g c = rw c.in-Ok-Some.field-0-is at c.in-Ok-Some.ensures.avp
 
 pub loop-avp-preserved-then-is_open : goal.loop-avp-preserved-then-is_open
 loop-avp-preserved-then-is_open g c =
     rw c.in_ok-push-in-Ok-Some.ensures.items
-    (group_entered _ _ _ _ _ _ _ c.behind_data-pad.result.now _ c.in-Ok-Some.behind _ c.loop-avp.invariant (rw c.in-Ok-Some.field-0-is at c.in-Ok-Some.ensures.avp) refl
+    (group_entered _ _ _ _ _ _ _ c.after_data-pad.result.now _ c.in-Ok-Some.following _ c.loop-avp.invariant (rw c.in-Ok-Some.field-0-is at c.in-Ok-Some.ensures.avp) refl
     (rw c.if-is_open.true at c.in_ok-is_open-in-Ok-Some.ensures))
 
 pub loop-avp-preserved-else-is_open : goal.loop-avp-preserved-else-is_open
 loop-avp-preserved-else-is_open g c =
-    leaf_written _ _ _ _ _ _ _ _ _ _ c.loop-avp.invariant (rw c.in-Ok-Some.field-0-is at c.in-Ok-Some.ensures.avp) c.behind_data-pad.ensures
+    leaf_written _ _ _ _ _ _ _ _ _ _ c.loop-avp.invariant (rw c.in-Ok-Some.field-0-is at c.in-Ok-Some.ensures.avp) c.after_data-pad.ensures
     (rw c.if-is_open.false at c.in_ok-is_open-in-Ok-Some.ensures)
 
 pub loop-avp-preserved : goal.loop-avp-preserved
@@ -33,10 +33,10 @@ returns-in-Err-Length-clause-refused g c = bad_found _ _ _ _ _ _ c.loop-avp.inva
 
 pub loop-avp-smaller-then-is_open : goal.loop-avp-smaller-then-is_open
 loop-avp-smaller-then-is_open g c =
-    less_inside _ _ c.in-Ok-Some.behind c.loop-avp.outer.items _ (rw c.in-Ok-Some.field-0-is at c.in-Ok-Some.ensures.avp) c.in_ok-push-in-Ok-Some.ensures.items
+    less_inside _ _ c.in-Ok-Some.following c.loop-avp.outer.items _ (rw c.in-Ok-Some.field-0-is at c.in-Ok-Some.ensures.avp) c.in_ok-push-in-Ok-Some.ensures.items
 
 pub loop-avp-smaller-else-is_open : goal.loop-avp-smaller-else-is_open
-loop-avp-smaller-else-is_open g c = less_behind _ _ _ c.loop-avp.outer.items (rw c.in-Ok-Some.field-0-is at c.in-Ok-Some.ensures.avp)
+loop-avp-smaller-else-is_open g c = less_following _ _ _ c.loop-avp.outer.items (rw c.in-Ok-Some.field-0-is at c.in-Ok-Some.ensures.avp)
 
 pub loop-avp-smaller : goal.loop-avp-smaller
 loop-avp-smaller g c = less_after _ c.loop-avp.outer.items _ _ c.in-Some.ensures.items

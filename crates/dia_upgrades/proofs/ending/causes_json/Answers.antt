@@ -3,6 +3,6 @@ use Rattle.dia_upgrades.specs.Forms.{object_in}
 use Rattle.dia_upgrades.proofs.Forms.{objects_more}
 use Rattle.dia_upgrades.proofs.ending.causes_json.Goals as goal
 
-pub loop-told-preserved : goal.loop-told-preserved
-loop-told-preserved c =
-    objects_more (object_in c.args.names.now true) c.args.causes.now c.loop-told.told-index c.told-item.result c.loop-told-test.true c.told-item.is _ _ c.loop-told.invariant c.in_ok-push_cause.ensures
+pub loop-recorded-preserved : goal.loop-recorded-preserved
+loop-recorded-preserved c =
+    objects_more (object_in c.args.names.now true) c.args.causes.now c.loop-recorded.recorded-index c.recorded-item.result c.loop-recorded-test.true c.recorded-item.is _ _ c.loop-recorded.invariant c.in_ok-push_cause.ensures

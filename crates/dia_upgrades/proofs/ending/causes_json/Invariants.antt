@@ -1,8 +1,8 @@
 use Rattle.std.proofs.Common.{◌≡◌, map, take, true, string_bytes}
 use Rattle.std.specs.List.{flat_map}
-use Rattle.dia_accepted.specs.Accepted.{plain_told}
+use Rattle.dia_accepted.specs.Accepted.{plain_recorded}
 use Rattle.dia_upgrades.specs.Forms.{object_in}
 use Rattle.dia_upgrades.proofs.ending.causes_json.Given as goal
 
-abbrev pub invariant-loop-told : goal.invariant-loop-told
-invariant-loop-told l = string_bytes l.text ≡ flat_map (object_in l.names true) (map plain_told (take l.told-index l.causes))
+abbrev pub invariant-loop-recorded : goal.invariant-loop-recorded
+invariant-loop-recorded l = string_bytes l.text ≡ flat_map (object_in l.names true) (map plain_recorded (take l.recorded-index l.causes))

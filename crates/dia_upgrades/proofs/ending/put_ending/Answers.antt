@@ -3,7 +3,7 @@ use Rattle.std.proofs.lemmas.Result.{err_from_is_err_and}
 use Rattle.dia_io.specs.Writing.{AppendsFront}
 use Rattle.dia_io.specs.declared.RunFault.TheVariants.{Device}
 use Rattle.dia_upgrades.specs.Stale.{stale_text}
-use Rattle.dia_upgrades.proofs.Puts.{front_behind, front_of_more}
+use Rattle.dia_upgrades.proofs.Puts.{front_after, front_of_more}
 use Rattle.dia_upgrades.proofs.ending.put_ending.Goals as goal
 
 pub returns-in_err-put_end-clause-front : goal.returns-in_err-put_end-clause-front
@@ -14,5 +14,5 @@ returns-in_err-put_end-clause-front g c =
 
 pub returns-in_err-put_all-clause-front : goal.returns-in_err-put_all-clause-front
 returns-in_err-put_all-clause-front g c = λ _.
-    front_behind (g.S.Sink.written c.args.sink.now) (g.S.Sink.written c.put_end.new.sink) (g.S.Sink.written c.put_all.new.sink) _ _ (rw c.failing_count-count.ensures at c.in_ok-put_end.ensures.put)
+    front_after (g.S.Sink.written c.args.sink.now) (g.S.Sink.written c.put_end.new.sink) (g.S.Sink.written c.put_all.new.sink) _ _ (rw c.failing_count-count.ensures at c.in_ok-put_end.ensures.put)
     (subst (AppendsFront (g.S.Sink.written c.put_end.new.sink) (g.S.Sink.written c.put_all.new.sink)) (c.as_bytes.ensures.value ∙ c.in_ok-text.ensures ∙ ap (stale_text c.args.asked.form) c.failing.ensures) c.put_all.ensures.front)

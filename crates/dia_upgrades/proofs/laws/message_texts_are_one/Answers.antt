@@ -1,5 +1,5 @@
 use Rattle.std.proofs.Common.{ap, sym, ◌∙◌}
-use Rattle.dia_upgrades.specs.Told.{message_line}
+use Rattle.dia_upgrades.specs.Recorded.{message_line}
 use Rattle.dia_upgrades.proofs.laws.message_texts_are_one.Goals as goal
 
 pub returns : goal.returns

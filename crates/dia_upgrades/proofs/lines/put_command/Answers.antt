@@ -2,19 +2,19 @@ use Rattle.std.proofs.Common.{ℕ, false, List, [], ◌++◌, ap, refl, subst, s
 use Rattle.std.specs.Prelude.{IsSome}
 use Rattle.std.proofs.lemmas.List.{append-nil}
 use Rattle.std.proofs.lemmas.Result.{err_from_is_err_and}
-use Rattle.dia_accepted.specs.Accepted.{PlainTold}
+use Rattle.dia_accepted.specs.Accepted.{PlainRecorded}
 use Rattle.dia_book.specs.Dictionary.{Dictionary}
 use Rattle.dia_breaking.specs.Words.{head_at}
 use Rattle.dia_breaking.specs.Upgrades.{facts_of, sender_of, sides_of, stock_of}
-use Rattle.dia_breaking.specs.ToldMessages.{AreConfirmedWhere}
+use Rattle.dia_breaking.specs.RecordedMessages.{AreConfirmedWhere}
 use Rattle.dia_breaking.proofs.MessageBytes.{some_bytes}
 use Rattle.dia_breaking.specs.declared.line.Line.{Line}
-use Rattle.dia_upgrades.specs.Told.{AreParts, IsToldOf, apart_of, number_at, words_at}
+use Rattle.dia_upgrades.specs.Recorded.{AreParts, IsRecordedOf, apart_of, number_at, words_at}
 use Rattle.dia_upgrades.specs.declared.lines.Listing.{Listing}
-use Rattle.dia_upgrades.specs.UnderWay.{GoesOn, IsMessageIn, IsToldIn, among, before}
-use Rattle.dia_upgrades.proofs.CommandHeads.{head_stands}
-use Rattle.dia_upgrades.proofs.Listings.{any_told, apart_goes, goes_both, goes_from, stops_behind, stops_from, stops_here}
-use Rattle.dia_upgrades.proofs.ToldCommands.{IsFound, told_so}
+use Rattle.dia_upgrades.specs.UnderWay.{GoesOn, IsMessageIn, IsRecordedIn, among, before}
+use Rattle.dia_upgrades.proofs.CommandHeads.{head_occurs}
+use Rattle.dia_upgrades.proofs.Listings.{any_recorded, apart_goes, goes_both, goes_from, stops_after, stops_from, stops_here}
+use Rattle.dia_upgrades.proofs.RecordedCommands.{IsFound, recorded_so}
 use Rattle.dia_upgrades.proofs.lines.put_command.Goals as goal
 
 pub returns-in_err-breaks-clause-stops : goal.returns-in_err-breaks-clause-stops
@@ -42,7 +42,7 @@ returns-in_err-put_each-clause-stops g c =
     let shown = c.in_ok-shown.shown.items in
     let number = c.command_at-command.ensures ∙ ap (λ (d : Dictionary). number_at d place) (ap g.A.Book.meaning c.sender.ensures) in
     let same = found.command ∙ number in
-    let some = subst (λ (n : ℕ). IsSome (head_at s.sender n)) (sym number) (head_stands s.sender (g.met.A.Book.sound (sender_of up)) place c.requires.place) in
+    let some = subst (λ (n : ℕ). IsSome (head_at s.sender n)) (sym number) (head_occurs s.sender (g.met.A.Book.sound (sender_of up)) place c.requires.place) in
     let lengths = (facts_of up).lengths in
     let words = words_at s lengths breaks.command breaks.sites.items in
     let apart_is = c.apart_of-apart.ensures ∙ ap (apart_of asked.meaning) c.as_slice.ensures.value in
@@ -51,7 +51,7 @@ returns-in_err-put_each-clause-stops g c =
       free = found.free;
       confirmed = subst (λ (n : ℕ). AreConfirmedWhere s k n breaks.sites.items c.args.listing.now.budget breaks.lines.items) (sym found.command) found.exactly;
       standings = found.standings;
-      behind_is = found.left;
+      after_is = found.left;
       formats = found.formats;
       are_meanings = found.meanings some;
       unchecked = found.unchecked;
@@ -61,11 +61,11 @@ returns-in_err-put_each-clause-stops g c =
     } in
     let stops = c.in_err-put_each.ensures.stops in
     let mid : Listing = record { seen = c.args.listing.now.seen; pending = c.args.listing.now.pending; budget = c.breaks.new.left } in
-    let told = subst (λ (ls : List Line). AreParts (IsToldIn up breaks place asked.messages) ls (stops.more ++ stops.rest)) c.as_slice-lines.ensures.value stops.are_parts in
-    let apart = any_told place false words (IsMessageIn up breaks) (some_bytes s k breaks.command breaks.sites.items) (apart_of asked.meaning breaks.meanings.items) in
+    let recorded = subst (λ (ls : List Line). AreParts (IsRecordedIn up breaks place asked.messages) ls (stops.more ++ stops.rest)) c.as_slice-lines.ensures.value stops.are_parts in
+    let apart = any_recorded place false words (IsMessageIn up breaks) (some_bytes s k breaks.command breaks.sites.items) (apart_of asked.meaning breaks.meanings.items) in
     rw (p.1, p.2)
     (among c.breaks.new.left stops.more stops.rest apart.0
-    (told_so s k asked.messages asked.meaning lengths place breaks.command c.args.listing.now.budget c.breaks.new.left breaks shown (stops.more ++ stops.rest) apart.0 same is_found told apart.1)
+    (recorded_so s k asked.messages asked.meaning lengths place breaks.command c.args.listing.now.budget c.breaks.new.left breaks shown (stops.more ++ stops.rest) apart.0 same is_found recorded apart.1)
     (stops_from asked place _ _ _ c.args.listing.now mid c.put_each.new.listing stops.more refl refl stops.stops))
 
 pub returns-in_err-see_each_apart-clause-stops : goal.returns-in_err-see_each_apart-clause-stops
@@ -81,7 +81,7 @@ returns-in_err-see_each_apart-clause-stops g c =
     let shown = c.in_ok-shown.shown.items in
     let number = c.command_at-command.ensures ∙ ap (λ (d : Dictionary). number_at d place) (ap g.A.Book.meaning c.sender.ensures) in
     let same = found.command ∙ number in
-    let some = subst (λ (n : ℕ). IsSome (head_at s.sender n)) (sym number) (head_stands s.sender (g.met.A.Book.sound (sender_of up)) place c.requires.place) in
+    let some = subst (λ (n : ℕ). IsSome (head_at s.sender n)) (sym number) (head_occurs s.sender (g.met.A.Book.sound (sender_of up)) place c.requires.place) in
     let lengths = (facts_of up).lengths in
     let words = words_at s lengths breaks.command breaks.sites.items in
     let apart_is = c.apart_of-apart.ensures ∙ ap (apart_of asked.meaning) c.as_slice.ensures.value in
@@ -90,7 +90,7 @@ returns-in_err-see_each_apart-clause-stops g c =
       free = found.free;
       confirmed = subst (λ (n : ℕ). AreConfirmedWhere s k n breaks.sites.items c.args.listing.now.budget breaks.lines.items) (sym found.command) found.exactly;
       standings = found.standings;
-      behind_is = found.left;
+      after_is = found.left;
       formats = found.formats;
       are_meanings = found.meanings some;
       unchecked = found.unchecked;
@@ -101,12 +101,12 @@ returns-in_err-see_each_apart-clause-stops g c =
     let (more, parts, goes) = c.in_ok-put_each.ensures.all in
     let mid : Listing = record { seen = c.args.listing.now.seen; pending = c.args.listing.now.pending; budget = c.breaks.new.left } in
     let new : Listing = record { seen = c.see_each_apart.new.seen; pending = c.put_each.new.listing.pending; budget = c.put_each.new.listing.budget } in
-    let told = subst (λ (ls : List Line). AreParts (IsToldIn up breaks place asked.messages) ls more) c.as_slice-lines.ensures.value parts in
-    let apart = any_told place false words (IsMessageIn up breaks) (some_bytes s k breaks.command breaks.sites.items) (apart_of asked.meaning breaks.meanings.items) in
-    let is_told = told_so s k asked.messages asked.meaning lengths place breaks.command c.args.listing.now.budget c.breaks.new.left breaks shown more apart.0 same is_found told apart.1 in
+    let recorded = subst (λ (ls : List Line). AreParts (IsRecordedIn up breaks place asked.messages) ls more) c.as_slice-lines.ensures.value parts in
+    let apart = any_recorded place false words (IsMessageIn up breaks) (some_bytes s k breaks.command breaks.sites.items) (apart_of asked.meaning breaks.meanings.items) in
+    let is_recorded = recorded_so s k asked.messages asked.meaning lengths place breaks.command c.args.listing.now.budget c.breaks.new.left breaks shown more apart.0 same is_found recorded apart.1 in
     rw (p.1, p.2)
-    (among c.breaks.new.left more [] apart.0 (subst (λ (xs : List PlainTold). IsToldOf s k asked.messages asked.meaning lengths place c.args.listing.now.budget c.breaks.new.left xs apart.0) (sym (append-nil more)) is_told)
-    (stops_behind asked place _ _ c.args.listing.now c.put_each.new.listing new more [] refl (goes_from asked place _ _ c.args.listing.now mid c.put_each.new.listing more [] refl refl goes)))
+    (among c.breaks.new.left more [] apart.0 (subst (λ (xs : List PlainRecorded). IsRecordedOf s k asked.messages asked.meaning lengths place c.args.listing.now.budget c.breaks.new.left xs apart.0) (sym (append-nil more)) is_recorded)
+    (stops_after asked place _ _ c.args.listing.now c.put_each.new.listing new more [] refl (goes_from asked place _ _ c.args.listing.now mid c.put_each.new.listing more [] refl refl goes)))
 
 pub returns-clause-all : goal.returns-clause-all
 returns-clause-all g c =
@@ -120,7 +120,7 @@ returns-clause-all g c =
     let shown = c.in_ok-shown.shown.items in
     let number = c.command_at-command.ensures ∙ ap (λ (d : Dictionary). number_at d place) (ap g.A.Book.meaning c.sender.ensures) in
     let same = found.command ∙ number in
-    let some = subst (λ (n : ℕ). IsSome (head_at s.sender n)) (sym number) (head_stands s.sender (g.met.A.Book.sound (sender_of up)) place c.requires.place) in
+    let some = subst (λ (n : ℕ). IsSome (head_at s.sender n)) (sym number) (head_occurs s.sender (g.met.A.Book.sound (sender_of up)) place c.requires.place) in
     let lengths = (facts_of up).lengths in
     let words = words_at s lengths breaks.command breaks.sites.items in
     let apart_is = c.apart_of-apart.ensures ∙ ap (apart_of asked.meaning) c.as_slice.ensures.value in
@@ -129,7 +129,7 @@ returns-clause-all g c =
       free = found.free;
       confirmed = subst (λ (n : ℕ). AreConfirmedWhere s k n breaks.sites.items c.args.listing.now.budget breaks.lines.items) (sym found.command) found.exactly;
       standings = found.standings;
-      behind_is = found.left;
+      after_is = found.left;
       formats = found.formats;
       are_meanings = found.meanings some;
       unchecked = found.unchecked;
@@ -141,13 +141,13 @@ returns-clause-all g c =
     let mid : Listing = record { seen = c.args.listing.now.seen; pending = c.args.listing.now.pending; budget = c.breaks.new.left } in
     let new : Listing = record { seen = c.see_each_apart.new.seen; pending = c.put_each.new.listing.pending; budget = c.put_each.new.listing.budget } in
     let (others, apart_parts, sees) = c.in_ok-see_each_apart.ensures in
-    let told = subst (λ (ls : List Line). AreParts (IsToldIn up breaks place asked.messages) ls more) c.as_slice-lines.ensures.value parts in
-    let apart = subst (λ (ls : List Line). AreParts (IsToldIn up breaks place false) ls others) apart_is apart_parts in
-    let is_told = told_so s k asked.messages asked.meaning lengths place breaks.command c.args.listing.now.budget c.breaks.new.left breaks shown more others same is_found told apart in
+    let recorded = subst (λ (ls : List Line). AreParts (IsRecordedIn up breaks place asked.messages) ls more) c.as_slice-lines.ensures.value parts in
+    let apart = subst (λ (ls : List Line). AreParts (IsRecordedIn up breaks place false) ls others) apart_is apart_parts in
+    let is_recorded = recorded_so s k asked.messages asked.meaning lengths place breaks.command c.args.listing.now.budget c.breaks.new.left breaks shown more others same is_found recorded apart in
     let both = goes_both asked place _ _ _ c.args.listing.now c.put_each.new.listing new more [] [] others
     (goes_from asked place _ _ c.args.listing.now mid c.put_each.new.listing more [] refl refl goes) (apart_goes asked place _ c.put_each.new.listing new others refl (sees asked)) in (
       more,
       others,
-      subst (λ (n : ℕ). IsToldOf s k asked.messages asked.meaning lengths place c.args.listing.now.budget n more others) (sym c.in_ok-put_each.ensures.budget) is_told,
-      subst (λ (xs : List PlainTold). GoesOn asked place (g.S.Sink.written c.args.sink.now) (g.S.Sink.written c.put_each.new.sink) c.args.listing.now new xs others) (append-nil more) both,
+      subst (λ (n : ℕ). IsRecordedOf s k asked.messages asked.meaning lengths place c.args.listing.now.budget n more others) (sym c.in_ok-put_each.ensures.budget) is_recorded,
+      subst (λ (xs : List PlainRecorded). GoesOn asked place (g.S.Sink.written c.args.sink.now) (g.S.Sink.written c.put_each.new.sink) c.args.listing.now new xs others) (append-nil more) both,
     )

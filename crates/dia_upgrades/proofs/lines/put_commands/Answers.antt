@@ -5,7 +5,7 @@ use Rattle.std.proofs.lemmas.Result.{err_from_is_err_and}
 use Rattle.dia_breaking.specs.Upgrades.{facts_of, sides_of, stock_of}
 use Rattle.dia_upgrades.specs.declared.lines.Listing.{Listing}
 use Rattle.dia_breaking.specs.Stocks.{IsStockOf}
-use Rattle.dia_upgrades.specs.Told.{AreShortest}
+use Rattle.dia_upgrades.specs.Recorded.{AreShortest}
 use Rattle.dia_upgrades.specs.UnderWay.{AreUnderWay}
 use Rattle.dia_upgrades.proofs.Commands.{all_some, goes_next, none_yet, stops_there}
 use Rattle.dia_upgrades.proofs.Listings.{sound_ok}
@@ -33,11 +33,11 @@ loop-place-preserved g c =
       sound = sound_ok _ _ c.in_ok-put_command.ensures.device;
       some = λ list begun place each all way.
           let some = c.loop-place.invariant.some list begun place each all way in
-          let (told, apart, is, goes) = c.in_ok-put_command.ensures.all in
+          let (recorded, apart, is, goes) = c.in_ok-put_command.ensures.all in
           let is_here = is in
           let goes_here = goes in
           goes_next s (stock_of up) asked lengths c.args.forgets list begun places i d c.loop-place-test.true (g.S.Sink.written c.loop-place.sink) (g.S.Sink.written c.put_command.new.sink) old begin new some
-          (λ known others none are. c.begin.ensures asked list some.place _ (length (take i places)) known others none are) refl refl each (omega (arith, length-take i places, c.loop-place-test.true, c.type_inv.places)) told apart is_here goes_here;
+          (λ known others none are. c.begin.ensures asked list some.place _ (length (take i places)) known others none are) refl refl each (omega (arith, length-take i places, c.loop-place-test.true, c.type_inv.places)) recorded apart is_here goes_here;
     }
 
 pub returns-in_err-put_command-clause-stops : goal.returns-in_err-put_command-clause-stops

@@ -6,10 +6,10 @@ use Rattle.dia_accepted.specs.Accepted.{plain_entry}
 use Rattle.dia_breaking.specs.Upgrades.{facts_of, sides_of, stock_of}
 use Rattle.dia_breaking.specs.Confirmed.{most_checked_together}
 use Rattle.dia_breaking.specs.Stocks.{IsStockOf}
-use Rattle.dia_upgrades.specs.Told.{AreShortest}
-use Rattle.dia_upgrades.specs.UnderWay.{AreAllPut, IsPut, IsUnderWay, StandsBehind}
+use Rattle.dia_upgrades.specs.Recorded.{AreShortest}
+use Rattle.dia_upgrades.specs.UnderWay.{AreAllPut, IsPut, IsUnderWay, OccursAfter}
 use Rattle.dia_upgrades.specs.declared.lines.Listing.{Listing}
-use Rattle.dia_upgrades.proofs.Commands.{all_put, none_first, rest_stands}
+use Rattle.dia_upgrades.proofs.Commands.{all_put, none_first, rest_occurs}
 use Rattle.dia_upgrades.proofs.Listings.{device_of}
 use Rattle.dia_upgrades.proofs.lines.put_lines.Goals as goal
 
@@ -43,9 +43,9 @@ returns-in_err-put_rest-clause-front g c =
     let stops = IfErr-weaker c.put_commands-found.result _ _ (λ fault f. f list put 0 c.in_ok-forgets.ensures budget way) c.put_commands-found.ensures.stops in
     let pending = c.deref_mut-2.ensures.value in
     let front = subst
-    (λ (l : Listing). StandsBehind c.put_commands-found.result c.in_err-put_rest.field-0.0 (g.S.Sink.written c.put_commands-found.new.sink) (g.S.Sink.written c.put_rest.new.sink) l.pending)
+    (λ (l : Listing). OccursAfter c.put_commands-found.result c.in_err-put_rest.field-0.0 (g.S.Sink.written c.put_commands-found.new.sink) (g.S.Sink.written c.put_rest.new.sink) l.pending)
     pending c.in_err-put_rest.ensures.front in
-    rw (p.1, p.2) (rest_stands (sides_of up) c.args.asked c.in_ok-forgets.forgets list c.args.places.now put (g.S.Sink.written c.put_commands-found.new.sink) (g.S.Sink.written c.put_rest.new.sink) new c.put_commands-found.result
+    rw (p.1, p.2) (rest_occurs (sides_of up) c.args.asked c.in_ok-forgets.forgets list c.args.places.now put (g.S.Sink.written c.put_commands-found.new.sink) (g.S.Sink.written c.put_rest.new.sink) new c.put_commands-found.result
     all stops _ front)
 
 pub returns-clause-all : goal.returns-clause-all

@@ -1,8 +1,8 @@
 use Rattle.std.proofs.Common.{[], List, false, refl, subst, ◌++◌}
 use Rattle.std.proofs.lemmas.List.{take_all}
 use Rattle.dia_breaking.specs.declared.line.Line.{Line}
-use Rattle.dia_upgrades.specs.Told.{AreParts}
-use Rattle.dia_upgrades.specs.UnderWay.{IsToldIn}
+use Rattle.dia_upgrades.specs.Recorded.{AreParts}
+use Rattle.dia_upgrades.specs.UnderWay.{IsRecordedIn}
 use Rattle.dia_upgrades.proofs.Listings.{apart_both, apart_nothing}
 use Rattle.dia_upgrades.proofs.Parts.{one_more}
 use Rattle.dia_upgrades.proofs.lines.see_each_apart.Goals as goal
@@ -13,7 +13,7 @@ loop-line-init g c = ([], refl, λ asked. apart_nothing asked c.args.place c.arg
 pub loop-line-preserved : goal.loop-line-preserved
 loop-line-preserved g c =
     let up = c.args.upgrade.now in
-    let is = IsToldIn up c.args.breaks.now c.args.place false in
+    let is = IsRecordedIn up c.args.breaks.now c.args.place false in
     let (others, parts, sees) = c.loop-line.invariant in
     let (more, is_more, one) = c.in_ok-see_apart.ensures in
     let here = subst (λ (x : Line). is x more) c.line-item.is is_more in (
@@ -27,4 +27,4 @@ returns g c =
     let up = c.args.upgrade.now in
     let (others, parts, sees) = c.loop-line.invariant in
     let all = take_all c.loop-line.line-index c.args.lines.now c.loop-line-test.false in
-    (others, subst (λ (lines : List Line). AreParts (IsToldIn up c.args.breaks.now c.args.place false) lines others) all parts, sees)
+    (others, subst (λ (lines : List Line). AreParts (IsRecordedIn up c.args.breaks.now c.args.place false) lines others) all parts, sees)

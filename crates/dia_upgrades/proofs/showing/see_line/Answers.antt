@@ -5,10 +5,10 @@ use Rattle.dia_accepted.specs.Seen.{AreCauses}
 use Rattle.dia_breaking.specs.Words.{words_of}
 use Rattle.dia_breaking.specs.Upgrades.{other_length_of, sides_of, stock_of}
 use Rattle.dia_breaking.proofs.MessageBytes.{some_bytes}
-use Rattle.dia_upgrades.specs.Told.{has_message, told_as, written}
+use Rattle.dia_upgrades.specs.Recorded.{has_message, recorded_as, written}
 use Rattle.dia_upgrades.specs.Forms.{line_in}
 use Rattle.dia_upgrades.specs.UnderWay.{IsMessageIn, digits_text}
-use Rattle.dia_upgrades.proofs.LinesToTell.{message_behind, sees_accepted, sees_left}
+use Rattle.dia_upgrades.proofs.LinesToReport.{message_after, sees_accepted, sees_left}
 use Rattle.dia_upgrades.proofs.Listings.{could_be}
 use Rattle.dia_upgrades.proofs.showing.see_line.Goals as goal
 
@@ -20,13 +20,13 @@ returns-then-known g c =
     let line = c.args.line.now in
     let words = words_of (sides_of up) (other_length_of up) c.args.breaks.now.command c.args.breaks.now.sites.items in
     let made = rw c.new-words.ensures.bytes at c.in_ok-push_words.ensures.words in
-    let told = c.as_str-told.ensures.value ∙ made in
+    let recorded = c.as_str-recorded.ensures.value ∙ made in
     let some = some_bytes (sides_of up) (stock_of up) c.args.breaks.now.command c.args.breaks.now.sites.items line in
-    let t = told_as place (words line) (message_behind (has_message asked.messages line.standing) some.0) in
+    let t = recorded_as place (words line) (message_after (has_message asked.messages line.standing) some.0) in
     let judged = c.in_ok-known.ensures in (
       t,
       could_be place asked.messages words (IsMessageIn up c.args.breaks.now) line some.0 (some.1, some.2),
-      sees_accepted asked place c.args.seen.now c.judge.new.self t c.as_str-told.result.now c.in_ok-known.known (sym told) judged.accepted judged.judged judged.causes judged.meanings c.if-known.true,
+      sees_accepted asked place c.args.seen.now c.judge.new.self t c.as_str-recorded.result.now c.in_ok-known.known (sym recorded) judged.accepted judged.judged judged.causes judged.meanings c.if-known.true,
     )
 
 pub returns-then-asked : goal.returns-then-asked
@@ -37,16 +37,16 @@ returns-then-asked g c =
     let line = c.args.line.now in
     let words = words_of (sides_of up) (other_length_of up) c.args.breaks.now.command c.args.breaks.now.sites.items in
     let made = rw c.new-words.ensures.bytes at c.in_ok-push_words.ensures.words in
-    let told = c.as_str-told.ensures.value ∙ made in
+    let recorded = c.as_str-recorded.ensures.value ∙ made in
     let keep = c.in_ok-message.ensures in
-    let t = told_as place (words line) keep.message in
+    let t = recorded_as place (words line) keep.message in
     let judged = c.in_ok-known.ensures in
     let once = c.if-asked.true in (
       t,
-      (keep.message, keep.is_behind, refl),
-      sees_left asked place c.args.seen.now c.judge.new.self t c.as_str-told.result.now c.in_ok-known.known (sym told) judged.accepted judged.judged judged.causes judged.meanings _ [] c.if-known.false refl refl refl refl refl
+      (keep.message, keep.is_after, refl),
+      sees_left asked place c.args.seen.now c.judge.new.self t c.as_str-recorded.result.now c.in_ok-known.known (sym recorded) judged.accepted judged.judged judged.causes judged.meanings _ [] c.if-known.false refl refl refl refl refl
           (λ forgets before visits small are. subst (λ (b : Bool). AreCauses forgets c.add.new.self (before ++ kept b t ∷ []) place visits) (sym once)
-          (c.in_ok-add.ensures forgets before t visits small refl (sym told) (keep.is_kept forgets before place visits are) are)) (sym (ap (λ (b : Bool). cond b [] (written asked (t ∷ []))) once)),
+          (c.in_ok-add.ensures forgets before t visits small refl (sym recorded) (keep.is_kept forgets before place visits are) are)) (sym (ap (λ (b : Bool). cond b [] (written asked (t ∷ []))) once)),
     )
 
 pub returns : goal.returns
@@ -57,15 +57,15 @@ returns g c =
     let line = c.args.line.now in
     let words = words_of (sides_of up) (other_length_of up) c.args.breaks.now.command c.args.breaks.now.sites.items in
     let made = rw c.new-words.ensures.bytes at c.in_ok-push_words.ensures.words in
-    let told = c.as_str-told.ensures.value ∙ made in
-    let behind = digits_text c.in_ok-digits.digits in
-    let t = told_as place (words line) behind in
+    let recorded = c.as_str-recorded.ensures.value ∙ made in
+    let following = digits_text c.in_ok-digits.digits in
+    let t = recorded_as place (words line) following in
     let judged = c.in_ok-known.ensures in
     let each = c.if-asked.false in (
       t,
-      (behind, c.in_ok-digits.ensures, refl),
-      sees_left asked place c.args.seen.now c.judge.new.self t c.as_str-told.result.now c.in_ok-known.known (sym told) judged.accepted judged.judged judged.causes judged.meanings _ _ c.if-known.false refl refl refl refl refl
+      (following, c.in_ok-digits.ensures, refl),
+      sees_left asked place c.args.seen.now c.judge.new.self t c.as_str-recorded.result.now c.in_ok-known.known (sym recorded) judged.accepted judged.judged judged.causes judged.meanings _ _ c.if-known.false refl refl refl refl refl
           (λ forgets before visits small are. subst (λ (b : Bool). AreCauses forgets c.add-2.new.self (before ++ kept b t ∷ []) place visits) (sym each)
-          (c.in_ok-add-2.ensures forgets before (bare t) visits small refl (sym told) (inl (sym c.new-none.ensures.bytes)) are))
-          (c.in_ok-shown.ensures place ∙ ap (λ (w : List ℕ). line_in asked.form asked.once (told_as place w behind)) made ∙ sym (append-nil (line_in asked.form asked.once t)) ∙ sym (ap (λ (b : Bool). cond b [] (written asked (t ∷ []))) each)),
+          (c.in_ok-add-2.ensures forgets before (bare t) visits small refl (sym recorded) (inl (sym c.new-none.ensures.bytes)) are))
+          (c.in_ok-shown.ensures place ∙ ap (λ (w : List ℕ). line_in asked.form asked.once (recorded_as place w following)) made ∙ sym (append-nil (line_in asked.form asked.once t)) ∙ sym (ap (λ (b : Bool). cond b [] (written asked (t ∷ []))) each)),
     )

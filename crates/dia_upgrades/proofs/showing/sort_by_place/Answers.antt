@@ -2,7 +2,7 @@ use Rattle.std.proofs.Common.{rules, refl}
 use Rattle.dia_breaking.specs.declared.line.Cause.TheVariants as causes
 use Rattle.dia_breaking.specs.Listing.{new_line}
 use Rattle.dia_breaking.proofs.InOrder.{in_order}
-use Rattle.dia_upgrades.specs.Told.{place_of}
+use Rattle.dia_upgrades.specs.Recorded.{place_of}
 use Rattle.dia_upgrades.proofs.showing.sort_by_place.Goals as goal
 
 pub returns : goal.returns

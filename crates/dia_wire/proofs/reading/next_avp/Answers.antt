@@ -12,8 +12,8 @@ OnErr-always r P h = h
 pub returns-in_err-opening-clause-fault : goal.returns-in_err-opening-clause-fault
 returns-in_err-opening-clause-fault c =
     let some : 0 < length c.args.level.now = grind (arith, common_steps) in
-    let told : (0 < length c.args.level.now) × BeginsWithNone c.args.level.now = (some, none_here _ c.in_err-opening.ensures.fault) in
-    OnErr-always _ _ told
+    let recorded : (0 < length c.args.level.now) × BeginsWithNone c.args.level.now = (some, none_here _ c.in_err-opening.ensures.fault) in
+    OnErr-always _ _ recorded
 
 pub returns-clause-avp : goal.returns-clause-avp
 returns-clause-avp c =

@@ -1,18 +1,18 @@
 use Rattle.std.proofs.Common.{Err, sym, ap, arith}
 use Rattle.dia_wire.specs.declared.header.MessageFault.TheVariants.{Truncated, Trailing}
-use Rattle.dia_wire.proofs.OneMessage.{one_length, no_fault, told_of, not_truncated, not_trailing}
+use Rattle.dia_wire.proofs.OneMessage.{one_length, no_fault, recorded_of, not_truncated, not_trailing}
 use Rattle.dia_wire.proofs.reading.split_message.Goals as goal
 
 pub returns-in_err-header-clause-truncated : goal.returns-in_err-header-clause-truncated
 returns-in_err-header-clause-truncated c = (
-  λ is. absurd (not_truncated _ (sym (told_of _ _ Truncated c.from_residual.ensures.1 is))),
+  λ is. absurd (not_truncated _ (sym (recorded_of _ _ Truncated c.from_residual.ensures.1 is))),
   λ (n, begins, less). absurd (no_fault _ n _ (λ e. c.in_err-header.ensures.short.0 (ap Err e))
       (λ e. c.in_err-header.ensures.version.0 (ap Err e)) (λ e. c.in_err-header.ensures.length_fault.0 (ap Err e)) begins),
 )
 
 pub returns-in_err-header-clause-trailing : goal.returns-in_err-header-clause-trailing
 returns-in_err-header-clause-trailing c = (
-  λ is. absurd (not_trailing _ (sym (told_of _ _ Trailing c.from_residual.ensures.1 is))),
+  λ is. absurd (not_trailing _ (sym (recorded_of _ _ Trailing c.from_residual.ensures.1 is))),
   λ (n, begins, more). absurd (no_fault _ n _ (λ e. c.in_err-header.ensures.short.0 (ap Err e))
       (λ e. c.in_err-header.ensures.version.0 (ap Err e)) (λ e. c.in_err-header.ensures.length_fault.0 (ap Err e)) begins),
 )

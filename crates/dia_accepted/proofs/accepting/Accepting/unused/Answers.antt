@@ -5,4 +5,4 @@ use Rattle.dia_accepted.proofs.Sets.{unused_by}
 use Rattle.dia_accepted.proofs.accepting.Accepting.unused.Goals as goal
 
 pub returns : goal.returns
-returns c = IfOk-weaker c.unmarked.result _ _ (λ entries is list told seen. unused_by c.args.self.now list told (map plain_entry entries.items) is seen) c.unmarked.ensures
+returns c = IfOk-weaker c.unmarked.result _ _ (λ entries is list recorded seen. unused_by c.args.self.now list recorded (map plain_entry entries.items) is seen) c.unmarked.ensures

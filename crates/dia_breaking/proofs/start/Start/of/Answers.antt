@@ -17,7 +17,7 @@ returns-clause-start g c =
     let up = c.args.upgrade.now in
     let s = sides_of up in
     let k = costs_of up.lengths in
-    start_found s.sender s.receiver up.telling.value k c.args.command _ up.apps.value c.in_ok-exits.exits up.first_apps up.second_apps
-    (subst (λ telling. AreExits telling k (rules_in s.sender c.args.command) c.in_ok-exits.exits) c.deref.ensures c.in_ok-exits.ensures)
+    start_found s.sender s.receiver up.recording.value k c.args.command _ up.apps.value c.in_ok-exits.exits up.first_apps up.second_apps
+    (subst (λ recording. AreExits recording k (rules_in s.sender c.args.command) c.in_ok-exits.exits) c.deref.ensures c.in_ok-exits.ensures)
     refl c.in_ok-walk_exits.ensures c.in_ok-readings.ensures
     (subst (λ readings. AreLevels (IsCommandLevel s.sender s.receiver k c.args.head.now) readings (map (λ lines. lines.items) c.in_ok-levels.levels.items)) c.deref-2.ensures.value c.in_ok-levels.ensures)

@@ -7,18 +7,18 @@ use Rattle.dia_breaking.specs.Confirmed.{HaveStandings, IsConfirmed, left_after}
 use Rattle.dia_breaking.specs.declared.heads.Head.{Head}
 use Rattle.dia_breaking.specs.Free.{AllAreValid}
 use Rattle.dia_breaking.specs.Headers.{head_in}
-use Rattle.dia_breaking.specs.Mended.{HasMessage}
-use Rattle.dia_breaking.specs.OwnBreaks.{TellsData}
+use Rattle.dia_breaking.specs.Corrected.{HasMessage}
+use Rattle.dia_breaking.specs.OwnBreaks.{RecordsData}
 use Rattle.dia_breaking.specs.ShownLines.{IsShown}
 use Rattle.dia_breaking.specs.TheLines.{IsOfHead}
-use Rattle.dia_breaking.specs.ToldMessages.{AreConfirmedWhere}
+use Rattle.dia_breaking.specs.RecordedMessages.{AreConfirmedWhere}
 use Rattle.dia_breaking.specs.Upgrades.{sides_of, stock_of}
 use Rattle.dia_breaking.specs.declared.line.Line.{Line}
 use Rattle.dia_breaking.specs.declared.line.Standing.TheVariants.{Confirmed, Unchecked}
 use Rattle.dia_breaking.specs.Words.{head_at}
 use Rattle.dia_breaking.proofs.AllMeanings.{none_meant}
 use Rattle.dia_breaking.proofs.FoundLines.{head_there, none_there}
-use Rattle.dia_breaking.proofs.FreeOfLines.{all_valid, nothing_told, unsent_mended, unsent_valid}
+use Rattle.dia_breaking.proofs.FreeOfLines.{all_valid, nothing_recorded, unsent_corrected, unsent_valid}
 use Rattle.dia_breaking.proofs.Lists.{none_of, when_ok, when_two}
 use Rattle.dia_breaking.proofs.StockOfUpgrade.{stock_is}
 use Rattle.dia_breaking.proofs.TooLong.{no_message_of_group}
@@ -36,21 +36,21 @@ lines_of-requires g c =
 pub returns-in-Some-clause-all : goal.returns-in-Some-clause-all
 returns-in-Some-clause-all g c =
     let s = sides_of c.args.self.now in
-    when_two _ _ _ c.lines_of.result (λ told own free none. ∥∥₁_map free (λ valid.
-    subst (λ (number : ℕ). AllAreValid s number) own (nothing_told s.sender s.receiver s.sends s.unknown told.sites.items told.lines.items told.command valid none)))
+    when_two _ _ _ c.lines_of.result (λ recorded own free none. ∥∥₁_map free (λ valid.
+    subst (λ (number : ℕ). AllAreValid s number) own (nothing_recorded s.sender s.receiver s.sends s.unknown recorded.sites.items recorded.lines.items recorded.command valid none)))
     c.lines_of.ensures.command c.lines_of.ensures.free
 
 pub returns-in-Some-clause-lines : goal.returns-in-Some-clause-lines
-returns-in-Some-clause-lines g c = when_ok _ _ c.lines_of.result (λ told lines some. lines) c.lines_of.ensures.lines
+returns-in-Some-clause-lines g c = when_ok _ _ c.lines_of.result (λ recorded lines some. lines) c.lines_of.ensures.lines
 
 pub returns-in-Some-clause-meanings : goal.returns-in-Some-clause-meanings
-returns-in-Some-clause-meanings g c = when_ok _ _ c.lines_of.result (λ told meanings some. meanings) c.lines_of.ensures.meanings
+returns-in-Some-clause-meanings g c = when_ok _ _ c.lines_of.result (λ recorded meanings some. meanings) c.lines_of.ensures.meanings
 
 pub returns-in-Some-clause-no_meanings : goal.returns-in-Some-clause-no_meanings
 returns-in-Some-clause-no_meanings g c =
     let s = sides_of c.args.self.now in
-    when_ok _ _ c.lines_of.result (λ told all none. ∥∥₁_map all
-    (none_meant s.sender s.receiver s.sends s.unknown told.command told.sites.items told.lines.items told.meanings.items none)) c.lines_of.ensures.all_meanings
+    when_ok _ _ c.lines_of.result (λ recorded all none. ∥∥₁_map all
+    (none_meant s.sender s.receiver s.sends s.unknown recorded.command recorded.sites.items recorded.lines.items recorded.meanings.items none)) c.lines_of.ensures.all_meanings
 
 pub returns-in-Some-clause-head : goal.returns-in-Some-clause-head
 returns-in-Some-clause-head g c =
@@ -77,18 +77,18 @@ returns-in-None g c =
     (sym c.in-None.is ∙ at_some (λ (y : PlainDefinition). c.head_of.result ≡ head_in y.head) (slice_get (definitions da) c.args.command) x.0 c.head_of.ensures x.1) in
     let valid = unsent_valid da s.receiver s.sends s.unknown c.args.command unsent in
     record {
-      mended = ∣ unsent_mended da s.receiver s.sends s.unknown _ _ c.args.command unsent ∣₁;
+      corrected = ∣ unsent_corrected da s.receiver s.sends s.unknown _ _ c.args.command unsent ∣₁;
       free = ∣ all_valid da s.receiver s.sends s.unknown _ _ c.args.command valid ∣₁;
       all = λ none. ∣ valid ∣₁;
       each = none_of (λ (line : Line). line.standing ≡ Confirmed → (bytes : List ℕ) × IsConfirmed s bytes c.args.command) c.new-lines.result.items c.new-lines.ensures.items;
-      each_mended = none_of (λ (line : Line). line.standing ≡ Confirmed → HasMessage s c.args.command c.new.result.items line) c.new-lines.result.items c.new-lines.ensures.items;
+      each_corrected = none_of (λ (line : Line). line.standing ≡ Confirmed → HasMessage s c.args.command c.new.result.items line) c.new-lines.result.items c.new-lines.ensures.items;
       standings = subst (HaveStandings c.args.left.now) (sym c.new-lines.ensures.items) tt;
       exactly = subst (AreConfirmedWhere s (stock_of c.args.self.now) c.args.command c.new.result.items c.args.left.now) (sym c.new-lines.ensures.items) tt;
       stock = stock_is c.args.self.now;
       shown = ∣ none_of (λ (line : Line). line.standing ≡ Confirmed → IsShown s (stock_of c.args.self.now) c.args.command c.new.result.items line) c.new-lines.result.items
           c.new-lines.ensures.items ∣₁;
       left = ap (left_after c.args.left.now) (sym c.new-lines.ensures.items);
-      formats = ∣ none_of (λ (line : Line). TellsData s line.cause) c.new-lines.result.items c.new-lines.ensures.items ∣₁;
+      formats = ∣ none_of (λ (line : Line). RecordsData s line.cause) c.new-lines.result.items c.new-lines.ensures.items ∣₁;
       command = refl;
       head = none_there _ (head_at da c.args.command) none;
       none = λ none. (c.new.ensures.items, c.new-lines.ensures.items, c.new-meanings.ensures.items);

@@ -3,13 +3,13 @@ use Rattle.std.specs.Prelude.{IfOk}
 use Rattle.std.proofs.Math.Logic.{∥∥₁_map₂}
 use Rattle.dia_breaking.specs.Free.{AreValidWhereFree}
 use Rattle.dia_breaking.specs.Headers.{HasHead}
-use Rattle.dia_breaking.specs.Mended.{AreValidOnceMended}
+use Rattle.dia_breaking.specs.Corrected.{AreValidOnceCorrected}
 use Rattle.dia_breaking.specs.Sides.{answer}
 use Rattle.dia_breaking.specs.TheLines.{HasTheLines, IsOfHead}
 use Rattle.dia_breaking.specs.TheMeanings.{AreMeaningsOf, AreMeant, HoldsOfLevels}
 use Rattle.dia_breaking.specs.Upgrades.{facts_of, sides_of}
 use Rattle.dia_breaking.specs.declared.heads.Head.{Head}
-use Rattle.dia_breaking.proofs.AllLines.{lines_free, lines_mended}
+use Rattle.dia_breaking.proofs.AllLines.{lines_free, lines_corrected}
 use Rattle.dia_breaking.proofs.AllMeanings.{all_meant}
 use Rattle.dia_breaking.proofs.FoundLines.{lines_found, meanings_found}
 use Rattle.dia_breaking.proofs.Lists.{when_three, when_two}
@@ -35,15 +35,15 @@ returns-clause-free g c =
     subst (λ number. AreValidWhereFree s (answer number breaks.sites.items breaks.lines.items)) (sym own) here))
     c.found_from.ensures.command c.found_from.ensures.few c.found_from.ensures.listing
 
-pub returns-clause-mended : goal.returns-clause-mended
-returns-clause-mended g c =
+pub returns-clause-corrected : goal.returns-clause-corrected
+returns-clause-corrected g c =
     let up = c.args.self.now in
     let s = sides_of up in
     let head = subst (λ (head : Head). HasHead s.sender c.args.command head) (sym c.in_ok-start.ensures.head) c.requires in
     when_three _ _ _ _ c.found_from.result (λ breaks own few found. ∥∥₁_map₂ up.known up.lengths.floors (λ facts floors.
-    let here = lines_mended s.sender s.receiver s.sends s.unknown (facts_of up) c.in_ok-start.start c.args.command breaks.sites.items breaks.lines.items
+    let here = lines_corrected s.sender s.receiver s.sends s.unknown (facts_of up) c.in_ok-start.start c.args.command breaks.sites.items breaks.lines.items
     (g.met.A.Book.sound up.lengths.book.now) (g.met.B.Book.sound up.b.now) facts floors head c.in_ok-start.ensures.start found (omega (arith, few)) in
-    subst (λ number. AreValidOnceMended s (answer number breaks.sites.items breaks.lines.items)) (sym own) here))
+    subst (λ number. AreValidOnceCorrected s (answer number breaks.sites.items breaks.lines.items)) (sym own) here))
     c.found_from.ensures.command c.found_from.ensures.few c.found_from.ensures.listing
 
 pub returns-clause-lines : goal.returns-clause-lines

@@ -15,7 +15,7 @@ returns g c =
           ∙ ap₂ (λ (own : List OwnBreaks) (steps : List Step). c.args.sites.items ++ group_sites own numbers.first numbers.count steps) c.deref.ensures.value c.deref-2.ensures.value;
       few = subst (λ (sites : List Site). length sites < 2 ^ 64) c.deref-3.ensures.value c.count_sites.ensures;
       lines = c.in_ok-lines.ensures.order;
-      meanings = c.in_ok-meanings.ensures.told;
+      meanings = c.in_ok-meanings.ensures.recorded;
       unchecked = c.in_ok-meanings.ensures.unchecked;
       formats = c.in_ok-lines.ensures.formats;
     }

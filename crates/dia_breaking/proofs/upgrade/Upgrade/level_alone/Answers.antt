@@ -1,6 +1,6 @@
 use Rattle.dia_breaking.specs.Upgrades.{sides_of, stock_of}
 use Rattle.dia_breaking.proofs.Nested.{alone_none, alone_some}
-use Rattle.dia_breaking.proofs.OnceMended.{no_some}
+use Rattle.dia_breaking.proofs.OnceCorrected.{no_some}
 use Rattle.dia_breaking.proofs.upgrade.Upgrade.level_alone.Goals as goal
 
 pub returns-in_default : goal.returns-in_default

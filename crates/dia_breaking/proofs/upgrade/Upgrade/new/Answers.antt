@@ -1,7 +1,7 @@
 use Rattle.std.proofs.Common.{List, map, refl, ap, subst, ◌∙◌}
 use Rattle.dia_breaking.specs.declared.exits.Outlook.{Outlook}
 use Rattle.dia_breaking.specs.declared.keys.Own.{Own}
-use Rattle.dia_breaking.specs.declared.keys.Telling.{Telling}
+use Rattle.dia_breaking.specs.declared.keys.Recording.{Recording}
 use Rattle.dia_breaking.specs.Exits.{AreOutlooks}
 use Rattle.dia_breaking.specs.Nodes.{node_in}
 use Rattle.dia_breaking.specs.OwnBreaks.{AreOwnBreaks}
@@ -24,10 +24,10 @@ invariant_of-result g c =
         are_least = c.in_ok-lengths.ensures.least;
         are_lengths = c.in_ok-lengths.ensures.entries;
         are_others = c.in_ok-lengths.ensures.others;
-        is_telling = c.in_ok-telling.ensures;
-        are_outlooks = subst (λ telling. AreOutlooks s.sender db telling k c.in_ok-outlooks.outlooks.items) c.deref.ensures c.in_ok-outlooks.ensures.exact;
+        is_recording = c.in_ok-recording.ensures;
+        are_outlooks = subst (λ recording. AreOutlooks s.sender db recording k c.in_ok-outlooks.outlooks.items) c.deref.ensures c.in_ok-outlooks.ensures.exact;
         have_lines = c.in_ok-outlooks.ensures.levels;
-        are_own = subst (λ (told : List Own). AreOwnBreaks s k.listed told c.in_ok-own.own.items) (c.deref-4.ensures.value ∙ ap (λ (t : Telling). t.own.items) c.deref-3.ensures) c.in_ok-own.ensures;
+        are_own = subst (λ (recorded : List Own). AreOwnBreaks s k.listed recorded c.in_ok-own.own.items) (c.deref-4.ensures.value ∙ ap (λ (t : Recording). t.own.items) c.deref-3.ensures) c.in_ok-own.ensures;
       } ∣₁;
       first_apps = c.in_ok-apps.ensures.first;
       second_apps = c.in_ok-apps.ensures.second;

@@ -12,7 +12,7 @@ loop-site-preserved g c =
     let inv = c.loop-site.invariant in
     record {
       fronts = front_more s k c.args.command path c.args.size c.loop-site.outer c.loop-site.out.items _ _ i _ c.loop-site-test.true c.in_ok-push_front.ensures.front inv.fronts;
-      rests = rest_more s k c.args.command path c.loop-site.outer (reverse c.loop-site.behind.items) _ _ i _ c.loop-site-test.true c.in_ok-push_front.ensures.rest inv.rests;
+      rests = rest_more s k c.args.command path c.loop-site.outer (reverse c.loop-site.following.items) _ _ i _ c.loop-site-test.true c.in_ok-push_front.ensures.rest inv.rests;
     }
 
 pub returns : goal.returns
@@ -25,5 +25,5 @@ returns g c =
     let past : length path ≤ i = omega (arith, c.loop-site-test.false) in
     record {
       fronts = front_all s k c.args.command path c.args.size c.loop-site.outer c.loop-site.out.items _ i past inv.fronts;
-      rests = rest_all s k c.args.command path c.loop-site.outer (reverse c.loop-site.behind.items) _ i past inv.rests;
+      rests = rest_all s k c.args.command path c.loop-site.outer (reverse c.loop-site.following.items) _ i past inv.rests;
     }

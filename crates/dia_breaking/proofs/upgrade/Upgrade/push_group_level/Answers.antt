@@ -3,7 +3,7 @@ use Rattle.std.specs.Prelude.{slice_get}
 use Rattle.std.proofs.lemmas.List.{length-map}
 use Rattle.dia_breaking.specs.Listing.{level_lines, lines_in}
 use Rattle.dia_breaking.proofs.Lists.{at_place}
-use Rattle.dia_breaking.proofs.ToldLists.{adds_past, adds_level, adds_no_level}
+use Rattle.dia_breaking.proofs.RecordedLists.{adds_past, adds_level, adds_no_level}
 use Rattle.dia_breaking.proofs.upgrade.Upgrade.push_group_level.Goals as goal
 
 pub returns-in-None-inner : goal.returns-in-None-inner

@@ -3,8 +3,8 @@ use Rattle.std.specs.Prelude.{slice_get}
 use Rattle.dia_breaking_ways.specs.declared.graph.Step.{Step}
 use Rattle.std.specs.Option.{option_map_or}
 use Rattle.std.proofs.lemmas.Option.{slice_get-get_or}
-use Rattle.dia_breaking.specs.Listing.{AddsTold, group_levels, level_lines, lines_in}
-use Rattle.dia_breaking.proofs.ToldLists.{adds_at, adds_none, adds_part, adds_each}
+use Rattle.dia_breaking.specs.Listing.{AddsRecorded, group_levels, level_lines, lines_in}
+use Rattle.dia_breaking.proofs.RecordedLists.{adds_at, adds_none, adds_part, adds_each}
 use Rattle.dia_breaking.proofs.upgrade.Upgrade.push_group_levels.Goals as goal
 
 pub loop-index-init : goal.loop-index-init
@@ -20,7 +20,7 @@ loop-index-preserved g c =
     let step = get_or steps i no_step in
     adds_part (λ k. option_map_or (f k) (slice_get steps k) []) i _ _ _ c.loop-index.invariant
     (adds_at (f i) steps i step _ _ (slice_get-get_or steps i no_step (omega arith))
-    (subst (λ (site : ℕ). AddsTold c.loop-index.lines.items c.push_group_level.new.lines.items (option_map_or (level_lines site step.way) (slice_get groups step.place) [])) c.saturating_add.ensures
+    (subst (λ (site : ℕ). AddsRecorded c.loop-index.lines.items c.push_group_level.new.lines.items (option_map_or (level_lines site step.way) (slice_get groups step.place) [])) c.saturating_add.ensures
     c.in_ok-push_group_level.ensures))
 
 pub returns : goal.returns

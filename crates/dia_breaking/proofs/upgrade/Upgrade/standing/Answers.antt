@@ -15,10 +15,10 @@ returns-then-not-is_checked-clause-exactly g c =
     (sym c.is_checked.ensures ∙ c.if-not-is_checked.true)
 
 pub returns-then-branch-clause-confirmed : goal.returns-then-branch-clause-confirmed
-returns-then-branch-clause-confirmed g c = λ is. let (bytes, told) = c.in_ok-is_broken.ensures.0 c.if-branch.true in (bytes, told.confirmed)
+returns-then-branch-clause-confirmed g c = λ is. let (bytes, recorded) = c.in_ok-is_broken.ensures.0 c.if-branch.true in (bytes, recorded.confirmed)
 
-pub returns-then-branch-clause-mended : goal.returns-then-branch-clause-mended
-returns-then-branch-clause-mended g c = λ is. let (bytes, told) = c.in_ok-is_broken.ensures.0 c.if-branch.true in (bytes, told.confirmed, told.behind)
+pub returns-then-branch-clause-corrected : goal.returns-then-branch-clause-corrected
+returns-then-branch-clause-corrected g c = λ is. let (bytes, recorded) = c.in_ok-is_broken.ensures.0 c.if-branch.true in (bytes, recorded.confirmed, recorded.following)
 
 pub returns-then-branch-clause-exactly : goal.returns-then-branch-clause-exactly
 returns-then-branch-clause-exactly g c =

@@ -18,7 +18,7 @@ returns g c =
     let has = sym c.format_of.ensures ∙ ap (option_map (λ (f : Bor Format). plain_format f.now)) c.in-Some.is in
     let bytes = c.deref.ensures.value ∙ c.in_ok-push_least.ensures ∙ ap (λ (front : List ℕ). front ++ least) c.new-bytes.ensures.items in
     record {
-      told = refl;
+      recorded = refl;
       exact = inr (
         refl,
         inr (takes_fine (g.B.Book.meaning up.b.now) c.args.key (plain_format c.in-Some.format.now) has c.shortest_head-head.result c.deref.result.now least
@@ -33,7 +33,7 @@ returns-then-is_refused g c =
     let has = sym c.format_of.ensures ∙ ap (option_map (λ (f : Bor Format). plain_format f.now)) c.in-Some.is in
     let bytes = c.deref.ensures.value ∙ c.in_ok-push_least.ensures ∙ ap (λ (front : List ℕ). front ++ least) c.new-bytes.ensures.items in
     record {
-      told = refl;
+      recorded = refl;
       exact = inl (
         refl,
         (
@@ -50,6 +50,6 @@ returns-in_default g c =
     let least = least_avp (g.A.Book.meaning up.lengths.book.now) up.lengths.least c.args.key in
     let has = sym c.format_of.ensures ∙ ap (option_map (λ (f : Bor Format). plain_format f.now)) c.in_default.is in
     record {
-      told = refl;
+      recorded = refl;
       exact = inr (refl, inr (subst (λ (o : Option PlainFormat). IfSome o (λ f. IsLeafAnswer Fine f (data_of c.args.key least))) (sym has) tt));
     }

@@ -14,7 +14,7 @@ unreachable-requires g c = ∥∥₁_elim c.args.self.now.known (λ a b. absurd 
     let s = sides_of up in
     let exits = plain_exits c.args.start.now.exits in
     let (command, is_start) = c.requires in
-    let shorter = levels_shorter s.sender s.receiver s.sends s.unknown up.lengths.entries.items up.lengths.others.items up.telling.value up.outlooks.items known.is_telling known.are_outlooks
+    let shorter = levels_shorter s.sender s.receiver s.sends s.unknown up.lengths.entries.items up.lengths.others.items up.recording.value up.outlooks.items known.is_recording known.are_outlooks
     (rules_in s.sender command) is_start.exits exits max_body is_start.are_exits is_start.exits_are in
     let here = subst (λ (nodes : List PlainNode). AreLevelsShorter (record { nodes = nodes; start = exits; room = max_body })) (sym (ap (map plain_node) c.deref.ensures.value ∙ up.graph)) shorter in
     let some = c.in_ok-walk.ensures.found here in

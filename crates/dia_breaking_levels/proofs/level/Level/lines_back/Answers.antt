@@ -10,8 +10,8 @@ use Rattle.dia_breaking_levels.specs.Offers.{AreTrueFrom, AreOfferedFrom}
 use Rattle.dia_breaking_levels.proofs.OfferedKeys.{listed_at, at_or_last, true_lower, offered_more, order_lines_more}
 use Rattle.dia_breaking_levels.proofs.level.Level.lines_back.Goals as goal
 
-pub told_at-requires-clause-place : goal.told_at-requires-clause-place
-told_at-requires-clause-place g c =
+pub recorded_at-requires-clause-place : goal.recorded_at-requires-clause-place
+recorded_at-requires-clause-place g c =
     let self = c.args.self.now in
     let b = rules_in (g.B.Book.meaning self.b.book.now) self.b.def in
     let rules = c.list-rules.result.now in
@@ -74,14 +74,14 @@ loop-left-preserved g c =
     let at : slice_get b i ≡ Some (get_or rules i d) = ap (λ (rs : List DRule). slice_get rs i) (sym c.list-rules.ensures) ∙ slice_get-get_or rules i d (omega (arith, some, same, le)) in
     let held = subst (λ (n : ℕ). AreTrueFrom listed other a b outer n old) next inv.true_from in
     let offered = subst (λ (n : ℕ). AreOfferedFrom listed other a b outer n old) next inv.offered in
-    let told = c.told_at.ensures outer held offered in
+    let recorded = c.recorded_at.ensures outer held offered in
     record {
       within = omega (arith, le);
       offers = c.offer_at.ensures.offers;
       offered = offered_more listed other a b outer i (get_or rules i d) c.offer_at.new.offers old at within c.offer_at.ensures.less c.offer_at.ensures.offered offered;
       true_from = c.offer_at.ensures.true_still outer (true_lower listed other a b outer i old held) (λ x is. inr (inl (listed_at b i (get_or rules i d) x at is)));
       lines =
-          order_lines_more self.floor listed other a b outer i d c.told_at.result c.push_told.new.lines.items c.loop-left.lines.items within
-          (subst (λ (rs : List DRule). IsOrderOf self.floor listed other a b outer (get_or rs i d).key c.told_at.result) c.list-rules.ensures told) c.in_ok-push_told.ensures
+          order_lines_more self.floor listed other a b outer i d c.recorded_at.result c.push_recorded.new.lines.items c.loop-left.lines.items within
+          (subst (λ (rs : List DRule). IsOrderOf self.floor listed other a b outer (get_or rs i d).key c.recorded_at.result) c.list-rules.ensures recorded) c.in_ok-push_recorded.ensures
           (subst (λ (n : ℕ). AreOrderLines self.floor listed other a b outer (drop n b) (reverse c.loop-left.lines.items)) next inv.lines);
     }

@@ -2,7 +2,7 @@ use Rattle.std.proofs.Common.{◌≡◌, ◌++◌, take, ap, ◌∙◌}
 use Rattle.dia_dict.specs.contracts.indexed_book.IndexedBookBook.TheImpl.{ghosts}
 use Rattle.dia_check.specs.Pauses.{HasPaused}
 use Rattle.dia_check.specs.Streaming.{Takes}
-use Rattle.dia_c_calls.proofs.Told.{if_ok}
+use Rattle.dia_c_calls.proofs.Recorded.{if_ok}
 use Rattle.dia_c_calls.proofs.feeding.Feeding.fed.Goals as goal
 
 pub returns-clause-taken : goal.returns-clause-taken

@@ -5,7 +5,7 @@ use Rattle.dia_ccf.proofs.reading.Reader.advance.Goals as goal
 pub invariant_of-self-clause-wants : goal.invariant_of-self-clause-wants
 invariant_of-self-clause-wants c =
     let old = c.args.self.now in
-    c.wanted_behind-self.ensures ∙ wants_next old.text.now old.taken old.at old.end old.token old.wanted c.requires old.counted old.begins old.wants
+    c.wanted_after-self.ensures ∙ wants_next old.text.now old.taken old.at old.end old.token old.wanted c.requires old.counted old.begins old.wants
 
 pub invariant_of-self-clause-before : goal.invariant_of-self-clause-before
 invariant_of-self-clause-before c =

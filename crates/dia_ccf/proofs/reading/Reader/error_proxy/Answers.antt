@@ -13,7 +13,7 @@ use Rattle.dia_ccf.proofs.ReaderInHeads.{keyword_passed}
 use Rattle.std.proofs.Common.{inl}
 use Rattle.dia_ccf.specs.Grammar.{◌then◌, comma, keyword, error_proxy}
 use Rattle.dia_ccf.proofs.ReaderPlaces.{along, unmoved}
-use Rattle.dia_ccf.proofs.HeadTokens.{bracketed_proxy, comma_passed, keyword_taken, keyword_read, behind_none}
+use Rattle.dia_ccf.proofs.HeadTokens.{bracketed_proxy, comma_passed, keyword_taken, keyword_read, after_none}
 use Rattle.dia_ccf.proofs.reading.Reader.error_proxy.Goals as goal
 
 abbrev proxied : PlainSource → List ℕ → State
@@ -95,7 +95,7 @@ returns-then-takes-clause-derived c =
 pub returns-then-takes-2-clause-derived : goal.returns-then-takes-2-clause-derived
 returns-then-takes-2-clause-derived c =
     let word = keyword (codes "pxy") in
-    behind_none (comma then word) c.args.self.now c.takes.new.self c.expect_keyword.new.self c.if-takes.ensures.1
+    after_none (comma then word) c.args.self.now c.takes.new.self c.expect_keyword.new.self c.if-takes.ensures.1
     (along comma word c.takes.new.self c.takes-2.new.self c.expect_keyword.new.self
     (comma_passed true c.takes.new.self c.takes-2.new.self c.if-takes-2.ensures)
     (keyword_read (codes "pxy") c.takes-2.new.self c.expect_keyword.new.self c.in_ok-expect_keyword.ensures))
@@ -103,7 +103,7 @@ returns-then-takes-2-clause-derived c =
 pub returns-then-takes_keyword-clause-derived : goal.returns-then-takes_keyword-clause-derived
 returns-then-takes_keyword-clause-derived c =
     let word = keyword (codes "pxy") in
-    behind_none (comma then word) c.args.self.now c.takes-2.new.self c.takes_keyword.new.self (c.if-takes-2.ensures.1 ∙ c.if-takes.ensures.1)
+    after_none (comma then word) c.args.self.now c.takes-2.new.self c.takes_keyword.new.self (c.if-takes-2.ensures.1 ∙ c.if-takes.ensures.1)
     (along comma word c.takes-2.new.self c.takes-2.new.self c.takes_keyword.new.self (unmoved comma c.takes-2.new.self c.takes-2.new.self refl (inl refl))
     (keyword_taken (codes "pxy") c.takes-2.new.self c.takes_keyword.new.self c.if-takes_keyword.ensures))
 

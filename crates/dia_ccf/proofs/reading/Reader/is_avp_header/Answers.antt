@@ -11,7 +11,7 @@ use Rattle.std.proofs.Common.{inl, inr, true}
 use Rattle.dia_ccf.specs.Grammar.{◌then◌, keyword}
 use Rattle.dia_ccf.specs.ReaderFunctions.{header_words}
 use Rattle.dia_ccf.proofs.ReaderPlaces.{along, of_class}
-use Rattle.dia_ccf.proofs.HeadTokens.{keyword_taken, keyword_read, behind_none}
+use Rattle.dia_ccf.proofs.HeadTokens.{keyword_taken, keyword_read, after_none}
 use Rattle.dia_ccf.proofs.reading.Reader.is_avp_header.Goals as goal
 
 avp_wanted : (done : PlainSource) (name : List ℕ) (ts : List Token)
@@ -125,7 +125,7 @@ pub returns-then-takes_keyword-2-clause-derived : goal.returns-then-takes_keywor
 returns-then-takes_keyword-2-clause-derived c =
     let word = keyword (codes "avp-header") in
     of_class word (header_words true) c.args.self.now c.takes_keyword-2.new.self (λ ts k. inr k)
-    (behind_none word c.args.self.now c.takes_keyword.new.self c.takes_keyword-2.new.self c.if-takes_keyword.ensures.1
+    (after_none word c.args.self.now c.takes_keyword.new.self c.takes_keyword-2.new.self c.if-takes_keyword.ensures.1
     (keyword_taken (codes "avp-header") c.takes_keyword.new.self c.takes_keyword-2.new.self c.if-takes_keyword-2.ensures))
 
 pub returns-in_ok-expect_keyword-2-clause-derived : goal.returns-in_ok-expect_keyword-2-clause-derived
@@ -134,7 +134,7 @@ returns-in_ok-expect_keyword-2-clause-derived c =
     let second = keyword (codes "header") in
     let last = c.expect_keyword-then-takes_keyword-3.new.self in
     of_class (first then second) (header_words false) c.args.self.now last (λ ts k. inl k)
-    (behind_none (first then second) c.args.self.now c.takes_keyword-2.new.self last (c.if-takes_keyword-2.ensures.1 ∙ c.if-takes_keyword.ensures.1)
+    (after_none (first then second) c.args.self.now c.takes_keyword-2.new.self last (c.if-takes_keyword-2.ensures.1 ∙ c.if-takes_keyword.ensures.1)
     (along first second c.takes_keyword-2.new.self c.takes_keyword-3.new.self last (keyword_taken (codes "diameter") c.takes_keyword-2.new.self c.takes_keyword-3.new.self c.if-takes_keyword-3.ensures)
     (keyword_read (codes "header") c.takes_keyword-3.new.self last c.in_ok-expect_keyword-2.ensures)))
 
@@ -143,5 +143,5 @@ returns-in_ok-expect_keyword-3-clause-derived c =
     let word = keyword (codes "diameter-header") in
     let last = c.expect_keyword-else-takes_keyword-3.new.self in
     of_class word (header_words false) c.args.self.now last (λ ts k. inr k)
-    (behind_none word c.args.self.now c.takes_keyword-3.new.self last (c.if-takes_keyword-3.ensures.1 ∙ c.if-takes_keyword-2.ensures.1 ∙ c.if-takes_keyword.ensures.1)
+    (after_none word c.args.self.now c.takes_keyword-3.new.self last (c.if-takes_keyword-3.ensures.1 ∙ c.if-takes_keyword-2.ensures.1 ∙ c.if-takes_keyword.ensures.1)
     (keyword_read (codes "diameter-header") c.takes_keyword-3.new.self last c.in_ok-expect_keyword-3.ensures))

@@ -20,7 +20,7 @@ loop-met-preserved-then-rule-place c =
     let index = c.loop-met.met-index in
     let at = slice_get-get_or items index no_met c.loop-met-test.true in
     record {
-      behind = c.loop-met.invariant.behind;
+      following = c.loop-met.invariant.following;
       inside = c.loop-met.invariant.inside;
       wanted = c.loop-met.invariant.wanted;
       met = c.loop-met.invariant.met;
@@ -37,15 +37,15 @@ returns-then-place-rule c =
     let here = slice_get-get_or c.args.rules.now place no_rule lt in
     let same = c.loop-met.invariant.same place (omega arith) in
     record {
-      from_here = c.loop-met.invariant.behind;
+      from_here = c.loop-met.invariant.following;
       inside = c.loop-met.invariant.inside;
       rule = get_or c.args.rules.now place no_rule;
       is_rule = here;
       unmet = elim c.then-place-rule.branch [
         | then-place-rule-via-then-place-rule w ↦ let none = count_none items index _ at place c.from_rule-met-items.ensures.rising w.if-place-rule.true in
             let least = c.loop-met.invariant.wanted (get_or c.args.rules.now place no_rule) here in omega (arith, none, same, least)
-        | then-place-rule-via-else-place-rule+then-met-rules w ↦ let told = count_first items index _ at place (omega (arith, c.if-rule-place.false, w.if-place-rule.false)) in
-            omega (arith, told, same, w.if-met-rules.true)
+        | then-place-rule-via-else-place-rule+then-met-rules w ↦ let recorded = count_first items index _ at place (omega (arith, c.if-rule-place.false, w.if-place-rule.false)) in
+            omega (arith, recorded, same, w.if-met-rules.true)
       ];
       met_before = c.loop-met.invariant.met;
     }
@@ -58,9 +58,9 @@ returns-then-to-place-2 c i rule above below there =
     let at = slice_get-get_or items index no_met c.loop-met-test.true in
     let lt : place < length c.args.rules.now = omega (arith, c.loop-met.invariant.inside, c.requires.within.1) in
     let same = c.loop-met.invariant.same place (omega arith) in
-    let told = count_first items index _ at place (omega (arith, c.if-rule-place.false, c.if-place-rule.false)) in
+    let recorded = count_first items index _ at place (omega (arith, c.if-rule-place.false, c.if-place-rule.false)) in
     met_next c.args.rules.now c.args.tally.now c.args.from place c.first_wanted-place-in-loop-met.result (get_or c.args.rules.now place no_rule) c.loop-met.invariant.met
-    (slice_get-get_or c.args.rules.now place no_rule lt) (omega (arith, told, same, c.if-met-rules.false)) c.first_wanted-place-in-loop-met.ensures i rule above
+    (slice_get-get_or c.args.rules.now place no_rule lt) (omega (arith, recorded, same, c.if-met-rules.false)) c.first_wanted-place-in-loop-met.ensures i rule above
     (omega (arith, below, c.if-to-place-2.true)) there
 
 pub loop-met-preserved : goal.loop-met-preserved
@@ -72,14 +72,14 @@ loop-met-preserved c =
     let at = slice_get-get_or items index no_met c.loop-met-test.true in
     let lt : place < length c.args.rules.now = omega (arith, c.loop-met.invariant.inside, c.requires.within.1) in
     let same = c.loop-met.invariant.same place (omega arith) in
-    let told = count_first items index _ at place (omega (arith, c.if-rule-place.false, c.if-place-rule.false)) in
+    let recorded = count_first items index _ at place (omega (arith, c.if-rule-place.false, c.if-place-rule.false)) in
     record {
-      behind = omega (arith, c.loop-met.invariant.behind, next.behind);
+      following = omega (arith, c.loop-met.invariant.following, next.following);
       inside = c.if-to-place-2.false;
       wanted = next.wanted;
       met = met_next c.args.rules.now c.args.tally.now c.args.from place c.first_wanted-place-in-loop-met.result (get_or c.args.rules.now place no_rule) c.loop-met.invariant.met
-          (slice_get-get_or c.args.rules.now place no_rule lt) (omega (arith, told, same, c.if-met-rules.false)) next;
-      same = λ i le. count_next items index _ at i (λ e. omega (arith, e, le, next.behind, c.if-place-rule.false)) ∙ c.loop-met.invariant.same i (omega (arith, le, next.behind));
+          (slice_get-get_or c.args.rules.now place no_rule lt) (omega (arith, recorded, same, c.if-met-rules.false)) next;
+      same = λ i le. count_next items index _ at i (λ e. omega (arith, e, le, next.following, c.if-place-rule.false)) ∙ c.loop-met.invariant.same i (omega (arith, le, next.following));
     }
 
 pub returns : goal.returns
@@ -88,7 +88,7 @@ returns c =
     let lt : place < length c.args.rules.now = omega (arith, c.loop-met.invariant.inside, c.requires.within.1) in
     let here = slice_get-get_or c.args.rules.now place no_rule lt in
     record {
-      from_here = c.loop-met.invariant.behind;
+      from_here = c.loop-met.invariant.following;
       inside = c.loop-met.invariant.inside;
       rule = get_or c.args.rules.now place no_rule;
       is_rule = here;

@@ -7,7 +7,7 @@ use Rattle.dia_check.proofs.open_levels.unmet.unmet_among.Given as goal
 
 abbrev pub invariant-loop-met : goal.invariant-loop-met
 invariant-loop-met l = record {
-  behind : l.from ≤ l.place;
+  following : l.from ≤ l.place;
   inside : l.place < l.to;
   wanted : (rule : DRule) → slice_get l.rules l.place ≡ Some rule → 1 ≤ rule.min;
   met : AreMet l.rules l.tally l.from l.place;

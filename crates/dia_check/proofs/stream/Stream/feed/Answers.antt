@@ -3,7 +3,7 @@ use Rattle.std.proofs.lemmas.Bool.{both_ways, eq-eqb, eqb-true}
 use Rattle.std.proofs.lemmas.List.{append_assoc, length-append, length-drop, take_rest}
 use Rattle.std.proofs.lemmas.Result.{err_from_is_err_and}
 use Rattle.dia_check.specs.Streaming.{OpensLevel, taken_of}
-use Rattle.dia_check.specs.Streams.{StandsFor}
+use Rattle.dia_check.specs.Streams.{Denotes}
 use Rattle.dia_check.proofs.StreamStages.{least_wanted, not_spent_error, opens_sooner, rest_of, take_plus, takes}
 use Rattle.dia_check.proofs.stream.Stream.feed.Goals as goal
 
@@ -17,7 +17,7 @@ pub take_header-requires : goal.take_header-requires
 take_header-requires g c = λ s. both_ways c.is_spent.result c.if-is_spent.false (c.is_spent.ensures.1 s)
 
 pub returns-in_err-head-clause-no_memory : goal.returns-in_err-head-clause-no_memory
-returns-in_err-head-clause-no_memory g c q d u most bytes stands = c.in_err-head.ensures.no_memory d u most bytes stands
+returns-in_err-head-clause-no_memory g c q d u most bytes occurs = c.in_err-head.ensures.no_memory d u most bytes occurs
 
 pub returns-in_err-head-clause-spent : goal.returns-in_err-head-clause-spent
 returns-in_err-head-clause-spent g c =
@@ -28,9 +28,9 @@ pub returns-in_err-head-clause-err : goal.returns-in_err-head-clause-err
 returns-in_err-head-clause-err g c = let p = err_from_is_err_and c.from_residual.result c.from_residual.ensures.1 in rw p.1 c.in_err-head.ensures.err.1
 
 pub returns-then-self-lt-HEADER_LENGTH-clause-taken : goal.returns-then-self-lt-HEADER_LENGTH-clause-taken
-returns-then-self-lt-HEADER_LENGTH-clause-taken g c d u most bytes stands =
+returns-then-self-lt-HEADER_LENGTH-clause-taken g c d u most bytes occurs =
     let mid = c.take_header.new.self in
-    let now = c.in_ok-head.ensures.taken d u most bytes stands in
+    let now = c.in_ok-head.ensures.taken d u most bytes occurs in
     let all = c.in_ok-head.ensures.all c.if-self-lt-HEADER_LENGTH.true in (
       takes d u most mid.taken mid.wanted mid.stage bytes c.args.piece.now c.in_ok-head.head false now.taken (omega (arith, all)) (inl all) (
         λ is. absurd cc,
@@ -53,8 +53,8 @@ pub take_body-requires-clause-not_spent : goal.take_body-requires-clause-not_spe
 take_body-requires-clause-not_spent g c = c.in_ok-head.ensures.goes_on
 
 pub returns-in_err-body-clause-no_memory : goal.returns-in_err-body-clause-no_memory
-returns-in_err-body-clause-no_memory g c q d u most bytes stands =
-    let now = c.in_ok-head.ensures.taken d u most bytes stands in
+returns-in_err-body-clause-no_memory g c q d u most bytes occurs =
+    let now = c.in_ok-head.ensures.taken d u most bytes occurs in
     let head = c.in_ok-head.head in
     let piece = c.args.piece.now in
     let front = take head piece in
@@ -75,18 +75,18 @@ pub returns-in_err-body-clause-err : goal.returns-in_err-body-clause-err
 returns-in_err-body-clause-err g c = let p = err_from_is_err_and c.from_residual-in_err-body.result c.from_residual-in_err-body.ensures.1 in rw p.1 c.in_err-body.ensures.err.1
 
 pub returns-clause-taken : goal.returns-clause-taken
-returns-clause-taken g c d u most bytes stands =
+returns-clause-taken g c d u most bytes occurs =
     let new = c.take_body.new.self in
     let head = c.in_ok-head.head in
     let body = c.in_ok-body.body in
     let piece = c.args.piece.now in
-    let mid = c.in_ok-head.ensures.taken d u most bytes stands in
+    let mid = c.in_ok-head.ensures.taken d u most bytes occurs in
     let slice = take (length piece - head) (drop head piece) in
     let cut : slice ≡ drop head piece = take_rest piece head in
     let parts : (bytes ++ take head piece) ++ take body slice ≡ bytes ++ take (head + body) piece = ap (λ (p : List ℕ). (bytes ++ take head piece) ++ take body p) cut
     ∙ append_assoc bytes (take head piece) (take body (drop head piece))
     ∙ ap (λ (t : List ℕ). bytes ++ t) (take_plus head body piece) in
-    let now = subst (λ (b : List ℕ). StandsFor g.B.Book.meaning new d u most b) parts (c.in_ok-body.ensures.taken d u most (bytes ++ take head piece) mid) in
+    let now = subst (λ (b : List ℕ). Denotes g.B.Book.meaning new d u most b) parts (c.in_ok-body.ensures.taken d u most (bytes ++ take head piece) mid) in
     let a = c.in_ok-head.ensures.within in let b = c.in_ok-body.ensures.within in let l = length-drop head piece in let k = ap length cut in
     let before = mid.taken.count in let count = now.taken.count in let long = c.if-self-lt-HEADER_LENGTH.false in
     let size = length-append (bytes ++ take head piece) (take body slice) in let same = ap length parts in

@@ -7,10 +7,10 @@ use Rattle.dia_check.specs.Streaming.{HasRead, IsStage, IsWholeAnswer, wanted}
 use Rattle.dia_check.proofs.stream.Stream.finish.Goals as goal
 
 pub returns-in-Over-clause-answer : goal.returns-in-Over-clause-answer
-returns-in-Over-clause-answer g c fresh d u most bytes stands =
-    let (long, whole, however) = subst (λ (s : Stage). HasRead d u most bytes s) c.in-Over.is stands.taken.read in
+returns-in-Over-clause-answer g c fresh d u most bytes occurs =
+    let (long, whole, however) = subst (λ (s : Stage). HasRead d u most bytes s) c.in-Over.is occurs.taken.read in
     let end = append-nil bytes in
-    let size : length (bytes ++ []) ≡ _ = ap length end ∙ (let n = stands.taken.count in let w = stands.taken.wants in let t = c.if-self.true in omega (arith, n, w, t)) in
+    let size : length (bytes ++ []) ≡ _ = ap length end ∙ (let n = occurs.taken.count in let w = occurs.taken.wants in let t = c.if-self.true in omega (arith, n, w, t)) in
     subst (λ (b : List ℕ). IsAnswer d u most b c.in-Over.answer) end (however [] size)
 
 pub returns-in-Over-clause-memory : goal.returns-in-Over-clause-memory

@@ -18,15 +18,15 @@ overflow_add-result g c =
     omega (arith, small)
 
 pub returns-in-InBody-clause-count : goal.returns-in-InBody-clause-count
-returns-in-InBody-clause-count g c live d u most bytes stands =
+returns-in-InBody-clause-count g c live d u most bytes occurs =
     let s = c.args.self.now in
-    counts_body d stands.taken.sound u most bytes c.in-InBody.body s.taken s.wanted (subst (λ (t : Stage). HasTaken d u most s.taken s.wanted t bytes) c.in-InBody.is stands.taken)
+    counts_body d occurs.taken.sound u most bytes c.in-InBody.body s.taken s.wanted (subst (λ (t : Stage). HasTaken d u most s.taken s.wanted t bytes) c.in-InBody.is occurs.taken)
     c.depth.result (λ message good outer level now. c.depth.ensures (definitions d) outer level now)
 
 pub returns-in_default : goal.returns-in_default
 returns-in_default g c =
     let s = c.args.self.now in
     record {
-      count = λ live d u most bytes stands. counts_zero d stands.taken.sound u most bytes s.stage c.in_default.not-InBody live s.taken s.wanted stands.taken;
+      count = λ live d u most bytes occurs. counts_zero d occurs.taken.sound u most bytes s.stage c.in_default.not-InBody live s.taken s.wanted occurs.taken;
       spent = λ x. refl;
     }

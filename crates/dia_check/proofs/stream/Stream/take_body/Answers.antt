@@ -6,7 +6,7 @@ use Rattle.std.specs.Prelude.{◌^◌}
 use Rattle.dia_book.specs.Dictionary.{Dictionary}
 use Rattle.dia_policy.specs.declared.Unknown.{Unknown}
 use Rattle.dia_policy.specs.declared.Levels.{Levels}
-use Rattle.dia_check.specs.Streaming.{HasTaken, IsSpentStage, OpensBehind, OpensLevel, taken_of}
+use Rattle.dia_check.specs.Streaming.{HasTaken, IsSpentStage, OpensAfter, OpensLevel, taken_of}
 use Rattle.dia_check.proofs.StreamStages.{body_opens, body_taken, has_taken, is_stage, live_stage, may_read, memory_of, moved, taken_within}
 use Rattle.dia_check.proofs.stream.Stream.take_body.Goals as goal
 
@@ -50,30 +50,30 @@ invariant_of-self g c =
           let may = may_read d s.basis.unknown s.basis.levels s.taken s.wanted s.stage bytes c.args.piece.now h c.requires.header n (omega (arith, m)) (omega (arith, m)) in
           is_stage d s.basis.unknown s.basis.levels (s.taken + n) s.wanted c.read_stage.new.stage (bytes ++ take n c.args.piece.now) (λ live.
           body_taken d s.basis.unknown s.basis.levels s.taken s.wanted s.stage bytes c.args.piece.now h c.requires.header n (omega (arith, m)) (omega (arith, m))
-          (OpensBehind d s.basis.levels s.taken (bytes ++ take n c.args.piece.now)) c.read_stage.new.stage (c.read_stage.ensures bytes may) live));
+          (OpensAfter d s.basis.levels s.taken (bytes ++ take n c.args.piece.now)) c.read_stage.new.stage (c.read_stage.ensures bytes may) live));
     }
 
 pub returns-in_default-clause-within : goal.returns-in_default-clause-within
 returns-in_default-clause-within g c = let m = c.min-count.ensures in omega (arith, m)
 
 pub returns-in_default-clause-taken : goal.returns-in_default-clause-taken
-returns-in_default-clause-taken g c d u most bytes stands =
+returns-in_default-clause-taken g c d u most bytes occurs =
     let s = c.args.self.now in
     let e = g.B.Book.meaning s.basis.book.now in
     let n = c.min-count.result in
     let m = c.min-count.ensures in
     let h = moved (λ (x : Dictionary) (y : Unknown) (z : Levels). HasTaken x y z s.taken s.wanted s.stage bytes) d e u s.basis.unknown most s.basis.levels
-    (sym stands.book) (sym stands.unknown) (sym stands.levels) stands.taken in
+    (sym occurs.book) (sym occurs.unknown) (sym occurs.levels) occurs.taken in
     let may = may_read e s.basis.unknown s.basis.levels s.taken s.wanted s.stage bytes c.args.piece.now h c.requires.header n (omega (arith, m)) (omega (arith, m)) in
     let new = body_taken e s.basis.unknown s.basis.levels s.taken s.wanted s.stage bytes c.args.piece.now h c.requires.header n (omega (arith, m)) (omega (arith, m))
-    (OpensBehind e s.basis.levels s.taken (bytes ++ take n c.args.piece.now)) c.read_stage.new.stage
+    (OpensAfter e s.basis.levels s.taken (bytes ++ take n c.args.piece.now)) c.read_stage.new.stage
     (c.read_stage.ensures bytes may) (live_stage c.read_stage.new.stage c.in_default.not-NoMemory) in
     record {
-      book = stands.book;
-      unknown = stands.unknown;
-      levels = stands.levels;
+      book = occurs.book;
+      unknown = occurs.unknown;
+      levels = occurs.levels;
       taken = moved (λ (x : Dictionary) (y : Unknown) (z : Levels). HasTaken x y z (s.taken + n) s.wanted c.read_stage.new.stage (bytes ++ take n c.args.piece.now))
-          e d s.basis.unknown u s.basis.levels most stands.book stands.unknown stands.levels new;
+          e d s.basis.unknown u s.basis.levels most occurs.book occurs.unknown occurs.levels new;
     }
 
 pub returns-in_default-clause-all : goal.returns-in_default-clause-all
@@ -90,18 +90,18 @@ pub returns-in_default-clause-goes_on : goal.returns-in_default-clause-goes_on
 returns-in_default-clause-goes_on g c = live_stage c.read_stage.new.stage c.in_default.not-NoMemory
 
 pub returns-in-NoMemory-clause-no_memory : goal.returns-in-NoMemory-clause-no_memory
-returns-in-NoMemory-clause-no_memory g c d u most bytes stands =
+returns-in-NoMemory-clause-no_memory g c d u most bytes occurs =
     let s = c.args.self.now in
     let e = g.B.Book.meaning s.basis.book.now in
     let n = c.min-count.result in
     let m = c.min-count.ensures in
     let h = moved (λ (x : Dictionary) (y : Unknown) (z : Levels). HasTaken x y z s.taken s.wanted s.stage bytes) d e u s.basis.unknown most s.basis.levels
-    (sym stands.book) (sym stands.unknown) (sym stands.levels) stands.taken in
+    (sym occurs.book) (sym occurs.unknown) (sym occurs.levels) occurs.taken in
     let may = may_read e s.basis.unknown s.basis.levels s.taken s.wanted s.stage bytes c.args.piece.now h c.requires.header n (omega (arith, m)) (omega (arith, m)) in
-    let memory = memory_of (OpensBehind e s.basis.levels s.taken (bytes ++ take n c.args.piece.now)) e s.basis.unknown s.basis.levels
+    let memory = memory_of (OpensAfter e s.basis.levels s.taken (bytes ++ take n c.args.piece.now)) e s.basis.unknown s.basis.levels
     (bytes ++ take n c.args.piece.now) c.read_stage.new.stage (subst IsSpentStage (sym c.in-NoMemory.is) tt) (c.read_stage.ensures bytes may) in
     moved (λ (x : Dictionary) (y : Unknown) (z : Levels). OpensLevel x z bytes (drop (length bytes) (taken_of (bytes ++ c.args.piece.now))))
-    e d s.basis.unknown u s.basis.levels most stands.book stands.unknown stands.levels
+    e d s.basis.unknown u s.basis.levels most occurs.book occurs.unknown occurs.levels
     (body_opens e s.basis.unknown s.basis.levels s.taken s.wanted s.stage bytes c.args.piece.now h c.requires.header n (omega (arith, m)) (omega (arith, m)) (λ less. omega (arith, m, less)) memory)
 
 pub returns-in-NoMemory-clause-err : goal.returns-in-NoMemory-clause-err

@@ -29,7 +29,7 @@ admit-requires-clause-open_levels g c =
     let kept = c.in_ok-start.ensures.kept (ap (λ o. Ok o) c.in_default.is) in
     ∥∥₁_map c.requires (λ x. let (bytes, good, small, h) = x in
     let room = few (g.B.Book.meaning c.args.basis.now.book.now) (g.met.B.Book.sound c.args.basis.now.book.now) c.args.basis.now.unknown c.args.basis.now.levels bytes good c.args.open_levels.now c.args.at h.under_way in
-    (map so_far h.under_way.rests, so_far h.under_way.s, rw kept h.under_way.stands, omega (arith, room, small)))
+    (map so_far h.under_way.rests, so_far h.under_way.s, rw kept h.under_way.occurs, omega (arith, room, small)))
 
 pub fault-requires : goal.fault-requires
 fault-requires g c =
@@ -44,7 +44,7 @@ returns-in-Some-admit g c bytes good h =
     let kept = c.in_ok-start.ensures.kept (ap (λ o. Ok o) c.in_default.is) in
     let key = c.head_key-key.ensures ∙ same_key d (g.met.B.Book.sound c.args.basis.now.book.now) c.args.basis.now.unknown c.args.basis.now.levels bytes good c.args.open_levels.now c.args.at c.args.head.now h _ refl in
     rw c.fault.ensures (not_admitted d (g.met.B.Book.sound c.args.basis.now.book.now) c.args.basis.now.unknown c.args.basis.now.levels bytes good c.args.open_levels.now c.args.at c.args.head.now h _ key c.in-Some-admit.wrong
-    (c.in-Some-admit.ensures (map so_far h.under_way.rests) (so_far h.under_way.s) (rw kept h.under_way.stands)))
+    (c.in-Some-admit.ensures (map so_far h.under_way.rests) (so_far h.under_way.s) (rw kept h.under_way.occurs)))
 
 pub overflow_add-end : goal.overflow_add-end
 overflow_add-end g c =
@@ -73,7 +73,7 @@ returns-then-at-head_length g c bytes good h =
     let d = g.B.Book.meaning c.args.basis.now.book.now in
     let kept = c.in_ok-start.ensures.kept (ap (λ o. Ok o) c.in_default.is) in
     let key = c.head_key-key.ensures ∙ same_key d (g.met.B.Book.sound c.args.basis.now.book.now) c.args.basis.now.unknown c.args.basis.now.levels bytes good c.args.open_levels.now c.args.at c.args.head.now h _ refl in
-    let admits = c.in_default-admit.ensures (map so_far h.under_way.rests) (so_far h.under_way.s) (rw kept h.under_way.stands) in
+    let admits = c.in_default-admit.ensures (map so_far h.under_way.rests) (so_far h.under_way.s) (rw kept h.under_way.occurs) in
     let none = c.in_ok-start.ensures.no_group (ap (λ o. Ok o) c.in_default.is) in
     let begun = data_begun d (g.met.B.Book.sound c.args.basis.now.book.now)
     c.args.basis.now.unknown c.args.basis.now.levels bytes good c.args.open_levels.now c.args.at c.args.head.now h _ key c.admit.new.open_levels admits.0 admits.1
@@ -86,7 +86,7 @@ end_data-requires g c =
     let kept = c.in_ok-start.ensures.kept (ap (λ o. Ok o) c.in_default.is) in
     ∥∥₁_map c.requires (λ x. let (bytes, good, small, h) = x in
     let key = c.head_key-key.ensures ∙ same_key d (g.met.B.Book.sound c.args.basis.now.book.now) c.args.basis.now.unknown c.args.basis.now.levels bytes good c.args.open_levels.now c.args.at c.args.head.now h _ refl in
-    let admits = c.in_default-admit.ensures (map so_far h.under_way.rests) (so_far h.under_way.s) (rw kept h.under_way.stands) in
+    let admits = c.in_default-admit.ensures (map so_far h.under_way.rests) (so_far h.under_way.s) (rw kept h.under_way.occurs) in
     let none = c.in_ok-start.ensures.no_group (ap (λ o. Ok o) c.in_default.is) in
     let begun = data_begun d (g.met.B.Book.sound c.args.basis.now.book.now)
     c.args.basis.now.unknown c.args.basis.now.levels bytes good c.args.open_levels.now c.args.at c.args.head.now h _ key c.admit.new.open_levels admits.0 admits.1
@@ -98,7 +98,7 @@ returns-else-at-head_length g c bytes good h =
     let d = g.B.Book.meaning c.args.basis.now.book.now in
     let kept = c.in_ok-start.ensures.kept (ap (λ o. Ok o) c.in_default.is) in
     let key = c.head_key-key.ensures ∙ same_key d (g.met.B.Book.sound c.args.basis.now.book.now) c.args.basis.now.unknown c.args.basis.now.levels bytes good c.args.open_levels.now c.args.at c.args.head.now h _ refl in
-    let admits = c.in_default-admit.ensures (map so_far h.under_way.rests) (so_far h.under_way.s) (rw kept h.under_way.stands) in
+    let admits = c.in_default-admit.ensures (map so_far h.under_way.rests) (so_far h.under_way.s) (rw kept h.under_way.occurs) in
     let none = c.in_ok-start.ensures.no_group (ap (λ o. Ok o) c.in_default.is) in
     let begun = data_begun d (g.met.B.Book.sound c.args.basis.now.book.now)
     c.args.basis.now.unknown c.args.basis.now.levels bytes good c.args.open_levels.now c.args.at c.args.head.now h _ key c.admit.new.open_levels admits.0 admits.1

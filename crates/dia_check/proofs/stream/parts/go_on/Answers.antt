@@ -49,7 +49,7 @@ returns-in-Some g c u most bytes good from =
     let place = sym same in
     let none = all_read d (g.met.B.Book.sound c.args.book.now) u most bytes good c.loop-open_levels.open_levels c.args.at w (omega (arith, within, same, c.if-at-end.false)) in
     rw (c.fault.ensures, ← place) (found_missing d (g.met.B.Book.sound c.args.book.now) u most bytes good c.loop-open_levels.open_levels c.args.at w c.in-Some.wrong none
-    (c.in-Some.ensures (map so_far w.rests) (so_far w.s) w.stands))
+    (c.in-Some.ensures (map so_far w.rests) (so_far w.s) w.occurs))
 
 pub returns-then-not-close : goal.returns-then-not-close
 returns-then-not-close g c u most bytes good from =
@@ -58,8 +58,8 @@ returns-then-not-close g c u most bytes good from =
     let within = at_within d (g.met.B.Book.sound c.args.book.now) c.loop-open_levels.open_levels c.args.at c.loop-open_levels.invariant.0 in
     let same = ap (λ (k : OpenLevel). k.end) c.innermost-end.ensures in
     let none = all_read d (g.met.B.Book.sound c.args.book.now) u most bytes good c.loop-open_levels.open_levels c.args.at w (omega (arith, within, same, c.if-at-end.false)) in
-    let alone = c.if-not-close.ensures.last refl (definitions d) (map so_far w.rests) (so_far w.s) w.stands in (
-      all_done d (g.met.B.Book.sound c.args.book.now) u most bytes good c.loop-open_levels.open_levels c.args.at w none (c.in_default.ensures (map so_far w.rests) (so_far w.s) w.stands) alone,
+    let alone = c.if-not-close.ensures.last refl (definitions d) (map so_far w.rests) (so_far w.s) w.occurs in (
+      all_done d (g.met.B.Book.sound c.args.book.now) u most bytes good c.loop-open_levels.open_levels c.args.at w none (c.in_default.ensures (map so_far w.rests) (so_far w.s) w.occurs) alone,
       all_reached d (g.met.B.Book.sound c.args.book.now) u most bytes good c.loop-open_levels.open_levels c.args.at w none alone,
     )
 
@@ -67,7 +67,7 @@ pub loop-open_levels-smaller : goal.loop-open_levels-smaller
 loop-open_levels-smaller g c =
     let d = g.B.Book.meaning c.args.book.now in
     ∥∥₁_elim c.loop-open_levels.invariant.0 le_prop (λ x. let (u, most, bytes, good, few, w) = x in
-    let (others, next, parts, now) = c.if-not-close.ensures.inner refl (definitions d) (map so_far w.rests) (so_far w.s) w.stands in
+    let (others, next, parts, now) = c.if-not-close.ensures.inner refl (definitions d) (map so_far w.rests) (so_far w.s) w.occurs in
     fewer d (g.met.B.Book.sound c.args.book.now) u most bytes good c.loop-open_levels.open_levels c.args.at w c.close.new.self others next parts now)
 
 pub loop-open_levels-preserved : goal.loop-open_levels-preserved
@@ -78,9 +78,9 @@ loop-open_levels-preserved g c =
     let closed : (u : Unknown) (most : Levels) (bytes : List ℕ) (good : HasGoodHeader d bytes)
     → IsUnderWay d u most bytes good c.loop-open_levels.open_levels c.args.at → IsUnderWay d u most bytes good c.close.new.self c.args.at = λ u most bytes good w.
     let none = all_read d (g.met.B.Book.sound c.args.book.now) u most bytes good c.loop-open_levels.open_levels c.args.at w (omega (arith, within, same, c.if-at-end.false)) in
-    let (others, next, parts, now) = c.if-not-close.ensures.inner refl (definitions d) (map so_far w.rests) (so_far w.s) w.stands in
+    let (others, next, parts, now) = c.if-not-close.ensures.inner refl (definitions d) (map so_far w.rests) (so_far w.s) w.occurs in
     done d (g.met.B.Book.sound c.args.book.now) u most bytes good c.loop-open_levels.open_levels c.args.at w c.close.new.self none
-    (c.in_default.ensures (map so_far w.rests) (so_far w.s) w.stands) others next parts now in (
+    (c.in_default.ensures (map so_far w.rests) (so_far w.s) w.occurs) others next parts now in (
       ∥∥₁_map c.loop-open_levels.invariant.0 (λ x. let (u, most, bytes, good, few, w) = x in (u, most, bytes, good, few, closed u most bytes good w)),
       λ u most bytes good from. closed u most bytes good (c.loop-open_levels.invariant.1 u most bytes good from),
     )

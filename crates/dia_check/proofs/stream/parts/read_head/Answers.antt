@@ -120,7 +120,7 @@ returns-in_err-next-in-Ok-Some-clause-next g c bytes good h lies =
     (λ begins. record {
       level = begins.level;
       is_open = begins.is_open;
-      behind = (let s = begins.start in omega (arith, s, r, less));
+      following = (let s = begins.start in omega (arith, s, r, less));
       within = (let s = begins.start in omega (arith, s, r, there, size));
     })
     c.in_err-next-in-Ok-Some.field-0.0 (c.in_err-next-in-Ok-Some.ensures bytes good avp))

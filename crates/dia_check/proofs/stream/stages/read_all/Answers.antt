@@ -42,7 +42,7 @@ returns-in_err-done-clause-next g c bytes good h lies =
     (λ begins. record {
       level = begins.level;
       is_open = begins.is_open;
-      behind = (let b = begins.behind in omega (arith, b));
+      following = (let b = begins.following in omega (arith, b));
       within = (let b = begins.within in omega (arith, b, size, more, within));
     })
     c.in_err-done.field-0.0 (c.in_err-done.ensures.next bytes good (c.loop-taken.invariant.3 bytes good h lies) later))

@@ -1,6 +1,6 @@
 use Rattle.std.proofs.Common.{[], ◌∷◌, ◌++◌, Option, sym, ap, ◌∙◌}
 use Rattle.std.specs.Prelude.{is_some, if◌then◌else◌}
-use Rattle.dia_dict.proofs.RepeatsTold.{insert-fresh}
+use Rattle.dia_dict.proofs.RepeatsRecorded.{insert-fresh}
 use Rattle.dia_dict.proofs.resolving.noting.note.Goals as goal
 
 pub returns-in_ok-insert-in-None-clause-kept : goal.returns-in_ok-insert-in-None-clause-kept

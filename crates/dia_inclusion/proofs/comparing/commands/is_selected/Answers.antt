@@ -29,7 +29,7 @@ pub returns-in-Some-only_for : goal.returns-in-Some-only_for
 returns-in-Some-only_for g c =
     let pairs = map plain_names c.args.beside.now.keys in
     let command = plain_definition c.args.command.now in
-    c.stands_beside.ensures
+    c.occurs_beside.ensures
     ∙ sym (selected_only c.args.commands.now c.sides-sides.ensures.sound.1 pairs command c.requires (sym c.in-None.ensures)
     ∙ ap (λ (o : Option PlainDefinition). option_map_or (λ (d : PlainDefinition). list_any (is_pair command.name d.name) pairs) o false) (sym c.in-Some-only_for.ensures))
 

@@ -4,8 +4,8 @@ use Rattle.dia_lines.proofs.answered.Answered.read.Given as goal
 
 abbrev pub invariant-loop-line : goal.invariant-loop-line
 invariant-loop-line g l = record {
-  reads : (done : List ℕ) × (told : List _) × (l.piece ≡ done ++ l.rest)
-      × Reads (g.J.Judge.says l.judge) (g.J.Judge.told l.judge) g.W.Watch.saw l.initial.self l.self l.initial.watch l.watch done told;
+  reads : (done : List ℕ) × (recorded : List _) × (l.piece ≡ done ++ l.rest)
+      × Reads (g.J.Judge.says l.judge) (g.J.Judge.recorded l.judge) g.W.Watch.saw l.initial.self l.self l.initial.watch l.watch done recorded;
 }
 
 abbrev pub decreases-loop-line : goal.decreases-loop-line

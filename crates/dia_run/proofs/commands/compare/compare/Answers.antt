@@ -7,20 +7,20 @@ use Rattle.dia_run.proofs.commands.compare.compare.Goals as goal
 pub returns-in_err-first-clause-outcome : goal.returns-in_err-first-clause-outcome
 returns-in_err-first-clause-outcome c =
     let p = err_from_is_err_and c.from_residual.result c.from_residual.ensures.1 in
-    rw (p.1, p.2) (Ends-no_first (IsComparison c.args.unknown c.args.inputs.now.table) c.args.inputs.now _ c.in_err-first.ensures.told)
+    rw (p.1, p.2) (Ends-no_first (IsComparison c.args.unknown c.args.inputs.now.table) c.args.inputs.now _ c.in_err-first.ensures.recorded)
 
 pub returns-in_err-second-clause-outcome : goal.returns-in_err-second-clause-outcome
 returns-in_err-second-clause-outcome c =
     let p = err_from_is_err_and c.from_residual-in_err-second.result c.from_residual-in_err-second.ensures.1 in
-    rw (p.1, p.2) (Ends-no_second (IsComparison c.args.unknown c.args.inputs.now.table) c.args.inputs.now _ _ c.in_ok-first.ensures.book c.in_err-second.ensures.told)
+    rw (p.1, p.2) (Ends-no_second (IsComparison c.args.unknown c.args.inputs.now.table) c.args.inputs.now _ _ c.in_ok-first.ensures.book c.in_err-second.ensures.recorded)
 
 pub returns-in_err-table-clause-outcome : goal.returns-in_err-table-clause-outcome
 returns-in_err-table-clause-outcome c =
     let p = err_from_is_err_and c.from_residual-in_err-table.result c.from_residual-in_err-table.ensures.1 in
-    rw (p.1, p.2) (Ends-no_table c.args.unknown c.args.inputs.now _ _ _ c.in_ok-first.ensures.book c.in_ok-second.ensures.book c.in_err-table.ensures.told)
+    rw (p.1, p.2) (Ends-no_table c.args.unknown c.args.inputs.now _ _ _ c.in_ok-first.ensures.book c.in_ok-second.ensures.book c.in_err-table.ensures.recorded)
 
-pub told_answer-requires : goal.told_answer-requires
-told_answer-requires c = names_pair _ _ c.args.unknown _ _ c.in_ok-verdict.ensures.answer
+pub recorded_answer-requires : goal.recorded_answer-requires
+recorded_answer-requires c = names_pair _ _ c.args.unknown _ _ c.in_ok-verdict.ensures.answer
 
 pub returns-in_err-verdict-clause-outcome : goal.returns-in_err-verdict-clause-outcome
 returns-in_err-verdict-clause-outcome c = let p = err_from_is_err_and c.from_residual-in_err-verdict.result c.from_residual-in_err-verdict.ensures.1 in rw (p.1, p.2) tt

@@ -8,12 +8,12 @@ use Rattle.dia_run.proofs.commands.propose.propose.Goals as goal
 pub returns-in_err-first-clause-outcome : goal.returns-in_err-first-clause-outcome
 returns-in_err-first-clause-outcome c =
     let p = err_from_is_err_and c.from_residual.result c.from_residual.ensures.1 in
-    rw (p.1, p.2) (Ends-no_first (IsProposed c.args.unknown (map (λ name. string_bytes name) c.args.names.now)) c.args.inputs.now _ c.in_err-first.ensures.told)
+    rw (p.1, p.2) (Ends-no_first (IsProposed c.args.unknown (map (λ name. string_bytes name) c.args.names.now)) c.args.inputs.now _ c.in_err-first.ensures.recorded)
 
 pub returns-in_err-second-clause-outcome : goal.returns-in_err-second-clause-outcome
 returns-in_err-second-clause-outcome c =
     let p = err_from_is_err_and c.from_residual-in_err-second.result c.from_residual-in_err-second.ensures.1 in
-    rw (p.1, p.2) (Ends-no_second (IsProposed c.args.unknown (map (λ name. string_bytes name) c.args.names.now)) c.args.inputs.now _ _ c.in_ok-first.ensures.book c.in_err-second.ensures.told)
+    rw (p.1, p.2) (Ends-no_second (IsProposed c.args.unknown (map (λ name. string_bytes name) c.args.names.now)) c.args.inputs.now _ _ c.in_ok-first.ensures.book c.in_err-second.ensures.recorded)
 
 pub returns-in_err-answered-in-Ok-clause-outcome : goal.returns-in_err-answered-in-Ok-clause-outcome
 returns-in_err-answered-in-Ok-clause-outcome c = let p = err_from_is_err_and c.from_residual-in_err-answered-in-Ok.result c.from_residual-in_err-answered-in-Ok.ensures.1 in rw (p.1, p.2) tt
@@ -31,5 +31,5 @@ pub returns-in_ok-answered-in-Err-UnknownCommand-clause-outcome : goal.returns-i
 returns-in_ok-answered-in-Err-UnknownCommand-clause-outcome c =
     let unknown = rw c.in-Err-UnknownCommand.field-0-is at c.in-Err-UnknownCommand.ensures.refusal in
     let first = rw c.deref.ensures at unknown in
-    let told = rw c.as_str.ensures.value at c.in_ok-answered-in-Err-UnknownCommand.ensures.text in
-    ended _ _ c.in_ok-first.ensures.book c.in_ok-second.ensures.book (no_command _ first (told, c.in_ok-answered-in-Err-UnknownCommand.ensures.exit))
+    let recorded = rw c.as_str.ensures.value at c.in_ok-answered-in-Err-UnknownCommand.ensures.text in
+    ended _ _ c.in_ok-first.ensures.book c.in_ok-second.ensures.book (no_command _ first (recorded, c.in_ok-answered-in-Err-UnknownCommand.ensures.exit))

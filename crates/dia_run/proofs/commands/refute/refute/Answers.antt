@@ -9,17 +9,17 @@ use Rattle.dia_run.proofs.commands.refute.refute.Goals as goal
 pub returns-in_err-first-clause-outcome : goal.returns-in_err-first-clause-outcome
 returns-in_err-first-clause-outcome c =
     let p = err_from_is_err_and c.from_residual.result c.from_residual.ensures.1 in
-    rw (p.1, p.2) (Ends-no_first (IsRefutation c.args.unknown c.args.levels c.args.inputs.now.message) c.args.inputs.now _ c.in_err-first.ensures.told)
+    rw (p.1, p.2) (Ends-no_first (IsRefutation c.args.unknown c.args.levels c.args.inputs.now.message) c.args.inputs.now _ c.in_err-first.ensures.recorded)
 
 pub returns-in_err-second-clause-outcome : goal.returns-in_err-second-clause-outcome
 returns-in_err-second-clause-outcome c =
     let p = err_from_is_err_and c.from_residual-in_err-second.result c.from_residual-in_err-second.ensures.1 in
-    rw (p.1, p.2) (Ends-no_second (IsRefutation c.args.unknown c.args.levels c.args.inputs.now.message) c.args.inputs.now _ _ c.in_ok-first.ensures.book c.in_err-second.ensures.told)
+    rw (p.1, p.2) (Ends-no_second (IsRefutation c.args.unknown c.args.levels c.args.inputs.now.message) c.args.inputs.now _ _ c.in_ok-first.ensures.book c.in_err-second.ensures.recorded)
 
 pub returns-in_err-message-clause-outcome : goal.returns-in_err-message-clause-outcome
 returns-in_err-message-clause-outcome c =
     let p = err_from_is_err_and c.from_residual-in_err-message.result c.from_residual-in_err-message.ensures.1 in
-    rw (p.1, p.2) (Ends-nothing_to_refute c.args.unknown c.args.levels c.args.inputs.now _ _ _ c.in_ok-first.ensures.book c.in_ok-second.ensures.book c.in_err-message.ensures.told)
+    rw (p.1, p.2) (Ends-nothing_to_refute c.args.unknown c.args.levels c.args.inputs.now _ _ _ c.in_ok-first.ensures.book c.in_ok-second.ensures.book c.in_err-message.ensures.recorded)
 
 pub returns-in_err-under_first-clause-outcome : goal.returns-in_err-under_first-clause-outcome
 returns-in_err-under_first-clause-outcome c = let p = err_from_is_err_and c.from_residual-in_err-under_first.result c.from_residual-in_err-under_first.ensures.1 in rw (p.1, p.2) tt

@@ -1,6 +1,6 @@
 use Rattle.std.proofs.Common.{ap, refl, cond, ◌++◌, ◌∙◌}
 use Rattle.std.proofs.lemmas.Result.{on_ok_weaker}
-use Rattle.dia_upgrades.proofs.Puts.{both_out, front_behind, front_of_more, held, same_put}
+use Rattle.dia_upgrades.proofs.Puts.{both_out, front_after, front_of_more, held, same_put}
 use Rattle.dia_upgrades.proofs.pending.Pending.add.Goals as goal
 
 pub returns-then-holds-clause-added : goal.returns-then-holds-clause-added
@@ -26,4 +26,4 @@ pub returns-clause-front : goal.returns-clause-front
 returns-clause-front g c = λ _ begun before is.
     let same = c.holds.ensures ∙ ap (λ b. cond b (c.args.self.now.bytes.items ++ c.args.text.now) c.args.self.now.bytes.items) c.if-holds.false in
     let first = c.in_ok-put.ensures.put begun before (same_put begun (g.S.Sink.written c.args.sink.now) c.args.self.now c.holds.new.self before same is) in
-    front_behind begun _ _ before c.args.text.now first c.put_all.ensures.front
+    front_after begun _ _ before c.args.text.now first c.put_all.ensures.front

@@ -1,13 +1,13 @@
 use Rattle.std.proofs.Common.{map}
 use Rattle.dia_accepted.specs.Accepted.{kept, left_of}
-use Rattle.dia_upgrades.proofs.LinesToTell.{kept_none, left_none}
+use Rattle.dia_upgrades.proofs.LinesToReport.{kept_none, left_none}
 use Rattle.dia_upgrades.proofs.seen.Seen.begin.Goals as goal
 
 pub returns : goal.returns
-returns c = λ asked list before place visits told apart none are. record {
+returns c = λ asked list before place visits recorded apart none are. record {
   judged = record { accepting = are.judged.accepting; lines_are = are.judged.lines_are; accepted_are = are.judged.accepted_are; is_some_is = are.judged.is_some_is };
   are_kept = record {
-    causes = c.begin.ensures (map (kept asked.once) (left_of list told)) before place visits (λ e. kept_none asked.once place (left_of list told) (left_none list place told (none e).0)) are.are_kept.causes;
+    causes = c.begin.ensures (map (kept asked.once) (left_of list recorded)) before place visits (λ e. kept_none asked.once place (left_of list recorded) (left_none list place recorded (none e).0)) are.are_kept.causes;
     meanings = c.begin-2.ensures (left_of list apart) before place visits (λ e. left_none list place apart (none e).1) are.are_kept.meanings;
   };
 }

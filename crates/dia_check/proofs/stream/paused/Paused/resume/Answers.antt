@@ -9,8 +9,8 @@ invariant_of-result g c = record {
   holds = ∥∥₁_map c.requires.fits (λ x. stage_goes _ _ _ _ _ x.before c.args.self.stage c.resume_stage.result x.is_pause c.resume_stage.ensures x.is_stage);
 }
 
-pub returns-clause-stands : goal.returns-clause-stands
-returns-clause-stands g c d u most bytes paused same = record {
+pub returns-clause-occurs : goal.returns-clause-occurs
+returns-clause-occurs g c d u most bytes paused same = record {
   book = same;
   unknown = paused.unknown;
   levels = paused.levels;

@@ -14,9 +14,9 @@ use Rattle.dia_dict.specs.declared.resolving.finding.repeats.Keyed.{Keyed}
 use Rattle.dia_dict.specs.Resolution.{wrong, PlainFinding, first_defs, placed_commands, same_selector, head_of}
 use Rattle.dia_dict.specs.Selectors.{selector_of}
 use Rattle.dia_dict.specs.contracts.selectors.SelectorPartialEq.TheImpl as selectors
-use Rattle.dia_dict.specs.SourceChecks.{told, plain_finding, placed_def, keyed_selector, told_selector}
+use Rattle.dia_dict.specs.SourceChecks.{recorded, plain_finding, placed_def, keyed_selector, recorded_selector}
 use Rattle.dia_dict.proofs.Duplicates.{is_command, first_commands-are, again-selectors}
-use Rattle.dia_dict.proofs.RepeatsTold.{repeats-told}
+use Rattle.dia_dict.proofs.RepeatsRecorded.{repeats-recorded}
 use Rattle.dia_dict.proofs.resolving.finding.entries.push_commands.Goals as goal
 
 abbrev eq : Selector → Selector → Bool
@@ -44,9 +44,9 @@ pub returns : goal.returns
 returns c =
     let names = c.args.names.now in
     let commands = first_defs (placed_commands (plain_source names.source.now)) in
-    let made = ap (map keyed_selector) c.deref.ensures.value ∙ c.in_ok-commands.ensures ∙ ap (map told_selector) c.first_commands.ensures in
+    let made = ap (map keyed_selector) c.deref.ensures.value ∙ c.in_ok-commands.ensures ∙ ap (map recorded_selector) c.first_commands.ensures in
     let bad = λ (d : PlainDef). wrong DuplicateCommand d.name [] in
-    let same = repeats-told (λ (i : Keyed Selector). i.key) (λ (i : Keyed Selector). i.part) (λ (i : Keyed Selector). told i.told) eq (λ (s : Selector). s) eq (λ a b. refl)
+    let same = repeats-recorded (λ (i : Keyed Selector). i.key) (λ (i : Keyed Selector). i.part) (λ (i : Keyed Selector). recorded i.recorded) eq (λ (s : Selector). s) eq (λ a b. refl)
     (λ (d : PlainDef). selector_of (head_of d.head)) bad c.deref.result.now commands made in
     subst (λ (fs : List PlainFinding). OnOk c.push_repeats.result (map plain_finding c.push_repeats.new.findings.items ≡ map plain_finding c.args.findings.now.items ++ fs))
     (same ∙ again-selectors eq same_answers bad commands (first_commands-are names.source.now)) c.push_repeats.ensures

@@ -4,7 +4,7 @@ use Rattle.std.specs.Prelude.{not}
 use Rattle.dia_ccf.specs.Names.{is_group}
 use Rattle.dia_book.specs.declared.DefHead.{DefHead}
 use Rattle.dia_book.specs.Dictionary.{IsCommandHead}
-use Rattle.dia_dict.specs.SourceChecks.{PlacedDef, placed_def, told_selector}
+use Rattle.dia_dict.specs.SourceChecks.{PlacedDef, placed_def, recorded_selector}
 use Rattle.dia_dict.proofs.BaseRows.{row_passes}
 use Rattle.dia_dict.proofs.SoundRules.{head_of-command}
 use Rattle.dia_dict.proofs.resolving.finding.entries.selecting.Goals as goal
@@ -18,4 +18,4 @@ of-selector-requires c =
 
 pub returns : goal.returns
 returns c =
-    c.loop-command.invariant ∙ ap (λ (ds : List PlacedDef). map told_selector (map placed_def ds)) (take_all c.loop-command.command-index c.args.commands.now c.loop-command-test.false)
+    c.loop-command.invariant ∙ ap (λ (ds : List PlacedDef). map recorded_selector (map placed_def ds)) (take_all c.loop-command.command-index c.args.commands.now c.loop-command-test.false)

@@ -12,10 +12,10 @@ use Rattle.dia_dict.proofs.resolving.finding.limits.push_long.Goals as goal
 pub loop-index-preserved : goal.loop-index-preserved
 loop-index-preserved c =
     let named = c.of.ensures ∙ ap (λ (name : List ℕ). wrong Limit name []) c.deref.ensures in
-    let told = c.at-finding.ensures ∙ (λ i. finding (named i) (c.at.ensures i) None) in
+    let recorded = c.at-finding.ensures ∙ (λ i. finding (named i) (c.at.ensures i) None) in
     alone-more is_long (λ (d : PlainDef). wrong Limit d.name []) (part_at c.args.kind) plain_def c.args.defs.now c.loop-index.index c.index-defs-index.result _ _ _
     c.loop-index-test.true c.index-defs-index.is c.loop-index.invariant
-    (c.in_ok-push_if.ensures ∙ (λ i. map plain_finding c.loop-index.findings.items ++ (if c.is_long.ensures i then told i ∷ [] else [])))
+    (c.in_ok-push_if.ensures ∙ (λ i. map plain_finding c.loop-index.findings.items ++ (if c.is_long.ensures i then recorded i ∷ [] else [])))
 
 pub returns : goal.returns
 returns c =

@@ -6,7 +6,7 @@ use Rattle.dia_dict.specs.declared.fault.DictKind.TheVariants.{DuplicateName}
 use Rattle.dia_dict.specs.declared.findings.PartKind.TheVariants.{Declaration, Group, Command}
 use Rattle.dia_dict.specs.Resolution.{PlainFinding, wrong, part_at, placed_avps, placed_groups, placed_commands, duplicate_avps, duplicate_defs}
 use Rattle.dia_dict.specs.SourceChecks.{plain_finding}
-use Rattle.dia_dict.proofs.RepeatsTold.{again-labels}
+use Rattle.dia_dict.proofs.RepeatsRecorded.{again-labels}
 use Rattle.dia_dict.proofs.resolving.finding.repeated_names.push_names.Goals as goal
 
 pub returns : goal.returns

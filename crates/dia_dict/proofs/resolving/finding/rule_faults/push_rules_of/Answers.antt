@@ -4,12 +4,12 @@ use Rattle.dia_ccf.specs.declared.source.Def.{Def}
 use Rattle.dia_ccf.specs.Plain.{plain_source, plain_def}
 use Rattle.dia_dict.specs.Resolution.{part_at, placed, bad_in, bad_rules}
 use Rattle.dia_dict.specs.SourceChecks.{plain_finding}
-use Rattle.dia_dict.proofs.Placing.{told-more}
+use Rattle.dia_dict.proofs.Placing.{recorded-more}
 use Rattle.dia_dict.proofs.resolving.finding.rule_faults.push_rules_of.Goals as goal
 
 pub loop-index-preserved : goal.loop-index-preserved
 loop-index-preserved c =
-    told-more (bad_in c.args.kind (plain_source c.args.names.now.source.now)) (part_at c.args.of) plain_def c.args.defs.now c.loop-index.index c.index-defs-index.result _ _ _
+    recorded-more (bad_in c.args.kind (plain_source c.args.names.now.source.now)) (part_at c.args.of) plain_def c.args.defs.now c.loop-index.index c.index-defs-index.result _ _ _
     c.loop-index-test.true c.index-defs-index.is c.loop-index.invariant (rw c.at-part.ensures at c.in_ok-push_rules_in.ensures)
 
 pub returns : goal.returns

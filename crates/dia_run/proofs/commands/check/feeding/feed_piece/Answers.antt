@@ -1,7 +1,7 @@
 use Rattle.std.proofs.Common.{◌≡◌, length, take, subst, ◌∙◌, arith}
 use Rattle.std.proofs.lemmas.List.{length-take-le}
 use Rattle.dia_check.specs.Streaming.{taken_of}
-use Rattle.dia_check.specs.Streams.{StandsFor}
+use Rattle.dia_check.specs.Streams.{Denotes}
 use Rattle.dia_run.proofs.FedTexts.{takes_more, follows_again, follows_now}
 use Rattle.dia_run.proofs.commands.check.feeding.feed_piece.Goals as goal
 use Rattle.dia_run.proofs.commands.check.feeding.feed_piece.Goals.{then-fed, else-fed}
@@ -15,8 +15,8 @@ returns-clause-fed g c =
       c.in_ok-piece.ensures.spells,
       c.in_ok-extend_from_slice.ensures.items,
       λ d u most bytes was.
-          let (takes, stands) = c.in-Ok.ensures.taken d u most (taken_of bytes) was.stands in record {
-            stands = subst (StandsFor g.B.Book.meaning c.feed.new.self d u most) (takes_more bytes piece progress takes) stands;
+          let (takes, occurs) = c.in-Ok.ensures.taken d u most (taken_of bytes) was.occurs in record {
+            occurs = subst (Denotes g.B.Book.meaning c.feed.new.self d u most) (takes_more bytes piece progress takes) occurs;
             follow = elim c.if-fed.branch [
               | then-fed w ↦ follows_again bytes piece progress c.if-fed.result takes (was.follow.0 w.if-fed.true) (w.result-is ∙ w.if-fed.true)
               | else-fed w ↦ follows_now bytes piece progress c.args.fed.trailing c.if-fed.result c.in_ok-piece.piece.length takes was.follow w.if-fed.false size w.result-is

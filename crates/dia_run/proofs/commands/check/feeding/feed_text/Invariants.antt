@@ -2,7 +2,7 @@ use Rattle.std.proofs.Common.{[], length}
 use Rattle.dia_dict.specs.Dictionary.{Dictionary}
 use Rattle.dia_check.specs.declared.Unknown.{Unknown}
 use Rattle.dia_check.specs.declared.Levels.{Levels}
-use Rattle.dia_check.specs.Streams.{StandsFor, IsSpent}
+use Rattle.dia_check.specs.Streams.{Denotes, IsSpent}
 use Rattle.dia_run.specs.Texts.{SpellsFirst}
 use Rattle.dia_run.specs.FedTexts.{WasFed}
 use Rattle.dia_run.proofs.commands.check.feeding.feed_text.Given as goal
@@ -12,7 +12,7 @@ invariant-loop-stream g l = record {
   live : ¬ IsSpent l.stream;
   spelled : SpellsFirst l.text l.bytes.items l.fed.rest.now;
   fed : (d : Dictionary) (u : Unknown) (most : Levels)
-      → StandsFor g.B.Book.meaning l.fn.stream d u most [] → WasFed g.B.Book.meaning l.stream d u most l.bytes.items l.fed.trailing;
+      → Denotes g.B.Book.meaning l.fn.stream d u most [] → WasFed g.B.Book.meaning l.stream d u most l.bytes.items l.fed.trailing;
 }
 
 abbrev pub decreases-loop-stream : goal.decreases-loop-stream

@@ -14,7 +14,7 @@ overflow_add-rest-then-is_group g c =
 pub loop-avp-preserved-then-is_group : goal.loop-avp-preserved-then-is_group
 loop-avp-preserved-then-is_group g c =
     rw c.in_ok-push-in-Ok-Some.ensures.items
-    (group_entered _ _ _ _ _ _ _ (record { bytes = c.in-Ok-Some.behind; end = c.loop-avp.rest.end }) _ _ _ c.loop-avp.invariant (rw c.in-Ok-Some.field-0-is at c.in-Ok-Some.ensures.avp) refl refl
+    (group_entered _ _ _ _ _ _ _ (record { bytes = c.in-Ok-Some.following; end = c.loop-avp.rest.end }) _ _ _ c.loop-avp.invariant (rw c.in-Ok-Some.field-0-is at c.in-Ok-Some.ensures.avp) refl refl
     (ap (λ (n : ℕ). c.loop-avp.rest.end - length c.loop-avp.rest.bytes.now + n) c.length.ensures) (c.len.ensures ∙ c.loop-avp.outer.ok.0)
     (rw c.if-is_group.true at c.in_ok-is_group-in-Ok-Some.ensures))
 

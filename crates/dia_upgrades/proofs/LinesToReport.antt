@@ -1,0 +1,242 @@
+-- Lines that are known one after another, and their texts.
+use Rattle.std.proofs.Common.{◌≡◌, ℕ, ◌+◌, ◌<◌, ◌^◌, Bool, true, false, cond, List, [], ◌∷◌, ◌++◌, Option, drop, get_or, length, map, take, refl, sym, ap, subst, ◌∙◌, append_assoc, string_bytes, arith}
+use Rattle.std.specs.Prelude.{◌||◌, not}
+use Rattle.std.specs.List.{list_any}
+use Rattle.std.proofs.lemmas.Grind.{flat_map-append}
+use Rattle.std.proofs.lemmas.List.{append-nil, length-append, map-append, take-append-drop, take_more}
+use Rattle.std.proofs.lemmas.List.Elements.{filter-append}
+use Rattle.dia_accepted.specs.declared.counting.Causes.{Causes}
+use Rattle.dia_accepted.specs.declared.recorded.Recorded.{Recorded}
+use Rattle.dia_accepted.specs.Accepted.{PlainEntry, PlainRecorded, accepts, is_accepted, kept, left_of, plain_recorded}
+use Rattle.dia_accepted.specs.Seen.{AreCauses, HasSeen, is_command}
+use Rattle.dia_accepted.proofs.Sets.{seen_after, seen_between}
+use Rattle.dia_breaking_sites.specs.Sent.{AreBytes}
+use Rattle.dia_breaking.specs.declared.line.Standing.{Standing}
+use Rattle.dia_breaking.specs.declared.line.Standing.TheVariants.{Confirmed, Unchecked, Undecided}
+use Rattle.dia_io.specs.Writing.{AppendsFront}
+use Rattle.dia_run.specs.Texts.{line}
+use Rattle.dia_upgrades.specs.declared.asked.Asked.{Asked}
+use Rattle.dia_upgrades.specs.declared.seen.Seen.{Seen}
+use Rattle.dia_upgrades.specs.Outcome.{accepted_of, counted}
+use Rattle.dia_upgrades.specs.Recorded.{IsAfter, has_message, message_line, recorded_text, written}
+use Rattle.dia_upgrades.specs.Forms.{line_in}
+use Rattle.dia_upgrades.specs.UnderWay.{AreJudged, Sees, SeesApart, is_any, lines_after, text_shown}
+use Rattle.dia_upgrades.proofs.Puts.{front_of_more}
+
+-- ---- texts
+
+-- the text of one line more
+pub text_more : (xs : List PlainRecorded) (x : PlainRecorded) → recorded_text (xs ++ x ∷ []) ≡ recorded_text xs ++ (line x.words ++ x.message)
+text_more [] x = append-nil (line x.words ++ x.message)
+text_more (y ∷ xs) x =
+    ap (λ (t : List ℕ). (line y.words ++ y.message) ++ t) (text_more xs x) ∙ sym (append_assoc (line y.words ++ y.message) (recorded_text xs) (line x.words ++ x.message))
+
+-- the text of the lines up to one, one line more
+pub text_next : (lines : List Recorded) (i : ℕ) (t : Recorded) → i < length lines → t ≡ get_or lines i t
+    → recorded_text (map plain_recorded (take (i + 1) lines)) ≡ recorded_text (map plain_recorded (take i lines)) ++ (line (string_bytes t.words) ++ string_bytes t.message)
+text_next lines i t less is =
+    ap (λ (ts : List Recorded). recorded_text (map plain_recorded ts)) (take_more lines i t less ∙ ap (λ (x : Recorded). take i lines ++ x ∷ []) (sym is))
+    ∙ ap recorded_text (map-append plain_recorded (take i lines) (t ∷ [])) ∙ text_more (map plain_recorded (take i lines)) (plain_recorded t)
+
+-- all of a text begins with that of some lines
+text_both : (xs ys : List PlainRecorded) → recorded_text (xs ++ ys) ≡ recorded_text xs ++ recorded_text ys
+text_both xs ys = flat_map-append (λ (t : PlainRecorded). line t.words ++ t.message) xs ys
+
+pub front_of_lines : (old new : Option (List ℕ)) (lines : List Recorded) (i : ℕ) (t : Recorded) → i < length lines → t ≡ get_or lines i t
+    → AppendsFront old new (recorded_text (map plain_recorded (take i lines)) ++ (line (string_bytes t.words) ++ string_bytes t.message)) → AppendsFront old new (recorded_text (map plain_recorded lines))
+front_of_lines old new lines i t less is front =
+    let rest = recorded_text (map plain_recorded (drop (i + 1) lines)) in
+    let all : recorded_text (map plain_recorded (take (i + 1) lines)) ++ rest ≡ recorded_text (map plain_recorded lines) =
+    sym (text_both (map plain_recorded (take (i + 1) lines)) (map plain_recorded (drop (i + 1) lines))) ∙ ap recorded_text (sym (map-append plain_recorded (take (i + 1) lines) (drop (i + 1) lines)))
+    ∙ ap (λ (ts : List Recorded). recorded_text (map plain_recorded ts)) (take-append-drop (i + 1) lines) in
+    subst (AppendsFront old new) all (front_of_more old new (recorded_text (map plain_recorded (take (i + 1) lines))) rest (subst (AppendsFront old new) (sym (text_next lines i t less is)) front))
+
+-- where nothing is left, nothing is written
+pub nothing_shown : (asked : Asked) → text_shown asked [] ≡ []
+nothing_shown asked = by asked.once
+  where
+    by : (b : Bool) → cond b [] (written asked []) ≡ []
+    by true = refl
+    by false = refl
+
+pub shown_more : (asked : Asked) (xs ys : List PlainRecorded) → text_shown asked (xs ++ ys) ≡ text_shown asked xs ++ text_shown asked ys
+shown_more asked xs ys = by asked.once
+  where
+    by : (b : Bool) → cond b [] (written asked (xs ++ ys)) ≡ cond b [] (written asked xs) ++ cond b [] (written asked ys)
+    by true = refl
+    by false = flat_map-append (line_in asked.form asked.once) xs ys
+
+-- what stands behind a line whose message has these bytes, if anything does
+abbrev pub message_after : Bool → List ℕ → List ℕ
+message_after has bytes = cond has (message_line bytes) []
+
+pub occurs_after : (are : List ℕ → Type 0) (has : Bool) (bytes : List ℕ) → AreBytes bytes × are bytes → IsAfter are has (message_after has bytes)
+occurs_after are true bytes is = (bytes, is.0, is.1, refl)
+occurs_after are false bytes is = refl
+
+-- a line whose messages aren't asked for has none
+pub no_message : (are : List ℕ → Type 0) (s : Standing) → IsAfter are (has_message false s) []
+no_message are Confirmed = refl
+no_message are Unchecked = refl
+no_message are Undecided = refl
+
+-- ---- lines that are left
+
+pub left_both : (list : List PlainEntry) (xs ys : List PlainRecorded) → left_of list (xs ++ ys) ≡ left_of list xs ++ left_of list ys
+left_both list xs ys = filter-append (λ (t : PlainRecorded). not (is_accepted list t)) xs ys
+
+pub left_one : (list : List PlainEntry) (t : PlainRecorded) (known : Bool) → is_accepted list t ≡ known → left_of list (t ∷ []) ≡ cond known [] (t ∷ [])
+left_one list t known e = ap (λ (b : Bool). cond (not b) (t ∷ []) []) e ∙ by known
+  where
+    by : (b : Bool) → cond (not b) (t ∷ []) [] ≡ cond b [] (t ∷ [])
+    by true = refl
+    by false = refl
+
+pub left_more : (list : List PlainEntry) (recorded : List PlainRecorded) (t : PlainRecorded) (known : Bool) → is_accepted list t ≡ known → left_of list (recorded ++ t ∷ []) ≡ left_of list recorded ++ cond known [] (t ∷ [])
+left_more list recorded t known e = left_both list recorded (t ∷ []) ∙ ap (λ (xs : List PlainRecorded). left_of list recorded ++ xs) (left_one list t known e)
+
+counted_more : (n : ℕ) → counted (n + 1) ≡ counted (counted n + 1)
+counted_more n = omega arith
+
+pub lines_more : (list : List PlainEntry) (recorded : List PlainRecorded) (t : PlainRecorded) (known : Bool) (old : ℕ) → is_accepted list t ≡ known → old ≡ counted (length (left_of list recorded))
+    → lines_after known old ≡ counted (length (left_of list (recorded ++ t ∷ [])))
+lines_more list recorded t known old e is =
+    ap (lines_after known) is ∙ by known ∙ ap (λ (xs : List PlainRecorded). counted (length xs)) (sym (left_more list recorded t known e))
+  where
+    by : (b : Bool) → lines_after b (counted (length (left_of list recorded))) ≡ counted (length (left_of list recorded ++ cond b [] (t ∷ [])))
+    by true = ap (λ (xs : List PlainRecorded). counted (length xs)) (sym (append-nil (left_of list recorded)))
+    by false = sym (ap counted (length-append (left_of list recorded) (t ∷ [])) ∙ counted_more (length (left_of list recorded)))
+
+-- ---- lines that are accepted
+
+accepted_one : (list : List PlainEntry) (t : PlainRecorded) (known : Bool) → is_accepted list t ≡ known → accepted_of list (t ∷ []) ≡ cond known (t ∷ []) []
+accepted_one list t known e = ap (λ (b : Bool). cond b (t ∷ []) []) e
+
+accepted_more : (list : List PlainEntry) (recorded : List PlainRecorded) (t : PlainRecorded) (known : Bool) → is_accepted list t ≡ known
+    → accepted_of list (recorded ++ t ∷ []) ≡ accepted_of list recorded ++ cond known (t ∷ []) []
+accepted_more list recorded t known e =
+    filter-append (is_accepted list) recorded (t ∷ []) ∙ ap (λ (xs : List PlainRecorded). accepted_of list recorded ++ xs) (accepted_one list t known e)
+
+accepted_after : (list : List PlainEntry) (recorded : List PlainRecorded) (t : PlainRecorded) (known : Bool) (old : ℕ) → is_accepted list t ≡ known → old ≡ counted (length (accepted_of list recorded))
+    → lines_after (not known) old ≡ counted (length (accepted_of list (recorded ++ t ∷ [])))
+accepted_after list recorded t known old e is =
+    ap (lines_after (not known)) is ∙ by known ∙ ap (λ (xs : List PlainRecorded). counted (length xs)) (sym (accepted_more list recorded t known e))
+  where
+    by : (b : Bool) → lines_after (not b) (counted (length (accepted_of list recorded))) ≡ counted (length (accepted_of list recorded ++ cond b (t ∷ []) []))
+    by true = sym (ap counted (length-append (accepted_of list recorded) (t ∷ [])) ∙ counted_more (length (accepted_of list recorded)))
+    by false = ap (λ (xs : List PlainRecorded). counted (length xs)) (sym (append-nil (accepted_of list recorded)))
+
+any_more : (recorded : List PlainRecorded) (t : PlainRecorded) → is_any (recorded ++ t ∷ []) ≡ true
+any_more [] t = refl
+any_more (x ∷ recorded) t = refl
+
+-- where no line is of a command, none that is left is
+pub left_none : (list : List PlainEntry) (place : ℕ) (recorded : List PlainRecorded) → list_any (is_command place) recorded ≡ false → list_any (is_command place) (left_of list recorded) ≡ false
+left_none list place [] none = refl
+left_none list place (t ∷ recorded) none =
+    by (is_command place t) refl (is_accepted list t) none (left_none list place recorded)
+  where
+    by : (b : Bool) → is_command place t ≡ b → (c : Bool) → (b || list_any (is_command place) recorded) ≡ false → (list_any (is_command place) recorded ≡ false → list_any (is_command place) (left_of list recorded) ≡ false)
+        → list_any (is_command place) (cond (not c) (t ∷ left_of list recorded) (left_of list recorded)) ≡ false
+    by true e c none more = absurd (let z : true ≡ false = none in cc)
+    by false e true none more = more none
+    by false e false none more = ap (λ (b : Bool). b || list_any (is_command place) (left_of list recorded)) e ∙ more none
+
+pub kept_none : (is_once : Bool) (place : ℕ) (recorded : List PlainRecorded) → list_any (is_command place) recorded ≡ false → list_any (is_command place) (map (kept is_once) recorded) ≡ false
+kept_none is_once place recorded none = kept_any is_once place recorded ∙ none
+  where
+    kept_any : (b : Bool) (place : ℕ) (recorded : List PlainRecorded) → list_any (is_command place) (map (kept b) recorded) ≡ list_any (is_command place) recorded
+    kept_any b place [] = refl
+    kept_any true place (t ∷ recorded) = ap (λ (c : Bool). is_command place t || c) (kept_any true place recorded)
+    kept_any false place (t ∷ recorded) = ap (λ (c : Bool). is_command place t || c) (kept_any false place recorded)
+
+-- ---- a line that comes
+
+module _ (list : List PlainEntry) (recorded apart : List PlainRecorded) (t : PlainRecorded) where
+  pub judged_more : (old new : Seen) (known : Bool) → HasSeen new.accepting list ((recorded ++ apart) ++ t ∷ []) → is_accepted list t ≡ known → new.lines ≡ lines_after known old.lines
+      → new.accepted ≡ lines_after (not known) old.accepted → new.is_some ≡ true
+      → AreJudged list old recorded apart → AreJudged list new (recorded ++ t ∷ []) apart
+  judged_more old new known seen e lines accepted some are = record {
+    accepting = seen_between new.accepting list recorded apart t seen;
+    lines_are = lines ∙ lines_more list recorded t known old.lines e are.lines_are;
+    accepted_are = accepted ∙ accepted_after list recorded t known old.accepted e are.accepted_are;
+    is_some_is = some ∙ sym (any_more recorded t);
+  }
+
+-- the same is known of lines by another name
+pub judged_so : (list : List PlainEntry) (old new : Seen) (recorded apart : List PlainRecorded) → new.accepting ≡ old.accepting → new.lines ≡ old.lines → new.accepted ≡ old.accepted → new.is_some ≡ old.is_some
+    → AreJudged list old recorded apart → AreJudged list new recorded apart
+judged_so list old new recorded apart same lines accepted some are = record {
+  accepting = subst (λ a. HasSeen a list (recorded ++ apart)) (sym same) are.accepting;
+  lines_are = lines ∙ are.lines_are;
+  accepted_are = accepted ∙ are.accepted_are;
+  is_some_is = some ∙ are.is_some_is;
+}
+
+module _ (asked : Asked) (place : ℕ) (old mid : Seen) (t : PlainRecorded) (words : List ℕ) (known : Bool) (words_are : t.words ≡ words)
+    (accepted : (list : List PlainEntry) (recorded apart : List PlainRecorded) → AreJudged list old recorded apart → known ≡ list_any (accepts words) list)
+    (judged : (list : List PlainEntry) (recorded apart : List PlainRecorded) (x : PlainRecorded) → x.words ≡ words → AreJudged list old recorded apart → AreJudged list mid (recorded ++ x ∷ []) apart)
+    (causes : mid.causes ≡ old.causes) (meanings : mid.meanings ≡ old.meanings) where
+  is_known : (list : List PlainEntry) (recorded apart : List PlainRecorded) → AreJudged list old recorded apart → is_accepted list t ≡ known
+  is_known list recorded apart are = ap (λ (w : List ℕ). list_any (accepts w) list) words_are ∙ sym (accepted list recorded apart are)
+
+  -- the list accepts it
+  pub sees_accepted : known ≡ true → Sees asked place old mid t []
+  sees_accepted is_yes = λ forgets list visits recorded apart small are.
+      let e = is_known list recorded apart are.judged ∙ is_yes in
+      let same : left_of list recorded ≡ left_of list (recorded ++ t ∷ []) = sym (left_more list recorded t true e ∙ append-nil (left_of list recorded)) in (
+        record {
+          judged = judged list recorded apart t words_are are.judged;
+          are_kept = record {
+            causes = subst (λ (c : Causes). AreCauses forgets c (map (kept asked.once) (left_of list (recorded ++ t ∷ []))) place visits) (sym causes)
+                (subst (λ (xs : List PlainRecorded). AreCauses forgets old.causes (map (kept asked.once) xs) place visits) same are.are_kept.causes);
+            meanings = subst (λ (c : Causes). AreCauses forgets c (left_of list apart) place visits) (sym meanings) are.are_kept.meanings;
+          };
+        },
+        sym (ap (text_shown asked) (left_one list t true e) ∙ nothing_shown asked),
+      )
+
+  -- or it is left
+  pub sees_left : (new : Seen) (text : List ℕ) → known ≡ false → new.accepting ≡ mid.accepting → new.meanings ≡ mid.meanings → new.lines ≡ mid.lines → new.accepted ≡ mid.accepted → new.is_some ≡ mid.is_some
+      → ((forgets : Bool) (recorded : List PlainRecorded) (visits : ℕ) → visits < 2 ^ 63 → AreCauses forgets mid.causes recorded place visits → AreCauses forgets new.causes (recorded ++ kept asked.once t ∷ []) place visits)
+      → text ≡ text_shown asked (t ∷ []) → Sees asked place old new t text
+  sees_left new text is_no same_list same_meanings same_lines same_accepted same_some added text_is = λ forgets list visits recorded apart small are.
+      let e = is_known list recorded apart are.judged ∙ is_no in
+      let more : map (kept asked.once) (left_of list recorded) ++ kept asked.once t ∷ [] ≡ map (kept asked.once) (left_of list (recorded ++ t ∷ [])) =
+      sym (map-append (kept asked.once) (left_of list recorded) (t ∷ [])) ∙ ap (map (kept asked.once)) (sym (left_more list recorded t false e)) in
+      let before = subst (λ (c : Causes). AreCauses forgets c (map (kept asked.once) (left_of list recorded)) place visits) (sym causes) are.are_kept.causes in (
+        record {
+          judged = judged_so list mid new (recorded ++ t ∷ []) apart same_list same_lines same_accepted same_some (judged list recorded apart t words_are are.judged);
+          are_kept = record {
+            causes = subst (λ (xs : List PlainRecorded). AreCauses forgets new.causes xs place visits) more (added forgets (map (kept asked.once) (left_of list recorded)) visits small before);
+            meanings = subst (λ (c : Causes). AreCauses forgets c (left_of list apart) place visits) (sym (same_meanings ∙ meanings)) are.are_kept.meanings;
+          };
+        },
+        text_is ∙ ap (text_shown asked) (sym (left_one list t false e)),
+      )
+
+-- ---- a line of a meaning that comes
+
+module _ (asked : Asked) (place : ℕ) (old new : Seen) (t : PlainRecorded) (known : Bool)
+    (accepted : (list : List PlainEntry) (recorded : List PlainRecorded) → HasSeen old.accepting list recorded → known ≡ list_any (accepts t.words) list)
+    (come : (list : List PlainEntry) (recorded : List PlainRecorded) (x : PlainRecorded) → x.words ≡ t.words → HasSeen old.accepting list recorded → HasSeen new.accepting list (recorded ++ x ∷ []))
+    (causes : new.causes ≡ old.causes) (lines : new.lines ≡ old.lines) (same : new.accepted ≡ old.accepted) (some : new.is_some ≡ old.is_some) where
+  judged_apart : (list : List PlainEntry) (recorded apart : List PlainRecorded) → AreJudged list old recorded apart → AreJudged list new recorded (apart ++ t ∷ [])
+  judged_apart list recorded apart are = record {
+    accepting = seen_after new.accepting list recorded apart t (come list (recorded ++ apart) t refl are.accepting);
+    lines_are = lines ∙ are.lines_are;
+    accepted_are = same ∙ are.accepted_are;
+    is_some_is = some ∙ are.is_some_is;
+  }
+
+  pub sees_apart : ((forgets : Bool) (recorded : List PlainRecorded) (visits : ℕ) → visits < 2 ^ 63 → AreCauses forgets old.meanings recorded place visits
+      → AreCauses forgets new.meanings (recorded ++ cond known [] (t ∷ [])) place visits) → SeesApart asked place old new (t ∷ [])
+  sees_apart added = λ forgets list visits recorded apart small are.
+      let e = sym (accepted list (recorded ++ apart) are.judged.accepting) in record {
+        judged = judged_apart list recorded apart are.judged;
+        are_kept = record {
+          causes = subst (λ (c : Causes). AreCauses forgets c (map (kept asked.once) (left_of list recorded)) place visits) (sym causes) are.are_kept.causes;
+          meanings = subst (λ (xs : List PlainRecorded). AreCauses forgets new.meanings xs place visits) (sym (left_more list apart t known e))
+              (added forgets (left_of list apart) visits small are.are_kept.meanings);
+        };
+      }
