@@ -2,11 +2,14 @@
 use Rattle.std.specs.Prelude.{Bool, if◌then◌else◌, Option, Some, None, codes}
 use Rattle.clap.specs.Walk.{Text}
 use Rattle.dia_cli.specs.declared.apart.Apart.{Apart}
-use Rattle.dia_cli.specs.declared.apart.Apart.TheVariants.{LinesAndStream, AsTextAndNames, AsTextAndValues, AsTextAndLines, AsTextAndJson, JsonAndLines}
+use Rattle.dia_cli.specs.declared.apart.Apart.TheVariants.{LinesAndStream, AllAndLines, AllAndStream, AllAndJson, AsTextAndNames, AsTextAndValues, AsTextAndLines, AsTextAndJson, JsonAndLines}
 
 -- the name of the first option
 abbrev pub first_option : Apart → Text
 first_option LinesAndStream = codes "lines"
+first_option AllAndLines = codes "all"
+first_option AllAndStream = codes "all"
+first_option AllAndJson = codes "all"
 first_option AsTextAndNames = codes "as-text"
 first_option AsTextAndValues = codes "as-text"
 first_option AsTextAndLines = codes "as-text"
@@ -16,6 +19,9 @@ first_option JsonAndLines = codes "json"
 -- and of the second
 abbrev pub second_option : Apart → Text
 second_option LinesAndStream = codes "stream"
+second_option AllAndLines = codes "lines"
+second_option AllAndStream = codes "stream"
+second_option AllAndJson = codes "json"
 second_option AsTextAndNames = codes "names"
 second_option AsTextAndValues = codes "values"
 second_option AsTextAndLines = codes "lines"

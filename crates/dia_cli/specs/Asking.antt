@@ -20,7 +20,7 @@ use Rattle.dia_cli.specs.declared.request.Request.{Request}
 use Rattle.dia_cli.specs.declared.arguments.Unasked.{Unasked}
 use Rattle.dia_cli.specs.declared.arguments.Unasked.TheVariants as unasked
 use Rattle.dia_cli.specs.declared.apart.Apart.{Apart}
-use Rattle.dia_cli.specs.declared.apart.Apart.TheVariants.{LinesAndStream}
+use Rattle.dia_cli.specs.declared.apart.Apart.TheVariants.{LinesAndStream, AllAndLines, AllAndStream, AllAndJson}
 
 abbrev pub line_shape : Bor (List (Bor Text)) → Bor (List (Bor Text)) → App
 line_shape policies senders = with_commands policies senders program_app command_rows
@@ -52,14 +52,17 @@ IsAskedBy words request =
 abbrev pub is_asked : Option (Text × List Row) → Bool
 is_asked = λ found. option_map_or (λ f. is_flag (first_of (codes "quiet") f.1) && has_arguments f.0 f.1) found false
 
--- `--lines` and `--stream`
-abbrev pub HasLinesAndStream : List Row → Type 0
-HasLinesAndStream rows =
-    (first_of (codes "lines") rows ≡ Some (flag_word true)) × (first_of (codes "stream") rows ≡ Some (flag_word true))
+-- `check` with both of these options
+abbrev pub IsCheckWithBoth : Text → Text → Text × List Row → Type 0
+IsCheckWithBoth first second found =
+    (found.0 ≡ codes "check") × (first_of first found.1 ≡ Some (flag_word true)) × (first_of second found.1 ≡ Some (flag_word true))
 
 -- two options are given that don't go together
 abbrev pub IsApart : Apart → Text × List Row → Type 0
-IsApart LinesAndStream found = (found.0 ≡ codes "check") × HasLinesAndStream found.1
+IsApart LinesAndStream found = IsCheckWithBoth (codes "lines") (codes "stream") found
+IsApart AllAndLines found = IsCheckWithBoth (codes "all") (codes "lines") found
+IsApart AllAndStream found = IsCheckWithBoth (codes "all") (codes "stream") found
+IsApart AllAndJson found = IsCheckWithBoth (codes "all") (codes "json") found
 IsApart apart found = (found.0 ≡ codes "show") × (apart_in found.1 ≡ Some apart)
 
 -- why what was found for a subcommand is none that the program runs

@@ -5,24 +5,25 @@ use Rattle.std.specs.Str.{bytes_eq}
 use Rattle.clap.specs.Walk.{Row, Text, all_of, first_of}
 use Rattle.dia_io.specs.declared.Command.TheVariants as command
 use Rattle.dia_cli.specs.declared.task.Task.{Task}
-use Rattle.dia_cli.specs.declared.task.Task.TheVariants.{Whole, Make, ShowText, ShowNamed, ShowLines, Breaking, CheckLines, RefuteLines, CheckStream}
+use Rattle.dia_cli.specs.declared.task.Task.TheVariants.{Whole, Make, ShowText, ShowNamed, ShowLines, Breaking, CheckLines, RefuteLines, CheckStream, CheckAll, Answer, Follow}
 use Rattle.dia_policy.specs.declared.Levels.{Levels}
 use Rattle.dia_policy.specs.declared.Sends.{Sends}
 use Rattle.dia_policy.specs.declared.Unknown.{Unknown}
 use Rattle.dia_cli.specs.InputWords.{AreNamed, InputTexts, one_text, pair_texts}
 use Rattle.dia_cli.specs.Origins.{reads_twice}
-use Rattle.dia_cli.specs.Rows.{CommandRow, breaking_row, check_row, compare_row, make_row, propose_row, refute_row, render_row, show_row}
+use Rattle.dia_cli.specs.Rows.{CommandRow, answer_row, breaking_row, check_row, compare_row, follow_row, make_row, propose_row, refute_row, render_row, show_row}
 use Rattle.dia_cli.specs.Slots.{Slot, choice, flag, is_given_slot, is_plain_slot, number, pair_slots, sender_given, text, unknown_slot, word, words, words_of_slots}
 use Rattle.dia_cli.specs.Words.{AreJudged, IsFlag, IsLimitOf, IsPolicy, apart_in, has_pair, has_policy, has_word, is_flag, is_given, is_judged, is_sender, sends_word}
 use Rattle.dia_cli.specs.declared.ending.Ending.{Ending}
 use Rattle.dia_cli.specs.declared.ending.Ending.TheVariants as ending
 use Rattle.dia_cli.specs.declared.request.Request.{Request}
 
--- how `check` reads its messages
+-- how `check` reads its messages: one, each line, or those of a stream; or one, of which it prints every fault
 pub data Manner : Type 0 where
   alone : Manner
   in_lines : Manner
   in_stream : Manner
+  in_full : Manner
 
 -- how `show` writes a message: as a text; as JSON, with `--names` and `--values` or without; or as a listing, with `--lines`, `--names`
 -- and `--values` or without
@@ -33,7 +34,8 @@ pub data Recording : Type 0 where
 
 -- a command with its options and the words of its inputs. `--levels`, `--dict`, `--values` and `--accepted` are their words; `check`, `compare`
 -- and `propose` have `--json`, `refute` has `--lines` and `--json`, and `breaking` has `--json`, `--messages`, `--once`, `--meaning` and
--- `--stale-allowed`, or not
+-- `--stale-allowed`, or not; `answer` has the words of `--levels`, `--host` and `--realm`, and `follow` has `--json`, `--middle` and
+-- `--check`, or not, and the words of `--levels` and `--dict`
 pub data Form : Type 0 where
   show : Recording → Option Text → Text → Form
   make : Option Text → Text → Form
@@ -43,6 +45,8 @@ pub data Form : Type 0 where
   refute : Bool → Bool → Unknown → Option Text → Text → Text → Text → Form
   propose : Bool → Unknown → Text → Text → Text → List Text → Form
   breaking : Bool → Sends → Unknown → Bool → Bool → Bool → Bool → Option Text → Text → Text → List Text → Form
+  answer : Unknown → Option Text → Option Text → Option Text → Text → Text → Form
+  follow : Bool → Bool → Bool → Unknown → Option Text → Option Text → Text → Form
 
 -- its row
 abbrev pub form_row : Form → CommandRow
@@ -54,6 +58,8 @@ form_row (compare json unknown first second table) = compare_row
 form_row (refute many json unknown levels first second message) = refute_row
 form_row (propose json unknown first second name names) = propose_row
 form_row (breaking json sends unknown messages once meaning allowed accepted first second names) = breaking_row
+form_row (answer unknown levels host realm dictionary message) = answer_row
+form_row (follow json middle check unknown levels dictionary connection) = follow_row
 
 abbrev pub form_name : Form → Text
 form_name form = (form_row form).name
@@ -65,6 +71,15 @@ is_lines manner = false
 abbrev pub is_stream : Manner → Bool
 is_stream in_stream = true
 is_stream manner = false
+
+abbrev pub is_full : Manner → Bool
+is_full in_full = true
+is_full manner = false
+
+-- `--json` goes with every manner but `--all`
+abbrev pub json_of : Manner → Bool → Bool
+json_of in_full json = false
+json_of manner json = json
 
 abbrev pub is_text : Recording → Bool
 is_text as_text = true
@@ -95,7 +110,7 @@ form_options (show recording dictionary message) =
 form_options (make dictionary written) = text (codes "dict") dictionary ∷ []
 form_options (check manner json unknown levels dictionary message) =
     unknown_slot unknown ∷ flag (codes "lines") (is_lines manner) ∷ flag (codes "stream") (is_stream manner)
-    ∷ flag (codes "json") json ∷ number (codes "levels") levels ∷ []
+    ∷ flag (codes "all") (is_full manner) ∷ flag (codes "json") (json_of manner json) ∷ number (codes "levels") levels ∷ []
 form_options (render dictionary) = []
 form_options (compare json unknown first second table) = unknown_slot unknown ∷ flag (codes "json") json ∷ []
 form_options (refute many json unknown levels first second message) =
@@ -105,6 +120,11 @@ form_options (breaking json sends unknown messages once meaning allowed accepted
     unknown_slot unknown ∷ choice (codes "sends") (sender_given sends) ∷ flag (codes "messages") messages
     ∷ flag (codes "once") once ∷ flag (codes "meaning") meaning ∷ flag (codes "stale-allowed") allowed ∷ flag (codes "json") json
     ∷ text (codes "accepted") accepted ∷ []
+form_options (answer unknown levels host realm dictionary message) =
+    unknown_slot unknown ∷ text (codes "host") host ∷ text (codes "realm") realm ∷ number (codes "levels") levels ∷ []
+form_options (follow json middle check unknown levels dictionary connection) =
+    text (codes "dict") dictionary ∷ flag (codes "middle") middle ∷ flag (codes "check") check ∷ unknown_slot unknown
+    ∷ flag (codes "json") json ∷ number (codes "levels") levels ∷ []
 
 abbrev pub form_inputs : Form → List Slot
 form_inputs (show recording dictionary message) = word (codes "MESSAGE") message ∷ []
@@ -115,6 +135,8 @@ form_inputs (compare json unknown first second table) = pair_slots first second 
 form_inputs (refute many json unknown levels first second message) = pair_slots first second (word (codes "MESSAGE") message)
 form_inputs (propose json unknown first second name names) = pair_slots first second (words (codes "COMMAND") (name ∷ names))
 form_inputs (breaking json sends unknown messages once meaning allowed accepted first second names) = pair_slots first second (words (codes "COMMAND") names)
+form_inputs (answer unknown levels host realm dictionary message) = word (codes "D") dictionary ∷ word (codes "MESSAGE") message ∷ []
+form_inputs (follow json middle check unknown levels dictionary connection) = word (codes "CONNECTION") connection ∷ []
 
 -- ---- its task, and the words of its inputs
 
@@ -133,6 +155,8 @@ IsTaskOfForm (check in_lines json unknown levels dictionary messages) (CheckLine
     (policy ≡ unknown) × IsLimitOf levels limit
 IsTaskOfForm (check in_stream json unknown levels dictionary bytes) (CheckStream policy limit) =
     (policy ≡ unknown) × IsLimitOf levels limit
+IsTaskOfForm (check in_full json unknown levels dictionary message) (CheckAll policy limit) =
+    (policy ≡ unknown) × IsLimitOf levels limit
 IsTaskOfForm (render dictionary) (Whole command.Render) = ⊤
 IsTaskOfForm (compare json unknown first second table) (Whole (command.Compare policy)) = policy ≡ unknown
 IsTaskOfForm (refute false json unknown levels first second message) (Whole (command.Refute policy limit)) =
@@ -144,6 +168,11 @@ IsTaskOfForm (propose json unknown first second name names) (Whole (command.Prop
 IsTaskOfForm (breaking json sends unknown messages once meaning allowed accepted first second names) (Breaking asked) =
     (asked.sends ≡ sends) × (asked.unknown ≡ unknown) × (asked.messages ≡ messages) × (asked.once ≡ once) × (asked.meaning ≡ meaning)
     × (asked.stale_allowed ≡ allowed) × (map string_bytes asked.names.items ≡ names)
+IsTaskOfForm (answer unknown levels host realm dictionary message) (Answer asked) =
+    (asked.unknown ≡ unknown) × IsLimitOf levels asked.levels × (string_bytes asked.host ≡ unwrap_or host (codes "host.invalid"))
+    × (string_bytes asked.realm ≡ unwrap_or realm (codes "invalid"))
+IsTaskOfForm (follow json middle check unknown levels dictionary connection) (Follow asked) =
+    (asked.middle ≡ middle) × (asked.check ≡ check) × (asked.unknown ≡ unknown) × IsLimitOf levels asked.levels
 IsTaskOfForm form task = ⊥
 
 -- the words of its inputs
@@ -158,6 +187,7 @@ form_words (make dictionary written) = record (one_text (unwrap_or dictionary (c
 form_words (check alone json unknown levels dictionary message) = record (one_text dictionary) { message = Some message }
 form_words (check in_lines json unknown levels dictionary messages) = record (one_text dictionary) { messages = Some messages }
 form_words (check in_stream json unknown levels dictionary bytes) = record (one_text dictionary) { messages = Some bytes }
+form_words (check in_full json unknown levels dictionary message) = record (one_text dictionary) { message = Some message }
 form_words (render dictionary) = one_text dictionary
 form_words (compare json unknown first second table) = record (pair_texts first second) { table = Some table }
 form_words (refute false json unknown levels first second message) = record (pair_texts first second) { message = Some message }
@@ -165,6 +195,9 @@ form_words (refute true json unknown levels first second messages) = record (pai
 form_words (propose json unknown first second name names) = pair_texts first second
 form_words (breaking json sends unknown messages once meaning allowed accepted first second names) =
     record (pair_texts first second) { table = Some (unwrap_or accepted (codes "@none")) }
+form_words (answer unknown levels host realm dictionary message) = record (one_text dictionary) { message = Some message }
+form_words (follow json middle check unknown levels dictionary connection) =
+    record (one_text (unwrap_or dictionary (codes "@base"))) { messages = Some connection }
 
 -- ---- what is found of a task
 
@@ -184,11 +217,14 @@ task_name (Whole (command.Refute unknown levels)) = codes "refute"
 task_name (RefuteLines unknown levels) = codes "refute"
 task_name (Whole (command.Propose unknown names)) = codes "propose"
 task_name (Breaking asked) = codes "breaking"
+task_name (CheckAll unknown levels) = codes "check"
+task_name (Answer asked) = codes "answer"
+task_name (Follow asked) = codes "follow"
 
--- `check` with `--lines` and `--stream`, or without them
-abbrev pub IsCheck : Bool → Bool → Unknown → Levels → List Row → Type 0
-IsCheck lines stream unknown levels rows =
-    IsFlag (codes "lines") lines rows × IsFlag (codes "stream") stream rows × AreJudged unknown levels rows
+-- `check` with `--lines`, `--stream` and `--all`, or without them
+abbrev pub IsCheck : (lines stream all : Bool) → Unknown → Levels → List Row → Type 0
+IsCheck lines stream all unknown levels rows =
+    IsFlag (codes "lines") lines rows × IsFlag (codes "stream") stream rows × AreJudged unknown levels rows × IsFlag (codes "all") all rows
 
 -- `refute` with `--lines`, or without it
 abbrev pub IsRefute : Bool → Unknown → Levels → List Row → Type 0
@@ -208,9 +244,10 @@ HasOptionsOf ShowNamed rows = IsShow false true false rows
 HasOptionsOf (ShowLines names) rows = IsShow false names true rows
 HasOptionsOf Make rows = ⊤
 HasOptionsOf (Whole command.Render) rows = ⊤
-HasOptionsOf (Whole (command.Check unknown levels)) rows = IsCheck false false unknown levels rows
-HasOptionsOf (CheckLines unknown levels) rows = IsCheck true false unknown levels rows
-HasOptionsOf (CheckStream unknown levels) rows = IsCheck false true unknown levels rows
+HasOptionsOf (Whole (command.Check unknown levels)) rows = IsCheck false false false unknown levels rows
+HasOptionsOf (CheckLines unknown levels) rows = IsCheck true false false unknown levels rows
+HasOptionsOf (CheckStream unknown levels) rows = IsCheck false true false unknown levels rows
+HasOptionsOf (CheckAll unknown levels) rows = IsCheck false false true unknown levels rows
 HasOptionsOf (Whole (command.Compare unknown)) rows = IsPolicy unknown rows
 HasOptionsOf (Whole (command.Refute unknown levels)) rows = IsRefute false unknown levels rows
 HasOptionsOf (RefuteLines unknown levels) rows = IsRefute true unknown levels rows
@@ -220,6 +257,12 @@ HasOptionsOf (Breaking asked) rows =
     IsPolicy asked.unknown rows × (first_of (codes "sends") rows ≡ Some (sends_word asked.sends)) × IsFlag (codes "messages") asked.messages rows
     × IsFlag (codes "once") asked.once rows × IsFlag (codes "meaning") asked.meaning rows
     × IsFlag (codes "stale-allowed") asked.stale_allowed rows × (unwrap_or (all_of (codes "COMMAND") rows) [] ≡ map string_bytes asked.names.items)
+
+HasOptionsOf (Answer asked) rows =
+    AreJudged asked.unknown asked.levels rows × (first_of (codes "host") rows ≡ Some (string_bytes asked.host))
+    × (first_of (codes "realm") rows ≡ Some (string_bytes asked.realm))
+HasOptionsOf (Follow asked) rows =
+    AreJudged asked.unknown asked.levels rows × IsFlag (codes "middle") asked.middle rows × IsFlag (codes "check") asked.check rows
 
 -- the task that was found: the name of its command, and its options
 abbrev pub IsTaskOf : Task → Text × List Row → Type 0
@@ -236,6 +279,7 @@ arguments_of (Whole command.Render) = one_text (codes "D")
 arguments_of (Whole (command.Check unknown levels)) = record (one_text (codes "D")) { message = Some (codes "MESSAGE") }
 arguments_of (CheckLines unknown levels) = record (one_text (codes "D")) { messages = Some (codes "MESSAGE") }
 arguments_of (CheckStream unknown levels) = record (one_text (codes "D")) { messages = Some (codes "MESSAGE") }
+arguments_of (CheckAll unknown levels) = record (one_text (codes "D")) { message = Some (codes "MESSAGE") }
 arguments_of (Whole (command.Compare unknown)) =
     record (pair_texts (codes "A") (codes "B")) { table = Some (codes "TABLE") }
 arguments_of (Whole (command.Refute unknown levels)) =
@@ -245,6 +289,8 @@ arguments_of (RefuteLines unknown levels) =
 arguments_of (Whole (command.Propose unknown names)) = pair_texts (codes "A") (codes "B")
 arguments_of (Breaking asked) =
     record (pair_texts (codes "A") (codes "B")) { table = Some (codes "accepted") }
+arguments_of (Answer asked) = record (one_text (codes "D")) { message = Some (codes "MESSAGE") }
+arguments_of (Follow asked) = record (one_text (codes "dict")) { messages = Some (codes "CONNECTION") }
 
 -- ---- the arguments that a command has
 
@@ -260,7 +306,15 @@ has_made rows = has_word (codes "dict") rows && has_word (codes "TEXT") rows
 
 abbrev pub has_checked : List Row → Bool
 has_checked rows = is_flag (first_of (codes "lines") rows) && (is_flag (first_of (codes "stream") rows)
-    && (has_judged rows && has_word (codes "MESSAGE") rows))
+    && (is_flag (first_of (codes "all") rows) && (is_flag (first_of (codes "json") rows)
+    && (has_judged rows && has_word (codes "MESSAGE") rows))))
+
+abbrev pub has_answered : List Row → Bool
+has_answered rows = has_judged rows && (has_word (codes "MESSAGE") rows && (has_word (codes "host") rows && has_word (codes "realm") rows))
+
+abbrev pub has_followed : List Row → Bool
+has_followed rows = is_judged rows && (is_flag (first_of (codes "middle") rows) && (is_flag (first_of (codes "check") rows)
+    && (has_word (codes "dict") rows && has_word (codes "CONNECTION") rows)))
 
 abbrev pub has_compared : List Row → Bool
 has_compared rows = has_policy rows && (has_pair rows && has_word (codes "TABLE") rows)
@@ -292,7 +346,9 @@ has_arguments name rows =
     else (if bytes_eq name (codes "refute") then has_refuted rows
     else (if bytes_eq name (codes "propose") then has_proposed rows
     else (if bytes_eq name (codes "breaking") then has_listed rows
-    else false)))))))
+    else (if bytes_eq name (codes "answer") then has_answered rows
+    else (if bytes_eq name (codes "follow") then has_followed rows
+    else false)))))))))
 
 -- ---- what the words of a form ask for
 

@@ -76,7 +76,7 @@ abbrev pub check_row : CommandRow
 check_row = record {
   name = codes "check";
   options = quiet_option ∷ unknown_option ∷ levels_option ∷ option (codes "lines") no_value ∷ option (codes "stream") no_value
-      ∷ json_option ∷ [];
+      ∷ option (codes "all") no_value ∷ json_option ∷ [];
   inputs = input (codes "D") one ∷ input (codes "MESSAGE") one ∷ [];
 }
 
@@ -112,8 +112,24 @@ breaking_row = record {
   inputs = input (codes "A") one ∷ input (codes "B") one ∷ input (codes "COMMAND") any ∷ [];
 }
 
+abbrev pub answer_row : CommandRow
+answer_row = record {
+  name = codes "answer";
+  options = quiet_option ∷ unknown_option ∷ levels_option ∷ option (codes "host") (any_word (codes "host.invalid"))
+      ∷ option (codes "realm") (any_word (codes "invalid")) ∷ [];
+  inputs = input (codes "D") one ∷ input (codes "MESSAGE") one ∷ [];
+}
+
+abbrev pub follow_row : CommandRow
+follow_row = record {
+  name = codes "follow";
+  options = quiet_option ∷ dict_option ∷ option (codes "middle") no_value ∷ option (codes "check") no_value ∷ unknown_option ∷ levels_option
+      ∷ json_option ∷ [];
+  inputs = input (codes "CONNECTION") one ∷ [];
+}
+
 abbrev pub command_rows : List CommandRow
-command_rows = show_row ∷ make_row ∷ check_row ∷ render_row ∷ compare_row ∷ refute_row ∷ propose_row ∷ breaking_row ∷ []
+command_rows = show_row ∷ make_row ∷ check_row ∷ render_row ∷ compare_row ∷ refute_row ∷ propose_row ∷ breaking_row ∷ answer_row ∷ follow_row ∷ []
 
 -- ---- the declaration of a row for clap
 

@@ -8,6 +8,12 @@ ghost use Rattle.dia_cli.specs.Apart.{first_option, second_option, show_apart};
 pub enum Apart {
     /// Of `check`: `--lines` and `--stream`.
     LinesAndStream,
+    /// `--all` and `--lines`.
+    AllAndLines,
+    /// `--all` and `--stream`.
+    AllAndStream,
+    /// `--all` and `--json`.
+    AllAndJson,
     /// Of `show`: `--as-text` and `--names`.
     AsTextAndNames,
     /// `--as-text` and `--values`.
@@ -27,6 +33,7 @@ impl Apart {
     {
         match self {
             Apart::LinesAndStream => "lines",
+            Apart::AllAndLines | Apart::AllAndStream | Apart::AllAndJson => "all",
             Apart::AsTextAndNames
             | Apart::AsTextAndValues
             | Apart::AsTextAndLines
@@ -40,11 +47,11 @@ impl Apart {
         ensures { result.now ≡ second_option self }
     {
         match self {
-            Apart::LinesAndStream => "stream",
+            Apart::LinesAndStream | Apart::AllAndStream => "stream",
             Apart::AsTextAndNames => "names",
             Apart::AsTextAndValues => "values",
-            Apart::AsTextAndLines | Apart::JsonAndLines => "lines",
-            Apart::AsTextAndJson => "json",
+            Apart::AllAndLines | Apart::AsTextAndLines | Apart::JsonAndLines => "lines",
+            Apart::AllAndJson | Apart::AsTextAndJson => "json",
         }
     }
 }

@@ -20,7 +20,9 @@ ghost use Rattle.dia_cli.specs.Words.{IsPolicy};
 ghost use Rattle.dia_cli.specs.Words.{AreJudged};
 
 use crate::apart::Apart;
+use crate::arguments::answering::answer_of;
 use crate::arguments::breaking::breaking_of;
+use crate::arguments::following::follow_of;
 use crate::arguments::showing::show_of;
 use crate::ending::Ending;
 use crate::line::{Words, command_line};
@@ -39,7 +41,9 @@ use dia_policy::{Levels, Unknown};
 use std::alloc::{AllocError, Global};
 use std::convert::AsStr;
 
+mod answering;
 mod breaking;
+mod following;
 mod showing;
 
 /// The values of `--unknown`, the policies for AVPs that the dictionary doesn't know.
@@ -216,6 +220,8 @@ fn task_of<'a>(alloc: Global, name: &str, found: &ArgMatches<'a>) -> Result<Aske
         "refute" => refute_of(found).ok_or(Unasked::Nothing),
         "propose" => propose_of(alloc, found),
         "breaking" => breaking_of(alloc, found),
+        "answer" => answer_of(alloc, found),
+        "follow" => follow_of(found).ok_or(Unasked::Nothing),
         _ => Err(Unasked::Nothing),
     }
 }
@@ -246,35 +252,48 @@ fn check_of<'a>(found: &ArgMatches<'a>) -> Result<Asked<'a>, Unasked>
     let Some(stream) = flag_of(found, "stream") else {
         return Err(Unasked::Nothing);
     };
+    let Some(all) = flag_of(found, "all") else {
+        return Err(Unasked::Nothing);
+    };
+    let Some(json) = flag_of(found, "json") else {
+        return Err(Unasked::Nothing);
+    };
     let Some((unknown, levels, origins)) = checked_of(found) else {
         return Err(Unasked::Nothing);
     };
     let Some(message) = message_of(found, "MESSAGE") else {
         return Err(Unasked::Nothing);
     };
-    let Some(messages) = messages_of(found) else {
+    let Some(messages) = messages_of(found, "MESSAGE") else {
         return Err(Unasked::Nothing);
     };
-    match (lines, stream) {
-        (false, false) => Ok(Asked {
+    match (lines, stream, all) {
+        (false, false, false) => Ok(Asked {
             task: Task::Whole(Command::Check { unknown, levels }),
             origins: Origins { message, ..origins },
         }),
-        (true, false) => Ok(Asked {
+        (true, false, false) => Ok(Asked {
             task: Task::CheckLines { unknown, levels },
             origins: Origins {
                 messages,
                 ..origins
             },
         }),
-        (false, true) => Ok(Asked {
+        (false, true, false) => Ok(Asked {
             task: Task::CheckStream { unknown, levels },
             origins: Origins {
                 messages,
                 ..origins
             },
         }),
-        (true, true) => Err(Unasked::Apart(Apart::LinesAndStream)),
+        (false, false, true) if json => Err(Unasked::Apart(Apart::AllAndJson)),
+        (false, false, true) => Ok(Asked {
+            task: Task::CheckAll { unknown, levels },
+            origins: Origins { message, ..origins },
+        }),
+        (true, true, _) => Err(Unasked::Apart(Apart::LinesAndStream)),
+        (true, false, true) => Err(Unasked::Apart(Apart::AllAndLines)),
+        (false, true, true) => Err(Unasked::Apart(Apart::AllAndStream)),
     }
 }
 
@@ -336,7 +355,7 @@ fn refute_of<'a>(found: &ArgMatches<'a>) -> Option<Asked<'a>>
     let (unknown, levels) = judged_of(found)?;
     let origins = pair_of(found)?;
     if flag_of(found, "lines")? {
-        let messages = messages_of(found)?;
+        let messages = messages_of(found, "MESSAGE")?;
         Some(Asked {
             task: Task::RefuteLines { unknown, levels },
             origins: Origins {

@@ -3,7 +3,7 @@
 ghost use Rattle.std.specs.Prelude.{◌≡◌, map};
 ghost use Rattle.dia_cli.specs.Lines.{command_of};
 ghost use Rattle.dia_cli.specs.Rows.{command_rows};
-ghost use Rattle.dia_cli.specs.Rows.{breaking_row, check_row, compare_row, make_row};
+ghost use Rattle.dia_cli.specs.Rows.{answer_row, breaking_row, check_row, compare_row, follow_row, make_row};
 ghost use Rattle.dia_cli.specs.Rows.{propose_row, refute_row, render_row, show_row};
 
 use crate::origin::{BASE_DICTIONARY, NO_TABLE};
@@ -161,7 +161,7 @@ const MAKE: CommandRow<'static> = CommandRow {
 
 const CHECK: CommandRow<'static> = CommandRow {
     name: "check",
-    about: "Tells whether a message is valid for a dictionary, or its first fault",
+    about: "Checks whether a message is valid for a dictionary, and prints its first fault",
     options: &[
         QUIET,
         UNKNOWN,
@@ -169,12 +169,17 @@ const CHECK: CommandRow<'static> = CommandRow {
         OptionRow {
             id: "lines",
             value: Value::Nothing,
-            help: "Tells of each line, a message, whether it is valid",
+            help: "Checks each line, which is a message",
         },
         OptionRow {
             id: "stream",
             value: Value::Nothing,
-            help: "Tells of each message of a stream, with its place, whether it is valid",
+            help: "Checks each message of a stream, and prints its offset too",
+        },
+        OptionRow {
+            id: "all",
+            value: Value::Nothing,
+            help: "Prints every fault of the message, a line each, in the order of the check",
         },
         JSON,
     ],
@@ -188,6 +193,67 @@ const CHECK: CommandRow<'static> = CommandRow {
     ],
 };
 
+const ANSWER: CommandRow<'static> = CommandRow {
+    name: "answer",
+    about: "Prints the answer that reports the first fault of a request",
+    options: &[
+        QUIET,
+        UNKNOWN,
+        LEVELS,
+        OptionRow {
+            id: "host",
+            value: Value::Word {
+                name: "HOST",
+                default: "host.invalid",
+            },
+            help: "The Origin-Host of the answer",
+        },
+        OptionRow {
+            id: "realm",
+            value: Value::Word {
+                name: "REALM",
+                default: "invalid",
+            },
+            help: "The Origin-Realm of the answer",
+        },
+    ],
+    inputs: &[
+        D,
+        InputRow {
+            id: "MESSAGE",
+            count: Count::One,
+            help: "A file of hexadecimal text, white space ignored; - for standard input",
+        },
+    ],
+};
+
+const FOLLOW: CommandRow<'static> = CommandRow {
+    name: "follow",
+    about: "Prints where the ends of a captured connection depart from RFC 6733",
+    options: &[
+        QUIET,
+        DICT,
+        OptionRow {
+            id: "middle",
+            value: Value::Nothing,
+            help: "The capture begins in the middle of the connection",
+        },
+        OptionRow {
+            id: "check",
+            value: Value::Nothing,
+            help: "Checks each message by the dictionary, too",
+        },
+        UNKNOWN,
+        LEVELS,
+        JSON,
+    ],
+    inputs: &[InputRow {
+        id: "CONNECTION",
+        count: Count::One,
+        help: "A file of messages, lines END [TIME] HEX, with > or < for END; - for standard input",
+    }],
+};
+
 const RENDER: CommandRow<'static> = CommandRow {
     name: "render",
     about: "Prints the canonical text of a dictionary",
@@ -197,7 +263,7 @@ const RENDER: CommandRow<'static> = CommandRow {
 
 const COMPARE: CommandRow<'static> = CommandRow {
     name: "compare",
-    about: "Tells whether a table of pairs shows that what is valid for A is valid for B",
+    about: "Checks whether a table of pairs shows that what is valid for A is valid for B",
     options: &[QUIET, UNKNOWN, JSON],
     inputs: &[
         A,
@@ -212,7 +278,7 @@ const COMPARE: CommandRow<'static> = CommandRow {
 
 const REFUTE: CommandRow<'static> = CommandRow {
     name: "refute",
-    about: "Tells whether a message is valid for A and not for B",
+    about: "Checks whether a message is valid for A and not for B",
     options: &[
         QUIET,
         UNKNOWN,
@@ -220,7 +286,7 @@ const REFUTE: CommandRow<'static> = CommandRow {
         OptionRow {
             id: "lines",
             value: Value::Nothing,
-            help: "Tells of each line, a message, whether it is valid for A and not for B",
+            help: "Checks each line, which is a message",
         },
         JSON,
     ],
@@ -304,13 +370,13 @@ const BREAKING: CommandRow<'static> = CommandRow {
 
 /// What the statuses of the process mean, of each command in the order of the rows.
 pub(crate) const STATUSES: &str = "Status:
-  0  done; for make, the messages made; for check, valid; for compare, yes; for refute, refutes; for breaking, nothing breaks
-  1  for check, not valid; for compare, no; for refute, does not refute; for breaking, something breaks; for show, a bad AVP length, or with --lines a line that is no message
+  0  done; for make, the messages made; for check, valid; for compare, yes; for refute, refutes; for breaking, nothing breaks; for answer, the answer; for follow, no departure
+  1  for check, not valid; for compare, no; for refute, does not refute; for breaking, something breaks; for answer, no answer; for follow, a departure; for show, a bad AVP length, or with --lines a line that is no message
   2  bad input, or a bad command line
   3  a file or a device failed, or memory was refused";
 
 /// The commands of the program. Each row has a function of its own, since a proof of all of them together takes longer.
-pub(crate) fn command_rows<'a>() -> [CommandRow<'a>; 8]
+pub(crate) fn command_rows<'a>() -> [CommandRow<'a>; 10]
     ensures { map command_of result ≡ command_rows }
 {
     [
@@ -322,6 +388,8 @@ pub(crate) fn command_rows<'a>() -> [CommandRow<'a>; 8]
         refute_row(),
         propose_row(),
         breaking_row(),
+        answer_row(),
+        follow_row(),
     ]
 }
 
@@ -371,4 +439,16 @@ fn breaking_row<'a>() -> CommandRow<'a>
     ensures { command_of result ≡ breaking_row }
 {
     BREAKING
+}
+
+fn answer_row<'a>() -> CommandRow<'a>
+    ensures { command_of result ≡ answer_row }
+{
+    ANSWER
+}
+
+fn follow_row<'a>() -> CommandRow<'a>
+    ensures { command_of result ≡ follow_row }
+{
+    FOLLOW
 }

@@ -22,6 +22,34 @@ pub enum Task {
     RefuteLines { unknown: Unknown, levels: Levels },
     /// Reports of each message of a stream of bytes whether it is valid.
     CheckStream { unknown: Unknown, levels: Levels },
+    /// Reports every fault of a message.
+    CheckAll { unknown: Unknown, levels: Levels },
+    /// Prints the answer that reports the first fault of a request.
+    Answer(Answering),
+    /// Prints where the ends of a connection depart from RFC 6733.
+    Follow(Following),
+}
+
+/// By what `answer` makes an answer.
+#[derive(Drop)]
+pub struct Answering {
+    pub unknown: Unknown,
+    pub levels: Levels,
+    /// The Origin-Host of the answer.
+    pub host: String,
+    /// The Origin-Realm of the answer.
+    pub realm: String,
+}
+
+/// How `follow` reads a connection.
+#[derive(Clone, Copy)]
+pub struct Following {
+    /// Whether the capture begins in the middle of the connection.
+    pub middle: bool,
+    /// Whether each message is checked by the dictionary, too.
+    pub check: bool,
+    pub unknown: Unknown,
+    pub levels: Levels,
 }
 
 /// What `breaking` prints.

@@ -42,12 +42,12 @@ pub(crate) fn message_of<'a>(found: &ArgMatches<'a>, id: &str) -> Option<Origin<
 }
 
 /// The origin of messages that are read a piece at a time.
-pub(crate) fn messages_of<'a>(found: &ArgMatches<'a>) -> Option<Origin<'a>>
+pub(crate) fn messages_of<'a>(found: &ArgMatches<'a>, id: &str) -> Option<Origin<'a>>
     ensures found { IfSome result (λ origin.
-        IsFound messages_origin (Some (codes "MESSAGE")) origin (rows_of (found_of found.now))) }
-    ensures none { result ≡ None → has_word (codes "MESSAGE") (rows_of (found_of found.now)) ≡ false }
+        IsFound messages_origin (Some id.now) origin (rows_of (found_of found.now))) }
+    ensures none { result ≡ None → has_word id.now (rows_of (found_of found.now)) ≡ false }
 {
-    Some(Origin::of_messages(word_of(found, "MESSAGE")?))
+    Some(Origin::of_messages(word_of(found, id)?))
 }
 
 /// The names of commands, also none.

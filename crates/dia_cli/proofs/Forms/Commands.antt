@@ -9,14 +9,14 @@ use Rattle.clap.specs.declared.parser.matches.ValueSource.TheVariants.{CommandLi
 use Rattle.clap.proofs.OnLiterals.{clap_on_literals}
 use Rattle.dia_io.specs.declared.Command.TheVariants as command
 use Rattle.dia_cli.specs.declared.task.Task.{Task}
-use Rattle.dia_cli.specs.declared.task.Task.TheVariants.{Whole, Make, ShowText, ShowNamed, ShowLines, Breaking, CheckLines, RefuteLines, CheckStream}
+use Rattle.dia_cli.specs.declared.task.Task.TheVariants.{Whole, Make, ShowText, ShowNamed, ShowLines, Breaking, CheckLines, RefuteLines, CheckStream, CheckAll, Answer, Follow}
 use Rattle.dia_policy.specs.declared.Sends.TheVariants.{Any, Known, Listed}
 use Rattle.dia_policy.specs.declared.Unknown.{Unknown}
 use Rattle.dia_policy.specs.declared.Unknown.TheVariants.{Kept, Refused}
 use Rattle.dia_cli.specs.Asking.{line_shape}
-use Rattle.dia_cli.specs.Forms.{Form, HasOptionsOf, IsTaskOfForm, alone, arguments_of, as_json, as_listing, as_text, breaking, check, compare, form_inputs, form_json, form_name, form_options, form_row, form_words, has_arguments, has_lines, has_names, in_lines, in_stream, is_json, is_lines, is_plain_form, is_stream, is_text, make, propose, refute, render, show, task_name, values_given}
+use Rattle.dia_cli.specs.Forms.{Form, HasOptionsOf, IsTaskOfForm, alone, answer, arguments_of, as_json, as_listing, as_text, breaking, check, compare, follow, form_inputs, form_json, form_name, form_options, form_row, form_words, has_arguments, has_lines, has_names, in_full, in_lines, in_stream, is_full, is_json, is_lines, is_plain_form, is_stream, is_text, json_of, make, propose, refute, render, show, task_name, values_given}
 use Rattle.dia_cli.specs.InputWords.{AreFound, AreNamed}
-use Rattle.dia_cli.specs.Rows.{breaking_row, check_row, compare_row, make_row, propose_row, refute_row, render_row, show_row}
+use Rattle.dia_cli.specs.Rows.{answer_row, breaking_row, check_row, compare_row, follow_row, make_row, propose_row, refute_row, render_row, show_row}
 use Rattle.dia_cli.specs.Slots.{Slot, flag}
 use Rattle.dia_cli.specs.Words.{flag_word, is_given, policy_word, sends_word}
 use Rattle.dia_cli.specs.declared.origin.Origins.{Origins}
@@ -41,7 +41,7 @@ module _ (policies senders : Bor (List (Bor Text))) (two : texts policies.now �
   form_fits quiet (make dictionary written) =
       row_fits policies senders two three make_row _ _ refl (refl, tt, (refl, tt, tt)) (record { by_index = refl; by_id = refl; next = refl }, tt) refl refl refl refl
   form_fits quiet (check manner json unknown levels dictionary message) =
-      row_fits policies senders two three check_row _ _ refl (refl, tt, (refl, policy_passes policies senders two three unknown, (refl, tt, (refl, tt, (refl, tt, (refl, tt, tt))))))
+      row_fits policies senders two three check_row _ _ refl (refl, tt, (refl, policy_passes policies senders two three unknown, (refl, tt, (refl, tt, (refl, tt, (refl, tt, (refl, tt, tt)))))))
       (record { by_index = refl; by_id = refl; next = refl }, (record { by_index = refl; by_id = refl; next = refl }, tt)) refl refl refl refl
   form_fits quiet (render dictionary) = row_fits policies senders two three render_row _ _ refl (refl, tt, tt) (record { by_index = refl; by_id = refl; next = refl }, tt) refl refl refl refl
   form_fits quiet (compare json unknown first second table) =
@@ -60,6 +60,12 @@ module _ (policies senders : Bor (List (Bor Text))) (two : texts policies.now �
       row_fits policies senders two three breaking_row _ _ refl (refl, tt, (refl, policy_passes policies senders two three unknown, (refl, sender_passes policies senders two three sends, (refl, tt, (refl, tt, (refl, tt, (refl, tt, (refl, tt, (refl, tt, tt)))))))))
       (record { by_index = refl; by_id = refl; next = refl }, (record { by_index = refl; by_id = refl; next = refl }, (false, record { by_index = refl; by_id = refl; next = refl })))
       refl refl refl refl
+  form_fits quiet (answer unknown levels host realm dictionary message) =
+      row_fits policies senders two three answer_row _ _ refl (refl, tt, (refl, policy_passes policies senders two three unknown, (refl, tt, (refl, tt, (refl, tt, tt)))))
+      (record { by_index = refl; by_id = refl; next = refl }, (record { by_index = refl; by_id = refl; next = refl }, tt)) refl refl refl refl
+  form_fits quiet (follow json middle check unknown levels dictionary connection) =
+      row_fits policies senders two three follow_row _ _ refl (refl, tt, (refl, tt, (refl, tt, (refl, tt, (refl, policy_passes policies senders two three unknown, (refl, tt, (refl, tt, tt)))))))
+      (record { by_index = refl; by_id = refl; next = refl }, tt) refl refl refl refl
 
   -- the name of its command is that of its row
   pub form_named : (form : Form) → Names_at (built (line_shape policies senders)) (form_name form) (shape policies senders (form_row form)) × ((shape policies senders (form_row form)).name ≡ form_name form)
@@ -72,6 +78,8 @@ module _ (policies senders : Bor (List (Bor Text))) (two : texts policies.now �
   form_named (refute many json unknown levels first second message) = (record { stops = refl; fine = refl; finds = refl; rest = refl }, refl)
   form_named (propose json unknown first second name names) = (record { stops = refl; fine = refl; finds = refl; rest = refl }, refl)
   form_named (breaking json sends unknown messages once meaning allowed accepted first second names) = (record { stops = refl; fine = refl; finds = refl; rest = refl }, refl)
+  form_named (answer unknown levels host realm dictionary message) = (record { stops = refl; fine = refl; finds = refl; rest = refl }, refl)
+  form_named (follow json middle check unknown levels dictionary connection) = (record { stops = refl; fine = refl; finds = refl; rest = refl }, refl)
 
 abbrev SaysPair : Unknown → Text → Text → List Row → Type 0
 SaysPair unknown first second rows = (first_of (codes "unknown") rows ≡ Some (policy_word unknown)) × (first_of (codes "A") rows ≡ Some first)
@@ -88,6 +96,7 @@ SaysForm (check manner json unknown levels dictionary message) rows =
     (first_of (codes "lines") rows ≡ Some (flag_word (is_lines manner))) × (first_of (codes "stream") rows ≡ Some (flag_word (is_stream manner)))
     × (first_of (codes "unknown") rows ≡ Some (policy_word unknown)) × (first_of (codes "levels") rows ≡ levels)
     × (first_of (codes "D") rows ≡ Some dictionary) × (first_of (codes "MESSAGE") rows ≡ Some message)
+    × (first_of (codes "all") rows ≡ Some (flag_word (is_full manner))) × (first_of (codes "json") rows ≡ Some (flag_word (json_of manner json)))
 SaysForm (render dictionary) rows = first_of (codes "D") rows ≡ Some dictionary
 SaysForm (compare json unknown first second table) rows = SaysPair unknown first second rows × (first_of (codes "TABLE") rows ≡ Some table)
 SaysForm (refute many json unknown levels first second message) rows =
@@ -99,6 +108,14 @@ SaysForm (breaking json sends unknown messages once meaning allowed accepted fir
     × (all_of (codes "COMMAND") rows ≡ some_names names) × (first_of (codes "accepted") rows ≡ Some (unwrap_or accepted (codes "@none")))
     × (first_of (codes "once") rows ≡ Some (flag_word once)) × (first_of (codes "meaning") rows ≡ Some (flag_word meaning))
     × (first_of (codes "stale-allowed") rows ≡ Some (flag_word allowed))
+SaysForm (answer unknown levels host realm dictionary message) rows =
+    (first_of (codes "unknown") rows ≡ Some (policy_word unknown)) × (first_of (codes "levels") rows ≡ levels)
+    × (first_of (codes "D") rows ≡ Some dictionary) × (first_of (codes "MESSAGE") rows ≡ Some message)
+    × (first_of (codes "host") rows ≡ Some (unwrap_or host (codes "host.invalid"))) × (first_of (codes "realm") rows ≡ Some (unwrap_or realm (codes "invalid")))
+SaysForm (follow json middle check unknown levels dictionary connection) rows =
+    (first_of (codes "unknown") rows ≡ Some (policy_word unknown)) × (first_of (codes "levels") rows ≡ levels)
+    × (first_of (codes "middle") rows ≡ Some (flag_word middle)) × (first_of (codes "check") rows ≡ Some (flag_word check))
+    × (first_of (codes "dict") rows ≡ Some (unwrap_or dictionary (codes "@base"))) × (first_of (codes "CONNECTION") rows ≡ Some connection)
 
 abbrev pub Says : Bool → Form → List Row → Type 0
 Says quiet form rows = (first_of (codes "quiet") rows ≡ Some (flag_word quiet)) × SaysForm form rows
@@ -133,8 +150,10 @@ module _ (policies senders : Bor (List (Bor Text))) (quiet : Bool) (rows : List 
       first (codes "levels") ∙ number_found levels,
       first (codes "D"),
       first (codes "MESSAGE"),
+      first (codes "all") ∙ flag_found (is_full manner),
+      first (codes "json") ∙ flag_found (json_of manner json),
     ),
-    flag_given json (first (codes "json") ∙ flag_found json),
+    flag_given (json_of manner json) (first (codes "json") ∙ flag_found (json_of manner json)),
   )
   form_says (render dictionary) first all = (first (codes "quiet") ∙ flag_found quiet, first (codes "D"), not_given (first (codes "json")))
   form_says (compare json unknown one two table) first all = (
@@ -171,6 +190,30 @@ module _ (policies senders : Bor (List (Bor Text))) (quiet : Bool) (rows : List 
     ),
     flag_given json (first (codes "json") ∙ flag_found json),
   )
+  form_says (answer unknown levels host realm dictionary message) first all = (
+    first (codes "quiet") ∙ flag_found quiet,
+    (
+      first (codes "unknown") ∙ policy_found unknown,
+      first (codes "levels") ∙ number_found levels,
+      first (codes "D"),
+      first (codes "MESSAGE"),
+      first (codes "host") ∙ text_found host (codes "host.invalid"),
+      first (codes "realm") ∙ text_found realm (codes "invalid"),
+    ),
+    not_given (first (codes "json")),
+  )
+  form_says (follow json middle check unknown levels dictionary connection) first all = (
+    first (codes "quiet") ∙ flag_found quiet,
+    (
+      first (codes "unknown") ∙ policy_found unknown,
+      first (codes "levels") ∙ number_found levels,
+      first (codes "middle") ∙ flag_found middle,
+      first (codes "check") ∙ flag_found check,
+      first (codes "dict") ∙ text_found dictionary (codes "@base"),
+      first (codes "CONNECTION"),
+    ),
+    flag_given json (first (codes "json") ∙ flag_found json),
+  )
 
 -- ---- what is asked for
 
@@ -182,8 +225,9 @@ form_has (make dictionary written) rows plain says =
     also (has_some _ (unwrap_or dictionary (codes "@base")) says.0) (has_some _ written says.1)
 form_has (check manner json unknown levels first second) rows plain says =
     also (has_flag _ (is_lines manner) says.0) (also (has_flag _ (is_stream manner) says.1)
+    (also (has_flag _ (is_full manner) says.6) (also (has_flag _ (json_of manner json) says.7)
     (also (also (also (has_policy _ unknown says.2) (has_limit _ levels says.3 (number_passes levels (form_inputs (check manner json unknown levels first second)) plain)))
-    (has_some _ first says.4)) (has_some _ second says.5)))
+    (has_some _ first says.4)) (has_some _ second says.5)))))
 form_has (render first) rows plain says =
     has_some _ first says
 form_has (compare json unknown first second table) rows plain says =
@@ -197,6 +241,13 @@ form_has (breaking json sends unknown messages once meaning allowed accepted fir
     also (has_policy _ unknown says.0.0) (also (pair_passes first second rows says.0.1 says.0.2)
     (also (has_sender _ sends says.1)
     (also (also (has_flag _ messages says.2) (also (has_flag _ once says.5) (also (has_flag _ meaning says.6) (has_flag _ allowed says.7)))) (has_some _ (unwrap_or accepted (codes "@none")) says.4))))
+
+form_has (answer unknown levels host realm dictionary message) rows plain says =
+    also (also (also (has_policy _ unknown says.0) (has_limit _ levels says.1 (number_passes levels (form_inputs (answer unknown levels host realm dictionary message)) (later_plain host realm levels _ plain))))
+    (has_some _ dictionary says.2)) (also (has_some _ message says.3) (also (has_some _ (unwrap_or host (codes "host.invalid")) says.4) (has_some _ (unwrap_or realm (codes "invalid")) says.5)))
+form_has (follow json middle check unknown levels dictionary connection) rows plain says =
+    also (also (has_policy _ unknown says.0) (has_limit _ levels says.1 (number_passes levels (form_inputs (follow json middle check unknown levels dictionary connection)) (dict_plain dictionary levels _ plain))))
+    (also (has_flag _ middle says.2) (also (has_flag _ check says.3) (also (has_some _ (unwrap_or dictionary (codes "@base")) says.4) (has_some _ connection says.5))))
 
 -- what the words of a form ask for
 abbrev IsAskedOf : Form → Task → Origins → Type 0
@@ -241,9 +292,17 @@ asked_is (render dictionary) rows (Whole command.Render) origins says named is f
 asked_is (check alone json unknown levels first second) rows (Whole (command.Check policy limit)) origins says named is found =
     ((same_policy _ _ _ is.2.0 says.2, same_limit _ _ limit says.3 is.2.1), message_named origins rows (codes "D") first (codes "MESSAGE") second says.4 says.5 found)
 asked_is (check in_lines json unknown levels first second) rows (CheckLines policy limit) origins says named is found =
-    ((same_policy _ _ _ is.2.0 says.2, same_limit _ _ limit says.3 is.2.1), messages_named origins rows (codes "D") first second says.4 says.5 found)
+    ((same_policy _ _ _ is.2.0 says.2, same_limit _ _ limit says.3 is.2.1), messages_named origins rows (codes "D") first (codes "MESSAGE") second says.4 says.5 found)
 asked_is (check in_stream json unknown levels first second) rows (CheckStream policy limit) origins says named is found =
-    ((same_policy _ _ _ is.2.0 says.2, same_limit _ _ limit says.3 is.2.1), messages_named origins rows (codes "D") first second says.4 says.5 found)
+    ((same_policy _ _ _ is.2.0 says.2, same_limit _ _ limit says.3 is.2.1), messages_named origins rows (codes "D") first (codes "MESSAGE") second says.4 says.5 found)
+asked_is (check in_full json unknown levels first second) rows (CheckAll policy limit) origins says named is found =
+    ((same_policy _ _ _ is.2.0 says.2, same_limit _ _ limit says.3 is.2.1), message_named origins rows (codes "D") first (codes "MESSAGE") second says.4 says.5 found)
+asked_is (check alone json unknown levels first second) rows (CheckAll policy limit) origins says named is found = other_flag _ true false is.3 says.6 not_false
+asked_is (check in_lines json unknown levels first second) rows (CheckAll policy limit) origins says named is found = other_flag _ true false is.3 says.6 not_false
+asked_is (check in_stream json unknown levels first second) rows (CheckAll policy limit) origins says named is found = other_flag _ true false is.3 says.6 not_false
+asked_is (check in_full json unknown levels first second) rows (Whole (command.Check policy limit)) origins says named is found = other_flag _ false true is.3 says.6 not_true
+asked_is (check in_full json unknown levels first second) rows (CheckLines policy limit) origins says named is found = other_flag _ false true is.3 says.6 not_true
+asked_is (check in_full json unknown levels first second) rows (CheckStream policy limit) origins says named is found = other_flag _ false true is.3 says.6 not_true
 asked_is (check alone json unknown levels first second) rows (CheckLines policy limit) origins says named is found = other_flag _ true false is.0 says.0 not_false
 asked_is (check alone json unknown levels first second) rows (CheckStream policy limit) origins says named is found = other_flag _ true false is.1 says.1 not_false
 asked_is (check in_lines json unknown levels first second) rows (Whole (command.Check policy limit)) origins says named is found = other_flag _ false true is.0 says.0 not_true
@@ -271,6 +330,24 @@ asked_is (breaking json sends unknown messages once meaning allowed accepted fir
     same_names _ _ names says.3 is.6,
   ),
   table_named origins rows first second says.0.1 says.0.2 (codes "accepted") (unwrap_or accepted (codes "@none")) says.4 found,
+)
+asked_is (answer unknown levels host realm dictionary message) rows (Answer asked) origins says named is found = (
+  (
+    same_policy _ _ _ is.0.0 says.0,
+    same_limit _ _ asked.levels says.1 is.0.1,
+    same_value _ _ _ is.1 says.4,
+    same_value _ _ _ is.2 says.5,
+  ),
+  message_named origins rows (codes "D") dictionary (codes "MESSAGE") message says.2 says.3 found,
+)
+asked_is (follow json middle check unknown levels dictionary connection) rows (Follow asked) origins says named is found = (
+  (
+    same_flag _ _ _ is.1 says.2,
+    same_flag _ _ _ is.2 says.3,
+    same_policy _ _ _ is.0.0 says.0,
+    same_limit _ _ asked.levels says.1 is.0.1,
+  ),
+  messages_named origins rows (codes "dict") (unwrap_or dictionary (codes "@base")) (codes "CONNECTION") connection says.4 says.5 found,
 )
 asked_is (breaking json sends unknown messages once meaning allowed accepted first second names) rows (Whole command.Show) origins says named is found = unlike (codes "breaking") (codes "show") refl named
 asked_is (make dictionary written) rows (Whole command.Show) origins says named is found = unlike (codes "make") (codes "show") refl named

@@ -157,10 +157,10 @@ module _ (origins : Origins) (rows : List Row) where
     named _ (codes "MESSAGE") messages origins.messages rows text found.4,
   )
 
-  pub messages_named : (id dictionary messages : Text) → first_of id rows ≡ Some dictionary → first_of (codes "MESSAGE") rows ≡ Some messages
-      → AreFound (record (one_text id) { messages = Some (codes "MESSAGE") }) origins rows → AreNamed (record (one_text dictionary) { messages = Some messages }) origins
-  messages_named id dictionary messages says text found =
-      (named _ id dictionary origins.first rows says found.0, found.1, found.2, found.3, named _ (codes "MESSAGE") messages origins.messages rows text found.4)
+  pub messages_named : (id dictionary input messages : Text) → first_of id rows ≡ Some dictionary → first_of input rows ≡ Some messages
+      → AreFound (record (one_text id) { messages = Some input }) origins rows → AreNamed (record (one_text dictionary) { messages = Some messages }) origins
+  messages_named id dictionary input messages says text found =
+      (named _ id dictionary origins.first rows says found.0, found.1, found.2, found.3, named _ input messages origins.messages rows text found.4)
 
   -- two dictionaries, and more
   module _ (first second : Text) (one : first_of (codes "A") rows ≡ Some first) (two : first_of (codes "B") rows ≡ Some second) where

@@ -6,11 +6,11 @@ use Rattle.clap.specs.Walk.{Row, Text, first_of, texts}
 use Rattle.dia_policy.specs.declared.Sends.TheVariants.{Any, Known, Listed}
 use Rattle.dia_policy.specs.declared.Unknown.TheVariants.{Kept, Refused}
 use Rattle.dia_cli.specs.Apart.{show_apart}
-use Rattle.dia_cli.specs.Asking.{HasLinesAndStream, IsApart, IsRequestOf, is_asked, line_shape}
-use Rattle.dia_cli.specs.Forms.{Form, IsOfForm, Recording, alone, as_json, as_listing, as_text, check, form_inputs, form_json, form_name, form_row, has_lines, has_names, in_lines, in_stream, is_json, is_plain_form, is_text, show, values_given, words_of}
+use Rattle.dia_cli.specs.Asking.{IsApart, IsCheckWithBoth, IsRequestOf, is_asked, line_shape}
+use Rattle.dia_cli.specs.Forms.{Form, IsOfForm, Recording, alone, as_json, as_listing, as_text, check, form_inputs, form_json, form_name, form_row, has_lines, has_names, in_full, in_lines, in_stream, is_json, is_plain_form, is_text, show, values_given, words_of}
 use Rattle.dia_cli.specs.Words.{apart_in, flag_word, is_file, is_given, policy_word, sends_word}
 use Rattle.dia_cli.specs.declared.apart.Apart.{Apart}
-use Rattle.dia_cli.specs.declared.apart.Apart.TheVariants.{LinesAndStream, AsTextAndNames, AsTextAndValues, AsTextAndLines, AsTextAndJson, JsonAndLines}
+use Rattle.dia_cli.specs.declared.apart.Apart.TheVariants.{LinesAndStream, AllAndLines, AllAndStream, AllAndJson, AsTextAndNames, AsTextAndValues, AsTextAndLines, AsTextAndJson, JsonAndLines}
 use Rattle.dia_cli.specs.declared.request.Request.{Request}
 use Rattle.dia_cli.proofs.Forms.Commands.{Says, all_options, asked_is, form_fits, form_has, form_named, form_says}
 use Rattle.dia_cli.proofs.Forms.Ends.{Finds, row_taken}
@@ -37,11 +37,10 @@ module _ (policies senders : Bor (List (Bor Text))) (quiet : Bool) (rows : List 
 pub form_is_asked : (quiet : Bool) (form : Form) (rows : List Row) → is_plain_form form ≡ true → Says quiet form rows → is_asked (Some (form_name form, rows)) ≡ true
 form_is_asked quiet form rows plain says = also (has_flag _ quiet says.0) (form_has form rows plain says.1)
 
--- `--lines` and `--stream` occur together in no form
-form_reads_one_way : (quiet : Bool) (form : Form) (rows : List Row) → Says quiet form rows → (form_name form ≡ codes "check") × HasLinesAndStream rows → ⊥
-form_reads_one_way quiet (check alone json unknown levels first second) rows says bad = let lines = sym says.1.0 ∙ bad.1.0 in absurd cc
-form_reads_one_way quiet (check in_lines json unknown levels first second) rows says bad = let stream = sym says.1.1 ∙ bad.1.1 in absurd cc
-form_reads_one_way quiet (check in_stream json unknown levels first second) rows says bad = let lines = sym says.1.0 ∙ bad.1.0 in absurd cc
+-- no two of `--lines`, `--stream` and `--all` occur together in a form, nor `--all` with `--json`
+form_reads_one_way : (quiet : Bool) (form : Form) (rows : List Row) → Says quiet form rows → IsCheckWithBoth (codes "lines") (codes "stream") (form_name form, rows) → ⊥
+form_reads_one_way quiet (check in_lines json unknown levels first second) rows says bad = let stream = sym says.1.1 ∙ bad.2 in absurd cc
+form_reads_one_way quiet (check manner json unknown levels first second) rows says bad = not_in_lines manner (sym says.1.0 ∙ bad.1) (sym says.1.1 ∙ bad.2)
 form_reads_one_way quiet form rows says bad = unlike (form_name form) (codes "check") refl bad.0
 
 -- what a form says of `show` goes together

@@ -26,7 +26,7 @@ pub(super) fn show_of<'a>(found: &ArgMatches<'a>) -> Result<Asked<'a>, Unasked>
     let Some(message) = message_of(found, "MESSAGE") else {
         return Err(Unasked::Nothing);
     };
-    let Some(messages) = messages_of(found) else {
+    let Some(messages) = messages_of(found, "MESSAGE") else {
         return Err(Unasked::Nothing);
     };
     let Some(table) = table_of(found, "values") else {
