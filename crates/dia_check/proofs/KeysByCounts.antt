@@ -128,7 +128,7 @@ module _ (rules : List DRule) (are : AreRules rules) (keys : List Key) (key : Ke
 
     pub not_allowed_first : o ≡ None → IsFirstMisplaced rules keys key (record { reason = reason.NotAllowed; subject = Avp key })
     not_allowed_first none = record {
-      misplaced = not_allowed (leads.counts_none none);
+      misplaced = not_allowed (leads.counts_none none).0;
       none_sooner = λ r s h. sooner r s h;
     }
       where

@@ -19,9 +19,7 @@ use Rattle.dia_book.proofs.Members.{position-is_some}
 use Rattle.dia_valid.specs.Valid.{fixed_rules, is_listed, has_wildcard, is_wildcard}
 use Rattle.dia_valid.specs.LongestRuns.{runs, met, loose_start}
 use Rattle.dia_valid.specs.LongestRuns.{IsAt}
-use Rattle.dia_check.specs.OpenLevels.{IsCounted, IsNotAllowed, Leads}
-use Rattle.dia_check.specs.declared.open_levels.OpenLevel.{OpenLevel}
-use Rattle.dia_check.specs.declared.open_levels.tally.Met.{Met}
+use Rattle.dia_check.specs.OpenLevels.{IsNotAllowed, Leads}
 use Rattle.dia_valid.proofs.LongestRuns.{sum-cons, is_of-key}
 use Rattle.dia_valid.proofs.RunsOfOneKeyMore.{is_of, NoneFrom, Reaches, one_more, same_runs, after_all, longer_run, in_run}
 use Rattle.dia_valid.proofs.RuleCounts.{met_fixed, met_longer, met_more, counts_key, fixed_place, all_at, reached, length-runs, sum-runs}
@@ -159,8 +157,8 @@ count_one p k = let e = sum_by-cons (λ (x : Key). cond (p x) 1 0) k [] in omega
 
 -- ---- the four ways that a key can lead
 
-module _ (rules : List DRule) (are : AreRules rules) (keys : List Key) (key : Key) (level : OpenLevel) (tally : List Met) (shape : Shape)
-    (is_shape : IsShape rules shape) (c : IsCounted rules keys level tally) where
+module _ (rules : List DRule) (are : AreRules rules) (keys : List Key) (key : Key) (start : ℕ) (ends : IsAt (fixed_rules rules) start keys) (shape : Shape)
+    (is_shape : IsShape rules shape) where
   only_one : (i j : ℕ) (a b : DRule) → slice_get rules i ≡ Some a → lists_key key a ≡ true → slice_get rules j ≡ Some b → lists_key key b ≡ true → i ≡ j
   only_one i j a b at is at' is' = are.distinct i j a b at at' (is_of-key a key is ∙ sym (is_of-key b key is'))
 
@@ -169,13 +167,13 @@ module _ (rules : List DRule) (are : AreRules rules) (keys : List Key) (key : Ke
       × ((j : ℕ) (other : DRule) → slice_get rules j ≡ Some other → met rules (keys ++ key ∷ []) j other ≡ met rules keys j other + (if j == k then 1 else 0))
 
   -- into the run of a fixed rule from the present one on
-  pub leads_fixed : (i : ℕ) → level.run ≤ i → slot.Fixed i ≡ slot_of rules key → Leads rules keys key level.run i (Some i)
+  pub leads_fixed : (i : ℕ) → start ≤ i → slot.Fixed i ≡ slot_of rules key → Leads rules keys key start i (Some i)
   leads_fixed i le e = record {
     at = inside;
     within = (omega (arith, lt), omega (arith, le, lt));
     same_runs = λ j before. ap (λ (ns : List ℕ). slice_index ns j) longer ∙ one_more_below i j (runs (fixed_rules rules) keys) before;
     passed = λ j from to. ap (λ (ns : List ℕ). sum (take (suc j) ns)) longer ∙ ap (λ (ns : List ℕ). sum ns) (take_one_more i (suc j) (runs (fixed_rules rules) keys) (omega (arith, to)))
-        ∙ all_to (fixed_rules rules) level.run j keys from (omega (arith, le, lt)) c.run;
+        ∙ all_to (fixed_rules rules) start j keys from (omega (arith, le, lt)) ends;
     not_passed = λ j from to same. let all = all_to (fixed_rules rules) i j (keys ++ key ∷ []) from lt inside in let more = length-append keys (key ∷ []) in omega (arith, all, more, same);
     counts = λ k is. let here : i ≡ k = same_Some i k is in subst (Counts) here counts_here;
     counts_none = λ none. absurd (none-some i (sym none));
@@ -187,21 +185,21 @@ module _ (rules : List DRule) (are : AreRules rules) (keys : List Key) (key : Ke
       here_fixed : slice_get (fixed_rules rules) i ≡ Some rule.0
       here_fixed = into_fixed rules i rule.0 are rule.1 rule.2
 
-      reach : Reaches (fixed_rules rules) level.run i key
-      reach = reaches_of (fixed_rules rules) level.run i key rule.0 le here_fixed rule.3
+      reach : Reaches (fixed_rules rules) start i key
+      reach = reaches_of (fixed_rules rules) start i key rule.0 le here_fixed rule.3
           (λ j q at is. only_one j i q rule.0 (fixed_place rules j q are at).0 is rule.1 rule.3)
 
       lt : i < length (fixed_rules rules)
-      lt = (reached (fixed_rules rules) level.run i key reach).1
+      lt = (reached (fixed_rules rules) start i key reach).1
 
       inside : IsAt (fixed_rules rules) i (keys ++ key ∷ [])
-      inside = in_run (fixed_rules rules) level.run i keys key c.run reach
+      inside = in_run (fixed_rules rules) start i keys key ends reach
 
       longer : runs (fixed_rules rules) (keys ++ key ∷ []) ≡ one_more i (runs (fixed_rules rules) keys)
-      longer = longer_run (fixed_rules rules) level.run i keys key c.run reach
+      longer = longer_run (fixed_rules rules) start i keys key ends reach
 
       met_now : (j : ℕ) (other : DRule) → slice_get rules j ≡ Some other → met rules (keys ++ key ∷ []) j other ≡ met rules keys j other + (if j == i then 1 else 0)
-      met_now j other at = by (is_fixed other) (j == i) refl refl (met_longer rules level.run i keys key j other c.run reach)
+      met_now j other at = by (is_fixed other) (j == i) refl refl (met_longer rules start i keys key j other ends reach)
         where
           by : (b same : Bool) → is_fixed other ≡ b → (j == i) ≡ same
               → met rules (keys ++ key ∷ []) j other ≡ (if b then slice_index (one_more i (runs (fixed_rules rules) keys)) j else met rules keys j other)
@@ -235,22 +233,43 @@ module _ (rules : List DRule) (are : AreRules rules) (keys : List Key) (key : Ke
   CountsAfter i = (i < length rules) × (¬ (IsTrue (is_listed (fixed_rules rules) key) ⊎ ((is_listed rules key ≡ false) × (has_wildcard rules ≡ false))))
       × ((j : ℕ) (other : DRule) → slice_get rules j ≡ Some other → (if is_fixed other then false else counts_key rules other key) ≡ (j == i))
 
-  leads_after : (o : Option ℕ) → NoneFrom (fixed_rules rules) level.run key → ((i : ℕ) → o ≡ Some i → CountsAfter i)
+  -- a key that isn't allowed behind the runs is counted by no rule
+  none_each : IsTrue (is_listed (fixed_rules rules) key) ⊎ ((is_listed rules key ≡ false) × (has_wildcard rules ≡ false)) → (j : ℕ) (other : DRule) → slice_get rules j ≡ Some other
+      → (if is_fixed other then false else counts_key rules other key) ≡ false
+  none_each bad j other at = by bad (is_fixed other) (is_wildcard other) (lists_key key other) refl refl refl
+    where
+      by : IsTrue (is_listed (fixed_rules rules) key) ⊎ ((is_listed rules key ≡ false) × (has_wildcard rules ≡ false)) → (b w lists : Bool) → is_fixed other ≡ b → is_wildcard other ≡ w
+          → lists_key key other ≡ lists → (if b then false else (if w then not (is_listed rules key) else lists)) ≡ false
+      by bad true w lists is is_w is_l = refl
+      by (inl fixed) false true lists is is_w is_l = ap not (listed_of is_fixed rules key fixed)
+      by (inr h) false true lists is is_w is_l = absurd (both_ways (has_wildcard rules) h.1 (at_any is_wildcard rules j other at is_w))
+      by (inl fixed) false false true is is_w is_l =
+          let (i, q, here, lists) = any_at (lists_key key) (fixed_rules rules) fixed in
+          let place = fixed_place rules i q are here in
+          let one : q ≡ other = same_Some q other (sym place.0 ∙ ap (λ (k : ℕ). slice_get rules k) (only_one i j q other place.0 lists at is_l) ∙ at) in
+          absurd (both_ways (is_fixed other) is (ap is_fixed (sym one) ∙ place.1))
+      by (inr h) false false true is is_w is_l = absurd (both_ways (is_listed rules key) h.0 (at_any (lists_key key) rules j other at is_l))
+      by bad false false false is is_w is_l = refl
+
+  leads_after : (o : Option ℕ) → NoneFrom (fixed_rules rules) start key → ((i : ℕ) → o ≡ Some i → CountsAfter i)
       → (o ≡ None → IsTrue (is_listed (fixed_rules rules) key) ⊎ ((is_listed rules key ≡ false) × (has_wildcard rules ≡ false)))
-      → Leads rules keys key level.run shape.fixed o
-  leads_after o none some_counts none_counts = subst (λ (n : ℕ). Leads rules keys key level.run n o) (sym is_shape.fixed) (record {
-    at = after_all (fixed_rules rules) level.run keys key c.run none;
-    within = (omega arith, at_within (fixed_rules rules) level.run keys c.run);
+      → Leads rules keys key start shape.fixed o
+  leads_after o none some_counts none_counts = subst (λ (n : ℕ). Leads rules keys key start n o) (sym is_shape.fixed) (record {
+    at = after_all (fixed_rules rules) start keys key ends none;
+    within = (omega arith, at_within (fixed_rules rules) start keys ends);
     same_runs = λ j before. ap (λ (ns : List ℕ). slice_index ns j) same;
-    passed = λ j from to. ap (λ (ns : List ℕ). sum (take (suc j) ns)) same ∙ all_to (fixed_rules rules) level.run j keys from (omega (arith, from, to)) c.run;
+    passed = λ j from to. ap (λ (ns : List ℕ). sum (take (suc j) ns)) same ∙ all_to (fixed_rules rules) start j keys from (omega (arith, from, to)) ends;
     not_passed = λ j from to. absurd (omega (arith, from, to));
     counts = λ i is. let (lt, allowed, each) = some_counts i is in
-        (lt, (λ bad. allowed bad.1), λ j other at. by j other (is_fixed other) (j == i) (each j other at) (met_more rules level.run keys key j other c.run none));
-    counts_none = λ is. (following, none_counts is);
+        (lt, (λ bad. allowed bad.1), λ j other at. by j other (is_fixed other) (j == i) (each j other at) (met_more rules start keys key j other ends none));
+    counts_none = λ is. (
+      (following, none_counts is),
+      λ j other at. let same_count = by j other (is_fixed other) false (none_each (none_counts is) j other at) (met_more rules start keys key j other ends none) in omega (arith, same_count),
+    );
   })
     where
       same : runs (fixed_rules rules) (keys ++ key ∷ []) ≡ runs (fixed_rules rules) keys
-      same = same_runs (fixed_rules rules) level.run keys key c.run none
+      same = same_runs (fixed_rules rules) start keys key ends none
 
       following : loose_start rules (keys ++ key ∷ []) ≤ length keys
       following = let e : loose_start rules (keys ++ key ∷ []) ≡ loose_start rules keys = ap (λ (ns : List ℕ). sum ns) same in omega (arith, e, sum-runs (fixed_rules rules) keys)
@@ -269,22 +288,22 @@ module _ (rules : List DRule) (are : AreRules rules) (keys : List Key) (key : Ke
   same_rule i j a b e at at' = same_Some a b (sym at ∙ ap (λ (k : ℕ). slice_get rules k) e ∙ at')
 
   -- no fixed rule from the present one on is the key's, where none of them lists it
-  none_listed : ((j : ℕ) (q : DRule) → level.run ≤ j → slice_get rules j ≡ Some q → is_fixed q ≡ true → lists_key key q ≡ true → ⊥) → NoneFrom (fixed_rules rules) level.run key
-  none_listed other = none_of (fixed_rules rules) level.run key (λ j q le at. let here = fixed_place rules j q are at in by q (lists_key key q) refl (other j q le here.0 here.1))
+  none_listed : ((j : ℕ) (q : DRule) → start ≤ j → slice_get rules j ≡ Some q → is_fixed q ≡ true → lists_key key q ≡ true → ⊥) → NoneFrom (fixed_rules rules) start key
+  none_listed other = none_of (fixed_rules rules) start key (λ j q le at. let here = fixed_place rules j q are at in by q (lists_key key q) refl (other j q le here.0 here.1))
     where
       by : (q : DRule) (b : Bool) → lists_key key q ≡ b → (lists_key key q ≡ true → ⊥) → lists_key key q ≡ false
       by q true is h = absurd (h is)
       by q false is h = is
 
   -- a fixed rule whose run is over doesn't count it
-  pub leads_past : (i : ℕ) → i < level.run → slot.Fixed i ≡ slot_of rules key → Leads rules keys key level.run shape.fixed None
+  pub leads_past : (i : ℕ) → i < start → slot.Fixed i ≡ slot_of rules key → Leads rules keys key start shape.fixed None
   leads_past i lt e =
       let (r, at, fixed, lists) = fixed_slot rules key i e in
       leads_after None (none_listed (λ j q le at' fixed' lists'. let one = only_one j i q r at' lists' at lists in omega (arith, one, le, lt)))
       (λ k is. absurd (none-some k is)) (λ is. inl (at_any (lists_key key) (fixed_rules rules) i r (into_fixed rules i r are at fixed) lists))
 
   -- a loose rule counts it
-  pub leads_loose : (i : ℕ) → slot.Loose i ≡ slot_of rules key → Leads rules keys key level.run shape.fixed (Some i)
+  pub leads_loose : (i : ℕ) → slot.Loose i ≡ slot_of rules key → Leads rules keys key start shape.fixed (Some i)
   leads_loose i e = leads_after (Some i) (none_listed (λ j q le at fixed lists. not_fixed j q at fixed lists))
       (λ k is. subst CountsAfter (same_Some i k is) counts_here) (λ none. absurd (none-some i (sym none)))
     where
@@ -364,7 +383,7 @@ module _ (rules : List DRule) (are : AreRules rules) (keys : List Key) (key : Ke
     wildcard_counts = (slice_get_within rules i wild.0 wild.1, wild_allowed, λ j other at. wild_kind j other at (is_fixed other) (j == i) refl refl)
 
   -- the wildcard counts it, where there is one
-  pub leads_unlisted : slot.Unlisted ≡ slot_of rules key → Leads rules keys key level.run shape.fixed shape.wildcard
+  pub leads_unlisted : slot.Unlisted ≡ slot_of rules key → Leads rules keys key start shape.fixed shape.wildcard
   leads_unlisted e = leads_after shape.wildcard (none_listed (λ j q le at fixed lists. not_listed j q at lists))
       (λ i is. wildcard_counts unlisted i (at_position is_wildcard rules i (sym is_shape.wildcard ∙ is))) (λ none. inr (unlisted, no_position is_wildcard rules (sym is_shape.wildcard ∙ none)))
     where

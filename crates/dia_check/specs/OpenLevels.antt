@@ -84,7 +84,8 @@ pub record Leads (rules : List DRule) (keys : List Key) (key : Key) (old run : �
   pub counts : (i : ℕ) → rule ≡ Some i
       → (i < length rules) × (¬ IsNotAllowed rules keys key)
       × ((j : ℕ) (other : DRule) → slice_get rules j ≡ Some other → met rules (keys ++ key ∷ []) j other ≡ met rules keys j other + (if j == i then 1 else 0))
-  pub counts_none : rule ≡ None → IsNotAllowed rules keys key
+  pub counts_none : rule ≡ None
+      → IsNotAllowed rules keys key × ((j : ℕ) (other : DRule) → slice_get rules j ≡ Some other → met rules (keys ++ key ∷ []) j other ≡ met rules keys j other)
 
 -- one key more leads to a rule that counts it, and the rules that are passed are met
 abbrev pub IsLed : List DRule → List Key → Key → List Met → (old run rule : ℕ) → Type 0

@@ -153,7 +153,7 @@ pub(crate) fn admit<B: Book>(
 
 /// What is wrong with the flags of an AVP of this key and entry.
 #[inline(always)]
-fn wrong_flags<B: Book>(
+pub fn wrong_flags<B: Book>(
     basis: &Basis<'_, B>,
     key: Key,
     known: &Option<Entry>,
@@ -206,7 +206,7 @@ fn is_accepted(unknown: Unknown, flags: u8) -> bool
 
 /// Checks the data of a known AVP in a level of this depth: the definition of a group, whose data is a level to open.
 #[inline(always)]
-pub(crate) fn check_data<B: Book>(
+pub fn check_data<B: Book>(
     basis: &Basis<'_, B>,
     depth: usize,
     entry: Entry,

@@ -65,7 +65,7 @@ pub(crate) fn good_command<B: Book>(book: &B, header: &Header) -> Result<DefId, 
 }
 
 /// Whether E is clear in a request, and T is clear in an answer.
-fn has_good_bits(header: &Header) -> bool
+pub fn has_good_bits(header: &Header) -> bool
     ensures good { IsTrue result → (HasR header.now.flags → ¬ HasE header.now.flags)
         × (HasT header.now.flags → HasR header.now.flags) }
     ensures bad { IsFalse result → (HasR header.now.flags × HasE header.now.flags)
@@ -92,7 +92,7 @@ pub fn class_of(header: &Header) -> Class
 }
 
 /// Whether the P flag is one that the command may have.
-fn allows_p(head: DefHead, header: &Header) -> bool
+pub fn allows_p(head: DefHead, header: &Header) -> bool
     ensures { IsTrue result ↔ AllowsP head header.now.flags }
 {
     match head {

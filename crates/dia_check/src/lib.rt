@@ -13,9 +13,12 @@ mod recording;
 mod room;
 mod stream;
 
+pub use admission::{check_data, wrong_flags};
+pub use basis::Basis;
 pub use checking::{check, check_in, one_answer, validity};
 pub use dia_policy::{Levels, Unknown};
 pub use fault::{Fault, Reason, Refusal, Selected, Subject};
-pub use header::class_of;
+pub use header::{allows_p, class_of, has_good_bits};
+pub use open_levels::{Wrong, lead, missing};
 pub use room::Room;
 pub use stream::{Paused, Progress, Stream, StreamFault};

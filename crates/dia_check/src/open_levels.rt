@@ -10,14 +10,16 @@ ghost use Rattle.dia_wire.specs.declared.Key.{Key as AnyKey};
 ghost use Rattle.dia_book.specs.declared.DRule.{DRule as AnyRule};
 ghost use Rattle.dia_book.specs.Dictionary.{AreRules, PlainDefinition, slot_of};
 ghost use Rattle.dia_book.specs.Shapes.{IsShape};
-ghost use Rattle.dia_check.specs.declared.open_levels.tally.Met.{Met as AnyMet};
+ghost use Rattle.dia_valid.specs.Valid.{fixed_rules};
+ghost use Rattle.dia_valid.specs.LongestRuns.{IsAt};
 ghost use Rattle.dia_check.specs.OpenLevels.{IsCounted, IsLed, Leads};
 ghost use Rattle.dia_check.specs.OpenLevels.{IsWellPlaced, IsFirstMisplaced};
 ghost use Rattle.dia_check.specs.OpenLevels.{IsMetAtEnd, IsMissingAtEnd, SoFar};
 ghost use Rattle.dia_check.specs.OpenLevels.{begun, and_key, HasRoom, AreOpen};
 
 use self::tally::{Met, lay_out, read, recorded_at, write};
-use self::unmet::{first_unmet, met_up_to, missing, unmet_among};
+pub use self::unmet::missing;
+use self::unmet::{first_unmet, met_up_to, unmet_among};
 use crate::fault::{Reason, Subject};
 use dia_book::{DRule, DefId, Shape, Slot};
 use dia_wire::Key;
@@ -68,9 +70,9 @@ pub(crate) struct OpenLevels {
 
 /// What is wrong with an AVP or at the end of a level.
 #[derive(Clone, Copy)]
-pub(crate) struct Wrong {
-    pub(crate) reason: Reason,
-    pub(crate) subject: Subject,
+pub struct Wrong {
+    pub reason: Reason,
+    pub subject: Subject,
 }
 
 impl Wrong {
@@ -101,21 +103,6 @@ impl OpenLevel {
         }
     }
 
-    /// The run into which an AVP of this slot leads, and the rule that counts it.
-    #[inline(always)]
-    fn lead(&self, shape: &Shape, slot: Slot) -> (usize, Option<usize>)
-        ensures { (rules : List AnyRule) (keys : List AnyKey) (key : AnyKey) (tally : List AnyMet)
-            → AreRules rules → IsShape rules shape.now → IsCounted rules keys self.now tally
-            → slot ≡ slot_of rules key → Leads rules keys key self.now.run result.0 result.1 }
-    {
-        match slot {
-            Slot::Fixed(rule) if rule >= self.run => (rule, Some(rule)),
-            Slot::Fixed(_) => (shape.fixed, None),
-            Slot::Loose(rule) => (shape.fixed, Some(rule)),
-            Slot::Unlisted => (shape.fixed, shape.wildcard),
-        }
-    }
-
     /// The run into which an AVP of this key and slot leads and the rule that counts it, or what is wrong with it.
     #[inline(always)]
     fn rule_for(
@@ -135,7 +122,7 @@ impl OpenLevel {
             (λ led. IsLed rules.now keys key tally.now self.now.run led.0 led.1)
             (λ wrong. IsFirstMisplaced rules.now keys key wrong) }
     {
-        let (run, rule) = self.lead(shape, slot);
+        let (run, rule) = lead(self.run, shape, slot);
         if let Some(place) = first_unmet(rules, shape, tally, self.run, run) {
             let rule = rules[place];
             return Err(missing(rule));
@@ -144,6 +131,22 @@ impl OpenLevel {
             Some(rule) => Ok((run, rule)),
             None => Err(Wrong::avp(Reason::NotAllowed, key)),
         }
+    }
+}
+
+/// The run into which an AVP of this slot leads, where those before it end in a run, and the rule that counts it. Runs
+/// count from 0; after the last comes the number of fixed rules.
+#[inline(always)]
+pub fn lead(run: usize, shape: &Shape, slot: Slot) -> (usize, Option<usize>)
+    ensures { (rules : List AnyRule) (keys : List AnyKey) (key : AnyKey)
+        → AreRules rules → IsShape rules shape.now → IsAt (fixed_rules rules) run keys
+        → slot ≡ slot_of rules key → Leads rules keys key run result.0 result.1 }
+{
+    match slot {
+        Slot::Fixed(rule) if rule >= run => (rule, Some(rule)),
+        Slot::Fixed(_) => (shape.fixed, None),
+        Slot::Loose(rule) => (shape.fixed, Some(rule)),
+        Slot::Unlisted => (shape.fixed, shape.wildcard),
     }
 }
 

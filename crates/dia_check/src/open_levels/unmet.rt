@@ -13,7 +13,7 @@ use crate::fault::{Reason, Subject};
 use dia_book::{DRule, Shape};
 
 /// The AVP of a rule is missing.
-pub(super) fn missing(rule: DRule) -> Wrong
+pub fn missing(rule: DRule) -> Wrong
     ensures { result ≡ record { reason = Reason.Missing; subject = subject_of rule.key } }
 {
     let subject = match rule.key {

@@ -15,31 +15,31 @@ first_unmet-requires-clause-rising c = ∥∥₁_elim c.requires.counted (rising
 pub first_unmet-requires-clause-within : goal.first_unmet-requires-clause-within
 first_unmet-requires-clause-within c = (
   ∥∥₁_elim c.requires.counted le_prop (λ x. let (keys, counted) = x in
-      let leads = c.lead-run.ensures c.args.rules.now keys c.args.key c.args.tally.now c.requires.rules c.requires.shape counted c.requires.slot in
+      let leads = c.lead-run.ensures c.args.rules.now keys c.args.key c.requires.rules c.requires.shape counted.run c.requires.slot in
       let fixed = fixed_few c.args.rules.now in
       omega (arith, leads.within.1, fixed)),
   ∥∥₁_elim c.requires.counted le_prop (λ x. let (keys, counted) = x in
       to_within c.args.rules.now c.requires.rules keys c.args.key c.args.self.now c.args.tally.now counted c.lead-run.result.0 c.lead-run.result.1
-      (c.lead-run.ensures c.args.rules.now keys c.args.key c.args.tally.now c.requires.rules c.requires.shape counted c.requires.slot)),
+      (c.lead-run.ensures c.args.rules.now keys c.args.key c.requires.rules c.requires.shape counted.run c.requires.slot)),
 )
 
 pub bounds-rules-place : goal.bounds-rules-place
 bounds-rules-place c =
     let within : c.lead-run.result.0 ≤ length c.args.rules.now = ∥∥₁_elim c.requires.counted le_prop (λ x. let (keys, counted) = x in
     to_within c.args.rules.now c.requires.rules keys c.args.key c.args.self.now c.args.tally.now counted c.lead-run.result.0 c.lead-run.result.1
-    (c.lead-run.ensures c.args.rules.now keys c.args.key c.args.tally.now c.requires.rules c.requires.shape counted c.requires.slot)) in
+    (c.lead-run.ensures c.args.rules.now keys c.args.key c.requires.rules c.requires.shape counted.run c.requires.slot)) in
     omega (arith, c.in-Some.ensures.inside, within)
 
 pub offset_bounds-rules-place : goal.offset_bounds-rules-place
 offset_bounds-rules-place c =
     let within : c.lead-run.result.0 ≤ length c.args.rules.now = ∥∥₁_elim c.requires.counted le_prop (λ x. let (keys, counted) = x in
     to_within c.args.rules.now c.requires.rules keys c.args.key c.args.self.now c.args.tally.now counted c.lead-run.result.0 c.lead-run.result.1
-    (c.lead-run.ensures c.args.rules.now keys c.args.key c.args.tally.now c.requires.rules c.requires.shape counted c.requires.slot)) in
+    (c.lead-run.ensures c.args.rules.now keys c.args.key c.requires.rules c.requires.shape counted.run c.requires.slot)) in
     omega (arith, c.in-Some.ensures.inside, within, c.requires.rules.few)
 
 pub returns-in-Some : goal.returns-in-Some
 returns-in-Some c keys counted =
-    let leads = c.lead-run.ensures c.args.rules.now keys c.args.key c.args.tally.now c.requires.rules c.requires.shape counted c.requires.slot in
+    let leads = c.lead-run.ensures c.args.rules.now keys c.args.key c.requires.rules c.requires.shape counted.run c.requires.slot in
     let within = to_within c.args.rules.now c.requires.rules keys c.args.key c.args.self.now c.args.tally.now counted c.lead-run.result.0 c.lead-run.result.1 leads in
     let lt : c.in-Some.place < length c.args.rules.now = omega (arith, c.in-Some.ensures.inside, within) in
     rw c.missing.ensures
@@ -48,9 +48,9 @@ returns-in-Some c keys counted =
 
 pub returns-in-None : goal.returns-in-None
 returns-in-None c keys counted = rw c.avp.ensures (not_allowed_first c.args.rules.now c.requires.rules keys c.args.key c.args.self.now c.args.tally.now counted c.lead-run.result.0
-    c.lead-run.result.1 (c.lead-run.ensures c.args.rules.now keys c.args.key c.args.tally.now c.requires.rules c.requires.shape counted c.requires.slot) c.in_default.ensures c.in-None.is)
+    c.lead-run.result.1 (c.lead-run.ensures c.args.rules.now keys c.args.key c.requires.rules c.requires.shape counted.run c.requires.slot) c.in_default.ensures c.in-None.is)
 
 pub returns-in-Some-rule : goal.returns-in-Some-rule
 returns-in-Some-rule c keys counted =
-    let leads = c.lead-run.ensures c.args.rules.now keys c.args.key c.args.tally.now c.requires.rules c.requires.shape counted c.requires.slot in
+    let leads = c.lead-run.ensures c.args.rules.now keys c.args.key c.requires.rules c.requires.shape counted.run c.requires.slot in
     (subst (λ (o : Option ℕ). Leads c.args.rules.now keys c.args.key c.args.self.now.run c.lead-run.result.0 o) c.in-Some-rule.is leads, c.in_default.ensures)
