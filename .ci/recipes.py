@@ -90,7 +90,7 @@ def is_told(command, said):
 def fails(command, room, title, tell):
     """A recipe ends neither with 0 nor with 1, and says so in its file."""
     said, status = run(command, room)
-    tell(status > 1 and is_told(command, said), f"docs/JSON.md: {title}: {command}", "a status above 1, and an error in its file", f"{status}\n{said}")
+    report(status > 1 and is_told(command, said), f"docs/JSON.md: {title}: {command}", "a status above 1, and an error in its file", f"{status}\n{said}")
 
 
 def without_answers(command, room, tell):
@@ -119,7 +119,7 @@ def without_breaks(commands, room, tell):
     for command in commands:
         wanted = (junit if "junit" in command else "", 0)
         found = run(command, room)
-        tell(found == wanted, f"docs/JSON.md: nothing breaks: {command}", wanted, found)
+        report(found == wanted, f"docs/JSON.md: nothing breaks: {command}", wanted, found)
 
 
 def stale_lines(command, room, tell):
@@ -129,7 +129,7 @@ def stale_lines(command, room, tell):
     case = f'<testcase classname="accepted" name="{line}"><failure message="stale"/></testcase>'
     wanted = f'<testsuite name="breaking" tests="1" failures="1" errors="0">\n{case}\n</testsuite>\n', 1
     found = run(command.replace("--json", "--json --accepted known.txt"), room)
-    tell(found == wanted, "docs/JSON.md: a stale line", wanted, found)
+    report(found == wanted, "docs/JSON.md: a stale line", wanted, found)
 
 
 def by_hand(command, room, tell):
@@ -140,7 +140,7 @@ def by_hand(command, room, tell):
     said, status = run(command.replace("diacmd breaking --json ours.txt theirs.txt", "cat answer.json"), room)
     found = [[case.get("classname"), case.get("name"), case[0].get("message")] for case in ElementTree.fromstring(said)]
     wanted = [["T/G", "undecided missing X", "0..1 sent, 1 accepted"], ["accepted", """T: <'a' & "b">""", "stale"]]
-    tell((found, status) == (wanted, 0), "docs/JSON.md: an answer by hand", wanted, f"{status}\n{said}")
+    report((found, status) == (wanted, 0), "docs/JSON.md: an answer by hand", wanted, f"{status}\n{said}")
 
 
 def cases_of(lines):
@@ -168,11 +168,11 @@ def reasons(command, room, tell):
         suite = ElementTree.fromstring(said)
         found = [(case.get("classname"), case.get("name"), case.find("failure").get("message")) for case in suite]
         wanted = list(cases_of(plain))
-        tell((found, status) == (wanted, 1), f"docs/JSON.md: breaking {words}: {command}", wanted, found)
+        report((found, status) == (wanted, 1), f"docs/JSON.md: breaking {words}: {command}", wanted, found)
         counts = [suite.get(name) for name in ("tests", "failures", "errors")]
-        tell(counts == [str(len(wanted)), str(len(wanted)), "0"], f"docs/JSON.md: the counts of JUnit: breaking {words}", len(wanted), counts)
+        report(counts == [str(len(wanted)), str(len(wanted)), "0"], f"docs/JSON.md: the counts of JUnit: breaking {words}", len(wanted), counts)
         seen |= {cause.split()[0] for _, cause, _ in wanted}
-    tell(seen == known, "docs/JSON.md: reasons that went through JUnit", sorted(known), sorted(seen))
+    report(seen == known, "docs/JSON.md: reasons that went through JUnit", sorted(known), sorted(seen))
 
 
 def recipes(text, room, tell):
@@ -181,7 +181,7 @@ def recipes(text, room, tell):
     commands = commands_of(text)
     for command, said, status in zip(commands, WANTED, STATUSES, strict=True):
         found = run(command, room)
-        tell(found == (said, status), f"docs/JSON.md: {command}", f"{status}\n{said}", f"{found[1]}\n{found[0]}")
+        report(found == (said, status), f"docs/JSON.md: {command}", f"{status}\n{said}", f"{found[1]}\n{found[0]}")
         without_answers(command, room, tell)
     without_breaks([command for command in commands if "diacmd breaking" in command], room, tell)
     junit = next(command for command in commands if "junit" in command)

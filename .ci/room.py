@@ -33,7 +33,7 @@ class Room:
             # what is explained there, .ci/notes compares
             del wanted["standard error"]
         found = {"status": ran.returncode, "standard output": ran.stdout.decode(), "standard error": ran.stderr.decode()}
-        self.tell(shown or words, [(name, wanted[name], found[name]) for name in wanted if not is_as(found[name], wanted[name])])
+        self.report(shown or words, [(name, wanted[name], found[name]) for name in wanted if not is_as(found[name], wanted[name])])
 
     def answers(self, words, wanted, files, shown):
         """Runs the program over these files, and compares the status and the bytes that it writes."""
@@ -42,9 +42,9 @@ class Room:
         ran = subprocess.run([self.program, *words], stdin=subprocess.DEVNULL, cwd=self.files, capture_output=True, timeout=120)
         found = f"{ran.returncode} ".encode() + ran.stdout
         is_right = found == (wanted if len(wanted) > 1 else wanted + b" ")
-        self.tell(shown, [] if is_right else [("status and standard output", wanted[:2000], found + ran.stderr)])
+        self.report(shown, [] if is_right else [("status and standard output", wanted[:2000], found + ran.stderr)])
 
-    def tell(self, shown, wrong):
+    def report(self, shown, wrong):
         self.passed, self.failed = self.passed + (not wrong), self.failed + bool(wrong)
         for name, wanted, found in wrong:
             print(f"FAILED: diacmd {shown}\n  wanted {name}\n{wanted}\n  found\n{str(found)[:2000]}")

@@ -69,7 +69,7 @@ def base_text(room):
     for byte in text:
         hashed = (hashed ^ byte) * 0x100000001B3 % 2**64
     found, wanted = (len(text), text.count(b"\n"), hashed), (2713, 101, 0x17EF583B7EE317DA)
-    room.tell("render @base", [] if found == wanted else [("length, lines and hash", wanted, found)])
+    room.report("render @base", [] if found == wanted else [("length, lines and hash", wanted, found)])
     return text
 
 
@@ -133,9 +133,9 @@ def words_of(verb, *more):
     return [verb, *unknown, *INPUTS[verb], *names]
 
 
-def told(room):
+def texts(room):
     """What the program tells of its words, whole."""
-    for path in sorted(OWN_ROWS.glob("*.told")):
+    for path in sorted(OWN_ROWS.glob("*.texts")):
         for part in re.split(r"^\$ diacmd", path.read_text(), flags=re.M)[1:]:
             words, text = part.split("\n", 1)
             words, _, status = words.partition(" => ")

@@ -1,27 +1,43 @@
 -- Options of `show` that don't go together.
-use Rattle.std.proofs.Common.{◌≡◌, Bool, true, false, List, Some, codes, refl}
+use Rattle.std.proofs.Common.{◌≡◌, Bool, true, false, List, Option, None, Some, codes, refl, subst}
+use Rattle.std.specs.Prelude.{⊤}
 use Rattle.clap.specs.Walk.{Row, first_of}
 use Rattle.dia_cli.specs.Apart.{show_apart}
 use Rattle.dia_cli.specs.Asking.{IsApart}
 use Rattle.dia_cli.specs.Words.{apart_in, is_file, is_given}
 use Rattle.dia_cli.specs.declared.apart.Apart.{Apart}
-use Rattle.dia_cli.specs.declared.apart.Apart.TheVariants.{LinesAndStream, AsTextAndNames, AsTextAndValues, AsTextAndLines, AsTextAndJson, JsonAndLines}
+use Rattle.dia_cli.specs.declared.apart.Apart.TheVariants.{LinesAndStream, AllAndLines, AllAndStream, AllAndJson, AsTextAndNames, AsTextAndValues, AsTextAndLines, AsTextAndJson, JsonAndLines}
 
--- `--stream` is none of them
-never : (as_text names values lines json : Bool) → show_apart as_text names values lines json ≡ Some LinesAndStream → ⊥
-never true true values lines json is = cc
-never true false true lines json is = cc
-never true false false true json is = cc
-never true false false false true is = cc
-never true false false false false is = cc
-never false names values lines false is = cc
-never false names values true true is = cc
-never false names values false true is = cc
+-- they are of `show`
+abbrev IsOfShow : Option Apart → Type 0
+IsOfShow None = ⊤
+IsOfShow (Some LinesAndStream) = ⊥
+IsOfShow (Some AllAndLines) = ⊥
+IsOfShow (Some AllAndStream) = ⊥
+IsOfShow (Some AllAndJson) = ⊥
+IsOfShow (Some apart) = ⊤
+
+of_show : (as_text names values lines json : Bool) → IsOfShow (show_apart as_text names values lines json)
+of_show true true values lines json = tt
+of_show true false true lines json = tt
+of_show true false false true json = tt
+of_show true false false false true = tt
+of_show true false false false false = tt
+of_show false names values lines false = tt
+of_show false names values true true = tt
+of_show false names values false true = tt
+
+apart_is_of_show : (rows : List Row) (apart : Apart) → apart_in rows ≡ Some apart → IsOfShow (Some apart)
+apart_is_of_show rows apart is =
+    subst IsOfShow is
+    (of_show (is_given (first_of (codes "as-text") rows)) (is_given (first_of (codes "names") rows)) (is_file (first_of (codes "values") rows)) (is_given (first_of (codes "lines") rows))
+    (is_given (first_of (codes "json") rows)))
 
 pub is_apart : (rows : List Row) (apart : Apart) → apart_in rows ≡ Some apart → IsApart apart (codes "show", rows)
-is_apart rows LinesAndStream is =
-    absurd (never (is_given (first_of (codes "as-text") rows)) (is_given (first_of (codes "names") rows)) (is_file (first_of (codes "values") rows)) (is_given (first_of (codes "lines") rows))
-    (is_given (first_of (codes "json") rows)) is)
+is_apart rows LinesAndStream is = absurd (apart_is_of_show rows LinesAndStream is)
+is_apart rows AllAndLines is = absurd (apart_is_of_show rows AllAndLines is)
+is_apart rows AllAndStream is = absurd (apart_is_of_show rows AllAndStream is)
+is_apart rows AllAndJson is = absurd (apart_is_of_show rows AllAndJson is)
 is_apart rows AsTextAndNames is = (refl, is)
 is_apart rows AsTextAndValues is = (refl, is)
 is_apart rows AsTextAndLines is = (refl, is)

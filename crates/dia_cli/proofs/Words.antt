@@ -2,7 +2,7 @@
 use Rattle.std.proofs.Common.{◌≡◌, ◌≢◌, ◌⊎◌, ◌∙◌, ℕ, ap, refl, subst, sym, inl, inr, arith, Bool, true, false, List, Option, Some, None}
 use Rattle.std.specs.Borrow.{Bor}
 use Rattle.std.specs.Result.{result_ok}
-use Rattle.std.specs.Prelude.{option_map, if◌then◌else◌, IfErr, IfOk, IsErrAnd, IsSomeAnd, Result, Ok, Err, unwrap_or}
+use Rattle.std.specs.Prelude.{◌&&◌, option_map, if◌then◌else◌, IfErr, IfOk, IsErrAnd, IsSomeAnd, Result, Ok, Err, unwrap_or}
 use Rattle.std.specs.Str.Parse.{ParsesUnsigned}
 use Rattle.clap.proofs.ValueTestLemmas.{accepts-Accepts}
 use Rattle.clap.specs.ValueTests.{is_unsigned_in}
@@ -83,3 +83,8 @@ pub none_is_refused : {T : Type 0} (line : App) (words : List Text) (read : Resu
 none_is_refused line words (Ok x) program made = absurd made
 none_is_refused line words (Err ending) program made =
     (line, program, subst (λ e. IsAtFault (fault_of line words) e ⊎ IsUnrun (subcommand_of line words) e) (sym made) (inr tt))
+
+-- one argument of several isn't there
+pub and_no : (a b : Bool) → b ≡ false → (a && b) ≡ false
+and_no true b is = is
+and_no false b is = refl

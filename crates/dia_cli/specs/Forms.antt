@@ -59,7 +59,7 @@ form_row (refute many json unknown levels first second message) = refute_row
 form_row (propose json unknown first second name names) = propose_row
 form_row (breaking json sends unknown messages once meaning allowed accepted first second names) = breaking_row
 form_row (answer unknown levels host realm dictionary message) = answer_row
-form_row (follow json middle check unknown levels dictionary connection) = follow_row
+form_row (follow json middle judged unknown levels dictionary connection) = follow_row
 
 abbrev pub form_name : Form → Text
 form_name form = (form_row form).name
@@ -122,8 +122,8 @@ form_options (breaking json sends unknown messages once meaning allowed accepted
     ∷ text (codes "accepted") accepted ∷ []
 form_options (answer unknown levels host realm dictionary message) =
     unknown_slot unknown ∷ text (codes "host") host ∷ text (codes "realm") realm ∷ number (codes "levels") levels ∷ []
-form_options (follow json middle check unknown levels dictionary connection) =
-    text (codes "dict") dictionary ∷ flag (codes "middle") middle ∷ flag (codes "check") check ∷ unknown_slot unknown
+form_options (follow json middle judged unknown levels dictionary connection) =
+    text (codes "dict") dictionary ∷ flag (codes "middle") middle ∷ flag (codes "check") judged ∷ unknown_slot unknown
     ∷ flag (codes "json") json ∷ number (codes "levels") levels ∷ []
 
 abbrev pub form_inputs : Form → List Slot
@@ -136,7 +136,7 @@ form_inputs (refute many json unknown levels first second message) = pair_slots 
 form_inputs (propose json unknown first second name names) = pair_slots first second (words (codes "COMMAND") (name ∷ names))
 form_inputs (breaking json sends unknown messages once meaning allowed accepted first second names) = pair_slots first second (words (codes "COMMAND") names)
 form_inputs (answer unknown levels host realm dictionary message) = word (codes "D") dictionary ∷ word (codes "MESSAGE") message ∷ []
-form_inputs (follow json middle check unknown levels dictionary connection) = word (codes "CONNECTION") connection ∷ []
+form_inputs (follow json middle judged unknown levels dictionary connection) = word (codes "CONNECTION") connection ∷ []
 
 -- ---- its task, and the words of its inputs
 
@@ -171,8 +171,8 @@ IsTaskOfForm (breaking json sends unknown messages once meaning allowed accepted
 IsTaskOfForm (answer unknown levels host realm dictionary message) (Answer asked) =
     (asked.unknown ≡ unknown) × IsLimitOf levels asked.levels × (string_bytes asked.host ≡ unwrap_or host (codes "host.invalid"))
     × (string_bytes asked.realm ≡ unwrap_or realm (codes "invalid"))
-IsTaskOfForm (follow json middle check unknown levels dictionary connection) (Follow asked) =
-    (asked.middle ≡ middle) × (asked.check ≡ check) × (asked.unknown ≡ unknown) × IsLimitOf levels asked.levels
+IsTaskOfForm (follow json middle judged unknown levels dictionary connection) (Follow asked) =
+    (asked.middle ≡ middle) × (asked.check ≡ judged) × (asked.unknown ≡ unknown) × IsLimitOf levels asked.levels
 IsTaskOfForm form task = ⊥
 
 -- the words of its inputs
@@ -196,7 +196,7 @@ form_words (propose json unknown first second name names) = pair_texts first sec
 form_words (breaking json sends unknown messages once meaning allowed accepted first second names) =
     record (pair_texts first second) { table = Some (unwrap_or accepted (codes "@none")) }
 form_words (answer unknown levels host realm dictionary message) = record (one_text dictionary) { message = Some message }
-form_words (follow json middle check unknown levels dictionary connection) =
+form_words (follow json middle judged unknown levels dictionary connection) =
     record (one_text (unwrap_or dictionary (codes "@base"))) { messages = Some connection }
 
 -- ---- what is found of a task
@@ -257,7 +257,6 @@ HasOptionsOf (Breaking asked) rows =
     IsPolicy asked.unknown rows × (first_of (codes "sends") rows ≡ Some (sends_word asked.sends)) × IsFlag (codes "messages") asked.messages rows
     × IsFlag (codes "once") asked.once rows × IsFlag (codes "meaning") asked.meaning rows
     × IsFlag (codes "stale-allowed") asked.stale_allowed rows × (unwrap_or (all_of (codes "COMMAND") rows) [] ≡ map string_bytes asked.names.items)
-
 HasOptionsOf (Answer asked) rows =
     AreJudged asked.unknown asked.levels rows × (first_of (codes "host") rows ≡ Some (string_bytes asked.host))
     × (first_of (codes "realm") rows ≡ Some (string_bytes asked.realm))

@@ -8,6 +8,7 @@ mod causes;
 mod expecting;
 mod meaning;
 mod scene;
+mod shipped;
 
 use crate::kinds::{RETURNS, is_capture, is_cut_by_comment};
 use crate::messages::push_capture;

@@ -17,13 +17,13 @@ use Rattle.dia_cli.specs.Asking.{line_shape}
 use Rattle.dia_cli.specs.Forms.{Form, HasOptionsOf, IsTaskOfForm, alone, answer, arguments_of, as_json, as_listing, as_text, breaking, check, compare, follow, form_inputs, form_json, form_name, form_options, form_row, form_words, has_arguments, has_lines, has_names, in_full, in_lines, in_stream, is_full, is_json, is_lines, is_plain_form, is_stream, is_text, json_of, make, propose, refute, render, show, task_name, values_given}
 use Rattle.dia_cli.specs.InputWords.{AreFound, AreNamed}
 use Rattle.dia_cli.specs.Rows.{answer_row, breaking_row, check_row, compare_row, follow_row, make_row, propose_row, refute_row, render_row, show_row}
-use Rattle.dia_cli.specs.Slots.{Slot, flag}
+use Rattle.dia_cli.specs.Slots.{Slot, flag, number, text, unknown_slot}
 use Rattle.dia_cli.specs.Words.{flag_word, is_given, policy_word, sends_word}
 use Rattle.dia_cli.specs.declared.origin.Origins.{Origins}
 use Rattle.dia_cli.proofs.Forms.Ends.{IsRow}
 use Rattle.dia_cli.proofs.Forms.FormRows.{policy_passes, row_fits, sender_passes, shape}
 use Rattle.dia_cli.proofs.Forms.Lookup.{Found, default_found, or_found, values_from}
-use Rattle.dia_cli.proofs.Forms.Named.{also, has_flag, has_limit, has_policy, has_sender, has_some, listing_named, listings_named, message_named, messages_named, not_false, not_true, number_passes, one_named, other_flag, other_given, pair_message_named, pair_messages_named, pair_named, pair_passes, same_flag, same_given, same_limit, same_names, same_policy, same_sender, same_value, table_named, unlike}
+use Rattle.dia_cli.proofs.Forms.Named.{also, has_flag, has_limit, has_policy, has_sender, has_some, later_plain, listing_named, listings_named, message_named, messages_named, not_false, not_true, number_passes, one_named, other_flag, other_given, pair_message_named, pair_messages_named, pair_named, pair_passes, same_flag, same_given, same_limit, same_names, same_policy, same_sender, same_value, table_named, unlike}
 use Rattle.dia_cli.proofs.Forms.Says.{first_value, flag_found, flag_given, names_found, not_given, number_found, policy_found, sender_found, some_names, text_found}
 use Rattle.dia_cli.proofs.Forms.Steps.{values_of}
 use Rattle.dia_cli.proofs.Forms.Walked.{Names_at}
@@ -63,7 +63,7 @@ module _ (policies senders : Bor (List (Bor Text))) (two : texts policies.now �
   form_fits quiet (answer unknown levels host realm dictionary message) =
       row_fits policies senders two three answer_row _ _ refl (refl, tt, (refl, policy_passes policies senders two three unknown, (refl, tt, (refl, tt, (refl, tt, tt)))))
       (record { by_index = refl; by_id = refl; next = refl }, (record { by_index = refl; by_id = refl; next = refl }, tt)) refl refl refl refl
-  form_fits quiet (follow json middle check unknown levels dictionary connection) =
+  form_fits quiet (follow json middle judged unknown levels dictionary connection) =
       row_fits policies senders two three follow_row _ _ refl (refl, tt, (refl, tt, (refl, tt, (refl, tt, (refl, policy_passes policies senders two three unknown, (refl, tt, (refl, tt, tt)))))))
       (record { by_index = refl; by_id = refl; next = refl }, tt) refl refl refl refl
 
@@ -79,7 +79,7 @@ module _ (policies senders : Bor (List (Bor Text))) (two : texts policies.now �
   form_named (propose json unknown first second name names) = (record { stops = refl; fine = refl; finds = refl; rest = refl }, refl)
   form_named (breaking json sends unknown messages once meaning allowed accepted first second names) = (record { stops = refl; fine = refl; finds = refl; rest = refl }, refl)
   form_named (answer unknown levels host realm dictionary message) = (record { stops = refl; fine = refl; finds = refl; rest = refl }, refl)
-  form_named (follow json middle check unknown levels dictionary connection) = (record { stops = refl; fine = refl; finds = refl; rest = refl }, refl)
+  form_named (follow json middle judged unknown levels dictionary connection) = (record { stops = refl; fine = refl; finds = refl; rest = refl }, refl)
 
 abbrev SaysPair : Unknown → Text → Text → List Row → Type 0
 SaysPair unknown first second rows = (first_of (codes "unknown") rows ≡ Some (policy_word unknown)) × (first_of (codes "A") rows ≡ Some first)
@@ -112,9 +112,9 @@ SaysForm (answer unknown levels host realm dictionary message) rows =
     (first_of (codes "unknown") rows ≡ Some (policy_word unknown)) × (first_of (codes "levels") rows ≡ levels)
     × (first_of (codes "D") rows ≡ Some dictionary) × (first_of (codes "MESSAGE") rows ≡ Some message)
     × (first_of (codes "host") rows ≡ Some (unwrap_or host (codes "host.invalid"))) × (first_of (codes "realm") rows ≡ Some (unwrap_or realm (codes "invalid")))
-SaysForm (follow json middle check unknown levels dictionary connection) rows =
+SaysForm (follow json middle judged unknown levels dictionary connection) rows =
     (first_of (codes "unknown") rows ≡ Some (policy_word unknown)) × (first_of (codes "levels") rows ≡ levels)
-    × (first_of (codes "middle") rows ≡ Some (flag_word middle)) × (first_of (codes "check") rows ≡ Some (flag_word check))
+    × (first_of (codes "middle") rows ≡ Some (flag_word middle)) × (first_of (codes "check") rows ≡ Some (flag_word judged))
     × (first_of (codes "dict") rows ≡ Some (unwrap_or dictionary (codes "@base"))) × (first_of (codes "CONNECTION") rows ≡ Some connection)
 
 abbrev pub Says : Bool → Form → List Row → Type 0
@@ -202,13 +202,13 @@ module _ (policies senders : Bor (List (Bor Text))) (quiet : Bool) (rows : List 
     ),
     not_given (first (codes "json")),
   )
-  form_says (follow json middle check unknown levels dictionary connection) first all = (
+  form_says (follow json middle judged unknown levels dictionary connection) first all = (
     first (codes "quiet") ∙ flag_found quiet,
     (
       first (codes "unknown") ∙ policy_found unknown,
       first (codes "levels") ∙ number_found levels,
       first (codes "middle") ∙ flag_found middle,
-      first (codes "check") ∙ flag_found check,
+      first (codes "check") ∙ flag_found judged,
       first (codes "dict") ∙ text_found dictionary (codes "@base"),
       first (codes "CONNECTION"),
     ),
@@ -241,13 +241,14 @@ form_has (breaking json sends unknown messages once meaning allowed accepted fir
     also (has_policy _ unknown says.0.0) (also (pair_passes first second rows says.0.1 says.0.2)
     (also (has_sender _ sends says.1)
     (also (also (has_flag _ messages says.2) (also (has_flag _ once says.5) (also (has_flag _ meaning says.6) (has_flag _ allowed says.7)))) (has_some _ (unwrap_or accepted (codes "@none")) says.4))))
-
 form_has (answer unknown levels host realm dictionary message) rows plain says =
-    also (also (also (has_policy _ unknown says.0) (has_limit _ levels says.1 (number_passes levels (form_inputs (answer unknown levels host realm dictionary message)) (later_plain host realm levels _ plain))))
+    also (also (also (has_policy _ unknown says.0) (has_limit _ levels says.1 (number_passes levels (form_inputs (answer unknown levels host realm dictionary message)) (later_plain (text (codes "realm") realm) (number (codes "levels") levels ∷ form_inputs (answer unknown levels host realm dictionary message))
+    (later_plain (text (codes "host") host) (text (codes "realm") realm ∷ number (codes "levels") levels ∷ form_inputs (answer unknown levels host realm dictionary message)) plain)))))
     (has_some _ dictionary says.2)) (also (has_some _ message says.3) (also (has_some _ (unwrap_or host (codes "host.invalid")) says.4) (has_some _ (unwrap_or realm (codes "invalid")) says.5)))
-form_has (follow json middle check unknown levels dictionary connection) rows plain says =
-    also (also (has_policy _ unknown says.0) (has_limit _ levels says.1 (number_passes levels (form_inputs (follow json middle check unknown levels dictionary connection)) (dict_plain dictionary levels _ plain))))
-    (also (has_flag _ middle says.2) (also (has_flag _ check says.3) (also (has_some _ (unwrap_or dictionary (codes "@base")) says.4) (has_some _ connection says.5))))
+form_has (follow json middle judged unknown levels dictionary connection) rows plain says =
+    also (also (has_policy _ unknown says.0) (has_limit _ levels says.1 (number_passes levels (form_inputs (follow json middle judged unknown levels dictionary connection)) (later_plain (text (codes "dict") dictionary)
+    (flag (codes "middle") middle ∷ flag (codes "check") judged ∷ unknown_slot unknown ∷ flag (codes "json") json ∷ number (codes "levels") levels ∷ form_inputs (follow json middle judged unknown levels dictionary connection)) plain))))
+    (also (has_flag _ middle says.2) (also (has_flag _ judged says.3) (also (has_some _ (unwrap_or dictionary (codes "@base")) says.4) (has_some _ connection says.5))))
 
 -- what the words of a form ask for
 abbrev IsAskedOf : Form → Task → Origins → Type 0
@@ -340,7 +341,7 @@ asked_is (answer unknown levels host realm dictionary message) rows (Answer aske
   ),
   message_named origins rows (codes "D") dictionary (codes "MESSAGE") message says.2 says.3 found,
 )
-asked_is (follow json middle check unknown levels dictionary connection) rows (Follow asked) origins says named is found = (
+asked_is (follow json middle judged unknown levels dictionary connection) rows (Follow asked) origins says named is found = (
   (
     same_flag _ _ _ is.1 says.2,
     same_flag _ _ _ is.2 says.3,
@@ -351,4 +352,6 @@ asked_is (follow json middle check unknown levels dictionary connection) rows (F
 )
 asked_is (breaking json sends unknown messages once meaning allowed accepted first second names) rows (Whole command.Show) origins says named is found = unlike (codes "breaking") (codes "show") refl named
 asked_is (make dictionary written) rows (Whole command.Show) origins says named is found = unlike (codes "make") (codes "show") refl named
+asked_is (answer unknown levels host realm dictionary message) rows (Whole command.Show) origins says named is found = unlike (codes "answer") (codes "show") refl named
+asked_is (follow json middle judged unknown levels dictionary connection) rows (Whole command.Show) origins says named is found = unlike (codes "follow") (codes "show") refl named
 asked_is form rows task origins says named is found = unlike (form_name form) (task_name task) refl named

@@ -92,6 +92,10 @@ has_some {X} word value is = ap (λ (o : Option X). is_some o) is
 pub has_limit : (word levels : Option Text) → word ≡ levels → is_limit levels ≡ true → is_limit word ≡ true
 has_limit word levels is passes = ap is_limit is ∙ passes
 
+-- the slots after the first are plain
+pub later_plain : (slot : Slot) (more : List Slot) → list_all is_plain_slot (slot ∷ more) ≡ true → list_all is_plain_slot more ≡ true
+later_plain slot more plain = (both (is_plain_slot slot) (list_all is_plain_slot more) plain).1
+
 -- the number of `--levels`, which is the last option
 pub number_passes : (given : Option Text) (more : List Slot) → list_all is_plain_slot (number (codes "levels") given ∷ more) ≡ true → is_limit given ≡ true
 number_passes None more plain = refl

@@ -37,11 +37,35 @@ module _ (policies senders : Bor (List (Bor Text))) (quiet : Bool) (rows : List 
 pub form_is_asked : (quiet : Bool) (form : Form) (rows : List Row) → is_plain_form form ≡ true → Says quiet form rows → is_asked (Some (form_name form, rows)) ≡ true
 form_is_asked quiet form rows plain says = also (has_flag _ quiet says.0) (form_has form rows plain says.1)
 
--- no two of `--lines`, `--stream` and `--all` occur together in a form, nor `--all` with `--json`
-form_reads_one_way : (quiet : Bool) (form : Form) (rows : List Row) → Says quiet form rows → IsCheckWithBoth (codes "lines") (codes "stream") (form_name form, rows) → ⊥
-form_reads_one_way quiet (check in_lines json unknown levels first second) rows says bad = let stream = sym says.1.1 ∙ bad.2 in absurd cc
-form_reads_one_way quiet (check manner json unknown levels first second) rows says bad = not_in_lines manner (sym says.1.0 ∙ bad.1) (sym says.1.1 ∙ bad.2)
-form_reads_one_way quiet form rows says bad = unlike (form_name form) (codes "check") refl bad.0
+-- no form has two of `--lines`, `--stream` and `--all`, nor `--all` and `--json`
+module _ (quiet : Bool) (rows : List Row) where
+  not_lines_and_stream : (form : Form) → Says quiet form rows → IsCheckWithBoth (codes "lines") (codes "stream") (form_name form, rows) → ⊥
+  not_lines_and_stream (check alone json unknown levels first second) says bad = let lines = sym says.1.0 ∙ bad.1 in absurd cc
+  not_lines_and_stream (check in_lines json unknown levels first second) says bad = let stream = sym says.1.1 ∙ bad.2 in absurd cc
+  not_lines_and_stream (check in_stream json unknown levels first second) says bad = let lines = sym says.1.0 ∙ bad.1 in absurd cc
+  not_lines_and_stream (check in_full json unknown levels first second) says bad = let lines = sym says.1.0 ∙ bad.1 in absurd cc
+  not_lines_and_stream form says bad = unlike (form_name form) (codes "check") refl bad.0
+
+  not_all_and_lines : (form : Form) → Says quiet form rows → IsCheckWithBoth (codes "all") (codes "lines") (form_name form, rows) → ⊥
+  not_all_and_lines (check alone json unknown levels first second) says bad = let all = sym says.1.6 ∙ bad.1 in absurd cc
+  not_all_and_lines (check in_lines json unknown levels first second) says bad = let all = sym says.1.6 ∙ bad.1 in absurd cc
+  not_all_and_lines (check in_stream json unknown levels first second) says bad = let all = sym says.1.6 ∙ bad.1 in absurd cc
+  not_all_and_lines (check in_full json unknown levels first second) says bad = let lines = sym says.1.0 ∙ bad.2 in absurd cc
+  not_all_and_lines form says bad = unlike (form_name form) (codes "check") refl bad.0
+
+  not_all_and_stream : (form : Form) → Says quiet form rows → IsCheckWithBoth (codes "all") (codes "stream") (form_name form, rows) → ⊥
+  not_all_and_stream (check alone json unknown levels first second) says bad = let all = sym says.1.6 ∙ bad.1 in absurd cc
+  not_all_and_stream (check in_lines json unknown levels first second) says bad = let all = sym says.1.6 ∙ bad.1 in absurd cc
+  not_all_and_stream (check in_stream json unknown levels first second) says bad = let all = sym says.1.6 ∙ bad.1 in absurd cc
+  not_all_and_stream (check in_full json unknown levels first second) says bad = let stream = sym says.1.1 ∙ bad.2 in absurd cc
+  not_all_and_stream form says bad = unlike (form_name form) (codes "check") refl bad.0
+
+  not_all_and_json : (form : Form) → Says quiet form rows → IsCheckWithBoth (codes "all") (codes "json") (form_name form, rows) → ⊥
+  not_all_and_json (check alone json unknown levels first second) says bad = let all = sym says.1.6 ∙ bad.1 in absurd cc
+  not_all_and_json (check in_lines json unknown levels first second) says bad = let all = sym says.1.6 ∙ bad.1 in absurd cc
+  not_all_and_json (check in_stream json unknown levels first second) says bad = let all = sym says.1.6 ∙ bad.1 in absurd cc
+  not_all_and_json (check in_full json unknown levels first second) says bad = let given = sym says.1.7 ∙ bad.2 in absurd cc
+  not_all_and_json form says bad = unlike (form_name form) (codes "check") refl bad.0
 
 -- what a form says of `show` goes together
 module _ (rows : List Row) where
@@ -66,7 +90,10 @@ module _ (rows : List Row) where
 
 -- no form has two options that don't go together
 pub form_goes_together : (quiet : Bool) (form : Form) (rows : List Row) → Says quiet form rows → (apart : Apart) → IsApart apart (form_name form, rows) → ⊥
-form_goes_together quiet form rows says LinesAndStream bad = form_reads_one_way quiet form rows says bad
+form_goes_together quiet form rows says LinesAndStream bad = not_lines_and_stream quiet rows form says bad
+form_goes_together quiet form rows says AllAndLines bad = not_all_and_lines quiet rows form says bad
+form_goes_together quiet form rows says AllAndStream bad = not_all_and_stream quiet rows form says bad
+form_goes_together quiet form rows says AllAndJson bad = not_all_and_json quiet rows form says bad
 form_goes_together quiet form rows says AsTextAndNames bad = show_goes_together rows quiet form AsTextAndNames says bad
 form_goes_together quiet form rows says AsTextAndValues bad = show_goes_together rows quiet form AsTextAndValues says bad
 form_goes_together quiet form rows says AsTextAndLines bad = show_goes_together rows quiet form AsTextAndLines says bad

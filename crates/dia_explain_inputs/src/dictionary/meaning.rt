@@ -10,6 +10,7 @@ mod recorded;
 mod texts;
 mod values;
 
+use super::shipped::declared_in;
 use crate::names::{Named, names_of};
 use crate::notes::{push_line_column, push_made};
 use dia_dict::{DictKind, Finding, base_text, faults};
@@ -119,13 +120,14 @@ fn is_advised(kind: DictKind, advised: Option<DictKind>) -> bool {
     kind != DictKind::NoGroupFormat && advised == Some(kind)
 }
 
-/// Adds where an undefined name may come from, the base dictionary or a slip, and returns whether that is known.
+/// Adds where an undefined name may come from, the base dictionary, a file of `dictionaries/` or a slip, and returns whether that
+/// is known.
 fn push_meant(note: &mut Note, names: &[&str], fault: &RecordedFault<'_>) -> bool {
     let recorded = &fault.finding.recorded;
     if !matches!(recorded.kind, DictKind::UndefinedName) {
         return false;
     }
-    if push_of_base(note, recorded.slot) {
+    if push_of_base(note, recorded.slot) || push_of_shipped(note, recorded.slot) {
         return true;
     }
     match nearest_name(recorded.slot, names) {
@@ -148,6 +150,21 @@ fn push_of_base(note: &mut Note, name: &str) -> bool {
         note.put_hint("the base dictionary has this group: `diacmd render @base` prints it");
     }
     is_group
+}
+
+/// Adds that a file of `dictionaries/` declares an AVP of this name, and returns whether one does.
+fn push_of_shipped(note: &mut Note, name: &str) -> bool {
+    let Some((file, line)) = declared_in(name) else {
+        return false;
+    };
+    note.put_all(&[
+        "hint: dictionaries/",
+        file,
+        " declares it in line ",
+        line,
+        "\n",
+    ]);
+    true
 }
 
 /// The line of the base dictionary that has `front` before a name, and `following` after it.

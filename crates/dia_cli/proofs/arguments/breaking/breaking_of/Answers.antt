@@ -1,14 +1,11 @@
-use Rattle.std.proofs.Common.{◌≡◌, Bool, true, false, refl, codes}
+use Rattle.std.proofs.Common.{codes}
 use Rattle.std.specs.Prelude.{◌&&◌}
 use Rattle.clap.specs.Walk.{first_of}
 use Rattle.clap.specs.Words.{found_of, rows_of}
 use Rattle.dia_cli.specs.Forms.{has_flags}
 use Rattle.dia_cli.specs.Words.{has_pair, has_policy, has_word, is_sender}
+use Rattle.dia_cli.proofs.Words.{and_no}
 use Rattle.dia_cli.proofs.arguments.breaking.breaking_of.Goals as goal
-
-and_no : (a b : Bool) → b ≡ false → (a && b) ≡ false
-and_no true b is = is
-and_no false b is = refl
 
 pub returns-in_default-table_of-clause-wanting : goal.returns-in_default-table_of-clause-wanting
 returns-in_default-table_of-clause-wanting c =
