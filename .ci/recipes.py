@@ -87,13 +87,13 @@ def is_told(command, said):
     return said.startswith("::error::") if "annotations" in command else True
 
 
-def fails(command, room, title, tell):
+def fails(command, room, title, report):
     """A recipe ends neither with 0 nor with 1, and says so in its file."""
     said, status = run(command, room)
     report(status > 1 and is_told(command, said), f"docs/JSON.md: {title}: {command}", "a status above 1, and an error in its file", f"{status}\n{said}")
 
 
-def without_answers(command, room, tell):
+def without_answers(command, room, report):
     """Each input of a recipe, refused and missing; and an answer that is empty, or cut short."""
     inputs = dict.fromkeys(re.findall(r"\b\w+\.txt\b", command.split("|")[0]))
     for name in inputs:
@@ -103,15 +103,15 @@ def without_answers(command, room, tell):
             if title == "refused" and name in ("messages.txt", "changed.txt"):
                 continue
             (room / name).unlink() if text is None else (room / name).write_text(text)
-            fails(command, room, f"{name} {title}", tell)
+            fails(command, room, f"{name} {title}", report)
             (room / name).write_text(kept)
-    fails(command.replace("diacmd ", "true "), room, "no answer", tell)
+    fails(command.replace("diacmd ", "true "), room, "no answer", report)
     if "breaking" in command:
         for cut in ("sed '$d'", "head -c 60"):
-            fails(command.replace(" | jq", f" | {cut} | jq"), room, f"cut by {cut}", tell)
+            fails(command.replace(" | jq", f" | {cut} | jq"), room, f"cut by {cut}", report)
 
 
-def without_breaks(commands, room, tell):
+def without_breaks(commands, room, report):
     """Nothing breaks: a JUnit file without a failure, and no AVP."""
     (room / "theirs.txt").write_text((room / "ours.txt").read_text())
     passing = '<testcase classname="breaking" name="nothing else breaks"/>'
@@ -122,7 +122,7 @@ def without_breaks(commands, room, tell):
         report(found == wanted, f"docs/JSON.md: nothing breaks: {command}", wanted, found)
 
 
-def stale_lines(command, room, tell):
+def stale_lines(command, room, report):
     """A line of `--accepted` that accepts nothing is a failure, too."""
     line = "*: missing X: 0..1 sent, 1 accepted"
     (room / "known.txt").write_text(f"# of last week\n{line}\n")
@@ -132,7 +132,7 @@ def stale_lines(command, room, tell):
     report(found == wanted, "docs/JSON.md: a stale line", wanted, found)
 
 
-def by_hand(command, room, tell):
+def by_hand(command, room, report):
     """What an answer may have and the others here don't: a line that is undecided, and characters that XML has another way to write."""
     line = '{"undecided":true,"command":"T","path":["G"],"reason":"missing","avp":{"name":"X"},"sent":"0..1","accepted":"1"}'
     stale = """{"stale":"T: <'a' & \\"b\\">","line":7}"""
@@ -153,7 +153,7 @@ def cases_of(lines):
         yield tuple(parts)
 
 
-def reasons(command, room, tell):
+def reasons(command, room, report):
     """The JUnit file of lines of all reasons that FAULTS.md knows says what the lines say."""
     (room / "ours.txt").write_text(SENT)
     (room / "theirs.txt").write_text(ACCEPTED)
@@ -175,16 +175,16 @@ def reasons(command, room, tell):
     report(seen == known, "docs/JSON.md: reasons that went through JUnit", sorted(known), sorted(seen))
 
 
-def recipes(text, room, tell):
+def recipes(text, room, report):
     """Runs each recipe over files of which it is known what comes out, and over others of which nothing comes."""
     write(room)
     commands = commands_of(text)
     for command, said, status in zip(commands, WANTED, STATUSES, strict=True):
         found = run(command, room)
         report(found == (said, status), f"docs/JSON.md: {command}", f"{status}\n{said}", f"{found[1]}\n{found[0]}")
-        without_answers(command, room, tell)
-    without_breaks([command for command in commands if "diacmd breaking" in command], room, tell)
+        without_answers(command, room, report)
+    without_breaks([command for command in commands if "diacmd breaking" in command], room, report)
     junit = next(command for command in commands if "junit" in command)
-    stale_lines(junit, room, tell)
-    by_hand(junit, room, tell)
-    reasons(junit, room, tell)
+    stale_lines(junit, room, report)
+    by_hand(junit, room, report)
+    reasons(junit, room, report)
