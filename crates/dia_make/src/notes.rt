@@ -1,13 +1,13 @@
-//! Notes: what is told on standard error of a text that is refused, and of a message that has no text.
+//! Notes: the reports on standard error of a text that is refused, and of a message that has no text.
 
-use crate::notes::meant::{Meant, byte_of, meant_of};
+use crate::notes::meant::{Meant, byte_of, in_other_quotes, meant_of};
 use crate::notes::names::NamesOf;
 use crate::notes::wanted::words_of;
 use crate::notes::word::{end_of_words, word_at};
 use crate::reporting::{BadText, RefusedText, Report};
 use dia_data::{Format, push_hex_byte, push_value};
 use dia_dict::base_text;
-use dia_explain_places::{Note, start_of_line};
+use dia_explain_places::{Note, line_from, start_of_line};
 use dia_io::{Input, Inputs};
 use dia_policy::MAX_MESSAGE_TEXT;
 use dia_text::Fault;
@@ -15,19 +15,20 @@ use std::alloc::{AllocError, Global};
 
 mod meant;
 mod names;
+mod shown;
 mod wanted;
 mod word;
 
-/// How many bytes of a word are told.
+/// How many bytes of a word are shown.
 const SHOWN: usize = 60;
 
-/// What is told of a message that has no text.
+/// The report of a message that has no text.
 const NO_AVP: &str =
     ": no AVP begins here, so the message has no text: fewer than 8 bytes are left, or the AVP Length is under 8 \
-     (12 with a Vendor-ID), or leads behind the message's end; `diacmd show` lists the AVPs before it\n";
+     (12 with a Vendor-ID), or leads past the end of the message; `diacmd show` lists the AVPs before it\n";
 
 /// The note of a report. `name` is that of the input that holds the text or the message. It is empty where there is nothing
-/// to tell, and for a dictionary or hexadecimal text that is refused, which dia_explain_inputs explains.
+/// to report, and for a dictionary or hexadecimal text that is refused, which dia_explain_inputs explains.
 pub fn note(
     alloc: Global,
     name: &str,
@@ -85,8 +86,14 @@ fn push_fault(note: &mut Note, name: &str, names: &NamesOf<'_>, text: &[u8], fau
     }
     note.put_all(&["; expected ", words_of(fault.wanted), "\n"]);
     note.put_excerpt(text, at);
-    let front = text.get(..start).unwrap_or(text);
-    push_meant(note, names, word, meant_of(fault.wanted, word, front))
+    let before = text.get(..start).unwrap_or(text);
+    let line = line_from(text, start);
+    push_meant(
+        note,
+        names,
+        word,
+        meant_of(fault.wanted, word, line, before),
+    )
 }
 
 /// Adds what may be meant by a word, and what to do.
@@ -105,17 +112,30 @@ fn push_meant(note: &mut Note, names: &NamesOf<'_>, word: &[u8], meant: Meant) {
         ),
         Meant::Closed => note.put("hint: the closing quote is missing on this line\n"),
         Meant::Escaped => note.put(
-            "hint: behind a backslash stand x and two hexadecimal digits: \\x5c is the backslash itself, \\x22 the quote\n",
+            "hint: x and two hexadecimal digits follow a backslash: \\x5c is the backslash itself, \\x22 the quote\n",
         ),
         Meant::Pairs => {
-            note.put("hint: a byte is two hexadecimal digits: behind x their number is even\n")
+            note.put(
+                "hint: a byte is two hexadecimal digits: the number of digits after x is even\n",
+            )
         }
+        Meant::Sign => note.put(
+            "hint: only blanks separate a name and its value: leave out = and :\n",
+        ),
+        Meant::OtherQuotes => note.put(
+            "hint: a text is in double quotes, the ASCII sign \" before and after it\n",
+        ),
+        Meant::Number => note.put("hint: a number has no quotes\n"),
+        Meant::Shown => note.put(
+            "hint: this is a line of `diacmd show`: `diacmd show --as-text` writes the text that `make` reads\n",
+        ),
     }
 }
 
-/// Adds how a word is written as a text. Of an address its bytes are told, too.
+/// Adds how a word is written as a text, without other quotes around it. An address is written as bytes, too.
 fn push_quoted(note: &mut Note, word: &[u8], is_address: bool) {
-    note.put("hint: a text stands in double quotes");
+    let word = in_other_quotes(word).unwrap_or(word);
+    note.put("hint: a text is in double quotes");
     if word.len() <= SHOWN {
         note.put(", as ");
         note.put_made(quoted(note.allocator(), word));

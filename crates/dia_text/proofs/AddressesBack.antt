@@ -16,9 +16,9 @@ use Rattle.dia_data.specs.Plain.{Address}
 use Rattle.dia_data.specs.Leaf.{IsAddress}
 use Rattle.dia_data.specs.Shown.{hex_digit, hex_byte, hexadecimal, groups, address}
 use Rattle.dia_text.specs.Words.{first_word, after_word}
-use Rattle.dia_text.specs.Numbers.{number_below}
+use Rattle.dia_text.specs.Numbers.{number_below, if_decoded}
 use Rattle.dia_text.specs.Fields.{bytes_of}
-use Rattle.dia_text.specs.Values.{each, decimal_byte, if_decoded, byte_pair, in_family, address_of, family_at, value_of, words_at, value_at}
+use Rattle.dia_text.specs.Values.{each, decimal_byte, byte_pair, in_family, address_of, family_at, value_of, words_at, value_at}
 use Rattle.dia_text.specs.LineTexts.{spaced}
 use Rattle.dia_text.proofs.NumbersOfWords.{digits_model}
 use Rattle.dia_text.proofs.Bytes.{AreBytes, bytes_split, number_back as bytes_of_number, number_small}

@@ -6,9 +6,9 @@ use Rattle.dia_wire.specs.Wire.{head_length}
 use Rattle.dia_wire.specs.Written.{vendor_bytes}
 use Rattle.dia_text.specs.declared.draft.Opened.{Opened}
 use Rattle.dia_text.specs.declared.line.Head.{Head}
+use Rattle.dia_text.specs.declared.fault.Kind.{Kind}
 use Rattle.dia_text.specs.declared.fault.Misread.{Misread}
 use Rattle.dia_text.specs.declared.fault.Misread.TheVariants as misread
-use Rattle.dia_text.specs.Reading.{Fails}
 use Rattle.dia_text.specs.Lines.{Leaf}
 use Rattle.dia_text.specs.Drafts.{Frame, Level, Occurs, IsAdded, IsAppended, added, closed, front_bytes, length_of, end_bytes, avp_of}
 
@@ -69,11 +69,10 @@ room fs bytes out rest g i =
     let same : head_length g.head.code.vendor ≡ head_length i.frame.head.code.vendor = ap (λ (h : Head). head_length h.code.vendor) i.head in
     omega (arith, whole, inner, front, same, i.place)
 
-pub close_fails : (e : Misread) (fs : List Frame) (bytes out : List ℕ) (rest : List Opened) (g : Opened) (pad : Option (List ℕ)) (count : ℕ) → IsInnermost fs bytes out rest g → count ≡ length bytes
-    → Fails e (length_of g.head count) → Fails e (closed fs bytes pad)
+pub close_fails : (kind : Kind) (fs : List Frame) (bytes out : List ℕ) (rest : List Opened) (g : Opened) (pad : Option (List ℕ)) (count : ℕ) → IsInnermost fs bytes out rest g → count ≡ length bytes
+    → length_of g.head count ≡ Err kind → closed fs bytes pad ≡ Err kind
 unfolding avp_of
-close_fails misread.NoMemory fs bytes out rest g pad count i is h = tt
-close_fails (misread.Fault kind) fs bytes out rest g pad count i is h =
+close_fails kind fs bytes out rest g pad count i is h =
     let fails : length_of i.frame.head (length bytes) ≡ Err kind = ap (λ (n : ℕ). length_of i.frame.head n) (sym is) ∙ ap (λ (x : Head). length_of x count) (sym i.head) ∙ h in
     ap (λ (xs : List Frame). closed xs bytes pad) i.frames ∙ rw fails refl
 

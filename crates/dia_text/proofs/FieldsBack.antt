@@ -1,6 +1,6 @@
 -- The parts of a line that are written behind its first word, read back.
 use Rattle.std.proofs.Common.{◌≡◌, ℕ, ◌^◌, ◌<◌, nat_eq, Bool, true, false, if◌then◌else◌, List, [], ◌∷◌, ◌++◌, length, Option, Some, None, Ok, codes, option_and_then, refl, sym, ap, ◌∙◌, arith}
-use Rattle.std.specs.Option.{option_eq}
+use Rattle.std.specs.Option.{option_eq, option_or}
 use Rattle.std.specs.List.{list_all}
 use Rattle.std.specs.Str.Parse.{digits_value}
 use Rattle.std.specs.Fmt.{decimal}
@@ -11,7 +11,7 @@ use Rattle.dia_wire.specs.Written.{padding}
 use Rattle.dia_data.specs.Shown.{hex_byte, hexadecimal}
 use Rattle.dia_text.specs.declared.fault.Wanted.{Wanted}
 use Rattle.dia_text.specs.Words.{first_word, after_word}
-use Rattle.dia_text.specs.Numbers.{number_of, number_below, within}
+use Rattle.dia_text.specs.Numbers.{number_of, number_below, any_number, any_below, prefixed, within}
 use Rattle.dia_text.specs.Fields.{flags_of, flags_field, number_field, length_field, padding_field, bytes_of}
 use Rattle.dia_text.specs.LineTexts.{spaced, flags_words, app_words, pad_words}
 use Rattle.dia_text.proofs.NumbersOfWords.{digits_model}
@@ -38,6 +38,12 @@ number_of_back n fits =
 pub number_back : (limit n : ℕ) → n < limit → n < 2 ^ 64 → number_below limit (decimal n) ≡ Some n
 number_back limit n less fits = ap (option_and_then (within limit)) (number_of_back n fits) ∙ rw (lt-ltb n limit less) refl
 
+pub any_back : (limit n : ℕ) → n < limit → n < 2 ^ 64 → any_below limit (decimal n) ≡ Some n
+any_back limit n less fits = ap (λ (o : Option ℕ). option_and_then (within limit) (option_or o (prefixed (decimal n)))) (number_of_back n fits) ∙ rw (lt-ltb n limit less) refl
+
+pub any_number_back : (n : ℕ) → n < 2 ^ 64 → any_number (decimal n) ≡ Some n
+any_number_back n fits = ap (λ (o : Option ℕ). option_or o (prefixed (decimal n))) (number_of_back n fits)
+
 -- ---- what a field says
 
 flags_there : (letters : List (ℕ × ℕ)) (wrong : Wanted) (default : Option ℕ) (wanted : Wanted) (text more word rest : List ℕ) (n : ℕ) → first_word text ≡ codes "flags" → after_word text ≡ more → first_word more ≡ word → after_word more ≡ rest
@@ -50,7 +56,7 @@ unfolding flags_field
 flags_not_there letters wrong wanted n text other = rw other refl
 
 number_there : (key : List ℕ) (default : Option ℕ) (wanted : Wanted) (text more word rest : List ℕ) (n : ℕ) → same_bytes (first_word text) key ≡ true → after_word text ≡ more → first_word more ≡ word → after_word more ≡ rest
-    → number_below (2 ^ 32) word ≡ Some n → number_field key default wanted text ≡ Ok (n, rest)
+    → any_below (2 ^ 32) word ≡ Some n → number_field key default wanted text ≡ Ok (n, rest)
 unfolding number_field
 number_there key default wanted text more word rest n k b f e value = rw (k, b, f, e, value) refl
 
@@ -96,7 +102,7 @@ number_written key wanted default n ws small word same =
     let fits : n < 2 ^ 64 = omega (arith, small) in
     number_there key default wanted (spaced (key ∷ decimal n ∷ ws)) (spaced (decimal n ∷ ws)) (decimal n) (spaced ws) n
     (ap (λ (w : List ℕ). same_bytes w key) (next_is key (decimal n ∷ ws) word) ∙ same) (after_next key (decimal n ∷ ws) word)
-    (next_is (decimal n) ws (decimal_word n fits)) (after_next (decimal n) ws (decimal_word n fits)) (number_back (2 ^ 32) n small fits)
+    (next_is (decimal n) ws (decimal_word n fits)) (after_next (decimal n) ws (decimal_word n fits)) (any_back (2 ^ 32) n small fits)
 
 pub app_back : (wanted : Wanted) (default : Option ℕ) (n : ℕ) (ws : List (List ℕ)) → n < 2 ^ 32 → same_bytes (first_word (spaced ws)) (codes "app") ≡ false
     → number_field (codes "app") default wanted (spaced (app_words default n ++ ws)) ≡ Ok (n, spaced ws)

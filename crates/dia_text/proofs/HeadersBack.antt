@@ -14,14 +14,14 @@ use Rattle.dia_book.proofs.Members.{at_find}
 use Rattle.dia_text.specs.declared.fault.Wanted.TheVariants as want
 use Rattle.dia_text.specs.declared.commands.Start.{Start}
 use Rattle.dia_text.specs.Words.{first_word, after_word}
-use Rattle.dia_text.specs.Numbers.{number_below}
+use Rattle.dia_text.specs.Numbers.{any_below}
 use Rattle.dia_text.specs.Fields.{flags_field, number_field}
 use Rattle.dia_text.specs.Keys.{class_flags, p_flag, start_of, command_named, start_named}
 use Rattle.dia_text.specs.Lines.{header_letters, no_more, start_at, header_at, header_of}
 use Rattle.dia_text.specs.LineTexts.{spaced, app_words, identifier_words, field_words, code_start, code_header, named_header, header_text, header_line, class_bits, serves, names_header}
 use Rattle.dia_text.proofs.Bytes.{HasFields}
 use Rattle.dia_text.proofs.WordsBack.{AreWords, HasNoFeed, first_is, after_is, next_is, after_next, no_feed_words, no_feed_line, decimal_word}
-use Rattle.dia_text.proofs.FieldsBack.{keyword, number_back, flags_back, app_back, number_written, flags_are_words, app_are_words}
+use Rattle.dia_text.proofs.FieldsBack.{keyword, any_back, flags_back, app_back, number_written, flags_are_words, app_are_words}
 use Rattle.dia_text.proofs.KeysBack.{name_begins, member_has, found_by_name}
 
 -- ---- the fields behind the first word
@@ -30,7 +30,7 @@ no_word : no_more [] ≡ Ok tt
 no_word = refl
 
 start_by_code : (d : Dictionary) (text more word rest : List ℕ) (n : ℕ) → first_word text ≡ codes "code" → after_word text ≡ more → first_word more ≡ word → after_word more ≡ rest
-    → number_below (2 ^ 24) word ≡ Some n → start_at d text ≡ Ok (record { code = n; flags = None; app = None }, rest)
+    → any_below (2 ^ 24) word ≡ Some n → start_at d text ≡ Ok (record { code = n; flags = None; app = None }, rest)
 unfolding start_at
 start_by_code d text more word rest n k b f e value = rw (k, b, f, e, value) refl
 
@@ -91,7 +91,7 @@ by_code d h n b f =
     let number = decimal_word h.code fits in
     let first = first_is (codes "code") ws word in
     let start = start_by_code d (code_header h) (spaced ws) (decimal h.code) (spaced (field_words h (code_start h))) h.code first (after_is (codes "code") ws word)
-    (next_is (decimal h.code) (field_words h (code_start h)) number) (after_next (decimal h.code) (field_words h (code_start h)) number) (number_back (2 ^ 24) h.code f.code fits) in
+    (next_is (decimal h.code) (field_words h (code_start h)) number) (after_next (decimal h.code) (field_words h (code_start h)) number) (any_back (2 ^ 24) h.code f.code fits) in
     record {
       reads = line_is_header d (code_header h) h (omega (arith, ap length first)) (fields_back d h (code_start h) n b (code_header h) f refl start);
       feeds = no_feed_line (codes "code") ws word (no_feed_words ws (number, field_are_words h (code_start h) n b f));

@@ -1,10 +1,14 @@
 -- The lines of AVPs, read back: what each adds.
-use Rattle.std.proofs.Common.{◌≡◌, ℕ, ◌-◌, ◌%◌, ◌^◌, ◌<◌, ◌==◌, Bool, true, false, if◌then◌else◌, List, [], ◌∷◌, ◌++◌, length, take, Option, Some, None, unwrap_or, Result, Ok, codes, refl, sym, ap, ◌∙◌, arith}
-use Rattle.std.proofs.lemmas.Bool.{lt-ltb, ne_eqb}
+use Rattle.std.proofs.Common.{◌≡◌, ℕ, ◌-◌, ◌%◌, ◌^◌, ◌<◌, ◌==◌, ◌&&◌, Bool, true, false, if◌then◌else◌, List, [], ◌∷◌, ◌++◌, length, take, Option, Some, None, unwrap_or, Result, Ok, codes, refl, sym, ap, ◌∙◌, arith}
+use Rattle.std.specs.Option.{option_map_or}
+use Rattle.std.proofs.lemmas.Bool.{lt-ltb, ne_eqb, and_right}
 use Rattle.std.proofs.lemmas.List.{length-drop}
 use Rattle.dia_terms.specs.Names.{same_bytes}
 use Rattle.dia_wire.specs.Wire.{PlainAvp, Spells, head_length, avp_length}
 use Rattle.dia_wire.specs.Written.{padding}
+use Rattle.byteorder.specs.Endian.{big_bytes}
+use Rattle.dia_data.specs.Plain.{PlainFormat}
+use Rattle.dia_data.specs.Shown.{hexadecimal}
 use Rattle.dia_book.specs.Dictionary.{Dictionary, IsDictionary}
 use Rattle.dia_book.proofs.LookUpsByName.{same_bytes-true}
 use Rattle.dia_text.specs.declared.fault.Wanted.TheVariants.{AvpFlags}
@@ -14,7 +18,8 @@ use Rattle.dia_text.specs.Words.{first_word, after_word}
 use Rattle.dia_text.specs.Reading.{◌>>=◌}
 use Rattle.dia_text.specs.Fields.{flags_field, length_field, padding_field}
 use Rattle.dia_text.specs.Keys.{code_of, default_flags, format_at}
-use Rattle.dia_text.specs.Values.{value_at}
+use Rattle.dia_text.specs.Dates.{time_of}
+use Rattle.dia_text.specs.Values.{value_at, is_time, is_date_of, after_date}
 use Rattle.dia_text.specs.Lines.{PlainLine, Blank, Leaf, Open, Close, avp_letters, head_at, leaf_at, open_at, close_at, avp_at, line_of}
 use Rattle.dia_text.specs.Drafts.{Level, added, avp_of}
 use Rattle.dia_text.specs.Made.{in_line, line_added}
@@ -34,9 +39,22 @@ unfolding head_at
 head_read d text t1 t2 code flags a b c e = rw (a, b, c, e) refl
 
 leaf_read : (d : Dictionary) (head : Head) (text t1 bytes : List ℕ) (pad : Option (List ℕ)) → value_at (format_at d head.code) text ≡ Ok (bytes, t1)
-    → padding_field t1 ≡ Ok (pad, []) → leaf_at d head text ≡ Ok (Leaf head bytes pad)
+    → after_date (format_at d head.code) bytes t1 ≡ t1 → padding_field t1 ≡ Ok (pad, []) → leaf_at d head text ≡ Ok (Leaf head bytes pad)
 unfolding leaf_at
-leaf_read d head text t1 bytes pad a b = rw (a, b) refl
+leaf_read d head text t1 bytes pad a c b = rw (a, c, b) refl
+
+-- no date stands before padding
+no_date : (format : Option PlainFormat) (bytes text : List ℕ) → time_of (first_word text) ≡ None → after_date format bytes text ≡ text
+no_date format bytes text none =
+    let other : (is_time format && is_date_of bytes (first_word text)) ≡ false = and_right _ _ (ap (λ (o : Option ℕ). option_map_or (λ n. same_bytes (big_bytes 4 n) bytes) o false) none) in
+    ap (λ (b : Bool). if b then after_word text else text) other
+
+pad_no_date : (format : Option PlainFormat) (bytes : List ℕ) (len : ℕ) (pad : List ℕ) → after_date format bytes (spaced (pad_words len pad)) ≡ spaced (pad_words len pad)
+pad_no_date format bytes len pad = by (same_bytes pad (padding len))
+  where
+    by : (b : Bool) → after_date format bytes (spaced (if b then [] else (codes "pad" ∷ hexadecimal pad ∷ []))) ≡ spaced (if b then [] else (codes "pad" ∷ hexadecimal pad ∷ []))
+    by true = no_date format bytes [] refl
+    by false = no_date format bytes (spaced (codes "pad" ∷ hexadecimal pad ∷ [])) (ap time_of (next_is (codes "pad") (hexadecimal pad ∷ []) (keyword (codes "pad") (omega arith) refl)))
 
 opens : (head : Head) → open_at head [] ≡ Ok (Open head)
 unfolding open_at
@@ -92,7 +110,7 @@ leaf_back d v front word sound p is_word =
     let line = leaf_line d v word (after_data v front) in
     let head = head_back d v front ws p names (value.flags pads) (value.len pads) in
     let leaf = leaf_read d (plain_head v) (spaced ws) (spaced pads) v.bytes (said_pad (avp_length v) (after_data v front)) (value.reads pads)
-    (padding_back (avp_length v) (after_data v front) p.following) in
+    (pad_no_date (format_at d (code_at v)) v.bytes (avp_length v) (after_data v front)) (padding_back (avp_length v) (after_data v front) p.following) in
     let first = first_is w (avp_flags d v ++ ws) names.begins.word in
     let some = names.begins.word.some in
     record {

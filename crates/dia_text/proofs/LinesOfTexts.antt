@@ -15,7 +15,7 @@ use Rattle.dia_text.specs.Reading.{◌>>=◌, FailsAt}
 use Rattle.dia_text.specs.Lines.{header_of}
 use Rattle.dia_text.specs.Drafts.{Level}
 use Rattle.dia_text.specs.declared.fault.Kind.TheVariants.{Syntax}
-use Rattle.dia_text.specs.Made.{message_from, body_from, no_level, placed, Misses, step, finished, line_added}
+use Rattle.dia_text.specs.Made.{message_from, body_from, no_level, fault_in, placed, Misses, step, finished, line_added}
 use Rattle.dia_text.specs.Made.{lines, is_empty, has_word, fault_at, parts_text, made_lines}
 
 pub bind_fails : {A B : Type 0} (e : NotRead) (r : Result A Misfit) (f : A → Result B Misfit) → FailsAt e r → FailsAt e (r >>= f)
@@ -42,10 +42,9 @@ pub header_line : (d : Dictionary) (ls : List (List ℕ)) (i : ℕ) (l : List �
     → message_from d i (drop i ls) ≡ body_from d header (i + 1) (drop (i + 1) ls) no_level
 header_line d ls i l header parts read = ap (message_from d i) parts ∙ rw read refl
 
-pub no_header_line : (d : Dictionary) (ls : List (List ℕ)) (i : ℕ) (l : List ℕ) (e : NotRead) → drop i ls ≡ l ∷ drop (i + 1) ls → FailsAt e (header_of d l)
-    → Misses (placed e l (i + 1)) (message_from d i (drop i ls))
-no_header_line d ls i l not_read.NoMemory parts h = tt
-no_header_line d ls i l (not_read.Misfit m) parts h = ap (message_from d i) parts ∙ rw h refl
+pub no_header_line : (d : Dictionary) (ls : List (List ℕ)) (i : ℕ) (l : List ℕ) (m : Misfit) → drop i ls ≡ l ∷ drop (i + 1) ls → header_of d l ≡ Err m
+    → message_from d i (drop i ls) ≡ Err (fault_in l (i + 1) m)
+no_header_line d ls i l m parts h = ap (message_from d i) parts ∙ rw h refl
 
 -- what misses one reading misses the same one
 pub misses_same : (e : NotMade) (a b : Result (List ℕ) Fault) → a ≡ b → Misses e a → Misses e b

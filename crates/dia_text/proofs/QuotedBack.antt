@@ -9,8 +9,7 @@ use Rattle.std.proofs.lemmas.List.Splits.{slice_split-cons_no, length-slice_spli
 use Rattle.dia_terms.specs.Names.{same_bytes}
 use Rattle.dia_data.specs.Plain.{PlainFormat}
 use Rattle.dia_data.specs.Shown.{hex_digit, hex_byte, quoted_byte, quoted}
-use Rattle.dia_text.specs.Words.{is_word_byte, unblanked, first_word}
-use Rattle.dia_text.specs.Fields.{after_letter}
+use Rattle.dia_text.specs.Words.{is_word_byte, unblanked, first_word, after_letter}
 use Rattle.dia_text.specs.Values.{each, escaped, unescaped, is_no_quote, text_at, may_be_text, value_at}
 use Rattle.dia_text.specs.LineTexts.{spaced}
 use Rattle.dia_text.proofs.Bytes.{AreBytes}

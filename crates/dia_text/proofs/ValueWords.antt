@@ -6,8 +6,7 @@ use Rattle.std.proofs.lemmas.Bool.Decides.{nat_tests}
 use Rattle.dia_terms.specs.Names.{same_bytes}
 use Rattle.dia_data.specs.Plain.{PlainFormat}
 use Rattle.dia_data.specs.Shown.{hexadecimal}
-use Rattle.dia_text.specs.Words.{unblanked, first_word, after_word}
-use Rattle.dia_text.specs.Fields.{after_letter}
+use Rattle.dia_text.specs.Words.{unblanked, first_word, after_word, after_letter}
 use Rattle.dia_text.specs.Values.{is_address, value_of, words_at, value_or_text, value_at}
 use Rattle.dia_text.specs.LineTexts.{spaced}
 use Rattle.dia_text.proofs.Bytes.{AreBytes}

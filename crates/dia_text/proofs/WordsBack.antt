@@ -1,5 +1,5 @@
 -- The words of a line that is written, read back one after the other; and the lines of a text.
-use Rattle.std.proofs.Common.{◌≡◌, ℕ, suc, ◌+◌, ◌/◌, ◌%◌, ◌^◌, ◌<◌, ◌==◌, nat_le, Bool, true, false, cond, List, [], ◌∷◌, ◌++◌, length, drop, take_while, flat_map, refl, sym, ap, ◌∙◌, append_assoc, arith}
+use Rattle.std.proofs.Common.{◌≡◌, ℕ, suc, ◌+◌, ◌/◌, ◌%◌, ◌^◌, ◌<◌, ◌==◌, ◌&&◌, nat_le, not, Bool, true, false, cond, List, [], ◌∷◌, ◌++◌, length, drop, take_while, flat_map, refl, sym, ap, ◌∙◌, append_assoc, arith}
 use Rattle.std.specs.List.{AllByRecursion, list_all, prefix_len}
 use Rattle.std.specs.Char.{is_ascii_digit}
 use Rattle.std.specs.Fmt.{decimal}
@@ -16,9 +16,9 @@ use Rattle.dia_text.specs.LineTexts.{spaced}
 use Rattle.dia_text.specs.TextOf.{fed}
 use Rattle.dia_text.proofs.NumbersOfWords.{digits_model}
 
--- a byte above `#`
+-- a byte above `#`, but not `;`
 abbrev pub is_sign : ℕ → Bool
-is_sign c = nat_le 36 c
+is_sign c = nat_le 36 c && not (c == 59)
 
 pub record IsWord (w : List ℕ) : Type 0 where
   pub some : 0 < length w

@@ -9,21 +9,16 @@ use Rattle.dia_text.specs.declared.fault.Kind.TheVariants.{Syntax, Value}
 use Rattle.dia_text.specs.declared.fault.Wanted.{Wanted}
 use Rattle.dia_text.specs.declared.fault.Wanted.TheVariants.{Number, AvpLength, Bytes}
 use Rattle.dia_text.specs.declared.fault.Misfit.{Misfit}
-use Rattle.dia_text.specs.Words.{first_word, after_word}
-use Rattle.dia_text.specs.Numbers.{number_below, hex_byte_of, within}
+use Rattle.dia_text.specs.Words.{first_word, after_word, after_letter}
+use Rattle.dia_text.specs.Numbers.{any_below, hex_byte_of, within}
 use Rattle.dia_text.specs.Reading.{◌>>=◌, some_or, at_word}
 
 -- a number below 2 ^ 32 behind its keyword; without a default the keyword has to be there
 unfoldable pub number_field : List ℕ → Option ℕ → Wanted → List ℕ → Result (ℕ × List ℕ) Misfit
 number_field keyword default wanted text =
     if same_bytes (first_word text) keyword
-    then (at_word (after_word text) Number (some_or (number_below (2 ^ 32) (first_word (after_word text))) Value) >>= λ n. Ok (n, after_word (after_word text)))
+    then (at_word (after_word text) Number (some_or (any_below (2 ^ 32) (first_word (after_word text))) Value) >>= λ n. Ok (n, after_word (after_word text)))
     else (at_word text wanted (some_or default Syntax) >>= λ n. Ok (n, text))
-
--- what follows the letter at the front
-abbrev pub after_letter : ℕ → List ℕ → Option (List ℕ)
-after_letter letter [] = None
-after_letter letter (c ∷ cs) = if c == letter then Some cs else None
 
 abbrev pub letter_then : ℕ → (List ℕ → Option ℕ) → List ℕ → Option (List ℕ) → Option ℕ
 letter_then flag more word None = more word
@@ -52,7 +47,7 @@ flags_field letters flags default wanted text =
 unfoldable pub length_field : List ℕ → Result (Option ℕ × List ℕ) Misfit
 length_field text =
     if same_bytes (first_word text) (codes "length")
-    then (at_word (after_word text) AvpLength (some_or (number_below (2 ^ 24) (first_word (after_word text))) Value) >>= λ n. Ok (Some n, after_word (after_word text)))
+    then (at_word (after_word text) AvpLength (some_or (any_below (2 ^ 24) (first_word (after_word text))) Value) >>= λ n. Ok (Some n, after_word (after_word text)))
     else Ok (None, text)
 
 abbrev pub decoded : Result (List ℕ) FromHexError → Result (List ℕ) Kind

@@ -2,6 +2,7 @@ pub mod Words
 pub mod Numbers
 pub mod Faults
 pub mod Reading
+pub mod Dates
 pub mod Fields
 pub mod Keys
 pub mod Values

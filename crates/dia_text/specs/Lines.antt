@@ -4,7 +4,6 @@ use Rattle.std.specs.Option.{option_map}
 use Rattle.dia_terms.specs.Names.{same_bytes}
 use Rattle.dia_wire.specs.declared.Header.{Header}
 use Rattle.dia_book.specs.Dictionary.{Dictionary}
-use Rattle.dia_text.specs.declared.fault.Kind.{Kind}
 use Rattle.dia_text.specs.declared.fault.Kind.TheVariants.{Syntax, Value}
 use Rattle.dia_text.specs.declared.fault.Wanted.TheVariants as want
 use Rattle.dia_text.specs.declared.fault.Misfit.{Misfit}
@@ -13,11 +12,11 @@ use Rattle.dia_text.specs.declared.line.Head.{Head}
 use Rattle.dia_text.specs.declared.line.Line.{Line}
 use Rattle.dia_text.specs.declared.line.Line.TheVariants as line
 use Rattle.dia_text.specs.Words.{first_word, after_word}
-use Rattle.dia_text.specs.Numbers.{number_below}
+use Rattle.dia_text.specs.Numbers.{any_below}
 use Rattle.dia_text.specs.Reading.{◌>>=◌, some_or, misfit, at_word}
 use Rattle.dia_text.specs.Fields.{number_field, flags_field, length_field, padding_field}
 use Rattle.dia_text.specs.Keys.{code_of, default_flags, format_at, start_named}
-use Rattle.dia_text.specs.Values.{value_at}
+use Rattle.dia_text.specs.Values.{value_at, after_date}
 
 -- the letters of flags, in their order (RFC 6733 sections 3 and 4.1)
 abbrev pub avp_letters : List (ℕ × ℕ)
@@ -54,11 +53,11 @@ head_at d text = do
   len ← length_field flags.1
   Ok (record { code = code; flags = flags.0; said_length = len.0 }, len.1)
 
--- a value, and its padding if it is written
+-- a value, the date of a Time if it is written, and the padding if it is written
 unfoldable pub leaf_at : Dictionary → Head → List ℕ → Result PlainLine Misfit
 leaf_at d head text = do
   value ← value_at (format_at d head.code) text
-  padding ← padding_field value.1
+  padding ← padding_field (after_date (format_at d head.code) value.0 value.1)
   end ← no_more padding.1
   Ok (Leaf head value.0 padding.0)
 
@@ -91,7 +90,7 @@ line_of d text =
 unfoldable pub start_at : Dictionary → List ℕ → Result (Start × List ℕ) Misfit
 start_at d text =
     if same_bytes (first_word text) (codes "code")
-    then (at_word (after_word text) want.CommandCode (some_or (number_below (2 ^ 24) (first_word (after_word text))) Value) >>= λ code.
+    then (at_word (after_word text) want.CommandCode (some_or (any_below (2 ^ 24) (first_word (after_word text))) Value) >>= λ code.
     Ok (record { code = code; flags = None; app = None }, after_word (after_word text)))
     else (at_word text want.CommandName (start_named d (first_word text)) >>= λ start. Ok (start, after_word text))
 

@@ -31,6 +31,11 @@ at_word text wanted (Err kind) = Err (misfit text wanted kind)
 
 -- ---- what the program answers
 
+-- what a function that takes no memory answered, seen by view, is what reading gives
+abbrev pub IsRead : {X Y E : Type 0} → (X → Y) → Result X E → Result Y E → Type 0
+IsRead view (Ok x) read = read ≡ Ok (view x)
+IsRead view (Err e) read = read ≡ Err e
+
 -- what a function of the program answered of a word, seen by view, is what reading gives, unless memory was refused
 abbrev pub Fails : {Y : Type 0} → Misread → Result Y Kind → Type 0
 Fails misread.NoMemory read = Unit {0}

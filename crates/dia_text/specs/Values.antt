@@ -1,25 +1,25 @@
 -- The data that a value writes, by the format of its AVP.
 use Rattle.std.specs.Prelude.{ℕ, ◌+◌, ◌^◌, ◌==◌, ◌&&◌, Bool, true, false, not, if◌then◌else◌, List, [], ◌∷◌, ◌++◌, length, take, drop, Option, Some, None, option_and_then, Result, Ok, Err, codes}
-use Rattle.std.specs.Option.{option_map}
+use Rattle.std.specs.Option.{option_map, option_map_or, option_or}
 use Rattle.std.specs.List.{prefix_len, slice_split}
 use Rattle.byteorder.specs.Endian.{big_bytes}
 use Rattle.hex.specs.Hex.{decode_sized}
-use Rattle.hex.specs.declared.error.FromHexError.{FromHexError}
 use Rattle.dia_terms.specs.Names.{same_bytes}
 use Rattle.dia_data.specs.declared.FormatKind.{FormatKind}
 use Rattle.dia_data.specs.declared.FormatKind.TheVariants as of_format
 use Rattle.dia_data.specs.declared.Reading.{Reading}
 use Rattle.dia_data.specs.declared.Reading.TheVariants.{Signed, Unsigned, Bits}
-use Rattle.dia_data.specs.Plain.{PlainFormat, Address, kind_of}
+use Rattle.dia_data.specs.Plain.{PlainFormat, Address, FourBytes, Time, kind_of}
 use Rattle.dia_text.specs.declared.fault.Kind.{Kind}
 use Rattle.dia_text.specs.declared.fault.Kind.TheVariants.{Syntax, Value}
 use Rattle.dia_text.specs.declared.fault.Wanted.{Wanted}
 use Rattle.dia_text.specs.declared.fault.Wanted.TheVariants as want
 use Rattle.dia_text.specs.declared.fault.Misfit.{Misfit}
-use Rattle.dia_text.specs.Words.{unblanked, first_word, after_word}
-use Rattle.dia_text.specs.Numbers.{number_of, number_below, signed_below, hex_byte_of}
+use Rattle.dia_text.specs.Words.{unblanked, first_word, after_word, after_letter}
+use Rattle.dia_text.specs.Numbers.{any_number, any_below, number_below, signed_below, hex_byte_of, if_decoded}
 use Rattle.dia_text.specs.Reading.{◌>>=◌, some_or, at_word}
-use Rattle.dia_text.specs.Fields.{after_letter, bytes_of}
+use Rattle.dia_text.specs.Dates.{time_of}
+use Rattle.dia_text.specs.Fields.{bytes_of}
 
 -- the bytes of all parts, if each has some
 abbrev pub each : (List ℕ → Option (List ℕ)) → List (List ℕ) → Option (List ℕ)
@@ -37,10 +37,6 @@ number_bytes width o = some_or (option_map (big_bytes width) o) Value
 -- a number below 256
 abbrev pub decimal_byte : List ℕ → Option (List ℕ)
 decimal_byte part = option_map (λ n. n ∷ []) (number_below 256 part)
-
-abbrev pub if_decoded : Result (List ℕ) FromHexError → Option (List ℕ)
-if_decoded (Ok bytes) = Some bytes
-if_decoded (Err e) = None
 
 -- four hexadecimal digits
 abbrev pub byte_pair : List ℕ → Option (List ℕ)
@@ -98,21 +94,21 @@ is_text kind = false
 
 abbrev pub may_be_text : Option PlainFormat → Bool
 may_be_text (Some format) = is_text (kind_of format)
-may_be_text None = false
+may_be_text None = true
 
 abbrev pub is_address : Option PlainFormat → Bool
 is_address (Some Address) = true
 is_address format = false
 
--- a number in decimal of 4 bytes, or of 8
+-- a number of 4 bytes, or of 8
 abbrev pub four_read : Reading → List ℕ → Result (List ℕ) Kind
 four_read Signed word = number_bytes 4 (signed_below (2 ^ 31) word)
-four_read Unsigned word = number_bytes 4 (number_below (2 ^ 32) word)
+four_read Unsigned word = number_bytes 4 (any_below (2 ^ 32) word)
 four_read Bits word = Err Value
 
 abbrev pub eight_read : Reading → List ℕ → Result (List ℕ) Kind
 eight_read Signed word = number_bytes 8 (signed_below (2 ^ 63) word)
-eight_read Unsigned word = number_bytes 8 (number_of word)
+eight_read Unsigned word = number_bytes 8 (any_number word)
 eight_read Bits word = Err Value
 
 -- a number, or an address
@@ -123,7 +119,9 @@ formatted_as of_format.Enumerated word = number_bytes 4 (signed_below (2 ^ 31) w
 formatted_as of_format.Address word = some_or (address_of word) Value
 formatted_as kind word = Err Value
 
+-- of a Time also a date
 abbrev pub formatted : Option PlainFormat → List ℕ → Result (List ℕ) Kind
+formatted (Some (FourBytes Time)) word = number_bytes 4 (option_or (any_below (2 ^ 32) word) (time_of word))
 formatted (Some format) word = formatted_as (kind_of format) word
 formatted None word = Err Value
 
@@ -171,3 +169,17 @@ value_or_text format text (Some rest) = at_word text (format_wanted format) (if 
 -- a value, and what follows it
 unfoldable pub value_at : Option PlainFormat → List ℕ → Result (List ℕ × List ℕ) Misfit
 value_at format text = value_or_text format text (after_letter 34 (unblanked text))
+
+-- ---- the date behind the number of a Time
+
+abbrev pub is_time : Option PlainFormat → Bool
+is_time (Some (FourBytes Time)) = true
+is_time format = false
+
+-- the word is the date of this data
+abbrev pub is_date_of : List ℕ → List ℕ → Bool
+is_date_of bytes word = option_map_or (λ n. same_bytes (big_bytes 4 n) bytes) (time_of word) false
+
+-- what follows the date, where there is one
+abbrev pub after_date : Option PlainFormat → List ℕ → List ℕ → List ℕ
+after_date format bytes text = if is_time format && is_date_of bytes (first_word text) then after_word text else text

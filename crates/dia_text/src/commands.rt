@@ -2,11 +2,10 @@
 ghost use Rattle.std.specs.Prelude.{◌≡◌, ◌<◌, ◌≤◌, ◌^◌, option_and_then, IfOk, IfSome};
 ghost use Rattle.std.specs.Option.{option_map};
 ghost use Rattle.dia_book.specs.Dictionary.{plain_definition};
-ghost use Rattle.dia_text.specs.Reading.{Gives};
 ghost use Rattle.dia_text.specs.Keys.{start_of, start_named, command_named};
 ghost use Rattle.dia_text.specs.Keys.{class_flags, p_flag};
 
-use crate::fault::{Kind, Misread};
+use crate::fault::Kind;
 use crate::names::NamedBook;
 use dia_book::{Book, Class, DefHead};
 use dia_terms::Pxy;
@@ -22,16 +21,16 @@ pub struct Start {
 }
 
 /// The command that the dictionary has by this name.
-pub(crate) fn start_named<B: Book>(named: &NamedBook<'_, B>, word: &[u8]) -> Result<Start, Misread>
-    ensures value { Gives (λ start. start) result (start_named named.now word.now) }
+pub(crate) fn start_named<B: Book>(named: &NamedBook<'_, B>, word: &[u8]) -> Result<Start, Kind>
+    ensures value { result ≡ start_named named.now word.now }
     ensures small { IfOk result (λ start. start.code < 2 ^ 24) }
 {
     let Some(definition) = named.command(word) else {
-        return Err(Misread::Fault(Kind::Name));
+        return Err(Kind::Name);
     };
     match start_of(&definition.head) {
         Some(start) => Ok(start),
-        None => Err(Misread::Fault(Kind::Name)),
+        None => Err(Kind::Name),
     }
 }
 

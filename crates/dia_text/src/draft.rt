@@ -5,7 +5,6 @@ ghost use Rattle.std.specs.Option.{option_map};
 ghost use Rattle.byteorder.specs.Endian.{big_bytes};
 ghost use Rattle.dia_wire.specs.Wire.{head_length};
 ghost use Rattle.dia_wire.specs.Written.{padding, vendor_bytes};
-ghost use Rattle.dia_text.specs.Reading.{Gives};
 ghost use Rattle.dia_text.specs.Lines.{plain_line, Open, Close};
 ghost use Rattle.dia_text.specs.Drafts.{front_bytes, length_of, end_bytes, avp_of};
 ghost use Rattle.dia_text.specs.Drafts.{Level, Occurs, IsAppended, IsAdded, added};
@@ -62,9 +61,9 @@ fn push_avp(
     Ok(())
 }
 
-fn length_of(head: &Head, count: usize) -> Result<u32, Misread>
+fn length_of(head: &Head, count: usize) -> Result<u32, Kind>
     requires { count < 2 ^ 63 }
-    ensures value { Gives (λ n. n) result (length_of head.now count) }
+    ensures value { result ≡ length_of head.now count }
     ensures small { IfOk result (λ n. n < 2 ^ 24) }
 {
     let length = match head.said_length {
@@ -74,7 +73,7 @@ fn length_of(head: &Head, count: usize) -> Result<u32, Misread>
     if length < TOO_LONG {
         Ok(length as u32)
     } else {
-        Err(Misread::Fault(Kind::Limit))
+        Err(Kind::Limit)
     }
 }
 

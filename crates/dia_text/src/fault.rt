@@ -153,14 +153,14 @@ pub enum NotMade {
 }
 
 /// What is wrong with the first word of a text.
-pub(crate) fn not_read(text: &[u8], wanted: Wanted, kind: Kind) -> NotRead
-    ensures { result ≡ NotRead.Misfit (misfit text.now wanted kind) }
+pub(crate) fn misfit_at(text: &[u8], wanted: Wanted, kind: Kind) -> Misfit
+    ensures { result ≡ misfit text.now wanted kind }
 {
-    NotRead::Misfit(Misfit {
+    Misfit {
         kind,
         wanted,
         left: without_blanks(text).len(),
-    })
+    }
 }
 
 impl Misread {
@@ -169,9 +169,31 @@ impl Misread {
         ensures { result ≡ at_text self text.now wanted }
     {
         match self {
-            Misread::Fault(kind) => not_read(text, wanted, kind),
+            Misread::Fault(kind) => NotRead::Misfit(misfit_at(text, wanted, kind)),
             Misread::NoMemory => NotRead::NoMemory,
         }
+    }
+}
+
+impl From<Kind> for Misread {
+    ghost use Rattle.std.specs.Prelude.{◌≡◌};
+    ghost use Rattle.dia_text.specs.declared.fault.Misread.TheVariants.{Fault};
+
+    ghost from_gives = { λ kind e. e ≡ Fault kind };
+
+    fn from(kind: Kind) -> Misread {
+        Misread::Fault(kind)
+    }
+}
+
+impl From<Misfit> for NotRead {
+    ghost use Rattle.std.specs.Prelude.{◌≡◌};
+    ghost use Rattle.dia_text.specs.declared.fault.NotRead.TheVariants.{Misfit};
+
+    ghost from_gives = { λ misfit e. e ≡ Misfit misfit };
+
+    fn from(misfit: Misfit) -> NotRead {
+        NotRead::Misfit(misfit)
     }
 }
 

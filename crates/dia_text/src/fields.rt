@@ -1,18 +1,18 @@
 //! The parts of a line behind its first word: a keyword and what it says, which may be left out.
-ghost use Rattle.std.specs.Prelude.{◌≡◌, ◌<◌, ◌≤◌, ◌^◌, IfOk, length, option_copied};
+ghost use Rattle.std.specs.Prelude.{◌≡◌, ◌<◌, ◌≤◌, ◌^◌, IfOk, length};
 ghost use Rattle.std.specs.Prelude.{option_and_then};
 ghost use Rattle.std.specs.Option.{option_map};
 ghost use Rattle.dia_text.specs.Fields.{number_field, flags_field, flags_of};
 ghost use Rattle.dia_text.specs.Fields.{length_field, padding_field, bytes_of};
-ghost use Rattle.dia_text.specs.Fields.{letters_value, after_letter, decoded};
+ghost use Rattle.dia_text.specs.Fields.{letters_value, decoded};
 ghost use Rattle.hex.specs.Hex.{decode_of};
-ghost use Rattle.dia_text.specs.Numbers.{number_below, within};
-ghost use Rattle.dia_text.specs.Reading.{Gives, Reads, some_or, at_word};
+ghost use Rattle.dia_text.specs.Numbers.{any_below, within};
+ghost use Rattle.dia_text.specs.Reading.{Gives, IsRead, Reads, some_or, at_word};
 ghost use Rattle.dia_text.specs.Words.{first_word};
 
-use crate::fault::{Kind, Misread, NotRead, Wanted, not_read};
-use crate::numbers::{hex_byte_of, number_below, number32};
-use crate::words::next_word;
+use crate::fault::{Kind, Misfit, Misread, NotRead, Wanted, misfit_at};
+use crate::numbers::{any_below, any_below32, hex_byte_of};
+use crate::words::{after_letter, next_word};
 use hex::FromHexError;
 use std::alloc::Global;
 
@@ -24,8 +24,8 @@ pub(crate) fn number_field<'a>(
     default: Option<u32>,
     wanted: Wanted,
     text: &'a [u8],
-) -> Result<(u32, &'a [u8]), NotRead>
-    ensures { Reads (λ x. (x.0, x.1.now)) result
+) -> Result<(u32, &'a [u8]), Misfit>
+    ensures { IsRead (λ x. (x.0, x.1.now)) result
         (number_field keyword.now default wanted text.entry.now) }
 {
     let (word, following) = next_word(text);
@@ -48,9 +48,9 @@ pub(crate) fn flags_field<'a>(
     default: Option<u8>,
     wanted: Wanted,
     text: &'a [u8],
-) -> Result<(u8, &'a [u8]), NotRead>
+) -> Result<(u8, &'a [u8]), Misfit>
     requires { length letters.now ≤ 4 }
-    ensures { Reads (λ x. (x.0, x.1.now)) result
+    ensures { IsRead (λ x. (x.0, x.1.now)) result
         (flags_field letters.now flags default wanted text.entry.now) }
 {
     let (word, following) = next_word(text);
@@ -65,37 +65,37 @@ pub(crate) fn flags_field<'a>(
 }
 
 /// The number that the first word writes.
-fn number_at(text: &[u8]) -> Result<u32, NotRead>
-    ensures { Reads (λ n. n) result (at_word text.now Wanted.Number
-        (some_or (number_below (2 ^ 32) (first_word text.now)) Kind.Value)) }
+fn number_at(text: &[u8]) -> Result<u32, Misfit>
+    ensures { result ≡ at_word text.now Wanted.Number
+        (some_or (any_below (2 ^ 32) (first_word text.now)) Kind.Value) }
 {
     let (word, _) = next_word(text);
-    match number32(word) {
+    match any_below32(word) {
         Some(number) => Ok(number),
-        None => Err(not_read(text, Wanted::Number, Kind::Value)),
+        None => Err(misfit_at(text, Wanted::Number, Kind::Value)),
     }
 }
 
 /// The default of what is missing in front of a text.
-fn default_at<T: Copy>(text: &[u8], wanted: Wanted, default: Option<T>) -> Result<T, NotRead>
-    ensures { Reads (λ x. x) result (at_word text.now wanted (some_or default Kind.Syntax)) }
+fn default_at<T: Copy>(text: &[u8], wanted: Wanted, default: Option<T>) -> Result<T, Misfit>
+    ensures { result ≡ at_word text.now wanted (some_or default Kind.Syntax) }
 {
     match default {
         Some(value) => Ok(value),
-        None => Err(not_read(text, wanted, Kind::Syntax)),
+        None => Err(misfit_at(text, wanted, Kind::Syntax)),
     }
 }
 
 /// The flags that the first word writes.
-fn flags_at(letters: &[(u8, u8)], wanted: Wanted, text: &[u8]) -> Result<u8, NotRead>
+fn flags_at(letters: &[(u8, u8)], wanted: Wanted, text: &[u8]) -> Result<u8, Misfit>
     requires { length letters.now ≤ 4 }
-    ensures { Reads (λ n. n) result (at_word text.now wanted
-        (some_or (flags_of letters.now (first_word text.now)) Kind.Value)) }
+    ensures { result ≡ at_word text.now wanted
+        (some_or (flags_of letters.now (first_word text.now)) Kind.Value) }
 {
     let (word, _) = next_word(text);
     match flags_of(letters, word) {
         Some(flags) => Ok(flags),
-        None => Err(not_read(text, wanted, Kind::Value)),
+        None => Err(misfit_at(text, wanted, Kind::Value)),
     }
 }
 
@@ -126,8 +126,8 @@ fn flags_by_letters(letters: &[(u8, u8)], word: &[u8]) -> Option<u8>
 
 /// An AVP Length behind its keyword; and what follows.
 #[tactic(auto, unfolding(crate::specs::Fields::length_field))]
-pub(crate) fn length_field(text: &[u8]) -> Result<(Option<u32>, &[u8]), NotRead>
-    ensures { Reads (λ x. (x.0, x.1.now)) result (length_field text.entry.now) }
+pub(crate) fn length_field(text: &[u8]) -> Result<(Option<u32>, &[u8]), Misfit>
+    ensures { IsRead (λ x. (x.0, x.1.now)) result (length_field text.entry.now) }
 {
     let (word, following) = next_word(text);
     if word == b"length".as_slice() {
@@ -140,15 +140,15 @@ pub(crate) fn length_field(text: &[u8]) -> Result<(Option<u32>, &[u8]), NotRead>
 }
 
 /// The number that the first word writes, and that three bytes hold.
-pub(crate) fn three_byte_number(text: &[u8], wanted: Wanted) -> Result<u32, NotRead>
-    ensures value { Reads (λ n. n) result (at_word text.now wanted
-        (some_or (number_below (2 ^ 24) (first_word text.now)) Kind.Value)) }
+pub(crate) fn three_byte_number(text: &[u8], wanted: Wanted) -> Result<u32, Misfit>
+    ensures value { result ≡ at_word text.now wanted
+        (some_or (any_below (2 ^ 24) (first_word text.now)) Kind.Value) }
     ensures small { IfOk result (λ n. n < 2 ^ 24) }
 {
     let (word, _) = next_word(text);
-    match number_below(1 << 24, word) {
+    match any_below(1 << 24, word) {
         Some(number) => Ok(number as u32),
-        None => Err(not_read(text, wanted, Kind::Value)),
+        None => Err(misfit_at(text, wanted, Kind::Value)),
     }
 }
 
@@ -215,14 +215,4 @@ fn letters_value(letters: &[(u8, u8)], word: &[u8]) -> Option<u32>
         }
     }
     if rest.is_empty() { Some(total) } else { None }
-}
-
-/// What follows a byte at the front.
-pub(crate) fn after_letter(letter: u8, word: &[u8]) -> Option<&[u8]>
-    ensures { option_copied result ≡ after_letter letter word.entry.now }
-{
-    match word {
-        [first, following @ ..] if *first == letter => Some(following),
-        _ => None,
-    }
 }

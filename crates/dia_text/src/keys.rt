@@ -3,12 +3,11 @@ ghost use Rattle.std.specs.Prelude.{◌≡◌, ◌<◌, ◌≤◌, length};
 ghost use Rattle.std.specs.Prelude.{option_and_then, slice_get, IfSome};
 ghost use Rattle.std.specs.Option.{option_map};
 ghost use Rattle.dia_data.specs.Plain.{plain_format};
-ghost use Rattle.dia_text.specs.Reading.{Gives};
 ghost use Rattle.dia_text.specs.Keys.{numbered, vendor_code};
 ghost use Rattle.dia_text.specs.Keys.{code_of_key, code_of};
 ghost use Rattle.dia_text.specs.Keys.{entry_at, format_at, m_flag, default_flags};
 
-use crate::fault::{Kind, Misread};
+use crate::fault::Kind;
 use crate::names::NamedBook;
 use crate::numbers::number32;
 use crate::splitting::split_once;
@@ -23,15 +22,15 @@ pub struct AvpCode {
 }
 
 /// The AVP of a word: `CODE` or `CODE/VENDOR`, or else a name of the dictionary.
-pub(crate) fn code_of<B: Book>(named: &NamedBook<'_, B>, word: &[u8]) -> Result<AvpCode, Misread>
-    ensures { Gives (λ code. code) result (code_of named.now word.now) }
+pub(crate) fn code_of<B: Book>(named: &NamedBook<'_, B>, word: &[u8]) -> Result<AvpCode, Kind>
+    ensures { result ≡ code_of named.now word.now }
 {
     if let Some(code) = numbered(word) {
         return Ok(code);
     }
     match named.key(word) {
         Some(key) => Ok(code_of_key(&key)),
-        None => Err(Misread::Fault(Kind::Name)),
+        None => Err(Kind::Name),
     }
 }
 

@@ -23,6 +23,7 @@
 
 mod avp_lines;
 mod commands;
+mod dates;
 mod draft;
 mod fault;
 mod fields;

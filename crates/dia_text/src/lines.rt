@@ -1,6 +1,6 @@
 //! Lines, read.
 ghost use Rattle.std.specs.Prelude.{◌≡◌, ◌<◌, ◌^◌, IfOk, IfSome};
-ghost use Rattle.dia_text.specs.Reading.{Reads, at_word};
+ghost use Rattle.dia_text.specs.Reading.{IsRead, Reads, at_word};
 ghost use Rattle.dia_text.specs.Lines.{plain_line, no_more, head_at, leaf_at};
 ghost use Rattle.dia_text.specs.Lines.{open_at, close_at, avp_at, line_of};
 ghost use Rattle.dia_text.specs.Lines.{start_at, header_after, header_at, header_of};
@@ -8,12 +8,12 @@ ghost use Rattle.dia_text.specs.Keys.{code_of, start_named};
 ghost use Rattle.dia_text.specs.Words.{first_word};
 
 use crate::commands::{Start, start_named};
-use crate::fault::{Kind, NotRead, Wanted, not_read};
+use crate::fault::{Kind, Misfit, NotRead, Wanted, misfit_at};
 use crate::fields::{flags_field, length_field, number_field, padding_field, three_byte_number};
 use crate::keys::{AvpCode, code_of, default_flags, format_at};
 use crate::line::{Head, Line};
 use crate::names::NamedBook;
-use crate::values::value_at;
+use crate::values::{after_date, value_at};
 use crate::words::next_word;
 use dia_book::Book;
 use dia_wire::Header;
@@ -51,7 +51,7 @@ fn avp_at<B: Book>(alloc: Global, named: &NamedBook<'_, B>, text: &[u8]) -> Resu
     let (head, text) = head_at(named, text)?;
     let (word, rest) = next_word(text);
     if word == b"{".as_slice() {
-        open_at(&head, rest)
+        Ok(open_at(&head, rest)?)
     } else {
         leaf_at(alloc, named, &head, text)
     }
@@ -61,8 +61,8 @@ fn avp_at<B: Book>(alloc: Global, named: &NamedBook<'_, B>, text: &[u8]) -> Resu
 pub(crate) fn head_at<'a, B: Book>(
     named: &NamedBook<'_, B>,
     text: &'a [u8],
-) -> Result<(Head, &'a [u8]), NotRead>
-    ensures { Reads (λ x. (x.0, x.1.now)) result (head_at named.now text.entry.now) }
+) -> Result<(Head, &'a [u8]), Misfit>
+    ensures { IsRead (λ x. (x.0, x.1.now)) result (head_at named.now text.entry.now) }
 {
     let (_, rest) = next_word(text);
     let code = code_at(named, text)?;
@@ -81,14 +81,13 @@ pub(crate) fn head_at<'a, B: Book>(
 }
 
 /// The AVP of the first word.
-fn code_at<B: Book>(named: &NamedBook<'_, B>, text: &[u8]) -> Result<AvpCode, NotRead>
-    ensures { Reads (λ code. code) result
-        (at_word text.now Wanted.AvpName (code_of named.now (first_word text.now))) }
+fn code_at<B: Book>(named: &NamedBook<'_, B>, text: &[u8]) -> Result<AvpCode, Misfit>
+    ensures { result ≡ at_word text.now Wanted.AvpName (code_of named.now (first_word text.now)) }
 {
     let (word, _) = next_word(text);
     match code_of(named, word) {
         Ok(code) => Ok(code),
-        Err(misread) => Err(misread.at(text, Wanted::AvpName)),
+        Err(kind) => Err(misfit_at(text, Wanted::AvpName, kind)),
     }
 }
 
@@ -103,14 +102,15 @@ fn leaf_at<B: Book>(
 {
     let format = format_at(named.book(), &head.code);
     let (bytes, rest) = value_at(alloc, format, text)?;
+    let rest = after_date(format, &bytes, rest);
     let (padding, rest) = padding_field(alloc, rest)?;
     no_more(rest)?;
     Ok(Line::Leaf(*head, bytes, padding))
 }
 
 #[tactic(auto, unfolding(crate::specs::Lines::open_at))]
-fn open_at(head: &Head, text: &[u8]) -> Result<Line, NotRead>
-    ensures { Reads plain_line result (open_at head.now text.now) }
+fn open_at(head: &Head, text: &[u8]) -> Result<Line, Misfit>
+    ensures { IsRead plain_line result (open_at head.now text.now) }
 {
     no_more(text)?;
     Ok(Line::Open(*head))
@@ -125,21 +125,21 @@ fn close_at(alloc: Global, text: &[u8]) -> Result<Line, NotRead>
     Ok(Line::Close(padding))
 }
 
-fn no_more(text: &[u8]) -> Result<(), NotRead>
-    ensures { Reads (λ _. tt) result (no_more text.now) }
+fn no_more(text: &[u8]) -> Result<(), Misfit>
+    ensures { result ≡ no_more text.now }
 {
     let (word, _) = next_word(text);
     if word.is_empty() {
         Ok(())
     } else {
-        Err(not_read(text, Wanted::LineEnd, Kind::Syntax))
+        Err(misfit_at(text, Wanted::LineEnd, Kind::Syntax))
     }
 }
 
 /// The header that a line writes, or none where it is blank.
 #[tactic(auto, unfolding(crate::specs::Lines::header_of))]
-pub fn header_of<B: Book>(named: &NamedBook<'_, B>, text: &[u8]) -> Result<Option<Header>, NotRead>
-    ensures value { Reads (λ header. header) result (header_of named.now text.now) }
+pub fn header_of<B: Book>(named: &NamedBook<'_, B>, text: &[u8]) -> Result<Option<Header>, Misfit>
+    ensures value { result ≡ header_of named.now text.now }
     ensures small { IfOk result (λ header. IfSome header (λ h. h.code < 2 ^ 24)) }
 {
     let (word, _) = next_word(text);
@@ -151,8 +151,8 @@ pub fn header_of<B: Book>(named: &NamedBook<'_, B>, text: &[u8]) -> Result<Optio
 }
 
 #[tactic(auto, unfolding(crate::specs::Lines::header_at))]
-fn header_at<B: Book>(named: &NamedBook<'_, B>, text: &[u8]) -> Result<Header, NotRead>
-    ensures value { Reads (λ header. header) result (header_at named.now text.now) }
+fn header_at<B: Book>(named: &NamedBook<'_, B>, text: &[u8]) -> Result<Header, Misfit>
+    ensures value { result ≡ header_at named.now text.now }
     ensures small { IfOk result (λ header. header.code < 2 ^ 24) }
 {
     let (start, rest) = start_at(named, text)?;
@@ -167,8 +167,8 @@ fn header_at<B: Book>(named: &NamedBook<'_, B>, text: &[u8]) -> Result<Header, N
 }
 
 /// The header of this start and these flags, with the numbers behind them.
-fn header_after(start: &Start, flags: u8, text: &[u8]) -> Result<Header, NotRead>
-    ensures value { Reads (λ header. header) result (header_after start.now flags text.now) }
+fn header_after(start: &Start, flags: u8, text: &[u8]) -> Result<Header, Misfit>
+    ensures value { result ≡ header_after start.now flags text.now }
     ensures code { IfOk result (λ header. header.code ≡ start.now.code) }
 {
     let (app, rest) = number_field(b"app", start.app, Wanted::App, text)?;
@@ -188,8 +188,8 @@ fn header_after(start: &Start, flags: u8, text: &[u8]) -> Result<Header, NotRead
 fn start_at<'a, B: Book>(
     named: &NamedBook<'_, B>,
     text: &'a [u8],
-) -> Result<(Start, &'a [u8]), NotRead>
-    ensures value { Reads (λ x. (x.0, x.1.now)) result
+) -> Result<(Start, &'a [u8]), Misfit>
+    ensures value { IsRead (λ x. (x.0, x.1.now)) result
         (start_at named.now text.entry.now) }
     ensures small { IfOk result (λ x. x.0.code < 2 ^ 24) }
 {
@@ -210,14 +210,14 @@ fn start_at<'a, B: Book>(
 }
 
 /// The command that the first word names.
-fn command_at<B: Book>(named: &NamedBook<'_, B>, text: &[u8]) -> Result<Start, NotRead>
-    ensures value { Reads (λ start. start) result
-        (at_word text.now Wanted.CommandName (start_named named.now (first_word text.now))) }
+fn command_at<B: Book>(named: &NamedBook<'_, B>, text: &[u8]) -> Result<Start, Misfit>
+    ensures value { result
+        ≡ at_word text.now Wanted.CommandName (start_named named.now (first_word text.now)) }
     ensures small { IfOk result (λ start. start.code < 2 ^ 24) }
 {
     let (word, _) = next_word(text);
     match start_named(named, word) {
         Ok(start) => Ok(start),
-        Err(misread) => Err(misread.at(text, Wanted::CommandName)),
+        Err(kind) => Err(misfit_at(text, Wanted::CommandName, kind)),
     }
 }

@@ -1,16 +1,15 @@
 //! Texts, read: the message that a text writes.
 ghost use Rattle.std.specs.Prelude.{◌≡◌, ◌<◌, ◌≤◌, ◌^◌, ◌++◌};
-ghost use Rattle.std.specs.Prelude.{IfOk, Err, IfErr, OnOk, length, drop, map};
+ghost use Rattle.std.specs.Prelude.{IfOk, IfErr, OnOk, length, drop, map};
 ghost use Rattle.dia_wire.specs.Written.{header_bytes};
 ghost use Rattle.dia_text.specs.Drafts.{Level, Occurs};
 ghost use Rattle.dia_text.specs.Made.{lines, made, body_from, no_level, finished};
 ghost use Rattle.dia_text.specs.Made.{line_added, placed, IsMade, IsBegun, IsTaken, IsWithin, message_from};
-ghost use Rattle.dia_text.specs.Made.{fault_at, brace_wanted, in_line, value_misfit};
+ghost use Rattle.dia_text.specs.Made.{fault_at, fault_in, brace_wanted, line_misfit, value_misfit};
 ghost use Rattle.dia_text.specs.Lines.{plain_line, head_at};
-ghost use Rattle.dia_text.specs.Reading.{FailsAt};
 
 use crate::draft::{Opened, add, push_byte_and_u24, push_u32};
-use crate::fault::{Fault, Kind, Misfit, Misread, NotMade, NotRead, Wanted, not_read};
+use crate::fault::{Fault, Kind, Misfit, Misread, NotMade, NotRead, Wanted, misfit_at};
 use crate::line::Line;
 use crate::lines::{head_at, header_of, line_of};
 use crate::names::NamedBook;
@@ -64,25 +63,32 @@ fn header_from<B: Book>(
         match header_of(named, lines[index]) {
             Ok(None) => {}
             Ok(Some(header)) => return Ok((header, index + 1)),
-            Err(why) => return Err(placed(why, lines[index], index + 1)),
+            Err(why) => return Err(NotMade::Fault(fault_in(lines[index], index + 1, why))),
         }
     }
     Err(ends(lines.len(), Kind::Syntax, Wanted::HeaderLine))
 }
 
 /// The fault of a line.
+fn fault_in(text: &[u8], line: usize, misfit: Misfit) -> Fault
+    ensures { result ≡ fault_in text.now line misfit }
+{
+    Fault {
+        kind: misfit.kind,
+        line,
+        at: Some(text.len().saturating_sub(misfit.left)),
+        wanted: misfit.wanted,
+    }
+}
+
+/// Why a line makes no message.
 fn placed(why: NotRead, text: &[u8], line: usize) -> NotMade
     ensures value { result ≡ placed why text.now line }
     ensures line { IsWithin line result }
 {
     match why {
         NotRead::NoMemory => NotMade::NoMemory,
-        NotRead::Misfit(misfit) => NotMade::Fault(Fault {
-            kind: misfit.kind,
-            line,
-            at: Some(text.len().saturating_sub(misfit.left)),
-            wanted: misfit.wanted,
-        }),
+        NotRead::Misfit(misfit) => NotMade::Fault(fault_in(text, line, misfit)),
     }
 }
 
@@ -139,35 +145,34 @@ fn take_line<B: Book>(
     let line = line_of(alloc, named, text)?;
     match add(alloc, out, groups, &line) {
         Ok(()) => Ok(()),
-        Err(Misread::Fault(kind)) => Err(not_added(named, text, &line, kind)),
+        Err(Misread::Fault(kind)) => Err(NotRead::Misfit(line_misfit(named, text, &line, kind))),
         Err(Misread::NoMemory) => Err(NotRead::NoMemory),
     }
 }
 
 /// Why a line that was read can't be added.
-fn not_added<B: Book>(named: &NamedBook<'_, B>, text: &[u8], line: &Line, kind: Kind) -> NotRead
-    ensures { FailsAt result (in_line named.now text.now (plain_line line.now) (Err kind)) }
+fn line_misfit<B: Book>(named: &NamedBook<'_, B>, text: &[u8], line: &Line, kind: Kind) -> Misfit
+    ensures { result ≡ line_misfit named.now text.now (plain_line line.now) kind }
 {
     match line {
-        Line::Close(_) => not_read(text, brace_wanted(kind), kind),
+        Line::Close(_) => misfit_at(text, brace_wanted(kind), kind),
         Line::Blank | Line::Leaf(..) | Line::Open(_) => value_misfit(named, text, kind),
     }
 }
 
 /// The value of a line is at fault.
-fn value_misfit<B: Book>(named: &NamedBook<'_, B>, text: &[u8], kind: Kind) -> NotRead
-    ensures { FailsAt {Y = Level} result (Err (value_misfit named.now text.now kind)) }
+fn value_misfit<B: Book>(named: &NamedBook<'_, B>, text: &[u8], kind: Kind) -> Misfit
+    ensures { result ≡ value_misfit named.now text.now kind }
 {
     let left = match head_at(named, text) {
         Ok((_, rest)) => without_blanks(rest).len(),
-        Err(NotRead::Misfit(misfit)) => misfit.left,
-        Err(NotRead::NoMemory) => return NotRead::NoMemory,
+        Err(misfit) => misfit.left,
     };
-    NotRead::Misfit(Misfit {
+    Misfit {
         kind,
         wanted: Wanted::ShorterData,
         left,
-    })
+    }
 }
 
 fn brace_wanted(kind: Kind) -> Wanted

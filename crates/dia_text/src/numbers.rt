@@ -4,7 +4,10 @@ ghost use Rattle.std.specs.List.{list_all};
 ghost use Rattle.std.specs.Char.{is_ascii_digit};
 ghost use Rattle.dia_text.specs.Numbers.{number_of, number_below};
 ghost use Rattle.dia_text.specs.Numbers.{complement, signed_below, hex_byte_of};
+ghost use Rattle.dia_text.specs.Numbers.{any_number, any_below, prefixed, hex_number, sixteen};
 
+use crate::words::after_letter;
+use byteorder::{BigEndian, ByteOrder};
 use hex::decode_to_slice;
 use std::str;
 
@@ -57,6 +60,66 @@ pub(crate) fn number32(word: &[u8]) -> Option<u32>
     Some(number as u32)
 }
 
+/// The number that a word writes, in decimal or in hexadecimal behind `0x`, if it is below the limit.
+pub(crate) fn any_below(limit: u64, word: &[u8]) -> Option<u64>
+    ensures value { result ≡ any_below limit word.now }
+    ensures small { IfSome result (λ n. n < limit) }
+{
+    let number = any_number(word)?;
+    if number < limit { Some(number) } else { None }
+}
+
+/// Such a number below 2^32.
+pub(crate) fn any_below32(word: &[u8]) -> Option<u32>
+    ensures { result ≡ any_below (2 ^ 32) word.now }
+{
+    let number = any_below(1 << 32, word)?;
+    Some(number as u32)
+}
+
+/// The number that a word writes, in decimal or in hexadecimal behind `0x`, if it is below 2^64.
+pub(crate) fn any_number(word: &[u8]) -> Option<u64>
+    ensures { result ≡ any_number word.now }
+{
+    match number_of(word) {
+        Some(number) => Some(number),
+        None => prefixed(word),
+    }
+}
+
+fn prefixed(word: &[u8]) -> Option<u64>
+    ensures { result ≡ prefixed word.now }
+{
+    let following = after_letter(b'0', word)?;
+    let digits = after_letter(b'x', following)?;
+    hex_number(digits)
+}
+
+/// The number that 1 to 16 hexadecimal digits write.
+fn hex_number(digits: &[u8]) -> Option<u64>
+    ensures { result ≡ hex_number digits.now }
+{
+    if digits.is_empty() || digits.len() > 16 {
+        return None;
+    }
+    let digits = sixteen(digits);
+    let mut bytes = [0u8; 8];
+    match decode_to_slice(digits.as_slice(), &mut bytes) {
+        Ok(()) => Some(BigEndian::read_u64(&bytes)),
+        Err(_) => None,
+    }
+}
+
+/// Sixteen digits, with zeros before fewer.
+fn sixteen(digits: &[u8]) -> [u8; 16]
+    requires { length digits.now ≤ 16 }
+    ensures { result ≡ sixteen digits.now }
+{
+    let mut all = [b'0'; 16];
+    all[16 - digits.len()..].copy_from_slice(digits);
+    all
+}
+
 /// The number that a word with or without `-` writes, in two's complement: `half` of all numbers stand for those below zero.
 pub(crate) fn signed_below(half: u64, word: &[u8]) -> Option<u64>
     requires some { 0 < half }
@@ -70,7 +133,7 @@ pub(crate) fn signed_below(half: u64, word: &[u8]) -> Option<u64>
             let number = number_below(half + 1, digits)?;
             Some(complement(half, number))
         }
-        _ => number_below(half, word),
+        _ => any_below(half, word),
     }
 }
 

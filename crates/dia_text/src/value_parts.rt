@@ -7,8 +7,8 @@ ghost use Rattle.dia_text.specs.Drafts.{IsAppended};
 ghost use Rattle.dia_text.specs.ValueParts.{part_bytes};
 
 use crate::fault::{Kind, Misread};
-use crate::fields::after_letter;
 use crate::numbers::{hex_byte_of, number_below};
+use crate::words::after_letter;
 use hex::decode_to_slice;
 
 /// What parts of a value write.

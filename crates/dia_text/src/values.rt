@@ -1,12 +1,15 @@
 //! The data that a value writes.
 ghost use Rattle.std.specs.Prelude.{◌≡◌, ◌==◌, ◌<◌, ◌^◌, ◌++◌, IfSome, Err, if◌then◌else◌, map, option_copied};
-ghost use Rattle.std.specs.Option.{option_map};
+ghost use Rattle.std.specs.Option.{option_map, option_or};
+ghost use Rattle.byteorder.specs.Endian.{big_bytes};
+ghost use Rattle.dia_terms.specs.Names.{same_bytes};
 ghost use Rattle.std.specs.List.{slice_split};
 ghost use Rattle.dia_data.specs.Plain.{plain_format};
 ghost use Rattle.dia_text.specs.declared.fault.Kind.TheVariants.{Value};
-ghost use Rattle.dia_text.specs.Words.{unblanked, first_word};
-ghost use Rattle.dia_text.specs.Numbers.{number_below};
-ghost use Rattle.dia_text.specs.Fields.{after_letter};
+ghost use Rattle.dia_text.specs.Words.{unblanked, first_word, after_letter};
+ghost use Rattle.dia_text.specs.Numbers.{number_below, any_below};
+ghost use Rattle.dia_text.specs.Dates.{time_of};
+ghost use Rattle.dia_text.specs.Values.{after_date, is_time, is_date_of};
 ghost use Rattle.dia_text.specs.Reading.{Gives, Reads, some_or, at_word};
 ghost use Rattle.dia_text.specs.Values.{value_at, words_at, text_at, family_at, value_of, formatted};
 ghost use Rattle.dia_text.specs.Values.{number_bytes, address_of, in_family, each, unescaped};
@@ -15,12 +18,13 @@ ghost use Rattle.dia_text.specs.Values.{format_wanted, kind_wanted, value_wanted
 ghost use Rattle.dia_text.specs.Values.{eight_read, formatted_as, four_read};
 ghost use Rattle.dia_text.specs.ValueParts.{part_bytes};
 
+use crate::dates::time_of;
 use crate::fault::{Kind, Misread, NotRead, Wanted};
-use crate::fields::{after_letter, bytes_at, bytes_of};
-use crate::numbers::{number_below, number_of, signed_below};
+use crate::fields::{bytes_at, bytes_of};
+use crate::numbers::{any_below, any_number, number_below, signed_below};
 use crate::splitting::{split, split_once};
 use crate::value_parts::{Part, push_parts};
-use crate::words::{next_word, without_blanks};
+use crate::words::{after_letter, next_word, without_blanks};
 use byteorder::{BigEndian, ByteOrder};
 use dia_data::{Format, FormatKind, Reading};
 use std::alloc::Global;
@@ -115,7 +119,7 @@ fn may_be_text(format: Option<&Format>) -> bool
 {
     match format {
         Some(format) => is_text(format.kind()),
-        None => false,
+        None => true,
     }
 }
 
@@ -233,9 +237,59 @@ fn formatted(alloc: Global, format: Option<&Format>, word: &[u8]) -> Result<Vec<
         (formatted (option_map (λ format. plain_format format.now) format.entry) word.now) }
 {
     match format {
+        Some(Format::Time) => four(alloc, time_number(word)),
         Some(format) => formatted_as(alloc, format.kind(), word),
         None => Err(Misread::Fault(Kind::Value)),
     }
+}
+
+/// The number of a Time, as a number or a date.
+fn time_number(word: &[u8]) -> Option<u64>
+    ensures value { result ≡ option_or (any_below (2 ^ 32) word.now) (time_of word.now) }
+    ensures small { IfSome result (λ n. n < 2 ^ 32) }
+{
+    match any_below(1 << 32, word) {
+        Some(number) => Some(number),
+        None => Some(u64::from(time_of(word)?)),
+    }
+}
+
+/// What follows the date of a Time behind its number, where there is one.
+pub(crate) fn after_date<'a>(format: Option<&Format>, bytes: &[u8], text: &'a [u8]) -> &'a [u8]
+    ensures { result.now ≡ after_date
+        (option_map (λ format. plain_format format.now) format.entry) bytes.now text.entry.now }
+{
+    let (word, following) = next_word(text);
+    if is_time(format) && is_date_of(bytes, word) {
+        following
+    } else {
+        text
+    }
+}
+
+fn is_time(format: Option<&Format>) -> bool
+    ensures { result ≡ is_time (option_map (λ format. plain_format format.now) format.entry) }
+{
+    matches!(format, Some(Format::Time))
+}
+
+/// Whether a word is the date of this data.
+fn is_date_of(bytes: &[u8], word: &[u8]) -> bool
+    ensures { result ≡ is_date_of bytes.now word.now }
+{
+    match time_of(word) {
+        Some(number) => is_number(number, bytes),
+        None => false,
+    }
+}
+
+/// Whether these are the four bytes of a number.
+fn is_number(number: u32, bytes: &[u8]) -> bool
+    ensures { result ≡ same_bytes (big_bytes 4 number) bytes.now }
+{
+    let mut four = [0; 4];
+    BigEndian::write_u32(&mut four, number);
+    four.as_slice() == bytes
 }
 
 fn formatted_as(alloc: Global, kind: FormatKind, word: &[u8]) -> Result<Vec<u8>, Misread>
@@ -260,7 +314,7 @@ fn four_read(alloc: Global, reading: Reading, word: &[u8]) -> Result<Vec<u8>, Mi
 {
     match reading {
         Reading::Signed => four(alloc, signed_below(1 << 31, word)),
-        Reading::Unsigned => four(alloc, number_below(1 << 32, word)),
+        Reading::Unsigned => four(alloc, any_below(1 << 32, word)),
         Reading::Bits => Err(Misread::Fault(Kind::Value)),
     }
 }
@@ -271,7 +325,7 @@ fn eight_read(alloc: Global, reading: Reading, word: &[u8]) -> Result<Vec<u8>, M
 {
     match reading {
         Reading::Signed => eight(alloc, signed_below(1 << 63, word)),
-        Reading::Unsigned => eight(alloc, number_of(word)),
+        Reading::Unsigned => eight(alloc, any_number(word)),
         Reading::Bits => Err(Misread::Fault(Kind::Value)),
     }
 }

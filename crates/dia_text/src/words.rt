@@ -1,10 +1,10 @@
 //! The words of a line.
-ghost use Rattle.std.specs.Prelude.{◌≡◌, ◌≤◌, length};
+ghost use Rattle.std.specs.Prelude.{◌≡◌, ◌≤◌, length, option_copied};
 ghost use Rattle.std.specs.List.{prefix_len};
 ghost use Rattle.dia_text.specs.Words.{is_blank, is_word_byte};
-ghost use Rattle.dia_text.specs.Words.{unblanked, first_word, after_word};
+ghost use Rattle.dia_text.specs.Words.{unblanked, first_word, after_word, after_letter};
 
-/// The first word, which is empty where there is none, and what follows it. Blanks separate words, and `#` begins a
+/// The first word, which is empty where there is none, and what follows it. Blanks separate words, and `#` or `;` begins a
 /// comment, up to the end of the line.
 pub(crate) fn next_word(text: &[u8]) -> (&[u8], &[u8])
     ensures word { result.0.now ≡ first_word text.entry.now }
@@ -58,5 +58,15 @@ fn is_blank(b: u8) -> bool
 fn is_word_byte(b: u8) -> bool
     ensures { result ≡ is_word_byte b }
 {
-    !(is_blank(b) || b == b'#')
+    !(is_blank(b) || b == b'#' || b == b';')
+}
+
+/// What follows a byte at the front.
+pub(crate) fn after_letter(letter: u8, word: &[u8]) -> Option<&[u8]>
+    ensures { option_copied result ≡ after_letter letter word.entry.now }
+{
+    match word {
+        [first, following @ ..] if *first == letter => Some(following),
+        _ => None,
+    }
 }

@@ -19,11 +19,11 @@ use Rattle.dia_text.specs.declared.keys.AvpCode.{AvpCode}
 use Rattle.dia_text.specs.declared.commands.Start.{Start}
 use Rattle.dia_text.specs.declared.line.Head.{Head}
 use Rattle.dia_text.specs.Words.{first_word, after_word}
-use Rattle.dia_text.specs.Numbers.{number_of, number_below, within}
+use Rattle.dia_text.specs.Numbers.{number_of, number_below, any_number, any_below, within}
 use Rattle.dia_text.specs.Reading.{◌>>=◌, some_or, at_word}
 use Rattle.dia_text.specs.Fields.{number_field, flags_field, length_field, padding_field}
 use Rattle.dia_text.specs.Keys.{is_no_slash, with_vendor, vendor_code, numbered, code_of_key, entry_named, code_of, default_flags, format_at, class_flags, p_flag, start_of, command_named, start_named}
-use Rattle.dia_text.specs.Values.{value_at}
+use Rattle.dia_text.specs.Values.{value_at, after_date}
 use Rattle.dia_text.specs.Lines.{avp_letters, header_letters, no_more, PlainLine, Blank, Leaf, Open, Close, head_at, leaf_at, open_at, close_at, avp_at, line_of, start_at, header_at, header_of}
 use Rattle.dia_valid_texts.specs.ValidTexts.{KeyFits, AppFits, NumbersFit}
 
@@ -67,6 +67,9 @@ below_fits limit (Some n) = within_fits limit n
 
 number_fits : (limit : ℕ) (word : List ℕ) → IfSome (number_below limit word) (λ n. n < limit)
 number_fits limit word = below_fits limit (number_of word)
+
+any_fits : (limit : ℕ) (word : List ℕ) → IfSome (any_below limit word) (λ n. n < limit)
+any_fits limit word = below_fits limit (any_number word)
 
 -- ---- AVPs
 
@@ -141,7 +144,7 @@ leaf_fits : (d : Dictionary) (head : Head) (text : List ℕ) → CodeFits head.c
 unfolding leaf_at
 leaf_fits d head text h =
     reads (λ _. ⊤) LineFits (value_at (format_at d head.code) text) _ (any (value_at (format_at d head.code) text))
-    (λ value u. reads (λ _. ⊤) LineFits (padding_field value.1) _ (any (padding_field value.1))
+    (λ value u. reads (λ _. ⊤) LineFits (padding_field (after_date (format_at d head.code) value.0 value.1)) _ (any (padding_field (after_date (format_at d head.code) value.0 value.1)))
     (λ pad v. reads (λ _. ⊤) LineFits (no_more pad.1) _ (any (no_more pad.1)) (λ e w. h)))
 
 open_fits : (head : Head) (text : List ℕ) → CodeFits head.code → IfOk (open_at head text) LineFits
@@ -180,11 +183,11 @@ field_fits : (keyword : List ℕ) (default : Option ℕ) (wanted : Wanted) (text
     → IfOk (number_field keyword default wanted text) (λ x. x.0 < 2 ^ 32)
 unfolding number_field
 field_fits keyword default wanted text h =
-    let number = some_or (number_below (2 ^ 32) (first_word (after_word text))) Value in
+    let number = some_or (any_below (2 ^ 32) (first_word (after_word text))) Value in
     if_ok (λ x. x.0 < 2 ^ 32) (same_bytes (first_word text) keyword) _ _
     (reads (λ n. n < 2 ^ 32) (λ x. x.0 < 2 ^ 32) (at_word (after_word text) want.Number number) _
     (at_fits (λ n. n < 2 ^ 32) (after_word text) want.Number number
-    (some_fits (λ n. n < 2 ^ 32) (number_below (2 ^ 32) (first_word (after_word text))) Value (number_fits (2 ^ 32) (first_word (after_word text))))) (λ n k. k))
+    (some_fits (λ n. n < 2 ^ 32) (any_below (2 ^ 32) (first_word (after_word text))) Value (any_fits (2 ^ 32) (first_word (after_word text))))) (λ n k. k))
     (reads (λ n. n < 2 ^ 32) (λ x. x.0 < 2 ^ 32) (at_word text wanted (some_or default Syntax)) _
     (at_fits (λ n. n < 2 ^ 32) text wanted (some_or default Syntax) (some_fits (λ n. n < 2 ^ 32) default Syntax h)) (λ n k. k))
 
@@ -213,11 +216,11 @@ name_fits d word fit =
 begins_fit : (d : Dictionary) (text : List ℕ) → NumbersFit d → IfOk (start_at d text) (λ x. StartFits x.0)
 unfolding start_at
 begins_fit d text fit =
-    let code = some_or (number_below (2 ^ 24) (first_word (after_word text))) Value in
+    let code = some_or (any_below (2 ^ 24) (first_word (after_word text))) Value in
     if_ok (λ x. StartFits x.0) (same_bytes (first_word text) (codes "code")) _ _
     (reads (λ n. n < 2 ^ 24) (λ x. StartFits x.0) (at_word (after_word text) want.CommandCode code) _
     (at_fits (λ n. n < 2 ^ 24) (after_word text) want.CommandCode code
-    (some_fits (λ n. n < 2 ^ 24) (number_below (2 ^ 24) (first_word (after_word text))) Value (number_fits (2 ^ 24) (first_word (after_word text))))) (λ n k. (k, tt)))
+    (some_fits (λ n. n < 2 ^ 24) (any_below (2 ^ 24) (first_word (after_word text))) Value (any_fits (2 ^ 24) (first_word (after_word text))))) (λ n k. (k, tt)))
     (reads StartFits (λ x. StartFits x.0) (at_word text want.CommandName (start_named d (first_word text))) _
     (at_fits StartFits text want.CommandName (start_named d (first_word text)) (name_fits d (first_word text) fit)) (λ s k. k))
 

@@ -40,6 +40,7 @@ $H\n264 xaAbBcC => 01000020 $B 00000108 4000000b aabbcc 00
 
 # Lengths and padding that are written wrong on purpose, so the message need not end at a multiple of four.
 $H\n264 length 12 x61 => 01000020 $B 00000108 4000000c 61 000000
+$H\n264 length 0xc x61 => 01000020 $B 00000108 4000000c 61 000000
 $H\n264 length 0 x61 => 01000020 $B 00000108 40000000 61 000000
 $H\n264 length 16777215 x61 => 01000020 $B 00000108 40ffffff 61 000000
 $H\n264 x61 pad x => 0100001d $B 00000108 40000009 61

@@ -28,4 +28,10 @@ Credit-Control-Request flags - app 0 hop 1 end 2 => 01000014 00 000110 00000000 
 \n # one\n\t\x20\n\t $H # two\r\n\r\n# three => 01000014 $B
 code\t272   flags\x20RP\tapp 4 hop 1 end 2\r\n => 01000014 $B
 Credit-Control-Request hop 1 end 2# a comment needs no blank => 01000014 $B
+; one\nCredit-Control-Request hop 1 end 2; a comment needs no blank => 01000014 $B
+
+# Hexadecimal numbers.
+code 0x110 flags RP app 0x4 hop 0xdeadbeef end 0x2 => 01000014 c0 000110 00000004 deadbeef 00000002
+code 0x1000000 flags R app 4 hop 1 end 2 => value at line 1
+code 1 flags R app 4 hop 0x100000000 end 2 => value at line 1
 ";

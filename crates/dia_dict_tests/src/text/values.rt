@@ -20,6 +20,48 @@ $H\nCC-Request-Number 1a => value at line 2
 $H\nEvent-Timestamp 2208988800 => $TIME 83aa7e80
 $H\nEvent-Timestamp 4294967296 => value at line 2
 
+# Hexadecimal numbers: `0x` and 1 to 16 digits of either case.
+$H\nCC-Request-Number 0x1a => $U32 0000001a
+$H\nCC-Request-Number 0x0000000000fFFF01 => $U32 00ffff01
+$H\nCC-Request-Number 0x00000000000000001 => value at line 2
+$H\nCC-Request-Number 0x100000000 => value at line 2
+$H\nCC-Request-Number 0x => value at line 2
+$H\nCC-Request-Number 0xg => value at line 2
+$H\nCC-Request-Number 0X1 => value at line 2
+$H\nCC-Request-Type 0x7fffffff => $ENUM 7fffffff
+$H\nCC-Request-Type 0x80000000 => value at line 2
+$H\nCC-Request-Type -0x1 => value at line 2
+$H\nCC-Total-Octets 0xffffffffffffffff => $U64 ffffffffffffffff
+
+# Dates of Times. 1 January 1970 comes 25,567 days after 1 January 1900, which are 2,208,988,800 seconds (83aa7e80). Of
+# 32 bits the first is set from 20 January 1968, 3:14:08 UTC, on; they begin again on 7 February 2036, 6:28:16 UTC, and end
+# on 26 February 2104, 9:42:23 UTC (RFC 6733 section 4.3.1).
+$H\nEvent-Timestamp 1970-01-01T00:00:00Z => $TIME 83aa7e80
+$H\nEvent-Timestamp 2208988800 1970-01-01T00:00:00Z => $TIME 83aa7e80
+$H\nEvent-Timestamp x83aa7e80 1970-01-01T00:00:00Z pad x00 => 01000021 $B 00000037 4000000c 83aa7e80 00
+$H\nEvent-Timestamp 1970-01-02T01:02:03Z => $TIME 83abde8b
+$H\nEvent-Timestamp 1968-01-20T03:14:08Z => $TIME 80000000
+$H\nEvent-Timestamp 2036-02-07T06:28:15Z => $TIME ffffffff
+$H\nEvent-Timestamp 2036-02-07T06:28:16Z => $TIME 00000000
+$H\nEvent-Timestamp 2104-02-26T09:42:23Z => $TIME 7fffffff
+# 2000 has 29 February: 36,583 days after 1 January 1900.
+$H\nEvent-Timestamp 2000-02-29T00:00:00Z => $TIME bc658a80
+$H\nEvent-Timestamp 2001-02-29T00:00:00Z => value at line 2
+$H\nEvent-Timestamp 2100-02-29T00:00:00Z => value at line 2
+$H\nEvent-Timestamp 2026-04-31T00:00:00Z => value at line 2
+$H\nEvent-Timestamp 2026-13-01T00:00:00Z => value at line 2
+$H\nEvent-Timestamp 2026-00-01T00:00:00Z => value at line 2
+$H\nEvent-Timestamp 2026-01-00T00:00:00Z => value at line 2
+$H\nEvent-Timestamp 2026-01-01T24:00:00Z => value at line 2
+$H\nEvent-Timestamp 2026-01-01T00:60:00Z => value at line 2
+$H\nEvent-Timestamp 2026-01-01T00:00:60Z => value at line 2
+$H\nEvent-Timestamp 1968-01-20T03:14:07Z => value at line 2
+$H\nEvent-Timestamp 2104-02-26T09:42:24Z => value at line 2
+$H\nEvent-Timestamp 2026-01-01 => value at line 2
+$H\nEvent-Timestamp 2208988801 1970-01-01T00:00:00Z => syntax at line 2
+$H\nCC-Request-Number 2208988800 1970-01-01T00:00:00Z => syntax at line 2
+$H\nCC-Request-Number 1970-01-01T00:00:00Z => value at line 2
+
 # The numbers of an Enumerated needn't be in its list. They are an Integer32 (RFC 6733 section 4.3.1).
 $H\nCC-Request-Type 9 => $ENUM 00000009
 $H\nCC-Request-Type -1 => $ENUM ffffffff
@@ -63,6 +105,8 @@ $H\nOrigin-Host \x22gw a\x22 => 01000020 $B 00000108 4000000c 67772061
 $H\nRedirect-Host flags - length 9 \x22a\x22 pad x010000 => 01000020 $B 00000124 00000009 61 01 0000
 $H\nFilter-Rule \x22permit\x22 => 01000024 $B 00000190 4000000e 7065726d6974 0000
 $H\nFramed-IP-Address \x22abcd\x22 => 01000020 $B 00000008 4000000c 61626364
+$H\n9999 \x22a\x22 => 01000020 $B 0000270f 00000009 61 000000
+$H\nSession-Id \x22a ; b\x22;c => 01000024 $B 00000107 4000000d 61203b20 62 000000
 $H\nSession-Id \x22a => value at line 2
 $H\nSession-Id \x22 => value at line 2
 $H\nSession-Id a\x22 => value at line 2
@@ -79,7 +123,6 @@ $H\nCC-Request-Number \x221\x22 => value at line 2
 $H\nHost-IP-Address \x2210.0.0.1\x22 => value at line 2
 $H\nRatio \x22abcd\x22 => value at line 2
 $H\nNest \x22\x22 => value at line 2
-$H\n9999 \x22a\x22 => value at line 2
 
 # Addresses, by RFC 6733 section 4.3.1 two bytes of family in front of them.
 $H\nHost-IP-Address 10.0.0.1 => $V4 0001 0a000001 0000

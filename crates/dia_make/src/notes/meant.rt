@@ -1,5 +1,6 @@
 //! What may be meant by a word that is at fault.
 
+use crate::notes::shown::is_shown;
 use dia_text::Wanted;
 use std::str;
 
@@ -23,24 +24,42 @@ pub enum Meant {
     Escaped,
     /// Digits, of which one has no second.
     Pairs,
+    /// A name or a value with `=` or `:` between them.
+    Sign,
+    /// A text in other quotes.
+    OtherQuotes,
+    /// A number in quotes.
+    Number,
+    /// A line that `show` prints.
+    Shown,
 }
 
-/// What may be meant by a word in the place of what is wanted. `front` is the text in front of its line.
-pub fn meant_of(wanted: Wanted, word: &[u8], front: &[u8]) -> Meant {
+/// What may be meant by a word in place of what is wanted. `line` has the word, and `before` is the text before the line.
+pub fn meant_of(wanted: Wanted, word: &[u8], line: &[u8], before: &[u8]) -> Meant {
     match wanted {
+        _ if is_shown(line) => Meant::Shown,
+        Wanted::CommandName | Wanted::AvpName | Wanted::Hop | Wanted::End | Wanted::AnyValue
+            if has_sign(word) => { Meant::Sign }
         Wanted::CommandName => Meant::Command,
-        Wanted::AvpName if front.ends_with(b"\n\r\n") => Meant::Returns,
+        Wanted::AvpName if before.ends_with(b"\n\r\n") => Meant::Returns,
         Wanted::AvpName => Meant::Avp,
-        Wanted::Text | Wanted::TextOrBytes => meant_text(wanted, word),
+        Wanted::Text | Wanted::TextOrBytes | Wanted::BytesOfUnknown => meant_text(wanted, word),
         Wanted::Unsigned32
         | Wanted::Signed32
         | Wanted::Unsigned64
         | Wanted::Signed64
         | Wanted::Group
         | Wanted::Address
-        | Wanted::Bytes
-        | Wanted::BytesOfUnknown
-            if is_uneven(word) => { Meant::Pairs }
+        | Wanted::Bytes => meant_number(word),
+        _ => Meant::Nothing,
+    }
+}
+
+fn meant_number(word: &[u8]) -> Meant {
+    match word {
+        [b'=' | b':', ..] => Meant::Sign,
+        [b'"' | b'\'', ..] => Meant::Number,
+        _ if is_uneven(word) => Meant::Pairs,
         _ => Meant::Nothing,
     }
 }
@@ -49,12 +68,21 @@ fn meant_text(wanted: Wanted, word: &[u8]) -> Meant {
     match word {
         _ if is_uneven(word) => Meant::Pairs,
         [b'x', ..] => Meant::Nothing,
+        [b'=' | b':', ..] => Meant::Sign,
         [b'"'] => Meant::Closed,
         [b'"', .., b'"'] => Meant::Escaped,
         [b'"', ..] => Meant::Closed,
-        _ if wanted == Wanted::TextOrBytes && is_dotted(word) => Meant::Address,
+        _ if after_other_quote(word).is_some() && in_other_quotes(word).is_none() => {
+            Meant::OtherQuotes
+        }
+        _ if wanted != Wanted::Text && is_dotted(word) => Meant::Address,
         _ => Meant::Text,
     }
+}
+
+/// Whether a word has `=` in it, or ends with `:`.
+fn has_sign(word: &[u8]) -> bool {
+    word.contains(&b'=') || word.ends_with(b":")
 }
 
 /// `x` and hexadecimal digits, of which one has no second.
@@ -74,6 +102,25 @@ fn is_dotted(word: &[u8]) -> bool {
         && word
             .split(|byte| *byte == b'.')
             .all(|part| byte_of(part).is_some())
+}
+
+/// The text of a word that is in quotes other than double ones.
+pub fn in_other_quotes(word: &[u8]) -> Option<&[u8]> {
+    match after_other_quote(word)? {
+        [text @ .., b'\'' | b'`'] => Some(text),
+        // The curly quotes of UTF-8.
+        [text @ .., 0xe2, 0x80, 0x98..=0x9f] => Some(text),
+        _ => None,
+    }
+}
+
+/// What follows an opening quote other than a double one.
+fn after_other_quote(word: &[u8]) -> Option<&[u8]> {
+    match word {
+        [b'\'' | b'`', text @ ..] => Some(text),
+        [0xe2, 0x80, 0x98..=0x9f, text @ ..] => Some(text),
+        _ => None,
+    }
 }
 
 /// The number of decimal digits, if it is below 256.

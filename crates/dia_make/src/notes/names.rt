@@ -46,7 +46,7 @@ impl<'a> NamesOf<'a> {
                     Some(command) if near.is_none() => note.put_all(&[
                         "hint: ",
                         command,
-                        " is a command, and an empty line stands between two messages\n",
+                        " is a command, and an empty line separates two messages\n",
                     ]),
                     _ => self.push_near(note, near),
                 }

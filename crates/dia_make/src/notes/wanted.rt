@@ -46,12 +46,12 @@ fn header_words(wanted: Wanted) -> &'static str {
             "`code`, or the name of a command of the dictionary that has a code"
         }
         Wanted::CommandCode => "a Command Code, at most 16777215",
-        Wanted::Flags => "`flags`, which have to be said behind `code`",
+        Wanted::Flags => "`flags`, which are required after `code`",
         Wanted::CommandFlags => {
             "a dash, two hexadecimal digits, or letters of R, P, E and T in this order"
         }
-        Wanted::App => "`app`, which has to be said behind `code`",
-        Wanted::Hop => "`hop`; in front of it only flags and app may stand",
+        Wanted::App => "`app`, which is required after `code`",
+        Wanted::Hop => "`hop`; before it only flags and app are allowed",
         Wanted::End => "`end`",
         Wanted::Number => "a number, at most 4294967295",
         _ => "the line of a header: `code` and a number, or the name of a command",
@@ -79,7 +79,7 @@ fn value_words(wanted: Wanted) -> &'static str {
             "a text in double quotes, or `x` and pairs of hexadecimal digits"
         }
         Wanted::BytesOfUnknown => {
-            "`x` and pairs of hexadecimal digits, as the dictionary doesn't know the AVP"
+            "a text in double quotes, or `x` and pairs of hexadecimal digits, as the dictionary doesn't know the AVP"
         }
         _ => "`x` and pairs of hexadecimal digits",
     }

@@ -22,7 +22,7 @@ fn quoted_length(following: &[u8]) -> usize {
 }
 
 fn is_of_word(byte: u8) -> bool {
-    !matches!(byte, b' ' | b'\t' | b'\r' | b'\n' | b'#')
+    !matches!(byte, b' ' | b'\t' | b'\r' | b'\n' | b'#' | b';')
 }
 
 /// The place behind the last word of the line that begins at a place: that of its comment, or of its end.

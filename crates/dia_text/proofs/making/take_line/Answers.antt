@@ -1,7 +1,4 @@
 use Rattle.std.proofs.lemmas.Result.{err_from_is_err_and}
-use Rattle.dia_text.specs.Made.{in_line}
-use Rattle.dia_text.specs.Lines.{plain_line}
-use Rattle.dia_text.specs.Drafts.{added}
 use Rattle.dia_text.proofs.LinesOfTexts.{bind_fails}
 use Rattle.dia_text.proofs.making.take_line.Goals as goal
 
