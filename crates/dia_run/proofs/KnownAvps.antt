@@ -1,14 +1,14 @@
 -- What a dictionary knows of an AVP, from what a book's look-ups answer.
-use Rattle.std.proofs.Common.{◌≡◌, ℕ, true, false, List, ◌++◌, Option, Some, None, Result, Ok, Err, if◌then◌else◌, codes, refl, sym, ap, ◌∙◌, append_assoc, arith, inl, inr}
+use Rattle.std.proofs.Common.{◌≡◌, ℕ, List, ◌++◌, Option, Some, None, Result, Ok, Err, if◌then◌else◌, codes, refl, sym, ap, subst, ◌∙◌, append_assoc, arith, inl, inr}
 use Rattle.std.specs.Prelude.{slice_get, IfSome, OnOk, is_ok, option_and_then}
 use Rattle.std.proofs.lemmas.Option.{slice_get_cases}
 use Rattle.std.specs.Fmt.{decimal}
 use Rattle.dia_wire.specs.declared.Key.{Key}
-use Rattle.dia_wire.specs.Wire.{PlainAvp, key_of}
+use Rattle.dia_wire.specs.Wire.{PlainAvp}
 use Rattle.dia_data.specs.declared.Format.{Format}
 use Rattle.dia_data.specs.declared.Format.TheVariants as format
-use Rattle.dia_data.specs.Plain.{PlainFormat, AnyBytes, plain_format, Grouped, OctetString}
-use Rattle.dia_data.specs.Shown.{AddsValueText}
+use Rattle.dia_data.specs.Plain.{PlainFormat, AnyBytes, plain_format, OctetString}
+use Rattle.dia_data.specs.Shown.{AddsValueText, IsValueText}
 use Rattle.dia_dict.specs.Dictionary.{Dictionary, DictEntry, entry_of}
 use Rattle.dia_dict.specs.Keys.{same_key}
 use Rattle.dia_check.specs.declared.Fault.{Fault}
@@ -19,70 +19,68 @@ use Rattle.dia_dict.proofs.Lists.{position-within}
 use Rattle.dia_run.specs.Texts.{line}
 use Rattle.dia_run.specs.Verdict.{known_name, subject_text, fault_line}
 use Rattle.dia_valid.specs.Valid.{known}
-use Rattle.dia_run.specs.Listing.{IsGroup, unknown, leaf, avp_columns, AddsAvp, AddsNameAndValue}
+use Rattle.dia_run.specs.Listing.{IsDataText, IsFormatText, IsPlainRow, avp_columns, avp_line, name_text, AddsNameAndValue}
+use Rattle.dia_run.specs.Rows.{PlainKnown, of_avp}
+use Rattle.dia_run.specs.Walk.{Adds}
 
-plain_format-Grouped : (f : Format) → plain_format f ≡ Grouped → f ≡ format.Grouped
-plain_format-Grouped format.Grouped h = refl
-plain_format-Grouped f h = cc
+-- ---- the line of an AVP
+
+-- data that is no group's is written as its format says
+pub leaf_text : (f : Format) (bytes value : List ℕ) → ¬ (f ≡ format.Grouped) → IsValueText (plain_format f) bytes value → IsFormatText (plain_format f) bytes value
+leaf_text format.Grouped bytes value h shown = absurd (h refl)
+leaf_text f bytes value h shown = shown
 
 -- a line is its columns, and then the name and the value
 joined : (old columns name value : List ℕ) → (old ++ columns) ++ line (name ++ codes " " ++ value) ≡ old ++ line (columns ++ name ++ codes " " ++ value)
 joined old columns name value = simp append_assoc
 
-group_joined : (old columns name : List ℕ) → ((old ++ columns) ++ name) ++ codes " group\n" ≡ old ++ line (columns ++ name ++ codes " " ++ codes "group")
-group_joined old columns name = simp append_assoc
+of_group_joined : (old columns name : List ℕ) → ((old ++ columns) ++ name) ++ codes " group\n" ≡ old ++ line (columns ++ name ++ codes " " ++ codes "group")
+of_group_joined old columns name = simp append_assoc
 
-pub unknown_added : (d : Dictionary) (place depth : ℕ) (v : PlainAvp) (old front new : List ℕ) → None ≡ entry_of d (key_of v) → front ≡ old ++ avp_columns place depth v
-    → AddsNameAndValue (codes "?") (AnyBytes OctetString) v.bytes front new
-    → AddsAvp d place depth v old new false
-unknown_added d place depth v old front new none is_front (value, shown, is_new) = (
-  codes "?",
-  value,
-  unknown (ap (λ (o : Option ℕ). option_and_then (slice_get d.entries) o) (sym none)) refl (shown.accepted tt),
-  is_new
-      ∙ ap (λ (f : List ℕ). f ++ line (codes "?" ++ codes " " ++ value)) is_front ∙ joined old (avp_columns place depth v) (codes "?") value,
-)
+pub line_joined : (old columns front name value new : List ℕ) → front ≡ old ++ columns → new ≡ front ++ line (name ++ codes " " ++ value)
+    → new ≡ old ++ line (columns ++ name ++ codes " " ++ value)
+line_joined old columns front name value new is_front is_new = is_new ∙ ap (λ (f : List ℕ). f ++ line (name ++ codes " " ++ value)) is_front ∙ joined old columns name value
 
-pub group_added : (d : Dictionary) (place depth : ℕ) (v : PlainAvp) (old front named new name : List ℕ) (e : DictEntry) → IsGroup d v e → front ≡ old ++ avp_columns place depth v
-    → named ≡ front ++ name → name ≡ e.name
-    → new ≡ named ++ codes " group\n" → AddsAvp d place depth v old new true
-group_added d place depth v old front named new name e is_group is_front is_named is_name is_new = (
-  e,
-  is_group,
-  is_new ∙ ap (λ (f : List ℕ). f ++ codes " group\n") (is_named ∙ ap (λ (f : List ℕ). f ++ name) is_front ∙ ap (λ (f : List ℕ). (old ++ avp_columns place depth v) ++ f) is_name)
-      ∙ group_joined old (avp_columns place depth v) e.name,
-)
+pub group_joined : (old columns front name named new : List ℕ) → front ≡ old ++ columns → named ≡ front ++ name → new ≡ named ++ codes " group\n"
+    → new ≡ old ++ line (columns ++ name ++ codes " " ++ codes "group")
+group_joined old columns front name named new is_front is_named is_new =
+    is_new ∙ ap (λ (t : List ℕ). t ++ codes " group\n") (is_named ∙ ap (λ (t : List ℕ). t ++ name) is_front) ∙ of_group_joined old columns name
 
--- an AVP that the book knows as no group has the name and the value that were added
-pub leaf_added : (d : Dictionary) (place depth : ℕ) (v : PlainAvp) (i : ℕ) (f : Format) (name old front new : List ℕ) → Some i ≡ entry_of d (key_of v)
-    → IfSome (slice_get d.entries i) (λ e. name ≡ e.name) → IfSome (slice_get d.entries i) (λ e. plain_format f ≡ e.format) → ¬ (f ≡ format.Grouped)
-    → front ≡ old ++ avp_columns place depth v → AddsNameAndValue name (plain_format f) v.bytes front new → AddsAvp d place depth v old new false
-leaf_added d place depth v i f name old front new is_i is_name is_format no_group is_front (value, shown, is_new) =
-    elim (slice_get_cases d.entries i).1 [
-      | inl (e, inside, is_e, here) ↦
-          let same : name ≡ e.name = rw is_e at is_name in
-          let format_is : plain_format f ≡ e.format = rw is_e at is_format in
-          let is_known : known d (key_of v) ≡ Some e = ap (λ (o : Option ℕ). option_and_then (slice_get d.entries) o) (sym is_i) ∙ is_e in (
-            name,
-            value,
-            leaf e is_known (λ g. no_group (plain_format-Grouped f (format_is ∙ g))) same (rw (← format_is) shown),
-            is_new ∙ ap (λ (t : List ℕ). t ++ line (name ++ codes " " ++ value)) is_front ∙ joined old (avp_columns place depth v) name value,
-          )
-      | inr (past, none) ↦ absurd (omega (arith, past, position-within (λ (e : DictEntry). same_key (key_of v) e.key) d.entries i (sym is_i)))
-    ]
+module _ (place depth : ℕ) (v : PlainAvp) (old front new : List ℕ) (is_front : front ≡ old ++ avp_columns place depth v) where
+  -- the line with the name and the value that were added
+  line_added : (known : Option PlainKnown) (value : List ℕ) → IsDataText known v.bytes value → new ≡ front ++ line (name_text known ++ codes " " ++ value)
+      → Adds (IsPlainRow (of_avp place depth v known)) old new
+  line_added known value is_value is_new = (
+    avp_line place depth v (name_text known) value,
+    (value, is_value, refl),
+    line_joined old (avp_columns place depth v) front (name_text known) value new is_front is_new,
+  )
 
--- the entry of an AVP that the book knows as Grouped
-pub group_known : (d : Dictionary) (v : PlainAvp) (i : ℕ) (f : Format) (name : List ℕ) → Some i ≡ entry_of d (key_of v) → IfSome (slice_get d.entries i) (λ e. name ≡ e.name)
-    → IfSome (slice_get d.entries i) (λ e. plain_format f ≡ e.format) → f ≡ format.Grouped → (e : DictEntry) × IsGroup d v e × (name ≡ e.name)
-group_known d v i f name is_i is_name is_format is_group =
-    elim (slice_get_cases d.entries i).1 [
-      | inl (e, inside, is_e, here) ↦
-          let same : name ≡ e.name = rw is_e at is_name in
-          let format_is : plain_format f ≡ e.format = rw is_e at is_format in
-          let is_known : known d (key_of v) ≡ Some e = ap (λ (o : Option ℕ). option_and_then (slice_get d.entries) o) (sym is_i) ∙ is_e in
-          (e, (is_known, sym format_is ∙ ap plain_format is_group), same)
-      | inr (past, none) ↦ absurd (omega (arith, past, position-within (λ (e : DictEntry). same_key (key_of v) e.key) d.entries i (sym is_i)))
-    ]
+  pub unknown_added : {X E : Type 0} (r : Result X E) → OnOk r (AddsNameAndValue (codes "?") (AnyBytes OctetString) v.bytes front new)
+      → OnOk r (Adds (IsPlainRow (of_avp place depth v None)) old new)
+  unknown_added (Ok x) (value, shown, is_new) = line_added None value (shown.accepted tt) is_new
+  unknown_added (Err e) added = tt
+
+  pub leaf_added : {X E : Type 0} (r : Result X E) (name : List ℕ) (f : Format) → ¬ (f ≡ format.Grouped) → OnOk r (AddsNameAndValue name (plain_format f) v.bytes front new)
+      → OnOk r (Adds (IsPlainRow (of_avp place depth v (Some (record { name = name; format = plain_format f })))) old new)
+  leaf_added (Ok x) name f no_group (value, shown, is_new) =
+      line_added (Some (record { name = name; format = plain_format f })) value (leaf_text f v.bytes value no_group shown) is_new
+  leaf_added (Err e) name f no_group added = tt
+
+  pub group_added : {X E : Type 0} (r : Result X E) (name named : List ℕ) (f : Format) → f ≡ format.Grouped → named ≡ front ++ name
+      → new ≡ (if is_ok r then named ++ codes " group\n" else named)
+      → OnOk r (Adds (IsPlainRow (of_avp place depth v (Some (record { name = name; format = plain_format f })))) old new)
+  group_added (Ok x) name named f is_group is_named is_new = (
+    avp_line place depth v name (codes "group"),
+    (codes "group", subst (λ (g : Format). IsFormatText (plain_format g) v.bytes (codes "group")) (sym is_group) refl, refl),
+    group_joined old (avp_columns place depth v) front name named new is_front is_named is_new,
+  )
+  group_added (Err e) name named f is_group is_named is_new = tt
+
+-- a row that is one text
+pub adds_on_ok : {X E : Type 0} (r : Result X E) (P : List ℕ → Type 0) (old new text : List ℕ) → P text → OnOk r (new ≡ old ++ text) → OnOk r (Adds P old new)
+adds_on_ok (Ok x) P old new text h is = (text, h, is)
+adds_on_ok (Err e) P old new text h is = tt
 
 value_joined : (old name blank value end : List ℕ) → (((old ++ name) ++ blank) ++ value) ++ end ≡ old ++ ((name ++ blank ++ value) ++ end)
 value_joined old name blank value end = simp append_assoc

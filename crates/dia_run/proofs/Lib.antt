@@ -1,7 +1,8 @@
 pub mod OutcomeParts
 pub mod KnownAvps
-pub mod LinesOfLevels
-pub mod OneListing
+pub mod RowsOfLevels
+pub mod OneWalk
+pub mod OneMessage
 pub mod OneInput
 pub mod OnePairOutcome
 pub mod OneOutcome

@@ -1,5 +1,5 @@
 -- Two verdicts on a message, and whether it is refuted.
-use Rattle.std.proofs.Common.{◌≡◌, Result, Ok, Err, refl, sym, ◌∙◌}
+use Rattle.std.proofs.Common.{Result, Ok, Err, refl}
 use Rattle.std.specs.Prelude.{◌↔◌, IsErr, IsOk}
 use Rattle.std.proofs.lemmas.Bool.{false≢true}
 

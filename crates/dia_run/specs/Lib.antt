@@ -1,4 +1,6 @@
 pub mod Texts
+pub mod Rows
+pub mod Walk
 pub mod Listing
 pub mod Verdict
 pub mod Pairs

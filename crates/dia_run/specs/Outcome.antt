@@ -1,10 +1,10 @@
 -- What the program writes for its inputs, and how it ends.
 use Rattle.std.specs.Prelude.{◌≡◌, ◌≢◌, ℕ, ◌<◌, ◌≤◌, Bool, true, false, List, ◌++◌, length, take, drop, slice_index, map, codes}
 use Rattle.std.specs.Prelude.{string_bytes, Result, Ok, Err}
+use Rattle.std.specs.List.{concat}
 use Rattle.dia_dict.specs.Dictionary.{Dictionary}
-use Rattle.dia_wire.specs.declared.Header.{Header}
 use Rattle.dia_wire.specs.Number.{number}
-use Rattle.dia_wire.specs.Wire.{BeginsMessage, IsHead, IsMessageLength}
+use Rattle.dia_wire.specs.Wire.{BeginsMessage, IsMessageLength}
 use Rattle.dia_ccf.specs.Plain.{PlainSource}
 use Rattle.dia_ccf.specs.CanonicalText.{canonical}
 use Rattle.dia_check.specs.declared.Unknown.{Unknown}
@@ -31,30 +31,34 @@ use Rattle.dia_run.specs.Texts.{line, IsSourceText, IsNoSourceText, IsDictionary
 use Rattle.dia_run.specs.Texts.{IsMessageText, IsNoMessageText}
 use Rattle.dia_run.specs.Verdict.{IsVerdict}
 use Rattle.dia_run.specs.Pairs.{IsTableText, IsNoTableText, IsAnswerText}
-use Rattle.dia_run.specs.Listing.{header_line, IsListing}
+use Rattle.dia_run.specs.Listing.{IsPlainRow}
+use Rattle.dia_run.specs.Rows.{AreMessageRows, AreWritten, Row}
 
 -- an input is refused in one line
 abbrev pub Refuses : List ℕ → List ℕ → Exit → Type 0
 Refuses recorded text exit = (text ≡ line recorded) × (exit ≡ Bad)
 
--- a bad length ends a listing with No
+-- a bad length ends the rows with No
 abbrev pub listing_exit : Bool → Exit
 listing_exit true = No
 listing_exit false = Yes
 
--- `show` of a message: its lines, or why it is none that can be shown
-pub data IsMessageShown (d : Dictionary) (bytes text : List ℕ) (exit : Exit) : Type 0 where
-  listing : (h : Header) (lines : List ℕ) (bad : Bool) → IsHead h (length bytes) (take 20 bytes) → IsMessageLength (length bytes)
-      → IsListing d (record { depth = 0; place = 20; bytes = drop 20 bytes }) lines bad
-      → text ≡ header_line h (length bytes) ++ lines → exit ≡ listing_exit bad → IsMessageShown d bytes text exit
-  short : length bytes < 20 → Refuses (codes "message: short") text exit → IsMessageShown d bytes text exit
-  version : 20 ≤ length bytes → slice_index bytes 0 ≢ 1 → Refuses (codes "message: version") text exit → IsMessageShown d bytes text exit
+-- a message whose rows are written as P says; or why it is none that can be shown
+pub data IsWritten (P : Row → List ℕ → Type 0) (d : Dictionary) (bytes text : List ℕ) (exit : Exit) : Type 0 where
+  listing : (rows : List Row) (texts : List (List ℕ)) (bad : Bool) → AreMessageRows d bytes rows bad → AreWritten P rows texts
+      → text ≡ concat texts → exit ≡ listing_exit bad → IsWritten P d bytes text exit
+  short : length bytes < 20 → Refuses (codes "message: short") text exit → IsWritten P d bytes text exit
+  version : 20 ≤ length bytes → slice_index bytes 0 ≢ 1 → Refuses (codes "message: version") text exit → IsWritten P d bytes text exit
   bad_length : 20 ≤ length bytes → slice_index bytes 0 ≡ 1 → ¬ IsMessageLength (number (take 3 (drop 1 bytes)))
-      → Refuses (codes "message: length") text exit → IsMessageShown d bytes text exit
+      → Refuses (codes "message: length") text exit → IsWritten P d bytes text exit
   truncated : (len : ℕ) → BeginsMessage bytes len → length bytes < len → Refuses (codes "message: truncated") text exit
-      → IsMessageShown d bytes text exit
+      → IsWritten P d bytes text exit
   trailing : (len : ℕ) → BeginsMessage bytes len → len < length bytes → Refuses (codes "message: trailing") text exit
-      → IsMessageShown d bytes text exit
+      → IsWritten P d bytes text exit
+
+-- `show` of a message
+abbrev pub IsMessageShown : Dictionary → List ℕ → List ℕ → Exit → Type 0
+IsMessageShown d bytes text exit = IsWritten IsPlainRow d bytes text exit
 
 -- a command of a dictionary and a message, where P says how it ends for them: the dictionary is judged first
 pub data IsMessageOutcome (P : Dictionary → List ℕ → List ℕ → Exit → Type 0) (inputs : Inputs) (text : List ℕ)

@@ -1,5 +1,5 @@
 -- What the texts of the inputs say, and what is told of one that says nothing.
-use Rattle.std.specs.Prelude.{◌≡◌, ◌≢◌, ℕ, ◌⊎◌, not, List, [], ◌∷◌, ◌++◌, filter, None, Some, Ok, codes, IsOk}
+use Rattle.std.specs.Prelude.{◌≡◌, ◌≢◌, ℕ, ◌⊎◌, List, [], ◌∷◌, ◌++◌, None, Some, Ok, codes, IsOk}
 use Rattle.std.specs.Str.{IsUtf8}
 use Rattle.std.specs.Str.Lossy.{utf8_valid_len}
 pub use Rattle.dia_terms.specs.Texts.{digits_of}
@@ -10,7 +10,7 @@ use Rattle.dia_ccf.specs.declared.Refused.{Refused as NoText}
 use Rattle.dia_ccf.specs.declared.Refused.TheVariants as unread
 use Rattle.dia_ccf.specs.Limits.{max_text}
 use Rattle.dia_ccf.specs.Plain.{PlainSource}
-use Rattle.dia_ccf.specs.Tokens.{tokens, is_white}
+use Rattle.dia_ccf.specs.Tokens.{tokens}
 use Rattle.dia_ccf.specs.Grammar.{Derives}
 use Rattle.dia_ccf.specs.Faults.{IsFault}
 use Rattle.dia_dict.specs.Dictionary.{Dictionary, IsDictionary}

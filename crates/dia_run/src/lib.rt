@@ -19,11 +19,13 @@
 
 mod commands;
 mod inputs;
+mod row_writer;
 mod running;
+mod walk;
 
 pub use commands::check::{push_subject, verdict};
 pub use commands::compare::{recorded_answer, test_word};
-pub use commands::show::{listing_exit, push_vendor, show_message};
+pub use commands::show::{PlainRows, push_number, push_vendor, show_message};
 pub use commands::{Outcome, answer_of, outcome_of, recorded};
 pub use dia_io::{
     Command, Exit, Failed, Feed, FromReader, Input, InputFault, Inputs, RunFault, Sink, ToWriter,
@@ -33,4 +35,6 @@ pub use dia_policy::MAX_MESSAGE_TEXT;
 pub use inputs::dictionary::read_dictionary;
 pub use inputs::message::read_message;
 pub use inputs::table::read_table;
+pub use row_writer::{Known, RowWriter};
 pub use running::{answer, run, run_reporting};
+pub use walk::write_message;

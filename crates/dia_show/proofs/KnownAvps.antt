@@ -1,73 +1,58 @@
 -- The line of an AVP, from what a book's look-ups answer.
-use Rattle.std.proofs.Common.{◌≡◌, ℕ, Bool, true, false, List, [], ◌++◌, length, Option, Some, None, codes, refl, sym, ap, subst, ◌∙◌, append_assoc, arith, inl, inr}
-use Rattle.std.specs.Prelude.{slice_get, IfSome, option_and_then}
-use Rattle.std.proofs.lemmas.Option.{slice_get_cases}
-use Rattle.dia_wire.specs.Wire.{PlainAvp, key_of}
+use Rattle.std.proofs.Common.{◌≡◌, ℕ, Bool, true, false, List, [], ◌++◌, length, Option, Some, None, Result, Ok, Err, if◌then◌else◌, codes, refl, sym, ap, subst, ◌∙◌, append_assoc}
+use Rattle.std.specs.Prelude.{OnOk, is_ok}
+use Rattle.dia_wire.specs.Wire.{PlainAvp}
 use Rattle.dia_data.specs.declared.Format.{Format}
 use Rattle.dia_data.specs.declared.Format.TheVariants as format
 use Rattle.std.proofs.lemmas.Bool.{eqb-true}
 use Rattle.dia_data.specs.Number.{number}
-use Rattle.dia_data.specs.Plain.{PlainFormat, AnyBytes, FourBytes, plain_format, Grouped, OctetString, Time}
-use Rattle.dia_dict.specs.Dictionary.{Dictionary, DictEntry, entry_of}
-use Rattle.dia_dict.specs.Keys.{same_key}
-use Rattle.dia_dict.proofs.Lists.{position-within}
+use Rattle.dia_data.specs.Plain.{PlainFormat, AnyBytes, FourBytes, plain_format, OctetString, Time}
 use Rattle.dia_run.specs.Texts.{line}
 use Rattle.dia_valid.specs.Valid.{known}
-use Rattle.dia_run.specs.Listing.{IsGroup}
+use Rattle.dia_run.specs.Listing.{name_text}
+use Rattle.dia_run.specs.Rows.{PlainKnown, of_avp}
+use Rattle.dia_run.specs.Walk.{Adds}
+use Rattle.dia_run.proofs.KnownAvps.{group_joined, line_joined}
 use Rattle.dia_data.specs.Shown.{IsValueText}
 use Rattle.dia_show.specs.Dates.{AddsTime, IsTimeText}
 use Rattle.dia_show.specs.Words.{word_of}
-use Rattle.dia_show.specs.Listing.{Manner, IsDateOf, unknown, leaf, date, dated, columns, has_date, recorded_format, word_note, AddsAvp, AddsDateNote, AddsNameAndRecorded, AddsRecorded}
+use Rattle.dia_show.specs.Listing.{Manner, IsDataRecorded, IsDateOf, IsFormatRecorded, IsNamedRow, IsRecorded, date, dated, columns, has_date, line_of, recorded_format, word_note, AddsDateNote, AddsNameAndRecorded, AddsRecorded}
 
-plain_format-Grouped : (f : Format) → plain_format f ≡ Grouped → f ≡ format.Grouped
-plain_format-Grouped format.Grouped h = refl
-plain_format-Grouped f h = cc
+-- data that is no group's is written as its format says
+leaf_recorded : (m : Manner) (name : List ℕ) (f : Format) (bytes recorded : List ℕ) → ¬ (f ≡ format.Grouped) → IsRecorded m name (plain_format f) bytes recorded → IsFormatRecorded m name (plain_format f) bytes recorded
+leaf_recorded m name format.Grouped bytes recorded h is = absurd (h refl)
+leaf_recorded m name f bytes recorded h is = is
 
--- a line is its columns, and then the name and the value
-joined : (old front name value : List ℕ) → (old ++ front) ++ line (name ++ codes " " ++ value) ≡ old ++ line (front ++ name ++ codes " " ++ value)
-joined old front name value = simp append_assoc
+module _ (m : Manner) (place depth : ℕ) (v : PlainAvp) (old front new : List ℕ) (is_front : front ≡ old ++ columns m.names place depth v) where
+  -- the line with the name and the data that were added
+  line_added : (known : Option PlainKnown) (recorded : List ℕ) → IsDataRecorded m known v.bytes recorded → new ≡ front ++ line (name_text known ++ codes " " ++ recorded)
+      → Adds (IsNamedRow m (of_avp place depth v known)) old new
+  line_added known recorded is_recorded is_new = (
+    line_of m.names place depth v (name_text known) recorded,
+    (recorded, is_recorded, refl),
+    line_joined old (columns m.names place depth v) front (name_text known) recorded new is_front is_new,
+  )
 
-group_joined : (old front name : List ℕ) → ((old ++ front) ++ name) ++ codes " group\n" ≡ old ++ line (front ++ name ++ codes " " ++ codes "group")
-group_joined old front name = simp append_assoc
+  pub unknown_added : {X E : Type 0} (r : Result X E) → OnOk r (AddsNameAndRecorded m (codes "?") (AnyBytes OctetString) v.bytes front new)
+      → OnOk r (Adds (IsNamedRow m (of_avp place depth v None)) old new)
+  unknown_added (Ok x) (recorded, is_recorded, is_new) = line_added None recorded is_recorded is_new
+  unknown_added (Err e) added = tt
 
-pub unknown_added : (m : Manner) (d : Dictionary) (place depth : ℕ) (v : PlainAvp) (old front new : List ℕ) → None ≡ entry_of d (key_of v) → front ≡ old ++ columns m.names place depth v
-    → AddsNameAndRecorded m (codes "?") (AnyBytes OctetString) v.bytes front new
-    → AddsAvp m d place depth v old new false
-unknown_added m d place depth v old front new none is_front (value, shown, is_new) = (
-  codes "?",
-  value,
-  unknown (ap (λ (o : Option ℕ). option_and_then (slice_get d.entries) o) (sym none)) refl shown,
-  is_new
-      ∙ ap (λ (f : List ℕ). f ++ line (codes "?" ++ codes " " ++ value)) is_front ∙ joined old (columns m.names place depth v) (codes "?") value,
-)
+  pub leaf_added : {X E : Type 0} (r : Result X E) (name : List ℕ) (f : Format) → ¬ (f ≡ format.Grouped) → OnOk r (AddsNameAndRecorded m name (plain_format f) v.bytes front new)
+      → OnOk r (Adds (IsNamedRow m (of_avp place depth v (Some (record { name = name; format = plain_format f })))) old new)
+  leaf_added (Ok x) name f no_group (recorded, is_recorded, is_new) =
+      line_added (Some (record { name = name; format = plain_format f })) recorded (leaf_recorded m name f v.bytes recorded no_group is_recorded) is_new
+  leaf_added (Err e) name f no_group added = tt
 
-pub group_added : (m : Manner) (d : Dictionary) (place depth : ℕ) (v : PlainAvp) (old front named new name : List ℕ) (e : DictEntry) → IsGroup d v e → front ≡ old ++ columns m.names place depth v
-    → named ≡ front ++ name → name ≡ e.name
-    → new ≡ named ++ codes " group\n" → AddsAvp m d place depth v old new true
-group_added m d place depth v old front named new name e is_group is_front is_named is_name is_new = (
-  e,
-  is_group,
-  is_new ∙ ap (λ (f : List ℕ). f ++ codes " group\n") (is_named ∙ ap (λ (f : List ℕ). f ++ name) is_front ∙ ap (λ (f : List ℕ). (old ++ columns m.names place depth v) ++ f) is_name)
-      ∙ group_joined old (columns m.names place depth v) e.name,
-)
-
--- an AVP that the book knows as no group has the name and the value that were added
-pub leaf_added : (m : Manner) (d : Dictionary) (place depth : ℕ) (v : PlainAvp) (i : ℕ) (f : Format) (name old front new : List ℕ) → Some i ≡ entry_of d (key_of v)
-    → IfSome (slice_get d.entries i) (λ e. name ≡ e.name) → IfSome (slice_get d.entries i) (λ e. plain_format f ≡ e.format) → ¬ (f ≡ format.Grouped)
-    → front ≡ old ++ columns m.names place depth v → AddsNameAndRecorded m name (plain_format f) v.bytes front new → AddsAvp m d place depth v old new false
-leaf_added m d place depth v i f name old front new is_i is_name is_format no_group is_front (value, shown, is_new) =
-    elim (slice_get_cases d.entries i).1 [
-      | inl (e, inside, is_e, here) ↦
-          let same : name ≡ e.name = rw is_e at is_name in
-          let format_is : plain_format f ≡ e.format = rw is_e at is_format in
-          let is_known : known d (key_of v) ≡ Some e = ap (λ (o : Option ℕ). option_and_then (slice_get d.entries) o) (sym is_i) ∙ is_e in (
-            name,
-            value,
-            leaf e is_known (λ g. no_group (plain_format-Grouped f (format_is ∙ g))) same (rw (← same, ← format_is) shown),
-            is_new ∙ ap (λ (t : List ℕ). t ++ line (name ++ codes " " ++ value)) is_front ∙ joined old (columns m.names place depth v) name value,
-          )
-      | inr (past, none) ↦ absurd (omega (arith, past, position-within (λ (e : DictEntry). same_key (key_of v) e.key) d.entries i (sym is_i)))
-    ]
+  pub group_added : {X E : Type 0} (r : Result X E) (name named : List ℕ) (f : Format) → f ≡ format.Grouped → named ≡ front ++ name
+      → new ≡ (if is_ok r then named ++ codes " group\n" else named)
+      → OnOk r (Adds (IsNamedRow m (of_avp place depth v (Some (record { name = name; format = plain_format f })))) old new)
+  group_added (Ok x) name named f is_group is_named is_new = (
+    line_of m.names place depth v name (codes "group"),
+    (codes "group", subst (λ (g : Format). IsFormatRecorded m name (plain_format g) v.bytes (codes "group")) (sym is_group) refl, refl),
+    group_joined old (columns m.names place depth v) front name named new is_front is_named is_new,
+  )
+  group_added (Err e) name named f is_group is_named is_new = tt
 
 recorded_joined : (old name blank recorded end : List ℕ) → (((old ++ name) ++ blank) ++ recorded) ++ end ≡ old ++ ((name ++ blank ++ recorded) ++ end)
 recorded_joined old name blank recorded end = simp append_assoc

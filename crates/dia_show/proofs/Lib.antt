@@ -2,7 +2,6 @@ pub mod WordLists
 pub mod Calendar
 pub mod DateTexts
 pub mod KnownAvps
-pub mod LinesOfLevels
 pub mod Outcomes
 pub mod Plain
 pub mod ShownLines

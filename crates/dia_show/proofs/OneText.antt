@@ -1,13 +1,9 @@
 -- For its inputs `show` writes one text, and so it does for a text of lines.
-use Rattle.std.proofs.Common.{◌≡◌, ℕ, ◌<◌, Bool, true, false, List, [], ◌++◌, length, take, drop, refl, sym, ap, subst, ◌∙◌, arith, inl, inr}
+use Rattle.std.proofs.Common.{◌≡◌, ℕ, ◌<◌, Bool, List, [], length, refl, sym, ap, subst, ◌∙◌, arith, inl, inr}
 use Rattle.std.specs.Prelude.{◌⊎◌, if◌then◌else◌}
 use Rattle.std.specs.Str.{IsUtf8}
 use Rattle.std.proofs.lemmas.Option.{same_Some}
-use Rattle.dia_wire.specs.declared.Header.{Header}
-use Rattle.dia_wire.specs.Wire.{IsHead, IsMessageLength}
-use Rattle.dia_wire.proofs.OneHeader.{one_header, head_says}
 use Rattle.dia_dict.specs.Dictionary.{Dictionary}
-use Rattle.dia_io.specs.declared.Command.TheVariants as command
 use Rattle.dia_io.specs.declared.Exit.{Exit}
 use Rattle.dia_io.specs.declared.Exit.TheVariants as exits
 use Rattle.dia_io.specs.declared.Input.{Input}
@@ -18,48 +14,19 @@ use Rattle.dia_lines.specs.Lines.{IsLineInput, LineHasOneAnswer, recorded_lines}
 use Rattle.dia_lines.proofs.OneAnswer.{text_once}
 use Rattle.dia_policy.specs.Limits.{max_message_text}
 use Rattle.dia_report.specs.Refusals.{dictionary_line}
-use Rattle.dia_run.specs.Outcome.{IsMessageShown, listing_exit}
-use Rattle.dia_run.specs.Outcome as run
-use Rattle.dia_run.specs.Texts.{IsDictionaryText, IsMessageText, IsNoMessageText, too_long, not_hexadecimal}
+use Rattle.dia_run.specs.Texts.{IsMessageText, IsNoMessageText, too_long, not_hexadecimal}
 use Rattle.dia_run.proofs.OneInput.{Same, refused_once, one_dictionary, dictionary_or_not, one_reason_for_dictionary, one_message, message_or_not, one_message_reason, held_once, not_over}
-use Rattle.dia_run.proofs.OneOutcome.{one_outcome}
+use Rattle.dia_run.proofs.OneMessage.{written_once}
 use Rattle.dia_show.specs.declared.reading.BadValues.{BadValues}
 use Rattle.dia_show.specs.declared.reading.BadValues.TheVariants as bads
 use Rattle.dia_show.specs.declared.words.ValuesFault.{ValuesFault}
 use Rattle.dia_show.specs.declared.words.ValuesFault.TheVariants as fault
 use Rattle.dia_show.specs.Lines.{Answer, IsLinesOutcome, OfLine, RefusesInputs, each_whole, numbered, refused as refused_input, shown as all_shown}
-use Rattle.dia_show.specs.Listing.{Manner, header_of}
-use Rattle.dia_show.specs.Outcome.{IsNamedOutcome, IsShown, listing, refused, shown, no_dictionary, no_values, no_message}
+use Rattle.dia_show.specs.Listing.{IsNamedRow}
+use Rattle.dia_show.specs.Outcome.{IsNamedOutcome, IsShown, shown, no_dictionary, no_values, no_message}
 use Rattle.dia_show.specs.Words.{HasFault, IsNoValuesText, IsValuesText, Word, max_values, values_fault, values_line, words_of}
-use Rattle.dia_show.proofs.OneShown.{one_listing}
+use Rattle.dia_show.proofs.OneShown.{one_row}
 use Rattle.dia_show.proofs.ShownLines.{values_or_not}
-
--- ---- a message
-
--- what has a header of its length isn't refused
-no_refusal : (d : Dictionary) (bytes t : List ℕ) (x : Exit) (h : Header) → IsHead h (length bytes) (take 20 bytes) → IsMessageLength (length bytes) → IsMessageShown d bytes t x → x ≡ exits.Bad → ⊥
-no_refusal d bytes t x h is_head is_length (run.listing k lines true is_head' is_length' lists is_t is_x) bad = let never : exits.No ≡ exits.Bad = sym is_x ∙ bad in cc
-no_refusal d bytes t x h is_head is_length (run.listing k lines false is_head' is_length' lists is_t is_x) bad = let never : exits.Yes ≡ exits.Bad = sym is_x ∙ bad in cc
-no_refusal d bytes t x h is_head is_length (run.short is_short refuses) bad = omega (arith, is_short, (head_says h (length bytes) bytes is_head).0)
-no_refusal d bytes t x h is_head is_length (run.version long other refuses) bad = other (head_says h (length bytes) bytes is_head).1
-no_refusal d bytes t x h is_head is_length (run.bad_length long is_one wrong refuses) bad = wrong (subst IsMessageLength (sym (head_says h (length bytes) bytes is_head).2) is_length)
-no_refusal d bytes t x h is_head is_length (run.truncated len (k, is_head', is_length') less refuses) bad =
-    omega (arith, less, (one_header h k (length bytes) len (take 20 bytes) is_head is_head').1)
-no_refusal d bytes t x h is_head is_length (run.trailing len (k, is_head', is_length') more refuses) bad =
-    omega (arith, more, (one_header h k (length bytes) len (take 20 bytes) is_head is_head').1)
-
-module _ (inputs : Inputs) (m : Manner) (d : Dictionary) (bytes : List ℕ) (is_d : IsDictionaryText inputs.first d) (is_message : IsMessageText inputs.message bytes) where
-  one_shown : (t u : List ℕ) (x y : Exit) → IsShown m d bytes t x → IsShown m d bytes u y → Same t u x y
-  one_shown t u x y (listing h lines bad is_head is_length lists is_t is_x) (listing k others bad' is_head' is_length' lists' is_u is_y) =
-      let same = (one_header h k (length bytes) (length bytes) (take 20 bytes) is_head is_head').0 in
-      let all = one_listing m d (record { depth = 0; place = 20; bytes = drop 20 bytes }) lines others bad bad' lists lists' in (
-        is_t ∙ ap (λ (head : Header). header_of m.names d head (length bytes) ++ lines) same ∙ ap (λ (ls : List ℕ). header_of m.names d k (length bytes) ++ ls) all.0 ∙ sym is_u,
-        is_x ∙ ap listing_exit all.1 ∙ sym is_y,
-      )
-  one_shown t u x y (listing h lines bad is_head is_length lists is_t is_x) (refused recorded is_y) = absurd (no_refusal d bytes u exits.Bad h is_head is_length recorded refl)
-  one_shown t u x y (refused recorded is_x) (listing h lines bad is_head is_length lists is_u is_y) = absurd (no_refusal d bytes t exits.Bad h is_head is_length recorded refl)
-  one_shown t u x y (refused recorded is_x) (refused recorded' is_y) =
-      ((one_outcome command.Show inputs t u exits.Bad exits.Bad (run.ended d bytes is_d is_message recorded) (run.ended d bytes is_d is_message recorded')).0, is_x ∙ sym is_y)
 
 -- ---- the words of values
 
@@ -109,7 +76,7 @@ one_bad input bad other h k = recorded_once input (values_line bad) (values_line
 
 pub one_named : (names : Bool) (inputs : Inputs) (t u : List ℕ) (x y : Exit) → IsNamedOutcome names inputs t x → IsNamedOutcome names inputs u y → Same t u x y
 one_named names inputs t u x y (shown d words bytes is_d are is h) (shown e others other is_e are' is' k) =
-    one_shown inputs (record { words = words; names = names }) d bytes is_d is t u x y h
+    written_once (IsNamedRow (record { words = words; names = names })) (one_row (record { words = words; names = names })) d bytes t u x y h
     (subst (λ (b : List ℕ). IsShown (record { words = words; names = names }) d b u y) (sym (one_message inputs.message bytes other is is'))
     (subst (λ (w : List Word). IsShown (record { words = w; names = names }) d other u y) (sym (one_words inputs.table words others are are'))
     (subst (λ (c : Dictionary). IsShown (record { words = others; names = names }) c other u y) (sym (one_dictionary inputs.first d e is_d is_e)) k)))

@@ -1,11 +1,9 @@
 -- What is answered, from its parts; and what is shown without options.
-use Rattle.std.proofs.Common.{◌≡◌, ℕ, Bool, List, [], ◌++◌, Result, Ok, Err, length, take, drop, refl, sym, ap, subst, ◌∙◌}
+use Rattle.std.proofs.Common.{◌≡◌, ℕ, Bool, List, Result, Ok, Err, refl, sym, ap, subst}
 use Rattle.std.specs.Prelude.{IfOk, string_bytes}
 use Rattle.dia_io.specs.declared.Exit.{Exit}
 use Rattle.dia_io.specs.declared.Exit.TheVariants as exits
 use Rattle.dia_io.specs.declared.Inputs.{Inputs}
-use Rattle.dia_wire.specs.declared.Header.{Header}
-use Rattle.dia_wire.specs.Wire.{IsHead, IsMessageLength}
 use Rattle.dia_dict.specs.Dictionary.{Dictionary}
 use Rattle.dia_dict.specs.declared.IndexedBook.{IndexedBook}
 use Rattle.dia_report.specs.declared.refusing.Refused.{Refused}
@@ -13,30 +11,14 @@ use Rattle.dia_report.specs.declared.refusing.Refused.TheVariants.{Bad, NoMemory
 use Rattle.dia_report.specs.declared.bad_input.BadInput.{BadInput}
 use Rattle.dia_report.specs.declared.reporting.Report.TheVariants as reports
 use Rattle.dia_report.specs.Refusals.{RecordsOf, bad_input_text, dictionary_line}
-use Rattle.dia_run.specs.Outcome.{Ends, IsMessageShown, listing_exit}
+use Rattle.dia_run.specs.Outcome.{Ends}
 use Rattle.dia_run.specs.Texts.{line, IsDictionaryText, IsNoDictionaryText, IsMessageText, IsNoMessageText}
 use Rattle.dia_show.specs.declared.reporting.Answered.{Answered}
 use Rattle.dia_show.specs.declared.reporting.Report.{Report}
 use Rattle.dia_show.specs.declared.reporting.Report.TheVariants.{OfShow}
-use Rattle.dia_show.specs.Listing.{Manner, header_of, AddsLevel}
-use Rattle.dia_show.specs.Outcome.{Gives, IsNamedOutcome, IsShown, listing, refused, shown, no_dictionary, no_message}
+use Rattle.dia_show.specs.Outcome.{Gives, IsNamedOutcome, IsShown, shown, no_dictionary, no_message}
 use Rattle.dia_show.specs.Report.{HasReport, IsRecorded, IsRecordedOfLines}
 use Rattle.dia_show.specs.Words.{Word, IsValuesText}
-
--- ---- one message
-
--- the text of a message whose length is its Message Length
-pub listed : (m : Manner) (d : Dictionary) (bytes body begun headed all : List ℕ) (h : Header) (bad : Bool) (exit : Exit) → begun ≡ [] → headed ≡ begun ++ header_of m.names d h (length bytes)
-    → IsHead h (length bytes) (take 20 bytes) → IsMessageLength (length bytes) → body ≡ drop 20 bytes → AddsLevel m d (record { depth = 0; place = 20; bytes = body }) headed all bad
-    → exit ≡ listing_exit bad → IsShown m d bytes all exit
-listed m d bytes body begun headed all h bad exit none is_headed is_head is_length is_body (lines, is_listing, is_all) is_exit =
-    listing h lines bad is_head is_length (rw (← is_body) is_listing)
-    (is_all ∙ ap (λ (f : List ℕ). f ++ lines) (is_headed ∙ ap (λ (f : List ℕ). f ++ header_of m.names d h (length bytes)) none)) is_exit
-
--- a message that `show` refuses
-pub refused_so : (m : Manner) (d : Dictionary) (bytes : List ℕ) (r : Refused) → Ends (IsMessageShown d bytes) (Err r) → Ends (IsShown m d bytes) (Err r)
-refused_so m d bytes (Bad bad) h = refused h refl
-refused_so m d bytes NoMemory h = tt
 
 -- ---- the inputs
 

@@ -1,5 +1,5 @@
 -- Without words and names, what is shown is what `show` shows.
-use Rattle.std.proofs.Common.{◌≡◌, ℕ, Bool, true, false, List, [], ◌++◌, length, codes, sym, ap, subst, ◌∙◌, append_assoc, arith}
+use Rattle.std.proofs.Common.{◌≡◌, ℕ, false, List, [], ◌++◌, length, Option, Some, None, codes, sym, ap, subst, ◌∙◌, append_assoc, arith}
 use Rattle.std.specs.Str.{IsUtf8}
 use Rattle.std.proofs.lemmas.List.{append-nil}
 use Rattle.std.proofs.lemmas.Str.{IsUtf8-nil}
@@ -12,18 +12,18 @@ use Rattle.dia_io.specs.declared.Input.{Input}
 use Rattle.dia_io.specs.declared.Input.TheVariants.{Bytes, TooLong}
 use Rattle.dia_io.specs.declared.Inputs.{Inputs}
 use Rattle.dia_io.specs.Inputs.{Holds}
-use Rattle.dia_wire.specs.Wire.{PlainAvp}
-use Rattle.dia_data.specs.Plain.{PlainFormat, AnyBytes, OctetString}
+use Rattle.dia_data.specs.Plain.{PlainFormat, AnyBytes, Grouped, OctetString}
 use Rattle.dia_data.specs.Shown.{IsValueText}
 use Rattle.dia_dict.specs.Dictionary.{Dictionary}
-use Rattle.dia_run.specs.Listing.{Level, IsLeafText}
-use Rattle.dia_run.specs.Listing as plain
+use Rattle.dia_run.specs.Listing.{IsDataText, IsFormatText, IsPlainRow, header_line}
+use Rattle.dia_run.specs.Rows.{PlainKnown, Row, of_avp, of_bad_length, of_header}
+use Rattle.dia_run.proofs.OutcomeParts.{written_as}
 use Rattle.dia_run.specs.Outcome.{IsMessageShown, IsShowOutcome}
 use Rattle.dia_run.specs.Outcome as run
 use Rattle.dia_show.specs.declared.reading.BadValues.{BadValues}
 use Rattle.dia_show.specs.declared.reading.BadValues.TheVariants as bads
-use Rattle.dia_show.specs.Listing.{IsDateNote, none, date, IsLeafRecorded, unknown, leaf, IsListing, end, bad_length, avp, group, bad_group, header_of, IsRecorded, plain_manner}
-use Rattle.dia_show.specs.Outcome.{IsNamedOutcome, IsShown, listing, refused, shown, no_dictionary, no_values, no_message}
+use Rattle.dia_show.specs.Listing.{IsDataRecorded, IsDateNote, IsFormatRecorded, IsNamedRow, none, date, header_of, IsRecorded, plain_manner}
+use Rattle.dia_show.specs.Outcome.{IsNamedOutcome, IsShown, shown, no_dictionary, no_values, no_message}
 use Rattle.dia_show.specs.Words.{IsNoValuesText, IsValuesText, Word, max_values, values_fault, words_of}
 
 no_date : (format : PlainFormat) (bytes note : List ℕ) → IsDateNote false format bytes note → note ≡ []
@@ -35,32 +35,29 @@ plain_recorded name format bytes recorded t =
     let alone : recorded ≡ t.value = t.parts ∙ ap (λ (n : List ℕ). (t.value ++ []) ++ n) (no_date format bytes t.note t.is_note) ∙ append-nil (t.value ++ []) ∙ append-nil t.value in
     subst (IsValueText format bytes) (sym alone) t.is_value
 
-plain_leaf : (d : Dictionary) (v : PlainAvp) (name recorded : List ℕ) → IsLeafRecorded plain_manner d v name recorded → IsLeafText d v name recorded
-plain_leaf d v name recorded (unknown is_none is_name t) = plain.unknown is_none is_name ((plain_recorded (codes "?") (AnyBytes OctetString) v.bytes recorded t).accepted tt)
-plain_leaf d v name recorded (leaf e is_known no_group is_name t) = plain.leaf e is_known no_group is_name (plain_recorded e.name e.format v.bytes recorded t)
+plain_format_recorded : (name : List ℕ) (format : PlainFormat) (bytes recorded : List ℕ) → IsFormatRecorded plain_manner name format bytes recorded → IsFormatText format bytes recorded
+plain_format_recorded name Grouped bytes recorded is = is
+plain_format_recorded name format bytes recorded is = plain_recorded name format bytes recorded is
 
-plain_listing : (d : Dictionary) (level : Level) (text : List ℕ) (bad : Bool) → IsListing plain_manner d level text bad → plain.IsListing d level text bad
-plain_listing d level text bad (end empty is_text is_bad) = plain.end empty is_text is_bad
-plain_listing d level text bad (bad_length some no_avp is_text is_bad) = plain.bad_length some no_avp is_text is_bad
-plain_listing d level text bad (avp v rest name recorded more begins is_leaf below is_text) =
-    plain.avp v rest name recorded more begins (plain_leaf d v name recorded is_leaf) (plain_listing d (plain.following level v rest) more bad below) is_text
-plain_listing d level text bad (group v e rest members more begins is_group inner below is_text) =
-    plain.group v e rest members more begins is_group (plain_listing d (plain.inside level v) members false inner) (plain_listing d (plain.following level v rest) more bad below) is_text
-plain_listing d level text bad (bad_group v e rest members begins is_group inner is_text is_bad) =
-    plain.bad_group v e rest members begins is_group (plain_listing d (plain.inside level v) members true inner) is_text is_bad
+plain_data : (known : Option PlainKnown) (bytes recorded : List ℕ) → IsDataRecorded plain_manner known bytes recorded → IsDataText known bytes recorded
+plain_data None bytes recorded is = (plain_recorded (codes "?") (AnyBytes OctetString) bytes recorded is).accepted tt
+plain_data (Some known) bytes recorded is = plain_format_recorded known.name known.format bytes recorded is
 
 flat : (front one app two hop three end_id four len : List ℕ) → front ++ (one ++ app ++ two ++ hop ++ three ++ end_id ++ four ++ len) ≡ front ++ one ++ app ++ two ++ hop ++ three ++ end_id ++ four ++ len
 flat front one app two hop three end_id four len = simp append_assoc
 
-plain_header : (d : Dictionary) (h : Header) (n : ℕ) → header_of false d h n ≡ plain.header_line h n
-plain_header d h n =
+plain_header : (h : Header) (n : ℕ) (command : Option (List ℕ)) → header_of false h n command ≡ header_line h n
+plain_header h n command =
     ap line (flat (codes "header flags " ++ hex_byte h.flags ++ codes " code " ++ decimal h.code) (codes " app ") (decimal h.app) (codes " hop ") (decimal h.hop) (codes " end ") (decimal h.e2e)
     (codes " length ") (decimal n))
 
+plain_row : (row : Row) (text : List ℕ) → IsNamedRow plain_manner row text → IsPlainRow row text
+plain_row (of_header h len command) text is = is ∙ plain_header h len command
+plain_row (of_avp place depth v known) text (recorded, is_recorded, is) = (recorded, plain_data known v.bytes recorded is_recorded, is)
+plain_row (of_bad_length place) text is = is
+
 plain_shown : (d : Dictionary) (bytes text : List ℕ) (exit : Exit) → IsShown plain_manner d bytes text exit → IsMessageShown d bytes text exit
-plain_shown d bytes text exit (listing h lines bad is_head is_length is_listing is_text is_exit) =
-    run.listing h lines bad is_head is_length (plain_listing d _ lines bad is_listing) (is_text ∙ ap (λ (t : List ℕ). t ++ lines) (plain_header d h (length bytes))) is_exit
-plain_shown d bytes text exit (refused h is_bad) = subst (IsMessageShown d bytes text) (sym is_bad) h
+plain_shown d bytes text exit is = written_as (IsNamedRow plain_manner) IsPlainRow plain_row d bytes text exit is
 
 -- ---- an empty text of words
 

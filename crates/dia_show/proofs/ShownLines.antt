@@ -21,7 +21,7 @@ use Rattle.dia_report.specs.declared.refusing.Refused.TheVariants.{Bad, NoMemory
 use Rattle.dia_report.specs.Refusals.{RecordsOf, bad_input_text}
 use Rattle.dia_run.specs.declared.commands.Outcome.{Outcome}
 use Rattle.dia_run.specs.Outcome.{Ends, Refuses}
-use Rattle.dia_run.specs.Texts.{line, IsDictionaryText, IsMessageText, IsNoMessageText}
+use Rattle.dia_run.specs.Texts.{IsDictionaryText, IsMessageText, IsNoMessageText}
 use Rattle.dia_run.proofs.OneInput.{dictionary_or_not, held_once, not_over}
 use Rattle.dia_show.specs.declared.reading.BadValues.{BadValues}
 use Rattle.dia_show.specs.declared.reading.BadValues.TheVariants as bads
@@ -31,10 +31,10 @@ use Rattle.dia_show.specs.declared.reporting.Report.{Report}
 use Rattle.dia_show.specs.declared.reporting.Report.TheVariants.{OfShow}
 use Rattle.dia_show.specs.declared.reporting.Reported.{Reported}
 use Rattle.dia_show.specs.Report.{HasLinesReport, IsRecordedOfLines}
-use Rattle.dia_show.specs.Lines.{Answer, AreLinesListed, AreLinesShown, IsFrontShown, IsLineShown, IsLinesOutcome, OfLine, RefusesInputs, answer_of, each_whole, is_yes, numbered, refused, shown as all_lines}
+use Rattle.dia_show.specs.Lines.{Answer, AreLinesShown, AreOutcomesListed, IsFrontShown, IsLineShown, OfLine, RefusesInputs, answer_of, each_whole, is_yes, numbered, refused, shown as all_lines}
 use Rattle.dia_show.specs.Listing.{Manner}
 use Rattle.dia_show.specs.Outcome.{IsShown, shown, no_message}
-use Rattle.dia_show.specs.Words.{HasFault, IsNoValuesText, IsValuesText, Word, max_values, values_fault}
+use Rattle.dia_show.specs.Words.{IsNoValuesText, IsValuesText, Word, max_values, values_fault}
 
 -- ---- one line
 
@@ -66,38 +66,19 @@ one_line_more old new before verdict h is =
 
 -- ---- what was put
 
-module _ (m : Manner) (d : Dictionary) where
-  abbrev Says : Input → Outcome → Type 0
-  Says message verdict = IsLineShown m d message (answer_of verdict)
-
-  abbrev recorded : List Outcome → List ℕ
-  recorded = recorded_lines (λ n verdict. numbered n (answer_of verdict))
-
-  same_from : (n : ℕ) (verdicts : List Outcome) → recorded_from (λ n verdict. numbered n (answer_of verdict)) n verdicts ≡ recorded_from numbered n (map answer_of verdicts)
-  same_from n [] = refl
-  same_from n (v ∷ vs) = ap (λ (t : List ℕ). numbered (line_number n) (answer_of v) ++ t) (same_from (suc n) vs)
-
-  same : (verdicts : List Outcome) → recorded verdicts ≡ recorded_lines numbered (map answer_of verdicts)
-  same verdicts = same_from 1 verdicts
-
-  module _ (fed_old fed put_old put : Option (List ℕ)) where
-    pub all_listed : {W : Type 0} (saw : W → List Outcome → Type 0) (w x : W) → AllAnswered Says recorded saw fed_old fed put_old put w x → (each : Bool) (exit : Exit)
-        → exit ≡ (if each then exits.Yes else exits.No) → saw w [] → ((verdicts : List Outcome) → saw x verdicts → each ≡ each_whole (map answer_of verdicts))
-        → AreLinesListed m d fed_old fed put_old put exit
-    all_listed saw w x h each exit is nothing ends = record {
-      bytes = h.bytes;
-      answers = map answer_of h.verdicts;
-      consumed = h.consumed;
-      answered = IsAnswered-map Says (IsLineShown m d) answer_of (λ message verdict says. says) h.bytes h.verdicts h.answered;
-      is_put = subst (Appends put_old put) (same h.verdicts) h.is_put;
-      is_exit = is ∙ ap (λ (b : Bool). if b then exits.Yes else exits.No) (ends h.verdicts (h.seen [] nothing));
-    }
-
-    pub front_listed : FrontAnswered Says recorded fed_old fed put_old put → FrontAnswered (IsLineShown m d) (recorded_lines numbered) fed_old fed put_old put
-    front_listed h = FrontAnswered-map Says (IsLineShown m d) answer_of (λ message verdict says. says) recorded (recorded_lines numbered) same fed_old fed put_old put h
-
-    pub lines_listed : LinesAnswered Says recorded fed_old fed put_old put → LinesAnswered (IsLineShown m d) (recorded_lines numbered) fed_old fed put_old put
-    lines_listed h = LinesAnswered-map Says (IsLineShown m d) answer_of (λ message verdict says. says) recorded (recorded_lines numbered) same fed_old fed put_old put h
+-- the outcomes of all lines
+pub all_listed : {W : Type 0} (P : Input → Outcome → Type 0) (recorded : ℕ → Outcome → List ℕ) (saw : W → List Outcome → Type 0) (fed_old fed put_old put : Option (List ℕ)) (w x : W)
+    → AllAnswered P (recorded_lines recorded) saw fed_old fed put_old put w x → (each : Bool) (exit : Exit)
+    → exit ≡ (if each then exits.Yes else exits.No) → saw w [] → ((verdicts : List Outcome) → saw x verdicts → each ≡ each_whole (map answer_of verdicts))
+    → AreOutcomesListed P recorded fed_old fed put_old put exit
+all_listed P recorded saw fed_old fed put_old put w x h each exit is nothing ends = record {
+  bytes = h.bytes;
+  verdicts = h.verdicts;
+  consumed = h.consumed;
+  answered = h.answered;
+  is_put = h.is_put;
+  is_exit = is ∙ ap (λ (b : Bool). if b then exits.Yes else exits.No) (ends h.verdicts (h.seen [] nothing));
+}
 
 -- ---- of inputs that were read
 
@@ -111,10 +92,6 @@ values_or_not input words (bads.Duplicate n) (text, held, utf8, fine, is) (other
 values_or_not input words (bads.Limit n) (text, held, utf8, fine, is) (other, held', utf8', wrong) =
     let none = sym fine ∙ ap values_fault (held_once input max_values text other held held') ∙ wrong in absurd cc
 
-same_answers : (answers : List Answer) → map (λ (a : Answer). a) answers ≡ answers
-same_answers [] = refl
-same_answers (a ∷ rest) = ap (λ (xs : List Answer). a ∷ xs) (same_answers rest)
-
 module _ (names : Bool) (inputs : Inputs) (m : Manner) (d : Dictionary) (is_d : IsDictionaryText inputs.first d) (are_words : IsValuesText inputs.table m.words) (is_names : m.names ≡ names) where
   occurs : (recorded : List ℕ) → ¬ RefusesInputs inputs recorded
   occurs recorded (inl (why, none, is)) = dictionary_or_not inputs.first d why is_d none
@@ -125,27 +102,37 @@ module _ (names : Bool) (inputs : Inputs) (m : Manner) (d : Dictionary) (is_d : 
       shown d m.words bytes is_d are_words is (subst (λ (n : Bool). IsShown (record { words = m.words; names = n }) d bytes answer.0 answer.1) is_names h)
   of_line message answer (inr (recorded, none, refuses)) = no_message d m.words recorded is_d are_words none refuses
 
-  same_recorded : (answers : List Answer) → recorded_lines numbered answers ≡ recorded_lines numbered (map (λ (a : Answer). a) answers)
-  same_recorded answers = ap (λ (xs : List Answer). recorded_lines numbered xs) (sym (same_answers answers))
+  abbrev Says : Input → Outcome → Type 0
+  Says message verdict = IsLineShown m d message (answer_of verdict)
+
+  abbrev recorded : ℕ → Outcome → List ℕ
+  recorded n verdict = numbered n (answer_of verdict)
+
+  same_from : (n : ℕ) (verdicts : List Outcome) → recorded_from recorded n verdicts ≡ recorded_from numbered n (map answer_of verdicts)
+  same_from n [] = refl
+  same_from n (v ∷ vs) = ap (λ (t : List ℕ). numbered (line_number n) (answer_of v) ++ t) (same_from (suc n) vs)
+
+  same : (verdicts : List Outcome) → recorded_lines recorded verdicts ≡ recorded_lines numbered (map answer_of verdicts)
+  same verdicts = same_from 1 verdicts
 
   module _ (fed_old fed put_old put : Option (List ℕ)) where
-    pub all_shown : (exit : Exit) → AreLinesListed m d fed_old fed put_old put exit → AreLinesShown names inputs fed_old fed put_old put exit
+    pub all_shown : (exit : Exit) → AreOutcomesListed Says recorded fed_old fed put_old put exit → AreLinesShown names inputs fed_old fed put_old put exit
     all_shown exit h = record {
       bytes = h.bytes;
-      text = recorded_lines numbered h.answers;
+      text = recorded_lines recorded h.verdicts;
       consumed = h.consumed;
-      outcome = all_lines (map (λ (a : Answer). a) h.answers) occurs
-          (IsAnswered-map (IsLineShown m d) (OfLine names inputs) (λ (a : Answer). a) of_line h.bytes h.answers h.answered) (same_recorded h.answers)
-          (h.is_exit ∙ ap (λ (xs : List Answer). if each_whole xs then exits.Yes else exits.No) (sym (same_answers h.answers)));
+      outcome = all_lines (map answer_of h.verdicts) occurs
+          (IsAnswered-map Says (OfLine names inputs) answer_of (λ message verdict says. of_line message (answer_of verdict) says) h.bytes h.verdicts h.answered) (same h.verdicts) h.is_exit;
       is_put = h.is_put;
     }
 
-    pub front_shown : FrontAnswered (IsLineShown m d) (recorded_lines numbered) fed_old fed put_old put → IsFrontShown names inputs fed_old fed put_old put
+    pub front_shown : FrontAnswered Says (recorded_lines recorded) fed_old fed put_old put → IsFrontShown names inputs fed_old fed put_old put
     front_shown h =
-        inl (FrontAnswered-map (IsLineShown m d) (OfLine names inputs) (λ (a : Answer). a) of_line (recorded_lines numbered) (recorded_lines numbered) same_recorded fed_old fed put_old put h)
+        inl (FrontAnswered-map Says (OfLine names inputs) answer_of (λ message verdict says. of_line message (answer_of verdict) says) (recorded_lines recorded) (recorded_lines numbered) same fed_old fed put_old put h)
 
-    pub lines_shown : LinesAnswered (IsLineShown m d) (recorded_lines numbered) fed_old fed put_old put → LinesAnswered (OfLine names inputs) (recorded_lines numbered) fed_old fed put_old put
-    lines_shown h = LinesAnswered-map (IsLineShown m d) (OfLine names inputs) (λ (a : Answer). a) of_line (recorded_lines numbered) (recorded_lines numbered) same_recorded fed_old fed put_old put h
+    pub lines_shown : LinesAnswered Says (recorded_lines recorded) fed_old fed put_old put → LinesAnswered (OfLine names inputs) (recorded_lines numbered) fed_old fed put_old put
+    lines_shown h =
+        LinesAnswered-map Says (OfLine names inputs) answer_of (λ message verdict says. of_line message (answer_of verdict) says) (recorded_lines recorded) (recorded_lines numbered) same fed_old fed put_old put h
 
 -- ---- of inputs that are refused
 
@@ -171,13 +158,13 @@ refusal_shown names inputs fed old new text ended (Ok x) refuses same is_put = r
 refusal_shown names inputs fed old new text ended (Err e) refuses same is_put = tt
 
 -- what is told of lines that were listed
-pub lines_reported : {E : Type 0} (inputs : Inputs) (m : Manner) (d : Dictionary) (fed_old fed old new : Option (List ℕ)) (r : Result Reported E)
-    → IfOk r (λ x. AreLinesListed m d fed_old fed old new x.exit) → IfOk r (λ x. x.exit ≢ exits.Bad) → IfOk r (λ x. x.report ≡ OfShow reports.Done)
+pub lines_reported : {E : Type 0} (inputs : Inputs) (P : Input → Outcome → Type 0) (recorded : ℕ → Outcome → List ℕ) (fed_old fed old new : Option (List ℕ)) (r : Result Reported E)
+    → IfOk r (λ x. AreOutcomesListed P recorded fed_old fed old new x.exit) → IfOk r (λ x. x.exit ≢ exits.Bad) → IfOk r (λ x. x.report ≡ OfShow reports.Done)
     → IfOk r (HasLinesReport inputs old new)
-lines_reported inputs m d fed_old fed old new (Ok x) listed some is =
-    let text = recorded_lines numbered listed.answers in
+lines_reported inputs P recorded fed_old fed old new (Ok x) listed some is =
+    let text = recorded_lines recorded listed.verdicts in
     (text, subst (λ (k : Report). IsRecordedOfLines inputs k text x.exit) (sym is) some, listed.is_put)
-lines_reported inputs m d fed_old fed old new (Err e) listed some is = tt
+lines_reported inputs P recorded fed_old fed old new (Err e) listed some is = tt
 
 -- what is told of an input that is refused
 pub refusal_reported : {E : Type 0} (inputs : Inputs) (old new : Option (List ℕ)) (a : Answered) (r : Result Reported E)

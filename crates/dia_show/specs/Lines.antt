@@ -81,14 +81,14 @@ abbrev pub IsLineShown : Manner → Dictionary → Input → Answer → Type 0
 IsLineShown m d message answer = ((bytes : List ℕ) × IsMessageText message bytes × IsShown m d bytes answer.0 answer.1)
     ⊎ ((recorded : List ℕ) × IsNoMessageText message recorded × Refuses recorded answer.0 answer.1)
 
--- these bytes were read, and the answers to their lines were put
-pub record AreLinesListed (m : Manner) (d : Dictionary) (fed_old fed put_old put : Option (List ℕ)) (exit : Exit) : Type 0 where
+-- these bytes were read, and each line has an outcome, whose text was put
+pub record AreOutcomesListed (P : Input → Outcome → Type 0) (recorded : ℕ → Outcome → List ℕ) (fed_old fed put_old put : Option (List ℕ)) (exit : Exit) : Type 0 where
   pub bytes : List ℕ
-  pub answers : List Answer
+  pub verdicts : List Outcome
   pub consumed : Consumes fed_old fed bytes
-  pub answered : IsAnswered (IsLineShown m d) bytes answers
-  pub is_put : Appends put_old put (recorded_lines numbered answers)
-  pub is_exit : exit ≡ (if each_whole answers then Yes else No)
+  pub answered : IsAnswered P bytes verdicts
+  pub is_put : Appends put_old put (recorded_lines recorded verdicts)
+  pub is_exit : exit ≡ (if each_whole (map answer_of verdicts) then Yes else No)
 
 -- what was read before the lines: the dictionary and the words, or one of them is refused with this text
 abbrev pub IsOpening : (IndexedBook → Dictionary) → Bool → Inputs → Opening → Type 0

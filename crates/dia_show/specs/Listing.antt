@@ -1,16 +1,15 @@
 -- The lines of a message with words of values, and with names of flags, commands and dates: each changes one part of the lines of `show`.
-use Rattle.std.specs.Prelude.{◌≡◌, ℕ, zero, suc, ◌<◌, ◌==◌, ◌&&◌, nat_lt, nat_le, bit_and, Bool, true, false, if◌then◌else◌, List, [], ◌++◌, length, Option, Some, None, codes, option_and_then, slice_get}
+use Rattle.std.specs.Prelude.{◌≡◌, ℕ, zero, suc, ◌==◌, ◌&&◌, nat_lt, nat_le, bit_and, Bool, true, false, if◌then◌else◌, List, [], ◌++◌, length, Option, Some, None, codes}
 use Rattle.std.specs.Fmt.{decimal}
 use Rattle.std.specs.List.{list_all}
 use Rattle.dia_wire.specs.declared.Header.{Header}
-use Rattle.dia_wire.specs.Wire.{PlainAvp, key_of, avp_length, BeginsWith, BeginsWithNone}
+use Rattle.dia_wire.specs.Wire.{PlainAvp, avp_length}
 use Rattle.dia_data.specs.Number.{number}
 use Rattle.dia_data.specs.Plain.{PlainFormat, AnyBytes, FourBytes, Grouped, OctetString, Utf8String, Time}
 use Rattle.dia_data.specs.Shown.{hex_byte, IsValueText}
-use Rattle.dia_dict.specs.Dictionary.{Dictionary, DictEntry, PlainDefinition, definitions, selected}
-use Rattle.dia_valid.specs.Valid.{known, class_of}
 use Rattle.dia_run.specs.Texts.{line}
-use Rattle.dia_run.specs.Listing.{Level, IsGroup, following, inside, vendor_text, bad_length_line}
+use Rattle.dia_run.specs.Listing.{vendor_text, bad_length_line, name_text}
+use Rattle.dia_run.specs.Rows.{PlainKnown, Row, of_avp, of_bad_length, of_header}
 use Rattle.dia_show.specs.Dates.{IsTimeText}
 use Rattle.dia_show.specs.Words.{Word, word_of}
 
@@ -47,25 +46,21 @@ avp_flags true flags = letter flags 128 (codes "V") ++ letter flags 64 (codes "M
 -- ---- the header
 
 -- a command's name, or `?` where there is none
-abbrev pub name_or_mark : Option PlainDefinition → List ℕ
+abbrev pub name_or_mark : Option (List ℕ) → List ℕ
 name_or_mark None = codes "?"
-name_or_mark (Some definition) = definition.name
+name_or_mark (Some name) = name
 
--- the definition of the messages with this header
-abbrev pub command_of : Dictionary → Header → Option PlainDefinition
-command_of d h = option_and_then (slice_get (definitions d)) (selected d h.code (class_of h.flags) h.app)
+abbrev pub code_text : Bool → Header → Option (List ℕ) → List ℕ
+code_text false h command = decimal h.code
+code_text true h command = decimal h.code ++ codes " " ++ name_or_mark command
 
-abbrev pub code_text : Bool → Dictionary → Header → List ℕ
-code_text false d h = decimal h.code
-code_text true d h = decimal h.code ++ codes " " ++ name_or_mark (command_of d h)
-
--- what stands behind the Command Code
+-- what follows the Command Code
 abbrev pub header_rest : Header → ℕ → List ℕ
 header_rest h len = codes " app " ++ decimal h.app ++ codes " hop " ++ decimal h.hop ++ codes " end " ++ decimal h.e2e ++ codes " length " ++ decimal len
 
--- the line of a header with this Message Length
-abbrev pub header_of : Bool → Dictionary → Header → ℕ → List ℕ
-header_of names d h len = line (codes "header flags " ++ header_flags names h.flags ++ codes " code " ++ code_text names d h ++ header_rest h len)
+-- the line of a header with this Message Length, and with this name of its command
+abbrev pub header_of : Bool → Header → ℕ → Option (List ℕ) → List ℕ
+header_of names h len command = line (codes "header flags " ++ header_flags names h.flags ++ codes " code " ++ code_text names h command ++ header_rest h len)
 
 -- ---- the line of an AVP
 
@@ -84,7 +79,7 @@ numbers names place depth v = decimal place ++ codes " " ++ decimal depth ++ cod
     ++ vendor_text v.vendor
     ++ codes " " ++ avp_flags names v.flags ++ codes " " ++ decimal (avp_length v) ++ codes " "
 
--- what stands in front of the name of an AVP
+-- what precedes the name of an AVP
 abbrev pub columns : Bool → ℕ → ℕ → PlainAvp → List ℕ
 columns names place depth v = margin names depth ++ numbers names place depth v
 
@@ -100,7 +95,7 @@ is_printing byte = nat_le 32 byte && nat_le byte 126
 abbrev pub is_printable : List ℕ → Bool
 is_printable bytes = nat_lt 0 (length bytes) && list_all is_printing bytes
 
--- the data is told as a text would be: filter rules, and octets that are printable
+-- data that is written as a text: filter rules, and octets that are printable
 abbrev pub is_text : Bool → PlainFormat → List ℕ → Bool
 is_text true (AnyBytes OctetString) bytes = is_printable bytes
 is_text true (AnyBytes name) bytes = true
@@ -109,7 +104,7 @@ is_text names format bytes = false
 abbrev pub recorded_format : Bool → PlainFormat → List ℕ → PlainFormat
 recorded_format names format bytes = if is_text names format bytes then Utf8String else format
 
--- the word of a value behind it, if it has one
+-- the word that follows a value, if it has one
 abbrev pub word_note : Option (List ℕ) → List ℕ
 word_note None = []
 word_note (Some word) = codes " " ++ word
@@ -119,7 +114,7 @@ abbrev pub has_date : Bool → PlainFormat → List ℕ → Bool
 has_date true (FourBytes Time) bytes = length bytes == 4
 has_date names format bytes = false
 
--- the date of a Time behind its number
+-- the date that follows the number of a Time
 pub data IsDateNote (names : Bool) (format : PlainFormat) (bytes note : List ℕ) : Type 0 where
   none : has_date names format bytes ≡ false → note ≡ [] → IsDateNote names format bytes note
   date : (text : List ℕ) → has_date names format bytes ≡ true → IsTimeText (number bytes) text → note ≡ codes " " ++ text
@@ -145,36 +140,28 @@ pub record IsRecorded (m : Manner) (name : List ℕ) (format : PlainFormat) (byt
   pub is_note : IsDateNote m.names format bytes note
   pub parts : recorded ≡ value ++ word_note (word_of m.words name value) ++ note
 
--- the name and the data of an AVP that the dictionary doesn't know, or knows as no group
-pub data IsLeafRecorded (m : Manner) (d : Dictionary) (v : PlainAvp) (name recorded : List ℕ) : Type 0 where
-  unknown : known d (key_of v) ≡ None → name ≡ codes "?" → IsRecorded m (codes "?") (AnyBytes OctetString) v.bytes recorded → IsLeafRecorded m d v name recorded
-  leaf : (e : DictEntry) → known d (key_of v) ≡ Some e → ¬ (e.format ≡ Grouped) → name ≡ e.name → IsRecorded m e.name e.format v.bytes recorded
-      → IsLeafRecorded m d v name recorded
+-- the data of an AVP of this name and format
+abbrev pub IsFormatRecorded : Manner → List ℕ → PlainFormat → List ℕ → List ℕ → Type 0
+IsFormatRecorded m name Grouped bytes recorded = recorded ≡ codes "group"
+IsFormatRecorded m name format bytes recorded = IsRecorded m name format bytes recorded
 
--- ---- levels
+-- that of an AVP, which is an OctetString named `?` where the dictionary doesn't have the AVP
+abbrev pub IsDataRecorded : Manner → Option PlainKnown → List ℕ → List ℕ → Type 0
+IsDataRecorded m None bytes recorded = IsRecorded m (codes "?") (AnyBytes OctetString) bytes recorded
+IsDataRecorded m (Some known) bytes recorded = IsFormatRecorded m known.name known.format bytes recorded
 
--- the text of a level, as `show` makes it of the lines: up to the end, or to a bad length, which ends it all
-pub data IsListing (m : Manner) (d : Dictionary) : Level → List ℕ → Bool → Type 0 where
-  end : {level : Level} {text : List ℕ} {bad : Bool} → level.bytes ≡ [] → text ≡ [] → bad ≡ false → IsListing m d level text bad
-  bad_length : {level : Level} {text : List ℕ} {bad : Bool} → 0 < length level.bytes → BeginsWithNone level.bytes
-      → text ≡ bad_length_line level.place → bad ≡ true
-      → IsListing m d level text bad
-  avp : {level : Level} {text : List ℕ} {bad : Bool} (v : PlainAvp) (rest name recorded more : List ℕ)
-      → BeginsWith v level.bytes rest → IsLeafRecorded m d v name recorded
-      → IsListing m d (following level v rest) more bad → text ≡ line_of m.names level.place level.depth v name recorded ++ more
-      → IsListing m d level text bad
-  group : {level : Level} {text : List ℕ} {bad : Bool} (v : PlainAvp) (e : DictEntry) (rest members more : List ℕ)
-      → BeginsWith v level.bytes rest → IsGroup d v e
-      → IsListing m d (inside level v) members false → IsListing m d (following level v rest) more bad
-      → text ≡ line_of m.names level.place level.depth v e.name (codes "group") ++ members ++ more → IsListing m d level text bad
-  bad_group : {level : Level} {text : List ℕ} {bad : Bool} (v : PlainAvp) (e : DictEntry) (rest members : List ℕ)
-      → BeginsWith v level.bytes rest → IsGroup d v e
-      → IsListing m d (inside level v) members true
-      → text ≡ line_of m.names level.place level.depth v e.name (codes "group") ++ members → bad ≡ true → IsListing m d level text bad
+-- ---- rows
+
+-- the line of a row
+abbrev pub IsNamedRow : Manner → Row → List ℕ → Type 0
+IsNamedRow m (of_header h len command) text = text ≡ header_of m.names h len command
+IsNamedRow m (of_avp place depth v known) text =
+    (recorded : List ℕ) × IsDataRecorded m known v.bytes recorded × (text ≡ line_of m.names place depth v (name_text known) recorded)
+IsNamedRow m (of_bad_length place) text = text ≡ bad_length_line place
 
 -- ---- what was added
 
--- the data of an AVP was told
+-- the data of an AVP was added
 abbrev pub AddsRecorded : Manner → List ℕ → PlainFormat → List ℕ → List ℕ → List ℕ → Type 0
 AddsRecorded m name format bytes old new = (recorded : List ℕ) × IsRecorded m name format bytes recorded × (new ≡ old ++ recorded)
 
@@ -186,14 +173,3 @@ AddsDateNote names format bytes old new = (note : List ℕ) × IsDateNote names 
 abbrev pub AddsNameAndRecorded : Manner → List ℕ → PlainFormat → List ℕ → List ℕ → List ℕ → Type 0
 AddsNameAndRecorded m name format bytes old new =
     (recorded : List ℕ) × IsRecorded m name format bytes recorded × (new ≡ old ++ line (name ++ codes " " ++ recorded))
-
--- the line of an AVP was added, and it says whether the AVP is a known group
-abbrev pub AddsAvp : Manner → Dictionary → ℕ → ℕ → PlainAvp → List ℕ → List ℕ → Bool → Type 0
-AddsAvp m d place depth v old new true = (e : DictEntry) × IsGroup d v e
-    × (new ≡ old ++ line_of m.names place depth v e.name (codes "group"))
-AddsAvp m d place depth v old new false = (name : List ℕ) × (recorded : List ℕ) × IsLeafRecorded m d v name recorded
-    × (new ≡ old ++ line_of m.names place depth v name recorded)
-
--- the lines of a level were added
-abbrev pub AddsLevel : Manner → Dictionary → Level → List ℕ → List ℕ → Bool → Type 0
-AddsLevel m d level old new bad = (lines : List ℕ) × IsListing m d level lines bad × (new ≡ old ++ lines)

@@ -1,26 +1,21 @@
 -- What `show` writes with words of values and names, and how it ends.
-use Rattle.std.specs.Prelude.{◌≡◌, ℕ, Bool, List, ◌++◌, length, take, drop, Result, Ok, Err, string_bytes}
+use Rattle.std.specs.Prelude.{ℕ, Bool, List, Result, Ok, Err, string_bytes}
 use Rattle.dia_io.specs.declared.Exit.{Exit}
 use Rattle.dia_io.specs.declared.Exit.TheVariants.{Bad}
 use Rattle.dia_io.specs.declared.Inputs.{Inputs}
-use Rattle.dia_wire.specs.declared.Header.{Header}
-use Rattle.dia_wire.specs.Wire.{IsHead, IsMessageLength}
 use Rattle.dia_dict.specs.Dictionary.{Dictionary}
 use Rattle.dia_report.specs.declared.refusing.Refused.{Refused}
 use Rattle.dia_report.specs.Refusals.{RecordsOf, dictionary_line}
-use Rattle.dia_run.specs.Outcome.{IsMessageShown, Refuses, listing_exit}
+use Rattle.dia_run.specs.Outcome.{IsWritten, Refuses}
 use Rattle.dia_run.specs.Texts.{line, IsDictionaryText, IsNoDictionaryText, IsMessageText, IsNoMessageText}
 use Rattle.dia_show.specs.declared.reading.BadValues.{BadValues}
 use Rattle.dia_show.specs.declared.reporting.Answered.{Answered}
-use Rattle.dia_show.specs.Listing.{Manner, IsListing, header_of}
+use Rattle.dia_show.specs.Listing.{Manner, IsNamedRow}
 use Rattle.dia_show.specs.Words.{Word, IsValuesText, IsNoValuesText, values_line}
 
--- a message in this manner: its lines; or it is refused, as `show` refuses it
-pub data IsShown (m : Manner) (d : Dictionary) (bytes text : List ℕ) (exit : Exit) : Type 0 where
-  listing : (h : Header) (lines : List ℕ) (bad : Bool) → IsHead h (length bytes) (take 20 bytes) → IsMessageLength (length bytes)
-      → IsListing m d (record { depth = 0; place = 20; bytes = drop 20 bytes }) lines bad
-      → text ≡ header_of m.names d h (length bytes) ++ lines → exit ≡ listing_exit bad → IsShown m d bytes text exit
-  refused : IsMessageShown d bytes text Bad → exit ≡ Bad → IsShown m d bytes text exit
+-- a message in this manner: its lines; or it is refused
+abbrev pub IsShown : Manner → Dictionary → List ℕ → List ℕ → Exit → Type 0
+IsShown m d bytes text exit = IsWritten (IsNamedRow m) d bytes text exit
 
 -- the inputs: the dictionary is judged first, then the words of values, then the message
 pub data IsNamedOutcome (names : Bool) (inputs : Inputs) (text : List ℕ) (exit : Exit) : Type 0 where
@@ -33,7 +28,7 @@ pub data IsNamedOutcome (names : Bool) (inputs : Inputs) (text : List ℕ) (exit
   no_message : (d : Dictionary) (words : List Word) (recorded : List ℕ) → IsDictionaryText inputs.first d → IsValuesText inputs.table words
       → IsNoMessageText inputs.message recorded → Refuses recorded text exit → IsNamedOutcome names inputs text exit
 
--- what is answered has P, and so has the line of a refusal
+-- the answer has P, and so has the line of a refusal
 abbrev pub Gives : (List ℕ → Exit → Type 0) → Result Answered Refused → Type 0
 Gives P (Ok answered) = P (string_bytes answered.text) answered.exit
 Gives P (Err why) = RecordsOf (λ recorded. P (line recorded) Bad) why

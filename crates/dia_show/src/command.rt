@@ -14,16 +14,14 @@ ghost use Rattle.dia_show.specs.Report.{HasReport, IsRecorded};
 ghost use Rattle.dia_report.specs.declared.reporting.Report.TheVariants.{Refused as OfRefusal};
 ghost use Rattle.dia_show.specs.Words.{IsValuesText, plain_words, values_line};
 
-use crate::header::push_header;
-use crate::listing::push_level;
+use crate::listing::NamedRows;
 use crate::manner::Manner;
 use crate::reading::{BadValues, read_manner};
 use crate::reporting::{Answered, Report, Reported};
 use dia_dict::{Book, IndexedBook};
 use dia_io::{Exit, Inputs, RunFault, Sink, put_all};
 use dia_report::{BadInput, CutListing, ReadBook, Refused};
-use dia_run::{Outcome, listing_exit, read_dictionary, read_message};
-use dia_wire::{HEADER_LENGTH, split_message};
+use dia_run::{Outcome, read_dictionary, read_message, write_message};
 use std::alloc::{AllocError, Global};
 
 /// Writes the lines of a message, as `show` does, with the words that the table's input has for numbers; and with `names` flags
@@ -133,10 +131,5 @@ pub fn show_message<B: Book>(
     ensures outcome { Ends (IsShown (plain_manner_of manner.now) (B.meaning book.now) bytes.now) result }
     ensures exit { IfOk result (λ outcome. outcome.exit ≢ Exit.Bad) }
 {
-    let (header, body) = split_message(bytes)?;
-    let mut text = String::new(alloc);
-    push_header(&mut text, manner.names, book, &header, bytes.len())?;
-    let bad = push_level(alloc, &mut text, manner, book, body, HEADER_LENGTH)?;
-    let exit = listing_exit(bad);
-    Ok(Outcome { text, exit })
+    write_message(alloc, &NamedRows { manner }, book, bytes)
 }

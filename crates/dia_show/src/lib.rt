@@ -35,7 +35,7 @@ mod words;
 
 pub use command::{show, show_message};
 pub use laws::{one_show, one_show_of_line, one_show_of_lines, plain_is_show};
-pub use lines::show_lines;
+pub use lines::{Opening, list_lines, put_refusal, show_lines};
 pub use manner::Manner;
 pub use reading::{BadValues, read_manner};
 pub use reporting::{Answered, Report, Reported};

@@ -9,8 +9,7 @@ ghost use Rattle.dia_lines.specs.FeedToSink.{FrontAnswered, LinesAnswered, most_
 ghost use Rattle.dia_lines.specs.Lines.{recorded_lines};
 ghost use Rattle.dia_report.specs.declared.reporting.Report.TheVariants.{Done as NothingToReport};
 ghost use Rattle.dia_run.specs.Texts.{IsDictionaryText};
-ghost use Rattle.dia_show.specs.Lines.{AreLinesListed, AreLinesShown, IsFrontShown, IsLineShown, IsOpening, OfLine, numbered};
-ghost use Rattle.dia_show.specs.Manners.{plain_manner_of};
+ghost use Rattle.dia_show.specs.Lines.{AreLinesShown, AreOutcomesListed, IsFrontShown, IsOpening, OfLine, numbered};
 ghost use Rattle.dia_show.specs.Report.{HasLinesReport};
 
 use crate::command::{no_values, refuse};
@@ -20,9 +19,9 @@ use crate::reading::read_manner;
 use crate::reporting::{Answered, Report, Reported};
 use dia_dict::{Book, IndexedBook};
 use dia_io::{Exit, Feed, Inputs, Sink, put_all};
-use dia_lines::{LinesFault, answer_lines};
+use dia_lines::{Judge, LinesFault, answer_lines};
 use dia_report::{ReadBook, Refused};
-use dia_run::read_dictionary;
+use dia_run::{Outcome, read_dictionary};
 use std::alloc::{AllocError, Global};
 
 /// `show` of each line of a feed: behind a line with its number, what `show` writes for it alone. Yes where each is shown to its
@@ -54,14 +53,20 @@ pub fn show_lines<F: Feed, S: Sink>(
 {
     let opening = open(alloc, names, inputs)?;
     match opening {
-        Opening::Ready { manner, first } => list_lines(alloc, &manner, &first.book, feed, sink),
+        Opening::Ready { manner, first } => {
+            let judge = ShowJudge {
+                manner: &manner,
+                book: &first.book,
+            };
+            list_lines(alloc, &judge, feed, sink)
+        }
         Opening::Refused(answered) => put_refusal(answered, sink),
     }
 }
 
-/// What stands before the lines are read: how they are shown, or the answer of an input that is refused.
+/// What is known before the lines are read: how they are shown, or the answer of an input that is refused.
 #[derive(Drop)]
-pub(crate) enum Opening<'t> {
+pub enum Opening<'t> {
     Ready {
         manner: Box<Manner<'t>>,
         first: Box<ReadBook>,
@@ -96,38 +101,33 @@ fn with_words<'t>(
     }
 }
 
-/// Lists the message of each line in this manner, with the names of a dictionary.
-fn list_lines<B: Book, F: Feed, S: Sink>(
+/// Answers each line of a feed by a judge of outcomes. Yes where each ended with yes, else no.
+pub fn list_lines<J: Judge<Verdict = Outcome>, F: Feed, S: Sink>(
     alloc: Global,
-    manner: &Manner<'_>,
-    book: &B,
+    judge: &J,
     feed: &mut F,
     sink: &mut S,
 ) -> Result<Reported, LinesFault>
     requires sound_feed { ¬ IsTrue (F.has_failed feed.old) }
     requires sound_sink { ¬ IsTrue (S.has_failed sink.old) }
-    ensures listed { IfOk result (λ reported. AreLinesListed (plain_manner_of manner.now) (B.meaning book.now)
+    ensures listed { IfOk result (λ reported. AreOutcomesListed (J.says judge.now) (J.recorded judge.now)
         (F.remaining feed.old) (F.remaining feed.new) (S.written sink.old) (S.written sink.new) reported.exit) }
     ensures all { IfOk result (λ reported. IsAtEnd (F.remaining feed.new)) }
     ensures exit { IfOk result (λ reported. reported.exit ≢ Exit.Bad) }
     ensures report { IfOk result (λ reported. reported.report ≡ Report.OfShow NothingToReport) }
     ensures device { (result ≡ Err Device)
         ↔ (IsTrue (F.has_failed feed.new) ⊎ IsTrue (S.has_failed sink.new)) }
-    ensures front { IsErr result
-        → FrontAnswered (IsLineShown (plain_manner_of manner.now) (B.meaning book.now)) (recorded_lines numbered)
+    ensures front { IsErr result → FrontAnswered (J.says judge.now) (recorded_lines (J.recorded judge.now))
         (F.remaining feed.old) (F.remaining feed.new) (S.written sink.old) (S.written sink.new) }
-    ensures no_memory { result ≡ Err NoMemory
-        → LinesAnswered (IsLineShown (plain_manner_of manner.now) (B.meaning book.now)) (recorded_lines numbered)
+    ensures no_memory { result ≡ Err NoMemory → LinesAnswered (J.says judge.now) (recorded_lines (J.recorded judge.now))
         (F.remaining feed.old) (F.remaining feed.new) (S.written sink.old) (S.written sink.new) }
-    ensures endless { result ≡ Err Endless
-        → LinesAnswered (IsLineShown (plain_manner_of manner.now) (B.meaning book.now)) (recorded_lines numbered)
+    ensures endless { result ≡ Err Endless → LinesAnswered (J.says judge.now) (recorded_lines (J.recorded judge.now))
         (F.remaining feed.old) (F.remaining feed.new) (S.written sink.old) (S.written sink.new) }
     ensures pieces { result ≡ Err Endless
         → IfSome (F.remaining feed.old) (λ bytes. most_pieces ≤ length bytes) }
 {
-    let judge = ShowJudge { manner, book };
     let mut endings = Endings { each: true };
-    answer_lines(alloc, &judge, &mut endings, feed, sink)?;
+    answer_lines(alloc, judge, &mut endings, feed, sink)?;
     Ok(ended(endings.each))
 }
 
@@ -142,7 +142,7 @@ fn ended(each: bool) -> Reported
 }
 
 /// Puts the line of an input that is refused.
-fn put_refusal<S: Sink>(answered: Answered, sink: &mut S) -> Result<Reported, LinesFault>
+pub fn put_refusal<S: Sink>(answered: Answered, sink: &mut S) -> Result<Reported, LinesFault>
     requires { ¬ IsTrue (S.has_failed sink.old) }
     ensures exit { IfOk result (λ reported. reported.exit ≡ answered.exit) }
     ensures report { IfOk result (λ reported. reported.report ≡ answered.report) }

@@ -1,111 +1,85 @@
-//! The lines of the AVPs of a message.
+//! The rows of `show` in a manner: a line each.
 
-ghost use Rattle.std.specs.Prelude.{◌≡◌, ◌<◌, ◌+◌, ◌^◌, ◌++◌, length};
-ghost use Rattle.std.specs.Prelude.{IfOk, OnOk, codes, string_bytes};
-ghost use Rattle.std.specs.Fmt.{decimal};
+ghost use Rattle.std.specs.Prelude.{◌≡◌, ◌++◌, OnOk, string_bytes};
 ghost use Rattle.dia_wire.specs.Wire.{plain_avp};
 ghost use Rattle.dia_data.specs.Plain.{plain_format};
-ghost use Rattle.dia_run.specs.Listing.{bad_length_line};
-ghost use Rattle.dia_show.specs.Listing.{AddsAvp, AddsLevel, AddsNameAndRecorded, columns, indent, margin, numbers};
+ghost use Rattle.dia_show.specs.Listing.{AddsNameAndRecorded, columns, indent, margin, numbers};
 ghost use Rattle.dia_show.specs.Manners.{plain_manner_of};
 
 use crate::flags::push_avp_flags;
+use crate::header::push_header;
 use crate::manner::Manner;
 use crate::values::push_recorded;
-use dia_data::push_decimal;
-use dia_dict::{Book, Format};
-use dia_run::push_vendor;
-use dia_wire::{Avp, AvpFault, key, next_avp};
+use dia_dict::Format;
+use dia_run::{Known, PlainRows, RowWriter, push_number, push_vendor};
+use dia_wire::{Avp, Header};
 use std::alloc::{AllocError, Global};
 
-/// What is left of a level, and the place of the level's end.
-#[derive(Clone, Copy)]
-struct Rest<'a> {
-    bytes: &'a [u8],
-    end: usize,
+/// Writes a line for each row, in a manner.
+#[derive(Drop)]
+pub(crate) struct NamedRows<'a, 't> {
+    pub manner: &'a Manner<'t>,
 }
 
-/// Adds the lines of a level, and of the groups in it that the dictionary knows. `bytes` are the level, which begins at
-/// `place`. Answers whether the lines end at a bad length.
-///
-/// The levels around the current one wait in a list, so depth takes memory and no stack.
-pub(crate) fn push_level<B: Book>(
-    alloc: Global,
-    text: &mut String,
-    manner: &Manner<'_>,
-    book: &B,
-    bytes: &[u8],
-    place: usize,
-) -> Result<bool, AllocError>
-    requires { place + length bytes.now < 2 ^ 63 }
-    ensures { IfOk result (AddsLevel (plain_manner_of manner.now) (B.meaning book.now)
-        (record { depth = 0; place = place; bytes = bytes.now })
-        (string_bytes text.old) (string_bytes text.new)) }
-{
-    let mut outer = Vec::new(alloc);
-    let mut rest = Rest {
-        bytes,
-        end: place + bytes.len(),
-    };
-    loop {
-        let place = rest.end - rest.bytes.len();
-        match next_avp(rest.bytes) {
-            Ok(Some((avp, following))) => {
-                let is_group = push_avp(alloc, text, manner, book, place, outer.len(), &avp)?;
-                rest.bytes = following;
-                if is_group {
-                    outer.push(rest)?;
-                    rest = Rest {
-                        bytes: avp.bytes,
-                        end: place + avp.length(),
-                    };
+impl<'a, 't> RowWriter for NamedRows<'a, 't> {
+    ghost use Rattle.dia_show.specs.Listing.{IsNamedRow};
+    ghost use Rattle.dia_show.specs.Manners.{plain_manner_of};
+
+    ghost writes = { λ rows. IsNamedRow (plain_manner_of rows.manner.now) };
+
+    fn write_header(
+        &self,
+        _alloc: Global,
+        text: &mut String,
+        header: &Header,
+        length: usize,
+        command: Option<&str>,
+    ) -> Result<(), AllocError> {
+        push_header(text, self.manner.names, header, length, command)
+    }
+
+    fn write_avp(
+        &self,
+        alloc: Global,
+        text: &mut String,
+        place: usize,
+        depth: usize,
+        avp: &Avp<'_>,
+        known: Option<Known<'_>>,
+    ) -> Result<(), AllocError> {
+        push_columns(text, self.manner.names, place, depth, avp)?;
+        match known {
+            Some(known) => match known.format {
+                Format::Grouped => {
+                    text.push_str(known.name)?;
+                    text.push_str(" group\n")
                 }
-            }
-            Ok(None) => match outer.pop() {
-                Some(level) => rest = level,
-                None => return Ok(false),
+                format => push_name_and_recorded(
+                    alloc,
+                    text,
+                    self.manner,
+                    known.name,
+                    format,
+                    avp.bytes,
+                ),
             },
-            Err(AvpFault::Length) => {
-                push_bad_length(text, place)?;
-                return Ok(true);
-            }
+            None => push_name_and_recorded(
+                alloc,
+                text,
+                self.manner,
+                "?",
+                &Format::OctetString,
+                avp.bytes,
+            ),
         }
+    }
+
+    fn write_bad_length(&self, text: &mut String, place: usize) -> Result<(), AllocError> {
+        PlainRows.write_bad_length(text, place)
     }
 }
 
-/// Adds the line of an AVP, and answers whether it is a known group.
-fn push_avp<B: Book>(
-    alloc: Global,
-    text: &mut String,
-    manner: &Manner<'_>,
-    book: &B,
-    place: usize,
-    depth: usize,
-    avp: &Avp<'_>,
-) -> Result<bool, AllocError>
-    ensures { IfOk result (AddsAvp (plain_manner_of manner.now) (B.meaning book.now) place depth (plain_avp avp.now)
-        (string_bytes text.old) (string_bytes text.new)) }
-{
-    push_columns(text, manner.names, place, depth, avp)?;
-    let Some(entry) = book.avp(key(avp)) else {
-        push_name_and_recorded(alloc, text, manner, "?", &Format::OctetString, avp.bytes)?;
-        return Ok(false);
-    };
-    let name = book.entry_name(entry);
-    match book.format(entry) {
-        Format::Grouped => {
-            text.push_str(name)?;
-            text.push_str(" group\n")?;
-            Ok(true)
-        }
-        format => {
-            push_name_and_recorded(alloc, text, manner, name, format, avp.bytes)?;
-            Ok(false)
-        }
-    }
-}
-
-/// Adds the columns in front of an AVP's name.
+/// Adds the columns that precede an AVP's name.
 fn push_columns(
     text: &mut String,
     names: bool,
@@ -120,7 +94,7 @@ fn push_columns(
     push_numbers(text, names, place, depth, avp)
 }
 
-/// Adds place, depth, code, vendor, flags and length.
+/// Adds offset, depth, code, vendor, flags and length.
 fn push_numbers(
     text: &mut String,
     names: bool,
@@ -163,15 +137,6 @@ fn push_indent(text: &mut String, depth: usize) -> Result<(), AllocError>
     Ok(())
 }
 
-/// Adds a number and a blank.
-fn push_number(text: &mut String, number: u64) -> Result<(), AllocError>
-    ensures { OnOk result (string_bytes text.new
-        ≡ string_bytes text.old ++ decimal number ++ codes " ") }
-{
-    push_decimal(text, number)?;
-    text.push(' ')
-}
-
 /// Adds the name and the data, which end the line of an AVP.
 fn push_name_and_recorded(
     alloc: Global,
@@ -188,11 +153,4 @@ fn push_name_and_recorded(
     text.push(' ')?;
     push_recorded(alloc, text, manner, name, format, bytes)?;
     text.push('\n')
-}
-
-/// Adds the line of a place at which no AVP begins.
-fn push_bad_length(text: &mut String, place: usize) -> Result<(), AllocError>
-    ensures { OnOk result (string_bytes text.new ≡ string_bytes text.old ++ bad_length_line place) }
-{
-    writeln!(text, "fault 5014 at {place} avp-length -")
 }

@@ -1,5 +1,0 @@
-use Rattle.std.proofs.Common.{append_assoc}
-use Rattle.dia_run.proofs.commands.show.listing.push_bad_length.Goals as goal
-
-pub returns : goal.returns
-returns c = simp append_assoc c.writeln.ensures.bytes

@@ -1,0 +1,20 @@
+use Rattle.dia_wire.specs.Wire.{plain_avp}
+use Rattle.dia_run.proofs.KnownAvps.{group_added, leaf_added, unknown_added}
+use Rattle.dia_run.proofs.commands.show.plain_rows.PlainRowsRowWriter.write_avp.Goals as goal
+
+pub returns-in-None : goal.returns-in-None
+returns-in-None c =
+    rw c.in-None.is
+    (unknown_added c.args.place c.args.depth (plain_avp c.args.avp.now) _ _ _ c.in_ok-push_columns.ensures c.push_name_and_value-in-None.result c.push_name_and_value-in-None.ensures)
+
+pub returns-in_ok-push_str-in-Grouped : goal.returns-in_ok-push_str-in-Grouped
+returns-in_ok-push_str-in-Grouped c =
+    rw c.in-Some.is
+    (group_added c.args.place c.args.depth (plain_avp c.args.avp.now) _ _ _ c.in_ok-push_columns.ensures c.push_str-in-Grouped.result c.in-Some.known.name.now _ c.in-Some.known.format.now
+    c.in-Grouped.is c.in_ok-push_str-in-Grouped.ensures.bytes c.push_str-in-Grouped.ensures.bytes)
+
+pub returns-in_default : goal.returns-in_default
+returns-in_default c =
+    rw c.in-Some.is
+    (leaf_added c.args.place c.args.depth (plain_avp c.args.avp.now) _ _ _ c.in_ok-push_columns.ensures c.push_name_and_value.result c.in-Some.known.name.now c.in-Some.known.format.now
+    c.in_default.not-Grouped c.push_name_and_value.ensures)
