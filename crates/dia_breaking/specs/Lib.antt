@@ -5,6 +5,7 @@ pub mod Exits
 pub mod Free
 pub mod Headers
 pub mod Lengths
+pub mod LineParts
 pub mod LevelCosts
 pub mod Listing
 pub mod Meanings

@@ -27,7 +27,7 @@ pub(crate) fn push_format_detail(
 }
 
 /// The numbers of the first format that the second lacks, where both have a list.
-fn lacking_of(
+pub(crate) fn lacking_of(
     alloc: Global,
     sent: Option<&Format>,
     accepted: Option<&Format>,
@@ -85,7 +85,7 @@ pub(crate) fn push_formats(
 }
 
 /// Adds a format, or this word where there is none.
-fn push_format_or(
+pub(crate) fn push_format_or(
     out: &mut String,
     format: Option<&Format>,
     otherwise: &str,

@@ -73,7 +73,7 @@ impl<'a, A: Book, B: Book> Upgrade<'a, A, B> {
 
     /// How often A's definition lets the AVP occur in the level. Without a key, how often it lets the AVPs occur that it doesn't
     /// list.
-    fn sent_bounds(&self, command: DefId, place: Place, key: Option<Key>) -> Bounds
+    pub(crate) fn sent_bounds(&self, command: DefId, place: Place, key: Option<Key>) -> Bounds
         requires { command < length (definitions (sides_of self.now).sender) }
         ensures { result ≡ sent_bounds (other_length_of self.now) (sent_rules (sides_of self.now).sender command place) key }
     {
@@ -108,7 +108,7 @@ impl<'a, A: Book, B: Book> Upgrade<'a, A, B> {
 
     /// How often B's definition lets the AVP occur in the level. Without a key, how often it lets the AVPs occur that it doesn't
     /// list.
-    fn accepted_bounds(&self, command: DefId, place: Place, key: Option<Key>) -> Bounds
+    pub(crate) fn accepted_bounds(&self, command: DefId, place: Place, key: Option<Key>) -> Bounds
         requires { command < length (definitions (sides_of self.now).sender) }
         ensures { result ≡ accepted_bounds (accepted_rules (sides_of self.now) command place) key }
     {

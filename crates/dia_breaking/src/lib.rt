@@ -20,6 +20,7 @@ mod lengths;
 mod level_words;
 mod levels;
 mod line;
+mod line_parts;
 mod lines;
 mod meanings;
 mod message;
@@ -44,4 +45,5 @@ pub use laws::{
     listings_are_one, the_lines_are_all, the_lines_are_one, the_meanings_are_one,
 };
 pub use line::{Breaks, Cause, Line, Place, Site, Standing};
+pub use line_parts::{Amount, LineParts, LineReason, Path, Subject};
 pub use upgrade::Upgrade;

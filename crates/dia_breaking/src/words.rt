@@ -202,7 +202,7 @@ pub(crate) fn is_command<B: Book>(book: &B, number: DefId) -> bool
     first <= number.index() && number.index() - first < count
 }
 
-fn command_name<B: Book>(book: &B, command: DefId) -> &str
+pub(crate) fn command_name<B: Book>(book: &B, command: DefId) -> &str
     requires { command < length (definitions (B.meaning book.now)) }
     ensures { result.now ≡ definition_name (B.meaning book.now) command }
 {
@@ -278,7 +278,7 @@ fn unknown_detail(unknown: Unknown, m: bool) -> &'static str
     }
 }
 
-fn flag_word(set: bool) -> &'static str
+pub(crate) fn flag_word(set: bool) -> &'static str
     ensures { result.now ≡ flag_word set }
 {
     if set { "set" } else { "clear" }

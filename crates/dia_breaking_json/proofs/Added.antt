@@ -1,9 +1,9 @@
 -- Members that are added one by one.
-use Rattle.std.proofs.Common.{◌≡◌, ◌∙◌, ℕ, true, List, [], ◌∷◌, ◌++◌, Bool, cond, Result, Ok, Err, append_assoc, ap, subst, refl, sym, codes}
+use Rattle.std.proofs.Common.{◌≡◌, ◌∙◌, ℕ, ◌+◌, ◌<◌, true, Bor, get_or, length, map, take, List, [], ◌∷◌, ◌++◌, Bool, cond, Result, Ok, Err, append_assoc, ap, subst, refl, sym, codes}
 use Rattle.std.specs.Prelude.{OnOk}
 use Rattle.std.specs.List.{flat_map}
 use Rattle.std.proofs.lemmas.Grind.{flat_map-append}
-use Rattle.std.proofs.lemmas.List.{append-nil}
+use Rattle.std.proofs.lemmas.List.{append-nil, map-append, take_more}
 use Rattle.json.specs.Print.{quoted}
 use Rattle.serde_json.specs.Data.{Data, array}
 use Rattle.serde_json.specs.Written.{compact_text, items_text, members_text}
@@ -40,6 +40,17 @@ field_added (Err e) xs name recorded old mid new value first is more = tt
 pub chosen_added : {U E : Type 0} (r : Result U E) (by chosen : Bool) (xs ys zs : List Field) (old new : List ℕ) → by ≡ chosen → zs ≡ cond chosen xs ys → OnOk r (new ≡ old ++ fields_text zs)
     → OnOk r (new ≡ old ++ fields_text (cond by xs ys))
 chosen_added r by chosen xs ys zs old new is are added = subst (λ (fields : List Field). OnOk r (new ≡ old ++ fields_text fields)) (are ∙ sym (ap (λ (b : Bool). cond b xs ys) is)) added
+
+-- a name more
+pub names_more : (names : List (Bor (List ℕ))) (i : ℕ) (d : Bor (List ℕ)) → i < length names → (old new : List ℕ) → old ≡ flat_map name_text (map (λ m. m.now) (take i names))
+    → new ≡ old ++ name_text (get_or names i d).now → new ≡ flat_map name_text (map (λ m. m.now) (take (i + 1) names))
+names_more names i d less old new before added =
+    let now = λ (m : Bor (List ℕ)). m.now in
+    let n = get_or names i d in
+    let more : map now (take (i + 1) names) ≡ map now (take i names) ++ n.now ∷ [] =
+    ap (map now) (take_more names i d less) ∙ map-append now (take i names) (n ∷ []) in
+    added ∙ ap (λ (o : List ℕ). o ++ name_text n.now) before ∙ ap (λ (o : List ℕ). flat_map name_text (map now (take i names)) ++ o) (sym (append-nil (name_text n.now)))
+    ∙ sym (flat_map-append name_text (map now (take i names)) (n.now ∷ [])) ∙ ap (flat_map name_text) (sym more)
 
 -- where nothing was there before
 pub from_nothing : (old new : List ℕ) (xs : List Field) → old ≡ [] → new ≡ old ++ fields_text xs → new ≡ fields_text xs

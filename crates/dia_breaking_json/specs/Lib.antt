@@ -1,4 +1,5 @@
 pub mod Fields
 pub mod Keys
+pub mod LineObjects
 pub mod Lines
 pub mod Parts

@@ -1,12 +1,15 @@
 //! The lines of `breaking` as JSON (RFC 8259), each from its words.
 #![tactic(auto)]
 
+mod amounts;
 mod details;
 mod fields;
 mod keys;
 mod lines;
 mod numbers;
+mod objects;
 mod parts;
+mod paths;
 mod places;
 mod subjects;
 mod texts;
@@ -14,3 +17,4 @@ mod texts;
 pub use fields::{object_text, push_null, push_text, push_unsigned};
 pub use keys::{Keys, Names};
 pub use lines::line_json;
+pub use objects::{cause_object, line_object};

@@ -85,7 +85,7 @@ fn groups_text(alloc: Global, path: &str) -> Result<String, AllocError>
 }
 
 /// The array of names, of which each has the comma before it.
-fn array_text(alloc: Global, names: &str) -> Result<String, AllocError>
+pub(crate) fn array_text(alloc: Global, names: &str) -> Result<String, AllocError>
     ensures { IfOk result (λ text. (members : List (List ℕ)) → names.now ≡ flat_map name_text members
         → string_bytes text ≡ compact_text (array (strings members))) }
 {
@@ -94,7 +94,7 @@ fn array_text(alloc: Global, names: &str) -> Result<String, AllocError>
 }
 
 /// Adds a name, with the comma before it.
-fn push_name(alloc: Global, names: &mut String, name: &str) -> Result<(), AllocError>
+pub(crate) fn push_name(alloc: Global, names: &mut String, name: &str) -> Result<(), AllocError>
     ensures { OnOk result (string_bytes names.new ≡ string_bytes names.old ++ name_text name.now) }
 {
     let name = quoted(alloc, name)?;

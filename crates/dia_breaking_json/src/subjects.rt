@@ -57,7 +57,12 @@ fn push_if_avp(
     }
 }
 
-fn push_avp(alloc: Global, out: &mut String, names: &Names, name: &str) -> Result<(), AllocError>
+pub(crate) fn push_avp(
+    alloc: Global,
+    out: &mut String,
+    names: &Names,
+    name: &str,
+) -> Result<(), AllocError>
     ensures { OnOk result (Adds out.old out.new ((
       codes "avp",
       object_of
