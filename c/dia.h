@@ -1,26 +1,26 @@
 /* libdia: dictionaries of Diameter (RFC 6733), what breaks between two of them, checks of messages, and connections, proved.
  *
- * docs/LIBRARY.md shows how a program begins. What each function answers is proved of the code behind it: the comments say it
+ * docs/LIBRARY.md shows how a program begins. What each function answers is proved of its code: the comments say it
  * in words, the clauses of crates/dia_c/src say it exactly.
  *
  * WHAT A PROGRAM OWES
- *  1. No pointer is NULL, not even where its length is 0, and each is aligned for its type. Nothing writes the memory behind a
- *     const pointer during the call. Nothing else touches the memory behind another pointer during the call, and it overlaps
+ *  1. No pointer is NULL, not even where its length is 0, and each is aligned for its type. Nothing writes the memory of a
+ *     const pointer during the call. Nothing else touches the memory of another pointer during the call, and it overlaps
  *     no other argument.
  *  2. A handle is all zero bytes before its first call (DIA_.._INIT), and only the library changes it. It may be moved as bytes,
  *     and then only one of the copies is used.
  *  3. One call at a time for each handle. Threads use different handles at once, also of one dictionary (dia_dict_share).
- *     A handle goes to another thread behind a lock, or a thread's start or join.
+ *     A handle goes to another thread by a lock, or by a thread's start or join.
  *  4. No call from a signal handler, nor in the forked child of a process with threads. malloc, realloc and free are of one
  *     allocator, and align to 16.
  *  5. Nothing leaves a call by longjmp or by unwinding.
  *
- * WHAT ALL FUNCTIONS KEEP
- *  - Nothing that is passed is kept after the call. Lengths and places are in bytes.
+ * WHAT HOLDS OF ALL FUNCTIONS
+ *  - No pointer that is passed is used after the call. Lengths and offsets are in bytes.
  *  - A function that may fail answers a status, DIA_OK or another. On any other than DIA_OK it has changed nothing that its
  *    comment does not name.
  *  - A function may answer DIA_NO_MEMORY, where malloc or realloc refused, unless its comment says "takes no memory".
- *  - No function waits, prints, calls back, reads a clock or a file, or keeps anything outside its handles.
+ *  - No function waits, prints, calls back, reads a clock or a file, or has state outside its handles.
  *  - An open handle holds a pointer to what the library owns, and is closed once; closing a closed handle does nothing.
  */
 #ifndef DIA_H
@@ -117,7 +117,7 @@ typedef struct dia_faults {
 
 typedef struct dia_fault {
     size_t at;          /* its place in bytes from the first of the text; 0 where has_place is 0 */
-    size_t name_count;  /* how many bytes `name` has, 0 where there is none; no zero is behind them */
+    size_t name_count;  /* how many bytes `name` has, 0 where there is none; no zero follows them */
     size_t slot_count;  /* and `slot` */
     uint32_t kind;      /* a kind of dia_problem */
     uint32_t token;     /* from 1, of DIA_SYNTAX; else 0 */
@@ -130,20 +130,20 @@ typedef struct dia_fault {
  * is a dictionary. A text that the grammar does not derive has one fault. */
 dia_status dia_faults_open(const uint8_t *text, size_t text_len, dia_faults *faults, size_t *count);
 
-/* Tells a fault by its index, from 0. DIA_NONE: there are no more. Takes no memory. */
+/* Delivers a fault by its index, from 0. DIA_NONE: there are no more. Takes no memory. */
 dia_status dia_faults_get(dia_faults *faults, size_t index, dia_fault *fault);
 
 /* Closes the handle. Takes no memory. */
 void dia_faults_close(dia_faults *faults);
 
-/* The line and the column, both from 1, of a place in bytes of a text. A column is a character of UTF-8. A place behind the
+/* The line and the column, both from 1, of an offset in a text. A column is a character of UTF-8. An offset after the
  * text counts as its end. Takes no memory, and time that grows with `at`. */
 void dia_line_column(const uint8_t *text, size_t text_len, size_t at, size_t *line, size_t *column);
 
 /* ---- names ---- */
 
 /* The name of the command of a verdict of this dictionary, and the name of an AVP (vendor 0: none). *count bytes are written,
- * with no zero behind them. DIA_NONE: there is no such command or AVP. DIA_NO_ROOM: the name has *count bytes, at most
+ * with no zero after them. DIA_NONE: there is no such command or AVP. DIA_NO_ROOM: the name has *count bytes, at most
  * DIA_MAX_NAME. Takes no memory. */
 dia_status dia_command_name(dia_dict *dict, uint32_t command, uint8_t *out, size_t out_len, size_t *count);
 dia_status dia_avp_name(dia_dict *dict, uint32_t code, uint32_t vendor, uint8_t *out, size_t out_len, size_t *count);
@@ -199,7 +199,7 @@ typedef struct dia_verdict {
 } dia_verdict;
 
 /* Checks the bytes of one message. DIA_OK: *verdict is what `diacmd check` says; it is written on no other status.
- * DIA_BAD_ARGUMENT: `unknown` is neither of its two values. The handle keeps the memory that the check took for open levels, 80 KB
+ * DIA_BAD_ARGUMENT: `unknown` is neither of its two values. The handle holds the memory that the check took for open levels, 80 KB
  * at most, until it is closed; so most checks take none. */
 dia_status dia_check(dia_dict *dict, uint32_t unknown, uint32_t levels, const uint8_t *message, size_t message_len,
                      dia_verdict *verdict);
@@ -211,7 +211,7 @@ dia_status dia_message_length(const uint8_t *header, size_t header_len, uint32_t
 
 /* ---- messages that come in pieces ---- */
 
-/* A message that comes in pieces, and is checked while it comes. It keeps its dictionary alive, at most 20 bytes of the message,
+/* A message that comes in pieces, and is checked while it comes. It holds its dictionary, at most 20 bytes of the message,
  * and the levels of grouped AVPs that are open. */
 typedef struct dia_stream {
     void *dia_private;
@@ -228,12 +228,12 @@ typedef struct dia_fed {
  * DIA_BAD_ARGUMENT: `unknown` is neither of its two values. */
 dia_status dia_stream_open(dia_dict *dict, uint32_t unknown, uint32_t levels, dia_stream *stream);
 
-/* Takes the next piece of the message, as far as it belongs to it: until Message Length bytes were taken, also behind a fault, or
- * until 20 were where the version or the Message Length is at fault. The bytes behind begin the next message.
+/* Takes the next piece of the message, as far as it belongs to it: until Message Length bytes were taken, also after a fault, or
+ * until 20 were where the version or the Message Length is at fault. The bytes that follow begin the next message.
  * DIA_NO_MEMORY: the stream is spent. DIA_SPENT: it was before. *fed is written on DIA_OK alone. */
 dia_status dia_stream_feed(dia_stream *stream, const uint8_t *piece, size_t piece_len, dia_fed *fed);
 
-/* How many levels are open: those that began at or before the last byte taken, and end behind it. None are once the message takes
+/* How many levels are open: those that began at or before the last byte taken, and end after it. None are once the message takes
  * no more. Takes no memory. */
 dia_status dia_stream_levels(dia_stream *stream, size_t *levels);
 
@@ -291,8 +291,8 @@ dia_status dia_compare(dia_dict *a, dia_dict *b, uint32_t unknown, const uint8_t
                        uint32_t *holds, dia_problem *problem);
 
 /* Where dia_compare refuses the text of a table, in bytes, by the kind and the line of its problem: of DIA_SYNTAX the first word
- * that cannot stand there; of DIA_LIMIT the name that is too long or, where none is, the pair that is one too many, and of line 0
- * the end of the text. 0 for DIA_NOT_TEXT. dia_line_column tells the column. Takes no memory. */
+ * that cannot occur there; of DIA_LIMIT the name that is too long or, where none is, the pair that is one too many, and of line 0
+ * the end of the text. 0 for DIA_NOT_TEXT. dia_line_column has the column. Takes no memory. */
 size_t dia_table_place(const uint8_t *table, size_t table_len, uint32_t kind, uint32_t line);
 
 /* Which messages a side sends that goes by its dictionary. */
@@ -304,7 +304,7 @@ enum {
 
 /* How what breaks is listed: options that are added up, or 0. */
 enum {
-    DIA_WITH_MESSAGES = 1, /* behind each line a message that shows it */
+    DIA_WITH_MESSAGES = 1, /* after each line a message that shows it */
     DIA_ONCE = 2,          /* one line for each cause */
     DIA_MEANING = 4        /* also a line for each AVP that is read as another format */
 };
@@ -320,14 +320,14 @@ enum {
  * or DIA_LIMIT, of the line, or of line 0 where the text is too long. Else it is DIA_NO_COMMANDS or DIA_NO_COMMAND. Its token
  * is 0.
  * DIA_BAD_ARGUMENT: `sends`, `unknown` or `options` has none of its values.
- * It stands in libdia.a, and in a shared object of its own, libdia-breaking. */
+ * It is in libdia.a, and in a shared object of its own, libdia-breaking. */
 dia_status dia_breaking(dia_dict *a, dia_dict *b, uint32_t sends, uint32_t unknown, uint32_t options, const uint8_t *commands,
                         size_t commands_len, const uint8_t *accepted, size_t accepted_len, dia_text *text, uint32_t *safe,
                         dia_problem *problem);
 
 /* ---- one end of a connection (RFC 6733 section 5; docs/CONNECTION.md) ---- */
 
-/* An end has no socket and no clock. The program tells what happens, and does what the end then wants done. */
+/* An end has no socket and no clock. The program delivers events, and does what the end then asks for. */
 typedef struct dia_peer {
     void *dia_private;
     uint32_t dia_state;
@@ -347,7 +347,7 @@ typedef struct dia_ip {
 typedef struct dia_app {
     uint32_t is_acct;    /* 0: Auth-Application-Id; else Acct-Application-Id */
     uint32_t id;         /* the Application-ID; that of relays, 4294967295, only with DIA_MANNER_RELAYS */
-    uint32_t has_vendor; /* 0: it stands alone; else in a Vendor-Specific-Application-Id */
+    uint32_t has_vendor; /* 0: an AVP of its own; else in a Vendor-Specific-Application-Id */
     uint32_t vendor;     /* whose Vendor-Id this is */
 } dia_app;
 
@@ -359,13 +359,14 @@ typedef struct dia_numbers {
     uint32_t e2e;          /* the End-to-End Identifier of the first request */
 } dia_numbers;
 
-/* Why a configuration is refused. A name that is not UTF-8 is told before all else; then the first in this order. */
+/* Why a configuration is refused. A name that is not UTF-8 comes first; then the first in this order. */
 enum {
     DIA_BAD_HOST = 1,       /* Origin-Host has 1 to 255 bytes, each from '!' to '~' */
     DIA_BAD_REALM = 2,      /* and Origin-Realm */
     DIA_BAD_PRODUCT = 3,    /* Product-Name has at most 255 bytes of UTF-8 */
     DIA_BAD_ADDRESS = 4,    /* there are 1 to 64 addresses */
-    DIA_BAD_APPLICATION = 5 /* there are 1 to 1,024 applications, each kind and number once */
+    DIA_BAD_APPLICATION = 5 /* there are 1 to 1,024 applications, each kind and number once; 4294967295 is one only with
+                                DIA_MANNER_RELAYS */
 };
 
 /* Opens a closed handle with an end that is idle.
@@ -376,7 +377,7 @@ dia_status dia_peer_open(uint32_t role, const uint8_t *host, size_t host_len, co
 
 /* What an end does beyond a connection of two nodes that aren't agents. */
 enum {
-    DIA_MANNER_RELAYS = 1 /* 4294967295 stands for all applications (RFC 6733 section 2.4) */
+    DIA_MANNER_RELAYS = 1 /* 4294967295 means all applications (RFC 6733 section 2.4) */
 };
 
 /* The same for an end of a manner, 0 or DIA_MANNER_RELAYS. DIA_BAD_ARGUMENT: `role` or `manner` is none. */
@@ -396,18 +397,19 @@ enum {
 /* Why a connection is given up: the values of Disconnect-Cause (RFC 6733 section 5.4.3). */
 enum { DIA_CAUSE_REBOOTING = 0, DIA_CAUSE_BUSY = 1, DIA_CAUSE_DO_NOT_WANT = 2 };
 
-/* Tells what happened. `bytes` are read of DIA_BYTES alone, and `cause` of DIA_STOP alone.
+/* Delivers an event. `bytes` are read of DIA_BYTES alone, and `cause` of DIA_STOP alone.
  * DIA_OUTPUTS_LEFT: first take the outputs of the last event. DIA_BAD_ARGUMENT: there is no such event, or no such cause. */
 dia_status dia_peer_event(dia_peer *peer, uint32_t event, const uint8_t *bytes, size_t bytes_len, uint32_t cause);
 
 enum {
     DIA_SEND = 0, /* send the bytes, which are one message, valid under the base dictionary */
-    DIA_CLOSE = 1 /* close the transport connection, behind what was sent */
+    DIA_CLOSE = 1 /* close the transport connection, after what was sent */
 };
 
 /* Why an end closes the connection. */
 enum {
-    DIA_WHY_INVALID = 0,      /* what came is no message, or no valid one of the commands of connections */
+    DIA_WHY_INVALID = 0,      /* what came is no message, or no valid one of the commands of connections; or more than 1,024
+                               * applications would be common */
     DIA_WHY_NO_COMMON = 1,    /* the two ends have no application in common */
     DIA_WHY_REFUSED = 2,      /* the CEA has another Result-Code, or is an error message */
     DIA_WHY_WATCHDOG = 3,     /* a DWR was not answered in time */
@@ -430,19 +432,19 @@ enum {
     DIA_STATE_CLOSED = 5    /* for good */
 };
 
-/* Where the connection stands. Takes no memory. */
+/* The state of the connection. Takes no memory. */
 dia_status dia_peer_state(dia_peer *peer, uint32_t *state);
 
-/* Tells an application that both ends have in common by its index, from 0, the Auth ones first and then by number: *app with
- * has_vendor 0. There is none before the connection is open, and they stay from then on. DIA_NONE: there are no more.
+/* Delivers an application that both ends have in common by its index, from 0, the Auth ones first and then by number: *app with
+ * has_vendor 0. Between two relays it is one, of the number 4294967295. There is none before the connection is open, and they stay from then on. DIA_NONE: there are no more.
  * Takes no memory. */
 dia_status dia_peer_common(dia_peer *peer, size_t index, dia_app *app);
 
-/* Tells whether messages of an application are for this connection: *serves is 1 or 0. It is 1 for application 0, for those
+/* Delivers whether messages of an application are for this connection: *serves is 1 or 0. It is 1 for application 0, for those
  * that both ends have in common, and for all between two relays. Takes no memory. */
 dia_status dia_peer_serves(dia_peer *peer, uint32_t id, uint32_t *serves);
 
-/* Closes the handle, and tells the other end nothing. Takes no memory. */
+/* Closes the handle, and sends nothing to the other end. Takes no memory. */
 void dia_peer_close(dia_peer *peer);
 
 #ifdef __cplusplus

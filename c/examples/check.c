@@ -28,7 +28,7 @@ static size_t read_message(const char *path) {
     return len;
 }
 
-/* Tells all that is wrong with the dictionary's text. */
+/* Prints all that is wrong with the dictionary's text. */
 static void print_faults(const char *path, size_t len) {
     dia_faults faults = DIA_FAULTS_INIT;
     dia_fault fault;

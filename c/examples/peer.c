@@ -1,5 +1,5 @@
 /* peer: two ends of a connection in one process, with a pipe each way. They open, the initiator watches, and then it goes.
- * Standard output tells what each end does. Status 0: both are closed at the end.
+ * Standard output shows what each end does. Status 0: both are closed at the end.
  *     cc peer.c $(pkg-config --cflags --libs dia) */
 #define _POSIX_C_SOURCE 200809L
 #include <dia.h>
@@ -50,7 +50,7 @@ static int do_outputs(side *s) {
     return status == DIA_NONE;
 }
 
-static int tell(side *s, uint32_t event, size_t len, uint32_t cause) {
+static int deliver(side *s, uint32_t event, size_t len, uint32_t cause) {
     return dia_peer_event(&s->peer, event, message, len, cause) == DIA_OK && do_outputs(s);
 }
 
@@ -67,18 +67,18 @@ static int read_all(int from, uint8_t *to, size_t wanted) {
     return 1;
 }
 
-/* Tells an end the next message that the other has sent. Bytes that begin no message are told as they are, and then it closes. */
+/* Delivers the next message that the other has sent. Bytes that begin no message are delivered as they are, and then it closes. */
 static int hear(side *s) {
     dia_verdict verdict;
     uint32_t length = HEADER;
     if (!read_all(s->from, message, HEADER)) {
-        return tell(s, DIA_LOST, 0, 0);
+        return deliver(s, DIA_LOST, 0, 0);
     }
     dia_message_length(message, HEADER, &length, &verdict);
     if (length > sizeof message || !read_all(s->from, message + HEADER, length - HEADER)) {
-        return tell(s, DIA_LOST, 0, 0);
+        return deliver(s, DIA_LOST, 0, 0);
     }
-    return tell(s, DIA_BYTES, length, 0);
+    return deliver(s, DIA_BYTES, length, 0);
 }
 
 static int are(side *a, side *b, uint32_t wanted, const char *told) {
@@ -104,12 +104,12 @@ int main(void) {
     done = open_side(&initiator, DIA_INITIATOR, "a.example.com", "example.com", 1)
         && open_side(&responder, DIA_RESPONDER, "b.example.net", "example.net", 2)
         /* the transport connection is there: capabilities are exchanged */
-        && tell(&responder, DIA_START, 0, 0) && tell(&initiator, DIA_START, 0, 0) && hear(&responder) && hear(&initiator)
+        && deliver(&responder, DIA_START, 0, 0) && deliver(&initiator, DIA_START, 0, 0) && hear(&responder) && hear(&initiator)
         && are(&initiator, &responder, DIA_STATE_OPEN, "both are open")
         /* no message came for a time: a watchdog and its answer */
-        && tell(&initiator, DIA_TICK, 0, 0) && hear(&responder) && hear(&initiator)
+        && deliver(&initiator, DIA_TICK, 0, 0) && hear(&responder) && hear(&initiator)
         /* the initiator goes */
-        && tell(&initiator, DIA_STOP, 0, DIA_CAUSE_REBOOTING) && hear(&responder) && hear(&initiator)
+        && deliver(&initiator, DIA_STOP, 0, DIA_CAUSE_REBOOTING) && hear(&responder) && hear(&initiator)
         && are(&initiator, &responder, DIA_STATE_CLOSED, "both are closed");
     dia_peer_close(&initiator.peer);
     dia_peer_close(&responder.peer);

@@ -1,5 +1,5 @@
-/* relay_guard DICTIONARY < FROM > TO: reads messages that stand back to back, as a connection brings them, and writes those that
- * are valid. Standard error tells of each of the others. Status 0: all were valid; 1: some were not; 2: no more could be read.
+/* relay_guard DICTIONARY < FROM > TO: reads messages back to back, as a connection brings them, and writes those that
+ * are valid. Standard error reports each of the others. Status 0: all were valid; 1: some were not; 2: no more could be read.
  *     cc relay_guard.c $(pkg-config --cflags --libs dia) */
 #include <dia.h>
 #include <stdio.h>
@@ -20,7 +20,7 @@ static int open_dictionary(const char *path, dia_dict *dict) {
     return dia_dict_open(text, len, dict, &problem) == DIA_OK;
 }
 
-/* Reads the next message: its length, or 0 where there is none. *broken tells whether the bytes end within one, or begin none. */
+/* Reads the next message: its length, or 0 where there is none. *broken says whether the bytes end within one, or begin none. */
 static uint32_t next_message(int *broken) {
     dia_verdict verdict;
     uint32_t length = 0;

@@ -1,5 +1,5 @@
-/* stream DICTIONARY < BYTES: tells of each message, as they stand back to back, where it begins and what is said of it. The bytes
- * are checked in the pieces in which they come, and no message is kept. A fault of the version or of the Message Length is told
+/* stream DICTIONARY < BYTES: prints of each message, back to back, where it begins and its verdict. The bytes
+ * are checked in the pieces in which they come, and no message is buffered. A fault of the version or of the Message Length is reported
  * last, since it is not known where the next message begins. Status 0: all are valid; 1: some are not; 2: the bytes end within a
  * message, or no more could be read.
  *     cc stream.c $(pkg-config --cflags --libs dia) */
@@ -40,7 +40,7 @@ typedef struct {
     int status;
 } reader;
 
-/* Ends the message, and tells what is said of it. */
+/* Ends the message, and prints its verdict. */
 static dia_status finish(reader *r, dia_dict *dict) {
     dia_verdict verdict;
     dia_status status = dia_stream_finish(&r->stream, &verdict);
