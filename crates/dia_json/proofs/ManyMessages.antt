@@ -1,5 +1,5 @@
 -- Runs over many messages.
-use Rattle.std.proofs.Common.{◌≡◌, ◌≢◌, ◌⊎◌, ℕ, List, [], Option, None, Some, Result, Ok, Err, map, refl, sym, ap, subst, ◌∙◌, inl, inr}
+use Rattle.std.proofs.Common.{◌≡◌, ◌≢◌, ◌⊎◌, ℕ, List, [], Option, Some, Result, Ok, Err, map, refl, sym, ap, subst, ◌∙◌, inl, inr}
 use Rattle.std.specs.Prelude.{IfOk, IsErr}
 use Rattle.std.specs.declared.alloc.AllocError.{AllocError}
 use Rattle.std.specs.Io.KnownBytes.{Appends}
@@ -39,7 +39,7 @@ pub ends_badly : (input : Input) (refused : Refused) (text : List ℕ) (exit : E
 ends_badly input (Bad bad) text exit is = is.1
 ends_badly input NoMemory text exit none = absurd none
 
-nothing : (fed old new : Option (List ℕ)) → new ≡ old → IsNothing fed fed old new
+pub nothing : (fed old new : Option (List ℕ)) → new ≡ old → IsNothing fed fed old new
 nothing fed old new same = (Consumes-nil fed, subst (λ (p : Option (List ℕ)). Appends old p []) (sym same) (Appends-nil old))
 
 -- R holds of the line of this refusal

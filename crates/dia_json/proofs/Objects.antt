@@ -1,7 +1,8 @@
 -- The texts of the objects of a message.
-use Rattle.std.proofs.Common.{◌≡◌, ◌∙◌, ℕ, Bool, List, [], ◌∷◌, ◌++◌, Option, Some, None, length, take, drop, append_assoc, ap, refl, sym, subst, true, false, codes, inl, inr, arith}
-use Rattle.std.specs.Prelude.{slice_get, IfSome, option_and_then}
+use Rattle.std.proofs.Common.{◌≡◌, ◌≢◌, ◌∙◌, ℕ, List, [], ◌∷◌, ◌++◌, Option, Some, None, Result, Ok, Err, append_assoc, ap, refl, sym, subst, true, codes, inl, inr, arith}
+use Rattle.std.specs.Prelude.{slice_get, IfSome, OnOk, option_and_then}
 use Rattle.std.specs.Fmt.{decimal}
+use Rattle.std.specs.List.{concat}
 use Rattle.std.proofs.lemmas.List.Concat.{flat_map-cons}
 use Rattle.std.proofs.lemmas.Option.{slice_get_cases}
 use Rattle.json.specs.Print.{quoted}
@@ -10,25 +11,34 @@ use Rattle.serde_json.specs.Written.{compact_text, members_text}
 use Rattle.serde_json.proofs.OnLiterals.{serde_json_on_literals}
 use Rattle.dia_wire.specs.declared.Header.{Header}
 use Rattle.dia_wire.specs.declared.Key.{Key}
-use Rattle.dia_wire.specs.Wire.{IsHead, IsMessageLength, PlainAvp, avp_length, key_of}
+use Rattle.dia_wire.specs.Wire.{PlainAvp, avp_length}
 use Rattle.dia_data.specs.declared.Format.{Format}
 use Rattle.dia_data.specs.declared.Format.TheVariants as format
-use Rattle.dia_data.specs.Plain.{PlainFormat, plain_format, Grouped}
-use Rattle.dia_dict.specs.Dictionary.{Dictionary, DictEntry, PlainDefinition, definitions, entry_of, selected}
+use Rattle.dia_data.specs.Plain.{PlainFormat, plain_format}
+use Rattle.dia_dict.specs.Dictionary.{Dictionary, DictEntry, entry_of}
 use Rattle.dia_dict.specs.Keys.{same_key}
 use Rattle.dia_dict.proofs.Lists.{position-within}
 use Rattle.dia_check.specs.declared.Subject.TheVariants.{Avp}
-use Rattle.dia_valid.specs.Valid.{class_of, known}
+use Rattle.dia_valid.specs.Valid.{known}
 use Rattle.dia_io.specs.declared.Exit.{Exit}
-use Rattle.dia_run.specs.Outcome.{listing_exit}
-use Rattle.dia_run.proofs.KnownAvps.{group_known}
-use Rattle.dia_captures.specs.Verdicts.{name_of}
+use Rattle.dia_io.specs.declared.Exit.TheVariants as exits
+use Rattle.dia_io.specs.declared.Inputs.{Inputs}
+use Rattle.dia_report.specs.declared.refusing.Refused.{Refused}
+use Rattle.dia_report.specs.declared.refusing.Refused.TheVariants.{Bad, NoMemory}
+use Rattle.dia_report.specs.Refusals.{RecordsOf}
+use Rattle.dia_run.specs.Listing.{IsPlainRow}
+use Rattle.dia_run.specs.Outcome.{Ends, IsShowOutcome, IsWritten, ended}
+use Rattle.dia_run.specs.Rows.{AreWritten, PlainKnown, Row, of_avp}
+use Rattle.dia_run.specs.Texts.{IsDictionaryText, IsMessageText}
+use Rattle.dia_run.specs.Walk.{Adds}
+use Rattle.dia_run.proofs.OutcomeParts.{not_refused, refused_as}
 use Rattle.dia_show.specs.Listing.{Manner, IsDateOf, IsWordOf}
-use Rattle.dia_json.specs.Listing.{AddsAvp, AddsLevel, IsNamedLeaf}
-use Rattle.dia_json.specs.Messages.{AreShown, IsRecorded, IsValue, RecordsMessage, bad_length_members, command_member, header_members, hex_value, known_group, known_leaf, lines_of, name_member}
-use Rattle.dia_json.specs.Messages.{note_members, shown_members, stranger, text_member, value_member, vendor_value}
+use Rattle.dia_json.specs.Listing.{IsNamedLeaf, IsNamedText}
+use Rattle.dia_json.specs.Messages.{IsFormatNamed, IsObject, IsObjectRow, IsRecorded, IsValue, RecordsMessage, bad_length_members, command_member, header_members, hex_value, lines_of, name_member}
+use Rattle.dia_json.specs.Messages.{note_members, shown_members, text_member, value_member, vendor_value}
 use Rattle.dia_json.specs.Values.{about, avp_members, subject_members}
 use Rattle.dia_refused_json.specs.Members.{json_line, key_members, named_members}
+use Rattle.dia_refused_json.specs.Recording.{RefusesAs}
 
 -- ---- the last members of an AVP
 
@@ -125,43 +135,38 @@ bad_ends place = simp append_assoc
 pub bad_recorded : (place : ℕ) (old new : List ℕ) → new ≡ old ++ bad_text place (codes ",\"reason\":\"avp-length\"}\n") → new ≡ old ++ json_line (bad_length_members place)
 bad_recorded place old new is = is ∙ ap (λ (t : List ℕ). old ++ t) (bad_ends place ∙ sym (bad_is place))
 
--- ---- what the dictionary knows of an AVP
+-- ---- the row of an AVP
 
-plain_format-Grouped : (f : Format) → plain_format f ≡ Grouped → f ≡ format.Grouped
-plain_format-Grouped format.Grouped h = refl
-plain_format-Grouped f h = cc
+-- data that is no group's has its value
+leaf_named : (m : Manner) (name : List ℕ) (f : Format) (bytes : List ℕ) (recorded : Members) → ¬ (f ≡ format.Grouped) → IsRecorded m name (plain_format f) bytes recorded
+    → IsFormatNamed m name (plain_format f) bytes (name_member name recorded)
+leaf_named m name format.Grouped bytes recorded no_group is = absurd (no_group refl)
+leaf_named m name f bytes recorded no_group is = (recorded, is, refl)
 
-abbrev Added : ℕ → ℕ → PlainAvp → List ℕ → List ℕ → List ℕ → Type 0
-Added place depth v old new text = (members : Members) → text ≡ members_text true members → new ≡ old ++ json_line (shown_members place depth v members)
+pub named_unknown : (m : Manner) (bytes text : List ℕ) → text ≡ members_text true (value_member (hex_value bytes)) → IsNamedText m None bytes text
+named_unknown m bytes text is = (value_member (hex_value bytes), refl, is)
 
-pub stranger_added : (m : Manner) (d : Dictionary) (place depth : ℕ) (v : PlainAvp) (old new text : List ℕ) → None ≡ entry_of d (key_of v)
-    → text ≡ members_text true (value_member (hex_value v.bytes)) → Added place depth v old new text → AddsAvp m d place depth v old new false
-stranger_added m d place depth v old new text none is_text added =
-    (_, stranger (ap (λ (o : Option ℕ). option_and_then (slice_get d.entries) o) (sym none)) refl refl, added (value_member (hex_value v.bytes)) is_text)
+pub named_group : (m : Manner) (name : List ℕ) (f : Format) (bytes text : List ℕ) → f ≡ format.Grouped → text ≡ members_text true (name_member name no_members)
+    → IsNamedText m (Some (record { name = name; format = plain_format f })) bytes text
+named_group m name f bytes text is_group is =
+    (name_member name no_members, subst (λ (g : Format). IsFormatNamed m name (plain_format g) bytes (name_member name no_members)) (sym is_group) refl, is)
 
-pub group_added : (m : Manner) (d : Dictionary) (place depth : ℕ) (v : PlainAvp) (i : ℕ) (f : Format) (name old new text : List ℕ) → Some i ≡ entry_of d (key_of v)
-    → IfSome (slice_get d.entries i) (λ e. name ≡ e.name) → IfSome (slice_get d.entries i) (λ e. plain_format f ≡ e.format) → f ≡ format.Grouped
-    → text ≡ members_text true (name_member name no_members) → Added place depth v old new text → AddsAvp m d place depth v old new true
-group_added m d place depth v i f name old new text is_i is_name is_format grouped is_text added =
-    let (e, is_group, same) = group_known d v i f name is_i is_name is_format grouped in
-    (_, known_group e is_group refl refl, added (name_member e.name no_members) (is_text ∙ ap (λ (n : List ℕ). members_text true (name_member n no_members)) same))
+pub named_leaf : (m : Manner) (name : List ℕ) (f : Format) (bytes text : List ℕ) → ¬ (f ≡ format.Grouped) → IsNamedLeaf m name (plain_format f) bytes text
+    → IsNamedText m (Some (record { name = name; format = plain_format f })) bytes text
+named_leaf m name f bytes text no_group (recorded, is_recorded, is) = (name_member name recorded, leaf_named m name f bytes recorded no_group is_recorded, is)
 
-pub leaf_added : (m : Manner) (d : Dictionary) (place depth : ℕ) (v : PlainAvp) (i : ℕ) (f : Format) (name old new text : List ℕ) → Some i ≡ entry_of d (key_of v)
-    → IfSome (slice_get d.entries i) (λ e. name ≡ e.name) → IfSome (slice_get d.entries i) (λ e. plain_format f ≡ e.format) → ¬ (f ≡ format.Grouped)
-    → IsNamedLeaf m name (plain_format f) v.bytes text → Added place depth v old new text → AddsAvp m d place depth v old new false
-leaf_added m d place depth v i f name old new text is_i is_name is_format no_group (recorded, is_recorded, is_text) added =
-    elim (slice_get_cases d.entries i).1 [
-      | inl (e, inside, is_e, here) ↦
-          let same : name ≡ e.name = rw is_e at is_name in
-          let format_is : plain_format f ≡ e.format = rw is_e at is_format in
-          let is_known : known d (key_of v) ≡ Some e = ap (λ (o : Option ℕ). option_and_then (slice_get d.entries) o) (sym is_i) ∙ is_e in (
-            name_member e.name recorded,
-            known_leaf e recorded is_known (λ g. no_group (plain_format-Grouped f (format_is ∙ g)))
-                (subst (λ (n : List ℕ). IsRecorded m n e.format v.bytes recorded) same (subst (λ (g : PlainFormat). IsRecorded m name g v.bytes recorded) format_is is_recorded)) refl refl,
-            added (name_member e.name recorded) (is_text ∙ ap (λ (n : List ℕ). members_text true (name_member n recorded)) same),
-          )
-      | inr (past, none) ↦ absurd (omega (arith, past, position-within (λ (e : DictEntry). same_key (key_of v) e.key) d.entries i (sym is_i)))
-    ]
+pub avp_added : {X E : Type 0} (r : Result X E) (m : Manner) (place depth : ℕ) (v : PlainAvp) (known : Option PlainKnown) (text old new : List ℕ) → IsNamedText m known v.bytes text
+    → OnOk r ((members : Members) → text ≡ members_text true members → new ≡ old ++ json_line (shown_members place depth v members))
+    → OnOk r (Adds (IsObjectRow m (of_avp place depth v known)) old new)
+avp_added (Ok x) m place depth v known text old new (named, is_named, is_text) added =
+    (json_line (shown_members place depth v named), (shown_members place depth v named, (named, is_named, refl), refl), added named is_text)
+avp_added (Err e) m place depth v known text old new named added = tt
+
+-- a row of one object
+pub object_added : {X E : Type 0} (r : Result X E) (m : Manner) (row : Row) (object : Members) (old new : List ℕ) → IsObject m row object → OnOk r (new ≡ old ++ json_line object)
+    → OnOk r (Adds (IsObjectRow m row) old new)
+object_added (Ok x) m row object old new is added = (json_line object, (object, is, refl), added)
+object_added (Err e) m row object old new is added = tt
 
 -- ---- headers
 
@@ -170,10 +175,9 @@ header_text h len rest =
     codes "{\"version\":" ++ (decimal 1 ++ (codes ",\"flags\":" ++ (decimal h.flags ++ (codes ",\"code\":" ++ (decimal h.code ++ (codes ",\"application\":" ++ (decimal h.app
     ++ (codes ",\"hop_by_hop\":" ++ (decimal h.hop ++ (codes ",\"end_to_end\":" ++ (decimal h.e2e ++ (codes ",\"length\":" ++ (decimal len ++ rest)))))))))))))
 
-header_is : (d : Dictionary) (h : Header) (len : ℕ)
-    → json_line (header_members d h len) ≡ header_text h len (members_text true (command_member d (selected d h.code (class_of h.flags) h.app))) ++ codes "\n"
+header_is : (h : Header) (len : ℕ) (name : Option (List ℕ)) → json_line (header_members h len name) ≡ header_text h len (members_text true (command_member name)) ++ codes "\n"
 unfolding serde_json_on_literals
-header_is d h len = refl
+header_is h len name = refl
 
 header_ends : (h : Header) (len : ℕ) (rest : List ℕ) → header_text h len (rest ++ codes "\n") ≡ header_text h len rest ++ codes "\n"
 header_ends h len rest = simp append_assoc
@@ -184,61 +188,46 @@ header_joined : (h : Header) (len : ℕ) (rest old : List ℕ)
     ++ (codes "\"length\":" ++ (decimal len ++ rest)) ≡ old ++ header_text h len rest
 header_joined h len rest old = simp append_assoc
 
-pub header_recorded : (d : Dictionary) (h : Header) (len : ℕ) (command old one two new : List ℕ)
-    → command ≡ members_text true (command_member d (selected d h.code (class_of h.flags) h.app))
+pub header_recorded : (h : Header) (len : ℕ) (name : Option (List ℕ)) (command old one two new : List ℕ) → command ≡ members_text true (command_member name)
     → one ≡ old ++ (codes "{\"version\":" ++ (decimal 1 ++ (codes ",\"flags\":" ++ (decimal h.flags ++ (codes ",\"code\":" ++ (decimal h.code ++ codes ","))))))
     → two ≡ one ++ (codes "\"application\":" ++ (decimal h.app ++ (codes ",\"hop_by_hop\":" ++ (decimal h.hop ++ (codes ",\"end_to_end\":" ++ (decimal h.e2e ++ codes ","))))))
     → new ≡ two ++ (codes "\"length\":" ++ (decimal len ++ (command ++ codes "\n")))
-    → new ≡ old ++ json_line (header_members d h len)
-header_recorded d h len command old one two new is_command is_one is_two is_new =
+    → new ≡ old ++ json_line (header_members h len name)
+header_recorded h len name command old one two new is_command is_one is_two is_new =
     is_new ∙ ap (λ (t : List ℕ). t ++ (codes "\"length\":" ++ (decimal len ++ (command ++ codes "\n"))))
     (is_two ∙ ap (λ (t : List ℕ). t ++ (codes "\"application\":" ++ (decimal h.app ++ (codes ",\"hop_by_hop\":" ++ (decimal h.hop ++ (codes ",\"end_to_end\":"
     ++ (decimal h.e2e ++ codes ","))))))) is_one)
     ∙ header_joined h len (command ++ codes "\n") old
     ∙ ap (λ (t : List ℕ). old ++ t)
     (ap (λ (t : List ℕ). header_text h len (t ++ codes "\n")) is_command
-    ∙ header_ends h len (members_text true (command_member d (selected d h.code (class_of h.flags) h.app))) ∙ sym (header_is d h len))
+    ∙ header_ends h len (members_text true (command_member name)) ∙ sym (header_is h len name))
 
-pub command_recorded : (d : Dictionary) (i : ℕ) (c : PlainDefinition) (written text : List ℕ) → slice_get (definitions d) i ≡ Some c → written ≡ quoted c.name
-    → text ≡ codes ",\"command\":" ++ (written ++ codes "}") → text ≡ members_text true (command_member d (Some i))
+pub command_recorded : (name written text : List ℕ) → written ≡ quoted name → text ≡ codes ",\"command\":" ++ (written ++ codes "}") → text ≡ members_text true (command_member (Some name))
 unfolding serde_json_on_literals
-command_recorded d i c written text is_def is_name is =
-    is ∙ ap (λ (t : List ℕ). codes ",\"command\":" ++ (t ++ codes "}")) (is_name ∙ ap (λ (o : Option PlainDefinition). quoted (name_of o)) (sym is_def))
+command_recorded name written text is_name is = is ∙ ap (λ (t : List ℕ). codes ",\"command\":" ++ (t ++ codes "}")) is_name
 
 -- ---- a whole message
 
-pub message_recorded : (m : Manner) (d : Dictionary) (body begun headed all : List ℕ) (h : Header) (len : ℕ) (bad : Bool) (exit : Exit) → begun ≡ [] → headed ≡ begun ++ json_line (header_members d h len)
-    → AddsLevel m d (record { depth = 0; place = 20; bytes = body }) headed all bad → exit ≡ listing_exit bad
-    → (avps : List Members) × (ends : Bool) × AreShown m d (record { depth = 0; place = 20; bytes = body }) avps ends
-    × (all ≡ lines_of (header_members d h len ∷ avps)) × (exit ≡ listing_exit ends)
-message_recorded m d body begun headed all h len bad exit none is_headed (avps, are, is_all) is_exit = (
-  avps,
-  bad,
-  are,
-  is_all ∙ ap (λ (f : List ℕ). f ++ lines_of avps) (is_headed ∙ ap (λ (f : List ℕ). f ++ json_line (header_members d h len)) none)
-      ∙ sym (flat_map-cons json_line (header_members d h len) avps),
-  is_exit,
-)
+objects_written : (m : Manner) (rows : List Row) (texts : List (List ℕ)) → AreWritten (IsObjectRow m) rows texts
+    → (objects : List Members) × AreWritten (IsObject m) rows objects × (concat texts ≡ lines_of objects)
+objects_written m [] [] all = ([], tt, refl)
+objects_written m [] (t ∷ texts) all = absurd all
+objects_written m (row ∷ rows) [] all = absurd all
+objects_written m (row ∷ rows) (t ∷ texts) ((object, is_object, is_text), all) =
+    let (objects, are, same) = objects_written m rows texts all in
+    (object ∷ objects, (is_object, are), ap (λ (front : List ℕ). front ++ concat texts) is_text ∙ ap (λ (rest : List ℕ). json_line object ++ rest) same ∙ sym (flat_map-cons json_line object objects))
 
-pub message_is : (m : Manner) (d : Dictionary) (bytes body : List ℕ) (h : Header) (len : ℕ) (text : List ℕ) (exit : Exit) → IsHead h (length bytes) (take 20 bytes)
-    → IsMessageLength (length bytes) → body ≡ drop 20 bytes → len ≡ length bytes
-    → (avps : List Members) × (bad : Bool) × AreShown m d (record { depth = 0; place = 20; bytes = body }) avps bad
-    × (text ≡ lines_of (header_members d h len ∷ avps)) × (exit ≡ listing_exit bad)
-    → RecordsMessage m d bytes text exit
-message_is m d bytes body h len text exit head long is_body is_len (avps, bad, are, is_text, is_exit) = (
-  header_members d h (length bytes) ∷ avps,
-  bad,
-  record {
-    h = h;
-    avps = avps;
-    head = head;
-    long = long;
-    shown = subst (λ (b : List ℕ). AreShown m d (record { depth = 0; place = 20; bytes = b }) avps bad) is_body are;
-    are = refl;
-  },
-  is_text ∙ ap (λ (n : ℕ). lines_of (header_members d h n ∷ avps)) is_len,
-  is_exit,
-)
+pub message_recorded : (m : Manner) (d : Dictionary) (bytes text : List ℕ) (exit : Exit) → IsWritten (IsObjectRow m) d bytes text exit → exit ≢ exits.Bad → RecordsMessage m d bytes text exit
+message_recorded m d bytes text exit written whole =
+    let (rows, texts, bad, are, are_written, is_text, is_exit) = not_refused (IsObjectRow m) d bytes text exit written whole in
+    let (objects, are_objects, same) = objects_written m rows texts are_written in
+    (objects, bad, (rows, are, are_objects), is_text ∙ same, is_exit)
+
+-- a message that is refused, as `show` refuses it
+pub message_refused : (m : Manner) (inputs : Inputs) (d : Dictionary) (bytes : List ℕ) (r : Refused) → IsDictionaryText inputs.first d → IsMessageText inputs.message bytes
+    → Ends (IsWritten (IsObjectRow m) d bytes) (Err r) → RecordsOf (RefusesAs (IsShowOutcome inputs)) r
+message_refused m inputs d bytes (Bad bad) is_d is_message written = ended d bytes is_d is_message (refused_as (IsObjectRow m) IsPlainRow d bytes _ written)
+message_refused m inputs d bytes NoMemory is_d is_message written = tt
 
 -- ---- what a fault is about
 

@@ -4,3 +4,4 @@ pub mod Reports
 pub mod Runs
 pub mod Values
 pub mod Whole
+pub mod ShownLines

@@ -1,4 +1,4 @@
--- What the reports of answers as JSON tell, but for one of an input that is refused.
+-- What the reports of answers as JSON have, but for one of an input that is refused.
 use Rattle.std.specs.Prelude.{◌≡◌, ℕ, List, string_bytes}
 use Rattle.dia_dict.specs.Dictionary.{Dictionary}
 use Rattle.dia_dict.specs.declared.IndexedBook.{IndexedBook}

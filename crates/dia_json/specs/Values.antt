@@ -1,4 +1,4 @@
--- The answers of `check` and `refute` as JSON values (RFC 8259), whose members stand in this order.
+-- The answers of `check` and `refute` as JSON values (RFC 8259), whose members are in this order.
 use Rattle.std.specs.Prelude.{ℕ, List, Option, None, Some, codes, slice_get}
 use Rattle.serde_json.specs.Data.{Members, boolean, member, no_members, number, object, string, unsigned}
 use Rattle.dia_wire.specs.declared.Key.{Key}
@@ -56,15 +56,15 @@ checked_members d (Wrong flaw.Trailing) = verdict_members (codes "trailing") no_
 checked_members d (Wrong flaw.TooLong) = too_long_members
 checked_members d (Wrong flaw.NotHexadecimal) = not_hexadecimal_members
 
--- that on a message of a stream, behind its place
+-- that on a message of a stream, after its place
 abbrev pub placed_members : Dictionary → ℕ × Checked → Members
 placed_members d verdict = member (codes "place") (number (unsigned verdict.0)) (checked_members d verdict.1)
 
--- the members behind the number of a line
+-- the members after the number of a line
 abbrev pub numbered : ℕ → Members → Members
 numbered n members = member (codes "line") (number (unsigned n)) members
 
--- both verdicts of `refute`, behind what they say together. A text that spells no message is told once
+-- both verdicts of `refute`, after what they say together. A text that spells no message is reported once
 abbrev pub both_members : Dictionary → Dictionary → Refuted → Members
 both_members a b verdict = member (codes "refutes") (boolean (refutes verdict))
     (member (codes "first") (object (checked_members a verdict.first)) (member (codes "second") (object (checked_members b verdict.second)) no_members))
@@ -72,7 +72,7 @@ both_members a b verdict = member (codes "refutes") (boolean (refutes verdict))
 abbrev pub refuted_members : Dictionary → Dictionary → Refuted → Members
 refuted_members a b verdict = unless_refused too_long_members not_hexadecimal_members (both_members a b verdict) verdict.first
 
--- ---- their lines, and those of messages that stand in the n-th line of a text
+-- ---- their lines, and those of messages in the n-th line of a text
 
 abbrev pub checked_json : Dictionary → Checked → List ℕ
 checked_json d verdict = json_line (checked_members d verdict)

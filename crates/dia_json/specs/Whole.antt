@@ -33,7 +33,7 @@ values_members (values.Limit n) = refused_members (codes "values") (codes "limit
 abbrev pub RecordsValues : BadValues → List ℕ → Exit → Type 0
 RecordsValues bad text exit = (text ≡ json_line (values_members bad)) × (exit ≡ Bad)
 
--- the words of values are refused, behind a dictionary
+-- the words of values are refused, after a dictionary was read
 abbrev pub RefusesValues : Inputs → List ℕ → Exit → Type 0
 RefusesValues inputs text exit =
     (d : Dictionary) × (bad : BadValues) × IsDictionaryText inputs.first d × IsNoValuesText inputs.table bad × RecordsValues bad text exit

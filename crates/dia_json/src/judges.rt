@@ -1,4 +1,4 @@
-//! Judges that tell their verdicts as JSON.
+//! Judges that write their verdicts as JSON.
 
 use crate::verdicts::{push_numbered, push_numbered_refuted, push_placed};
 use dia_captures::{CheckJudge, Checked, Flaw, RefuteJudge, Refuted, check_bytes, check_line};
@@ -8,13 +8,13 @@ use dia_lines::Judge;
 use dia_streams::MessageJudge;
 use std::alloc::{AllocError, Global};
 
-/// `check` of each line, or of each message of a stream, told as JSON.
+/// `check` of each line, or of each message of a stream, written as JSON.
 #[derive(Drop)]
 pub struct JsonCheck<'a, B: Book> {
     pub check: CheckJudge<'a, B>,
 }
 
-/// `refute` of each line, told as JSON.
+/// `refute` of each line, written as JSON.
 #[derive(Drop)]
 pub struct JsonRefute<'a, A: Book, B: Book> {
     pub refute: RefuteJudge<'a, A, B>,

@@ -1,115 +1,133 @@
-//! The objects of the AVPs of a message.
+//! The rows of `show` as JSON: an object a line.
 
-ghost use Rattle.std.specs.Prelude.{◌≡◌, ◌<◌, ◌+◌, ◌^◌, ◌++◌, length, true, IfOk, OnOk, codes, option_map, string_bytes};
+ghost use Rattle.std.specs.Prelude.{◌≡◌, ◌++◌, true, IfOk, OnOk, codes, option_map, string_bytes, List, Option, ℕ};
 ghost use Rattle.serde_json.specs.Data.{Members, no_members};
 ghost use Rattle.serde_json.specs.Written.{compact_text, members_text};
 ghost use Rattle.dia_wire.specs.Wire.{plain_avp};
 ghost use Rattle.dia_data.specs.Plain.{plain_format};
 ghost use Rattle.dia_refused_json.specs.Members.{json_line};
-ghost use Rattle.dia_json.specs.Messages.{bad_length_members, hex_value, name_member, note_members, shown_members};
+ghost use Rattle.dia_run.specs.Walk.{plain_known};
+ghost use Rattle.dia_json.specs.Messages.{bad_length_members, command_member, header_members, hex_value, name_member, note_members};
+ghost use Rattle.dia_json.specs.Messages.{shown_members, text_member, value_member, vendor_value};
+ghost use Rattle.dia_json.specs.Listing.{IsNamedLeaf, IsNamedText};
 ghost use Rattle.dia_show.specs.Manners.{plain_manner_of};
-ghost use Rattle.dia_json.specs.Messages.{text_member, value_member, vendor_value};
-ghost use Rattle.dia_json.specs.Listing.{AddsAvp, AddsLevel, IsNamedLeaf};
 
 use crate::values::{hex_text, value_text};
-use dia_dict::{Book, Format};
+use dia_dict::Format;
 use dia_refused_json::quoted;
+use dia_run::{Known, RowWriter};
 use dia_show::{Manner, date_of, word_of};
-use dia_wire::{Avp, AvpFault, key, next_avp};
+use dia_wire::{Avp, Header};
 use std::alloc::{AllocError, Global};
 
 /// DIAMETER_INVALID_AVP_LENGTH (RFC 6733 section 7.1.5).
 const BAD_LENGTH: u32 = 5014;
 
-/// What is left of a level, and the place of the level's end.
-#[derive(Clone, Copy)]
-struct Rest<'a> {
-    bytes: &'a [u8],
-    end: usize,
+/// The version of each message that is shown (RFC 6733 section 3).
+const VERSION: u8 = 1;
+
+/// Writes an object for each row, on a line, in a manner.
+#[derive(Drop)]
+pub struct JsonRows<'a, 't> {
+    pub manner: &'a Manner<'t>,
 }
 
-/// Adds the objects of a level, and of the groups in it that the dictionary knows. `bytes` are the level, which begins at `place`.
-/// Answers whether they end at a bad length.
-///
-/// The levels around the current one wait in a list, so depth takes memory and no stack.
-pub fn push_level<B: Book>(
-    alloc: Global,
+impl<'a, 't> RowWriter for JsonRows<'a, 't> {
+    ghost use Rattle.dia_json.specs.Messages.{IsObjectRow};
+    ghost use Rattle.dia_show.specs.Manners.{plain_manner_of};
+
+    ghost writes = { λ rows. IsObjectRow (plain_manner_of rows.manner.now) };
+
+    fn write_header(
+        &self,
+        alloc: Global,
+        text: &mut String,
+        header: &Header,
+        length: usize,
+        command: Option<&str>,
+    ) -> Result<(), AllocError> {
+        let command = command_text(alloc, command)?;
+        push_header(text, header, length, command.as_str())
+    }
+
+    fn write_avp(
+        &self,
+        alloc: Global,
+        text: &mut String,
+        place: usize,
+        depth: usize,
+        avp: &Avp<'_>,
+        known: Option<Known<'_>>,
+    ) -> Result<(), AllocError> {
+        let named = named(alloc, self.manner, known, avp.bytes)?;
+        push_object(alloc, text, place, depth, avp, named.as_str())
+    }
+
+    fn write_bad_length(&self, text: &mut String, place: usize) -> Result<(), AllocError> {
+        push_bad_length(text, place)
+    }
+}
+
+/// Adds the object of a header. `size` is the Message Length, and `command` the member of the command with the brace after it.
+fn push_header(
     text: &mut String,
+    header: &Header,
+    size: usize,
+    command: &str,
+) -> Result<(), AllocError>
+    ensures { OnOk result ((name : Option (List ℕ)) → command.now ≡ members_text true (command_member name)
+        → string_bytes text.new ≡ string_bytes text.old ++ json_line (header_members header.now size name)) }
+{
+    let flags = header.flags;
+    let code = header.code;
+    let app = header.app;
+    let hop = header.hop;
+    let end = header.e2e;
+    write!(
+        text,
+        "{{\"version\":{VERSION},\"flags\":{flags},\"code\":{code},"
+    )?;
+    write!(
+        text,
+        "\"application\":{app},\"hop_by_hop\":{hop},\"end_to_end\":{end},"
+    )?;
+    write!(text, "\"length\":{size}{command}\n")
+}
+
+/// The member of a command of this name, if there is one, and the brace after it.
+fn command_text(alloc: Global, command: Option<&str>) -> Result<String, AllocError>
+    ensures { IfOk result (λ text. string_bytes text
+        ≡ members_text true (command_member (option_map (λ name. name.now) command.entry))) }
+{
+    match command {
+        Some(name) => {
+            let name = quoted(alloc, name)?;
+            format!(in alloc; ",\"command\":{name}}}")
+        }
+        None => String::from_str(alloc, "}"),
+    }
+}
+
+/// The name and the data of an AVP, and the brace after them.
+fn named(
+    alloc: Global,
     manner: &Manner<'_>,
-    book: &B,
+    known: Option<Known<'_>>,
     bytes: &[u8],
-    place: usize,
-) -> Result<bool, AllocError>
-    requires { place + length bytes.now < 2 ^ 63 }
-    ensures { IfOk result (AddsLevel (plain_manner_of manner.now) (B.meaning book.now)
-        (record { depth = 0; place = place; bytes = bytes.now })
-        (string_bytes text.old) (string_bytes text.new)) }
+) -> Result<String, AllocError>
+    ensures { IfOk result (λ text. IsNamedText (plain_manner_of manner.now) (option_map plain_known known.entry) bytes.now
+        (string_bytes text)) }
 {
-    let mut outer = Vec::new(alloc);
-    let mut rest = Rest {
-        bytes,
-        end: place + bytes.len(),
-    };
-    loop {
-        let place = rest.end - rest.bytes.len();
-        match next_avp(rest.bytes) {
-            Ok(Some((avp, following))) => {
-                let is_group = push_avp(alloc, text, manner, book, place, outer.len(), &avp)?;
-                rest.bytes = following;
-                if is_group {
-                    outer.push(rest)?;
-                    rest = Rest {
-                        bytes: avp.bytes,
-                        end: place + avp.length(),
-                    };
-                }
-            }
-            Ok(None) => match outer.pop() {
-                Some(level) => rest = level,
-                None => return Ok(false),
-            },
-            Err(AvpFault::Length) => {
-                push_bad_length(text, place)?;
-                return Ok(true);
-            }
-        }
+    match known {
+        Some(known) => match known.format {
+            Format::Grouped => named_group(alloc, known.name),
+            format => named_leaf(alloc, manner, known.name, format, bytes),
+        },
+        None => unnamed(alloc, bytes),
     }
 }
 
-/// Adds the object of an AVP, and answers whether it is a known group.
-fn push_avp<B: Book>(
-    alloc: Global,
-    text: &mut String,
-    manner: &Manner<'_>,
-    book: &B,
-    place: usize,
-    depth: usize,
-    avp: &Avp<'_>,
-) -> Result<bool, AllocError>
-    ensures { IfOk result (AddsAvp (plain_manner_of manner.now) (B.meaning book.now) place depth (plain_avp avp.now)
-        (string_bytes text.old) (string_bytes text.new)) }
-{
-    let Some(entry) = book.avp(key(avp)) else {
-        let named = unnamed(alloc, avp.bytes)?;
-        push_object(alloc, text, place, depth, avp, named.as_str())?;
-        return Ok(false);
-    };
-    let name = book.entry_name(entry);
-    match book.format(entry) {
-        Format::Grouped => {
-            let named = named_group(alloc, name)?;
-            push_object(alloc, text, place, depth, avp, named.as_str())?;
-            Ok(true)
-        }
-        format => {
-            let named = named_leaf(alloc, manner, name, format, avp.bytes)?;
-            push_object(alloc, text, place, depth, avp, named.as_str())?;
-            Ok(false)
-        }
-    }
-}
-
-/// The last member of an AVP that the dictionary doesn't know, and the brace behind it.
+/// The last member of an AVP that the dictionary doesn't have, and the brace after it.
 fn unnamed(alloc: Global, bytes: &[u8]) -> Result<String, AllocError>
     ensures { IfOk result (λ text. string_bytes text ≡ members_text true (value_member (hex_value bytes.now))) }
 {
@@ -117,7 +135,7 @@ fn unnamed(alloc: Global, bytes: &[u8]) -> Result<String, AllocError>
     format!(in alloc; ",\"value\":{value}}}")
 }
 
-/// The last member of a group of this name, and the brace behind it.
+/// The last member of a group of this name, and the brace after it.
 fn named_group(alloc: Global, name: &str) -> Result<String, AllocError>
     ensures { IfOk result (λ text. string_bytes text ≡ members_text true (name_member name.now no_members)) }
 {
@@ -125,7 +143,7 @@ fn named_group(alloc: Global, name: &str) -> Result<String, AllocError>
     format!(in alloc; ",\"name\":{name}}}")
 }
 
-/// The last members of an AVP of this name, and the brace behind them.
+/// The last members of an AVP of this name, and the brace after them.
 fn named_leaf(
     alloc: Global,
     manner: &Manner<'_>,
@@ -144,7 +162,7 @@ fn named_leaf(
     format!(in alloc; ",\"name\":{name},\"value\":{value}{rest}")
 }
 
-/// The members of a word and a date, as far as they are there, and the brace behind them.
+/// The members of a word and a date, as far as they are there, and the brace after them.
 fn noted(alloc: Global, word: Option<&str>, date: Option<String>) -> Result<String, AllocError>
     ensures { IfOk result (λ text. string_bytes text ≡ members_text true
         (note_members (option_map (λ word. word.now) word.entry) (option_map (λ date. string_bytes date) date))) }
@@ -159,7 +177,7 @@ fn noted(alloc: Global, word: Option<&str>, date: Option<String>) -> Result<Stri
     }
 }
 
-/// The member of a date, if it is there, and the brace behind it.
+/// The member of a date, if it is there, and the brace after it.
 fn dated(alloc: Global, date: Option<String>) -> Result<String, AllocError>
     ensures { IfOk result (λ text. string_bytes text ≡ members_text true
         (text_member (codes "time") (option_map (λ date. string_bytes date) date) no_members)) }
@@ -204,7 +222,7 @@ fn vendor_text(alloc: Global, vendor: Option<u32>) -> Result<String, AllocError>
     }
 }
 
-/// Adds the object of a place at which no AVP begins.
+/// Adds the object of an offset at which no AVP begins.
 fn push_bad_length(text: &mut String, place: usize) -> Result<(), AllocError>
     ensures { OnOk result (string_bytes text.new ≡ string_bytes text.old ++ json_line (bad_length_members place)) }
 {

@@ -16,7 +16,7 @@ use dia_refused_json::quoted;
 use std::alloc::{AllocError, Global};
 use std::str;
 
-/// What the data of a format is told as.
+/// What the data of a format is written as.
 #[derive(Clone, Copy, PartialEq, Eq)]
 pub enum ValueKind {
     /// A number of 32 bits.

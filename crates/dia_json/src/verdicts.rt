@@ -201,7 +201,7 @@ fn push_fault<B: Book>(
     push_subject(alloc, text, book, fault.subject)
 }
 
-/// Adds the member for what a fault is about, if there is one, and the brace behind it.
+/// Adds the member for what a fault is about, if there is one, and the brace after it.
 fn push_subject<B: Book>(
     alloc: Global,
     text: &mut String,

@@ -1,8 +1,8 @@
 //! A message as JSON.
 
 use dia_dict::base_text;
-use dia_io::{Exit, Input, Inputs};
-use dia_json::show;
+use dia_io::{Exit, FromReader, Input, Inputs, ToWriter};
+use dia_json::{show, show_lines};
 use std::alloc::{AllocError, Global};
 use std::test::Fail;
 
@@ -41,6 +41,31 @@ fn shows_a_word(rt: HostRuntime) -> Result<(), Fail> {
     let answered = show(rt.alloc(), true, &inputs)?;
     assert_eq!(rt; answered.exit, Exit::Yes);
     assert!(rt; answered.text.as_str() == WORDED);
+    Ok(())
+}
+
+/// This request, a text that isn't hexadecimal, and a message that ends in its header.
+const LINES: &str = "\
+010000208000011a000000000000000100000002000001114000000c00000000
+x
+01000020
+";
+
+const NUMBERED: &str =
+    r#"{"line":1,"version":1,"flags":128,"code":282,"application":0,"hop_by_hop":1,"end_to_end":2,"length":32,"command":"DPR"}
+{"line":1,"at":20,"depth":0,"code":273,"vendor":null,"flags":64,"length":12,"name":"Disconnect-Cause","value":0,"word":"REBOOTING"}
+{"line":2,"error":"message","kind":"not hexadecimal"}
+{"line":3,"error":"message","kind":"short"}
+"#;
+
+#[test]
+fn shows_lines(rt: HostRuntime) -> Result<(), Fail> {
+    let inputs = inputs(rt.alloc(), "Disconnect-Cause 0 REBOOTING\n", "")?;
+    let mut feed = FromReader::new(LINES.as_bytes());
+    let mut sink = ToWriter::new(Vec::new(rt.alloc()));
+    let reported = show_lines(rt.alloc(), true, &inputs, &mut feed, &mut sink)?;
+    assert_eq!(rt; reported.exit, Exit::No);
+    assert!(rt; sink.writer.as_slice() == NUMBERED.as_bytes());
     Ok(())
 }
 

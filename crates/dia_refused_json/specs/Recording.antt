@@ -20,7 +20,7 @@ abbrev pub RecordsBad : Input → AnyRefusal → List ℕ → Exit → Type 0
 RecordsBad input (refused.Bad bad) text exit = (text ≡ bad_input_json input bad) × (exit ≡ Bad)
 RecordsBad input refused.NoMemory text exit = ⊥
 
--- an input is refused, of which the command tells this as text
+-- an input is refused, of which the command reports this as text
 abbrev pub IsRefusal : (List ℕ → Type 0) → Input → List ℕ → Exit → Type 0
 IsRefusal refuses input text exit = (bad : BadInput) × refuses (bad_input_text bad) × (text ≡ bad_input_json input bad) × (exit ≡ Bad)
 
@@ -36,11 +36,11 @@ RefusedDictionary inputs text exit = IsDictionaryRefusal (RefusesFirst inputs) i
 abbrev pub RefusedDictionaries : Inputs → List ℕ → Exit → Type 0
 RefusedDictionaries inputs text exit = RefusedDictionary inputs text exit ⊎ IsDictionaryRefusal (RefusesSecond inputs) inputs.second text exit
 
--- the command refuses an input, and tells this as text
+-- the command refuses an input, and reports this as text
 abbrev pub RefusesAs : (List ℕ → Exit → Type 0) → List ℕ → Type 0
 RefusesAs outcome recorded = outcome (line recorded) Bad
 
--- the report has the input that is refused, of which this is the object; or it is another, of which P tells
+-- the report has the input that is refused, of which this is the object; or it is another, of which P holds
 abbrev pub IsRefusedOr : (Report → List ℕ → Exit → Type 0) → Report → List ℕ → Exit → Type 0
 IsRefusedOr P (Refused bad) text exit = (input : Input) × (text ≡ bad_input_json input bad) × (exit ≡ Bad)
 IsRefusedOr P report text exit = P report text exit

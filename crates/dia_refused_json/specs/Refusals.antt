@@ -37,7 +37,7 @@ abbrev pub text_of : Input → List ℕ
 text_of (Bytes v) = v.items
 text_of TooLong = []
 
--- a line of a text, and the column of a place on it, as standard error tells them, in front of other members
+-- a line of a text, and the column of a place on it, as standard error reports them, before other members
 abbrev pub on_line_with : ℕ → List ℕ → ℕ → Members → Members
 on_line_with n text at rest = member (codes "line") (number (unsigned n)) (member (codes "column") (number (unsigned (column_at text at))) rest)
 
@@ -60,11 +60,11 @@ string_items (s ∷ rest) = item (string s) (string_items rest)
 abbrev pub strings : List (List ℕ) → Data
 strings list = array (string_items list)
 
--- a string behind the first of an array
+-- a string after the first of an array
 abbrev pub another : List ℕ → List ℕ
 another s = 44 ∷ quoted s
 
--- a place where the grammar refuses a text, and what could stand there
+-- a place where the grammar refuses a text, and what was expected there
 abbrev pub expecting : ℕ → List ℕ → ℕ → Wanted → Members
 expecting n text at wanted = on_line_with n text at (member (codes "expected") (strings (expected wanted)) no_members)
 

@@ -78,7 +78,7 @@ fn misfit_line(
     }
 }
 
-/// The line of a text that the grammar refuses at a place, on this line, where other words could stand.
+/// The line of a text that the grammar refuses at a place, on this line, where other words were expected.
 fn expecting_line(
     alloc: Global,
     input: &str,
@@ -158,7 +158,7 @@ fn refused_line(alloc: Global, input: &str, kind: &str) -> Result<String, AllocE
     format!(in alloc; "{{\"error\":{input},\"kind\":{kind}}}\n")
 }
 
-/// The line of an input that is refused for what stands at a place of its text.
+/// The line of an input that is refused for what is at a place of its text.
 fn refused_at(
     alloc: Global,
     input: &str,
@@ -173,7 +173,7 @@ fn refused_at(
     refused_on(alloc, input, kind, line, spelt, at)
 }
 
-/// The line of an input that is refused for what stands at a place of its text, on this line.
+/// The line of an input that is refused for what is at a place of its text, on this line.
 fn refused_on(
     alloc: Global,
     input: &str,

@@ -32,7 +32,7 @@ pub(crate) fn quoted_array(alloc: Global, list: &[&str]) -> Result<String, Alloc
     }
 }
 
-/// Adds the strings behind the first of an array.
+/// Adds the strings after the first of an array.
 fn push_others(alloc: Global, text: &mut String, others: &[&str]) -> Result<(), AllocError>
     ensures { OnOk result (string_bytes text.new
         ≡ string_bytes text.old ++ flat_map another (map (λ string. string.now) others.now)) }

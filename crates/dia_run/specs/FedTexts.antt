@@ -19,7 +19,7 @@ pub record WasFed {B : Type 0} {ghosts : Ghosts B} (meaning : B → Dictionary) 
   pub occurs : Denotes meaning s d u most (taken_of bytes)
   pub follow : IsTrue trailing ↔ (length (taken_of bytes) < length bytes)
 
--- the text spells no bytes, and this is told
+-- the text spells no bytes, and this is reported
 abbrev pub IsNoHexadecimal : List ℕ → List ℕ → Type 0
 IsNoHexadecimal text recorded = SpellsNone text × (recorded ≡ codes "message: not hexadecimal")
 

@@ -127,7 +127,7 @@ pub data IsRefutation (u : Unknown) (most : Levels) (input : Input) (a b : Dicti
 abbrev pub IsRefuteOutcome : Unknown → Levels → Inputs → List ℕ → Exit → Type 0
 IsRefuteOutcome u most inputs text exit = IsPairOutcome (IsRefutation u most inputs.message) inputs text exit
 
--- what is told of a name that is no command's
+-- what is reported of a name that is no command's
 abbrev pub no_command_line : List ℕ → List ℕ
 no_command_line name = codes "propose: no command " ++ name
 

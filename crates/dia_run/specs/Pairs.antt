@@ -1,4 +1,4 @@
--- Tables of pairs as texts, and what is told of a pair.
+-- Tables of pairs as texts, and what is reported of a pair.
 use Rattle.std.specs.Prelude.{◌≡◌, ◌≢◌, ℕ, ◌<◌, List, [], ◌++◌, Some, codes, slice_get, ⊤}
 use Rattle.std.specs.Str.{IsUtf8}
 use Rattle.dia_inclusion.specs.declared.Answer.{Answer}
@@ -30,7 +30,7 @@ table_fault_text (table.Syntax n) = fault_at (codes "syntax") n
 table_fault_text (table.Limit n) = fault_at (codes "limit") n
 table_fault_text table.NoMemory = []
 
--- the input is no table's text, and this is told
+-- the input is no table's text, and this is reported
 pub data IsNoTableText (input : Input) (recorded : List ℕ) : Type 0 where
   too_long : IsOver input max_table → recorded ≡ table_line (codes "too long") → IsNoTableText input recorded
   not_text : (text : List ℕ) → Holds input max_table text → ¬ IsUtf8 text → recorded ≡ table_line (codes "not text")
@@ -67,7 +67,7 @@ IsAnswerText t Passed text exit = (text ≡ line (codes "yes")) × (exit ≡ Yes
 IsAnswerText t (Failed pair.Command i test) text exit = IsFailureText (codes "command") t.commands i test text exit
 IsAnswerText t (Failed pair.Avp i test) text exit = IsFailureText (codes "avp") t.avps i test text exit
 
--- the pair that an answer names stands in the table
+-- the pair that an answer names is in the table
 abbrev pub NamesPair : PlainTable → Answer → Type 0
 NamesPair t Passed = ⊤
 NamesPair t (Failed k i test) = i < pairs_of k t

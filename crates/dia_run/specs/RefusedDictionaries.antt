@@ -1,4 +1,4 @@
--- What is told of two dictionaries, of which one is refused.
+-- What is reported of two dictionaries, of which one is refused.
 use Rattle.std.specs.Prelude.{◌≡◌, ℕ, List}
 use Rattle.dia_dict.specs.Dictionary.{Dictionary}
 use Rattle.dia_io.specs.declared.Inputs.{Inputs}

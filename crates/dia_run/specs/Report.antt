@@ -75,7 +75,7 @@ RecordsRefusal (refusal.Bad bad) answered = (answered.report ≡ Refused bad)
     × Refuses (bad_input_text bad) (string_bytes answered.text) answered.exit
 RecordsRefusal refusal.NoMemory answered = ⊥
 
--- what is told of a dictionary was found in this input: where its text is refused, or what it says; and of a table, where its bytes are no text
+-- what is reported of a dictionary was found in this input: where its text is refused, or what it says; and of a table, where its bytes are no text
 abbrev pub HasFinding : Input → AnyRefusal → Type 0
 HasFinding input (refusal.Bad (Dictionary number (NoSource misfit))) = (text : List ℕ) × Holds input max_text text × IsRefused text (At misfit)
 HasFinding input (refusal.Bad (Dictionary number (Wrong found))) = IsSourceText input (plain_source found.source.value)

@@ -1,4 +1,4 @@
--- What the texts of the inputs say, and what is told of one that says nothing.
+-- What the texts of the inputs say, and what is reported of one that says nothing.
 use Rattle.std.specs.Prelude.{◌≡◌, ◌≢◌, ℕ, ◌⊎◌, List, [], ◌∷◌, ◌++◌, None, Some, Ok, codes, IsOk}
 use Rattle.std.specs.Str.{IsUtf8}
 use Rattle.std.specs.Str.Lossy.{utf8_valid_len}
@@ -34,7 +34,7 @@ IsNoText input limit at = (bytes : List ℕ) × Holds input limit bytes × (¬ I
 abbrev pub IsSourceText : Input → PlainSource → Type 0
 IsSourceText input source = (text : List ℕ) × Holds input max_text text × IsUtf8 text × Derives (tokens text) source
 
--- what is told of a text that the grammar refuses
+-- what is reported of a text that the grammar refuses
 abbrev pub refused_text : NoText → List ℕ
 refused_text unread.TooLong = codes "too long"
 refused_text unread.NoMemory = []
@@ -63,7 +63,7 @@ IsNoDictionaryText input why = IsNoSourceText input why ⊎ ((source : PlainSour
 abbrev pub IsMessageText : Input → List ℕ → Type 0
 IsMessageText input bytes = (text : List ℕ) × Holds input max_message_text text × (decode_of (digits_of text) ≡ Ok bytes)
 
--- the input is no hexadecimal text within the limit, and this is told
+-- the input is no hexadecimal text within the limit, and this is reported
 pub data IsNoMessageText (input : Input) (recorded : List ℕ) : Type 0 where
   too_long : IsOver input max_message_text → recorded ≡ codes "message: too long" → IsNoMessageText input recorded
   not_hexadecimal : (text : List ℕ) → Holds input max_message_text text → ¬ IsOk (decode_of (digits_of text))

@@ -54,7 +54,7 @@ abbrev pub RefusesInputs : Inputs → List ℕ → Type 0
 RefusesInputs inputs recorded = ((why : List ℕ) × IsNoDictionaryText inputs.first why × (recorded ≡ dictionary_line 1 why))
     ⊎ ((d : Dictionary) × (bad : BadValues) × IsDictionaryText inputs.first d × IsNoValuesText inputs.table bad × (recorded ≡ values_line bad))
 
--- the text for the lines of these bytes, and how it ends: what is told of each line, in order, with yes where each was shown to its
+-- the text for the lines of these bytes, and how it ends: what is written of each line, in order, with yes where each was shown to its
 -- end; or one line of an input that is refused
 pub data IsLinesOutcome (names : Bool) (inputs : Inputs) (bytes text : List ℕ) (exit : Exit) : Type 0 where
   shown : (answers : List Answer) → ((recorded : List ℕ) → ¬ RefusesInputs inputs recorded) → IsAnswered (OfLine names inputs) bytes answers

@@ -1,4 +1,4 @@
--- What a report tells: what was read and found, and what was written.
+-- What a report has: what was read and found, and what was written.
 use Rattle.std.specs.Prelude.{◌≢◌, ℕ, List, Option, string_bytes}
 use Rattle.std.specs.Io.KnownBytes.{Appends}
 use Rattle.dia_dict.specs.Dictionary.{Dictionary}
@@ -25,7 +25,7 @@ IsRecorded meaning inputs (NoValues bad) text exit = IsNoValuesText inputs.table
 abbrev pub HasReport : (IndexedBook → Dictionary) → Inputs → Answered → Type 0
 HasReport meaning inputs answered = IsRecorded meaning inputs answered.report (string_bytes answered.text) answered.exit
 
--- what the report of `show --lines` tells: nothing of lines that were read, or else which input is refused
+-- what the report of `show --lines` has: nothing of lines that were read, or else which input is refused
 abbrev pub IsRecordedOfLines : Inputs → Report → List ℕ → Exit → Type 0
 IsRecordedOfLines inputs (OfShow Done) text exit = exit ≢ Bad
 IsRecordedOfLines inputs (OfShow (Refused bad)) text exit = Refuses (bad_input_text bad) text exit

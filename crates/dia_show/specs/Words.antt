@@ -32,7 +32,7 @@ Word = (List ℕ × List ℕ) × List ℕ
 
 -- ---- a line: `NAME NUMBER WORD`
 
--- what stands before the first blank (32), and what behind it
+-- what precedes the first blank (32), and what follows it
 abbrev pub front_part : List ℕ → List ℕ
 front_part text = take (prefix_len (λ c. not (c == 32)) text) text
 
@@ -93,7 +93,7 @@ words_of text = flat_map words_by (lines text)
 
 -- ---- what is wrong with a text
 
--- with the line of this number, behind lines that have these words
+-- with the line of this number, after lines that have these words
 abbrev pub line_fault : ℕ → List Word → List ℕ → Option ValuesFault
 line_fault n before line =
     if nat_lt max_lines n then Some (fault.Limit n)
@@ -133,7 +133,7 @@ bad_values_text (Syntax n) = fault_at (codes "syntax") n
 bad_values_text (Duplicate n) = fault_at (codes "duplicate") n
 bad_values_text (Limit n) = fault_at (codes "limit") n
 
--- what is told of it
+-- what is reported of it
 abbrev pub values_line : BadValues → List ℕ
 values_line bad = codes "values: " ++ bad_values_text bad
 

@@ -61,7 +61,7 @@ fn date_of(days: u64) -> Date
     }
 }
 
-/// The whole years since 1900, and the days behind them.
+/// The whole years since 1900, and the days after them.
 fn years_of(days: u64) -> (u64, u64)
     requires { days < 2 ^ 33 }
     ensures parts { days ≡ days_of_years result.0 + result.1 }
@@ -77,7 +77,7 @@ fn years_of(days: u64) -> (u64, u64)
     (years, rest)
 }
 
-/// The whole months of a year, and the days behind them.
+/// The whole months of a year, and the days after them.
 fn months_of(leap: bool, days: u64) -> (u64, u64)
     requires { days < days_in_year leap }
     ensures parts { days ≡ days_of_months leap result.0 + result.1 }
@@ -138,7 +138,7 @@ fn push_clock(text: &mut String, seconds: u64) -> Result<(), AllocError>
     text.push_str("Z")
 }
 
-/// Adds a sign, and a number with two digits or more behind it.
+/// Adds a sign, and then a number with two digits or more.
 fn push_part(text: &mut String, sign: &str, number: u64) -> Result<(), AllocError>
     ensures { OnOk result (string_bytes text.new
         ≡ string_bytes text.old ++ sign.now ++ two_digits number) }

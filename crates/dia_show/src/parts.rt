@@ -6,7 +6,7 @@ ghost use Rattle.dia_show.specs.Words.{is_number, is_positive, is_skipped, is_wo
 
 use crate::byte_kinds::{ByteKind, all_are};
 
-/// A word, and what it stands for.
+/// A word, and the number of an AVP that it is the word of.
 #[derive(Clone, Copy)]
 pub(crate) struct Entry<'a> {
     pub name: &'a str,
@@ -47,7 +47,7 @@ fn is_comment(line: &[u8]) -> bool
     }
 }
 
-/// What stands before the first blank, and what behind it.
+/// What precedes the first blank, and what follows it.
 fn parts(text: &str) -> (&str, &str)
     ensures front { result.0.now ≡ front_part text.now }
     ensures following { result.1.now ≡ after_part text.now }

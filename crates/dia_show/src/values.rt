@@ -20,7 +20,7 @@ use std::alloc::{AllocError, Global};
 /// The bytes of a Time.
 const TIME_LENGTH: usize = 4;
 
-/// Adds what is told of the data of an AVP.
+/// Adds the data of an AVP: its value, its word and its date.
 pub(crate) fn push_recorded(
     alloc: Global,
     text: &mut String,
@@ -84,7 +84,7 @@ fn value_of(alloc: Global, names: bool, format: &Format, bytes: &[u8]) -> Result
     }
 }
 
-/// Whether data is told as a text would be.
+/// Whether data is written as a text.
 fn is_text(names: bool, format: &Format, bytes: &[u8]) -> bool
     ensures { result ≡ is_text names (plain_format format.now) bytes.now }
 {

@@ -107,7 +107,7 @@ impl<'t> Words<'t> {
         Ok(())
     }
 
-    /// Adds a word behind the others, where there is none for the number.
+    /// Adds a word after the others, where there is none for the number.
     fn insert(&mut self, name: &'t str, number: &'t str, word: &'t str) -> Result<(), AllocError>
         requires { word_of (plain_words self.old) name.now number.now ≡ None }
         ensures { OnOk result (plain_words self.new ≡ plain_words self.old ++ ((name.now, number.now), word.now) ∷ []) }

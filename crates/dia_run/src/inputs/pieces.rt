@@ -17,7 +17,7 @@ const MAX_DIGITS: usize = 2 * MAX_PIECE;
 #[derive(Clone, Copy)]
 pub struct Piece<'a> {
     pub length: usize,
-    /// The text behind them.
+    /// The text that follows them.
     pub rest: &'a [u8],
 }
 

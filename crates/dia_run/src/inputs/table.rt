@@ -12,7 +12,7 @@ use dia_report::{BadInput, BadTable, Refused};
 use dia_tables::{MAX_TABLE, Table, TableFault, parse_table};
 use std::alloc::Global;
 
-/// The table that an input's text spells. A text that spells none is refused as standard output tells it: too long, no UTF-8,
+/// The table that an input's text spells. A text that spells none is refused, as standard output reports: too long, no UTF-8,
 /// a line that is no pair, or a line past the most pairs.
 pub fn read_table(alloc: Global, input: &Input) -> Result<Table, Refused>
     ensures table { IfOk result (λ table. IsTableText input.now (plain_table table)) }

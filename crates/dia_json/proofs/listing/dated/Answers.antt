@@ -1,4 +1,4 @@
-use Rattle.std.proofs.Common.{◌≡◌, string_bytes}
+use Rattle.std.proofs.Common.{string_bytes}
 use Rattle.std.proofs.lemmas.Result.{IfOk-weaker}
 use Rattle.dia_json.proofs.Objects.{date_recorded}
 use Rattle.dia_json.proofs.listing.dated.Goals as goal

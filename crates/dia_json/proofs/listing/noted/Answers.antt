@@ -1,4 +1,3 @@
-use Rattle.std.proofs.Common.{◌≡◌}
 use Rattle.std.proofs.lemmas.Result.{IfOk-weaker}
 use Rattle.dia_json.proofs.Objects.{word_recorded}
 use Rattle.dia_json.proofs.listing.noted.Goals as goal

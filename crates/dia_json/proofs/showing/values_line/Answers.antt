@@ -1,4 +1,4 @@
-use Rattle.std.proofs.Common.{◌≡◌, ◌∙◌, sym}
+use Rattle.std.proofs.Common.{◌∙◌, sym}
 use Rattle.std.proofs.lemmas.Result.{IfOk-weaker}
 use Rattle.dia_json.proofs.Shown.{long_is, no_text_is, syntax_recorded, duplicate_recorded, limit_recorded}
 use Rattle.dia_json.proofs.showing.values_line.Goals as goal

@@ -1,4 +1,3 @@
-use Rattle.std.proofs.Common.{◌≡◌}
 use Rattle.dia_json.specs.Whole.{IsShowJson}
 use Rattle.dia_json.proofs.Shown.{same_outcome, shown_with}
 use Rattle.dia_json.proofs.showing.with_words.Goals as goal

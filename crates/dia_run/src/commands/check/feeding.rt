@@ -60,7 +60,7 @@ pub(crate) fn check_message<B: Book>(
 
 /// Feeds the message that a text spells to a stream, and adds its bytes. Answers whether bytes follow it.
 ///
-/// Text behind the message, or behind a fault, is read to its end, too.
+/// Text that follows the message, or a fault, is read to its end, too.
 fn feed_text<'a, B: Book>(
     stream: &mut Stream<'a, B>,
     text: &[u8],
