@@ -1,0 +1,81 @@
+-- A level that is gone through AVP by AVP.
+use Rattle.std.proofs.Common.{◌≡◌, ℕ, ◌<◌, List, [], ◌∷◌, ◌++◌, length, map, take, drop, ◌-◌, ◌+◌, ◌≤◌, ◌≢◌, append-nil, refl, sym, ap, subst, ◌∙◌, append_assoc, arith}
+use Rattle.std.specs.Prelude.{All, Result, Ok, Err, IfOk}
+use Rattle.byteorder.specs.Endian.{big_from}
+use Rattle.dia_wire.specs.Number.{number}
+use Rattle.dia_wire.proofs.Fields.{big_from-number}
+use Rattle.dia_check.specs.declared.Reason.{Reason}
+use Rattle.dia_check.specs.declared.Reason.TheVariants as reason
+use Rattle.std.proofs.lemmas.List.{length-append, length-drop, map-append, take_rest}
+use Rattle.std.proofs.lemmas.List.Elements.{All-push}
+use Rattle.dia_wire.specs.declared.Avp.{Avp}
+use Rattle.dia_wire.specs.Wire.{PlainAvp, plain_avp, avp_length, Agrees, Spells, SpellsAll, BeginsWith, BeginsWithNone}
+use Rattle.dia_wire.proofs.Spelling.{opened, rounded-le, at_least_8}
+use Rattle.dia_answer.specs.Requests.{AreFront, AreRequestAvps}
+
+pub begun : (v : PlainAvp) (front : List ℕ) → Spells v front → 0 < length front
+begun v front s = let o = opened v front [] s in omega (arith, o.front_length, rounded-le (avp_length v), at_least_8 v.vendor)
+
+-- what follows the first AVP is shorter
+pub shorter : (v : PlainAvp) (level rest : List ℕ) → BeginsWith v level rest → length rest < length level
+shorter v level rest (front, s, parts) = omega (arith, begun v front s, ap length parts, length-append front rest)
+
+pub begins_agrees : (v : PlainAvp) (level rest : List ℕ) → BeginsWith v level rest → Agrees v
+begins_agrees v level rest b = b.1.agrees
+
+pub nothing_begins : (level : List ℕ) → length level ≡ 0 → BeginsWithNone level
+nothing_begins level none v rest b = absurd (omega (arith, none, shorter v level rest b))
+
+-- one AVP more
+pub spelled_more : (vs : List PlainAvp) (v : PlainAvp) (b front : List ℕ) → SpellsAll vs b → Spells v front → SpellsAll (vs ++ v ∷ []) (b ++ front)
+spelled_more [] v b front all s = (front, [], s, ap (λ (x : List ℕ). x ++ front) all ∙ sym (append-nil front), refl)
+spelled_more (w ∷ vs) v b front (head, rest, t, parts, all) s =
+    (head, rest ++ front, t, ap (λ (x : List ℕ). x ++ front) parts ∙ append_assoc head rest front, spelled_more vs v rest front all s)
+
+-- these AVPs were read, and this is left
+pub record HasRead (level : List ℕ) (avps : List Avp) (left : List ℕ) : Type 0 where
+  pub front : List ℕ
+  pub parts : level ≡ front ++ left
+  pub spelled : SpellsAll (map plain_avp avps) front
+
+pub read_none : (level : List ℕ) → HasRead level [] level
+read_none level = record { front = []; parts = refl; spelled = refl }
+
+pub read_more : (level : List ℕ) (avps new : List Avp) (v : Avp) (left rest : List ℕ) → HasRead level avps left → BeginsWith (plain_avp v) left rest → new ≡ avps ++ v ∷ [] → HasRead level new rest
+read_more level avps new v left rest r b is = record {
+  front = r.front ++ b.0;
+  parts = r.parts ∙ ap (λ (x : List ℕ). r.front ++ x) b.2 ∙ sym (append_assoc r.front b.0 rest);
+  spelled = subst (λ (vs : List PlainAvp). SpellsAll vs (r.front ++ b.0)) (sym (ap (map plain_avp) is ∙ map-append plain_avp avps (v ∷ []))) (spelled_more (map plain_avp avps) (plain_avp v) r.front b.0 r.spelled b.1);
+}
+
+pub agree_more : (avps new : List Avp) (v : Avp) (left rest : List ℕ) → All (λ v. Agrees (plain_avp v)) avps → BeginsWith (plain_avp v) left rest → new ≡ avps ++ v ∷ [] → All (λ v. Agrees (plain_avp v)) new
+agree_more avps new v left rest agree b is = subst (All (λ v. Agrees (plain_avp v))) (sym is) (All-push (λ v. Agrees (plain_avp v)) avps v agree b.1.agrees)
+
+pub read_all : (level : List ℕ) (avps : List Avp) (left : List ℕ) → HasRead level avps left → BeginsWithNone left → AreFront (map plain_avp avps) level
+read_all level avps left r none = record { front = r.front; rest = left; parts = r.parts; spelled = r.spelled; none = none }
+
+pub IfOk-map : {X E : Type 0} (P Q : X → Type 0) → ((x : X) → P x → Q x) → (r : Result X E) → IfOk r P → IfOk r Q
+IfOk-map P Q h (Ok x) p = h x p
+IfOk-map P Q h (Err e) p = tt
+
+-- a number that was read from a place on
+pub read_field : (i n x : ℕ) (xs : List ℕ) → i + n ≤ length xs → x ≡ big_from 0 n (take (length xs - i) (drop i xs)) → x ≡ number (take n (drop i xs))
+read_field i n x xs h e = e ∙ ap (big_from 0 n) (take_rest xs i) ∙ big_from-number n (drop i xs) (omega (arith, h, length-drop i xs))
+
+-- the AVPs of a body with bounds
+pub read_body : (r : Reason) (avps : List PlainAvp) (bytes : List ℕ) → r ≢ reason.Version → r ≢ reason.Length → AreFront avps (drop 20 bytes) → AreRequestAvps r avps bytes
+read_body reason.Version avps bytes v l h = absurd (v refl)
+read_body reason.Length avps bytes v l h = absurd (l refl)
+read_body reason.Bits avps bytes v l h = h
+read_body reason.Command avps bytes v l h = h
+read_body reason.Application avps bytes v l h = h
+read_body reason.Proxiable avps bytes v l h = h
+read_body reason.AvpLength avps bytes v l h = h
+read_body reason.Unknown avps bytes v l h = h
+read_body reason.MBit avps bytes v l h = h
+read_body reason.Missing avps bytes v l h = h
+read_body reason.NotAllowed avps bytes v l h = h
+read_body reason.TooMany avps bytes v l h = h
+read_body reason.LeafLength avps bytes v l h = h
+read_body reason.LeafValue avps bytes v l h = h
+read_body reason.Depth avps bytes v l h = h

@@ -1,0 +1,8 @@
+pub mod OneCommand
+pub mod Octets
+pub mod OctetsLookups
+pub mod Fronts
+pub mod Messages
+pub mod LoneAvps
+pub mod StockLists
+pub mod Answers

@@ -1,0 +1,5 @@
+pub mod Dictionaries
+pub mod Requests
+pub mod Contents
+pub mod Stocks
+pub mod Reports

@@ -1,0 +1,232 @@
+//! Answers to requests.
+
+ghost use Rattle.std.specs.Prelude.{◌≡◌, ◌<◌, ◌/◌, ◌↔◌, All, IfErr, IfOk, IfSome, IsTrue, ℕ, length, map, slice_get};
+ghost use Rattle.dia_wire.specs.Lengths.{three_bytes};
+ghost use Rattle.dia_wire.specs.Wire.{plain_avp, Agrees, MessageWithZeros};
+ghost use Rattle.dia_book.specs.Dictionary.{definitions};
+ghost use Rattle.dia_dict.specs.Base.{base};
+ghost use Rattle.dia_valid.specs.Valid.{IsValid};
+ghost use Rattle.dia_check.specs.Faults.{IsRecorded};
+ghost use Rattle.dia_answer.specs.Dictionaries.{opaque};
+ghost use Rattle.dia_answer.specs.Reports.{
+  IsAnswerBy,
+  IsAnswerOf,
+  IsFormFor,
+  IsNoAnswer,
+  IsProcessed,
+  IsValidBy,
+  IsWritten,
+  OnMade,
+  answer_header,
+  form_class,
+  form_dictionary,
+};
+
+use crate::contents::{Contents, Extent};
+use crate::forms::{Form, Made, NoAnswer};
+use crate::names::Names;
+use crate::opaque::Opaque;
+use crate::request::header_of;
+use crate::stock::Stock;
+use dia_book::{Book, Class, DRule};
+use dia_check::{Levels, Refusal, Unknown, check};
+use dia_dict::base_book;
+use dia_wire::{Avp, COMMAND_ERROR, COMMAND_PROXIABLE, Header, PutFault, put_message};
+use std::alloc::{AllocError, Global};
+
+/// The answer to a request that reports its first fault.
+pub fn answer<B: Book>(
+    alloc: Global,
+    book: &B,
+    unknown: Unknown,
+    levels: Levels,
+    names: &Names<'_>,
+    bytes: &[u8],
+) -> Result<Result<Made, NoAnswer>, AllocError>
+    ensures first_fault { OnMade (λ made. IsRecorded (B.meaning book.now) unknown levels bytes.now made.fault) result }
+    ensures valid { OnMade (λ made. IsValidBy (B.meaning book.now) unknown levels made.form made.bytes.items) result }
+    ensures processed { OnMade (λ made. IsProcessed bytes.now made.fault.code made.form made.bytes.items) result }
+    ensures permanent { OnMade (λ made. IsFormFor made.fault.code made.form) result }
+    ensures no_answer { IfOk result
+        (λ found. IfErr found (IsNoAnswer (B.meaning book.now) unknown levels bytes.now)) }
+{
+    let Some(header) = header_of(bytes) else {
+        return Ok(Err(NoAnswer::Short));
+    };
+    if !header.is_request() {
+        return Ok(Err(NoAnswer::Answer));
+    }
+    match check(alloc, book, unknown, levels, bytes) {
+        Ok(_) => Ok(Err(NoAnswer::Valid)),
+        Err(Refusal::Fault(fault)) => {
+            let contents = Contents::new(
+                alloc, book, unknown, levels, *names, header, fault, bytes,
+            )?;
+            report(book, &contents)
+        }
+        Err(Refusal::Truncated) => Ok(Err(NoAnswer::Truncated)),
+        Err(Refusal::Trailing) => Ok(Err(NoAnswer::Trailing)),
+        Err(Refusal::NoMemory) => Err(AllocError),
+        Err(Refusal::Spent) => unreachable!(),
+    }
+}
+
+/// The first answer of the forms that is valid: with Failed-AVP and Error-Message, and else without them.
+fn report<B: Book>(book: &B, contents: &Contents<'_>) -> Result<Result<Made, NoAnswer>, AllocError>
+    ensures made { OnMade (IsAnswerOf (B.meaning book.now) contents.now) result }
+    ensures none { IfOk result (λ found. IfErr found (λ why. why ≡ NoAnswer.TooLong)) }
+{
+    if let Some(made) = by_dictionary(book, contents, Extent::Full)? {
+        return Ok(Ok(made));
+    }
+    let base = base_book(contents.alloc)?;
+    if let Some(made) = by_command(&base, contents, Extent::Full, Form::Base)? {
+        return Ok(Ok(made));
+    }
+    if let Some(made) = by_dictionary(book, contents, Extent::Bare)? {
+        return Ok(Ok(made));
+    }
+    match by_command(&base, contents, Extent::Bare, Form::Base)? {
+        Some(made) => Ok(Ok(made)),
+        None => Ok(Err(NoAnswer::TooLong)),
+    }
+}
+
+/// The first valid answer of the two forms that are of the dictionary.
+fn by_dictionary<B: Book>(
+    book: &B,
+    contents: &Contents<'_>,
+    extent: Extent,
+) -> Result<Option<Made>, AllocError>
+    ensures { IfOk result (λ found. IfSome found (IsAnswerOf (B.meaning book.now) contents.now)) }
+{
+    if is_permanent(contents.fault.code) {
+        if let Some(made) = by_command(book, contents, extent, Form::Own)? {
+            return Ok(Some(made));
+        }
+    }
+    by_command(book, contents, extent, Form::Error)
+}
+
+/// Whether the code is one of a permanent failure (RFC 6733 section 7.1.5).
+fn is_permanent(code: u32) -> bool
+    ensures { IsTrue result ↔ (code / 1000 ≡ 5) }
+{
+    code / 1000 == 5
+}
+
+/// The answer of a form, if the dictionary has its command and it is valid.
+fn by_command<B: Book>(
+    book: &B,
+    contents: &Contents<'_>,
+    extent: Extent,
+    form: Form,
+) -> Result<Option<Made>, AllocError>
+    requires { IsFormFor contents.now.fault.code form }
+    ensures { IfOk result (λ found. IfSome found
+        (λ made. IsAnswerBy (B.meaning book.now) contents.now made × (made.form ≡ form))) }
+{
+    let header = &contents.header;
+    let Some(def) = book.select(header.code, class_of(form), header.app) else {
+        return Ok(None);
+    };
+    let rules = &book.def(def).rules;
+    let Some(bytes) = by_rules(book, form, rules, contents, extent)? else {
+        return Ok(None);
+    };
+    let fault = contents.fault;
+    Ok(Some(Made { bytes, form, fault }))
+}
+
+fn class_of(form: Form) -> Class
+    ensures { result ≡ form_class form }
+{
+    match form {
+        Form::Own => Class::Answer,
+        Form::Error | Form::Base => Class::Error,
+    }
+}
+
+/// The answer by the rules of a command, if it is valid.
+fn by_rules<B: Book>(
+    book: &B,
+    form: Form,
+    rules: &[DRule],
+    contents: &Contents<'_>,
+    extent: Extent,
+) -> Result<Option<Vec<u8>>, AllocError>
+    requires { 0 < length (B.meaning book.now).commands }
+    ensures { IfOk result (λ found. IfSome found (λ bytes.
+        IsWritten (B.meaning book.now) form contents.now bytes.items)) }
+{
+    let stock = Stock::new(book, form, rules, contents, extent)?;
+    if form == Form::Own && !stock.is_listed(rules) {
+        return Ok(None);
+    }
+    let avps = stock.in_order(contents.alloc, rules)?;
+    let header = header_for(&contents.header, form);
+    match written(contents.alloc, &header, &avps)? {
+        Some(bytes) => if_valid(book, contents, bytes),
+        None => Ok(None),
+    }
+}
+
+/// The header of an answer (RFC 6733 section 6.2).
+fn header_for(request: &Header, form: Form) -> Header
+    ensures { result ≡ answer_header request.now form }
+{
+    let error = match form {
+        Form::Own => 0,
+        Form::Error | Form::Base => COMMAND_ERROR,
+    };
+    Header {
+        flags: request.flags & COMMAND_PROXIABLE | error,
+        code: request.code,
+        app: request.app,
+        hop: request.hop,
+        e2e: request.e2e,
+    }
+}
+
+/// The message of these AVPs; none where it would be too long.
+fn written(alloc: Global, header: &Header, avps: &[Avp<'_>]) -> Result<Option<Vec<u8>>, AllocError>
+    requires fits { header.now.code < three_bytes }
+    ensures { IfOk result (λ found. IfSome found
+        (λ bytes. MessageWithZeros header.now (map plain_avp avps.now) bytes.items)) }
+{
+    if !avps.iter().all(|avp| avp.agrees()) {
+        return Ok(None);
+    }
+    let mut bytes = Vec::new(alloc);
+    match put_message(&mut bytes, header, avps) {
+        Ok(()) => Ok(Some(bytes)),
+        Err(PutFault::TooLong) => Ok(None),
+        Err(PutFault::NoMemory) => Err(AllocError),
+    }
+}
+
+/// These bytes, if they are a valid message of the dictionary with Failed-AVP as OctetString.
+fn if_valid<B: Book>(
+    book: &B,
+    contents: &Contents<'_>,
+    bytes: Vec<u8>,
+) -> Result<Option<Vec<u8>>, AllocError>
+    ensures { IfOk result (λ found. IfSome found (λ same. (same.items ≡ bytes.items)
+        × IsValid (opaque (B.meaning book.now)) contents.now.unknown contents.now.levels bytes.items)) }
+{
+    let opaque = Opaque::new(book);
+    match check(
+        contents.alloc,
+        &opaque,
+        contents.unknown,
+        contents.levels,
+        &bytes,
+    ) {
+        Ok(_) => Ok(Some(bytes)),
+        Err(Refusal::Fault(_)) => Ok(None),
+        Err(Refusal::Truncated) => Ok(None),
+        Err(Refusal::Trailing) => Ok(None),
+        Err(Refusal::NoMemory) => Err(AllocError),
+        Err(Refusal::Spent) => unreachable!(),
+    }
+}

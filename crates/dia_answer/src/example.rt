@@ -1,0 +1,118 @@
+//! AVPs that are made as examples of what is missing or broken.
+
+ghost use Rattle.std.specs.Prelude.{◌≡◌, ◌≤◌, ◌↔◌, IsSome};
+ghost use Rattle.dia_wire.specs.Wire.{plain_avp, Agrees, HasVendorFlag};
+ghost use Rattle.dia_answer.specs.Stocks.{m_flag};
+
+use dia_book::{Book, Key, MRule};
+use dia_breaking_data::{Witness, shortest};
+use dia_wire::{AVP_HEAD_LENGTH, AVP_MANDATORY, AVP_VENDOR, Avp, VENDOR_AVP_HEAD_LENGTH, number32};
+
+/// An AVP with least data.
+#[derive(Clone, Copy)]
+pub(crate) struct Example {
+    code: u32,
+    flags: u8,
+    vendor: Option<u32>,
+    least: Option<Witness>,
+    ghost agree: { HasVendorFlag flags ↔ IsSome vendor },
+}
+
+impl Example {
+    /// An AVP of the key, as the dictionary has it.
+    pub(crate) fn of_key<B: Book>(book: &B, key: Key) -> Example {
+        let vendor_flag = if key.vendor == 0 { 0 } else { AVP_VENDOR };
+        Example {
+            code: key.code,
+            flags: m_flag(book, key) | vendor_flag,
+            vendor: if key.vendor == 0 {
+                None
+            } else {
+                Some(key.vendor)
+            },
+            least: least_data(book, key),
+        }
+    }
+
+    /// The AVP whose head these bytes begin, with zero bytes for those that aren't there.
+    pub(crate) fn of_head<B: Book>(book: &B, level: &[u8]) -> Example {
+        let head = filled(level);
+        let code = number_at(&head, 0);
+        let flags = head[4];
+        let has_vendor = flags & AVP_VENDOR != 0;
+        let vendor = if has_vendor {
+            Some(number_at(&head, AVP_HEAD_LENGTH))
+        } else {
+            None
+        };
+        let key = Key {
+            code,
+            vendor: vendor.unwrap_or(0),
+        };
+        let length = if has_vendor {
+            VENDOR_AVP_HEAD_LENGTH
+        } else {
+            AVP_HEAD_LENGTH
+        };
+        Example {
+            code,
+            flags,
+            vendor,
+            least: if level.len() < length {
+                None
+            } else {
+                least_data(book, key)
+            },
+        }
+    }
+
+    pub(crate) fn as_avp(&self) -> Avp<'_>
+        ensures { Agrees (plain_avp result) }
+    {
+        Avp {
+            code: self.code,
+            flags: self.flags,
+            vendor: self.vendor,
+            bytes: match &self.least {
+                Some(least) => least.as_slice(),
+                None => &[],
+            },
+        }
+    }
+}
+
+/// The first 12 bytes of a level, with zero bytes for those that aren't there.
+fn filled(level: &[u8]) -> [u8; VENDOR_AVP_HEAD_LENGTH] {
+    let mut head = [0; VENDOR_AVP_HEAD_LENGTH];
+    let count = level.len().min(VENDOR_AVP_HEAD_LENGTH);
+    head[..count].copy_from_slice(&level[..count]);
+    head
+}
+
+fn number_at(head: &[u8; VENDOR_AVP_HEAD_LENGTH], at: usize) -> u32
+    requires { at ≤ 8 }
+{
+    match number32(&head[at..at + 4]) {
+        Some(number) => number,
+        None => unreachable!(),
+    }
+}
+
+/// The M flag of an AVP that is made: set unless its rule forbids it (RFC 6733 section 4.5).
+pub(crate) fn m_flag<B: Book>(book: &B, key: Key) -> u8
+    ensures { result ≡ m_flag (B.meaning book.now) key }
+{
+    let Some(entry) = book.avp(key) else {
+        return AVP_MANDATORY;
+    };
+    match book.rule(entry) {
+        MRule::Must | MRule::Any => AVP_MANDATORY,
+        MRule::MustNot => 0,
+    }
+}
+
+/// The least data of a known AVP: none of a group.
+fn least_data<B: Book>(book: &B, key: Key) -> Option<Witness> {
+    let entry = book.avp(key)?;
+    shortest(book.format(entry))
+}

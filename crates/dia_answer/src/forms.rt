@@ -1,0 +1,54 @@
+//! What an answer is, and why there is none.
+
+use dia_check::Fault;
+use std::fmt;
+
+/// By which definition an answer is made.
+#[derive(Debug, Clone, Copy, PartialEq, Eq)]
+pub enum Form {
+    /// The command's own answer, with E clear (RFC 6733 section 7.1.5).
+    Own,
+    /// An error message, with E set (RFC 6733 section 7.2), by the dictionary's `code, ERR`.
+    Error,
+    /// The same by the base dictionary's.
+    Base,
+}
+
+/// The answer to a request.
+#[derive(Drop)]
+pub struct Made {
+    pub bytes: Vec<u8>,
+    pub form: Form,
+    /// The first fault of the request, which the answer reports.
+    pub fault: Fault,
+}
+
+/// Why a request gets no answer (our profile), in the order in which it is looked for.
+#[derive(Debug, Clone, Copy, PartialEq, Eq)]
+pub enum NoAnswer {
+    /// There are fewer bytes than a header's 20.
+    Short,
+    /// R is clear: it is no request (RFC 6733 section 7.2).
+    Answer,
+    /// There are fewer bytes than the Message Length says.
+    Truncated,
+    /// There are more bytes than the Message Length says.
+    Trailing,
+    /// The request has no fault.
+    Valid,
+    /// Each answer would be longer than 16,777,212 bytes.
+    TooLong,
+}
+
+impl fmt::Display for NoAnswer {
+    fn fmt<W: fmt::Write>(&self, f: &mut fmt::Formatter<W>) -> fmt::Result {
+        f.write_str(match self {
+            NoAnswer::Short => "short",
+            NoAnswer::Answer => "answer",
+            NoAnswer::Truncated => "truncated",
+            NoAnswer::Trailing => "trailing",
+            NoAnswer::Valid => "valid",
+            NoAnswer::TooLong => "too long",
+        })
+    }
+}

@@ -1,0 +1,20 @@
+//! The answer to a request that reports its first fault (RFC 6733 sections 6.2, 7.1, 7.1.5, 7.2 and 7.5).
+#![tactic(auto)]
+
+mod alone;
+mod answering;
+mod around;
+mod codes;
+mod contents;
+mod example;
+mod failed;
+mod forms;
+mod line;
+mod names;
+mod opaque;
+mod request;
+mod stock;
+
+pub use answering::answer;
+pub use forms::{Form, Made, NoAnswer};
+pub use names::{NameFault, Names};

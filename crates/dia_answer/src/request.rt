@@ -1,0 +1,67 @@
+//! The header and the AVPs of a request.
+
+ghost use Rattle.std.specs.Prelude.{◌≡◌, ◌<◌, ◌≤◌, ◌↔◌, All, IfOk, IfSome, None, length, map};
+ghost use Rattle.dia_wire.specs.Lengths.{header_length, three_bytes};
+ghost use Rattle.dia_wire.specs.Wire.{plain_avp, Agrees};
+ghost use Rattle.dia_answer.specs.Requests.{AreFront, AreRequestAvps, IsRequestHead};
+
+use byteorder::{BigEndian, ByteOrder};
+use dia_check::Reason;
+use dia_wire::{Avp, HEADER_LENGTH, Header, next_avp};
+use std::alloc::{AllocError, Global};
+
+/// The header of these bytes as version 1 has it, whatever their version and Message Length are (RFC 6733 section 3). None of
+/// fewer than 20 bytes.
+pub(crate) fn header_of(bytes: &[u8]) -> Option<Header>
+    ensures reads { IfSome result (λ header. IsRequestHead header bytes.now) }
+    ensures fits { IfSome result (λ header. header.code < three_bytes) }
+    ensures short { (result ≡ None) ↔ (length bytes.now < header_length) }
+{
+    if bytes.len() < HEADER_LENGTH {
+        return None;
+    }
+    Some(Header {
+        flags: bytes[4],
+        code: BigEndian::read_u24(&bytes[5..]),
+        app: BigEndian::read_u32(&bytes[8..]),
+        hop: BigEndian::read_u32(&bytes[12..]),
+        e2e: BigEndian::read_u32(&bytes[16..]),
+    })
+}
+
+/// The AVPs of the body, up to a place where none begins; none where the message has no bounds.
+pub(crate) fn avps_of(
+    alloc: Global,
+    reason: Reason,
+    bytes: &[u8],
+) -> Result<Vec<Avp<'_>>, AllocError>
+    requires { header_length ≤ length bytes.now }
+    ensures avps { IfOk result
+        (λ avps. AreRequestAvps reason (map plain_avp avps.items) bytes.now) }
+    ensures agree { IfOk result (λ avps. All (λ v. Agrees (plain_avp v)) avps.items) }
+{
+    match reason {
+        Reason::Version => Ok(Vec::new(alloc)),
+        Reason::Length => Ok(Vec::new(alloc)),
+        _ => front_of(alloc, &bytes[HEADER_LENGTH..]),
+    }
+}
+
+/// The AVPs of a level, up to a place where none begins.
+fn front_of(alloc: Global, level: &[u8]) -> Result<Vec<Avp<'_>>, AllocError>
+    ensures avps { IfOk result (λ avps. AreFront (map plain_avp avps.items) level.now) }
+    ensures agree { IfOk result (λ avps. All (λ v. Agrees (plain_avp v)) avps.items) }
+{
+    let mut avps = Vec::new(alloc);
+    let mut left = level;
+    loop {
+        match next_avp(left) {
+            Ok(Some((avp, rest))) => {
+                avps.push(avp)?;
+                left = rest;
+            }
+            Ok(None) => return Ok(avps),
+            Err(_) => return Ok(avps),
+        }
+    }
+}
