@@ -48,7 +48,7 @@ run_few (r ∷ rules) keys zero = prefix_len-le-length (is_of r) keys
 run_few (r ∷ rules) keys (suc i) = omega (arith, run_few rules (drop (prefix_len (is_of r) keys) keys) i, length-drop (prefix_len (is_of r) keys) keys)
 
 -- no rule is met more often than there are keys
-met_few : (rules : List DRule) (keys : List Key) (i : ℕ) (rule : DRule) → met rules keys i rule ≤ length keys
+pub met_few : (rules : List DRule) (keys : List Key) (i : ℕ) (rule : DRule) → met rules keys i rule ≤ length keys
 met_few rules keys i rule = by (is_fixed rule)
   where
     by : (b : Bool) → (if b then slice_index (runs (fixed_rules rules) keys) i else counted rules rule (drop (loose_start rules keys) keys)) ≤ length keys

@@ -53,7 +53,7 @@ one_more_other (suc i) zero (n ∷ ns) ne = refl
 one_more_other (suc i) (suc j) (n ∷ ns) ne = one_more_other i j ns (λ e. ne (ap (λ (k : ℕ). suc k) e))
 
 -- from the run that the keys end in on, the runs hold all of them
-all_to : (rules : List DRule) (m j : ℕ) (keys : List Key) → m ≤ j → m < length rules → IsAt rules m keys → sum (take (suc j) (runs rules keys)) ≡ length keys
+pub all_to : (rules : List DRule) (m j : ℕ) (keys : List Key) → m ≤ j → m < length rules → IsAt rules m keys → sum (take (suc j) (runs rules keys)) ≡ length keys
 all_to [] m j keys le lt at = absurd (omega (arith, lt))
 all_to (r ∷ rules) zero j keys le lt at =
     let n = prefix_len (is_of r) keys in
@@ -71,7 +71,7 @@ all_to (r ∷ rules) (suc m) (suc j) keys le lt (less, at) =
     let n = prefix_len (is_of r) keys in
     omega (arith, less, sum-cons n (take (suc j) (runs rules (drop n keys))), all_to rules m j (drop n keys) (omega (arith, le)) (omega (arith, lt)) at, length-drop n keys)
 
-at_within : (rules : List DRule) (m : ℕ) (keys : List Key) → IsAt rules m keys → m ≤ length rules
+pub at_within : (rules : List DRule) (m : ℕ) (keys : List Key) → IsAt rules m keys → m ≤ length rules
 at_within [] m keys at = omega (arith, at)
 at_within (r ∷ rules) zero keys at = omega arith
 at_within (r ∷ rules) (suc m) keys (less, at) = omega (arith, at_within rules m (drop (prefix_len (is_of r) keys) keys) at)

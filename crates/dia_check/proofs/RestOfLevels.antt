@@ -72,12 +72,12 @@ module _ (d : Dictionary) (u : Unknown) (most : Levels) where
   refused_row rules keys key flags r t other = omega arith
 
   -- what is wrong by its data
-  data ByData (s : Rest) (v : PlainAvp) : Reason → Subject → Type 0 where
+  pub data ByData (s : Rest) (v : PlainAvp) : Reason → Subject → Type 0 where
     by_length : (e : DictEntry) → known d (key_of v) ≡ Some e → ¬ LengthFits e.format v.bytes → ByData s v reason.LeafLength (Avp (key_of v))
     by_value : (e : DictEntry) → known d (key_of v) ≡ Some e → LengthFits e.format v.bytes → ¬ IsLeaf e.format v.bytes → e.format ≢ Grouped → ByData s v reason.LeafValue (Avp (key_of v))
     by_depth : (e : DictEntry) → known d (key_of v) ≡ Some e → e.format ≡ Grouped → ¬ MayOpen most s.level.depth → ByData s v reason.Depth (Avp (key_of v))
 
-  either : (s : Rest) (v : PlainAvp) (r : Reason) (t : Subject) → IsWrong d u most s.level s.earlier v r t → IsRefused d u s.level.rules (map key_of s.earlier) (key_of v) v.flags r t ⊎ ByData s v r t
+  pub either : (s : Rest) (v : PlainAvp) (r : Reason) (t : Subject) → IsWrong d u most s.level s.earlier v r t → IsRefused d u s.level.rules (map key_of s.earlier) (key_of v) v.flags r t ⊎ ByData s v r t
   either s v r t (faults.unknown none bad) = inl (unknown none bad)
   either s v r t (faults.m_bit e some bad) = inl (m_bit e some bad)
   either s v r t (faults.missing i rule first end) = inl (misplaced reason.Missing (subject_of rule.key) (missing i rule first (end ∙ sym (length-map s.earlier key_of))))
@@ -91,7 +91,7 @@ module _ (d : Dictionary) (u : Unknown) (most : Levels) where
   data_row s v r t (by_length e some bad) = omega arith
   data_row s v r t other = omega arith
 
-  fits_of : (e : DictEntry) (bytes : List ℕ) → IsLeaf e.format bytes ⊎ (e.format ≡ Grouped) → LengthFits e.format bytes
+  pub fits_of : (e : DictEntry) (bytes : List ℕ) → IsLeaf e.format bytes ⊎ (e.format ≡ Grouped) → LengthFits e.format bytes
   fits_of e bytes (inl l) = leaf_fits e.format bytes l
   fits_of e bytes (inr is) = subst (λ (f : PlainFormat). LengthFits f bytes) (sym is) tt
 

@@ -1,4 +1,4 @@
-//! The tests of `dia_check`, `dia_compat`, `dia_peer` and `dia_run`, by library: each goes through public calls alone. `rows` has
+//! The tests of `dia_check`, `dia_faults`, `dia_compat`, `dia_peer` and `dia_run`, by library: each goes through public calls alone. `rows` has
 //! what both kinds of book answer. Those of `dia_run` are `devices`, which fail; what its commands write, `.ci/cases` compares.
 //! There is nothing but tests.
 #![tactic(auto)]
@@ -11,6 +11,8 @@ mod check;
 mod compat;
 #[cfg(test)]
 mod devices;
+#[cfg(test)]
+mod faults;
 #[cfg(test)]
 mod peer;
 #[cfg(test)]

@@ -54,7 +54,7 @@ fn both_kinds_of_book_answer(rt: HostRuntime) {
 }
 
 /// The names that rows use, and `base` for the base text.
-fn known_names(rt: &(impl AllocGlobal + Abort)) -> Names {
+pub fn known_names(rt: &(impl AllocGlobal + Abort)) -> Names {
     let mut names = Names::new(rt.alloc());
     let base = Vec::from_slice(rt.alloc(), base_text().as_bytes()).expect(rt, "memory");
     names.define("base", base).expect(rt, "memory");

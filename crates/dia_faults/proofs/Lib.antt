@@ -1,0 +1,14 @@
+pub mod Collecting
+pub mod Missing
+pub mod Counted
+pub mod Data
+pub mod JudgedKeys
+pub mod Own
+pub mod Nested
+pub mod Bodies
+pub mod Headers
+pub mod PassedRuns
+pub mod FirstMissing
+pub mod FirstOwn
+pub mod FirstListed
+pub mod Laws
