@@ -3,12 +3,14 @@
 //! ```text
 //! TEXT => the message in hexadecimal, or the first fault
 //! TEXT => a line for each message, or the first fault (in `many`)
+//! TEXT => all faults (in `faults`)
 //! MESSAGE => the text, or why there is none (in `texts`)
 //! ```
 //!
 //! The dictionary is `DICTIONARY`.
 
 mod avps;
+mod faults;
 mod groups;
 mod headers;
 mod many;
@@ -21,7 +23,7 @@ use crate::words::same;
 use dia_ccf::parse;
 use dia_dict::{PlainBook, resolve};
 use dia_rows::{Names, Row, without_blanks};
-use dia_text::{as_text, make, make_all};
+use dia_text::{all_faults, as_text, make, make_all};
 use std::alloc::{AllocError, Global};
 use std::process::Abort;
 
@@ -80,6 +82,7 @@ const TEXTS: [&str; 5] = [
 enum Call {
     Make,
     MakeAll,
+    AllFaults,
     AsText,
 }
 
@@ -90,6 +93,7 @@ fn texts_make_messages(rt: HostRuntime) {
         holds_all(&rt, &book, text, Call::Make);
     }
     holds_all(&rt, &book, many::ROWS, Call::MakeAll);
+    holds_all(&rt, &book, faults::ROWS, Call::AllFaults);
 }
 
 #[test]
@@ -131,6 +135,7 @@ fn makes(
     let wanted = names.text(row.wanted).expect(rt, row.line);
     let found = match call {
         Call::MakeAll => lines_of(rt.alloc(), book, text.as_slice()).expect(rt, "memory"),
+        Call::AllFaults => faults_of(rt.alloc(), book, text.as_slice()).expect(rt, "memory"),
         _ => words_of(rt.alloc(), book, text.as_slice()).expect(rt, "memory"),
     };
     let found = without_blanks(rt.alloc(), found.as_bytes()).expect(rt, "memory");
@@ -162,6 +167,16 @@ fn lines_of(alloc: Global, book: &PlainBook, text: &[u8]) -> Result<String, Allo
         Ok(lines) => Ok(lines),
         Err(fault) => fault.to_string(alloc),
     }
+}
+
+/// The number of the faults of a text, and the words of the first.
+fn faults_of(alloc: Global, book: &PlainBook, text: &[u8]) -> Result<String, AllocError> {
+    let faults = all_faults(alloc, book, text)?;
+    let mut words = format!(in alloc; "{}", faults.count)?;
+    for fault in &faults.first {
+        write!(words, "; {fault}")?;
+    }
+    Ok(words)
 }
 
 /// The text of a message, or why there is none.

@@ -1,4 +1,4 @@
--- What a report tells: that which is written, and how the command ends.
+-- A report has what is written, and how the command ends.
 use Rattle.std.specs.Prelude.{◌≡◌, ℕ, List, string_bytes, ⊤}
 use Rattle.dia_io.specs.declared.Exit.{Exit}
 use Rattle.dia_io.specs.declared.Exit.TheVariants.{Yes, No}
@@ -14,7 +14,7 @@ use Rattle.dia_make.specs.declared.reporting.Report.{Report}
 use Rattle.dia_make.specs.declared.reporting.Report.TheVariants.{Done, Refused, Text, Cut}
 use Rattle.dia_make.specs.Outcome.{text_line}
 
--- each report ends otherwise than with Yes, but for the one that has nothing to tell
+-- each report ends otherwise than with Yes, but for the one that has nothing to report
 abbrev pub IsRecorded : Report → List ℕ → Exit → Type 0
 IsRecorded Done text exit = exit ≡ Yes
 IsRecorded (Refused bad) text exit = Refuses (bad_input_text bad) text exit

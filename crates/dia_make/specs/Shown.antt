@@ -16,7 +16,7 @@ use Rattle.dia_run.specs.Outcome.{IsMessageOutcome, Refuses}
 use Rattle.dia_run.specs.Texts.{line}
 use Rattle.dia_make.specs.declared.reporting.Answered.{Answered}
 
--- at this byte of the message, behind AVPs, no AVP begins (RFC 6733 section 4.1)
+-- at this byte of the message, after AVPs, no AVP begins (RFC 6733 section 4.1)
 pub record IsCutAt (message : List ℕ) (place : ℕ) : Type 0 where
   pub front : List ℕ
   pub rest : List ℕ

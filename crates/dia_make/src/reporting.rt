@@ -10,7 +10,7 @@ use std::fmt;
 pub enum BadText {
     /// More bytes than the text may have.
     TooLong,
-    /// The first line that no message goes on with.
+    /// The first line that can't follow those before it.
     Fault(Fault),
 }
 

@@ -21,3 +21,4 @@ pub mod Pushed
 pub mod ShownWords
 pub mod NoTexts
 pub mod Parts
+pub mod Counted

@@ -11,7 +11,7 @@ use Rattle.dia_text.specs.declared.line.Head.{Head}
 use Rattle.dia_text.specs.Reading.{◌>>=◌, Fails}
 use Rattle.dia_text.specs.Lines.{PlainLine, Blank, Leaf, Open, Close}
 
--- the bytes of an AVP in front of its data (RFC 6733 section 4.1)
+-- the bytes of an AVP before its data (RFC 6733 section 4.1)
 abbrev pub front_bytes : Head → ℕ → List ℕ
 front_bytes head len = big_bytes 4 head.code.code ++ (head.flags ∷ big_bytes 3 len) ++ vendor_bytes head.code.vendor
 
@@ -32,7 +32,7 @@ end_bytes head n pad = unwrap_or pad (padding (full_length head n))
 unfoldable pub avp_of : Head → List ℕ → Option (List ℕ) → Result (List ℕ) Kind
 avp_of head bytes pad = length_of head (length bytes) >>= λ len. Ok (front_bytes head len ++ (bytes ++ end_bytes head (length bytes) pad))
 
--- a group that is open: the bytes of its level in front of it, and what its line says
+-- a group that is open: the bytes of its level before it, and what its line says
 pub record Frame : Type 0 where
   pub before : List ℕ
   pub head : Head
@@ -52,9 +52,9 @@ added level (Leaf head bytes pad) = avp_of head bytes pad >>= λ avp. Ok (record
 added level (Open head) = Ok (record { outer = record { before = level.bytes; head = head } ∷ level.outer; bytes = [] })
 added level (Close pad) = closed level.outer level.bytes pad
 
--- ---- how the program keeps them
+-- ---- how the program has them
 
--- the bytes of all levels, one behind the other, with a length of 0 in the head of each open group; and where these begin
+-- the bytes of all levels, one after the other, with a length of 0 in the head of each open group; and where these begin
 abbrev pub Occurs : List Frame → List ℕ → List ℕ → List Opened → Type 0
 Occurs [] bytes out groups = (out ≡ bytes) × (groups ≡ [])
 Occurs (f ∷ fs) bytes out groups = (o : List ℕ) × (rest : List Opened) × (groups ≡ rest ++ record { place = length o; head = f.head } ∷ [])

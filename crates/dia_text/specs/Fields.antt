@@ -1,4 +1,4 @@
--- The parts of a line behind its first word: a keyword and what it says, which may be left out.
+-- The parts of a line after its first word: a keyword and its value, which may be left out.
 use Rattle.std.specs.Prelude.{ℕ, ◌+◌, ◌^◌, ◌==◌, if◌then◌else◌, List, [], ◌∷◌, Option, Some, None, option_and_then, Result, Ok, Err, codes}
 use Rattle.std.specs.Option.{option_map, option_or}
 use Rattle.hex.specs.Hex.{decode_of}
@@ -13,7 +13,7 @@ use Rattle.dia_text.specs.Words.{first_word, after_word, after_letter}
 use Rattle.dia_text.specs.Numbers.{any_below, hex_byte_of, within}
 use Rattle.dia_text.specs.Reading.{◌>>=◌, some_or, at_word}
 
--- a number below 2 ^ 32 behind its keyword; without a default the keyword has to be there
+-- a number below 2 ^ 32 after its keyword; without a default the keyword has to be there
 unfoldable pub number_field : List ℕ → Option ℕ → Wanted → List ℕ → Result (ℕ × List ℕ) Misfit
 number_field keyword default wanted text =
     if same_bytes (first_word text) keyword
@@ -24,7 +24,7 @@ abbrev pub letter_then : ℕ → (List ℕ → Option ℕ) → List ℕ → Opti
 letter_then flag more word None = more word
 letter_then flag more word (Some rest) = option_map (λ n. flag + n) (more rest)
 
--- the sum of the flags of letters, which stand in the order of the table, each at most once
+-- the sum of the flags of letters, in the order of the table, each at most once
 abbrev pub letters_value : List (ℕ × ℕ) → List ℕ → Option ℕ
 letters_value [] [] = Some 0
 letters_value [] (c ∷ cs) = None
@@ -36,14 +36,14 @@ flags_of letters [] = None
 flags_of letters (c ∷ cs) =
     if same_bytes (c ∷ cs) (codes "-") then Some 0 else option_or (hex_byte_of (c ∷ cs)) (option_and_then (within 256) (letters_value letters (c ∷ cs)))
 
--- flags behind their keyword; without a default the keyword has to be there
+-- flags after their keyword; without a default the keyword has to be there
 unfoldable pub flags_field : List (ℕ × ℕ) → Wanted → Option ℕ → Wanted → List ℕ → Result (ℕ × List ℕ) Misfit
 flags_field letters flags default wanted text =
     if same_bytes (first_word text) (codes "flags")
     then (at_word (after_word text) flags (some_or (flags_of letters (first_word (after_word text))) Value) >>= λ n. Ok (n, after_word (after_word text)))
     else (at_word text wanted (some_or default Syntax) >>= λ n. Ok (n, text))
 
--- an AVP Length that its field can say
+-- an AVP Length within the limit of its field
 unfoldable pub length_field : List ℕ → Result (Option ℕ × List ℕ) Misfit
 length_field text =
     if same_bytes (first_word text) (codes "length")

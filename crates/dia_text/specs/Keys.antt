@@ -80,7 +80,7 @@ p_flag Clear = 0
 p_flag Set = 64
 p_flag Either = 64
 
--- the code of a command, and its flags and application where the text says no others
+-- the code of a command, and its flags and application where the text has no others
 abbrev pub start_of : DefHead → Option Start
 start_of (Group key) = None
 start_of (Error p) = None

@@ -10,5 +10,6 @@ pub mod ValueParts
 pub mod Lines
 pub mod Drafts
 pub mod Made
+pub mod AllFaults
 pub mod LineTexts
 pub mod TextOf

@@ -17,7 +17,7 @@ use Rattle.dia_text.specs.declared.keys.AvpCode.{AvpCode}
 use Rattle.dia_text.specs.declared.commands.Start.{Start}
 use Rattle.dia_text.specs.Keys.{numbered, entry_at, format_at, default_flags, class_flags, start_of}
 
--- the words behind the first of a line
+-- the words after the first of a line
 abbrev pub spaced : List (List ℕ) → List ℕ
 spaced [] = []
 spaced (w ∷ ws) = 32 ∷ (w ++ spaced ws)
@@ -52,7 +52,7 @@ abbrev pub IsValueWord : Option PlainFormat → List ℕ → List ℕ → Type 0
 IsValueWord None bytes word = word ≡ hexadecimal bytes
 IsValueWord (Some format) bytes word = (IsLeaf format bytes × (word ≡ value_text format bytes)) ⊎ ((¬ IsLeaf format bytes) × (word ≡ hexadecimal bytes))
 
--- what stands behind an AVP of this length, unless it is zero bytes up to a multiple of four
+-- what follows an AVP of this length, unless it is zero bytes up to a multiple of four
 abbrev pub pad_words : ℕ → List ℕ → List (List ℕ)
 pad_words len bytes = if same_bytes bytes (padding len) then [] else codes "pad" ∷ hexadecimal bytes ∷ []
 
@@ -66,11 +66,11 @@ avp_flags d v = flags_words (Some (default_flags d (code_at v))) v.flags
 abbrev pub IsWordOf : Dictionary → PlainAvp → List ℕ → Type 0
 IsWordOf d v word = IsValueWord (format_at d (code_at v)) v.bytes word
 
--- an AVP, with the word of its data and the bytes behind that
+-- an AVP, with the word of its data and the bytes after that
 abbrev pub leaf_line : Dictionary → PlainAvp → List ℕ → List ℕ → List ℕ
 leaf_line d v word pad = avp_word d (code_at v) ++ spaced (avp_flags d v ++ (word ∷ pad_words (avp_length v) pad))
 
--- a group, in front of the lines of its members
+-- a group, before the lines of its members
 abbrev pub open_line : Dictionary → PlainAvp → List ℕ
 open_line d v = avp_word d (code_at v) ++ spaced (avp_flags d v ++ (codes "{" ∷ []))
 
@@ -99,7 +99,7 @@ app_words default app = if option_eq nat_eq default (Some app) then [] else code
 abbrev pub identifier_words : Header → List (List ℕ)
 identifier_words h = codes "hop" ∷ decimal h.hop ∷ codes "end" ∷ decimal h.e2e ∷ []
 
--- what the header says besides, behind what its line begins with
+-- the other words of the header, after what its line begins with
 abbrev pub field_words : Header → Start → List (List ℕ)
 field_words h s = flags_words s.flags h.flags ++ (app_words s.app h.app ++ identifier_words h)
 

@@ -77,7 +77,7 @@ avp_at d text = do
   head ← head_at d text
   if same_bytes (first_word head.1) (codes "{") then open_at head.0 (after_word head.1) else leaf_at d head.0 head.1
 
--- a line in a message, behind its header
+-- a line in a message, after its header
 unfoldable pub line_of : Dictionary → List ℕ → Result PlainLine Misfit
 line_of d text =
     if length (first_word text) == 0 then Ok Blank
@@ -94,7 +94,7 @@ start_at d text =
     Ok (record { code = code; flags = None; app = None }, after_word (after_word text)))
     else (at_word text want.CommandName (start_named d (first_word text)) >>= λ start. Ok (start, after_word text))
 
--- the numbers behind the flags
+-- the numbers after the flags
 abbrev pub header_after : Start → ℕ → List ℕ → Result Header Misfit
 header_after start flags text = do
   app ← number_field (codes "app") start.app want.App text
@@ -109,7 +109,7 @@ header_at d text = do
   flags ← flags_field header_letters want.CommandFlags start.0.flags want.Flags start.1
   header_after start.0 flags.0 flags.1
 
--- a line in front of the header, or the header
+-- a line before the header, or the header
 unfoldable pub header_of : Dictionary → List ℕ → Result (Option Header) Misfit
 header_of d text =
     if length (first_word text) == 0 then Ok None

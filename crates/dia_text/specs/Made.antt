@@ -84,7 +84,7 @@ abbrev pub IsTaken : Result Level Misfit → Result (Unit {0}) NotRead → List 
 IsTaken read (Ok u) out groups = (level : Level) × (read ≡ Ok level) × Occurs level.outer level.bytes out groups
 IsTaken read (Err e) out groups = FailsAt e read
 
--- the lines behind the first n, which end with the line of the header
+-- the lines after the first n, which end with the line of the header
 abbrev pub body_from : Dictionary → Header → ℕ → List (List ℕ) → Level → Result (List ℕ) Fault
 body_from d header n [] level = finished header level.outer level.bytes n
 body_from d header n (l ∷ ls) level = step (line_added d l level) l (n + 1) (body_from d header (n + 1) ls)
@@ -94,7 +94,7 @@ begin (Ok None) l n more body = more
 begin (Ok (Some header)) l n more body = body header
 begin (Err m) l n more body = Err (fault_in l n m)
 
--- the lines behind the first n, which are blank. A text that ends too early has its fault on its last line
+-- the lines after the first n, which are blank. A text that ends too early has its fault on its last line
 abbrev pub message_from : Dictionary → ℕ → List (List ℕ) → Result (List ℕ) Fault
 message_from d n [] = Err (fault_at n Syntax want.HeaderLine)
 message_from d n (l ∷ ls) = begin (header_of d l) l (n + 1) (message_from d (n + 1) ls) (λ header. body_from d header (n + 1) ls no_level)
@@ -127,7 +127,7 @@ IsBegun d ls (Err e) = Misses e (message_from d 0 ls)
 abbrev pub is_empty : List ℕ → Bool
 is_empty l = length l == 0
 
--- whether a word stands in one of the lines
+-- whether one of the lines has a word
 abbrev pub has_word : List (List ℕ) → Bool
 has_word ls = list_any (λ l. not (length (first_word l) == 0)) ls
 
@@ -135,7 +135,7 @@ has_word ls = list_any (λ l. not (length (first_word l) == 0)) ls
 abbrev pub digits_line : List ℕ → List ℕ
 digits_line bytes = flat_map hex_byte bytes ++ (10 ∷ [])
 
--- the line of a message that is written behind n lines of the text, or its fault by its line in the text
+-- the line of a message that is written after n lines of the text, or its fault by its line in the text
 abbrev pub recorded_after : ℕ → Result (List ℕ) Fault → Result (List ℕ) Fault
 recorded_after n (Ok bytes) = Ok (digits_line bytes)
 recorded_after n (Err f) = Err (further n f)
@@ -143,13 +143,13 @@ recorded_after n (Err f) = Err (further n f)
 abbrev pub part_text : Dictionary → ℕ → List (List ℕ) → Result (List ℕ) Fault
 part_text d n ls = if has_word ls then recorded_after n (message_from d 0 ls) else Ok []
 
--- one text behind another, or the first fault
+-- one text after another, or the first fault
 abbrev pub then_text : Result (List ℕ) Fault → Result (List ℕ) Fault → Result (List ℕ) Fault
 then_text (Ok a) (Ok b) = Ok (a ++ b)
 then_text (Ok a) (Err f) = Err f
 then_text (Err f) more = Err f
 
--- the lines of the messages of parts, of which the first is behind n lines of the text
+-- the lines of the messages of parts, of which the first is after n lines of the text
 abbrev pub parts_text : Dictionary → ℕ → List (List (List ℕ)) → Result (List ℕ) Fault
 parts_text d n [] = Ok []
 parts_text d n (p ∷ ps) = then_text (part_text d n p) (parts_text d (n + length p + 1) ps)

@@ -21,7 +21,7 @@ within limit n = if nat_lt n limit then Some n else None
 abbrev pub number_below : ℕ → List ℕ → Option ℕ
 number_below limit word = option_and_then (within limit) (number_of word)
 
--- a number below zero as two's complement, of which half stand for numbers from zero on
+-- a number below zero as two's complement, of which half are numbers from zero on
 abbrev pub complement : ℕ → ℕ → ℕ
 complement half n = if n == 0 then 0 else (half - n) + half
 
@@ -39,11 +39,11 @@ sixteen digits = take (16 - length digits) (codes "0000000000000000") ++ digits
 abbrev pub hex_number : List ℕ → Option ℕ
 hex_number digits = if nat_lt 0 (length digits) && nat_le (length digits) 16 then option_map (λ bytes. big_from 0 8 bytes) (if_decoded (decode_sized (sixteen digits) 8)) else None
 
--- such digits behind `0x`
+-- such digits after `0x`
 abbrev pub prefixed : List ℕ → Option ℕ
 prefixed word = option_and_then hex_number (option_and_then (after_letter 120) (after_letter 48 word))
 
--- a number in decimal, or in hexadecimal behind `0x`
+-- a number in decimal, or in hexadecimal after `0x`
 abbrev pub any_number : List ℕ → Option ℕ
 any_number word = option_or (number_of word) (prefixed word)
 

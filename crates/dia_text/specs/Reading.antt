@@ -20,7 +20,7 @@ some_or None kind = Err kind
 
 -- ---- the place of a fault
 
--- the first word of a text is at fault, or there is none where one is wanted: what could stand there, and how many bytes are left from there on
+-- the first word of a text is at fault, or there is none where one is wanted: what could be there, and how many bytes are left from there on
 abbrev pub misfit : List ℕ → Wanted → Kind → Misfit
 misfit text wanted kind = record { kind = kind; wanted = wanted; left = length (unblanked text) }
 

@@ -22,7 +22,7 @@ AreAvps bytes = (vs : List PlainAvp) × SpellsAll vs bytes
 abbrev pub IsOpened : Dictionary → PlainAvp → Type 0
 IsOpened d v = (format_at d (code_at v) ≡ Some Grouped) × AreAvps v.bytes
 
--- what stands behind the data of an AVP that these bytes spell
+-- what follows the data of an AVP that these bytes spell
 abbrev pub after_data : PlainAvp → List ℕ → List ℕ
 after_data v front = drop (avp_length v) front
 
@@ -64,7 +64,7 @@ HasNoText NoMemory bytes = ⊤
 
 -- ---- what the program adds
 
--- the bytes behind the data, where the level begins with the AVP
+-- the bytes after the data, where the level begins with the AVP
 abbrev pub AfterData : PlainAvp → List ℕ → List ℕ → List ℕ → Type 0
 AfterData v level rest pad = (front : List ℕ) → Spells v front → level ≡ front ++ rest → pad ≡ after_data v front
 

@@ -63,11 +63,11 @@ family_at text = do
 
 -- ---- texts
 
--- what stands between a backslash and the next one: `x` and two digits for a byte, and bytes that stand for themselves
+-- what is between a backslash and the next one: `x` and two digits for a byte, and bytes that mean themselves
 abbrev pub escaped : List ℕ → Option (List ℕ)
 escaped text = option_and_then (λ rest. option_map (λ byte. byte ∷ drop 2 rest) (hex_byte_of (take 2 rest))) (after_letter 120 text)
 
--- the parts between backslashes: in the first one each byte stands for itself
+-- the parts between backslashes: in the first one each byte means itself
 abbrev pub unescaped : List (List ℕ) → Option (List ℕ)
 unescaped [] = Some []
 unescaped (p ∷ ps) = option_map (λ rest. p ++ rest) (each escaped ps)
@@ -161,7 +161,7 @@ words_at format text =
     if is_address format && same_bytes (first_word text) (codes "family") then family_at (after_word text)
     else (at_word text (value_wanted format (first_word text)) (value_of format (first_word text)) >>= λ bytes. Ok (bytes, after_word text))
 
--- a value of words, or of what stands behind an opening quote
+-- a value of words, or of what follows an opening quote
 abbrev pub value_or_text : Option PlainFormat → List ℕ → Option (List ℕ) → Result (List ℕ × List ℕ) Misfit
 value_or_text format text None = words_at format text
 value_or_text format text (Some rest) = at_word text (format_wanted format) (if may_be_text format then some_or (text_at rest) Value else Err Value)
@@ -170,7 +170,7 @@ value_or_text format text (Some rest) = at_word text (format_wanted format) (if 
 unfoldable pub value_at : Option PlainFormat → List ℕ → Result (List ℕ × List ℕ) Misfit
 value_at format text = value_or_text format text (after_letter 34 (unblanked text))
 
--- ---- the date behind the number of a Time
+-- ---- the date after the number of a Time
 
 abbrev pub is_time : Option PlainFormat → Bool
 is_time (Some (FourBytes Time)) = true

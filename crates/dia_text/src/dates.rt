@@ -67,7 +67,7 @@ fn date_days(text: &[u8]) -> Option<u64>
     days_before(year, month, day)
 }
 
-/// The seconds of the day behind the date.
+/// The seconds of the day, after the date.
 fn clock_seconds(text: &[u8]) -> Option<u64>
     requires { length text.now ≡ 20 }
     ensures seconds { result ≡ clock_seconds text.now }

@@ -1,11 +1,12 @@
 //! A message under way.
-ghost use Rattle.std.specs.Prelude.{◌≡◌, ◌<◌, ◌≤◌, ◌+◌, ◌^◌, ◌++◌, ◌∷◌, IfOk, OnOk};
+ghost use Rattle.std.specs.Prelude.{◌≡◌, ◌<◌, ◌≤◌, ◌+◌, ◌^◌, ◌++◌, ◌∷◌, IfOk, Ok, OnOk};
 ghost use Rattle.std.specs.Prelude.{length, take, drop, vec_len};
 ghost use Rattle.std.specs.Option.{option_map};
 ghost use Rattle.byteorder.specs.Endian.{big_bytes};
 ghost use Rattle.dia_wire.specs.Wire.{head_length};
 ghost use Rattle.dia_wire.specs.Written.{padding, vendor_bytes};
 ghost use Rattle.dia_text.specs.Lines.{plain_line, Open, Close};
+ghost use Rattle.dia_text.specs.AllFaults.{IsLeft};
 ghost use Rattle.dia_text.specs.Drafts.{front_bytes, length_of, end_bytes, avp_of};
 ghost use Rattle.dia_text.specs.Drafts.{Level, Occurs, IsAppended, IsAdded, added};
 
@@ -33,13 +34,15 @@ pub(crate) fn add(
     line: &Line,
 ) -> Result<(), Misread>
     requires { (level : Level) × Occurs level.outer level.bytes out.old.items groups.old.items }
-    ensures { (level : Level) → Occurs level.outer level.bytes out.old.items groups.old.items
+    ensures added { (level : Level) → Occurs level.outer level.bytes out.old.items groups.old.items
         → IsAdded (added level (plain_line line.now)) result out.new.items groups.new.items }
+    ensures bytes { IsLeft result out.old.items out.new.items }
+    ensures groups { IsLeft result groups.old.items groups.new.items }
 {
     match line {
         Line::Blank => Ok(()),
         Line::Leaf(head, bytes, pad) => push_avp(out, head, bytes, pad),
-        Line::Open(head) => open_group(out, groups, head),
+        Line::Open(head) => Ok(open_group(out, groups, head)?),
         Line::Close(pad) => close_group(alloc, out, groups, pad),
     }
 }
@@ -51,8 +54,9 @@ fn push_avp(
     bytes: &[u8],
     pad: &Option<Vec<u8>>,
 ) -> Result<(), Misread>
-    ensures { IsAppended (avp_of head.now bytes.now (option_map (λ p. p.items) pad.now)) result
+    ensures value { IsAppended (avp_of head.now bytes.now (option_map (λ p. p.items) pad.now)) result
         out.old.items out.new.items }
+    ensures left { IsLeft result out.old.items out.new.items }
 {
     let length = length_of(head, bytes.len())?;
     push_front(out, head, length)?;
@@ -99,7 +103,7 @@ fn push_front(out: &mut Vec<u8>, head: &Head, length: u32) -> Result<(), AllocEr
     }
 }
 
-/// Adds what stands behind the data: the padding that is written, or else zero bytes.
+/// Adds what follows the data: the padding that is written, or else zero bytes.
 fn push_end(
     out: &mut Vec<u8>,
     head: &Head,
@@ -132,7 +136,7 @@ pub(crate) fn push_u32(out: &mut Vec<u8>, number: u32) -> Result<(), AllocError>
     out.extend_from_slice(&bytes)
 }
 
-/// Adds a byte, and a number of three bytes behind it.
+/// Adds a byte, and a number of three bytes after it.
 pub(crate) fn push_byte_and_u24(out: &mut Vec<u8>, byte: u8, number: u32) -> Result<(), AllocError>
     requires { number < 2 ^ 24 }
     ensures { OnOk result (out.new.items ≡ out.old.items ++ byte ∷ big_bytes 3 number) }
@@ -143,9 +147,14 @@ pub(crate) fn push_byte_and_u24(out: &mut Vec<u8>, byte: u8, number: u32) -> Res
     out.extend_from_slice(&bytes)
 }
 
-fn open_group(out: &mut Vec<u8>, groups: &mut Vec<Opened>, head: &Head) -> Result<(), Misread>
+/// Opens a group.
+pub(crate) fn open_group(
+    out: &mut Vec<u8>,
+    groups: &mut Vec<Opened>,
+    head: &Head,
+) -> Result<(), AllocError>
     ensures { (level : Level) → Occurs level.outer level.bytes out.old.items groups.old.items
-        → IsAdded (added level (Open head.now)) result out.new.items groups.new.items }
+        → OnOk result (IsAdded (added level (Open head.now)) (Ok tt) out.new.items groups.new.items) }
 {
     let place = out.len();
     push_front(out, head, 0)?;
@@ -160,22 +169,30 @@ fn close_group(
     pad: &Option<Vec<u8>>,
 ) -> Result<(), Misread>
     requires { (level : Level) × Occurs level.outer level.bytes out.old.items groups.old.items }
-    ensures { (level : Level) → Occurs level.outer level.bytes out.old.items groups.old.items
+    ensures added { (level : Level) → Occurs level.outer level.bytes out.old.items groups.old.items
         → IsAdded (added level (Close (option_map (λ p. p.items) pad.now))) result
         out.new.items groups.new.items }
+    ensures bytes { IsLeft result out.old.items out.new.items }
+    ensures groups { IsLeft result groups.old.items groups.new.items }
 {
     let Some(group) = groups.pop() else {
         return Err(Misread::Fault(Kind::Braces));
     };
     let begin = group.place + front_len(&group.head);
     let count = out.len() - begin;
-    let length = length_of(&group.head, count)?;
+    let length = match length_of(&group.head, count) {
+        Ok(length) => length,
+        Err(kind) => {
+            groups.push(group)?;
+            return Err(Misread::Fault(kind));
+        }
+    };
     write_front(alloc, out, group.place, &group.head, length)?;
     push_end(out, &group.head, count, pad)?;
     Ok(())
 }
 
-/// Writes the bytes in front of a group's data, now that its length is known.
+/// Writes the bytes before a group's data, now that its length is known.
 fn write_front(
     alloc: Global,
     out: &mut Vec<u8>,

@@ -10,7 +10,7 @@ use thiserror::Error;
 /// What is wrong with a line.
 #[derive(Debug, Clone, Copy)]
 pub enum Kind {
-    /// A word is missing, or one stands where none may.
+    /// A word is missing, or one is where none is allowed.
     Syntax,
     /// The dictionary has no AVP or no command of the name.
     Name,
@@ -18,7 +18,7 @@ pub enum Kind {
     Value,
     /// A closing brace without its opening brace, or an opening brace that isn't closed.
     Braces,
-    /// A length above what its field can say.
+    /// A length above the limit of its field.
     Limit,
 }
 
@@ -47,13 +47,13 @@ pub enum Wanted {
     HeaderLine,
     /// The name of a command that has a code, or `code`.
     CommandName,
-    /// A number below 2^24, behind `code`.
+    /// A number below 2^24, after `code`.
     CommandCode,
-    /// `flags`, which can't be left out behind `code`.
+    /// `flags`, which is required after `code`.
     Flags,
     /// A dash, two hexadecimal digits, or letters of R, P, E and T in this order.
     CommandFlags,
-    /// `app`, which can't be left out behind `code`.
+    /// `app`, which is required after `code`.
     App,
     /// `hop`.
     Hop,
@@ -65,7 +65,7 @@ pub enum Wanted {
     AvpName,
     /// A dash, two hexadecimal digits, or letters of V, M and P in this order.
     AvpFlags,
-    /// A number below 2^24, behind `length`.
+    /// A number below 2^24, after `length`.
     AvpLength,
     /// A value, or an opening brace.
     AnyValue,
@@ -81,7 +81,7 @@ pub enum Wanted {
     Group,
     /// An IPv4 or IPv6 address, `family` with its number and digits, or these digits.
     Address,
-    /// A number below 2^16, behind `family`.
+    /// A number below 2^16, after `family`.
     Family,
     /// A text in quotes, or these digits.
     Text,

@@ -1,4 +1,4 @@
-//! The parts of a line behind its first word: a keyword and what it says, which may be left out.
+//! The parts of a line after its first word: a keyword and its value, which may be left out.
 ghost use Rattle.std.specs.Prelude.{◌≡◌, ◌<◌, ◌≤◌, ◌^◌, IfOk, length};
 ghost use Rattle.std.specs.Prelude.{option_and_then};
 ghost use Rattle.std.specs.Option.{option_map};
@@ -16,7 +16,7 @@ use crate::words::{after_letter, next_word};
 use hex::FromHexError;
 use std::alloc::Global;
 
-/// A number behind its keyword, or the default where the keyword is missing; and what follows. `wanted` is what could be in place
+/// A number after its keyword, or the default where the keyword is missing; and what follows. `wanted` is what could be in place
 /// of a keyword that is missing and has no default.
 #[tactic(auto, unfolding(crate::specs::Fields::number_field))]
 pub(crate) fn number_field<'a>(
@@ -39,7 +39,7 @@ pub(crate) fn number_field<'a>(
     }
 }
 
-/// Flags behind their keyword, or the default where the keyword is missing; and what follows. `flags` is what could be in place
+/// Flags after their keyword, or the default where the keyword is missing; and what follows. `flags` is what could be in place
 /// of wrong flags, and `wanted` in place of a keyword that is missing and has no default.
 #[tactic(auto, unfolding(crate::specs::Fields::flags_field))]
 pub(crate) fn flags_field<'a>(
@@ -76,7 +76,7 @@ fn number_at(text: &[u8]) -> Result<u32, Misfit>
     }
 }
 
-/// The default of what is missing in front of a text.
+/// The default of what is missing before a text.
 fn default_at<T: Copy>(text: &[u8], wanted: Wanted, default: Option<T>) -> Result<T, Misfit>
     ensures { result ≡ at_word text.now wanted (some_or default Kind.Syntax) }
 {
@@ -124,7 +124,7 @@ fn flags_by_letters(letters: &[(u8, u8)], word: &[u8]) -> Option<u8>
     if total < 256 { Some(total as u8) } else { None }
 }
 
-/// An AVP Length behind its keyword; and what follows.
+/// An AVP Length after its keyword; and what follows.
 #[tactic(auto, unfolding(crate::specs::Fields::length_field))]
 pub(crate) fn length_field(text: &[u8]) -> Result<(Option<u32>, &[u8]), Misfit>
     ensures { IsRead (λ x. (x.0, x.1.now)) result (length_field text.entry.now) }
@@ -152,7 +152,7 @@ pub(crate) fn three_byte_number(text: &[u8], wanted: Wanted) -> Result<u32, Misf
     }
 }
 
-/// Padding behind its keyword; and what follows.
+/// Padding after its keyword; and what follows.
 #[tactic(auto, unfolding(crate::specs::Fields::padding_field))]
 pub(crate) fn padding_field(alloc: Global, text: &[u8]) -> Result<(Option<Vec<u8>>, &[u8]), NotRead>
     ensures { Reads (λ x. (option_map (λ bytes. bytes.items) x.0, x.1.now)) result

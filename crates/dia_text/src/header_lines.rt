@@ -110,7 +110,7 @@ fn push_by_code(text: &mut String, header: &Header) -> Result<(), AllocError>
     push_fields(text, header, &start)
 }
 
-/// Adds what the header says besides.
+/// Adds the other words of the header.
 fn push_fields(text: &mut String, header: &Header, start: &Start) -> Result<(), AllocError>
     ensures { OnOk result (string_bytes text.new
         ≡ string_bytes text.old ++ spaced (field_words header.now start.now)) }

@@ -90,7 +90,7 @@ pub(crate) fn format_at<'a, B: Book>(book: &'a B, code: &AvpCode) -> Option<&'a 
     }
 }
 
-/// The flags of an AVP where its line says no others.
+/// The flags of an AVP where its line has no others.
 pub(crate) fn default_flags<B: Book>(book: &B, code: &AvpCode) -> u8
     ensures { result ≡ default_flags (B.meaning book.now) code.now }
 {

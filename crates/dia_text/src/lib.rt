@@ -1,8 +1,8 @@
 //! Messages as text that people write: a line for each AVP, over any dictionary.
 //!
-//! `make` answers the bytes of the one message that a text writes, or the first line that no message goes on with. The first
+//! `make` answers the bytes of the one message that a text writes, or the first line that can't follow those before it. The first
 //! line with a word is the header's: `code N` or a command of the dictionary, then `flags F`, `app N`, `hop N` and `end N`
-//! in this order; behind a command's name the first two may be left out. Each other line is an AVP, the end of a group, or
+//! in this order; after a command's name the first two may be left out. Each other line is an AVP, the end of a group, or
 //! blank:
 //!
 //! ```text
@@ -17,8 +17,8 @@
 //! # a comment
 //! ```
 //!
-//! A value is `x` and hexadecimal digits, or what the dictionary's format has: a decimal number, a text in quotes or an
-//! address. What is made needn't be valid.
+//! A value is `x` and hexadecimal digits, or what the dictionary's format has: a number, a date of a Time, a text in quotes or an
+//! address. What is made needn't be valid. `all_faults` has the faults of all lines of a text that makes no message.
 #![tactic(auto)]
 
 mod avp_lines;
@@ -26,6 +26,7 @@ mod commands;
 mod dates;
 mod draft;
 mod fault;
+mod faults;
 mod fields;
 mod header_lines;
 mod keys;
@@ -43,6 +44,7 @@ mod words;
 mod writing;
 
 pub use fault::{Fault, Kind, Misfit, Misread, NotMade, NotRead, Wanted};
+pub use faults::{Faults, MAX_FAULTS, all_faults};
 pub use keys::AvpCode;
 pub use line::{Head, Line};
 pub use lines::{header_of, line_of};

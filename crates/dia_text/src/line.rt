@@ -2,7 +2,7 @@
 
 use crate::keys::AvpCode;
 
-/// What the line of an AVP says in front of its value.
+/// What the line of an AVP says before its value.
 #[derive(Clone, Copy)]
 pub struct Head {
     pub code: AvpCode,
@@ -11,7 +11,7 @@ pub struct Head {
     pub said_length: Option<u32>,
 }
 
-/// What a line behind the header says.
+/// What a line after the header says.
 #[derive(Drop)]
 pub enum Line {
     Blank,

@@ -25,7 +25,7 @@ const AVP_LETTERS: [(u8, u8); 3] = [(b'V', 0x80), (b'M', 0x40), (b'P', 0x20)];
 /// The letters of the Command Flags (RFC 6733 section 3), in their order.
 const HEADER_LETTERS: [(u8, u8); 4] = [(b'R', 0x80), (b'P', 0x40), (b'E', 0x20), (b'T', 0x10)];
 
-/// What a line behind the header says.
+/// What a line after the header says.
 #[tactic(auto, unfolding(crate::specs::Lines::line_of))]
 pub fn line_of<B: Book>(
     alloc: Global,
@@ -166,7 +166,7 @@ fn header_at<B: Book>(named: &NamedBook<'_, B>, text: &[u8]) -> Result<Header, M
     header_after(&start, flags, rest)
 }
 
-/// The header of this start and these flags, with the numbers behind them.
+/// The header of this start and these flags, with the numbers after them.
 fn header_after(start: &Start, flags: u8, text: &[u8]) -> Result<Header, Misfit>
     ensures value { result ≡ header_after start.now flags text.now }
     ensures code { IfOk result (λ header. header.code ≡ start.now.code) }

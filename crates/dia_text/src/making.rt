@@ -6,6 +6,7 @@ ghost use Rattle.dia_text.specs.Drafts.{Level, Occurs};
 ghost use Rattle.dia_text.specs.Made.{lines, made, body_from, no_level, finished};
 ghost use Rattle.dia_text.specs.Made.{line_added, placed, IsMade, IsBegun, IsTaken, IsWithin, message_from};
 ghost use Rattle.dia_text.specs.Made.{fault_at, fault_in, brace_wanted, line_misfit, value_misfit};
+ghost use Rattle.dia_text.specs.AllFaults.{IsLeftAt};
 ghost use Rattle.dia_text.specs.Lines.{plain_line, head_at};
 
 use crate::draft::{Opened, add, push_byte_and_u24, push_u32};
@@ -22,7 +23,7 @@ use std::alloc::{AllocError, Global};
 /// The version of each message that is made (RFC 6733 section 3).
 const VERSION: u8 = 1;
 
-/// The message that a text writes, over this dictionary; or the first line that no message goes on with.
+/// The message that a text writes, over this dictionary; or the first line that can't follow those before it.
 pub fn make<B: Book>(alloc: Global, book: &B, text: &[u8]) -> Result<Vec<u8>, NotMade>
     ensures { IsMade result (made (B.meaning book.now) text.now) }
 {
@@ -70,7 +71,7 @@ fn header_from<B: Book>(
 }
 
 /// The fault of a line.
-fn fault_in(text: &[u8], line: usize, misfit: Misfit) -> Fault
+pub(crate) fn fault_in(text: &[u8], line: usize, misfit: Misfit) -> Fault
     ensures { result ≡ fault_in text.now line misfit }
 {
     Fault {
@@ -97,15 +98,22 @@ pub(crate) fn ends(line: usize, kind: Kind, wanted: Wanted) -> NotMade
     ensures value { result ≡ NotMade.Fault (fault_at line kind wanted) }
     ensures line { IsWithin line result }
 {
-    NotMade::Fault(Fault {
+    NotMade::Fault(fault_at(line, kind, wanted))
+}
+
+/// A fault at the end of a line.
+pub(crate) fn fault_at(line: usize, kind: Kind, wanted: Wanted) -> Fault
+    ensures { result ≡ fault_at line kind wanted }
+{
+    Fault {
         kind,
         line,
         at: None,
         wanted,
-    })
+    }
 }
 
-/// The message of the lines behind its header.
+/// The message of the lines after its header.
 fn body_of<B: Book>(
     alloc: Global,
     named: &NamedBook<'_, B>,
@@ -130,7 +138,8 @@ fn body_of<B: Book>(
     finish(alloc, header, &out, &groups, lines.len())
 }
 
-fn take_line<B: Book>(
+/// Adds what a line says; where it says nothing that can be added, nothing changes.
+pub(crate) fn take_line<B: Book>(
     alloc: Global,
     named: &NamedBook<'_, B>,
     out: &mut Vec<u8>,
@@ -138,9 +147,11 @@ fn take_line<B: Book>(
     text: &[u8],
 ) -> Result<(), NotRead>
     requires { (level : Level) × Occurs level.outer level.bytes out.old.items groups.old.items }
-    ensures { (level : Level) → Occurs level.outer level.bytes out.old.items groups.old.items
+    ensures taken { (level : Level) → Occurs level.outer level.bytes out.old.items groups.old.items
         → IsTaken (line_added named.now text.now level) result
         out.new.items groups.new.items }
+    ensures bytes { IsLeftAt result out.old.items out.new.items }
+    ensures groups { IsLeftAt result groups.old.items groups.new.items }
 {
     let line = line_of(alloc, named, text)?;
     match add(alloc, out, groups, &line) {

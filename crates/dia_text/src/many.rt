@@ -17,7 +17,7 @@ use dia_data::push_hex_byte;
 use std::alloc::{AllocError, Global};
 
 /// The messages that a text writes, with empty lines between them, over this dictionary: a line of hexadecimal digits for
-/// each; or the first line that no message goes on with.
+/// each; or the first line that can't follow those before it.
 pub fn make_all<B: Book>(alloc: Global, book: &B, text: &[u8]) -> Result<String, NotMade>
     ensures { IsMadeText result (made_lines (B.meaning book.now) text.now) }
 {
@@ -50,7 +50,7 @@ fn parts_made<B: Book>(
     Ok(out)
 }
 
-/// Adds the line of the message of these lines, if they have a word. They are behind `at` lines of the text.
+/// Adds the line of the message of these lines, if they have a word. They are after `at` lines of the text.
 fn push_part<B: Book>(
     alloc: Global,
     named: &NamedBook<'_, B>,
@@ -91,7 +91,7 @@ fn push_message<B: Book>(
     }
 }
 
-/// The fault of lines that are behind others.
+/// The fault of lines that are after others.
 fn following(at: usize, fault: NotMade) -> NotMade
     requires line { IsWithin (2 ^ 63) fault }
     requires small { at < 2 ^ 63 }
@@ -106,8 +106,8 @@ fn following(at: usize, fault: NotMade) -> NotMade
     }
 }
 
-/// Whether a word stands in one of the lines.
-fn has_word(lines: &[&[u8]]) -> bool
+/// Whether one of the lines has a word.
+pub(crate) fn has_word(lines: &[&[u8]]) -> bool
     ensures { result ≡ has_word (map (λ x. x.now) lines.now) }
 {
     for index in 0..lines.len() {

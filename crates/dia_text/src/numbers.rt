@@ -60,7 +60,7 @@ pub(crate) fn number32(word: &[u8]) -> Option<u32>
     Some(number as u32)
 }
 
-/// The number that a word writes, in decimal or in hexadecimal behind `0x`, if it is below the limit.
+/// The number that a word writes, in decimal or in hexadecimal after `0x`, if it is below the limit.
 pub(crate) fn any_below(limit: u64, word: &[u8]) -> Option<u64>
     ensures value { result ≡ any_below limit word.now }
     ensures small { IfSome result (λ n. n < limit) }
@@ -77,7 +77,7 @@ pub(crate) fn any_below32(word: &[u8]) -> Option<u32>
     Some(number as u32)
 }
 
-/// The number that a word writes, in decimal or in hexadecimal behind `0x`, if it is below 2^64.
+/// The number that a word writes, in decimal or in hexadecimal after `0x`, if it is below 2^64.
 pub(crate) fn any_number(word: &[u8]) -> Option<u64>
     ensures { result ≡ any_number word.now }
 {
@@ -120,7 +120,7 @@ fn sixteen(digits: &[u8]) -> [u8; 16]
     all
 }
 
-/// The number that a word with or without `-` writes, in two's complement: `half` of all numbers stand for those below zero.
+/// The number that a word with or without `-` writes, in two's complement: `half` of all numbers are those below zero.
 pub(crate) fn signed_below(half: u64, word: &[u8]) -> Option<u64>
     requires some { 0 < half }
     requires small { half ≤ 2 ^ 63 }

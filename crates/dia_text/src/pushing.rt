@@ -57,7 +57,7 @@ fn is_default_app(default: Option<u32>, app: u32) -> bool
     }
 }
 
-/// Adds a number behind its keyword.
+/// Adds a number after its keyword.
 pub(crate) fn push_number(text: &mut String, keyword: &str, number: u32) -> Result<(), AllocError>
     ensures { OnOk result (string_bytes text.new
         ≡ string_bytes text.old ++ spaced (keyword.now ∷ decimal number ∷ [])) }
@@ -68,7 +68,7 @@ pub(crate) fn push_number(text: &mut String, keyword: &str, number: u32) -> Resu
     push_decimal(text, u64::from(number))
 }
 
-/// Adds what stands behind an AVP of this length, unless it is zero bytes up to a multiple of four.
+/// Adds what follows an AVP of this length, unless it is zero bytes up to a multiple of four.
 pub(crate) fn push_pad(text: &mut String, length: usize, pad: &[u8]) -> Result<(), AllocError>
     ensures { OnOk result (string_bytes text.new
         ≡ string_bytes text.old ++ spaced (pad_words length pad.now)) }

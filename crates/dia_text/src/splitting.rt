@@ -20,7 +20,7 @@ pub(crate) fn split(alloc: Global, byte: u8, text: &[u8]) -> Result<Vec<&[u8]>, 
     Ok(found)
 }
 
-/// What is in front of the first such byte, and what is behind it.
+/// What is before the first such byte, and what follows it.
 pub(crate) fn split_once(byte: u8, text: &[u8]) -> Option<(&[u8], &[u8])>
     ensures some { IfSome result
         (λ parts. text.entry.now ≡ parts.0.now ++ byte ∷ parts.1.now) }

@@ -18,11 +18,11 @@ pub(crate) enum Part {
     Decimal,
     /// Four hexadecimal digits.
     Pair,
-    /// What stands behind a backslash.
+    /// What follows a backslash.
     Escaped,
 }
 
-/// Adds the bytes of parts, one behind the other.
+/// Adds the bytes of parts, one after the other.
 pub(crate) fn push_parts(out: &mut Vec<u8>, part: Part, texts: &[&[u8]]) -> Result<(), Misread>
     ensures { IsAppended (some_or (each (part_bytes part) (map (λ x. x.now) texts.now)) Value) result
         out.old.items out.new.items }

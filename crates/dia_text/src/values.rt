@@ -48,7 +48,7 @@ pub(crate) fn value_at<'a>(
     }
 }
 
-/// The bytes of a text behind its opening quote, if its AVP may have one, and what follows its closing quote.
+/// The bytes of a text after its opening quote, if its AVP may have one, and what follows its closing quote.
 fn quoted_at<'a>(
     alloc: Global,
     format: Option<&Format>,
@@ -135,7 +135,7 @@ fn is_text(kind: FormatKind) -> bool
     )
 }
 
-/// The bytes of a text behind its opening quote, and what follows its closing quote.
+/// The bytes of a text after its opening quote, and what follows its closing quote.
 fn text_at(alloc: Global, text: &[u8]) -> Result<(Vec<u8>, &[u8]), Misread>
     ensures { Gives (λ x. (x.0.items, x.1.now)) result (some_or (text_at text.entry.now) Value) }
 {
@@ -195,7 +195,7 @@ fn is_address(format: Option<&Format>) -> bool
     matches!(format, Some(Format::Address))
 }
 
-/// The data of an address behind the word `family`, and what follows it.
+/// The data of an address after the word `family`, and what follows it.
 #[tactic(auto, unfolding(crate::specs::Values::family_at))]
 fn family_at(alloc: Global, text: &[u8]) -> Result<(Vec<u8>, &[u8]), NotRead>
     ensures { Reads (λ x. (x.0.items, x.1.now)) result (family_at text.entry.now) }
@@ -254,7 +254,7 @@ fn time_number(word: &[u8]) -> Option<u64>
     }
 }
 
-/// What follows the date of a Time behind its number, where there is one.
+/// What follows the date of a Time after its number, where there is one.
 pub(crate) fn after_date<'a>(format: Option<&Format>, bytes: &[u8], text: &'a [u8]) -> &'a [u8]
     ensures { result.now ≡ after_date
         (option_map (λ format. plain_format format.now) format.entry) bytes.now text.entry.now }

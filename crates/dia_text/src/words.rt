@@ -23,7 +23,7 @@ pub(crate) fn without_blanks(text: &[u8]) -> &[u8]
     &text[start..]
 }
 
-/// How many blanks stand at the front.
+/// How many blanks are at the front.
 fn blanks_len(bytes: &[u8]) -> usize
     ensures len { result ≡ prefix_len is_blank bytes.now }
     ensures within { result ≤ length bytes.now }
@@ -36,7 +36,7 @@ fn blanks_len(bytes: &[u8]) -> usize
     bytes.len()
 }
 
-/// How many bytes of a word stand at the front.
+/// How many bytes of a word are at the front.
 fn word_len(bytes: &[u8]) -> usize
     ensures len { result ≡ prefix_len is_word_byte bytes.now }
     ensures within { result ≤ length bytes.now }

@@ -1,4 +1,4 @@
--- Texts that keep to a dictionary: their lines name its AVPs, with the flags, the places and the data that it gives them.
+-- Texts that follow a dictionary: their lines name its AVPs, with the flags, the places and the data that it gives them.
 use Rattle.std.specs.Prelude.{◌≡◌, ℕ, ◌<◌, ◌^◌, List, [], ◌∷◌, ◌++◌, Some, None, unwrap_or, IfSome, slice_get, Result, Ok, Err, ⊤}
 use Rattle.std.specs.List.{AllByRecursion}
 use Rattle.dia_wire.specs.declared.Header.{Header}
@@ -46,7 +46,7 @@ pub record IsOwn (d : Dictionary) (head : Head) (e : DictEntry) : Type 0 where
 abbrev pub key_at : Head → Key
 key_at head = record { code = head.code.code; vendor = unwrap_or head.code.vendor 0 }
 
--- the lines of a level whose AVPs have these keys. Data is of its format, and the members of a group stand as its definition
+-- the lines of a level whose AVPs have these keys. Data is of its format, and the members of a group are as its definition
 -- says (RFC 6733 section 4.4)
 pub data IsValidLevel (d : Dictionary) : List (List ℕ) → List Key → Type 0 where
   end : {ls : List (List ℕ)} {keys : List Key} → ls ≡ [] → keys ≡ [] → IsValidLevel d ls keys
@@ -81,7 +81,7 @@ pub record HasOwnFlags (d : Dictionary) (name : List ℕ) (start : Start) : Type
   pub no_error_request : HasR flags → ¬ HasE flags
   pub no_repeated_answer : HasT flags → HasR flags
 
--- lines without words, a header, and the lines of a level that stand as its command says
+-- lines without words, a header, and the lines of a level as its command has them
 pub record IsValidText (d : Dictionary) (text : List ℕ) : Type 0 where
   pub before : List (List ℕ)
   pub first : List ℕ

@@ -1,4 +1,4 @@
-//! What texts that keep to a dictionary make.
+//! What texts that follow a dictionary make.
 
 ghost use Rattle.std.specs.Prelude.{◌≡◌, ℕ, List, Ok};
 ghost use Rattle.dia_book.specs.Dictionary.{Dictionary};

@@ -1,4 +1,4 @@
-//! Laws of texts that keep to a dictionary: they make valid messages, and the names of commands stand for flags that these may
+//! Laws of texts that follow a dictionary: they make valid messages, and the names of commands mean flags that these may
 //! have.
 #![tactic(auto)]
 

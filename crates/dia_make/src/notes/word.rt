@@ -11,7 +11,7 @@ pub fn word_at(text: &[u8], at: usize) -> &[u8] {
     rest.get(..length).unwrap_or(rest)
 }
 
-/// How long a text in quotes is, with its quotes, of which the opening one is in front of these bytes.
+/// How long a text in quotes is, with its quotes, of which the opening one is before these bytes.
 fn quoted_length(following: &[u8]) -> usize {
     let inside = following
         .iter()
@@ -25,7 +25,7 @@ fn is_of_word(byte: u8) -> bool {
     !matches!(byte, b' ' | b'\t' | b'\r' | b'\n' | b'#' | b';')
 }
 
-/// The place behind the last word of the line that begins at a place: that of its comment, or of its end.
+/// The place after the last word of the line that begins at a place: that of its comment, or of its end.
 pub fn end_of_words(text: &[u8], start: usize) -> usize {
     let mut at = start;
     for _ in text {

@@ -13,12 +13,12 @@ pub returns-in-Err-clause-made : goal.returns-in-Err-clause-made
 returns-in-Err-clause-made g c =
     let inv = c.loop-index.invariant in
     rw c.placed.ensures.value (misses_same _ _ _ inv.2
-    (bad_line _ _ _ c.loop-index.index _ inv.0 _ (front c.args.lines.now c.loop-index.index _ c.loop-index-test.true) (c.in-Err.ensures inv.0 inv.1)))
+    (bad_line _ _ _ c.loop-index.index _ inv.0 _ (front c.args.lines.now c.loop-index.index _ c.loop-index-test.true) (c.in-Err.ensures.taken inv.0 inv.1)))
 
 pub loop-index-preserved : goal.loop-index-preserved
 loop-index-preserved g c =
     let inv = c.loop-index.invariant in
-    let a = c.in-Ok.ensures inv.0 inv.1 in
+    let a = c.in-Ok.ensures.taken inv.0 inv.1 in
     (a.0, a.2, sym (next_line _ _ _ c.loop-index.index _ inv.0 a.0 (front c.args.lines.now c.loop-index.index _ c.loop-index-test.true) a.1) ∙ inv.2)
 
 pub returns-in-Err-clause-line : goal.returns-in-Err-clause-line
