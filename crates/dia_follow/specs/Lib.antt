@@ -1,0 +1,15 @@
+pub mod Ends
+pub mod Applications
+pub mod Commons
+pub mod Fronts
+pub mod Contents
+pub mod Messages
+pub mod Reading
+pub mod Sides
+pub mod Kept
+pub mod Places
+pub mod Requests
+pub mod Waits
+pub mod Moments
+pub mod Departures
+pub mod Connections
