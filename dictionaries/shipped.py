@@ -21,7 +21,7 @@ WIDTH = 118
 
 HEAD = '''//! The AVPs that the files of `dictionaries/` declare. `dictionaries/shipped.py` writes this file.
 
-/// Names of files, each followed by its AVPs, `NAME:LINE`.
+/// Files, each as `@FILE` followed by its AVPs, `NAME:LINE`.
 static SHIPPED: &str = "\\
 '''
 
@@ -29,12 +29,22 @@ TAIL = '''";
 
 /// The file of `dictionaries/` that declares an AVP of this name, and the number of the line.
 pub fn declared_in(name: &str) -> Option<(&'static str, &'static str)> {
-    let mut file = "";
-    for word in SHIPPED.split(' ') {
+    for part in SHIPPED.split('@') {
+        if let Some((file, avps)) = part.split_once(' ') {
+            if let Some(line) = line_of(avps, name) {
+                return Some((file, line));
+            }
+        }
+    }
+    None
+}
+
+/// The number of the line of an AVP, among those of a file.
+fn line_of(avps: &'static str, name: &str) -> Option<&'static str> {
+    for word in avps.split(' ') {
         match word.split_once(':') {
-            None => file = word,
-            Some((declared, line)) if declared == name => return Some((file, line)),
-            Some(_) => {}
+            Some((declared, line)) if declared == name => return Some(line),
+            _ => {}
         }
     }
     None
@@ -56,7 +66,7 @@ def words():
         own = [(it.group(1), number) for it, number in lines if it and it.group(1) not in known]
         known.update(name for name, _ in own)
         if own:
-            yield file.name
+            yield f"@{file.name}"
             yield from (f"{name}:{number}" for name, number in own)
 
 

@@ -1,19 +1,19 @@
 //! The AVPs that the files of `dictionaries/` declare. `dictionaries/shipped.py` writes this file.
 
-/// Names of files, each followed by its AVPs, `NAME:LINE`.
+/// Files, each as `@FILE` followed by its AVPs, `NAME:LINE`.
 static SHIPPED: &str = "\
-    rfc6733.txt Vendor-Id:5 Firmware-Revision:6 Host-IP-Address:7 Supported-Vendor-Id:8 Product-Name:9 Disconnect-Cause:10 \
-    Origin-Host:11 Origin-Realm:12 Destination-Host:13 Destination-Realm:14 Route-Record:15 Proxy-Info:16 Proxy-Host:17 \
-    Proxy-State:18 Auth-Application-Id:19 Acct-Application-Id:20 Inband-Security-Id:21 Vendor-Specific-Application-Id:22 \
-    Redirect-Host:23 Redirect-Host-Usage:24 Redirect-Max-Cache-Time:25 Result-Code:26 Error-Message:27 \
-    Error-Reporting-Host:28 Failed-AVP:29 Experimental-Result:30 Experimental-Result-Code:31 Auth-Request-Type:32 \
-    Session-Id:33 Authorization-Lifetime:34 Auth-Grace-Period:35 Auth-Session-State:36 Re-Auth-Request-Type:37 \
-    Session-Timeout:38 User-Name:39 Termination-Cause:40 Origin-State-Id:41 Session-Binding:42 Session-Server-Failover:43 \
-    Multi-Round-Time-Out:44 Class:45 Event-Timestamp:46 Accounting-Record-Type:47 Acct-Interim-Interval:48 \
-    Accounting-Record-Number:49 Acct-Session-Id:50 Acct-Multi-Session-Id:51 Accounting-Sub-Session-Id:52 \
-    Accounting-Realtime-Required:53 rfc8506-avps.txt CC-Correlation-Id:4 CC-Request-Number:5 CC-Request-Type:6 \
-    CC-Session-Failover:7 CC-Sub-Session-Id:8 Check-Balance-Result:9 Cost-Information:10 Unit-Value:11 Exponent:12 \
-    Value-Digits:13 Currency-Code:14 Cost-Unit:15 Credit-Control:16 Credit-Control-Failure-Handling:17 \
+    @rfc6733.txt Vendor-Id:5 Firmware-Revision:6 Host-IP-Address:7 Supported-Vendor-Id:8 Product-Name:9 \
+    Disconnect-Cause:10 Origin-Host:11 Origin-Realm:12 Destination-Host:13 Destination-Realm:14 Route-Record:15 \
+    Proxy-Info:16 Proxy-Host:17 Proxy-State:18 Auth-Application-Id:19 Acct-Application-Id:20 Inband-Security-Id:21 \
+    Vendor-Specific-Application-Id:22 Redirect-Host:23 Redirect-Host-Usage:24 Redirect-Max-Cache-Time:25 Result-Code:26 \
+    Error-Message:27 Error-Reporting-Host:28 Failed-AVP:29 Experimental-Result:30 Experimental-Result-Code:31 \
+    Auth-Request-Type:32 Session-Id:33 Authorization-Lifetime:34 Auth-Grace-Period:35 Auth-Session-State:36 \
+    Re-Auth-Request-Type:37 Session-Timeout:38 User-Name:39 Termination-Cause:40 Origin-State-Id:41 Session-Binding:42 \
+    Session-Server-Failover:43 Multi-Round-Time-Out:44 Class:45 Event-Timestamp:46 Accounting-Record-Type:47 \
+    Acct-Interim-Interval:48 Accounting-Record-Number:49 Acct-Session-Id:50 Acct-Multi-Session-Id:51 \
+    Accounting-Sub-Session-Id:52 Accounting-Realtime-Required:53 @rfc8506-avps.txt CC-Correlation-Id:4 CC-Request-Number:5 \
+    CC-Request-Type:6 CC-Session-Failover:7 CC-Sub-Session-Id:8 Check-Balance-Result:9 Cost-Information:10 Unit-Value:11 \
+    Exponent:12 Value-Digits:13 Currency-Code:14 Cost-Unit:15 Credit-Control:16 Credit-Control-Failure-Handling:17 \
     Direct-Debiting-Failure-Handling:18 Multiple-Services-Credit-Control:19 Granted-Service-Unit:20 \
     Requested-Service-Unit:21 Used-Service-Unit:22 Tariff-Time-Change:23 CC-Time:24 CC-Money:25 CC-Total-Octets:26 \
     CC-Input-Octets:27 CC-Output-Octets:28 CC-Service-Specific-Units:29 Tariff-Change-Usage:30 Service-Identifier:31 \
@@ -26,7 +26,7 @@ static SHIPPED: &str = "\
     User-Equipment-Info-EUI64:58 User-Equipment-Info-ModifiedEUI64:59 User-Equipment-Info-IMEI:60 \
     Subscription-Id-Extension:61 Subscription-Id-E164:62 Subscription-Id-IMSI:63 Subscription-Id-SIP-URI:64 \
     Subscription-Id-NAI:65 Subscription-Id-Private:66 Redirect-Server-Extension:67 Redirect-Address-IPAddress:68 \
-    Redirect-Address-URL:69 Redirect-Address-SIP-URI:70 QoS-Final-Unit-Indication:71 rfc7155-avps.txt NAS-Port:7 \
+    Redirect-Address-URL:69 Redirect-Address-SIP-URI:70 QoS-Final-Unit-Indication:71 @rfc7155-avps.txt NAS-Port:7 \
     NAS-Port-Id:8 NAS-Port-Type:9 Called-Station-Id:10 Calling-Station-Id:11 Connect-Info:12 Originating-Line-Info:13 \
     Reply-Message:14 User-Password:15 Password-Retry:16 Prompt:17 CHAP-Auth:18 CHAP-Algorithm:19 CHAP-Ident:20 \
     CHAP-Response:21 CHAP-Challenge:22 ARAP-Password:23 ARAP-Challenge-Response:24 ARAP-Security:25 ARAP-Security-Data:26 \
@@ -41,8 +41,8 @@ static SHIPPED: &str = "\
     Tunnel-Server-Auth-Id:72 Accounting-Input-Octets:73 Accounting-Output-Octets:74 Accounting-Input-Packets:75 \
     Accounting-Output-Packets:76 Acct-Session-Time:77 Acct-Authentic:78 Accounting-Auth-Method:79 Acct-Delay-Time:80 \
     Acct-Link-Count:81 Acct-Tunnel-Connection:82 Acct-Tunnel-Packets-Lost:83 NAS-Identifier:84 NAS-IP-Address:85 \
-    NAS-IPv6-Address:86 State:87 Origin-AAA-Protocol:88 rfc3588.txt E2E-Sequence:32 rfc4072.txt EAP-Payload:5 \
-    EAP-Reissued-Payload:6 EAP-Master-Session-Key:7 EAP-Key-Name:8 Accounting-EAP-Auth-Method:9 rfc4740.txt \
+    NAS-IPv6-Address:86 State:87 Origin-AAA-Protocol:88 @rfc3588.txt E2E-Sequence:32 @rfc4072.txt EAP-Payload:5 \
+    EAP-Reissued-Payload:6 EAP-Master-Session-Key:7 EAP-Key-Name:8 Accounting-EAP-Auth-Method:9 @rfc4740.txt \
     SIP-Accounting-Information:6 SIP-Accounting-Server-URI:7 SIP-Credit-Control-Server-URI:8 SIP-Server-URI:9 \
     SIP-Server-Capabilities:10 SIP-Mandatory-Capability:11 SIP-Optional-Capability:12 SIP-Server-Assignment-Type:13 \
     SIP-Auth-Data-Item:14 SIP-Authentication-Scheme:15 SIP-Item-Number:16 SIP-Authenticate:17 SIP-Authorization:18 \
@@ -51,7 +51,7 @@ static SHIPPED: &str = "\
     SIP-User-Data-Type:28 SIP-User-Data-Contents:29 SIP-User-Data-Already-Available:30 SIP-Method:31 Digest-Response:32 \
     Digest-Realm:33 Digest-Nonce:34 Digest-Response-Auth:35 Digest-Nextnonce:36 Digest-Method:37 Digest-URI:38 \
     Digest-QoP:39 Digest-Algorithm:40 Digest-Entity-Body-Hash:41 Digest-CNonce:42 Digest-Nonce-Count:43 Digest-Username:44 \
-    Digest-Opaque:45 Digest-Auth-Param:46 Digest-Domain:47 Digest-Stale:48 Digest-HA1:49 SIP-AOR:50 rfc5777.txt \
+    Digest-Opaque:45 Digest-Auth-Param:46 Digest-Domain:47 Digest-Stale:48 Digest-HA1:49 SIP-AOR:50 @rfc5777.txt \
     QoS-Resources:9 Filter-Rule:10 Filter-Rule-Precedence:11 Classifier:12 Classifier-ID:13 Protocol:14 Direction:15 \
     From-Spec:16 To-Spec:17 Negated:18 IP-Address:19 IP-Address-Range:20 IP-Address-Start:21 IP-Address-End:22 \
     IP-Address-Mask:23 IP-Mask-Bit-Mask-Width:24 MAC-Address:25 MAC-Address-Mask:26 MAC-Address-Mask-Pattern:27 \
@@ -63,15 +63,15 @@ static SHIPPED: &str = "\
     Time-Of-Day-Start:62 Time-Of-Day-End:63 Day-Of-Week-Mask:64 Day-Of-Month-Mask:65 Month-Of-Year-Mask:66 \
     Absolute-Start-Time:67 Absolute-Start-Fractional-Seconds:68 Absolute-End-Time:69 Absolute-End-Fractional-Seconds:70 \
     Timezone-Flag:71 Timezone-Offset:72 Treatment-Action:73 QoS-Profile-Id:74 QoS-Profile-Template:75 QoS-Semantics:76 \
-    QoS-Parameters:77 Excess-Treatment:78 QoS-Capability:79 rfc7683.txt OC-Supported-Features:4 OC-Feature-Vector:5 \
-    OC-OLR:6 OC-Sequence-Number:7 OC-Validity-Duration:8 OC-Report-Type:9 OC-Reduction-Percentage:10 rfc7944.txt DRMP:4 \
-    rfc8583.txt Load:4 Load-Type:5 Load-Value:6 SourceID:7 ts29061-avps.txt 3GPP-IMSI:5 3GPP-Charging-Id:6 3GPP-PDP-Type:7 \
-    3GPP-CG-Address:8 3GPP-GPRS-Negotiated-QoS-Profile:9 3GPP-SGSN-Address:10 3GPP-GGSN-Address:11 3GPP-IMSI-MCC-MNC:12 \
-    3GPP-GGSN-MCC-MNC:13 3GPP-NSAPI:14 3GPP-Session-Stop-Indicator:15 3GPP-Selection-Mode:16 \
+    QoS-Parameters:77 Excess-Treatment:78 QoS-Capability:79 @rfc7683.txt OC-Supported-Features:4 OC-Feature-Vector:5 \
+    OC-OLR:6 OC-Sequence-Number:7 OC-Validity-Duration:8 OC-Report-Type:9 OC-Reduction-Percentage:10 @rfc7944.txt DRMP:4 \
+    @rfc8583.txt Load:4 Load-Type:5 Load-Value:6 SourceID:7 @ts29061-avps.txt 3GPP-IMSI:5 3GPP-Charging-Id:6 \
+    3GPP-PDP-Type:7 3GPP-CG-Address:8 3GPP-GPRS-Negotiated-QoS-Profile:9 3GPP-SGSN-Address:10 3GPP-GGSN-Address:11 \
+    3GPP-IMSI-MCC-MNC:12 3GPP-GGSN-MCC-MNC:13 3GPP-NSAPI:14 3GPP-Session-Stop-Indicator:15 3GPP-Selection-Mode:16 \
     3GPP-Charging-Characteristics:17 3GPP-CG-IPv6-Address:18 3GPP-SGSN-IPv6-Address:19 3GPP-GGSN-IPv6-Address:20 \
     3GPP-IPv6-DNS-Servers:21 3GPP-SGSN-MCC-MNC:22 3GPP-IMEISV:23 3GPP-RAT-Type:24 3GPP-User-Location-Info:25 \
     3GPP-MS-TimeZone:26 3GPP-CAMEL-Charging-Info:27 3GPP-Packet-Filter:28 3GPP-Negotiated-DSCP:29 3GPP-Allocate-IP-Type:30 \
-    RAI:31 ts29212.txt ADC-Revalidation-Time:9 ADC-Rule-Install:10 ADC-Rule-Remove:11 ADC-Rule-Definition:12 \
+    RAI:31 @ts29212.txt ADC-Revalidation-Time:9 ADC-Rule-Install:10 ADC-Rule-Remove:11 ADC-Rule-Definition:12 \
     ADC-Rule-Base-Name:13 ADC-Rule-Name:14 ADC-Rule-Report:15 Application-Detection-Information:16 \
     Access-Network-Charging-Identifier-Gx:17 Allocation-Retention-Priority:18 AN-GW-Address:19 \
     APN-Aggregate-Max-Bitrate-DL:20 APN-Aggregate-Max-Bitrate-UL:21 Bearer-Control-Mode:22 Bearer-Identifier:23 \
@@ -92,17 +92,18 @@ static SHIPPED: &str = "\
     TFT-Packet-Filter-Information:89 ToS-Traffic-Class:90 Tunnel-Header-Filter:91 Tunnel-Header-Length:92 \
     Tunnel-Information:93 RAT-Type:94 Revalidation-Time:95 Rule-Activation-Time:96 UDP-Source-Port:97 \
     UE-Local-IP-Address:98 Usage-Monitoring-Information:99 Rule-Deactivation-Time:100 Usage-Monitoring-Level:101 \
-    Usage-Monitoring-Report:102 Usage-Monitoring-Support:103 ts29214.txt Abort-Cause:10 Access-Network-Charging-Address:11 \
-    Access-Network-Charging-Identifier:12 Access-Network-Charging-Identifier-Value:13 Acceptable-Service-Info:14 \
-    AF-Application-Identifier:15 AF-Charging-Identifier:16 Application-Service-Provider-Identity:17 Codec-Data:18 \
-    Flow-Description:19 Flow-Number:20 Flows:21 Flow-Status:22 Flow-Usage:23 Service-URN:24 Specific-Action:25 \
-    Max-Requested-Bandwidth-DL:26 Max-Requested-Bandwidth-UL:27 Media-Component-Description:28 Media-Component-Number:29 \
-    Media-Sub-Component:30 Media-Type:31 MPS-Identifier:32 Min-Requested-Bandwidth-DL:33 Min-Requested-Bandwidth-UL:34 \
-    RR-Bandwidth:35 RS-Bandwidth:36 Service-Info-Status:37 SIP-Forking-Indication:38 Sponsor-Identity:39 \
-    Sponsored-Connectivity-Data:40 AF-Signalling-Protocol:41 Required-Access-Info:42 Rx-Request-Type:43 IP-Domain-Id:44 \
-    Reservation-Priority:45 ts29229.txt Associated-Identities:9 Associated-Registered-Identities:10 Call-ID-SIP-Header:11 \
-    Charging-Information:12 Confidentiality-Key:13 Contact:14 Deregistration-Reason:15 Feature-List:20 Feature-List-ID:21 \
-    From-SIP-Header:22 Identity-with-Emergency-Registration:23 Integrity-Key:24 LIA-Flags:25 Loose-Route-Indication:26 \
+    Usage-Monitoring-Report:102 Usage-Monitoring-Support:103 @ts29214.txt Abort-Cause:10 \
+    Access-Network-Charging-Address:11 Access-Network-Charging-Identifier:12 Access-Network-Charging-Identifier-Value:13 \
+    Acceptable-Service-Info:14 AF-Application-Identifier:15 AF-Charging-Identifier:16 \
+    Application-Service-Provider-Identity:17 Codec-Data:18 Flow-Description:19 Flow-Number:20 Flows:21 Flow-Status:22 \
+    Flow-Usage:23 Service-URN:24 Specific-Action:25 Max-Requested-Bandwidth-DL:26 Max-Requested-Bandwidth-UL:27 \
+    Media-Component-Description:28 Media-Component-Number:29 Media-Sub-Component:30 Media-Type:31 MPS-Identifier:32 \
+    Min-Requested-Bandwidth-DL:33 Min-Requested-Bandwidth-UL:34 RR-Bandwidth:35 RS-Bandwidth:36 Service-Info-Status:37 \
+    SIP-Forking-Indication:38 Sponsor-Identity:39 Sponsored-Connectivity-Data:40 AF-Signalling-Protocol:41 \
+    Required-Access-Info:42 Rx-Request-Type:43 IP-Domain-Id:44 Reservation-Priority:45 @ts29229.txt \
+    Associated-Identities:9 Associated-Registered-Identities:10 Call-ID-SIP-Header:11 Charging-Information:12 \
+    Confidentiality-Key:13 Contact:14 Deregistration-Reason:15 Feature-List:20 Feature-List-ID:21 From-SIP-Header:22 \
+    Identity-with-Emergency-Registration:23 Integrity-Key:24 LIA-Flags:25 Loose-Route-Indication:26 \
     Mandatory-Capability:27 Multiple-Registration-Indication:28 Optional-Capability:29 Originating-Request:30 Path:31 \
     Primary-Charging-Collection-Function-Name:32 Primary-Event-Charging-Function-Name:33 Priviledged-Sender-Indication:34 \
     Public-Identity:35 Reason-Code:36 Reason-Info:37 Record-Route:38 Restoration-Info:39 SCSCF-Restoration-Info:40 \
@@ -110,7 +111,7 @@ static SHIPPED: &str = "\
     Secondary-Event-Charging-Function-Name:50 Server-Assignment-Type:51 Server-Capabilities:52 Server-Name:53 \
     Session-Priority:54 Subscription-Info:55 Supported-Applications:56 Supported-Features:57 To-SIP-Header:58 UAR-Flags:59 \
     User-Authorization-Type:60 User-Data:61 User-Data-Already-Available:62 Visited-Network-Identifier:63 \
-    Wildcarded-Public-Identity:64 ts29272.txt Subscription-Data:12 Terminal-Information:13 IMEI:14 Software-Version:15 \
+    Wildcarded-Public-Identity:64 @ts29272.txt Subscription-Data:12 Terminal-Information:13 IMEI:14 Software-Version:15 \
     QoS-Subscribed:16 ULR-Flags:17 ULA-Flags:18 Visited-PLMN-Id:19 Requested-EUTRAN-Authentication-Info:20 \
     Requested-UTRAN-GERAN-Authentication-Info:21 Number-Of-Requested-Vectors:22 Re-Synchronization-Info:23 \
     Immediate-Response-Preferred:24 Authentication-Info:25 E-UTRAN-Vector:26 UTRAN-Vector:27 GERAN-Vector:28 \
@@ -142,10 +143,10 @@ static SHIPPED: &str = "\
     Measurement-Period-UMTS:157 Measurement-Period-LTE:158 Collection-Period-RRM-LTE:159 Collection-Period-RRM-UMTS:160 \
     Positioning-Method:161 Measurement-Quantity:162 Event-Threshold-Event-1F:163 Event-Threshold-Event-1I:164 \
     Served-Party-IP-Address:165 PDP-Address:166 GMLC-Address:167 MIP6-Agent-Info:176 MIP-Home-Agent-Address:177 \
-    MIP-Home-Agent-Host:178 MIP6-Home-Link-Prefix:179 Service-Selection:180 ts29329.txt User-Identity:10 MSISDN:11 \
+    MIP-Home-Agent-Host:178 MIP6-Home-Link-Prefix:179 Service-Selection:180 @ts29329.txt User-Identity:10 MSISDN:11 \
     Sh-User-Data:12 Data-Reference:13 Service-Indication:14 Subs-Req-Type:15 Requested-Domain:16 Current-Location:17 \
     Identity-Set:18 Expiry-Time:19 Send-Data-Indication:20 DSAI-Tag:21 Wildcarded-IMPU:22 One-Time-Notification:23 \
-    Requested-Nodes:24 Serving-Node-Indication:25 Repository-Data-ID:26 Sequence-Number:27 UDR-Flags:28 ts32299.txt \
+    Requested-Nodes:24 Serving-Node-Indication:25 Repository-Data-ID:26 Sequence-Number:27 UDR-Flags:28 @ts32299.txt \
     AF-Correlation-Information:10 Access-Network-Information:11 Access-Transfer-Information:12 Access-Transfer-Type:13 \
     Account-Expiration:14 Accumulated-Cost:15 Adaptations:16 Additional-Content-Information:17 \
     Additional-Type-Information:18 Address-Data:19 Address-Domain:20 Address-Type:21 Addressee-Type:22 \
@@ -206,12 +207,22 @@ static SHIPPED: &str = "\
 
 /// The file of `dictionaries/` that declares an AVP of this name, and the number of the line.
 pub fn declared_in(name: &str) -> Option<(&'static str, &'static str)> {
-    let mut file = "";
-    for word in SHIPPED.split(' ') {
+    for part in SHIPPED.split('@') {
+        if let Some((file, avps)) = part.split_once(' ') {
+            if let Some(line) = line_of(avps, name) {
+                return Some((file, line));
+            }
+        }
+    }
+    None
+}
+
+/// The number of the line of an AVP, among those of a file.
+fn line_of(avps: &'static str, name: &str) -> Option<&'static str> {
+    for word in avps.split(' ') {
         match word.split_once(':') {
-            None => file = word,
-            Some((declared, line)) if declared == name => return Some((file, line)),
-            Some(_) => {}
+            Some((declared, line)) if declared == name => return Some(line),
+            _ => {}
         }
     }
     None

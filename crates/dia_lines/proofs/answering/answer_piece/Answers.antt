@@ -10,7 +10,7 @@ returns-in_err-put_answers-clause-front g c = λ fed put begun n _ a.
     let bytes = c.in_ok-count.ensures.bytes in
     let none = subst (λ k. Consumes (g.F.Feed.remaining c.args.feed.now) (g.F.Feed.remaining c.get.new.self) (take k c.get.new.buffer)) c.if-count-eq0.true bytes.0 in
     sink_failed_at_end (g.J.Judge.says c.args.judge.now) (g.J.Judge.recorded c.args.judge.now) g.W.Watch.saw fed _ _ put _ _ begun c.args.watch.now c.end.new.watch
-    c.args.answered.now c.end.new.self n more none ends a (bytes.1 c.if-count-eq0.true (omega (arith, c.get.auto.buffer, c.recorded-piece))) c.put_answers.ensures.front
+    c.args.answered.now c.end.new.self n more none ends a (bytes.1 c.if-count-eq0.true (omega (arith, c.get.auto.buffer, c.told-piece))) c.put_answers.ensures.front
 
 pub returns-in_err-read-clause-front : goal.returns-in_err-read-clause-front
 returns-in_err-read-clause-front g c = λ fed put begun n _ a.

@@ -29,7 +29,7 @@ returns-in_err-put_lines-clause-front g c = λ fed put begun n _ a.
     sink_failed_at_end (g.J.MessageJudge.says c.args.judge.now) (g.J.MessageJudge.recorded c.args.judge.now) g.W.Watch.saw fed _ _ put _ _ begun c.args.watch.now c.end.new.watch
     c.args.streamed.now c.end.new.self n
     (subst (λ k. Consumes (g.F.Feed.remaining c.args.feed.now) (g.F.Feed.remaining c.get.new.self) (take k c.get.new.buffer)) c.if-count-eq0.true bytes.0)
-    (bytes.1 c.if-count-eq0.true (omega (arith, c.get.auto.buffer, c.recorded-piece))) c.in_ok-end.ensures a c.put_lines.ensures.front
+    (bytes.1 c.if-count-eq0.true (omega (arith, c.get.auto.buffer, c.told-piece))) c.in_ok-end.ensures a c.put_lines.ensures.front
 
 pub returns-in_err-goes_on-clause-front : goal.returns-in_err-goes_on-clause-front
 returns-in_err-goes_on-clause-front g c = λ fed put begun n _ a.
@@ -53,7 +53,7 @@ returns-in_ok-put_lines-clause-end g c = λ fed put begun n _ a.
     all_read (g.J.MessageJudge.says c.args.judge.now) (g.J.MessageJudge.recorded c.args.judge.now) g.W.Watch.saw fed _ _ put _ _ begun c.args.watch.now c.end.new.watch
     c.args.streamed.now c.end.new.self n
     (subst (λ k. Consumes (g.F.Feed.remaining c.args.feed.now) (g.F.Feed.remaining c.get.new.self) (take k c.get.new.buffer)) c.if-count-eq0.true bytes.0)
-    (bytes.1 c.if-count-eq0.true (omega (arith, c.get.auto.buffer, c.recorded-piece))) c.in_ok-end.ensures a c.in_ok-put_lines.ensures.put
+    (bytes.1 c.if-count-eq0.true (omega (arith, c.get.auto.buffer, c.told-piece))) c.in_ok-end.ensures a c.in_ok-put_lines.ensures.put
 
 pub returns-in_ok-put_lines-2-clause-more : goal.returns-in_ok-put_lines-2-clause-more
 returns-in_ok-put_lines-2-clause-more g c = λ fed put begun n is a.
