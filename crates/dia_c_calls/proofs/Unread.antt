@@ -37,7 +37,7 @@ module _ {A : Type 0} (r : Result A MessageFault) (bytes : List ℕ) (is_short :
 
   -- where none is found, the lines are reported
   pub never_refused : (x : A) (d : Dictionary) (text : List ℕ) → r ≡ Ok x → IsMessageShown d bytes text Bad → ⊥
-  never_refused x d text ok (listing h lines bad is_head long lists same ends) = never_bad bad ends
+  never_refused x d text ok (listing rows texts bad are written same ends) = never_bad bad ends
   never_refused x d text ok (short less refuses) = no_error x _ ok (is_short.1 less)
   never_refused x d text ok (version long other refuses) = no_error x _ ok (is_version.1 (long, other))
   never_refused x d text ok (bad_length long one bad refuses) = no_error x _ ok (is_length.1 (long, one, bad))

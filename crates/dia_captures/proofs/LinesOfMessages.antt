@@ -14,7 +14,7 @@ use Rattle.dia_io.specs.declared.Command.TheVariants as command
 use Rattle.dia_io.specs.Writing.{AppendsFront}
 use Rattle.dia_lines.specs.Lines.{LineHasOneAnswer, recorded_lines}
 use Rattle.dia_lines.specs.Lines as lines
-use Rattle.dia_lines.specs.FeedToSink.{AllAnswered, FrontAnswered, LinesAnswered}
+use Rattle.dia_lines.specs.FeedToSink.{FrontAnswered, LinesAnswered}
 use Rattle.dia_lines.proofs.LineNumbers.{without_numbers}
 use Rattle.dia_lines.proofs.OneAnswer.{text_once}
 use Rattle.dia_lines.proofs.OtherAnswers.{IsAnswered-map, FrontAnswered-map, LinesAnswered-map, same_text}
@@ -25,9 +25,9 @@ use Rattle.dia_run.specs.Texts.{line, IsDictionaryText}
 use Rattle.dia_report.specs.Refusals.{RecordsOf, bad_input_text}
 use Rattle.dia_run.proofs.OneInput.{Same, refused_once, dictionary_or_not, one_reason_for_dictionary}
 use Rattle.dia_run.proofs.OneOutcome.{one_outcome}
-use Rattle.dia_captures.specs.declared.ended.Ended.{Ended}
 use Rattle.dia_captures.specs.Ending.{ended_of}
 use Rattle.dia_captures.specs.Lines.{Answer, MessageCommand, OfLine, text_of, IsLinesOutcome, answered, refused, AreLinesAnswered, IsFrontPut, checks, refutations}
+use Rattle.dia_captures.specs.Runs.{AreLinesRecorded}
 use Rattle.dia_run.specs.RefusedDictionaries.{RefusesFirst}
 use Rattle.dia_captures.proofs.OneMessage.{same_check, same_refute}
 
@@ -51,17 +51,15 @@ module _ {V : Type 0} (command : MessageCommand) (inputs : Inputs) (P : Input �
   same : (verdicts : List V) → text verdicts ≡ flat_map text_of (map answer verdicts)
   same verdicts = without_numbers recorded 1 verdicts ∙ same_text answer recorded text_of (λ verdict. refl) verdicts
 
-  pub all_answered : {W : Type 0} (saw : W → List V → Type 0) (fed_old fed put_old put : Option (List ℕ)) (w x : W)
-      → AllAnswered P text saw fed_old fed put_old put w x → (ended : Ended) (exit : Exit)
-      → ((recorded : List ℕ) → ¬ command.refuses inputs recorded) → exit ≡ command.exit_of ended → saw w []
-      → ((verdicts : List V) → saw x verdicts → ended ≡ ended_of (map exit_of verdicts)) → AreLinesAnswered command inputs fed_old fed put_old put exit
-  all_answered saw fed_old fed put_old put w x h ended exit sound is nothing counts = record {
+  pub all_answered : (fed_old fed put_old put : Option (List ℕ)) (exit : Exit) → ((recorded : List ℕ) → ¬ command.refuses inputs recorded)
+      → AreLinesRecorded P text exit_of command.exit_of fed_old fed put_old put exit → AreLinesAnswered command inputs fed_old fed put_old put exit
+  all_answered fed_old fed put_old put exit sound h = record {
     bytes = h.bytes;
     text = text h.verdicts;
     consumed = h.consumed;
     outcome = answered (map answer h.verdicts) sound (IsAnswered-map P (OfLine command inputs) answer f h.bytes h.verdicts h.answered)
         (same h.verdicts)
-        (is ∙ ap command.exit_of (counts h.verdicts (h.seen [] nothing) ∙ ap ended_of (same_exits answer (λ (a : Answer). a.1) exit_of (λ verdict. refl) h.verdicts)));
+        (h.is_exit ∙ ap command.exit_of (ap ended_of (same_exits answer (λ (a : Answer). a.1) exit_of (λ verdict. refl) h.verdicts)));
     is_put = h.is_put;
   }
 

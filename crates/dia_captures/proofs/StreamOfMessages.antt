@@ -24,11 +24,11 @@ use Rattle.dia_report.specs.declared.refusing.Refused.TheVariants.{Bad, NoMemory
 use Rattle.dia_run.specs.Texts.{line, IsDictionaryText}
 use Rattle.dia_report.specs.Refusals.{RecordsOf, bad_input_text}
 use Rattle.dia_run.specs.Outcome.{IsJudged}
-use Rattle.dia_captures.specs.declared.ended.Ended.{Ended}
 use Rattle.dia_captures.specs.declared.verdicts.Checked.{Checked}
 use Rattle.dia_captures.specs.Ending.{ended_of}
 use Rattle.dia_captures.specs.Verdicts.{IsPieceChecked, checked_exit, checked_line, placed_line}
 use Rattle.dia_captures.specs.Lines.{Answer, checks}
+use Rattle.dia_captures.specs.Runs.{IsStreamPut}
 use Rattle.dia_run.specs.RefusedDictionaries.{RefusesFirst}
 use Rattle.dia_run.proofs.OneInput.{Same, one_dictionary, refused_once}
 use Rattle.dia_run.proofs.OneOutcome.{judged_once}
@@ -46,21 +46,19 @@ module _ (u : Unknown) (most : Levels) (inputs : Inputs) where
     same : (v : ℕ × Checked) → placed_line d v ≡ placed (at_place (IsPieceChecked u most d) (OfMessage u most inputs) answer (of_piece u most inputs d is_d) v)
     same v = refl
 
-    pub stream_answered : {W : Type 0} (saw : W → List (ℕ × Checked) → Type 0) (w x : W)
-        → AllRecorded (IsPieceChecked u most d) (placed_line d) saw fed_old fed put_old put w x → (ended : Ended) (exit : Exit) → exit ≡ (checks u most).exit_of ended → saw w []
-        → ((verdicts : List (ℕ × Checked)) → saw x verdicts → ended ≡ ended_of (map (λ (v : ℕ × Checked). checked_exit v.1) verdicts))
+    pub stream_answered : (exit : Exit) → IsStreamPut (IsPieceChecked u most d) (placed_line d) fed_old fed put_old put exit
         → IsStreamAnswered u most inputs fed_old fed put_old put exit
-    stream_answered saw w x h ended exit is nothing counts = record {
+    stream_answered exit h = record {
       read = h.read;
       text = flat_map (placed_line d) h.verdicts;
       consumed = h.consumed;
       outcome = λ rest gives. recorded (map (at_place (IsPieceChecked u most d) (OfMessage u most inputs) answer (of_piece u most inputs d is_d)) h.verdicts)
           (first_occurs inputs d is_d)
-          (IsStreamRecorded-map (IsPieceChecked u most d) (OfMessage u most inputs) answer (of_piece u most inputs d is_d) (h.read ++ rest) h.verdicts (h.recorded rest gives))
+          (IsStreamRecorded-map (IsPieceChecked u most d) (OfMessage u most inputs) answer (of_piece u most inputs d is_d) (h.read ++ rest) h.verdicts (h.answered rest gives))
           (same_lines (IsPieceChecked u most d) (OfMessage u most inputs) answer (of_piece u most inputs d is_d) (placed_line d) placed same h.verdicts)
-          (is ∙ ap (checks u most).exit_of (counts h.verdicts (h.seen [] nothing) ∙ ap ended_of
+          (h.is_exit ∙ ap (λ (e : List Exit). (checks u most).exit_of (ended_of e))
           (same_exits (at_place (IsPieceChecked u most d) (OfMessage u most inputs) answer (of_piece u most inputs d is_d)) (λ (a : ℕ × Answer). a.1.1)
-          (λ (v : ℕ × Checked). checked_exit v.1) (λ v. refl) h.verdicts)));
+          (λ (v : ℕ × Checked). checked_exit v.1) (λ v. refl) h.verdicts));
       is_put = h.is_put;
     }
 

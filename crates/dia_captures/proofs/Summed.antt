@@ -1,8 +1,9 @@
 -- The summary of a run is that of the verdicts that were shown.
-use Rattle.std.proofs.Common.{◌≡◌, ℕ, List, [], ◌++◌, Option, None, Some, Result, Ok, Err, sym, ap, ap₂, subst, ◌∙◌}
+use Rattle.std.proofs.Common.{◌≡◌, ℕ, List, ◌++◌, Option, None, Some, Result, Ok, Err, ap, ap₂, subst, ◌∙◌}
 use Rattle.std.specs.Prelude.{IfOk, ◌≢◌}
 use Rattle.std.specs.declared.alloc.AllocError.{AllocError}
 use Rattle.std.specs.List.{flat_map}
+use Rattle.std.specs.Io.KnownBytes.{Appends}
 use Rattle.dia_dict.specs.Dictionary.{Dictionary}
 use Rattle.dia_policy.specs.declared.Unknown.{Unknown}
 use Rattle.dia_policy.specs.declared.Levels.{Levels}
@@ -10,19 +11,15 @@ use Rattle.dia_io.specs.declared.Input.{Input}
 use Rattle.dia_io.specs.declared.Inputs.{Inputs}
 use Rattle.dia_io.specs.declared.Exit.{Exit}
 use Rattle.dia_io.specs.declared.Exit.TheVariants.{Bad}
-use Rattle.dia_lines.specs.FeedToSink.{AllAnswered}
 use Rattle.dia_lines.specs.Lines.{recorded_lines}
 use Rattle.dia_lines.proofs.LineNumbers.{without_numbers}
-use Rattle.dia_lines.proofs.OtherAnswers.{AllAnswered-text}
-use Rattle.dia_streams.specs.Streams.{AllRecorded}
+use Rattle.dia_captures.specs.Runs.{IsStreamSummed}
 use Rattle.dia_run.specs.Texts.{IsDictionaryText}
-use Rattle.dia_captures.specs.declared.verdicts.Checked.{Checked}
-use Rattle.dia_captures.specs.declared.verdicts.Refuted.{Refuted}
 use Rattle.dia_captures.specs.declared.summaries.Lines.{Lines}
 use Rattle.dia_captures.specs.declared.summaries.Lines.TheVariants as lines
 use Rattle.dia_captures.specs.declared.reasons.Met.{Met}
 use Rattle.dia_captures.specs.declared.tally.Tally.{Tally}
-use Rattle.dia_captures.specs.Counts.{HasCounted, Item, checked_items, placed_items, refuted_items}
+use Rattle.dia_captures.specs.Counts.{HasCounted, Item, checked_items, refuted_items}
 use Rattle.dia_captures.specs.Summaries.{AreInOrder, AreLinesSummed, IsCheckSummary, IsMade, IsRefuteSummary, IsStreamSummary, IsSummary, first_line, met_line, others_line}
 use Rattle.dia_captures.specs.Verdicts.{IsLineChecked, IsLineRefuted, IsPieceChecked, checked_line, placed_line, refuted_line}
 
@@ -35,70 +32,49 @@ unsummed sum exit_of (Err e) P bad = tt
 
 -- ---- one
 
-module _ {T : Type 0} (text_of : T → List ℕ) (fed_old fed put_old put : Option (List ℕ)) where
-  lines_summed : {V W : Type 0} (P : Input → V → Type 0) (recorded : List V → List ℕ) (items_of : List V → List Item) (d : Dictionary) (l : Lines) (saw : W → List V → Type 0) (w x : W)
-      → AllAnswered P recorded saw fed_old fed put_old put w x → saw w [] → (sum : Result T AllocError)
-      → ((verdicts : List V) → saw x verdicts → IfOk sum (λ text. IsSummary d l (items_of verdicts) (text_of text)))
-      → IfOk sum (λ text. AreLinesSummed P recorded items_of d l fed_old fed put_old put (text_of text))
-  lines_summed P recorded items_of d l saw w x h nothing (Err refused) is = tt
-  lines_summed P recorded items_of d l saw w x h nothing (Ok text) is = record {
-    bytes = h.bytes;
-    verdicts = h.verdicts;
-    consumed = h.consumed;
-    answered = h.answered;
-    is_put = h.is_put;
-    summary = is h.verdicts (h.seen [] nothing);
-  }
+pub made_as : {T : Type 0} (now : Option (Result T AllocError)) (P Q : T → Type 0) → ((text : T) → P text → Q text) → IsMade now P → IsMade now Q
+made_as None P Q f h = absurd h
+made_as (Some (Err refused)) P Q f h = tt
+made_as (Some (Ok text)) P Q f h = f text h
 
-  with_first : (P Q : T → Type 0) (sum : Result T AllocError) → ((text : T) → P text → Q text) → IfOk sum P → IfOk sum Q
-  with_first P Q (Err refused) f h = tt
-  with_first P Q (Ok text) f h = f text h
+-- where no line has its number
+without_number : {V : Type 0} (P : Input → V → Type 0) (recorded : V → List ℕ) (items_of : List V → List Item) (d : Dictionary) (l : Lines) (fed_old fed put_old put : Option (List ℕ)) (text : List ℕ)
+    → AreLinesSummed P (recorded_lines (λ number verdict. recorded verdict)) items_of d l fed_old fed put_old put text → AreLinesSummed P (flat_map recorded) items_of d l fed_old fed put_old put text
+without_number P recorded items_of d l fed_old fed put_old put text h = record {
+  bytes = h.bytes;
+  verdicts = h.verdicts;
+  consumed = h.consumed;
+  answered = h.answered;
+  is_put = subst (Appends put_old put) (without_numbers recorded 1 h.verdicts) h.is_put;
+  summary = h.summary;
+}
 
-  module _ (u : Unknown) (most : Levels) (inputs : Inputs) (a : Dictionary) (is_a : IsDictionaryText inputs.first a) where
-    pub check_summed : {W : Type 0} (saw : W → List Checked → Type 0) (w x : W)
-        → AllAnswered (IsLineChecked u most a) (recorded_lines (λ number verdict. checked_line a verdict)) saw fed_old fed put_old put w x → saw w [] → (sum : Result T AllocError) (now : Option (Result T AllocError)) → now ≡ Some sum
-        → ((verdicts : List Checked) → saw x verdicts → IfOk sum (λ text. IsSummary a lines.Checked (checked_items verdicts) (text_of text)))
-        → IsMade now (λ text. IsCheckSummary u most inputs fed_old fed put_old put (text_of text))
-    check_summed saw w x h nothing sum now same is =
-        subst (λ (s : Option (Result T AllocError)). IsMade s (λ text. IsCheckSummary u most inputs fed_old fed put_old put (text_of text))) (sym same)
-        (with_first (λ text. AreLinesSummed (IsLineChecked u most a) (flat_map (checked_line a)) checked_items a lines.Checked fed_old fed put_old put (text_of text))
-        (λ text. IsCheckSummary u most inputs fed_old fed put_old put (text_of text)) sum (λ text s. (a, is_a, s))
-        (lines_summed (IsLineChecked u most a) (flat_map (checked_line a)) checked_items a lines.Checked saw w x
-        (AllAnswered-text (IsLineChecked u most a) (recorded_lines (λ number verdict. checked_line a verdict)) (flat_map (checked_line a)) saw fed_old fed put_old put w x
-        (without_numbers (checked_line a) 1) h) nothing sum is))
+module _ {T : Type 0} (text_of : T → List ℕ) (fed_old fed put_old put : Option (List ℕ)) (u : Unknown) (most : Levels) (inputs : Inputs) (a : Dictionary)
+    (is_a : IsDictionaryText inputs.first a) (now : Option (Result T AllocError)) where
+  pub check_summed : IsMade now (λ text. AreLinesSummed (IsLineChecked u most a) (recorded_lines (λ number verdict. checked_line a verdict)) checked_items a lines.Checked fed_old fed put_old put (text_of text))
+      → IsMade now (λ text. IsCheckSummary u most inputs fed_old fed put_old put (text_of text))
+  check_summed made = made_as now _ (λ text. IsCheckSummary u most inputs fed_old fed put_old put (text_of text))
+      (λ text s. (a, is_a, without_number (IsLineChecked u most a) (checked_line a) checked_items a lines.Checked fed_old fed put_old put (text_of text) s)) made
 
-    pub refute_summed : (b : Dictionary) → IsDictionaryText inputs.second b → {W : Type 0} (saw : W → List Refuted → Type 0) (w x : W)
-        → AllAnswered (IsLineRefuted u most a b) (recorded_lines (λ number verdict. refuted_line verdict)) saw fed_old fed put_old put w x → saw w [] → (sum : Result T AllocError) (now : Option (Result T AllocError)) → now ≡ Some sum
-        → ((verdicts : List Refuted) → saw x verdicts → IfOk sum (λ text. IsSummary a lines.Refuted (refuted_items verdicts) (text_of text)))
-        → IsMade now (λ text. IsRefuteSummary u most inputs fed_old fed put_old put (text_of text))
-    refute_summed b is_b saw w x h nothing sum now same is =
-        subst (λ (s : Option (Result T AllocError)). IsMade s (λ text. IsRefuteSummary u most inputs fed_old fed put_old put (text_of text))) (sym same)
-        (with_first (λ text. AreLinesSummed (IsLineRefuted u most a b) (flat_map refuted_line) refuted_items a lines.Refuted fed_old fed put_old put (text_of text))
-        (λ text. IsRefuteSummary u most inputs fed_old fed put_old put (text_of text)) sum (λ text s. (a, b, is_a, is_b, s))
-        (lines_summed (IsLineRefuted u most a b) (flat_map refuted_line) refuted_items a lines.Refuted saw w x
-        (AllAnswered-text (IsLineRefuted u most a b) (recorded_lines (λ number verdict. refuted_line verdict)) (flat_map refuted_line) saw fed_old fed put_old put w x
-        (without_numbers refuted_line 1) h) nothing sum is))
+  pub refute_summed : (b : Dictionary) → IsDictionaryText inputs.second b
+      → IsMade now (λ text. AreLinesSummed (IsLineRefuted u most a b) (recorded_lines (λ number verdict. refuted_line verdict)) refuted_items a lines.Refuted fed_old fed put_old put (text_of text))
+      → IsMade now (λ text. IsRefuteSummary u most inputs fed_old fed put_old put (text_of text))
+  refute_summed b is_b made = made_as now _ (λ text. IsRefuteSummary u most inputs fed_old fed put_old put (text_of text))
+      (λ text s. (a, b, is_a, is_b, without_number (IsLineRefuted u most a b) refuted_line refuted_items a lines.Refuted fed_old fed put_old put (text_of text) s)) made
 
-    pub stream_summed : {W : Type 0} (saw : W → List (ℕ × Checked) → Type 0) (w x : W)
-        → AllRecorded (IsPieceChecked u most a) (placed_line a) saw fed_old fed put_old put w x → saw w [] → (sum : Result T AllocError) (now : Option (Result T AllocError)) → now ≡ Some sum
-        → ((verdicts : List (ℕ × Checked)) → saw x verdicts → IfOk sum (λ text. IsSummary a lines.Placed (placed_items verdicts) (text_of text)))
-        → IsMade now (λ text. IsStreamSummary u most inputs fed_old fed put_old put (text_of text))
-    stream_summed saw w x h nothing sum now same is =
-        subst (λ (s : Option (Result T AllocError)). IsMade s (λ text. IsStreamSummary u most inputs fed_old fed put_old put (text_of text))) (sym same) (by sum is)
-      where
-        by : (s : Result T AllocError) → ((verdicts : List (ℕ × Checked)) → saw x verdicts → IfOk s (λ text. IsSummary a lines.Placed (placed_items verdicts) (text_of text)))
-            → IfOk s (λ text. IsStreamSummary u most inputs fed_old fed put_old put (text_of text))
-        by (Err refused) sums = tt
-        by (Ok text) sums = record {
-          d = a;
-          read = h.read;
-          verdicts = h.verdicts;
-          is_first = is_a;
-          consumed = h.consumed;
-          recorded = h.recorded;
-          is_put = h.is_put;
-          summary = sums h.verdicts (h.seen [] nothing);
-        }
+  pub stream_summed : IsMade now (λ text. IsStreamSummed (IsPieceChecked u most a) (placed_line a) a fed_old fed put_old put (text_of text))
+      → IsMade now (λ text. IsStreamSummary u most inputs fed_old fed put_old put (text_of text))
+  stream_summed made = made_as now _ (λ text. IsStreamSummary u most inputs fed_old fed put_old put (text_of text))
+      (λ text h. record {
+        d = a;
+        read = h.read;
+        verdicts = h.verdicts;
+        is_first = is_a;
+        consumed = h.consumed;
+        recorded = h.answered;
+        is_put = h.is_put;
+        summary = h.summary;
+      }) made
 
 -- ---- its text
 

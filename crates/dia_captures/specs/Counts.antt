@@ -28,7 +28,7 @@ counted n = min n most_counted
 abbrev pub seen : List ℕ → Seen
 seen places = record { times = counted (length places); first = slice_index places 0 }
 
--- nothing is told of what was never met
+-- nothing is reported of what was never met
 abbrev pub seen_if_any : List ℕ → Option Seen
 seen_if_any [] = None
 seen_if_any (first ∷ others) = Some (seen (first ∷ others))
@@ -45,7 +45,7 @@ abbrev pub seen_more : ℕ → Option Seen → Option Seen
 seen_more place None = Some (once place)
 seen_more place (Some earlier) = Some (again earlier)
 
--- ---- reasons, each with the place where it was met. `same` tells which count as one
+-- ---- reasons, each with the place where it was met. `same` says which count as one
 
 -- each of them once, in the order in which they come first
 abbrev pub once_each : {R : Type 0} → (R → R → Bool) → List R → List R
@@ -56,7 +56,7 @@ once_each same (r ∷ rs) = r ∷ filter (λ s. not (same r s)) (once_each same 
 abbrev pub places : {R : Type 0} → (R → R → Bool) → List (ℕ × R) → R → List ℕ
 places same mets r = map (λ m. m.0) (filter (λ m. same r m.1) mets)
 
--- so many reasons are told by themselves, the first ones
+-- so many reasons have a line of their own, the first ones
 abbrev pub most_reasons : ℕ
 most_reasons = 100
 
@@ -69,7 +69,7 @@ other_places same mets = map (λ m. m.0) (filter (λ m. not (list_any (λ r. sam
 
 -- ---- flaws as reasons
 
--- a flaw as if it stood at the front of its message: flaws that differ in their place alone are one reason
+-- a flaw as if it were at the front of its message: flaws that differ in their place alone are one reason
 abbrev pub reason_of : Flaw → Flaw
 reason_of (flaw.Fault fault) = flaw.Fault (record { place = 0; code = fault.code; reason = fault.reason; subject = fault.subject })
 reason_of flaw.Truncated = flaw.Truncated
@@ -92,7 +92,7 @@ is_same flaw.TooLong flaw.TooLong = true
 is_same flaw.NotHexadecimal flaw.NotHexadecimal = true
 is_same a b = false
 
--- the reasons that are told by themselves, counted
+-- the reasons with a line of their own, counted
 abbrev pub recorded_mets : List (ℕ × Flaw) → List Met
 recorded_mets mets = map (λ r. record { flaw = r; seen = seen (places is_same mets r) }) (recorded_reasons is_same mets)
 
@@ -143,7 +143,7 @@ abbrev pub checked_flaw : Checked → Option Flaw
 checked_flaw (Valid found) = None
 checked_flaw (Wrong flaw) = Some flaw
 
--- of `refute` a text that spells no message is told
+-- of `refute` a text that spells no message is reported
 abbrev pub refuted_flaw : Refuted → Option Flaw
 refuted_flaw verdict = unless_refused (Some flaw.TooLong) (Some flaw.NotHexadecimal) None verdict.first
 

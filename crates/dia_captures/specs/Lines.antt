@@ -17,7 +17,7 @@ use Rattle.dia_run.specs.RefusedDictionaries.{RefusesFirst, RefusesSecond}
 use Rattle.dia_captures.specs.declared.ended.Ended.{Ended}
 use Rattle.dia_captures.specs.Ending.{ended_of}
 
--- a command of one message: what it writes for its inputs and how it ends, what is told of dictionaries that are refused, and how
+-- a command of one message: what it writes for its inputs and how it ends, what is reported of dictionaries that are refused, and how
 -- the program ends for many messages
 pub record MessageCommand : Type 1 where
   pub outcome : Inputs → List ℕ → Exit → Type 0

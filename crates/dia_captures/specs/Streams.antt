@@ -21,7 +21,7 @@ abbrev pub OfMessage : Unknown → Levels → Inputs → Option (List ℕ) → A
 OfMessage u most inputs (Some bytes) answer = (d : Dictionary) × IsDictionaryText inputs.first d × IsJudged u most d bytes answer.0 answer.1
 OfMessage u most inputs None answer = Refuses (codes "message: not hexadecimal") answer.0 answer.1
 
--- the line of an answer behind the place where its message begins
+-- the line of an answer after the place where its message begins
 abbrev pub placed : ℕ × Answer → List ℕ
 placed answer = decimal answer.0 ++ codes " " ++ answer.1.0
 

@@ -19,7 +19,6 @@ use Rattle.dia_run.specs.Verdict.{subject_text}
 use Rattle.dia_captures.specs.declared.verdicts.Checked.{Checked}
 use Rattle.dia_captures.specs.declared.verdicts.Flaw.{Flaw}
 use Rattle.dia_captures.specs.declared.verdicts.Flaw.TheVariants as flaw
-use Rattle.dia_captures.specs.declared.verdicts.Refuted.{Refuted}
 use Rattle.dia_captures.specs.declared.reasons.Seen.{Seen}
 use Rattle.dia_captures.specs.declared.reasons.Met.{Met}
 use Rattle.dia_captures.specs.declared.summaries.Lines.{Lines}

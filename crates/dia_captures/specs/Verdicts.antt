@@ -1,4 +1,4 @@
--- What `check` and `refute` find of a message, what is told of it, and how that ends.
+-- What `check` and `refute` find of a message, what is written of it, and how that ends.
 use Rattle.std.specs.Prelude.{◌≡◌, ℕ, ◌<◌, ◌&&◌, ◌⊎◌, not, Bool, true, false, List, [], ◌++◌, length, Option, None, Some, Result, Ok, Err, IsOk}
 use Rattle.std.specs.Prelude.{⊤, codes, slice_get, if◌then◌else◌}
 use Rattle.std.specs.Fmt.{decimal}
@@ -58,7 +58,7 @@ abbrev pub IsLineChecked : Unknown → Levels → Dictionary → Input → Check
 IsLineChecked u most d message verdict = ((bytes : List ℕ) × IsMessageText message bytes × IsMessageChecked u most d bytes verdict)
     ⊎ IsTextRefused message verdict
 
--- ---- what `check` tells of them
+-- ---- what `check` writes of them
 
 -- a command of the dictionary
 abbrev pub IsNamed : Dictionary → Checked → Type 0
@@ -83,7 +83,7 @@ abbrev pub checked_line : Dictionary → Checked → List ℕ
 checked_line d (Valid found) = line (codes "valid " ++ name_of (slice_get (definitions d) found.def))
 checked_line d (Wrong flaw) = line (flaw_text d flaw)
 
--- that of a message in a stream, behind its place
+-- that of a message in a stream, after its place
 abbrev pub placed_line : Dictionary → ℕ × Checked → List ℕ
 placed_line d verdict = decimal verdict.0 ++ codes " " ++ checked_line d verdict.1
 
@@ -112,7 +112,7 @@ is_valid (Wrong flaw) = false
 abbrev pub refutes : Refuted → Bool
 refutes verdict = is_valid verdict.first && not (is_valid verdict.second)
 
--- a text that spells no message is refused as by `check`; of another one this is told
+-- a text that spells no message is refused as by `check`; of another one this is written
 abbrev pub unless_refused : {A : Type 0} → (too_long not_hexadecimal answer : A) → Checked → A
 unless_refused too_long not_hexadecimal answer (Valid found) = answer
 unless_refused too_long not_hexadecimal answer (Wrong (flaw.Fault fault)) = answer

@@ -1,4 +1,4 @@
-//! What is told of the verdicts is what the commands write.
+//! What is written of the verdicts is what the commands write.
 
 ghost use Rattle.std.specs.Prelude.{◌≡◌, List, ℕ};
 ghost use Rattle.dia_dict.specs.Dictionary.{Dictionary};
@@ -16,7 +16,7 @@ ghost use Rattle.dia_captures.specs.Verdicts.{refuted_exit, refuted_line};
 ghost use Rattle.dia_captures.specs.Lines.{OfLine, IsLinesOutcome, checks, refutations};
 ghost use Rattle.dia_captures.specs.Streams.{IsStreamOutcome};
 
-/// What is told of a verdict on a line is what `check` writes for the dictionary's text, and the line as the message.
+/// What is written of a verdict on a line is what `check` writes for the dictionary's text, and the line as the message.
 pub fn check_of_line()
     ensures { (u : AnyPolicy) (most : AnyLevels) (inputs : AnyInputs) (d : Dictionary)
         → IsDictionaryText inputs.first d → (message : AnyInput) (verdict : AnyVerdict)
@@ -24,7 +24,7 @@ pub fn check_of_line()
         → OfLine (checks u most) inputs message (checked_line d verdict, checked_exit verdict) }
 {}
 
-/// What is told of both verdicts on a line is what `refute` writes for the dictionaries' texts, and the line as the message.
+/// What is written of both verdicts on a line is what `refute` writes for the dictionaries' texts, and the line as the message.
 pub fn refute_of_line()
     ensures { (u : AnyPolicy) (most : AnyLevels) (inputs : AnyInputs) (a b : Dictionary)
         → IsDictionaryText inputs.first a → IsDictionaryText inputs.second b

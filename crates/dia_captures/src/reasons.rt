@@ -7,7 +7,7 @@ ghost use Rattle.dia_captures.specs.Counts.{again_if, is_same, seen_more};
 use crate::verdicts::Flaw;
 use std::alloc::{AllocError, Global};
 
-/// How many reasons are told by themselves. All others are counted together.
+/// How many reasons have a line of their own. All others are counted together.
 const MOST_REASONS: usize = 100;
 
 /// How often something was met, and where first.
@@ -117,7 +117,7 @@ impl Reasons {
         }
     }
 
-    /// Counts a reason that isn't kept.
+    /// Counts a reason that has no count of its own.
     fn add_new(&mut self, place: u64, reason: &Flaw)
         ensures { (mets : List (ℕ × AnyFlaw)) → self.old.refused ≡ None → AreCounted self.old mets
             → list_any (λ met. is_same met.flaw reason.now) self.old.kept.items ≡ false
@@ -135,7 +135,7 @@ impl Reasons {
     }
 }
 
-/// Adds a reason that isn't kept.
+/// Adds a reason that has no count of its own.
 fn push_new(kept: &mut Vec<Met>, met: Met) -> Result<(), AllocError>
     ensures { OnOk result (kept.new.items ≡ kept.old.items ++ met ∷ []) }
 {
@@ -143,7 +143,7 @@ fn push_new(kept: &mut Vec<Met>, met: Met) -> Result<(), AllocError>
     Ok(())
 }
 
-/// Counts a reason among those that are kept. `false` where it is none of them.
+/// Counts a reason among those with a count of their own. `false` where it is none of them.
 fn count_again(kept: &mut Vec<Met>, reason: &Flaw) -> bool
     ensures found { result ≡ list_any (λ met. is_same met.flaw reason.now) kept.old.items }
     ensures kept { kept.new.items ≡ map (again_if reason.now) kept.old.items }

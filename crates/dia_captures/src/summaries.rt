@@ -59,7 +59,7 @@ pub fn push_mets<B: Book>(
     Ok(())
 }
 
-/// Adds a line for all reasons that are not told by themselves, if there are some.
+/// Adds a line for all reasons that have no line of their own, if there are some.
 pub fn push_others(text: &mut String, lines: Lines, others: Option<Seen>) -> Result<(), AllocError>
     ensures { OnOk result (string_bytes text.new ≡ string_bytes text.old ++ others_line lines others) }
 {

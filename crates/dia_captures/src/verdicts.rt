@@ -1,4 +1,4 @@
-//! What `check` and `refute` find of a message, and what is told of it.
+//! What `check` and `refute` find of a message, and what is written of it.
 
 ghost use Rattle.std.specs.Prelude.{◌≡◌, ◌≢◌, ◌++◌, Err, Some, IfOk, OnOk, string_bytes};
 ghost use Rattle.dia_captures.specs.Counts.{checked_flaw, reason_of, refuted_flaw};

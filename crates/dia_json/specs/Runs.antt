@@ -1,6 +1,5 @@
 -- What is written where `check` and `refute` answer as JSON, and how the program ends.
-use Rattle.std.specs.Prelude.{◌≡◌, ℕ, ◌⊎◌, List, [], ◌++◌, Option, map}
-use Rattle.std.specs.List.{flat_map}
+use Rattle.std.specs.Prelude.{◌≡◌, ℕ, ◌⊎◌, List, [], Option}
 use Rattle.std.specs.Io.KnownBytes.{Appends, Consumes}
 use Rattle.dia_dict.specs.Dictionary.{Dictionary}
 use Rattle.dia_policy.specs.declared.Unknown.{Unknown}
@@ -10,18 +9,16 @@ use Rattle.dia_io.specs.declared.Inputs.{Inputs}
 use Rattle.dia_io.specs.declared.Exit.{Exit}
 use Rattle.dia_io.specs.declared.Exit.TheVariants.{Bad}
 use Rattle.dia_io.specs.Writing.{AppendsFront}
-use Rattle.dia_lines.specs.Lines.{IsAnswered, recorded_lines}
+use Rattle.dia_lines.specs.Lines.{recorded_lines}
 use Rattle.dia_lines.specs.FeedToSink.{FrontAnswered, LinesAnswered}
-use Rattle.dia_streams.specs.Streams.{IsStreamRecorded, SomeRecorded, StillGives, WholeRecorded}
+use Rattle.dia_streams.specs.Streams.{SomeRecorded, WholeRecorded}
 use Rattle.dia_run.specs.Texts.{IsDictionaryText}
 use Rattle.dia_captures.specs.declared.verdicts.Checked.{Checked}
 use Rattle.dia_captures.specs.declared.verdicts.Refuted.{Refuted}
-use Rattle.dia_captures.specs.declared.ended.Ended.{Ended}
-use Rattle.dia_captures.specs.Ending.{ended_of}
 use Rattle.dia_captures.specs.declared.summaries.Lines.TheVariants as lines
-use Rattle.dia_captures.specs.Counts.{checked_items, placed_items, refuted_items}
-use Rattle.dia_captures.specs.Lines.{checks, refutations}
-use Rattle.dia_captures.specs.Summaries.{AreLinesSummed, IsSummary}
+use Rattle.dia_captures.specs.Counts.{checked_items, refuted_items}
+use Rattle.dia_captures.specs.Runs.{AreLinesRecorded, IsStreamPut, IsStreamSummed, each_exit, some_exit}
+use Rattle.dia_captures.specs.Summaries.{AreLinesSummed}
 use Rattle.dia_captures.specs.Verdicts.{IsLineChecked, IsLineRefuted, IsPieceChecked, checked_exit, refuted_exit}
 use Rattle.dia_refused_json.specs.Recording.{RefusedDictionaries, RefusedDictionary}
 use Rattle.dia_json.specs.Values.{checked_json, numbered_json, numbered_refuted_json, placed_json, refuted_json}
@@ -61,38 +58,19 @@ IsRefusalFront refused fed_old fed put_old put = (text : List ℕ) × refused te
 abbrev pub IsNothing : (fed_old fed put_old put : Option (List ℕ)) → Type 0
 IsNothing fed_old fed put_old put = Consumes fed_old fed [] × Appends put_old put []
 
--- each line has a verdict, whose text was put
-pub record AreLinesRecorded {V : Type 0} (P : Input → V → Type 0) (recorded : List V → List ℕ) (exit_of : V → Exit) (ends : Ended → Exit)
-    (fed_old fed put_old put : Option (List ℕ)) (exit : Exit) : Type 0 where
-  pub bytes : List ℕ
-  pub verdicts : List V
-  pub consumed : Consumes fed_old fed bytes
-  pub answered : IsAnswered P bytes verdicts
-  pub is_put : Appends put_old put (recorded verdicts)
-  pub is_exit : exit ≡ ends (ended_of (map exit_of verdicts))
-
--- each message of a stream has a verdict, whose text was put. Not all may have been read
-pub record IsStreamPut (u : Unknown) (most : Levels) (d : Dictionary) (fed_old fed put_old put : Option (List ℕ)) (exit : Exit) : Type 0 where
-  pub read : List ℕ
-  pub verdicts : List (ℕ × Checked)
-  pub consumed : Consumes fed_old fed read
-  pub recorded : (rest : List ℕ) → StillGives fed rest → IsStreamRecorded (IsPieceChecked u most d) (read ++ rest) verdicts
-  pub is_put : Appends put_old put (flat_map (placed_json d) verdicts)
-  pub is_exit : exit ≡ (checks u most).exit_of (ended_of (map (λ (v : ℕ × Checked). checked_exit v.1) verdicts))
-
 module _ (u : Unknown) (most : Levels) (inputs : Inputs) (fed_old fed put_old put : Option (List ℕ)) where
   abbrev pub ChecksLines : Exit → Type 0
   ChecksLines exit = ((d : Dictionary) × IsDictionaryText inputs.first d
-      × AreLinesRecorded (IsLineChecked u most d) (recorded_lines (numbered_json d)) checked_exit (checks u most).exit_of fed_old fed put_old put exit)
+      × AreLinesRecorded (IsLineChecked u most d) (recorded_lines (numbered_json d)) checked_exit each_exit fed_old fed put_old put exit)
       ⊎ IsRefusalPut (RefusedDictionary inputs) fed_old fed put_old put exit
 
   abbrev pub RefutesLines : Exit → Type 0
   RefutesLines exit = ((a : Dictionary) × (b : Dictionary) × IsDictionaryText inputs.first a × IsDictionaryText inputs.second b
-      × AreLinesRecorded (IsLineRefuted u most a b) (recorded_lines (numbered_refuted_json a b)) refuted_exit (refutations u most).exit_of fed_old fed put_old put exit)
+      × AreLinesRecorded (IsLineRefuted u most a b) (recorded_lines (numbered_refuted_json a b)) refuted_exit some_exit fed_old fed put_old put exit)
       ⊎ IsRefusalPut (RefusedDictionaries inputs) fed_old fed put_old put exit
 
   abbrev pub ChecksStream : Exit → Type 0
-  ChecksStream exit = ((d : Dictionary) × IsDictionaryText inputs.first d × IsStreamPut u most d fed_old fed put_old put exit)
+  ChecksStream exit = ((d : Dictionary) × IsDictionaryText inputs.first d × IsStreamPut (IsPieceChecked u most d) (placed_json d) fed_old fed put_old put exit)
       ⊎ IsRefusalPut (RefusedDictionary inputs) fed_old fed put_old put exit
 
   -- a beginning of that was put
@@ -132,12 +110,5 @@ module _ (u : Unknown) (most : Levels) (inputs : Inputs) (fed_old fed put_old pu
   RefutesSummary text = (a : Dictionary) × (b : Dictionary) × IsDictionaryText inputs.first a × IsDictionaryText inputs.second b
       × AreLinesSummed (IsLineRefuted u most a b) (recorded_lines (numbered_refuted_json a b)) refuted_items a lines.Refuted fed_old fed put_old put text
 
-  pub record StreamSummary (text : List ℕ) : Type 0 where
-    pub d : Dictionary
-    pub read : List ℕ
-    pub verdicts : List (ℕ × Checked)
-    pub is_first : IsDictionaryText inputs.first d
-    pub consumed : Consumes fed_old fed read
-    pub recorded : (rest : List ℕ) → StillGives fed rest → IsStreamRecorded (IsPieceChecked u most d) (read ++ rest) verdicts
-    pub is_put : Appends put_old put (flat_map (placed_json d) verdicts)
-    pub summary : IsSummary d lines.Placed (placed_items verdicts) text
+  abbrev pub StreamSummary : List ℕ → Type 0
+  StreamSummary text = (d : Dictionary) × IsDictionaryText inputs.first d × IsStreamSummed (IsPieceChecked u most d) (placed_json d) d fed_old fed put_old put text

@@ -1,8 +1,8 @@
 //! Answers as JSON (RFC 8259): an object a line.
 //!
 //! `check` and `refute` answer for one message, `show` lists it, and `propose` answers for two dictionaries.
-//! `check_lines`, `refute_lines` and `check_stream` read their messages a piece at a time, as those of dia_captures do, and put an
-//! object for each; `show_lines` puts the objects of each.
+//! `check_lines`, `refute_lines` and `check_stream` read their messages a piece at a time, as those of dia_captures do, and put
+//! an object for each; `show_lines` puts the objects of each.
 #![tactic(auto)]
 
 mod answers;

@@ -7,8 +7,8 @@ ghost use Rattle.dia_wire.specs.Wire.{plain_avp};
 ghost use Rattle.dia_data.specs.Plain.{plain_format};
 ghost use Rattle.dia_refused_json.specs.Members.{json_line};
 ghost use Rattle.dia_run.specs.Walk.{plain_known};
-ghost use Rattle.dia_json.specs.Messages.{bad_length_members, command_member, header_members, hex_value, name_member, note_members};
-ghost use Rattle.dia_json.specs.Messages.{shown_members, text_member, value_member, vendor_value};
+ghost use Rattle.dia_json.specs.Messages.{bad_length_members, command_member, header_members, hex_value, name_member};
+ghost use Rattle.dia_json.specs.Messages.{note_members, shown_members, text_member, value_member, vendor_value};
 ghost use Rattle.dia_json.specs.Listing.{IsNamedLeaf, IsNamedText};
 ghost use Rattle.dia_show.specs.Manners.{plain_manner_of};
 

@@ -14,14 +14,13 @@ ghost use Rattle.dia_json.specs.Runs.{StreamFront, StreamSummary, StreamWhole};
 ghost use Rattle.dia_refused_json.specs.Recording.{RecordsBad};
 
 use crate::judges::{JsonCheck, JsonRefute};
-use dia_captures::{Captured, CheckJudge, Lines, RefuteJudge, Tally};
+use dia_captures::{Captured, CheckJudge, RefuteJudge, run_checks, run_refutations, run_stream};
 use dia_check::{Levels, Unknown};
 use dia_io::{Exit, Feed, Input, Inputs, Sink, put_all};
-use dia_lines::{LinesFault, answer_lines};
+use dia_lines::LinesFault;
 use dia_refused_json::refuse;
 use dia_report::{Answered, Refused, Report, Reported};
 use dia_run::read_dictionary;
-use dia_streams::answer_stream;
 use std::alloc::Global;
 
 /// `check` of each line of a feed: yes where each is valid.
@@ -70,10 +69,7 @@ pub fn check_lines<F: Feed, S: Sink>(
             levels,
         },
     };
-    let mut tally = Tally::new(alloc);
-    answer_lines(alloc, &judge, &mut tally, feed, sink)?;
-    let yes = tally.ended.each;
-    Ok(Captured::ended(yes, tally.summary(alloc, judge.check.book, Lines::Checked)))
+    run_checks(alloc, &judge, judge.check.book, feed, sink)
 }
 
 /// `refute` of each line of a feed: yes where one refutes.
@@ -127,13 +123,7 @@ pub fn refute_lines<F: Feed, S: Sink>(
             levels,
         },
     };
-    let mut tally = Tally::new(alloc);
-    answer_lines(alloc, &judge, &mut tally, feed, sink)?;
-    let yes = tally.ended.some;
-    Ok(Captured::ended(
-        yes,
-        tally.summary(alloc, judge.refute.first, Lines::Refuted),
-    ))
+    run_refutations(alloc, &judge, judge.refute.first, feed, sink)
 }
 
 /// `check` of each message of a stream: yes where each is valid.
@@ -180,10 +170,7 @@ pub fn check_stream<F: Feed, S: Sink>(
             levels,
         },
     };
-    let mut tally = Tally::new(alloc);
-    answer_stream(alloc, &judge, &mut tally, feed, sink)?;
-    let yes = tally.ended.each;
-    Ok(Captured::ended(yes, tally.summary(alloc, judge.check.book, Lines::Placed)))
+    run_stream(alloc, &judge, judge.check.book, feed, sink)
 }
 
 /// Puts the line of a dictionary that is refused.

@@ -107,8 +107,8 @@ fn listed(
     inputs: &Inputs,
 ) -> Result<dia_report::Answered, AllocError>
     requires { IsReadFrom ⟦<IndexedBook as Book>⟧.meaning inputs.now.first first.value }
-    ensures outcome { IfOk result (λ answered. ShowsJson (plain_manner_of manner.now) (⟦<IndexedBook as Book>⟧.meaning first.value.book)
-        inputs.now (string_bytes answered.text) answered.exit) }
+    ensures outcome { IfOk result (λ answered. ShowsJson (plain_manner_of manner.now)
+        (⟦<IndexedBook as Book>⟧.meaning first.value.book) inputs.now (string_bytes answered.text) answered.exit) }
     ensures report { IfOk result (HasReport (IsShowReport ⟦<IndexedBook as Book>⟧.meaning inputs.now)) }
 {
     let message = match read_message(alloc, &inputs.message) {

@@ -24,8 +24,8 @@ use dia_run::{Outcome, read_dictionary, read_message, write_message};
 use dia_show::{Manner, Opening, Reported, list_lines, put_refusal, read_manner};
 use std::alloc::{AllocError, Global};
 
-/// `show` of each line of a feed, as JSON: what `show` writes for it alone, each object with the line's number as the member `line`,
-/// which is its first. A message that is refused has one object with its kind, and without a place in the line. Yes where each line
+/// `show` of each line of a feed, as JSON: what `show` writes for it alone, with the line's number as the first member of each
+/// object, `line`. A message that is refused has one object with its kind, and without a place in the line. Yes where each line
 /// is shown to its end, else no.
 ///
 /// Where the dictionary or the words of values are refused, nothing is read, and the answer is bad.

@@ -1,20 +1,11 @@
-use Rattle.std.proofs.Common.{◌≡◌, ◌∙◌, Err, ap, inl, refl, rules}
-use Rattle.std.specs.Prelude.{string_bytes}
+use Rattle.std.proofs.Common.{inl}
 use Rattle.std.proofs.lemmas.Result.{IfOk-weaker}
-use Rattle.dia_lines.specs.declared.fault.LinesFault.TheVariants.{NoMemory, Endless}
 use Rattle.dia_captures.specs.declared.runs.Captured.{Captured}
-use Rattle.dia_captures.specs.Ending.{ended_of}
-use Rattle.dia_captures.proofs.Summed.{unsummed}
-use Rattle.dia_captures.specs.declared.summaries.Lines.TheVariants as lines
-use Rattle.dia_captures.specs.Counts.{checked_flaw, checked_items}
-use Rattle.dia_captures.specs.Lines.{checks}
+use Rattle.dia_captures.proofs.Summed.{made_as, unsummed}
 use Rattle.dia_run.specs.RefusedDictionaries.{RefusesFirst}
-use Rattle.dia_captures.specs.Verdicts.{checked_exit}
-use Rattle.dia_captures.proofs.Tallies.{exits_in_lines}
-use Rattle.dia_json.specs.Runs.{ChecksSummary}
 use Rattle.dia_refused_json.specs.Recording.{RefusedDictionary}
-use Rattle.dia_json.proofs.ManyMessages.{lines_summed, lines_recorded, refusal_front, refusal_put, refusal_whole}
 use Rattle.dia_refused_json.proofs.Recording.{dictionary_refused}
+use Rattle.dia_json.proofs.ManyMessages.{refusal_front, refusal_put, refusal_whole}
 use Rattle.dia_json.proofs.runs.check_lines.Goals as goal
 
 pub returns-in-Err-clause-recorded : goal.returns-in-Err-clause-recorded
@@ -38,30 +29,30 @@ returns-in-Err-clause-summary g c = unsummed (λ (x : Captured). x.summary) (λ 
 pub returns-in-Err-clause-no_summary : goal.returns-in-Err-clause-no_summary
 returns-in-Err-clause-no_summary g c = IfOk-weaker c.put_refusal.result _ _ (λ captured none bad. none) c.put_refusal.ensures.summary
 
-pub returns-in_err-answer_lines-clause-front : goal.returns-in_err-answer_lines-clause-front
-returns-in_err-answer_lines-clause-front g c = λ _. inl (_, (rw (← c.deref.ensures) at c.in-Ok.ensures.book), c.in_err-answer_lines.ensures.front refl)
+pub returns-clause-front : goal.returns-clause-front
+returns-clause-front g c = λ err. inl (_, (rw (← c.deref.ensures) at c.in-Ok.ensures.book), c.run_checks.ensures.front err)
 
-pub returns-in_err-answer_lines-clause-no_memory : goal.returns-in_err-answer_lines-clause-no_memory
-returns-in_err-answer_lines-clause-no_memory g c = λ e.
-    let same : c.from_residual.result ≡ Err c.in_err-answer_lines.field-0.0 = search rules in
-    let is : c.in_err-answer_lines.field-0.0 ≡ NoMemory = cc in inl (_, (rw (← c.deref.ensures) at c.in-Ok.ensures.book), c.in_err-answer_lines.ensures.no_memory (ap (λ f. Err f) is))
+pub returns-clause-no_memory : goal.returns-clause-no_memory
+returns-clause-no_memory g c = λ e. inl (_, (rw (← c.deref.ensures) at c.in-Ok.ensures.book), c.run_checks.ensures.no_memory e)
 
-pub returns-in_err-answer_lines-clause-endless : goal.returns-in_err-answer_lines-clause-endless
-returns-in_err-answer_lines-clause-endless g c = λ e.
-    let same : c.from_residual.result ≡ Err c.in_err-answer_lines.field-0.0 = search rules in
-    let is : c.in_err-answer_lines.field-0.0 ≡ Endless = cc in inl (_, (rw (← c.deref.ensures) at c.in-Ok.ensures.book), c.in_err-answer_lines.ensures.endless (ap (λ f. Err f) is))
+pub returns-clause-endless : goal.returns-clause-endless
+returns-clause-endless g c = λ e. inl (_, (rw (← c.deref.ensures) at c.in-Ok.ensures.book), c.run_checks.ensures.endless e)
 
 pub returns-clause-recorded : goal.returns-clause-recorded
-returns-clause-recorded g c =
-    inl (
-      _,
-      (rw (← c.deref.ensures) at c.in-Ok.ensures.book),
-      lines_recorded _ _ _ _ _ _ _ c.new-tally.result c.answer_lines.new.watch c.in_ok-answer_lines.ensures.answered c.new-tally.ensures checked_exit (checks c.args.unknown c.args.levels).exit_of
-          c.answer_lines.new.watch.ended c.ended.result.reported.exit c.ended.ensures.exit (λ verdicts counted. counted.ended ∙ ap ended_of (exits_in_lines checked_exit checked_flaw 1 verdicts)),
-    )
+returns-clause-recorded g c = IfOk-weaker c.run_checks.result _ _ (λ captured recorded. inl (_, (rw (← c.deref.ensures) at c.in-Ok.ensures.book), recorded)) c.run_checks.ensures.recorded
 
 pub returns-clause-summary : goal.returns-clause-summary
-returns-clause-summary g c = λ _.
-    lines_summed _ _ _ _ _ _ _ c.new-tally.result c.answer_lines.new.watch c.in_ok-answer_lines.ensures.answered c.new-tally.ensures string_bytes checked_items _ lines.Checked
-    (ChecksSummary c.args.unknown c.args.levels c.args.inputs.now (g.F.Feed.remaining c.args.feed.now) (g.F.Feed.remaining c.answer_lines.new.feed) (g.S.Sink.written c.args.sink.now) (g.S.Sink.written c.answer_lines.new.sink))
-    (λ text summed. (_, (rw (← c.deref.ensures) at c.in-Ok.ensures.book), summed)) c.summary.result c.ended.result.summary c.ended.ensures.summary (λ verdicts counted. c.summary.ensures (checked_items verdicts) counted)
+returns-clause-summary g c =
+    IfOk-weaker c.run_checks.result _ _ (λ captured made some. made_as captured.summary _ _ (λ text summed. (_, (rw (← c.deref.ensures) at c.in-Ok.ensures.book), summed)) made) c.run_checks.ensures.summary
+
+pub returns-clause-all : goal.returns-clause-all
+returns-clause-all g c = IfOk-weaker c.run_checks.result _ _ (λ captured all some. all) c.run_checks.ensures.all
+
+pub returns-clause-unread : goal.returns-clause-unread
+returns-clause-unread g c = IfOk-weaker c.run_checks.result _ _ (λ captured some bad. absurd (some bad)) c.run_checks.ensures.exit
+
+pub returns-clause-no_summary : goal.returns-clause-no_summary
+returns-clause-no_summary g c = IfOk-weaker c.run_checks.result _ _ (λ captured some bad. absurd (some bad)) c.run_checks.ensures.exit
+
+pub returns-clause-report : goal.returns-clause-report
+returns-clause-report g c = IfOk-weaker c.run_checks.result _ _ (λ captured done some. done) c.run_checks.ensures.report

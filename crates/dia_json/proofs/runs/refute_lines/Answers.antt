@@ -1,20 +1,11 @@
-use Rattle.std.proofs.Common.{◌≡◌, ◌∙◌, Err, ap, inl, inr, refl, rules}
-use Rattle.std.specs.Prelude.{string_bytes}
+use Rattle.std.proofs.Common.{inl, inr}
 use Rattle.std.proofs.lemmas.Result.{IfOk-weaker}
-use Rattle.dia_lines.specs.declared.fault.LinesFault.TheVariants.{NoMemory, Endless}
 use Rattle.dia_captures.specs.declared.runs.Captured.{Captured}
-use Rattle.dia_captures.specs.Ending.{ended_of}
-use Rattle.dia_captures.proofs.Summed.{unsummed}
-use Rattle.dia_captures.specs.declared.summaries.Lines.TheVariants as lines
-use Rattle.dia_captures.specs.Counts.{refuted_flaw, refuted_items}
-use Rattle.dia_captures.specs.Lines.{refutations}
+use Rattle.dia_captures.proofs.Summed.{made_as, unsummed}
 use Rattle.dia_run.specs.RefusedDictionaries.{RefusesFirst, RefusesSecond}
-use Rattle.dia_captures.specs.Verdicts.{refuted_exit}
-use Rattle.dia_captures.proofs.Tallies.{exits_in_lines}
-use Rattle.dia_json.specs.Runs.{RefutesSummary}
 use Rattle.dia_refused_json.specs.Recording.{RefusedDictionaries}
-use Rattle.dia_json.proofs.ManyMessages.{lines_summed, lines_recorded, refusal_front, refusal_put, refusal_whole}
 use Rattle.dia_refused_json.proofs.Recording.{dictionary_refused, second_refused}
+use Rattle.dia_json.proofs.ManyMessages.{refusal_front, refusal_put, refusal_whole}
 use Rattle.dia_json.proofs.runs.refute_lines.Goals as goal
 
 pub returns-in-Err-clause-recorded : goal.returns-in-Err-clause-recorded
@@ -62,32 +53,30 @@ returns-in-Err-read_dictionary-clause-summary g c = unsummed (λ (x : Captured).
 pub returns-in-Err-read_dictionary-clause-no_summary : goal.returns-in-Err-read_dictionary-clause-no_summary
 returns-in-Err-read_dictionary-clause-no_summary g c = IfOk-weaker c.put_refusal-in-Err-read_dictionary.result _ _ (λ captured none bad. none) c.put_refusal-in-Err-read_dictionary.ensures.summary
 
-pub returns-in_err-answer_lines-clause-front : goal.returns-in_err-answer_lines-clause-front
-returns-in_err-answer_lines-clause-front g c = λ _. inl (_, _, (rw (← c.deref.ensures) at c.in-Ok.ensures.book), (rw (← c.deref-2.ensures) at c.in-Ok-read_dictionary.ensures.book), c.in_err-answer_lines.ensures.front refl)
+pub returns-clause-front : goal.returns-clause-front
+returns-clause-front g c = λ err. inl (_, _, (rw (← c.deref.ensures) at c.in-Ok.ensures.book), (rw (← c.deref-2.ensures) at c.in-Ok-read_dictionary.ensures.book), c.run_refutations.ensures.front err)
 
-pub returns-in_err-answer_lines-clause-no_memory : goal.returns-in_err-answer_lines-clause-no_memory
-returns-in_err-answer_lines-clause-no_memory g c = λ e.
-    let same : c.from_residual.result ≡ Err c.in_err-answer_lines.field-0.0 = search rules in
-    let is : c.in_err-answer_lines.field-0.0 ≡ NoMemory = cc in inl (_, _, (rw (← c.deref.ensures) at c.in-Ok.ensures.book), (rw (← c.deref-2.ensures) at c.in-Ok-read_dictionary.ensures.book), c.in_err-answer_lines.ensures.no_memory (ap (λ f. Err f) is))
+pub returns-clause-no_memory : goal.returns-clause-no_memory
+returns-clause-no_memory g c = λ e. inl (_, _, (rw (← c.deref.ensures) at c.in-Ok.ensures.book), (rw (← c.deref-2.ensures) at c.in-Ok-read_dictionary.ensures.book), c.run_refutations.ensures.no_memory e)
 
-pub returns-in_err-answer_lines-clause-endless : goal.returns-in_err-answer_lines-clause-endless
-returns-in_err-answer_lines-clause-endless g c = λ e.
-    let same : c.from_residual.result ≡ Err c.in_err-answer_lines.field-0.0 = search rules in
-    let is : c.in_err-answer_lines.field-0.0 ≡ Endless = cc in inl (_, _, (rw (← c.deref.ensures) at c.in-Ok.ensures.book), (rw (← c.deref-2.ensures) at c.in-Ok-read_dictionary.ensures.book), c.in_err-answer_lines.ensures.endless (ap (λ f. Err f) is))
+pub returns-clause-endless : goal.returns-clause-endless
+returns-clause-endless g c = λ e. inl (_, _, (rw (← c.deref.ensures) at c.in-Ok.ensures.book), (rw (← c.deref-2.ensures) at c.in-Ok-read_dictionary.ensures.book), c.run_refutations.ensures.endless e)
 
 pub returns-clause-recorded : goal.returns-clause-recorded
-returns-clause-recorded g c =
-    inl (
-      _,
-      _,
-      (rw (← c.deref.ensures) at c.in-Ok.ensures.book),
-      (rw (← c.deref-2.ensures) at c.in-Ok-read_dictionary.ensures.book),
-      lines_recorded _ _ _ _ _ _ _ c.new-tally.result c.answer_lines.new.watch c.in_ok-answer_lines.ensures.answered c.new-tally.ensures refuted_exit (refutations c.args.unknown c.args.levels).exit_of
-          c.answer_lines.new.watch.ended c.ended.result.reported.exit c.ended.ensures.exit (λ verdicts counted. counted.ended ∙ ap ended_of (exits_in_lines refuted_exit refuted_flaw 1 verdicts)),
-    )
+returns-clause-recorded g c = IfOk-weaker c.run_refutations.result _ _ (λ captured recorded. inl (_, _, (rw (← c.deref.ensures) at c.in-Ok.ensures.book), (rw (← c.deref-2.ensures) at c.in-Ok-read_dictionary.ensures.book), recorded)) c.run_refutations.ensures.recorded
 
 pub returns-clause-summary : goal.returns-clause-summary
-returns-clause-summary g c = λ _.
-    lines_summed _ _ _ _ _ _ _ c.new-tally.result c.answer_lines.new.watch c.in_ok-answer_lines.ensures.answered c.new-tally.ensures string_bytes refuted_items _ lines.Refuted
-    (RefutesSummary c.args.unknown c.args.levels c.args.inputs.now (g.F.Feed.remaining c.args.feed.now) (g.F.Feed.remaining c.answer_lines.new.feed) (g.S.Sink.written c.args.sink.now) (g.S.Sink.written c.answer_lines.new.sink))
-    (λ text summed. (_, _, (rw (← c.deref.ensures) at c.in-Ok.ensures.book), (rw (← c.deref-2.ensures) at c.in-Ok-read_dictionary.ensures.book), summed)) c.summary.result c.ended.result.summary c.ended.ensures.summary (λ verdicts counted. c.summary.ensures (refuted_items verdicts) counted)
+returns-clause-summary g c =
+    IfOk-weaker c.run_refutations.result _ _ (λ captured made some. made_as captured.summary _ _ (λ text summed. (_, _, (rw (← c.deref.ensures) at c.in-Ok.ensures.book), (rw (← c.deref-2.ensures) at c.in-Ok-read_dictionary.ensures.book), summed)) made) c.run_refutations.ensures.summary
+
+pub returns-clause-all : goal.returns-clause-all
+returns-clause-all g c = IfOk-weaker c.run_refutations.result _ _ (λ captured all some. all) c.run_refutations.ensures.all
+
+pub returns-clause-unread : goal.returns-clause-unread
+returns-clause-unread g c = IfOk-weaker c.run_refutations.result _ _ (λ captured some bad. absurd (some bad)) c.run_refutations.ensures.exit
+
+pub returns-clause-no_summary : goal.returns-clause-no_summary
+returns-clause-no_summary g c = IfOk-weaker c.run_refutations.result _ _ (λ captured some bad. absurd (some bad)) c.run_refutations.ensures.exit
+
+pub returns-clause-report : goal.returns-clause-report
+returns-clause-report g c = IfOk-weaker c.run_refutations.result _ _ (λ captured done some. done) c.run_refutations.ensures.report
