@@ -11,6 +11,6 @@ use Rattle.dia_breaking_json.specs.declared.keys.Keys.{Keys}
 abbrev pub key_named : Dictionary → List ℕ → Option Key
 key_named d name = option_map (λ e. e.key) (entry_named d name)
 
--- the key that is kept for this name
+-- the key that is stored for this name
 abbrev pub key_in : Keys → List ℕ → Option Key
 key_in keys name = get_by_text keys.keys name

@@ -1,4 +1,4 @@
--- A line of `breaking` as a JSON object, whose members stand in this order.
+-- A line of `breaking` as a JSON object, whose members are in this order.
 use Rattle.std.specs.Prelude.{ℕ, ◌==◌, ◌||◌, Bool, true, false, if◌then◌else◌, List, [], ◌∷◌, ◌++◌, codes, Option, Some, None, length, nat_lt}
 use Rattle.std.specs.Option.{option_map_or, option_or}
 use Rattle.std.specs.Str.{bytes_eq}
@@ -20,13 +20,13 @@ unsigned_field name n = (name, number (unsigned n)) ∷ []
 abbrev pub number_field : List ℕ → List ℕ → List Field
 number_field name text = option_map_or (unsigned_field name) (number_of text) []
 
--- ---- where it stands
+-- ---- where it is
 
 abbrev pub undecided_field : Bool → List Field
 undecided_field true = (codes "undecided", boolean true) ∷ []
 undecided_field false = []
 
--- of a path the command, the application of its definition, and the names of the groups behind the command
+-- of a path the command, the application of its definition, and the names of the groups after the command
 abbrev pub place_fields : List ℕ → List Field
 place_fields path = text_field (codes "command") (command_of path) ++ number_field (codes "application") (application_of path)
     ++ ((codes "path", array (strings (groups_of path))) ∷ [])
@@ -132,11 +132,11 @@ abbrev pub matter_fields : (first second : List ℕ → Option Key) → (reason 
 matter_fields first second reason subject detail = reason_field reason ++ subject_field first second reason subject ++ detail_fields reason detail
     ++ ((codes "in_header", boolean (is_in_header reason)) ∷ [])
 
--- the hexadecimal digits of its message, which stand behind two spaces on a line of their own, or nothing
+-- the hexadecimal digits of its message, which follow two spaces on a line of their own, or nothing
 abbrev pub message_field : List ℕ → List Field
 message_field message = if length message == 0 then [] else text_field (codes "message") (before 10 (after 32 (after 32 message)))
 
--- a line with these words and this message behind it, or one of `--once`; the look-ups by name are those of the two dictionaries
+-- a line with these words, followed by this message, or one of `--once`; the look-ups by name are those of the two dictionaries
 abbrev pub line_fields : (first second : List ℕ → Option Key) → Bool → (words message : List ℕ) → List Field
 line_fields first second once words message = undecided_field (is_undecided once words) ++ where_fields once words
     ++ matter_fields first second (reason_of once words) (subject_of once words) (detail_of once words) ++ message_field message

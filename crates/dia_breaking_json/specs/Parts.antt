@@ -6,14 +6,14 @@ use Rattle.std.specs.Str.{bytes_eq}
 
 -- ---- texts
 
--- what stands before the first such byte, and what behind it
+-- what is before the first such byte, and what after it
 abbrev pub before : ℕ → List ℕ → List ℕ
 before sign text = before_first (λ c. c == sign) text
 
 abbrev pub after : ℕ → List ℕ → List ℕ
 after sign text = after_first (λ c. c == sign) text
 
--- what stands behind the first such byte and the next space
+-- what is after the first such byte and the next space
 abbrev pub following : ℕ → List ℕ → List ℕ
 following sign text = after 32 (after sign text)
 
@@ -29,7 +29,7 @@ without ending text = if ends_with nat_eq text ending then Some (take (length te
 
 -- ---- a line
 
--- `REASON SUBJECT: DETAIL`, and what stands behind it with `--once`
+-- `REASON SUBJECT: DETAIL`, and what follows it with `--once`
 abbrev pub cause_of : Bool → List ℕ → List ℕ
 cause_of once words = if once then words else following 58 words
 
@@ -53,7 +53,7 @@ reason_of once words = if has_reason (matter_of once words) then first_word (mat
 abbrev pub subject_of : Bool → List ℕ → List ℕ
 subject_of once words = if has_reason (matter_of once words) then after 32 (matter_of once words) else matter_of once words
 
--- the parts of DETAIL and of what stands behind it: there are four at most, with commas between
+-- the parts of DETAIL and of what follows it: there are four at most, with commas between
 abbrev pub detail_of : Bool → List ℕ → List ℕ
 detail_of once words = following 58 (cause_of once words)
 
@@ -73,7 +73,7 @@ fourth_part detail = following 44 (following 44 (following 44 detail))
 abbrev pub count_of : List ℕ → List ℕ
 count_of detail = first_word (after 32 (if begins (codes "in") (second_part detail) then second_part detail else third_part detail))
 
--- PATH of `first in PATH`, which is the part behind that
+-- PATH of `first in PATH`, which is the part after that
 abbrev pub first_path : List ℕ → List ℕ
 first_path detail = after 32 (after 32 (if begins (codes "first") (third_part detail) then third_part detail else fourth_part detail))
 

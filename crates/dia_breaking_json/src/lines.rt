@@ -16,8 +16,8 @@ use crate::subjects::{push_reason, push_subject};
 use crate::texts::{after, before};
 use std::alloc::{AllocError, Global};
 
-/// The object of a line with these words, or of one of `--once`, and with the message behind it, if it has one: two spaces, its
-/// hexadecimal digits and a line feed.
+/// The object of a line with these words, or of one of `--once`, and with the message that follows it, if one does: two spaces,
+/// its hexadecimal digits and a line feed.
 pub fn line_json(
     alloc: Global,
     names: &Names,

@@ -7,14 +7,14 @@ ghost use Rattle.dia_breaking_json.specs.Parts.{second_part, subject_of, third_p
 
 use crate::texts::{after, before, begins, first_word, following};
 
-/// What a line says behind its path: `undecided REASON SUBJECT: DETAIL`.
+/// What a line says after its path: `undecided REASON SUBJECT: DETAIL`.
 #[derive(Clone, Copy)]
 pub(crate) struct Parts<'w> {
     pub is_undecided: bool,
     /// It may be empty.
     pub reason: &'w str,
     pub subject: &'w str,
-    /// With `--once` the count of commands and the first path stand behind it.
+    /// With `--once` the count of commands and the first path follow it.
     pub detail: &'w str,
 }
 

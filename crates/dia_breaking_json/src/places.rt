@@ -1,4 +1,4 @@
-//! Where a line stands, as JSON.
+//! Where a line is, as JSON.
 
 ghost use Rattle.std.specs.Prelude.{◌≡◌, ◌++◌, IfOk, List, OnOk, string_bytes, ℕ};
 ghost use Rattle.std.specs.List.{flat_map};
@@ -49,7 +49,7 @@ fn place_text(alloc: Global, path: &str) -> Result<String, AllocError>
     object_text(alloc, fields.as_str())
 }
 
-/// Adds the command, its application and the names of the groups behind it.
+/// Adds the command, its application and the names of the groups after it.
 fn push_place(alloc: Global, out: &mut String, path: &str) -> Result<(), AllocError>
     ensures { OnOk result (Adds out.old out.new (place_fields path.now)) }
 {

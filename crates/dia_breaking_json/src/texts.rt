@@ -5,7 +5,7 @@ ghost use Rattle.std.specs.Option.{option_map};
 ghost use Rattle.std.specs.Str.{bytes_eq};
 ghost use Rattle.dia_breaking_json.specs.Parts.{after, before, begins, following, first_word, without};
 
-/// What stands before the first such character, and what behind it. It is one of ASCII.
+/// What is before the first such character, and what after it. It is one of ASCII.
 pub(crate) fn parted(text: &str, sign: char) -> (&str, &str)
     requires { sign < 128 }
     ensures before { result.0.now ≡ before sign text.now }
@@ -31,7 +31,7 @@ pub(crate) fn after(text: &str, sign: char) -> &str
     parted(text, sign).1
 }
 
-/// What stands behind the first such character and the next space.
+/// What is after the first such character and the next space.
 pub(crate) fn following(text: &str, sign: char) -> &str
     requires { sign < 128 }
     ensures { result.now ≡ following sign text.now }

@@ -1,5 +1,5 @@
-//! What standard error tells of an answer of `breaking`: how many lines and causes it has, also where less is sent, AVPs that are
-//! read as another format, an application whose messages are compared with none, names that are two AVPs, why the list of
+//! What standard error reports of an answer of `breaking`: how many lines and causes it has, also where less is sent, AVPs that
+//! are read as another format, an application whose messages are compared with none, names that are two AVPs, why the list of
 //! accepted lines is refused, which of its lines are of no use any more, and what a dictionary has that has no commands.
 #![tactic(auto)]
 

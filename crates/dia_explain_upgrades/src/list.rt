@@ -3,7 +3,7 @@
 use dia_explain_places::{NamedText, Note, line_from, nearest_name, start_of_line};
 use dia_upgrades::{BadList, Entry, MAX_LINES, MAX_LIST};
 
-/// The most lines of a list that are told one by one.
+/// The most lines of a list that are reported one by one.
 const MOST: usize = 20;
 
 /// What a line is that is refused.
@@ -75,7 +75,7 @@ pub fn push_bad_list(note: &mut Note, list: &NamedText<'_>, bad: &BadList) {
     }
 }
 
-/// Adds what is told of a place of a list, and its line.
+/// Adds what is reported of a place of a list, and its line.
 fn push_recorded(note: &mut Note, list: &NamedText<'_>, at: usize, recorded: &str) {
     note.put_place(list.name, list.text, at);
     note.put(recorded);
@@ -135,7 +135,7 @@ fn is_at(entries: &[Entry], place: usize, line: u32) -> bool {
     }
 }
 
-/// Adds entries of a list, with their lines, and how many they are, if not each is told.
+/// Adds entries of a list, with their lines, and how many they are, if not each is reported.
 fn push_entries(
     note: &mut Note,
     list: &NamedText<'_>,
@@ -149,7 +149,7 @@ fn push_entries(
     push_count(note, list, entries.len(), all);
 }
 
-/// Adds how many lines of a list there are, if not each is told.
+/// Adds how many lines of a list there are, if not each is reported.
 fn push_count(note: &mut Note, list: &NamedText<'_>, count: usize, recorded: &str) {
     if count > MOST {
         note.put_all(&[list.name, ": "]);

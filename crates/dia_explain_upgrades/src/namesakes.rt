@@ -6,7 +6,7 @@ use dia_explain_places::Note;
 use dia_upgrades::Recorded;
 use std::alloc::{AllocError, Global};
 
-/// The most names that are told.
+/// The most names that are reported.
 const MOST: usize = 20;
 
 /// The code of an AVP, and its vendor or 0.
@@ -72,7 +72,7 @@ fn add_groups<'a>(
     Ok(())
 }
 
-/// Adds the names that these causes are about, and that stand for one AVP in the first dictionary and for another in the second:
+/// Adds the names that these causes are about, and that are one AVP in the first dictionary and for another in the second:
 /// the first of them, each once.
 pub fn push_namesakes(
     note: &mut Note,
@@ -95,7 +95,7 @@ pub fn push_namesakes(
     Ok(())
 }
 
-/// Adds a name, if it stands for two AVPs. Answers whether it does.
+/// Adds a name, if it is that of two AVPs. Answers whether it does.
 fn push_twins(note: &mut Note, first: &Numbered<'_>, second: &Numbered<'_>, name: &str) -> bool {
     match (first.number(name), second.number(name)) {
         (Some(own), Some(other)) if own != other => {

@@ -27,14 +27,14 @@ pub fn push_tally(note: &mut Note, texts: &InputTexts<'_>, lines: usize, causes:
     note.put(" accepts\n");
 }
 
-/// What stands behind a number of lines.
+/// What follows a number of lines.
 fn line_word(lines: usize) -> &'static str
     ensures { result.now ≡ line_word lines }
 {
     if lines == 1 { " line, " } else { " lines, " }
 }
 
-/// What stands behind a number of causes.
+/// What follows a number of causes.
 fn cause_word(causes: usize) -> &'static str
     ensures { result.now ≡ cause_word causes }
 {
@@ -50,7 +50,7 @@ pub fn push_meanings(note: &mut Note, meanings: &[Recorded]) {
     note.put("with --meaning: ");
     note.put_number(count as u64);
     note.put(if count == 1 { " AVP is" } else { " AVPs are" });
-    // Of `meaning X: Unsigned32 sent, Float32 read, in 1 command, first in T` what stands between its first word and the count.
+    // Of `meaning X: Unsigned32 sent, Float32 read, in 1 command, first in T` what is between its first word and the count.
     let words = first.words.as_str();
     let front = match words.rsplit_once(", in ") {
         Some((front, _)) => front,

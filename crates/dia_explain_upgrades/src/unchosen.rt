@@ -8,7 +8,7 @@ use dia_report::BothBooks;
 use dia_upgrades::Recorded;
 use std::alloc::{AllocError, Global};
 
-/// The most applications that are told, but for a last one.
+/// The most applications that are reported, but for a last one.
 const MOST: usize = 21;
 
 /// A command for one application.
@@ -20,7 +20,7 @@ struct Single {
 }
 
 /// Adds for which applications the second dictionary has a command that it refuses for the first dictionary's application. It is
-/// told of the first line behind which nothing is compared: unless just one of these applications is new, it isn't known which
+/// reported of the first line after which nothing is compared: unless just one of these applications is new, it isn't known which
 /// takes the place of the other. `names` are those of the commands that were asked for: all where there is none.
 pub fn push_unchosen(
     note: &mut Note,

@@ -13,7 +13,7 @@ use dia_report::BothBooks;
 use dia_upgrades::{Asked, Found, Report};
 use std::alloc::{AllocError, Global};
 
-/// What is told on standard error of an answer of `breaking`.
+/// What standard error reports of an answer of `breaking`.
 pub fn explain_upgrade(
     alloc: Global,
     texts: &InputTexts<'_>,

@@ -7,7 +7,7 @@ use dia_explain_places::{NamedText, Note};
 const HINT: &str = "hint: a command is <NAME> ::= < Diameter Header: CODE, REQ > and its rules; \
     `cat` puts the parts of a dictionary together\n";
 
-/// What is told of a text whose lines end in carriage returns alone.
+/// What is reported of a text whose lines end in carriage returns alone.
 const RETURNS: &str =
     "the text has carriage returns and no line feed, so its first comment goes on to its end\n\
     hint: save the file with line feeds\n";

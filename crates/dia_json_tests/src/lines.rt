@@ -1,26 +1,41 @@
-//! Lines of `breaking` as JSON.
+//! Lines and causes of `breaking` as JSON.
 
-use dia_breaking_json::{Keys, Names, line_json};
+use dia_breaking::{Amount, LineParts, LineReason, Path, Standing, Subject};
+use dia_breaking_json::{Keys, Names, cause_object, line_json, line_object};
 use dia_dict::base_book;
-use std::alloc::Global;
+use std::alloc::{AllocError, Global};
 use std::process::Abort;
 use std::test::Fail;
 
-/// Whether a line with these words, and this behind it, is this object. Both dictionaries are the base dictionary.
-fn is_line(
-    alloc: Global,
-    once: bool,
-    words: &str,
-    message: &str,
-    object: &str,
-) -> Result<bool, Fail> {
+/// The AVPs of the base dictionary, as those of both dictionaries.
+fn base_names(alloc: Global) -> Result<Names, Fail> {
     let book = base_book(alloc)?;
-    let names = Names {
+    Ok(Names {
         first: Keys::new(alloc, &book)?,
         second: Keys::new(alloc, &book)?,
-    };
-    let line = line_json(alloc, &names, once, words, message)?;
-    Ok(line.as_str() == object)
+    })
+}
+
+/// A line about a level of `T` itself, of which nothing is sent or accepted.
+fn of_command(alloc: Global, application: Option<u32>) -> LineParts<'static> {
+    LineParts {
+        path: Path {
+            command: "T",
+            application,
+            groups: Vec::new(alloc),
+        },
+        standing: Standing::Confirmed,
+        reason: Some(LineReason::Command),
+        subject: Subject::Header,
+        sent: None,
+        following: None,
+        accepted: None,
+        read: None,
+    }
+}
+
+fn words(alloc: Global, text: &str) -> Result<Option<Amount>, AllocError> {
+    Ok(Some(Amount::Data(String::from_str(alloc, text)?)))
 }
 
 const MISSING: &str =
@@ -29,29 +44,97 @@ const MISSING: &str =
 const UNDECIDED: &str =
     r#"{"undecided":true,"command":"T","path":[],"avp":{"name":"X"},"sent":"Grouped","accepted":"UTF8String","in_header":false}"#;
 
+const REFUSED: &str =
+    r#"{"command":"T","application":5,"path":[],"reason":"application","refused_application":5,"in_header":true}"#;
+
+const ORDER: &str =
+    r#"{"command":"T","path":[],"reason":"order","avp":{"name":"X"},"following":"Y","in_header":false}"#;
+
+const MEANING: &str =
+    r#"{"command":"T","path":[],"reason":"meaning","avp":{"name":"X"},"sent":"Time","read":"Unsigned32","in_header":false}"#;
+
 const ONCE: &str =
     r#"{"commands":2,"first":{"command":"T","application":5,"path":["G"]},"reason":"m-bit","avp":{"name":"Product-Name","code":269,"vendor":0},"sent":"M clear","accepted":"M set","in_header":false}"#;
 
 #[test]
-fn a_line_is_an_object(rt: HostRuntime) -> Result<(), Fail> {
+fn counts_of_a_level_are_numbers(rt: HostRuntime) -> Result<(), Fail> {
     let alloc = rt.alloc();
-    let missing = "T/G/H: missing Product-Name: 0..1 sent, 1..* accepted";
-    assert!(rt; is_line(alloc, false, missing, "  01000014\n", MISSING)?);
-    let undecided = "T: undecided X: Grouped sent, UTF8String accepted";
-    assert!(rt; is_line(alloc, false, undecided, "", UNDECIDED)?);
-    let header =
-        r#"{"command":"T","application":5,"path":[],"reason":"application","refused_application":5,"in_header":true}"#;
-    assert!(rt;
-        is_line(
-            alloc,
-            false,
-            "T[application 5]: application 5: not accepted",
-            "",
-            header
-        )?
-    );
-    let once =
+    let names = base_names(alloc)?;
+    let mut parts = of_command(alloc, None);
+    parts.path.groups = vec![in alloc; "G", "H"]?;
+    parts.reason = Some(LineReason::Missing);
+    parts.subject = Subject::Avp("Product-Name");
+    parts.sent = Some(Amount::Counts {
+        min: 0,
+        max: Some(1),
+    });
+    parts.accepted = Some(Amount::Counts { min: 1, max: None });
+    let object = line_object(alloc, &names, &parts, Some("01000014"))?;
+    assert!(rt; object.as_str() == MISSING);
+    Ok(())
+}
+
+#[test]
+fn an_undecided_line_has_no_reason(rt: HostRuntime) -> Result<(), Fail> {
+    let alloc = rt.alloc();
+    let names = base_names(alloc)?;
+    let mut parts = of_command(alloc, None);
+    parts.standing = Standing::Undecided;
+    parts.reason = None;
+    parts.subject = Subject::Avp("X");
+    parts.sent = words(alloc, "Grouped")?;
+    parts.accepted = words(alloc, "UTF8String")?;
+    let object = line_object(alloc, &names, &parts, None)?;
+    assert!(rt; object.as_str() == UNDECIDED);
+    Ok(())
+}
+
+#[test]
+fn a_refused_application_is_a_number(rt: HostRuntime) -> Result<(), Fail> {
+    let alloc = rt.alloc();
+    let names = base_names(alloc)?;
+    let mut parts = of_command(alloc, Some(5));
+    parts.reason = Some(LineReason::Application);
+    parts.subject = Subject::Application(5);
+    let object = line_object(alloc, &names, &parts, None)?;
+    assert!(rt; object.as_str() == REFUSED);
+    Ok(())
+}
+
+#[test]
+fn order_and_meaning_have_members_of_their_own(rt: HostRuntime) -> Result<(), Fail> {
+    let alloc = rt.alloc();
+    let names = base_names(alloc)?;
+    let mut parts = of_command(alloc, None);
+    parts.subject = Subject::Avp("X");
+    parts.reason = Some(LineReason::Order);
+    parts.following = Some("Y");
+    let order = line_object(alloc, &names, &parts, None)?;
+    assert!(rt; order.as_str() == ORDER);
+    parts.reason = Some(LineReason::Meaning);
+    parts.following = None;
+    parts.sent = words(alloc, "Time")?;
+    parts.read = Some(String::from_str(alloc, "Unsigned32")?);
+    let meaning = line_object(alloc, &names, &parts, None)?;
+    assert!(rt; meaning.as_str() == MEANING);
+    Ok(())
+}
+
+#[test]
+fn a_cause_has_the_first_place(rt: HostRuntime) -> Result<(), Fail> {
+    let alloc = rt.alloc();
+    let names = base_names(alloc)?;
+    let mut parts = of_command(alloc, Some(5));
+    parts.path.groups = vec![in alloc; "G"]?;
+    parts.reason = Some(LineReason::MBit);
+    parts.subject = Subject::Avp("Product-Name");
+    parts.sent = Some(Amount::M(false));
+    parts.accepted = Some(Amount::M(true));
+    let cause = cause_object(alloc, &names, 2, &parts, None)?;
+    assert!(rt; cause.as_str() == ONCE);
+    let words =
         "m-bit Product-Name: M clear sent, M set accepted, in 2 commands, first in T[application 5]/G";
-    assert!(rt; is_line(alloc, true, once, "", ONCE)?);
+    let by_words = line_json(alloc, &names, true, words, "")?;
+    assert!(rt; by_words.as_str() == ONCE);
     Ok(())
 }

@@ -15,10 +15,10 @@ use Rattle.dia_io.specs.declared.Exit.TheVariants.{Yes, No, Bad}
 use Rattle.dia_io.specs.declared.RunFault.{RunFault}
 use Rattle.dia_io.specs.declared.RunFault.TheVariants.{Device, NoMemory}
 use Rattle.dia_io.specs.Writing.{AppendsFront}
-use Rattle.dia_accepted.specs.Accepted.{PlainEntry, PlainRecorded, kept, is_about, left_of, plain_entry, plain_recorded, unused_of}
-use Rattle.dia_accepted.specs.Causes.{once_of}
-use Rattle.dia_accepted.specs.Seen.{HasSeen}
+use Rattle.dia_accepted.specs.Accepted.{PlainEntry, PlainRecorded, is_about, plain_entry, plain_recorded}
 use Rattle.dia_accepted.specs.declared.list.Entry.{Entry}
+use Rattle.dia_accepted.specs.Accepted.{unused_of as recorded_unused}
+use Rattle.dia_accepted.specs.Seen.{HasSeen as RecordedSeen}
 use Rattle.dia_breaking.specs.Sides.{Sides}
 use Rattle.std.specs.Global.{Vec}
 use Rattle.dia_policy.specs.declared.Sends.TheVariants as sent
@@ -32,16 +32,17 @@ use Rattle.dia_upgrades.specs.Asking.{names_of}
 use Rattle.dia_upgrades.specs.Begun.{IsBegun, nothing_yet, some_lines}
 use Rattle.dia_upgrades.specs.Forms.{said}
 use Rattle.dia_upgrades.specs.Lists.{IsListText}
-use Rattle.dia_upgrades.specs.Outcome.{AreAllRecorded, CanAsk, IsAcceptedWhole, IsAnswerable, IsListed, IsReadAlike, OfEach, RecordsFound, counted, nothing_for, nothing_left, shown, sides_in}
+use Rattle.dia_upgrades.specs.Outcome.{AreAllRecorded, CanAsk, IsAcceptedWhole, IsAnswerable, IsListed, IsReadAlike, OfEach, RecordsFound, counted, nothing_for, nothing_left, sides_in}
 use Rattle.dia_upgrades.specs.Outcome.{nothing, nothing_else, lines}
 use Rattle.dia_upgrades.specs.Places.{asked_places}
 use Rattle.dia_upgrades.specs.Stale.{AreLookedFor, AreStale, AreUnused, AreUnusedBy, failing, stale_text}
-use Rattle.dia_upgrades.specs.Recorded.{AreRecorded, number_at, written}
+use Rattle.dia_upgrades.specs.Recorded.{AreRecorded, answer_written, causes_written, number_at, written}
 use Rattle.dia_upgrades.specs.UnderWay.{AreAllPut, AreFirstLines, Answers, Ends, Finds, OccursPut, end_text, exit_of, fails_of, is_any, lines_end, nothing_said, text_shown}
 use Rattle.dia_upgrades.proofs.AskedCommands.{asked_each, command_occurs}
 use Rattle.dia_upgrades.proofs.LinesToReport.{nothing_shown}
 use Rattle.dia_upgrades.proofs.Puts.{front_after}
 use Rattle.dia_upgrades.proofs.RecordedLines.{recorded_accepted, recorded_alike, recorded_valid}
+use Rattle.dia_upgrades.specs.Rows.{Row, kept, left_of, once_of, tolds, unused_of}
 
 -- ---- what is told of commands
 
@@ -55,7 +56,7 @@ of_each asked a P sound all = λ number command at is_asked.
 
 -- ---- what is answered
 
-is_nothing_left : (meaning : Bool) (recorded : List PlainRecorded) → nothing_for meaning (is_any recorded) ≡ nothing_left meaning recorded
+is_nothing_left : (meaning : Bool) (recorded : List Row) → nothing_for meaning (is_any recorded) ≡ nothing_left meaning recorded
 is_nothing_left meaning [] = refl
 is_nothing_left meaning (t ∷ recorded) = refl
 
@@ -64,10 +65,10 @@ no_stale_text Text = refl
 no_stale_text (Json names) = refl
 
 -- what is written in the end, where no line is left and no entry fails
-end_of_none : (asked : Asked) (recorded left causes : List PlainRecorded) (lines : ℕ) (is_some : Bool) → left ≡ [] → lines ≡ counted (length left) → is_some ≡ is_any recorded
+end_of_none : (asked : Asked) (recorded left : List Row) (causes : List PlainRecorded) (lines : ℕ) (is_some : Bool) → left ≡ [] → lines ≡ counted (length left) → is_some ≡ is_any recorded
     → text_shown asked left ++ end_text asked lines is_some causes [] ≡ said asked.form (nothing_left asked.meaning recorded)
 end_of_none asked recorded left causes n is_some none counts some =
-    let zero : n ≡ 0 = counts ∙ ap (λ (xs : List PlainRecorded). counted (length xs)) none in
+    let zero : n ≡ 0 = counts ∙ ap (λ (xs : List Row). counted (length xs)) none in
     (λ i. text_shown asked (none i) ++ end_text asked (zero i) (some i) causes [])
     ∙ ap (λ (x : List ℕ). x ++ (said asked.form (nothing_for asked.meaning (is_any recorded)) ++ stale_text asked.form [])) (nothing_shown asked)
     ∙ ap (λ (x : List ℕ). said asked.form (nothing_for asked.meaning (is_any recorded)) ++ x) (no_stale_text asked.form)
@@ -81,55 +82,55 @@ not_zero_by m some = test (m == 0) refl
     test true e = absurd (omega (arith, some, eqb-true m 0 e))
     test false e = e
 
-some_lines_left : (lines : ℕ) (t : PlainRecorded) (left : List PlainRecorded) → lines ≡ counted (length (t ∷ left)) → (lines == 0) ≡ false
+some_lines_left : (lines : ℕ) (t : Row) (left : List Row) → lines ≡ counted (length (t ∷ left)) → (lines == 0) ≡ false
 some_lines_left n t left counts = ap (λ (m : ℕ). m == 0) counts ∙ by (length left)
   where
     by : (n : ℕ) → (counted (suc n) == 0) ≡ false
     by n = not_zero_by (counted (suc n)) (omega arith)
 
-all_kept : (xs : List PlainRecorded) → map (kept true) xs ≡ xs
+all_kept : (xs : List Row) → map (kept true) xs ≡ xs
 all_kept xs = map-id xs
 
 -- what is written of the lines that are left
-lines_of_some : (asked : Asked) (left causes : List PlainRecorded) (lines : ℕ) (is_some : Bool) (n : ℕ) → (lines == 0) ≡ false → causes ≡ once_of (map (kept asked.once) left)
-    → text_shown asked left ++ lines_end asked lines is_some causes n ≡ written asked (shown asked.once left)
+lines_of_some : (asked : Asked) (left : List Row) (causes : List PlainRecorded) (lines : ℕ) (is_some : Bool) (n : ℕ) → (lines == 0) ≡ false → causes ≡ once_of (map (kept asked.once) left)
+    → text_shown asked left ++ lines_end asked lines is_some causes n ≡ answer_written asked left
 lines_of_some asked left causes count is_some n some causes_are =
-    ap (λ (b : Bool). text_shown asked left ++ cond b (nothing_said asked.form asked.meaning is_some n) (cond asked.once (written asked causes) [])) some
+    ap (λ (b : Bool). text_shown asked left ++ cond b (nothing_said asked.form asked.meaning is_some n) (cond asked.once (causes_written asked causes) [])) some
     ∙ by asked.once causes_are
   where
-    by : (b : Bool) → causes ≡ once_of (map (kept b) left) → cond b [] (written asked left) ++ cond b (written asked causes) [] ≡ written asked (shown b left)
-    by true e = ap (written asked) (e ∙ ap once_of (all_kept left))
+    by : (b : Bool) → causes ≡ once_of (map (kept b) left) → cond b [] (written asked left) ++ cond b (causes_written asked causes) [] ≡ cond b (causes_written asked (once_of left)) (written asked left)
+    by true e = ap (causes_written asked) (e ∙ ap once_of (all_kept left))
     by false e = append-nil (written asked left)
 
-end_of_some : (asked : Asked) (left causes : List PlainRecorded) (lines : ℕ) (is_some : Bool) (fails : List PlainEntry) → (lines == 0) ≡ false → causes ≡ once_of (map (kept asked.once) left)
-    → text_shown asked left ++ end_text asked lines is_some causes fails ≡ written asked (shown asked.once left) ++ stale_text asked.form fails
+end_of_some : (asked : Asked) (left : List Row) (causes : List PlainRecorded) (lines : ℕ) (is_some : Bool) (fails : List PlainEntry) → (lines == 0) ≡ false → causes ≡ once_of (map (kept asked.once) left)
+    → text_shown asked left ++ end_text asked lines is_some causes fails ≡ answer_written asked left ++ stale_text asked.form fails
 end_of_some asked left causes count is_some fails some causes_are =
     sym (append_assoc (text_shown asked left) (lines_end asked count is_some causes (length fails)) (stale_text asked.form fails))
     ∙ ap (λ (x : List ℕ). x ++ stale_text asked.form fails) (lines_of_some asked left causes count is_some (length fails) some causes_are)
 
 -- where no line is left, and some entry fails
-end_of_stale : (asked : Asked) (left causes : List PlainRecorded) (lines : ℕ) (is_some : Bool) (e : PlainEntry) (fails : List PlainEntry) → left ≡ [] → lines ≡ counted (length left)
-    → text_shown asked left ++ end_text asked lines is_some causes (e ∷ fails) ≡ written asked (shown asked.once left) ++ stale_text asked.form (e ∷ fails)
+end_of_stale : (asked : Asked) (left : List Row) (causes : List PlainRecorded) (lines : ℕ) (is_some : Bool) (e : PlainEntry) (fails : List PlainEntry) → left ≡ [] → lines ≡ counted (length left)
+    → text_shown asked left ++ end_text asked lines is_some causes (e ∷ fails) ≡ answer_written asked left ++ stale_text asked.form (e ∷ fails)
 end_of_stale asked left causes n is_some e fails none counts =
-    let zero : n ≡ 0 = counts ∙ ap (λ (xs : List PlainRecorded). counted (length xs)) none in
+    let zero : n ≡ 0 = counts ∙ ap (λ (xs : List Row). counted (length xs)) none in
     let others = stale_text asked.form (e ∷ fails) in
     (λ i. text_shown asked (none i) ++ end_text asked (zero i) is_some causes (e ∷ fails))
     ∙ ap (λ (x : List ℕ). x ++ end_text asked 0 is_some causes (e ∷ fails)) (nothing_shown asked)
     ∙ ap (λ (b : Bool). cond b (said asked.form (nothing_for asked.meaning is_some)) [] ++ others) (not_zero_by (suc (length fails)) (omega arith))
     ∙ ap (λ (x : List ℕ). x ++ others) (sym (by asked.once))
-    ∙ ap (λ (xs : List PlainRecorded). written asked (shown asked.once xs) ++ others) (sym none)
+    ∙ ap (λ (xs : List Row). answer_written asked xs ++ others) (sym none)
   where
-    by : (b : Bool) → written asked (shown b []) ≡ []
+    by : (b : Bool) → cond b (causes_written asked (once_of [])) (written asked []) ≡ []
     by true = refl
     by false = refl
 
 module _ (asked : Asked) (input : Input) (a b : Dictionary) (list : List PlainEntry) (is_list : IsListText input list) where
-  module _ (sound : IsDictionary a) (can : CanAsk asked a) (apart : List PlainRecorded) (stale : List PlainEntry) where
-    answerable : (recorded : List PlainRecorded) (is : Found) → AreAllRecorded asked a b recorded apart → AreStale asked a b list recorded apart stale → RecordsFound asked.once list recorded apart stale is
+  module _ (sound : IsDictionary a) (can : CanAsk asked a) (apart : List Row) (stale : List PlainEntry) where
+    answerable : (recorded : List Row) (is : Found) → AreAllRecorded asked a b recorded apart → AreStale asked a b list recorded apart stale → RecordsFound asked.once list recorded apart stale is
         → IsAnswerable asked input a b list recorded apart stale is
     answerable recorded is all are_stale records = record { list_is = is_list; can_ask = can; all_recorded = all; are_stale = are_stale; records = records }
 
-    by_left : (recorded left causes : List PlainRecorded) (fails : List PlainEntry) (lines : ℕ) (is_some : Bool) (exit : Exit) (is : Found) → AreAllRecorded asked a b recorded apart → AreStale asked a b list recorded apart stale
+    by_left : (recorded left : List Row) (causes : List PlainRecorded) (fails : List PlainEntry) (lines : ℕ) (is_some : Bool) (exit : Exit) (is : Found) → AreAllRecorded asked a b recorded apart → AreStale asked a b list recorded apart stale
         → RecordsFound asked.once list recorded apart stale is → left_of list recorded ≡ left → failing asked.stale stale ≡ fails
         → lines ≡ counted (length (left_of list recorded)) → is_some ≡ is_any recorded → causes ≡ once_of (map (kept asked.once) (left_of list recorded)) → exit ≡ exit_of lines (length fails)
         → IsListed asked input a b (text_shown asked (left_of list recorded) ++ end_text asked lines is_some causes fails) exit is
@@ -138,24 +139,24 @@ module _ (asked : Asked) (input : Input) (a b : Dictionary) (list : List PlainEn
         let breaks = of_each asked a (λ number. ∥ AreValid a b asked.sends asked.unknown number ∥₁) sound (recorded_valid a b asked.sends asked.unknown asked.messages asked.meaning places [] apart all refl) in
         let differs = λ (wanted : asked.meaning ≡ true). of_each asked a (IsReadAlike (sides_in asked a b)) sound (recorded_alike a b asked.sends asked.unknown asked.messages asked.meaning places [] apart all refl wanted) in
         nothing list apart stale (answerable [] is all are_stale records) breaks differs no_fails (end_of_none asked [] (left_of list []) causes count is_some none counts some)
-        (ends ∙ ap (λ (m : ℕ). exit_of m 0) (counts ∙ ap (λ (xs : List PlainRecorded). counted (length xs)) none))
+        (ends ∙ ap (λ (m : ℕ). exit_of m 0) (counts ∙ ap (λ (xs : List Row). counted (length xs)) none))
     by_left (t ∷ recorded) [] causes [] count is_some exit is all are_stale records none no_fails counts some causes_are ends =
         let places = asked_places a (names_of asked) in
         let accepted = recorded_accepted a b asked.sends asked.unknown asked.messages asked.meaning list places (t ∷ recorded) apart all none in
         nothing_else list (t ∷ recorded) apart stale (answerable (t ∷ recorded) is all are_stale records) none (λ e. let z : t ∷ recorded ≡ [] = e in cc)
         (of_each asked a (IsAcceptedWhole (sides_in asked a b) asked.meaning list) sound accepted) no_fails (end_of_none asked (t ∷ recorded) (left_of list (t ∷ recorded)) causes count is_some none counts some)
-        (ends ∙ ap (λ (m : ℕ). exit_of m 0) (counts ∙ ap (λ (xs : List PlainRecorded). counted (length xs)) none))
+        (ends ∙ ap (λ (m : ℕ). exit_of m 0) (counts ∙ ap (λ (xs : List Row). counted (length xs)) none))
     by_left recorded [] causes (e ∷ fails) count is_some exit is all are_stale records none some_fail counts some causes_are ends =
         let never : failing asked.stale stale ≡ [] → ⊥ = λ z. (let y : e ∷ fails ≡ [] = sym some_fail ∙ z in cc) in
         lines list recorded apart stale (answerable recorded is all are_stale records) (inr never)
-        (end_of_stale asked (left_of list recorded) causes count is_some e fails none counts ∙ ap (λ (es : List PlainEntry). written asked (shown asked.once (left_of list recorded)) ++ stale_text asked.form es) (sym some_fail))
-        (ends ∙ ap (λ (m : ℕ). exit_of m (suc (length fails))) (counts ∙ ap (λ (xs : List PlainRecorded). counted (length xs)) none)
+        (end_of_stale asked (left_of list recorded) causes count is_some e fails none counts ∙ ap (λ (es : List PlainEntry). answer_written asked (left_of list recorded) ++ stale_text asked.form es) (sym some_fail))
+        (ends ∙ ap (λ (m : ℕ). exit_of m (suc (length fails))) (counts ∙ ap (λ (xs : List Row). counted (length xs)) none)
         ∙ ap (λ (b : Bool). cond b Yes No) (not_zero_by (suc (length fails)) (omega arith)))
     by_left recorded (t ∷ left) causes fails count is_some exit is all are_stale records same fail counts some causes_are ends =
         let never : left_of list recorded ≡ [] → ⊥ = λ e. (let z : t ∷ left ≡ [] = sym same ∙ e in cc) in
-        let not_none = some_lines_left count t left (counts ∙ ap (λ (xs : List PlainRecorded). counted (length xs)) same) in
+        let not_none = some_lines_left count t left (counts ∙ ap (λ (xs : List Row). counted (length xs)) same) in
         lines list recorded apart stale (answerable recorded is all are_stale records) (inl never)
-        (end_of_some asked (left_of list recorded) causes count is_some fails not_none causes_are ∙ ap (λ (es : List PlainEntry). written asked (shown asked.once (left_of list recorded)) ++ stale_text asked.form es) (sym fail))
+        (end_of_some asked (left_of list recorded) causes count is_some fails not_none causes_are ∙ ap (λ (es : List PlainEntry). answer_written asked (left_of list recorded) ++ stale_text asked.form es) (sym fail))
         (ends ∙ ap (λ (b : Bool). cond (b && length fails == 0) Yes No) not_none)
 
     module _ (places : List ℕ) (old mid : Option (List ℕ)) (seen : Seen) (places_are : places ≡ asked_places a (names_of asked))
@@ -167,7 +168,7 @@ module _ (asked : Asked) (input : Input) (a b : Dictionary) (list : List PlainEn
           (subst (λ (ps : List ℕ). AreRecorded (sides_in asked a b) asked.messages asked.meaning ps all.recorded all.apart) places_are all.are_recorded)
 
       kept_causes : (is : Found) (f : Finds seen unused_ones stale_ones is) → map plain_recorded f.causes.items ≡ once_of (map (kept asked.once) (left_of list all.recorded))
-      kept_causes is f = f.causes_are all.forgets (map (kept asked.once) (left_of list all.recorded)) all.place all.visits all.are_seen.are_kept.causes
+      kept_causes is f = f.causes_are all.forgets (tolds (map (kept asked.once) (left_of list all.recorded))) all.place all.visits all.are_seen.are_kept.causes
 
       finds_report : (is : Found) → Finds seen unused_ones stale_ones is → RecordsFound asked.once list all.recorded apart stale is
       finds_report is f = record {
@@ -183,7 +184,7 @@ module _ (asked : Asked) (input : Input) (a b : Dictionary) (list : List PlainEn
         lines_are = all.are_seen.judged.lines_are;
         accepted_are = all.are_seen.judged.accepted_are;
         causes_are = kept_causes is f;
-        meanings_are = f.meanings_are all.forgets (left_of list all.apart) all.place all.visits all.are_seen.are_kept.meanings ∙ ap (λ (xs : List PlainRecorded). once_of (left_of list xs)) apart_is;
+        meanings_are = f.meanings_are all.forgets (tolds (left_of list all.apart)) all.place all.visits all.are_seen.are_kept.meanings ∙ ap (λ (xs : List Row). once_of (left_of list xs)) apart_is;
       }
 
       abbrev pub whole_text : (is : Found) → Finds seen unused_ones stale_ones is → List ℕ
@@ -223,21 +224,21 @@ module _ (asked : Asked) (input : Input) (a b : Dictionary) (list : List PlainEn
 
   -- where not all lines were put
   module _ (can : CanAsk asked a) (places : List ℕ) (old new : Option (List ℕ)) (places_are : places ≡ asked_places a (names_of asked)) where
-    begun_so : (first : List PlainRecorded) → AreFirstLines (sides_in asked a b) asked list places first → (is_once : Bool) → asked.once ≡ is_once → IsBegun asked input a b (cond is_once [] (written asked first))
+    begun_so : (first : List Row) → AreFirstLines (sides_in asked a b) asked list places first → (is_once : Bool) → asked.once ≡ is_once → IsBegun asked input a b (cond is_once [] (written asked first))
     begun_so first f true e = nothing_yet refl
     begun_so first f false e = some_lines list f.front f.back f.recorded f.apart first f.more is_list can e (sym places_are ∙ f.parts) f.are_recorded f.left_are refl
 
-    pub first_answered : (fault : RunFault) (first : List PlainRecorded) → AreFirstLines (sides_in asked a b) asked list places first → OccursPut fault old new (text_shown asked first)
+    pub first_answered : (fault : RunFault) (first : List Row) → AreFirstLines (sides_in asked a b) asked list places first → OccursPut fault old new (text_shown asked first)
         → Answers asked input a b old new (Err fault)
     first_answered Device first f occurs = (text_shown asked first, inl (begun_so first f asked.once refl), occurs)
     first_answered NoMemory first f occurs = (text_shown asked first, begun_so first f asked.once refl, occurs)
 
 -- the entries that accept none of the lines that were found
 pub unused_by : (asked : Asked) (list : List PlainEntry) (s : Sides) (places : List ℕ) (old new : Option (List ℕ)) (seen : Seen) (all : AreAllPut s asked list places old new seen) (unused : List PlainEntry)
-    → ((list : List PlainEntry) (recorded : List PlainRecorded) → HasSeen seen.accepting list recorded → unused ≡ unused_of list recorded) → unused ≡ unused_of list (all.recorded ++ all.apart)
-unused_by asked list s places old new seen all unused is = is list (all.recorded ++ all.apart) all.are_seen.judged.accepting
+    → ((list : List PlainEntry) (recorded : List PlainRecorded) → RecordedSeen seen.accepting list recorded → unused ≡ recorded_unused list recorded) → unused ≡ unused_of list (all.recorded ++ all.apart)
+unused_by asked list s places old new seen all unused is = is list (tolds (all.recorded ++ all.apart)) all.are_seen.judged.accepting
 
-pub are_stale_by : (asked : Asked) (a b : Dictionary) (list : List PlainEntry) (recorded apart : List PlainRecorded) (stale : List PlainEntry) (unused : Vec Entry) (slice : List Entry) → slice ≡ unused.items
+pub are_stale_by : (asked : Asked) (a b : Dictionary) (list : List PlainEntry) (recorded apart : List Row) (stale : List PlainEntry) (unused : Vec Entry) (slice : List Entry) → slice ≡ unused.items
     → map plain_entry unused.items ≡ unused_of list (recorded ++ apart)
     → AreLookedFor asked.stale asked a b (filter (is_about (names_of asked)) (map plain_entry slice)) stale → AreStale asked a b list recorded apart stale
 are_stale_by asked a b list recorded apart stale unused slice same is found =

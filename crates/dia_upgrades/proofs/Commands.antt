@@ -8,8 +8,7 @@ use Rattle.std.proofs.lemmas.List.{append-nil, length-append, take-append-drop, 
 use Rattle.dia_io.specs.declared.RunFault.{RunFault}
 use Rattle.dia_io.specs.declared.RunFault.TheVariants.{Device, NoMemory}
 use Rattle.dia_io.specs.Writing.{AppendsFront}
-use Rattle.dia_accepted.specs.Accepted.{PlainEntry, PlainRecorded, left_of}
-use Rattle.dia_accepted.specs.Seen.{is_command}
+use Rattle.dia_accepted.specs.Accepted.{PlainEntry}
 use Rattle.dia_breaking.specs.Confirmed.{most_checked_together}
 use Rattle.dia_breaking.specs.Messages.{Stock}
 use Rattle.dia_breaking.specs.Sides.{Sides}
@@ -24,15 +23,16 @@ use Rattle.dia_upgrades.proofs.Listings.{none_of_place}
 use Rattle.dia_upgrades.proofs.LinesToReport.{left_both, nothing_shown}
 use Rattle.dia_upgrades.proofs.Parts.{both_more}
 use Rattle.dia_upgrades.proofs.Puts.{none_put}
+use Rattle.dia_upgrades.specs.Rows.{Row, is_command, left_of}
 
 module _ (s : Sides) (k : Stock) (asked : Asked) (lengths : List ℕ) (forgets : Bool) (list : List PlainEntry) (begun : Option (List ℕ)) where
-  abbrev Records : ℕ → ℕ → ℕ → List PlainRecorded → List PlainRecorded → Type 0
+  abbrev Records : ℕ → ℕ → ℕ → List Row → List Row → Type 0
   Records = IsRecordedOf s k asked.messages asked.meaning lengths
 
   -- the lines of the first commands are known, and put or pending
   pub record AreSome (places : List ℕ) (put : Option (List ℕ)) (listing : Listing) : Type 0 where
-    pub recorded : List PlainRecorded
-    pub apart : List PlainRecorded
+    pub recorded : List Row
+    pub apart : List Row
     pub place : ℕ
     pub are_both : AreBothParts (IsRecordedOf s k asked.messages asked.meaning lengths) places most_checked_together listing.budget recorded apart
     pub under_way : IsUnderWay asked forgets list place (length places) begun put listing recorded apart
@@ -48,7 +48,7 @@ module _ (s : Sides) (k : Stock) (asked : Asked) (lengths : List ℕ) (forgets :
     visits = length (take i places) + 1
 
     -- the next command begins
-    module _ (next : (recorded apart : List PlainRecorded) → (forgets ≡ true → (list_any (is_command (get_or places i d)) recorded ≡ false) × (list_any (is_command (get_or places i d)) apart ≡ false))
+    module _ (next : (recorded apart : List Row) → (forgets ≡ true → (list_any (is_command (get_or places i d)) recorded ≡ false) × (list_any (is_command (get_or places i d)) apart ≡ false))
         → AreSeen asked forgets list some.place (length (take i places)) old.seen recorded apart → AreSeen asked forgets list (get_or places i d) visits begin.seen recorded apart)
         (pending : begin.pending ≡ old.pending) (budget : begin.budget ≡ old.budget) (new_ones : forgets ≡ true → IsEachNew places) (small : visits < 2 ^ 63) where
       begins : IsUnderWay asked forgets list (get_or places i d) visits begun a begin some.recorded some.apart
@@ -59,7 +59,7 @@ module _ (s : Sides) (k : Stock) (asked : Asked) (lengths : List ℕ) (forgets :
             is_put = subst (λ p. IsPut begun a p (text_shown asked (left_of list some.recorded))) (sym pending) some.under_way.is_put;
           }
 
-      pub goes_next : (recorded apart : List PlainRecorded) → Records (get_or places i d) begin.budget new.budget recorded apart → GoesOn asked (get_or places i d) a c begin new recorded apart → AreSome (take (i + 1) places) c new
+      pub goes_next : (recorded apart : List Row) → Records (get_or places i d) begin.budget new.budget recorded apart → GoesOn asked (get_or places i d) a c begin new recorded apart → AreSome (take (i + 1) places) c new
       goes_next recorded apart is goes = record {
         recorded = some.recorded ++ recorded;
         apart = some.apart ++ apart;
@@ -72,7 +72,7 @@ module _ (s : Sides) (k : Stock) (asked : Asked) (lengths : List ℕ) (forgets :
 
       -- or it stops there
       pub stops_there : AreShortest s.sender s.sends lengths → IsStockOf s lengths k → (fault : RunFault) → StopsIn s k asked lengths (get_or places i d) fault a c begin new
-          → (first : List PlainRecorded) × AreFirstLines s asked list places first × Occurs fault begun c new.pending (text_shown asked first)
+          → (first : List Row) × AreFirstLines s asked list places first × Occurs fault begun c new.pending (text_shown asked first)
       stops_there shortest is_stock fault (before stops) = (
         left_of list some.recorded,
         record {
@@ -85,7 +85,7 @@ module _ (s : Sides) (k : Stock) (asked : Asked) (lengths : List ℕ) (forgets :
           are_recorded = record { lengths = lengths; stock = k; following = old.budget; are_shortest = shortest; is_stock = is_stock; each = some.are_both };
           left_are = sym (append-nil (left_of list some.recorded));
         },
-        subst (λ (xs : List PlainRecorded). Occurs fault begun c new.pending (text_shown asked (left_of list xs))) (append-nil some.recorded)
+        subst (λ (xs : List Row). Occurs fault begun c new.pending (text_shown asked (left_of list xs))) (append-nil some.recorded)
             (stops forgets list visits begun some.recorded some.apart small begins),
       )
       stops_there shortest is_stock fault (among following more rest others is stops) = (
@@ -143,8 +143,8 @@ module _ (s : Sides) (asked : Asked) (forgets : Bool) (list : List PlainEntry) (
   }
 
   pub rest_occurs : {U : Type 0} (found : Result U RunFault) → OnOk found (AreUnderWay s asked forgets list places begun put listing)
-      → IfErr found (λ fault. (first : List PlainRecorded) × AreFirstLines s asked list places first × Occurs fault begun put listing.pending (text_shown asked first))
-      → (fault : RunFault) → OccursAfter found fault put new listing.pending → (first : List PlainRecorded) × AreFirstLines s asked list places first × OccursPut fault begun new (text_shown asked first)
+      → IfErr found (λ fault. (first : List Row) × AreFirstLines s asked list places first × Occurs fault begun put listing.pending (text_shown asked first))
+      → (fault : RunFault) → OccursAfter found fault put new listing.pending → (first : List Row) × AreFirstLines s asked list places first × OccursPut fault begun new (text_shown asked first)
   rest_occurs (Ok u) way stops Device front = (left_of list way.recorded, all_first way, front begun (text_shown asked (left_of list way.recorded)) way.under_way.is_put)
   rest_occurs (Ok u) way stops NoMemory never = absurd never
   rest_occurs (Err NoMemory) way (first, are, occurs) fault following = (first, are, following begun (text_shown asked first) occurs)
@@ -175,7 +175,7 @@ start asked forgets list put listing seen nothing =
 
 -- nothing was written of any line
 pub none_first : (s : Sides) (k : Stock) (asked : Asked) (list : List PlainEntry) (lengths places : List ℕ) (put : Option (List ℕ)) → AreShortest s.sender s.sends lengths → IsStockOf s lengths k
-    → (first : List PlainRecorded) × AreFirstLines s asked list places first × OccursPut NoMemory put put (text_shown asked first)
+    → (first : List Row) × AreFirstLines s asked list places first × OccursPut NoMemory put put (text_shown asked first)
 none_first s k asked list lengths places put shortest is_stock = (
   [],
   record {

@@ -1,13 +1,13 @@
 -- Lines in their forms.
-use Rattle.std.proofs.Common.{◌≡◌, ◌∙◌, ℕ, ◌+◌, ◌<◌, true, List, [], ◌∷◌, ◌++◌, Bor, Option, Result, Ok, Err, ap, get_or, length, map, sym, take, codes}
+use Rattle.std.proofs.Common.{◌≡◌, ◌∙◌, ℕ, ◌+◌, ◌<◌, List, [], ◌∷◌, ◌++◌, Bor, Option, Result, Ok, Err, ap, get_or, length, map, sym, take, codes}
 use Rattle.std.specs.Prelude.{OnOk}
 use Rattle.std.specs.List.{flat_map}
 use Rattle.dia_accepted.specs.Accepted.{PlainRecorded}
 use Rattle.dia_breaking_json.specs.declared.Names.{Names}
 use Rattle.dia_upgrades.specs.declared.asked.Asked.{Asked}
 use Rattle.dia_upgrades.specs.declared.asked.Form.TheVariants.{Text, Json}
-use Rattle.dia_upgrades.specs.Forms.{line_in, object_in}
-use Rattle.dia_upgrades.specs.Recorded.{recorded_text, written}
+use Rattle.dia_upgrades.specs.Forms.{cause_in, cause_object_in}
+use Rattle.dia_upgrades.specs.Recorded.{causes_written, recorded_text}
 use Rattle.dia_upgrades.specs.declared.reporting.Found.{Found}
 use Rattle.dia_upgrades.specs.declared.seen.Seen.{Seen}
 use Rattle.dia_upgrades.specs.UnderWay.{Ends, Finds, end_text, fails_of}
@@ -23,12 +23,12 @@ use Rattle.dia_accepted.specs.declared.recorded.Recorded.{Recorded}
 use Rattle.std.specs.Global.{Vec}
 
 -- in words
-pub written_text : (asked : Asked) (recorded : List PlainRecorded) → asked.form ≡ Text → recorded_text recorded ≡ written asked recorded
-written_text asked recorded e = ap (λ f. flat_map (line_in f asked.once) recorded) (sym e)
+pub written_text : (asked : Asked) (recorded : List PlainRecorded) → asked.form ≡ Text → recorded_text recorded ≡ causes_written asked recorded
+written_text asked recorded e = ap (λ f. flat_map (cause_in f) recorded) (sym e)
 
--- as JSON, where each cause is told once
-pub written_json : (asked : Asked) (names : Bor Names) (recorded : List PlainRecorded) → asked.form ≡ Json names → asked.once ≡ true → flat_map (object_in names.now true) recorded ≡ written asked recorded
-written_json asked names recorded e once = λ i. flat_map (line_in (sym e i) (sym once i)) recorded
+-- as JSON
+pub written_json : (asked : Asked) (names : Bor Names) (recorded : List PlainRecorded) → asked.form ≡ Json names → flat_map (cause_object_in names.now) recorded ≡ causes_written asked recorded
+written_json asked names recorded e = λ i. flat_map (cause_in (sym e i)) recorded
 
 -- an object is a line
 pub object_shown : (written object : List ℕ) → written ≡ object → line written ++ [] ≡ line object

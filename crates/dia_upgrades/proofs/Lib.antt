@@ -9,5 +9,6 @@ pub mod Outcomes
 pub mod Parts
 pub mod Puts
 pub mod Reports
+pub mod Rows
 pub mod RecordedCommands
 pub mod RecordedLines

@@ -1,5 +1,5 @@
 -- Lines that are known one after another, and their texts.
-use Rattle.std.proofs.Common.{◌≡◌, ℕ, ◌+◌, ◌<◌, ◌^◌, Bool, true, false, cond, List, [], ◌∷◌, ◌++◌, Option, drop, get_or, length, map, take, refl, sym, ap, subst, ◌∙◌, append_assoc, string_bytes, arith}
+use Rattle.std.proofs.Common.{◌≡◌, ℕ, ◌+◌, ◌<◌, ◌^◌, Bool, true, false, cond, List, [], ◌∷◌, ◌++◌, Option, Some, None, drop, get_or, length, map, take, refl, sym, ap, subst, ◌∙◌, append_assoc, string_bytes, arith}
 use Rattle.std.specs.Prelude.{◌||◌, not}
 use Rattle.std.specs.List.{list_any}
 use Rattle.std.proofs.lemmas.Grind.{flat_map-append}
@@ -7,9 +7,8 @@ use Rattle.std.proofs.lemmas.List.{append-nil, length-append, map-append, take-a
 use Rattle.std.proofs.lemmas.List.Elements.{filter-append}
 use Rattle.dia_accepted.specs.declared.counting.Causes.{Causes}
 use Rattle.dia_accepted.specs.declared.recorded.Recorded.{Recorded}
-use Rattle.dia_accepted.specs.Accepted.{PlainEntry, PlainRecorded, accepts, is_accepted, kept, left_of, plain_recorded}
-use Rattle.dia_accepted.specs.Seen.{AreCauses, HasSeen, is_command}
-use Rattle.dia_accepted.proofs.Sets.{seen_after, seen_between}
+use Rattle.dia_accepted.specs.Accepted.{PlainEntry, PlainRecorded, accepts, plain_recorded}
+use Rattle.hex.specs.Hex.{encode_lower}
 use Rattle.dia_breaking_sites.specs.Sent.{AreBytes}
 use Rattle.dia_breaking.specs.declared.line.Standing.{Standing}
 use Rattle.dia_breaking.specs.declared.line.Standing.TheVariants.{Confirmed, Unchecked, Undecided}
@@ -18,10 +17,12 @@ use Rattle.dia_run.specs.Texts.{line}
 use Rattle.dia_upgrades.specs.declared.asked.Asked.{Asked}
 use Rattle.dia_upgrades.specs.declared.seen.Seen.{Seen}
 use Rattle.dia_upgrades.specs.Outcome.{accepted_of, counted}
-use Rattle.dia_upgrades.specs.Recorded.{IsAfter, has_message, message_line, recorded_text, written}
+use Rattle.dia_upgrades.specs.Recorded.{IsAfter, has_message, recorded_text, written}
 use Rattle.dia_upgrades.specs.Forms.{line_in}
 use Rattle.dia_upgrades.specs.UnderWay.{AreJudged, Sees, SeesApart, is_any, lines_after, text_shown}
 use Rattle.dia_upgrades.proofs.Puts.{front_of_more}
+use Rattle.dia_upgrades.proofs.Rows.{seen_after, seen_before}
+use Rattle.dia_upgrades.specs.Rows.{AreCauses, HasSeen, Row, digits_line, is_accepted, is_command, kept, left_of}
 
 -- ---- texts
 
@@ -59,18 +60,18 @@ nothing_shown asked = by asked.once
     by true = refl
     by false = refl
 
-pub shown_more : (asked : Asked) (xs ys : List PlainRecorded) → text_shown asked (xs ++ ys) ≡ text_shown asked xs ++ text_shown asked ys
+pub shown_more : (asked : Asked) (xs ys : List Row) → text_shown asked (xs ++ ys) ≡ text_shown asked xs ++ text_shown asked ys
 shown_more asked xs ys = by asked.once
   where
     by : (b : Bool) → cond b [] (written asked (xs ++ ys)) ≡ cond b [] (written asked xs) ++ cond b [] (written asked ys)
     by true = refl
-    by false = flat_map-append (line_in asked.form asked.once) xs ys
+    by false = flat_map-append (line_in asked.form) xs ys
 
--- what stands behind a line whose message has these bytes, if anything does
-abbrev pub message_after : Bool → List ℕ → List ℕ
-message_after has bytes = cond has (message_line bytes) []
+-- the digits that follow a line whose message has these bytes, if any do
+abbrev pub digits_after : Bool → List ℕ → Option (List ℕ)
+digits_after has bytes = cond has (Some (encode_lower bytes)) None
 
-pub occurs_after : (are : List ℕ → Type 0) (has : Bool) (bytes : List ℕ) → AreBytes bytes × are bytes → IsAfter are has (message_after has bytes)
+pub occurs_after : (are : List ℕ → Type 0) (has : Bool) (bytes : List ℕ) → AreBytes bytes × are bytes → IsAfter are has (digits_line (digits_after has bytes))
 occurs_after are true bytes is = (bytes, is.0, is.1, refl)
 occurs_after are false bytes is = refl
 
@@ -82,56 +83,56 @@ no_message are Undecided = refl
 
 -- ---- lines that are left
 
-pub left_both : (list : List PlainEntry) (xs ys : List PlainRecorded) → left_of list (xs ++ ys) ≡ left_of list xs ++ left_of list ys
-left_both list xs ys = filter-append (λ (t : PlainRecorded). not (is_accepted list t)) xs ys
+pub left_both : (list : List PlainEntry) (xs ys : List Row) → left_of list (xs ++ ys) ≡ left_of list xs ++ left_of list ys
+left_both list xs ys = filter-append (λ (t : Row). not (is_accepted list t)) xs ys
 
-pub left_one : (list : List PlainEntry) (t : PlainRecorded) (known : Bool) → is_accepted list t ≡ known → left_of list (t ∷ []) ≡ cond known [] (t ∷ [])
+pub left_one : (list : List PlainEntry) (t : Row) (known : Bool) → is_accepted list t ≡ known → left_of list (t ∷ []) ≡ cond known [] (t ∷ [])
 left_one list t known e = ap (λ (b : Bool). cond (not b) (t ∷ []) []) e ∙ by known
   where
     by : (b : Bool) → cond (not b) (t ∷ []) [] ≡ cond b [] (t ∷ [])
     by true = refl
     by false = refl
 
-pub left_more : (list : List PlainEntry) (recorded : List PlainRecorded) (t : PlainRecorded) (known : Bool) → is_accepted list t ≡ known → left_of list (recorded ++ t ∷ []) ≡ left_of list recorded ++ cond known [] (t ∷ [])
-left_more list recorded t known e = left_both list recorded (t ∷ []) ∙ ap (λ (xs : List PlainRecorded). left_of list recorded ++ xs) (left_one list t known e)
+pub left_more : (list : List PlainEntry) (recorded : List Row) (t : Row) (known : Bool) → is_accepted list t ≡ known → left_of list (recorded ++ t ∷ []) ≡ left_of list recorded ++ cond known [] (t ∷ [])
+left_more list recorded t known e = left_both list recorded (t ∷ []) ∙ ap (λ (xs : List Row). left_of list recorded ++ xs) (left_one list t known e)
 
 counted_more : (n : ℕ) → counted (n + 1) ≡ counted (counted n + 1)
 counted_more n = omega arith
 
-pub lines_more : (list : List PlainEntry) (recorded : List PlainRecorded) (t : PlainRecorded) (known : Bool) (old : ℕ) → is_accepted list t ≡ known → old ≡ counted (length (left_of list recorded))
+pub lines_more : (list : List PlainEntry) (recorded : List Row) (t : Row) (known : Bool) (old : ℕ) → is_accepted list t ≡ known → old ≡ counted (length (left_of list recorded))
     → lines_after known old ≡ counted (length (left_of list (recorded ++ t ∷ [])))
 lines_more list recorded t known old e is =
-    ap (lines_after known) is ∙ by known ∙ ap (λ (xs : List PlainRecorded). counted (length xs)) (sym (left_more list recorded t known e))
+    ap (lines_after known) is ∙ by known ∙ ap (λ (xs : List Row). counted (length xs)) (sym (left_more list recorded t known e))
   where
     by : (b : Bool) → lines_after b (counted (length (left_of list recorded))) ≡ counted (length (left_of list recorded ++ cond b [] (t ∷ [])))
-    by true = ap (λ (xs : List PlainRecorded). counted (length xs)) (sym (append-nil (left_of list recorded)))
+    by true = ap (λ (xs : List Row). counted (length xs)) (sym (append-nil (left_of list recorded)))
     by false = sym (ap counted (length-append (left_of list recorded) (t ∷ [])) ∙ counted_more (length (left_of list recorded)))
 
 -- ---- lines that are accepted
 
-accepted_one : (list : List PlainEntry) (t : PlainRecorded) (known : Bool) → is_accepted list t ≡ known → accepted_of list (t ∷ []) ≡ cond known (t ∷ []) []
+accepted_one : (list : List PlainEntry) (t : Row) (known : Bool) → is_accepted list t ≡ known → accepted_of list (t ∷ []) ≡ cond known (t ∷ []) []
 accepted_one list t known e = ap (λ (b : Bool). cond b (t ∷ []) []) e
 
-accepted_more : (list : List PlainEntry) (recorded : List PlainRecorded) (t : PlainRecorded) (known : Bool) → is_accepted list t ≡ known
+accepted_more : (list : List PlainEntry) (recorded : List Row) (t : Row) (known : Bool) → is_accepted list t ≡ known
     → accepted_of list (recorded ++ t ∷ []) ≡ accepted_of list recorded ++ cond known (t ∷ []) []
 accepted_more list recorded t known e =
-    filter-append (is_accepted list) recorded (t ∷ []) ∙ ap (λ (xs : List PlainRecorded). accepted_of list recorded ++ xs) (accepted_one list t known e)
+    filter-append (is_accepted list) recorded (t ∷ []) ∙ ap (λ (xs : List Row). accepted_of list recorded ++ xs) (accepted_one list t known e)
 
-accepted_after : (list : List PlainEntry) (recorded : List PlainRecorded) (t : PlainRecorded) (known : Bool) (old : ℕ) → is_accepted list t ≡ known → old ≡ counted (length (accepted_of list recorded))
+accepted_after : (list : List PlainEntry) (recorded : List Row) (t : Row) (known : Bool) (old : ℕ) → is_accepted list t ≡ known → old ≡ counted (length (accepted_of list recorded))
     → lines_after (not known) old ≡ counted (length (accepted_of list (recorded ++ t ∷ [])))
 accepted_after list recorded t known old e is =
-    ap (lines_after (not known)) is ∙ by known ∙ ap (λ (xs : List PlainRecorded). counted (length xs)) (sym (accepted_more list recorded t known e))
+    ap (lines_after (not known)) is ∙ by known ∙ ap (λ (xs : List Row). counted (length xs)) (sym (accepted_more list recorded t known e))
   where
     by : (b : Bool) → lines_after (not b) (counted (length (accepted_of list recorded))) ≡ counted (length (accepted_of list recorded ++ cond b (t ∷ []) []))
     by true = sym (ap counted (length-append (accepted_of list recorded) (t ∷ [])) ∙ counted_more (length (accepted_of list recorded)))
-    by false = ap (λ (xs : List PlainRecorded). counted (length xs)) (sym (append-nil (accepted_of list recorded)))
+    by false = ap (λ (xs : List Row). counted (length xs)) (sym (append-nil (accepted_of list recorded)))
 
-any_more : (recorded : List PlainRecorded) (t : PlainRecorded) → is_any (recorded ++ t ∷ []) ≡ true
+any_more : (recorded : List Row) (t : Row) → is_any (recorded ++ t ∷ []) ≡ true
 any_more [] t = refl
 any_more (x ∷ recorded) t = refl
 
 -- where no line is of a command, none that is left is
-pub left_none : (list : List PlainEntry) (place : ℕ) (recorded : List PlainRecorded) → list_any (is_command place) recorded ≡ false → list_any (is_command place) (left_of list recorded) ≡ false
+pub left_none : (list : List PlainEntry) (place : ℕ) (recorded : List Row) → list_any (is_command place) recorded ≡ false → list_any (is_command place) (left_of list recorded) ≡ false
 left_none list place [] none = refl
 left_none list place (t ∷ recorded) none =
     by (is_command place t) refl (is_accepted list t) none (left_none list place recorded)
@@ -142,29 +143,29 @@ left_none list place (t ∷ recorded) none =
     by false e true none more = more none
     by false e false none more = ap (λ (b : Bool). b || list_any (is_command place) (left_of list recorded)) e ∙ more none
 
-pub kept_none : (is_once : Bool) (place : ℕ) (recorded : List PlainRecorded) → list_any (is_command place) recorded ≡ false → list_any (is_command place) (map (kept is_once) recorded) ≡ false
+pub kept_none : (is_once : Bool) (place : ℕ) (recorded : List Row) → list_any (is_command place) recorded ≡ false → list_any (is_command place) (map (kept is_once) recorded) ≡ false
 kept_none is_once place recorded none = kept_any is_once place recorded ∙ none
   where
-    kept_any : (b : Bool) (place : ℕ) (recorded : List PlainRecorded) → list_any (is_command place) (map (kept b) recorded) ≡ list_any (is_command place) recorded
+    kept_any : (b : Bool) (place : ℕ) (recorded : List Row) → list_any (is_command place) (map (kept b) recorded) ≡ list_any (is_command place) recorded
     kept_any b place [] = refl
     kept_any true place (t ∷ recorded) = ap (λ (c : Bool). is_command place t || c) (kept_any true place recorded)
     kept_any false place (t ∷ recorded) = ap (λ (c : Bool). is_command place t || c) (kept_any false place recorded)
 
 -- ---- a line that comes
 
-module _ (list : List PlainEntry) (recorded apart : List PlainRecorded) (t : PlainRecorded) where
+module _ (list : List PlainEntry) (recorded apart : List Row) (t : Row) where
   pub judged_more : (old new : Seen) (known : Bool) → HasSeen new.accepting list ((recorded ++ apart) ++ t ∷ []) → is_accepted list t ≡ known → new.lines ≡ lines_after known old.lines
       → new.accepted ≡ lines_after (not known) old.accepted → new.is_some ≡ true
       → AreJudged list old recorded apart → AreJudged list new (recorded ++ t ∷ []) apart
   judged_more old new known seen e lines accepted some are = record {
-    accepting = seen_between new.accepting list recorded apart t seen;
+    accepting = seen_before new.accepting list recorded apart t seen;
     lines_are = lines ∙ lines_more list recorded t known old.lines e are.lines_are;
     accepted_are = accepted ∙ accepted_after list recorded t known old.accepted e are.accepted_are;
     is_some_is = some ∙ sym (any_more recorded t);
   }
 
 -- the same is known of lines by another name
-pub judged_so : (list : List PlainEntry) (old new : Seen) (recorded apart : List PlainRecorded) → new.accepting ≡ old.accepting → new.lines ≡ old.lines → new.accepted ≡ old.accepted → new.is_some ≡ old.is_some
+pub judged_so : (list : List PlainEntry) (old new : Seen) (recorded apart : List Row) → new.accepting ≡ old.accepting → new.lines ≡ old.lines → new.accepted ≡ old.accepted → new.is_some ≡ old.is_some
     → AreJudged list old recorded apart → AreJudged list new recorded apart
 judged_so list old new recorded apart same lines accepted some are = record {
   accepting = subst (λ a. HasSeen a list (recorded ++ apart)) (sym same) are.accepting;
@@ -173,11 +174,11 @@ judged_so list old new recorded apart same lines accepted some are = record {
   is_some_is = some ∙ are.is_some_is;
 }
 
-module _ (asked : Asked) (place : ℕ) (old mid : Seen) (t : PlainRecorded) (words : List ℕ) (known : Bool) (words_are : t.words ≡ words)
-    (accepted : (list : List PlainEntry) (recorded apart : List PlainRecorded) → AreJudged list old recorded apart → known ≡ list_any (accepts words) list)
-    (judged : (list : List PlainEntry) (recorded apart : List PlainRecorded) (x : PlainRecorded) → x.words ≡ words → AreJudged list old recorded apart → AreJudged list mid (recorded ++ x ∷ []) apart)
+module _ (asked : Asked) (place : ℕ) (old mid : Seen) (t : Row) (words : List ℕ) (known : Bool) (words_are : t.words ≡ words)
+    (accepted : (list : List PlainEntry) (recorded apart : List Row) → AreJudged list old recorded apart → known ≡ list_any (accepts words) list)
+    (judged : (list : List PlainEntry) (recorded apart : List Row) (x : Row) → x.words ≡ words → AreJudged list old recorded apart → AreJudged list mid (recorded ++ x ∷ []) apart)
     (causes : mid.causes ≡ old.causes) (meanings : mid.meanings ≡ old.meanings) where
-  is_known : (list : List PlainEntry) (recorded apart : List PlainRecorded) → AreJudged list old recorded apart → is_accepted list t ≡ known
+  is_known : (list : List PlainEntry) (recorded apart : List Row) → AreJudged list old recorded apart → is_accepted list t ≡ known
   is_known list recorded apart are = ap (λ (w : List ℕ). list_any (accepts w) list) words_are ∙ sym (accepted list recorded apart are)
 
   -- the list accepts it
@@ -189,7 +190,7 @@ module _ (asked : Asked) (place : ℕ) (old mid : Seen) (t : PlainRecorded) (wor
           judged = judged list recorded apart t words_are are.judged;
           are_kept = record {
             causes = subst (λ (c : Causes). AreCauses forgets c (map (kept asked.once) (left_of list (recorded ++ t ∷ []))) place visits) (sym causes)
-                (subst (λ (xs : List PlainRecorded). AreCauses forgets old.causes (map (kept asked.once) xs) place visits) same are.are_kept.causes);
+                (subst (λ (xs : List Row). AreCauses forgets old.causes (map (kept asked.once) xs) place visits) same are.are_kept.causes);
             meanings = subst (λ (c : Causes). AreCauses forgets c (left_of list apart) place visits) (sym meanings) are.are_kept.meanings;
           };
         },
@@ -198,7 +199,7 @@ module _ (asked : Asked) (place : ℕ) (old mid : Seen) (t : PlainRecorded) (wor
 
   -- or it is left
   pub sees_left : (new : Seen) (text : List ℕ) → known ≡ false → new.accepting ≡ mid.accepting → new.meanings ≡ mid.meanings → new.lines ≡ mid.lines → new.accepted ≡ mid.accepted → new.is_some ≡ mid.is_some
-      → ((forgets : Bool) (recorded : List PlainRecorded) (visits : ℕ) → visits < 2 ^ 63 → AreCauses forgets mid.causes recorded place visits → AreCauses forgets new.causes (recorded ++ kept asked.once t ∷ []) place visits)
+      → ((forgets : Bool) (recorded : List Row) (visits : ℕ) → visits < 2 ^ 63 → AreCauses forgets mid.causes recorded place visits → AreCauses forgets new.causes (recorded ++ kept asked.once t ∷ []) place visits)
       → text ≡ text_shown asked (t ∷ []) → Sees asked place old new t text
   sees_left new text is_no same_list same_meanings same_lines same_accepted same_some added text_is = λ forgets list visits recorded apart small are.
       let e = is_known list recorded apart are.judged ∙ is_no in
@@ -208,7 +209,7 @@ module _ (asked : Asked) (place : ℕ) (old mid : Seen) (t : PlainRecorded) (wor
         record {
           judged = judged_so list mid new (recorded ++ t ∷ []) apart same_list same_lines same_accepted same_some (judged list recorded apart t words_are are.judged);
           are_kept = record {
-            causes = subst (λ (xs : List PlainRecorded). AreCauses forgets new.causes xs place visits) more (added forgets (map (kept asked.once) (left_of list recorded)) visits small before);
+            causes = subst (λ (xs : List Row). AreCauses forgets new.causes xs place visits) more (added forgets (map (kept asked.once) (left_of list recorded)) visits small before);
             meanings = subst (λ (c : Causes). AreCauses forgets c (left_of list apart) place visits) (sym (same_meanings ∙ meanings)) are.are_kept.meanings;
           };
         },
@@ -217,11 +218,11 @@ module _ (asked : Asked) (place : ℕ) (old mid : Seen) (t : PlainRecorded) (wor
 
 -- ---- a line of a meaning that comes
 
-module _ (asked : Asked) (place : ℕ) (old new : Seen) (t : PlainRecorded) (known : Bool)
-    (accepted : (list : List PlainEntry) (recorded : List PlainRecorded) → HasSeen old.accepting list recorded → known ≡ list_any (accepts t.words) list)
-    (come : (list : List PlainEntry) (recorded : List PlainRecorded) (x : PlainRecorded) → x.words ≡ t.words → HasSeen old.accepting list recorded → HasSeen new.accepting list (recorded ++ x ∷ []))
+module _ (asked : Asked) (place : ℕ) (old new : Seen) (t : Row) (known : Bool)
+    (accepted : (list : List PlainEntry) (recorded : List Row) → HasSeen old.accepting list recorded → known ≡ list_any (accepts t.words) list)
+    (come : (list : List PlainEntry) (recorded : List Row) (x : Row) → x.words ≡ t.words → HasSeen old.accepting list recorded → HasSeen new.accepting list (recorded ++ x ∷ []))
     (causes : new.causes ≡ old.causes) (lines : new.lines ≡ old.lines) (same : new.accepted ≡ old.accepted) (some : new.is_some ≡ old.is_some) where
-  judged_apart : (list : List PlainEntry) (recorded apart : List PlainRecorded) → AreJudged list old recorded apart → AreJudged list new recorded (apart ++ t ∷ [])
+  judged_apart : (list : List PlainEntry) (recorded apart : List Row) → AreJudged list old recorded apart → AreJudged list new recorded (apart ++ t ∷ [])
   judged_apart list recorded apart are = record {
     accepting = seen_after new.accepting list recorded apart t (come list (recorded ++ apart) t refl are.accepting);
     lines_are = lines ∙ are.lines_are;
@@ -229,14 +230,14 @@ module _ (asked : Asked) (place : ℕ) (old new : Seen) (t : PlainRecorded) (kno
     is_some_is = some ∙ are.is_some_is;
   }
 
-  pub sees_apart : ((forgets : Bool) (recorded : List PlainRecorded) (visits : ℕ) → visits < 2 ^ 63 → AreCauses forgets old.meanings recorded place visits
+  pub sees_apart : ((forgets : Bool) (recorded : List Row) (visits : ℕ) → visits < 2 ^ 63 → AreCauses forgets old.meanings recorded place visits
       → AreCauses forgets new.meanings (recorded ++ cond known [] (t ∷ [])) place visits) → SeesApart asked place old new (t ∷ [])
   sees_apart added = λ forgets list visits recorded apart small are.
       let e = sym (accepted list (recorded ++ apart) are.judged.accepting) in record {
         judged = judged_apart list recorded apart are.judged;
         are_kept = record {
           causes = subst (λ (c : Causes). AreCauses forgets c (map (kept asked.once) (left_of list recorded)) place visits) (sym causes) are.are_kept.causes;
-          meanings = subst (λ (xs : List PlainRecorded). AreCauses forgets new.meanings xs place visits) (sym (left_more list apart t known e))
+          meanings = subst (λ (xs : List Row). AreCauses forgets new.meanings xs place visits) (sym (left_more list apart t known e))
               (added forgets (left_of list apart) visits small are.are_kept.meanings);
         };
       }

@@ -14,7 +14,7 @@ use Rattle.dia_io.specs.declared.Inputs.{Inputs}
 use Rattle.dia_io.specs.declared.Exit.{Exit}
 use Rattle.dia_io.specs.declared.Exit.TheVariants.{Yes, No, Bad}
 use Rattle.dia_io.specs.Inputs.{Holds, IsOver}
-use Rattle.dia_accepted.specs.Accepted.{PlainEntry, PlainRecorded, left_of, list_fault, max_list}
+use Rattle.dia_accepted.specs.Accepted.{PlainEntry, list_fault, max_list}
 use Rattle.dia_accepted.specs.declared.Entry.{Entry}
 use Rattle.dia_accepted.specs.declared.Recorded.{Recorded}
 use Rattle.dia_accepted.specs.declared.ListFault.{ListFault}
@@ -33,6 +33,7 @@ use Rattle.dia_upgrades.specs.Outcome.{AreAllRecorded, AreLeft, AreRead, CanAsk,
 use Rattle.dia_upgrades.specs.Stale.{AreStale, failing}
 use Rattle.dia_upgrades.specs.Outcome.{nothing, nothing_else, lines, bad_list, no_commands, no_command}
 use Rattle.dia_upgrades.specs.Outcome.{AreRefused, bad_first, bad_second, bad_accepted, none_there, bad_name, IsSafeUpgrade, safe, accepted, IsUnsafeUpgrade}
+use Rattle.dia_upgrades.specs.Rows.{Row, left_of}
 
 -- ---- a list, or none
 
@@ -56,11 +57,11 @@ list_or_not input list (lists.Limit n) (text, holds, utf8, none, is) (other, hel
 -- ---- how much is left
 
 module _ (asked : Asked) (input : Input) (a b : Dictionary) (text : List ℕ) (exit : Exit) (is : Found) (unused old : Vec Entry) (n known : ℕ) (causes meanings : Vec Recorded) where
-  same_lines : (list : List PlainEntry) (recorded apart : List PlainRecorded) (stale : List PlainEntry) → is ≡ founds.Listed unused old n known causes meanings → RecordsFound asked.once list recorded apart stale is → n ≡ counted (length (left_of list recorded))
+  same_lines : (list : List PlainEntry) (recorded apart : List Row) (stale : List PlainEntry) → is ≡ founds.Listed unused old n known causes meanings → RecordsFound asked.once list recorded apart stale is → n ≡ counted (length (left_of list recorded))
   same_lines list recorded apart stale e f =
       let z : founds.Listed unused old n known causes meanings ≡ founds.Listed f.unused f.stale_ones f.lines f.accepted f.causes f.meanings = sym e ∙ f.is_listed in let same : n ≡ f.lines = cc in same ∙ f.lines_are
 
-  left_by : (list : List PlainEntry) (recorded apart : List PlainRecorded) (stale : List PlainEntry) → is ≡ founds.Listed unused old n known causes meanings → IsAnswerable asked input a b list recorded apart stale is → AreLeft asked input a b n
+  left_by : (list : List PlainEntry) (recorded apart : List Row) (stale : List PlainEntry) → is ≡ founds.Listed unused old n known causes meanings → IsAnswerable asked input a b list recorded apart stale is → AreLeft asked input a b n
   left_by list recorded apart stale e can = (list, recorded, apart, can.list_is, can.all_recorded, same_lines list recorded apart stale e can.records)
 
   pub lines_are_left : IsListed asked input a b text exit is → is ≡ founds.Listed unused old n known causes meanings → AreLeft asked input a b n
@@ -77,7 +78,7 @@ left_in asked input a b text exit is None listed has = tt
 left_in asked input a b text exit is (Some n) listed (unused, old, known, causes, meanings, e) = lines_are_left asked input a b text exit is unused old n known causes meanings listed e
 
 -- where the lines could be told, no answer is a refusal
-module _ (asked : Asked) (input : Input) (a b : Dictionary) (list : List PlainEntry) (recorded apart : List PlainRecorded) (stale : List PlainEntry) (has : Found) (can : IsAnswerable asked input a b list recorded apart stale has) where
+module _ (asked : Asked) (input : Input) (a b : Dictionary) (list : List PlainEntry) (recorded apart : List Row) (stale : List PlainEntry) (has : Found) (can : IsAnswerable asked input a b list recorded apart stale has) where
   pub answered_or_not : (text : List ℕ) (is : Found) → IsListed asked input a b text Bad is → ⊥
   answered_or_not text is (nothing list' apart' stale' can' breaks differs none is_text is_exit) = absurd (let e : Bad ≡ Yes = is_exit in cc)
   answered_or_not text is (nothing_else list' recorded' apart' stale' can' left some breaks none is_text is_exit) = absurd (let e : Bad ≡ Yes = is_exit in cc)
@@ -117,12 +118,12 @@ module _ (asked : Asked) (inputs : Inputs) (text : List ℕ) (exit : Exit) where
   read : (a b : Dictionary) (list : List PlainEntry) → IsDictionaryText inputs.first a → IsDictionaryText inputs.second b → IsListText inputs.table list → CanAsk asked a → AreRead asked inputs a b list
   read a b list is_a is_b is_list can = record { first = is_a; second = is_b; list_is = is_list; can_ask = can }
 
-  else_left : (meaning : Bool) (recorded : List PlainRecorded) → recorded ≢ [] → nothing_left meaning recorded ≡ cond meaning nothing_else_differs nothing_else_breaks
+  else_left : (meaning : Bool) (recorded : List Row) → recorded ≢ [] → nothing_left meaning recorded ≡ cond meaning nothing_else_differs nothing_else_breaks
   else_left meaning [] some = absurd (some refl)
   else_left meaning (t ∷ recorded) some = refl
 
   -- where each stale entry fails, and none does, none is stale
-  none_stale : (a b : Dictionary) (list : List PlainEntry) (recorded apart : List PlainRecorded) (stale : List PlainEntry) → failing asked.stale stale ≡ [] → AreAllRecorded asked a b recorded apart
+  none_stale : (a b : Dictionary) (list : List PlainEntry) (recorded apart : List Row) (stale : List PlainEntry) → failing asked.stale stale ≡ [] → AreAllRecorded asked a b recorded apart
       → AreStale asked a b list recorded apart stale → NoneIsStale asked a b list
   none_stale a b list recorded apart stale none all are fails =
       (recorded, apart, all, subst (AreStale asked a b list recorded apart) (ap (λ s. failing s stale) (sym fails) ∙ none) are)

@@ -1,6 +1,5 @@
 -- What is told of a command, by what was found of it.
 use Rattle.std.proofs.Common.{◌≡◌, ℕ, Bool, false, List, [], subst}
-use Rattle.dia_accepted.specs.Accepted.{PlainRecorded}
 use Rattle.dia_breaking.specs.declared.line.Breaks.{Breaks}
 use Rattle.dia_breaking.specs.declared.line.Line.{Line}
 use Rattle.dia_breaking.specs.Confirmed.{HaveStandings, left_after}
@@ -12,7 +11,8 @@ use Rattle.dia_breaking.specs.Sides.{Sides, answer}
 use Rattle.dia_breaking.specs.TheLines.{HasTheLines}
 use Rattle.dia_breaking.specs.TheMeanings.{AreMeaningsOf, AreMeant, HoldsOfLevels, IsReadAsSent}
 use Rattle.dia_breaking.specs.RecordedMessages.{AreConfirmedWhere}
-use Rattle.dia_upgrades.specs.Recorded.{AreParts, AreShown, IsLineRecorded, IsRecordedOf, apart_of, number_at, words_at}
+use Rattle.dia_upgrades.specs.Recorded.{AreParts, AreShown, IsLineRecorded, IsRecordedOf, apart_of, number_at, says_at}
+use Rattle.dia_upgrades.specs.Rows.{Row}
 
 -- what was found of a command, by its number
 pub record IsFound (s : Sides) (k : Stock) (meaning : Bool) (number budget following : ℕ) (breaks : Breaks) (shown : List Line) : Type 0 where
@@ -28,10 +28,10 @@ pub record IsFound (s : Sides) (k : Stock) (meaning : Bool) (number budget follo
   pub read_alike : breaks.meanings.items ≡ [] → ∥ HoldsOfLevels s (answer number breaks.sites.items breaks.lines.items) (IsReadAsSent s) ∥₁
   pub are_shown : AreShown meaning breaks.lines.items breaks.meanings.items shown
 
-pub recorded_so : (s : Sides) (k : Stock) (messages meaning : Bool) (lengths : List ℕ) (place number budget following : ℕ) (breaks : Breaks) (shown : List Line) (recorded apart : List PlainRecorded)
+pub recorded_so : (s : Sides) (k : Stock) (messages meaning : Bool) (lengths : List ℕ) (place number budget following : ℕ) (breaks : Breaks) (shown : List Line) (recorded apart : List Row)
     → number ≡ number_at s.sender place → IsFound s k meaning number budget following breaks shown
-    → AreParts (IsLineRecorded place messages (words_at s lengths number breaks.sites.items) (IsLineMessage s k number breaks.sites.items)) shown recorded
-    → AreParts (IsLineRecorded place false (words_at s lengths number breaks.sites.items) (IsLineMessage s k number breaks.sites.items)) (apart_of meaning breaks.meanings.items) apart
+    → AreParts (IsLineRecorded place messages (says_at s lengths number breaks.sites.items) (IsLineMessage s k number breaks.sites.items)) shown recorded
+    → AreParts (IsLineRecorded place false (says_at s lengths number breaks.sites.items) (IsLineMessage s k number breaks.sites.items)) (apart_of meaning breaks.meanings.items) apart
     → IsRecordedOf s k messages meaning lengths place budget following recorded apart
 recorded_so s k messages meaning lengths place number budget following breaks shown recorded apart is found recorded_are apart_are =
     let here = subst (λ (n : ℕ). IsFound s k meaning n budget following breaks shown) is found in record {
@@ -50,7 +50,7 @@ recorded_so s k messages meaning lengths place number budget following breaks sh
       all_meant = here.all_meant;
       read_alike = here.read_alike;
       are_shown = here.are_shown;
-      recorded_are = subst (λ (n : ℕ). AreParts (IsLineRecorded place messages (words_at s lengths n breaks.sites.items) (IsLineMessage s k n breaks.sites.items)) shown recorded) is recorded_are;
-      apart_are = subst (λ (n : ℕ). AreParts (IsLineRecorded place false (words_at s lengths n breaks.sites.items) (IsLineMessage s k n breaks.sites.items))
+      recorded_are = subst (λ (n : ℕ). AreParts (IsLineRecorded place messages (says_at s lengths n breaks.sites.items) (IsLineMessage s k n breaks.sites.items)) shown recorded) is recorded_are;
+      apart_are = subst (λ (n : ℕ). AreParts (IsLineRecorded place false (says_at s lengths n breaks.sites.items) (IsLineMessage s k n breaks.sites.items))
           (apart_of meaning breaks.meanings.items) apart) is apart_are;
     }

@@ -5,18 +5,19 @@ use Rattle.dia_io.specs.declared.Exit.{Exit}
 use Rattle.dia_io.specs.declared.Input.{Input}
 use Rattle.dia_io.specs.declared.Inputs.{Inputs}
 use Rattle.dia_run.specs.Texts.{IsDictionaryText}
-use Rattle.dia_accepted.specs.Accepted.{PlainEntry, PlainRecorded, left_of}
+use Rattle.dia_accepted.specs.Accepted.{PlainEntry}
 use Rattle.dia_upgrades.specs.declared.asked.Asked.{Asked}
 use Rattle.dia_upgrades.specs.Asking.{names_of}
 use Rattle.dia_upgrades.specs.Lists.{IsListText}
 use Rattle.dia_upgrades.specs.Outcome.{CanAsk, IsAnyListed, IsBreakingOutcome, sides_in}
 use Rattle.dia_upgrades.specs.Places.{asked_places}
 use Rattle.dia_upgrades.specs.Recorded.{AreRecorded, written}
+use Rattle.dia_upgrades.specs.Rows.{Row, left_of}
 
 -- nothing is written yet; or the lines that the list doesn't accept of the first commands, from the first on, up to the end of one of them
 pub data IsBegun (asked : Asked) (input : Input) (a b : Dictionary) (text : List ℕ) : Type 0 where
   nothing_yet : text ≡ [] → IsBegun asked input a b text
-  some_lines : (list : List PlainEntry) (places rest : List ℕ) (recorded apart first more : List PlainRecorded) → IsListText input list → CanAsk asked a → asked.once ≡ false
+  some_lines : (list : List PlainEntry) (places rest : List ℕ) (recorded apart first more : List Row) → IsListText input list → CanAsk asked a → asked.once ≡ false
       → asked_places a (names_of asked) ≡ places ++ rest → AreRecorded (sides_in asked a b) asked.messages asked.meaning places recorded apart
       → left_of list recorded ≡ first ++ more → text ≡ written asked first → IsBegun asked input a b text
 

@@ -5,6 +5,7 @@ pub mod Lists
 pub mod Outcome
 pub mod Places
 pub mod Report
+pub mod Rows
 pub mod Stale
 pub mod Recorded
 pub mod UnderWay

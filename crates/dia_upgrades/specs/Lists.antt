@@ -32,6 +32,6 @@ bad_list_text (NotText at) = codes "not text"
 bad_list_text (Syntax n at) = fault_at (codes "syntax") n
 bad_list_text (Limit n) = fault_at (codes "limit") n
 
--- what is told of it
+-- what is reported of it
 abbrev pub list_line : BadList → List ℕ
 list_line bad = codes "accepted: " ++ bad_list_text bad

@@ -12,8 +12,7 @@ use Rattle.dia_io.specs.declared.Exit.{Exit}
 use Rattle.dia_io.specs.declared.Exit.TheVariants.{Yes, No, Bad}
 use Rattle.dia_run.specs.Texts.{IsDictionaryText, IsNoDictionaryText}
 use Rattle.dia_run.specs.Outcome.{IsPairOutcome}
-use Rattle.dia_accepted.specs.Accepted.{PlainEntry, PlainRecorded, accepts, is_accepted, kept, left_of, plain_entry, plain_recorded, unused_of}
-use Rattle.dia_accepted.specs.Causes.{once_of}
+use Rattle.dia_accepted.specs.Accepted.{PlainEntry, accepts, plain_entry, plain_recorded}
 use Rattle.dia_accepted.specs.declared.Entry.{Entry}
 use Rattle.dia_accepted.specs.declared.Recorded.{Recorded}
 use Rattle.dia_breaking.specs.declared.line.Line.{Line}
@@ -33,7 +32,8 @@ use Rattle.dia_upgrades.specs.Forms.{said}
 use Rattle.dia_upgrades.specs.Lists.{IsListText, IsNoListText, list_line}
 use Rattle.dia_upgrades.specs.Places.{asked_places}
 use Rattle.dia_upgrades.specs.Stale.{AreStale, failing, stale_text}
-use Rattle.dia_upgrades.specs.Recorded.{AreShortest, AreRecorded, words_at, written}
+use Rattle.dia_upgrades.specs.Recorded.{AreShortest, AreRecorded, answer_written, words_at}
+use Rattle.dia_upgrades.specs.Rows.{Row, is_accepted, kept, left_of, once_of, unused_of}
 
 -- ---- what is claimed
 
@@ -81,10 +81,10 @@ pub record IsAcceptedWhole (s : Sides) (meaning : Bool) (list : List PlainEntry)
 abbrev pub NothingElseBreaks : Asked → List PlainEntry → Dictionary → Dictionary → Type 0
 NothingElseBreaks asked list a b = OfEach asked a (IsAcceptedWhole (sides_in asked a b) asked.meaning list)
 
--- ---- what is told
+-- ---- what is reported
 
 -- these are the lines of the commands that are asked for, and these the ones of meanings that aren't
-abbrev pub AreAllRecorded : Asked → Dictionary → Dictionary → List PlainRecorded → List PlainRecorded → Type 0
+abbrev pub AreAllRecorded : Asked → Dictionary → Dictionary → List Row → List Row → Type 0
 AreAllRecorded asked a b recorded apart = AreRecorded (sides_in asked a b) asked.messages asked.meaning (asked_places a (names_of asked)) recorded apart
 
 abbrev pub nothing_breaks : List ℕ
@@ -106,15 +106,15 @@ abbrev pub nothing_for : Bool → Bool → List ℕ
 nothing_for meaning is_some = if is_some then (if meaning then nothing_else_differs else nothing_else_breaks) else (if meaning then nothing_differs else nothing_breaks)
 
 -- where none of these lines is left
-abbrev pub nothing_left : Bool → List PlainRecorded → List ℕ
+abbrev pub nothing_left : Bool → List Row → List ℕ
 nothing_left meaning [] = nothing_for meaning false
 nothing_left meaning (recorded ∷ more) = nothing_for meaning true
 
--- what is told of a dictionary without commands
+-- what is reported of a dictionary without commands
 abbrev pub no_commands_line : List ℕ
 no_commands_line = codes "breaking: no command"
 
--- what is told of a name that is no command's
+-- what is reported of a name that is no command's
 abbrev pub no_command_line : List ℕ → List ℕ
 no_command_line name = codes "breaking: no command " ++ name
 
@@ -127,21 +127,17 @@ pub record CanAsk (asked : Asked) (a : Dictionary) : Type 0 where
   pub some : a.commands ≢ []
   pub known : AreCommands a (names_of asked)
 
--- what is written of the lines that are left: these lines, or with `--once` one for each cause
-abbrev pub shown : Bool → List PlainRecorded → List PlainRecorded
-shown is_once left = if is_once then once_of left else left
-
 -- so many are counted of n lines: no more than the greatest number of 64 bits
 abbrev pub counted : ℕ → ℕ
 counted n = min n 18446744073709551615
 
 -- the lines that the list accepts
-abbrev pub accepted_of : List PlainEntry → List PlainRecorded → List PlainRecorded
+abbrev pub accepted_of : List PlainEntry → List Row → List Row
 accepted_of list recorded = filter (is_accepted list) recorded
 
--- what was found tells which entries of the list accept none of these, and which of them are stale, how many of the first are left and how many accepted, their causes,
--- with their messages where each cause is told once, and the causes of the meanings that aren't asked for and that the list doesn't accept
-pub record RecordsFound (is_once : Bool) (list : List PlainEntry) (recorded apart : List PlainRecorded) (stale : List PlainEntry) (is : Found) : Type 0 where
+-- what was found has which entries of the list accept none of these, and which of them are stale, how many of the first are left and how many accepted, their causes,
+-- with their messages where each cause has one line, and the causes of the meanings that aren't asked for and that the list doesn't accept
+pub record RecordsFound (is_once : Bool) (list : List PlainEntry) (recorded apart : List Row) (stale : List PlainEntry) (is : Found) : Type 0 where
   pub unused : Vec Entry
   pub stale_ones : Vec Entry
   pub lines : ℕ
@@ -157,7 +153,7 @@ pub record RecordsFound (is_once : Bool) (list : List PlainEntry) (recorded apar
   pub meanings_are : map plain_recorded meanings.items ≡ once_of (left_of list apart)
 
 -- the inputs can be asked for, and the list, the lines and the stale entries are these
-pub record IsAnswerable (asked : Asked) (input : Input) (a b : Dictionary) (list : List PlainEntry) (recorded apart : List PlainRecorded) (stale : List PlainEntry) (is : Found) : Type 0 where
+pub record IsAnswerable (asked : Asked) (input : Input) (a b : Dictionary) (list : List PlainEntry) (recorded apart : List Row) (stale : List PlainEntry) (is : Found) : Type 0 where
   pub list_is : IsListText input list
   pub can_ask : CanAsk asked a
   pub all_recorded : AreAllRecorded asked a b recorded apart
@@ -166,13 +162,13 @@ pub record IsAnswerable (asked : Asked) (input : Input) (a b : Dictionary) (list
 
 -- `breaking` of two dictionaries and a list: what is written, how it ends, and what was found
 pub data IsListed (asked : Asked) (input : Input) (a b : Dictionary) (text : List ℕ) (exit : Exit) (is : Found) : Type 0 where
-  nothing : (list : List PlainEntry) (apart : List PlainRecorded) (stale : List PlainEntry) → IsAnswerable asked input a b list [] apart stale is → NothingBreaks asked a b → NothingDiffers asked a b
+  nothing : (list : List PlainEntry) (apart : List Row) (stale : List PlainEntry) → IsAnswerable asked input a b list [] apart stale is → NothingBreaks asked a b → NothingDiffers asked a b
       → failing asked.stale stale ≡ [] → text ≡ said asked.form (nothing_left asked.meaning []) → exit ≡ Yes → IsListed asked input a b text exit is
-  nothing_else : (list : List PlainEntry) (recorded apart : List PlainRecorded) (stale : List PlainEntry) → IsAnswerable asked input a b list recorded apart stale is → left_of list recorded ≡ [] → recorded ≢ []
+  nothing_else : (list : List PlainEntry) (recorded apart : List Row) (stale : List PlainEntry) → IsAnswerable asked input a b list recorded apart stale is → left_of list recorded ≡ [] → recorded ≢ []
       → NothingElseBreaks asked list a b → failing asked.stale stale ≡ [] → text ≡ said asked.form (nothing_left asked.meaning recorded) → exit ≡ Yes → IsListed asked input a b text exit is
-  lines : (list : List PlainEntry) (recorded apart : List PlainRecorded) (stale : List PlainEntry) → IsAnswerable asked input a b list recorded apart stale is
+  lines : (list : List PlainEntry) (recorded apart : List Row) (stale : List PlainEntry) → IsAnswerable asked input a b list recorded apart stale is
       → (left_of list recorded ≢ []) ⊎ (failing asked.stale stale ≢ [])
-      → text ≡ written asked (shown asked.once (left_of list recorded)) ++ stale_text asked.form (failing asked.stale stale) → exit ≡ No → IsListed asked input a b text exit is
+      → text ≡ answer_written asked (left_of list recorded) ++ stale_text asked.form (failing asked.stale stale) → exit ≡ No → IsListed asked input a b text exit is
   bad_list : (bad : BadList) → IsNoListText input bad → Records asked.form (list_line bad) text exit → is ≡ found.NoList bad → IsListed asked input a b text exit is
   no_commands : (list : List PlainEntry) → IsListText input list → a.commands ≡ [] → Records asked.form no_commands_line text exit → is ≡ found.NoCommands
       → IsListed asked input a b text exit is
@@ -194,9 +190,9 @@ HasNoLines (found.NoList bad) = ⊤
 HasNoLines found.NoCommands = ⊤
 HasNoLines found.NoCommand = ⊤
 
--- so many lines are told that the list doesn't accept
+-- so many lines are reported that the list doesn't accept
 abbrev pub AreLeft : Asked → Input → Dictionary → Dictionary → ℕ → Type 0
-AreLeft asked input a b n = (list : List PlainEntry) × (recorded : List PlainRecorded) × (apart : List PlainRecorded) × IsListText input list × AreAllRecorded asked a b recorded apart
+AreLeft asked input a b n = (list : List PlainEntry) × (recorded : List Row) × (apart : List Row) × IsListText input list × AreAllRecorded asked a b recorded apart
     × (n ≡ counted (length (left_of list recorded)))
 
 -- the list is refused, or the commands can't be asked for: so it ends
@@ -216,17 +212,17 @@ pub record AreRead (asked : Asked) (inputs : Inputs) (a b : Dictionary) (list : 
   pub list_is : IsListText inputs.table list
   pub can_ask : CanAsk asked a
 
--- what a no says: this is the text of the lines that the list doesn't accept, or of their causes, and of its stale entries, for which the answer is no; and there is one
+-- what a no means: this is the text of the lines that the list doesn't accept, or of their causes, and of its stale entries, for which the answer is no; and there is one
 abbrev pub IsUnsafeUpgrade : Asked → Inputs → List ℕ → Type 0
-IsUnsafeUpgrade asked inputs text = (a : Dictionary) × (b : Dictionary) × (list : List PlainEntry) × (recorded : List PlainRecorded) × (apart : List PlainRecorded) × (stale : List PlainEntry) × AreRead asked inputs a b list
+IsUnsafeUpgrade asked inputs text = (a : Dictionary) × (b : Dictionary) × (list : List PlainEntry) × (recorded : List Row) × (apart : List Row) × (stale : List PlainEntry) × AreRead asked inputs a b list
     × AreAllRecorded asked a b recorded apart × AreStale asked a b list recorded apart stale × ((left_of list recorded ≢ []) ⊎ (failing asked.stale stale ≢ []))
-    × (text ≡ written asked (shown asked.once (left_of list recorded)) ++ stale_text asked.form (failing asked.stale stale))
+    × (text ≡ answer_written asked (left_of list recorded) ++ stale_text asked.form (failing asked.stale stale))
 
 -- no entry is stale, where the answer is no for one
 abbrev pub NoneIsStale : Asked → Dictionary → Dictionary → List PlainEntry → Type 0
-NoneIsStale asked a b list = asked.stale ≡ Fails → (recorded : List PlainRecorded) × (apart : List PlainRecorded) × AreAllRecorded asked a b recorded apart × AreStale asked a b list recorded apart []
+NoneIsStale asked a b list = asked.stale ≡ Fails → (recorded : List Row) × (apart : List Row) × AreAllRecorded asked a b recorded apart × AreStale asked a b list recorded apart []
 
--- what a yes says: nothing breaks, or nothing but what the list accepts; with `--meaning` nothing is read as another format, either, or
+-- what a yes means: nothing breaks, or nothing but what the list accepts; with `--meaning` nothing is read as another format, either, or
 -- nothing but what the list accepts; no entry of the list is stale; and what is written says which
 pub data IsSafeUpgrade (asked : Asked) (inputs : Inputs) (text : List ℕ) : Type 0 where
   safe : (a b : Dictionary) (list : List PlainEntry) → AreRead asked inputs a b list → NothingBreaks asked a b → NothingDiffers asked a b → NoneIsStale asked a b list

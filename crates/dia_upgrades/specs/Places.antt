@@ -16,6 +16,6 @@ asked_places d (name ∷ names) = filter_map (command_named d) (name ∷ names)
 abbrev pub AreAllValid : Dictionary → Dictionary → Sends → Unknown → List ℕ → Type 0
 AreAllValid a b sends unknown places = All (λ place. ∥ AreValid a b sends unknown (length (groups a) + place) ∥₁) places
 
--- no place stands before
+-- no place comes before
 abbrev pub IsEachNew : List ℕ → Type 0
 IsEachNew places = (i d : ℕ) → i < length places → list_any (nat_eq (get_or places i d)) (take i places) ≡ false

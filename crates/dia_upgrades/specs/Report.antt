@@ -1,4 +1,4 @@
--- What a report says of the inputs, and of what was written.
+-- What a report has of the inputs, and of what was written.
 use Rattle.std.specs.Prelude.{◌≡◌, ◌⊎◌, ℕ, List}
 use Rattle.dia_dict.specs.Dictionary.{Dictionary}
 use Rattle.dia_dict.specs.declared.IndexedBook.{IndexedBook}

@@ -1,7 +1,7 @@
 -- Which entries of the list of accepted lines are stale, and what is done about them.
 use Rattle.std.specs.Prelude.{◌≡◌, ◌⊎◌, false, List, [], ◌++◌, ℕ, codes, filter}
 use Rattle.std.specs.List.{flat_map}
-use Rattle.dia_accepted.specs.Accepted.{PlainEntry, PlainRecorded, is_about, unused_of}
+use Rattle.dia_accepted.specs.Accepted.{PlainEntry, is_about}
 use Rattle.dia_book.specs.Dictionary.{Dictionary}
 use Rattle.dia_breaking.specs.Sides.{sides}
 use Rattle.dia_policy.specs.declared.Sends.{Sends}
@@ -17,11 +17,12 @@ use Rattle.dia_upgrades.specs.declared.asked.Stale.TheVariants.{Fails, Allowed, 
 use Rattle.dia_upgrades.specs.Asking.{names_of}
 use Rattle.dia_upgrades.specs.Places.{asked_places}
 use Rattle.dia_upgrades.specs.Recorded.{AreRecorded}
+use Rattle.dia_upgrades.specs.Rows.{Row, unused_of}
 
 -- ---- which they are
 
--- what is told of the commands that are asked for, with these policies
-abbrev pub AreRecordedWith : Asked → Dictionary → Dictionary → Sends → Unknown → List PlainRecorded → List PlainRecorded → Type 0
+-- what is reported of the commands that are asked for, with these policies
+abbrev pub AreRecordedWith : Asked → Dictionary → Dictionary → Sends → Unknown → List Row → List Row → Type 0
 AreRecordedWith asked a b sends unknown recorded apart = AreRecorded (sides a b sends unknown) false asked.meaning (asked_places a (names_of asked)) recorded apart
 
 -- of entries that accept no line of the answer, those that accept none with these policies, either. They are all, if these are the policies
@@ -30,7 +31,7 @@ abbrev pub AreUnusedWith : Asked → Dictionary → Dictionary → Sends → Unk
 AreUnusedWith asked a b sends unknown list left =
     ((list ≡ []) × (left ≡ []))
     ⊎ (((sends ≡ asked.sends) × (unknown ≡ asked.unknown) × (left ≡ list))
-    ⊎ ((recorded : List PlainRecorded) × (apart : List PlainRecorded) × AreRecordedWith asked a b sends unknown recorded apart × (left ≡ unused_of list (recorded ++ apart))))
+    ⊎ ((recorded : List Row) × (apart : List Row) × AreRecordedWith asked a b sends unknown recorded apart × (left ≡ unused_of list (recorded ++ apart))))
 
 -- with either `--unknown`
 abbrev pub AreUnusedBy : Asked → Dictionary → Dictionary → Sends → List PlainEntry → List PlainEntry → Type 0
@@ -48,9 +49,9 @@ AreLookedFor Fails asked a b list stale = AreUnused asked a b list stale
 AreLookedFor Allowed asked a b list stale = AreUnused asked a b list stale
 AreLookedFor Ignored asked a b list stale = stale ≡ []
 
--- an entry is stale if it is about a command that is asked for, and accepts none of these lines, which are told, and no line that is told with
+-- an entry is stale if it is about a command that is asked for, and accepts none of these lines, which are reported, and no line that is reported with
 -- any `--sends` and either `--unknown`
-abbrev pub AreStale : Asked → Dictionary → Dictionary → List PlainEntry → List PlainRecorded → List PlainRecorded → List PlainEntry → Type 0
+abbrev pub AreStale : Asked → Dictionary → Dictionary → List PlainEntry → List Row → List Row → List PlainEntry → Type 0
 AreStale asked a b list recorded apart stale =
     AreLookedFor asked.stale asked a b (filter (is_about (names_of asked)) (unused_of list (recorded ++ apart))) stale
 
@@ -65,7 +66,7 @@ failing Ignored stale = []
 abbrev pub stale_line : PlainEntry → List ℕ
 stale_line e = line (codes "stale: " ++ e.words)
 
--- what is written of them behind all lines: nothing as JSON
+-- what is written of them after all lines: nothing as JSON
 abbrev pub stale_text : Form → List PlainEntry → List ℕ
 stale_text Text stale = flat_map stale_line stale
 stale_text (Json names) stale = []

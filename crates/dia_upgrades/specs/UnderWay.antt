@@ -1,8 +1,9 @@
 -- Lines that are found one after another: what is known of them, and what is written.
-use Rattle.std.specs.Prelude.{◌≡◌, ℕ, ◌⊎◌, ◌+◌, ◌<◌, ◌^◌, ◌==◌, ◌&&◌, Bool, true, false, if◌then◌else◌, List, [], ◌∷◌, ◌++◌, length, map, codes, string_bytes, Option, Some, None, Result, Ok, Err}
+use Rattle.std.specs.Prelude.{◌≡◌, ℕ, ◌⊎◌, ◌+◌, ◌<◌, ◌^◌, ◌==◌, ◌&&◌, Bool, true, false, if◌then◌else◌, List, [], ◌∷◌, ◌++◌, length, map, string_bytes, Option, Some, None, Result, Ok, Err}
 use Rattle.std.specs.Global.{Global, Vec}
 use Rattle.std.specs.declared.string.String.{String}
 use Rattle.std.specs.List.{list_any}
+use Rattle.std.specs.Option.{option_map}
 use Rattle.std.specs.Io.KnownBytes.{Appends}
 use Rattle.dia_book.specs.Dictionary.{Dictionary}
 use Rattle.dia_book.specs.declared.book.Book.{Ghosts as Reads}
@@ -15,20 +16,19 @@ use Rattle.dia_io.specs.declared.RunFault.TheVariants.{Device, NoMemory}
 use Rattle.dia_io.specs.Writing.{AppendsFront}
 use Rattle.dia_dict.specs.declared.IndexedBook.{IndexedBook}
 use Rattle.dia_run.specs.Texts.{line}
-use Rattle.dia_accepted.specs.Accepted.{PlainEntry, PlainRecorded, kept, left_of, plain_entry, plain_recorded}
+use Rattle.dia_accepted.specs.Accepted.{PlainEntry, PlainRecorded, plain_entry, plain_recorded}
 use Rattle.dia_accepted.specs.declared.list.Entry.{Entry}
 use Rattle.dia_accepted.specs.declared.recorded.Recorded.{Recorded}
 use Rattle.dia_accepted.specs.declared.counting.Causes.{Causes}
-use Rattle.dia_accepted.specs.Causes.{has_cause, once_of}
+use Rattle.dia_accepted.specs.Causes.{has_cause, once_of as recorded_once}
+use Rattle.dia_accepted.specs.Seen.{AreCauses as RecordedCauses}
 use Rattle.dia_accepted.specs.Words.{cause_text}
-use Rattle.dia_accepted.specs.Seen.{AreCauses, HasSeen}
 use Rattle.dia_breaking.specs.declared.line.Breaks.{Breaks}
 use Rattle.dia_breaking.specs.declared.line.Line.{Line}
 use Rattle.dia_breaking.specs.declared.upgrade.Upgrade.{Upgrade}
 use Rattle.dia_breaking.specs.Messages.{IsLineMessage, Stock}
 use Rattle.dia_breaking.specs.Sides.{Sides}
 use Rattle.dia_breaking.specs.Upgrades.{other_length_of, sides_of, stock_of}
-use Rattle.dia_breaking.specs.Words.{words_of}
 use Rattle.dia_upgrades.specs.declared.asked.Asked.{Asked}
 use Rattle.dia_upgrades.specs.declared.asked.Form.{Form}
 use Rattle.dia_upgrades.specs.declared.pending.Pending.{Pending}
@@ -44,7 +44,8 @@ use Rattle.dia_upgrades.specs.Forms.{said}
 use Rattle.dia_upgrades.specs.Outcome.{IsBreakingOutcome, IsListed, accepted_of, counted, nothing_for}
 use Rattle.dia_upgrades.specs.Report.{IsReport}
 use Rattle.dia_upgrades.specs.Stale.{failing, stale_text}
-use Rattle.dia_upgrades.specs.Recorded.{AreParts, AreRecorded, IsAfter, IsLineRecorded, IsRecordedOf, written}
+use Rattle.dia_upgrades.specs.Recorded.{AreParts, AreRecorded, IsAfter, IsLineRecorded, IsRecordedOf, causes_written, says_of, written}
+use Rattle.dia_upgrades.specs.Rows.{AreCauses, HasSeen, Row, digits_line, kept, left_of}
 
 -- ---- what is put
 
@@ -52,7 +53,7 @@ use Rattle.dia_upgrades.specs.Recorded.{AreParts, AreRecorded, IsAfter, IsLineRe
 abbrev pub IsPut : Option (List ℕ) → Option (List ℕ) → Pending → List ℕ → Type 0
 IsPut begun put pending text = (out : List ℕ) × Appends begun put out × (text ≡ out ++ pending.bytes.items)
 
--- what stands where a call fails of a text that was to be put and to be pending
+-- what is written where a call fails of a text that was to be put and to be pending
 abbrev pub Occurs : RunFault → Option (List ℕ) → Option (List ℕ) → Pending → List ℕ → Type 0
 Occurs Device begun put pending text = AppendsFront begun put text
 Occurs NoMemory begun put pending text = IsPut begun put pending text
@@ -62,7 +63,7 @@ abbrev pub OccursPut : RunFault → Option (List ℕ) → Option (List ℕ) → 
 OccursPut Device begun put text = AppendsFront begun put text
 OccursPut NoMemory begun put text = Appends begun put text
 
--- the same of a call that puts what is pending, behind one that ended so
+-- the same of a call that puts what is pending, after one that ended so
 abbrev pub OccursAfter : {U : Type 0} → Result U RunFault → RunFault → Option (List ℕ) → Option (List ℕ) → Pending → Type 0
 OccursAfter (Err Device) fault put new pending = (fault ≡ Device) × (new ≡ put)
 OccursAfter (Err NoMemory) fault put new pending = (begun : Option (List ℕ)) (text : List ℕ) → IsPut begun put pending text → OccursPut fault begun new text
@@ -70,9 +71,11 @@ OccursAfter (Ok u) Device put new pending = (begun : Option (List ℕ)) (text : 
 OccursAfter (Ok u) NoMemory put new pending = ⊥
 
 -- the digits of a message, on a line of their own
+abbrev pub plain_digits : Option (String Global) → Option (List ℕ)
+plain_digits digits = option_map (λ d. string_bytes d) digits
+
 abbrev pub digits_text : Option (String Global) → List ℕ
-digits_text None = []
-digits_text (Some digits) = line (codes "  " ++ string_bytes digits)
+digits_text digits = digits_line (plain_digits digits)
 
 -- the text of a line that is written now
 abbrev pub shown_text : Option Shown → List ℕ
@@ -80,12 +83,12 @@ shown_text None = []
 shown_text (Some shown) = line (string_bytes shown.words) ++ digits_text shown.digits
 
 -- what is written of lines as they are found: with `--once` nothing
-abbrev pub text_shown : Asked → List PlainRecorded → List ℕ
+abbrev pub text_shown : Asked → List Row → List ℕ
 text_shown asked left = if asked.once then [] else written asked left
 
 -- ---- what is known
 
-abbrev pub is_any : List PlainRecorded → Bool
+abbrev pub is_any : List Row → Bool
 is_any [] = false
 is_any (t ∷ recorded) = true
 
@@ -94,30 +97,30 @@ abbrev pub lines_after : Bool → ℕ → ℕ
 lines_after is_other n = if is_other then n else counted (n + 1)
 
 -- the list was asked for these lines, and they are counted
-pub record AreJudged (list : List PlainEntry) (seen : Seen) (recorded apart : List PlainRecorded) : Type 0 where
+pub record AreJudged (list : List PlainEntry) (seen : Seen) (recorded apart : List Row) : Type 0 where
   pub accepting : HasSeen seen.accepting list (recorded ++ apart)
   pub lines_are : seen.lines ≡ counted (length (left_of list recorded))
   pub accepted_are : seen.accepted ≡ counted (length (accepted_of list recorded))
   pub is_some_is : seen.is_some ≡ is_any recorded
 
--- the causes of those that are left are kept
-pub record AreKept (asked : Asked) (forgets : Bool) (list : List PlainEntry) (place visits : ℕ) (seen : Seen) (recorded apart : List PlainRecorded) : Type 0 where
+-- the causes of those that are left are stored
+pub record AreKept (asked : Asked) (forgets : Bool) (list : List PlainEntry) (place visits : ℕ) (seen : Seen) (recorded apart : List Row) : Type 0 where
   pub causes : AreCauses forgets seen.causes (map (kept asked.once) (left_of list recorded)) place visits
   pub meanings : AreCauses forgets seen.meanings (left_of list apart) place visits
 
 -- so these lines are known, the last ones of the command at this place
-pub record AreSeen (asked : Asked) (forgets : Bool) (list : List PlainEntry) (place visits : ℕ) (seen : Seen) (recorded apart : List PlainRecorded) : Type 0 where
+pub record AreSeen (asked : Asked) (forgets : Bool) (list : List PlainEntry) (place visits : ℕ) (seen : Seen) (recorded apart : List Row) : Type 0 where
   pub judged : AreJudged list seen recorded apart
   pub are_kept : AreKept asked forgets list place visits seen recorded apart
 
 -- one more line is known, and this text is written of it
-abbrev pub Sees : Asked → ℕ → Seen → Seen → PlainRecorded → List ℕ → Type 0
-Sees asked place old new t text = (forgets : Bool) (list : List PlainEntry) (visits : ℕ) (recorded apart : List PlainRecorded) → visits < 2 ^ 63
+abbrev pub Sees : Asked → ℕ → Seen → Seen → Row → List ℕ → Type 0
+Sees asked place old new t text = (forgets : Bool) (list : List PlainEntry) (visits : ℕ) (recorded apart : List Row) → visits < 2 ^ 63
     → AreSeen asked forgets list place visits old recorded apart → AreSeen asked forgets list place visits new (recorded ++ t ∷ []) apart × (text ≡ text_shown asked (left_of list (t ∷ [])))
 
 -- these more lines are known, of meanings that aren't shown
-abbrev pub SeesApart : Asked → ℕ → Seen → Seen → List PlainRecorded → Type 0
-SeesApart asked place old new more = (forgets : Bool) (list : List PlainEntry) (visits : ℕ) (recorded apart : List PlainRecorded) → visits < 2 ^ 63
+abbrev pub SeesApart : Asked → ℕ → Seen → Seen → List Row → Type 0
+SeesApart asked place old new more = (forgets : Bool) (list : List PlainEntry) (visits : ℕ) (recorded apart : List Row) → visits < 2 ^ 63
     → AreSeen asked forgets list place visits old recorded apart → AreSeen asked forgets list place visits new recorded (apart ++ more)
 
 module _ {A B : Type 0} {a : Reads A} {b : Reads B} where
@@ -125,55 +128,55 @@ module _ {A B : Type 0} {a : Reads A} {b : Reads B} where
   abbrev pub IsMessageIn : Upgrade A B a b → Breaks → Line → List ℕ → Type 0
   IsMessageIn up breaks = IsLineMessage (sides_of up) (stock_of up) breaks.command breaks.sites.items
 
-  -- such a line is told so
-  abbrev pub IsRecordedIn : Upgrade A B a b → Breaks → ℕ → Bool → Line → List PlainRecorded → Type 0
+  -- such a line is reported so
+  abbrev pub IsRecordedIn : Upgrade A B a b → Breaks → ℕ → Bool → Line → List Row → Type 0
   IsRecordedIn up breaks place messages =
-      IsLineRecorded place messages (words_of (sides_of up) (other_length_of up) breaks.command breaks.sites.items) (IsMessageIn up breaks)
+      IsLineRecorded place messages (says_of (sides_of up) (other_length_of up) breaks.command breaks.sites.items) (IsMessageIn up breaks)
 
--- the message that is kept with the cause of these words, of a line that has one behind it or not: nothing, if the cause is known
+-- the message that is stored with the cause of these words, of a line that is followed by one or not: nothing, if the cause is known
 pub record IsMessageFor (causes : Causes) (words : List ℕ) (are : List ℕ → Type 0) (has : Bool) (text : List ℕ) : Type 0 where
-  pub message : List ℕ
-  pub is_after : IsAfter are has message
-  pub is_kept : (forgets : Bool) (recorded : List PlainRecorded) (command visits : ℕ) → AreCauses forgets causes recorded command visits
-      → (message ≡ text) ⊎ (list_any (has_cause (cause_text words)) recorded ≡ true)
+  pub digits : Option (List ℕ)
+  pub is_after : IsAfter are has (digits_line digits)
+  pub is_kept : (forgets : Bool) (recorded : List PlainRecorded) (command visits : ℕ) → RecordedCauses forgets causes recorded command visits
+      → (digits_line digits ≡ text) ⊎ (list_any (has_cause (cause_text words)) recorded ≡ true)
 
 -- ---- both
 
 -- these lines are known, and what is to be written of them is put or pending
-pub record IsUnderWay (asked : Asked) (forgets : Bool) (list : List PlainEntry) (place visits : ℕ) (begun put : Option (List ℕ)) (listing : Listing) (recorded apart : List PlainRecorded) : Type 0 where
+pub record IsUnderWay (asked : Asked) (forgets : Bool) (list : List PlainEntry) (place visits : ℕ) (begun put : Option (List ℕ)) (listing : Listing) (recorded apart : List Row) : Type 0 where
   pub seen : AreSeen asked forgets list place visits listing.seen recorded apart
   pub is_put : IsPut begun put listing.pending (text_shown asked (left_of list recorded))
 
 -- it goes on with these lines, and with these apart
-abbrev pub GoesOn : Asked → ℕ → Option (List ℕ) → Option (List ℕ) → Listing → Listing → List PlainRecorded → List PlainRecorded → Type 0
-GoesOn asked place put_old put old new more others = (forgets : Bool) (list : List PlainEntry) (visits : ℕ) (begun : Option (List ℕ)) (recorded apart : List PlainRecorded) → visits < 2 ^ 63
+abbrev pub GoesOn : Asked → ℕ → Option (List ℕ) → Option (List ℕ) → Listing → Listing → List Row → List Row → Type 0
+GoesOn asked place put_old put old new more others = (forgets : Bool) (list : List PlainEntry) (visits : ℕ) (begun : Option (List ℕ)) (recorded apart : List Row) → visits < 2 ^ 63
     → IsUnderWay asked forgets list place visits begun put_old old recorded apart → IsUnderWay asked forgets list place visits begun put new (recorded ++ more) (apart ++ others)
 
--- it stops behind these lines, or in the last of them
-abbrev pub StopsAfter : Asked → ℕ → RunFault → Option (List ℕ) → Option (List ℕ) → Listing → Listing → List PlainRecorded → Type 0
-StopsAfter asked place fault put_old put old new more = (forgets : Bool) (list : List PlainEntry) (visits : ℕ) (begun : Option (List ℕ)) (recorded apart : List PlainRecorded) → visits < 2 ^ 63
+-- it stops after these lines, or in the last of them
+abbrev pub StopsAfter : Asked → ℕ → RunFault → Option (List ℕ) → Option (List ℕ) → Listing → Listing → List Row → Type 0
+StopsAfter asked place fault put_old put old new more = (forgets : Bool) (list : List PlainEntry) (visits : ℕ) (begun : Option (List ℕ)) (recorded apart : List Row) → visits < 2 ^ 63
     → IsUnderWay asked forgets list place visits begun put_old old recorded apart → Occurs fault begun put new.pending (text_shown asked (left_of list (recorded ++ more)))
 
--- among lines that tell these
-pub record StopsAmong (asked : Asked) (place : ℕ) (fault : RunFault) (put_old put : Option (List ℕ)) (old new : Listing) (is : Line → List PlainRecorded → Type 0) (lines : List Line) : Type 0 where
-  pub more : List PlainRecorded
-  pub rest : List PlainRecorded
+-- among lines that report these
+pub record StopsAmong (asked : Asked) (place : ℕ) (fault : RunFault) (put_old put : Option (List ℕ)) (old new : Listing) (is : Line → List Row → Type 0) (lines : List Line) : Type 0 where
+  pub more : List Row
+  pub rest : List Row
   pub are_parts : AreParts is lines (more ++ rest)
   pub stops : StopsAfter asked place fault put_old put old new more
 
 -- before the lines of a command, or among them
 pub data StopsIn (s : Sides) (k : Stock) (asked : Asked) (lengths : List ℕ) (place : ℕ) (fault : RunFault) (put_old put : Option (List ℕ)) (old new : Listing) : Type 0 where
   before : StopsAfter asked place fault put_old put old new [] → StopsIn s k asked lengths place fault put_old put old new
-  among : (following : ℕ) (more rest others : List PlainRecorded) → IsRecordedOf s k asked.messages asked.meaning lengths place old.budget following (more ++ rest) others
+  among : (following : ℕ) (more rest others : List Row) → IsRecordedOf s k asked.messages asked.meaning lengths place old.budget following (more ++ rest) others
       → StopsAfter asked place fault put_old put old new more → StopsIn s k asked lengths place fault put_old put old new
 
 -- among the lines of commands, of which these are left
-pub record AreFirstLines (s : Sides) (asked : Asked) (list : List PlainEntry) (places : List ℕ) (first : List PlainRecorded) : Type 0 where
+pub record AreFirstLines (s : Sides) (asked : Asked) (list : List PlainEntry) (places : List ℕ) (first : List Row) : Type 0 where
   pub front : List ℕ
   pub back : List ℕ
-  pub recorded : List PlainRecorded
-  pub apart : List PlainRecorded
-  pub more : List PlainRecorded
+  pub recorded : List Row
+  pub apart : List Row
+  pub more : List Row
   pub parts : places ≡ front ++ back
   pub are_recorded : AreRecorded s asked.messages asked.meaning front recorded apart
   pub left_are : left_of list recorded ≡ first ++ more
@@ -182,16 +185,16 @@ pub record AreFirstLines (s : Sides) (asked : Asked) (list : List PlainEntry) (p
 
 -- these are the lines of the commands, they are known, and what is to be written of them is put or pending
 pub record AreUnderWay (s : Sides) (asked : Asked) (forgets : Bool) (list : List PlainEntry) (places : List ℕ) (begun put : Option (List ℕ)) (listing : Listing) : Type 0 where
-  pub recorded : List PlainRecorded
-  pub apart : List PlainRecorded
+  pub recorded : List Row
+  pub apart : List Row
   pub place : ℕ
   pub are_recorded : AreRecorded s asked.messages asked.meaning places recorded apart
   pub under_way : IsUnderWay asked forgets list place (length places) begun put listing recorded apart
 
 -- these are the lines of the commands, they are known, and what is to be written of them is put
 pub record AreAllPut (s : Sides) (asked : Asked) (list : List PlainEntry) (places : List ℕ) (begun put : Option (List ℕ)) (seen : Seen) : Type 0 where
-  pub recorded : List PlainRecorded
-  pub apart : List PlainRecorded
+  pub recorded : List Row
+  pub apart : List Row
   pub forgets : Bool
   pub place : ℕ
   pub visits : ℕ
@@ -199,16 +202,16 @@ pub record AreAllPut (s : Sides) (asked : Asked) (list : List PlainEntry) (place
   pub are_seen : AreSeen asked forgets list place visits seen recorded apart
   pub is_put : Appends begun put (text_shown asked (left_of list recorded))
 
--- what is said where no line is left: nothing, if so many entries fail
+-- what is written where no line is left: nothing, if so many entries fail
 abbrev pub nothing_said : Form → Bool → Bool → ℕ → List ℕ
 nothing_said form meaning is_some failing = if failing == 0 then said form (nothing_for meaning is_some) else []
 
--- what is written behind all lines of what is left of them
+-- what is written after all lines of what is left of them
 abbrev pub lines_end : Asked → ℕ → Bool → List PlainRecorded → ℕ → List ℕ
 lines_end asked lines is_some causes failing =
-    if lines == 0 then nothing_said asked.form asked.meaning is_some failing else (if asked.once then written asked causes else [])
+    if lines == 0 then nothing_said asked.form asked.meaning is_some failing else (if asked.once then causes_written asked causes else [])
 
--- what is written behind all lines, where these entries fail
+-- what is written after all lines, where these entries fail
 abbrev pub end_text : Asked → ℕ → Bool → List PlainRecorded → List PlainEntry → List ℕ
 end_text asked lines is_some causes fails = lines_end asked lines is_some causes (length fails) ++ stale_text asked.form fails
 
@@ -223,10 +226,10 @@ pub record Finds (seen : Seen) (unused stale : Vec Entry) (is : Found) : Type 0 
   pub causes : Vec Recorded
   pub meanings : Vec Recorded
   pub found_is : is ≡ found.Listed unused stale seen.lines seen.accepted causes meanings
-  pub causes_are : (forgets : Bool) (recorded : List PlainRecorded) (command visits : ℕ) → AreCauses forgets seen.causes recorded command visits → map plain_recorded causes.items ≡ once_of recorded
-  pub meanings_are : (forgets : Bool) (recorded : List PlainRecorded) (command visits : ℕ) → AreCauses forgets seen.meanings recorded command visits → map plain_recorded meanings.items ≡ once_of recorded
+  pub causes_are : (forgets : Bool) (recorded : List PlainRecorded) (command visits : ℕ) → RecordedCauses forgets seen.causes recorded command visits → map plain_recorded causes.items ≡ recorded_once recorded
+  pub meanings_are : (forgets : Bool) (recorded : List PlainRecorded) (command visits : ℕ) → RecordedCauses forgets seen.meanings recorded command visits → map plain_recorded meanings.items ≡ recorded_once recorded
 
--- what was found, how it ends, and what was written behind all lines; or why not
+-- what was found, how it ends, and what was written after all lines; or why not
 abbrev pub Ends : Asked → Seen → Vec Entry → Vec Entry → Option (List ℕ) → Option (List ℕ) → Result Listed RunFault → Type 0
 Ends asked seen unused stale old new (Ok listed) = (finds : Finds seen unused stale listed.found) × (listed.exit ≡ exit_of seen.lines (length (fails_of asked stale)))
     × Appends old new (end_text asked seen.lines seen.is_some (map plain_recorded finds.causes.items) (fails_of asked stale))

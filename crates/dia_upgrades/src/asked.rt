@@ -6,16 +6,17 @@ use dia_policy::{Sends, Unknown};
 /// The form in which lines are written.
 #[derive(Clone, Copy)]
 pub enum Form<'a> {
-    /// In words, with a message behind a line on a line of its own.
+    /// In words, each line followed by its message on a line of its own.
     Text,
-    /// As JSON: an object for each line, with the AVPs of the two dictionaries. What is said of the whole answer isn't written.
+    /// As JSON: an object for each line, with the AVPs of the two dictionaries. What words report of the whole answer isn't
+    /// written.
     Json(&'a Names),
 }
 
 /// What is done about stale entries of the list of accepted lines.
 #[derive(Clone, Copy)]
 pub enum Stale {
-    /// They are written behind all lines, and where there is one the answer is no.
+    /// They are written after all lines, and where there is one the answer is no.
     Fails,
     /// They are found, and don't change the answer.
     Allowed,

@@ -28,8 +28,8 @@ use std::alloc::Global;
 /// `nothing differs` and `nothing else differs`. It answers how it ended, and a report: how many lines and causes there are,
 /// which lines of the list accept nothing, and, without `meaning`, the AVPs that are read as another format.
 ///
-/// Lines are written as they are found, in whatever pieces the sink takes, and dropped: only their causes are kept. With `once`
-/// they are written behind all.
+/// Lines are written as they are found, in whatever pieces the sink takes, and dropped: only their causes are stored. With `once`
+/// they are written after all.
 pub fn breaking<S: Sink>(
     alloc: Global,
     asked: Asked<'_>,
@@ -41,8 +41,8 @@ pub fn breaking<S: Sink>(
         (λ reported. (text : List ℕ) × IsBreakingOutcome asked.entry inputs.now text reported.exit
         × IsReport ⟦<IndexedBook as Book>⟧.meaning asked.entry inputs.now reported.report text reported.exit
         × Appends (S.written sink.old) (S.written sink.new) text) }
-    // Where it answers yes, nothing breaks, or nothing but what the list accepts, and it has said which; with `meaning` nothing
-    // is read as another format, either, but for what the list accepts.
+    // Where it answers yes, nothing breaks, or nothing but what the list accepts, and it has written which; with `meaning`
+    // nothing is read as another format, either, but for what the list accepts.
     ensures yes { IfOk result (λ reported. reported.exit ≡ Exit.Yes → (recorded : List ℕ) × IsSafeUpgrade asked.entry inputs.now recorded
         × Appends (S.written sink.old) (S.written sink.new) recorded) }
     // Where it answers no, it has written the lines that the list doesn't accept, and at least one.

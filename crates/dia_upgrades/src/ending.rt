@@ -1,4 +1,4 @@
-//! What is written behind all lines, and of inputs that are refused.
+//! What is written after all lines, and of inputs that are refused.
 
 ghost use Rattle.std.specs.Prelude.{◌≡◌, ◌↔◌, IfErr, IfOk, IsErr, IsTrue, List, ℕ, Option, Err, OnOk, ◌++◌, length, map, string_bytes, true};
 ghost use Rattle.std.specs.List.{flat_map};
@@ -9,8 +9,8 @@ ghost use Rattle.dia_run.specs.Texts.{line};
 ghost use Rattle.dia_accepted.specs.Accepted.{plain_entry, plain_recorded};
 ghost use Rattle.dia_upgrades.specs.Outcome.{nothing_for};
 ghost use Rattle.dia_upgrades.specs.Stale.{failing, stale_line, stale_text};
-ghost use Rattle.dia_upgrades.specs.Forms.{object_in, said};
-ghost use Rattle.dia_upgrades.specs.Recorded.{recorded_text, written};
+ghost use Rattle.dia_upgrades.specs.Forms.{cause_object_in, said};
+ghost use Rattle.dia_upgrades.specs.Recorded.{causes_written, recorded_text};
 ghost use Rattle.dia_upgrades.specs.UnderWay.{Ends, IsPut, end_text, exit_of, lines_end, nothing_said};
 
 use crate::asked::{Asked, Form, Stale};
@@ -22,7 +22,7 @@ use dia_breaking_json::{Names, line_json};
 use dia_io::{Exit, Failed, RunFault, Sink, put_all};
 use std::alloc::{AllocError, Global};
 
-/// Writes what stands behind all lines, and answers what was found.
+/// Writes what follows all lines, and answers what was found.
 pub(crate) fn ended<S: Sink>(
     alloc: Global,
     asked: Asked<'_>,
@@ -87,7 +87,7 @@ fn failing_count(stale: Stale, entries: &[Entry]) -> usize
     failing(stale, entries).len()
 }
 
-/// Writes what stands behind all lines, and then the stale entries that fail. Where memory is refused, nothing is written.
+/// Writes what follows all lines, and then the stale entries that fail. Where memory is refused, nothing is written.
 fn put_ending<S: Sink>(
     alloc: Global,
     asked: Asked<'_>,
@@ -140,7 +140,7 @@ fn push_stale(text: &mut String, entry: &Entry) -> Result<(), AllocError>
     write!(text, "stale: {words}\n")
 }
 
-/// Writes that no line is left, unless entries fail; or the causes, where each is told once. Where memory is refused, nothing is
+/// Writes that no line is left, unless entries fail; or the causes, where each has one line. Where memory is refused, nothing is
 /// written.
 fn put_end<S: Sink>(
     alloc: Global,
@@ -170,7 +170,7 @@ fn put_end<S: Sink>(
     Ok(())
 }
 
-/// Writes the causes, of which each is told once.
+/// Writes the causes, of which each has one line.
 fn put_once<S: Sink>(
     alloc: Global,
     asked: Asked<'_>,
@@ -180,9 +180,9 @@ fn put_once<S: Sink>(
     requires sound { ¬ IsTrue (S.has_failed sink.old) }
     requires once { asked.once ≡ true }
     ensures put { OnOk result (Appends (S.written sink.old) (S.written sink.new)
-        (written asked.entry (map plain_recorded causes.now))) }
+        (causes_written asked.entry (map plain_recorded causes.now))) }
     ensures front { result ≡ Err Device → AppendsFront (S.written sink.old) (S.written sink.new)
-        (written asked.entry (map plain_recorded causes.now)) }
+        (causes_written asked.entry (map plain_recorded causes.now)) }
     ensures device { (result ≡ Err Device) ↔ IsTrue (S.has_failed sink.new) }
     ensures no_memory { result ≡ Err NoMemory → S.written sink.new ≡ S.written sink.old }
 {
@@ -198,7 +198,7 @@ fn put_once<S: Sink>(
 
 /// The objects of causes.
 fn causes_json(alloc: Global, names: &Names, causes: &[Recorded]) -> Result<String, AllocError>
-    ensures { IfOk result (λ text. string_bytes text ≡ flat_map (object_in names.now true) (map plain_recorded causes.now)) }
+    ensures { IfOk result (λ text. string_bytes text ≡ flat_map (cause_object_in names.now) (map plain_recorded causes.now)) }
 {
     let mut text = String::new(alloc);
     for recorded in causes {
@@ -214,7 +214,7 @@ fn push_cause(
     names: &Names,
     recorded: &Recorded,
 ) -> Result<(), AllocError>
-    ensures { OnOk result (string_bytes text.new ≡ string_bytes text.old ++ object_in names.now true (plain_recorded recorded.now)) }
+    ensures { OnOk result (string_bytes text.new ≡ string_bytes text.old ++ cause_object_in names.now (plain_recorded recorded.now)) }
 {
     let object = line_json(
         alloc,
@@ -256,7 +256,7 @@ fn nothing_left(is_some: bool, meaning: bool) -> &'static str
     }
 }
 
-/// Writes a line for each cause, with its message behind it, if it has one.
+/// Writes a line for each cause, followed by its message, if it has one.
 fn put_causes<S: Sink>(alloc: Global, causes: &[Recorded], sink: &mut S) -> Result<(), Failed>
     requires { ¬ IsTrue (S.has_failed sink.old) }
     ensures put { OnOk result (Appends (S.written sink.old) (S.written sink.new) (recorded_text (map plain_recorded causes.now))) }

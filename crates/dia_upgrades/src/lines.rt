@@ -6,12 +6,13 @@ ghost use Rattle.dia_breaking.specs.Upgrades.{facts_of, sides_of, stock_of};
 ghost use Rattle.dia_breaking.specs.Confirmed.{most_checked_together};
 ghost use Rattle.std.specs.Io.KnownBytes.{Appends};
 ghost use Rattle.dia_io.specs.declared.RunFault.TheVariants.{Device};
-ghost use Rattle.dia_accepted.specs.Accepted.{PlainEntry, PlainRecorded, plain_entry};
+ghost use Rattle.dia_accepted.specs.Accepted.{PlainEntry, plain_entry};
 ghost use Rattle.dia_upgrades.specs.declared.asked.Asked.{Asked as AnyAsked};
 ghost use Rattle.dia_upgrades.specs.UnderWay.{AreAllPut, AreFirstLines, AreUnderWay, GoesOn, IsPut, IsRecordedIn, IsUnderWay};
 ghost use Rattle.dia_upgrades.specs.UnderWay.{SeesApart, Occurs, OccursAfter, OccursPut, StopsAmong, StopsIn, text_shown};
 ghost use Rattle.dia_upgrades.specs.Places.{IsEachNew};
 ghost use Rattle.dia_upgrades.specs.Recorded.{AreParts, IsRecordedOf};
+ghost use Rattle.dia_upgrades.specs.Rows.{Row};
 
 use crate::asked::Asked;
 use crate::naming::are_distinct;
@@ -49,7 +50,7 @@ pub(crate) fn put_lines<'l, A: Book, B: Book, S: Sink>(
     requires places { All (λ place. place < length (sides_of upgrade.now).sender.commands) places.now }
     ensures all { IfOk result (λ listing. AreAllPut (sides_of upgrade.now) asked.entry (map plain_entry list.now) places.now
         (S.written sink.old) (S.written sink.new) listing.value.seen) }
-    ensures front { IfErr result (λ fault. (first : List PlainRecorded)
+    ensures front { IfErr result (λ fault. (first : List Row)
         × AreFirstLines (sides_of upgrade.now) asked.entry (map plain_entry list.now) places.now first
         × OccursPut fault (S.written sink.old) (S.written sink.new) (text_shown asked.entry first)) }
     ensures device { (result ≡ Err Device) ↔ IsTrue (S.has_failed sink.new) }
@@ -61,7 +62,7 @@ pub(crate) fn put_lines<'l, A: Book, B: Book, S: Sink>(
     Ok(listing)
 }
 
-/// No line is listed yet. What is known of lines owns much, so it stands in a box.
+/// No line is listed yet. What is known of lines owns much, so it is in a box.
 fn begun(alloc: Global, list: &[Entry]) -> Result<Box<Listing<'_>>, AllocError>
     ensures budget { IfOk result (λ listing. listing.value.budget ≡ most_checked_together) }
     ensures way { IfOk result (λ listing. (asked : AnyAsked) (forgets : Bool) (put : Option (List ℕ))
@@ -120,7 +121,7 @@ fn put_commands<A: Book, B: Book, S: Sink>(
     ensures stops { IfErr result (λ fault. (list : List PlainEntry) (begun : Option (List ℕ)) (place : ℕ) → (forgets ≡ true → IsEachNew places.now)
         → listing.old.budget ≡ most_checked_together
         → IsUnderWay asked.entry forgets list place 0 begun (S.written sink.old) listing.old [] []
-        → (first : List PlainRecorded) × AreFirstLines (sides_of upgrade.now) asked.entry list places.now first
+        → (first : List Row) × AreFirstLines (sides_of upgrade.now) asked.entry list places.now first
         × Occurs fault begun (S.written sink.new) listing.new.pending (text_shown asked.entry first)) }
     ensures device { (result ≡ Err Device) ↔ IsTrue (S.has_failed sink.new) }
 {
@@ -142,7 +143,7 @@ fn put_command<A: Book, B: Book, S: Sink>(
 ) -> Result<(), RunFault>
     requires sound { ¬ IsTrue (S.has_failed sink.old) }
     requires place { place < length (sides_of upgrade.now).sender.commands }
-    ensures all { OnOk result ((recorded apart : List PlainRecorded)
+    ensures all { OnOk result ((recorded apart : List Row)
         × IsRecordedOf (sides_of upgrade.now) (stock_of upgrade.now) asked.entry.messages asked.entry.meaning
         (facts_of upgrade.now).lengths place listing.old.budget listing.new.budget recorded apart
         × GoesOn asked.entry place (S.written sink.old) (S.written sink.new) listing.old listing.new recorded apart) }
@@ -172,7 +173,7 @@ fn put_each<A: Book, B: Book, S: Sink>(
     asked: Asked<'_>,
 ) -> Result<(), RunFault>
     requires { ¬ IsTrue (S.has_failed sink.old) }
-    ensures all { OnOk result ((recorded : List PlainRecorded)
+    ensures all { OnOk result ((recorded : List Row)
         × AreParts (IsRecordedIn upgrade.now breaks.now place asked.entry.messages) lines.now recorded
         × GoesOn asked.entry place (S.written sink.old) (S.written sink.new) listing.old listing.new recorded []) }
     ensures stops { IfErr result (λ fault. StopsAmong asked.entry place fault (S.written sink.old) (S.written sink.new)
@@ -186,7 +187,7 @@ fn put_each<A: Book, B: Book, S: Sink>(
     Ok(())
 }
 
-/// Puts a line of a command, unless the list accepts it or each cause is told once.
+/// Puts a line of a command, unless the list accepts it or each cause has one line.
 fn put_line<A: Book, B: Book, S: Sink>(
     alloc: Global,
     listing: &mut Listing<'_>,
@@ -198,7 +199,7 @@ fn put_line<A: Book, B: Book, S: Sink>(
     asked: Asked<'_>,
 ) -> Result<(), RunFault>
     requires { ¬ IsTrue (S.has_failed sink.old) }
-    ensures all { OnOk result ((t : PlainRecorded)
+    ensures all { OnOk result ((t : Row)
         × IsRecordedIn upgrade.now breaks.now place asked.entry.messages line.now (t ∷ [])
         × GoesOn asked.entry place (S.written sink.old) (S.written sink.new) listing.old listing.new (t ∷ []) []) }
     ensures stops { IfErr result (λ fault. StopsAmong asked.entry place fault (S.written sink.old) (S.written sink.new)
@@ -228,7 +229,7 @@ fn see_each_apart<A: Book, B: Book>(
     lines: &[Line],
     place: usize,
 ) -> Result<(), AllocError>
-    ensures { OnOk result ((others : List PlainRecorded)
+    ensures { OnOk result ((others : List Row)
         × AreParts (IsRecordedIn upgrade.now breaks.now place false) lines.now others
         × ((asked : AnyAsked) → SeesApart asked place seen.old seen.new others)) }
 {
@@ -247,7 +248,7 @@ fn see_apart<A: Book, B: Book>(
     line: &Line,
     place: usize,
 ) -> Result<(), AllocError>
-    ensures { OnOk result ((others : List PlainRecorded)
+    ensures { OnOk result ((others : List Row)
         × IsRecordedIn upgrade.now breaks.now place false line.now others
         × ((asked : AnyAsked) → SeesApart asked place seen.old seen.new others)) }
 {

@@ -2,7 +2,7 @@
 
 use dia_io::{Failed, Sink};
 
-/// Takes all, and keeps nothing.
+/// Takes all, and stores nothing.
 #[derive(Drop)]
 pub(crate) struct Nowhere;
 

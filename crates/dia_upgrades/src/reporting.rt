@@ -18,7 +18,7 @@ pub enum Found {
         lines: usize,
         /// How many the list accepts, counted in the same way.
         accepted: usize,
-        /// A line for each cause of these. It has its message only where each cause is told once.
+        /// A line for each cause of these. It has its message only where each cause has one line.
         causes: Vec<Recorded>,
         /// Where meanings aren't asked for: a line for each AVP that the second side reads as another format, but for those
         /// that the list accepts.

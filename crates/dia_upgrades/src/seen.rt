@@ -23,13 +23,13 @@ pub(crate) struct Seen<'l> {
 }
 
 impl<'l> Seen<'l> {
-    ghost use Rattle.std.specs.Prelude.{◌≡◌, ◌<◌, ◌+◌, ◌++◌, ◌∷◌, Bool, List, ℕ, [], IfOk, OnOk, map, true, false};
+    ghost use Rattle.std.specs.Prelude.{◌≡◌, ◌<◌, ◌+◌, ◌++◌, ◌∷◌, Bool, List, ℕ, [], IfOk, None, OnOk, map, true, false};
     ghost use Rattle.std.specs.List.{list_any};
-    ghost use Rattle.dia_accepted.specs.Accepted.{PlainEntry, PlainRecorded, accepts, kept, plain_entry};
-    ghost use Rattle.dia_accepted.specs.Seen.{is_command};
+    ghost use Rattle.dia_accepted.specs.Accepted.{PlainEntry, accepts, plain_entry};
     ghost use Rattle.dia_upgrades.specs.declared.asked.Asked.{Asked as AnyAsked};
     ghost use Rattle.dia_upgrades.specs.UnderWay.{AreJudged, AreSeen, SeesApart};
-    ghost use Rattle.dia_upgrades.specs.Recorded.{recorded_as};
+    ghost use Rattle.dia_upgrades.specs.Recorded.{Says, row_of};
+    ghost use Rattle.dia_upgrades.specs.Rows.{Row, is_command, kept};
 
     /// No line is known.
     pub fn new(alloc: Global, list: &'l [Entry]) -> Result<Seen<'l>, AllocError>
@@ -48,7 +48,7 @@ impl<'l> Seen<'l> {
 
     /// Begins with the lines of the command at a place. `forgets` says whether none of the places so far comes again.
     pub fn begin(&mut self, forgets: bool)
-        ensures { (asked : AnyAsked) (list : List PlainEntry) (before place visits : ℕ) (recorded apart : List PlainRecorded)
+        ensures { (asked : AnyAsked) (list : List PlainEntry) (before place visits : ℕ) (recorded apart : List Row)
             → (forgets ≡ true → (list_any (is_command place) recorded ≡ false) × (list_any (is_command place) apart ≡ false))
             → AreSeen asked forgets list before visits self.old recorded apart
             → AreSeen asked forgets list place (visits + 1) self.new recorded apart }
@@ -57,11 +57,11 @@ impl<'l> Seen<'l> {
         self.meanings.begin(forgets);
     }
 
-    /// A line comes. Answers whether the list accepts it; its cause isn't kept yet.
+    /// A line comes. Answers whether the list accepts it; its cause isn't stored yet.
     pub fn judge(&mut self, alloc: Global, words: &str) -> Result<bool, AllocError>
-        ensures accepted { IfOk result (λ known. (list : List PlainEntry) (recorded apart : List PlainRecorded)
+        ensures accepted { IfOk result (λ known. (list : List PlainEntry) (recorded apart : List Row)
             → AreJudged list self.old recorded apart → known ≡ list_any (accepts words.now) list) }
-        ensures judged { OnOk result ((list : List PlainEntry) (recorded apart : List PlainRecorded) (t : PlainRecorded) → t.words ≡ words.now
+        ensures judged { OnOk result ((list : List PlainEntry) (recorded apart : List Row) (t : Row) → t.words ≡ words.now
             → AreJudged list self.old recorded apart → AreJudged list self.new (recorded ++ t ∷ []) apart) }
         ensures causes { OnOk result (self.new.causes ≡ self.old.causes) }
         ensures meanings { OnOk result (self.new.meanings ≡ self.old.meanings) }
@@ -75,7 +75,8 @@ impl<'l> Seen<'l> {
 
     /// A line of a meaning that isn't asked for comes.
     pub fn see_apart(&mut self, alloc: Global, place: usize, words: &str) -> Result<(), AllocError>
-        ensures { OnOk result ((asked : AnyAsked) → SeesApart asked place self.old self.new (recorded_as place words.now [] ∷ [])) }
+        ensures { OnOk result ((asked : AnyAsked) (says : Says) → says.words ≡ words.now
+            → SeesApart asked place self.old self.new (row_of place says None ∷ [])) }
     {
         let known = self.accepting.accepts(alloc, words)?;
         if known {

@@ -1,18 +1,21 @@
 //! A line of a command: its words and its message.
 
 ghost use Rattle.std.specs.Prelude.{◌≡◌, ◌∷◌, ℕ, IfOk, OnOk, Some, [], string_bytes};
+ghost use Rattle.std.specs.Option.{option_map};
 ghost use Rattle.dia_breaking.specs.Orders.{IsInOrderOf};
-ghost use Rattle.dia_accepted.specs.Accepted.{PlainRecorded};
-ghost use Rattle.dia_upgrades.specs.Recorded.{AreShown, IsAfter, apart_of, has_message, message_line, place_of, recorded_as};
-ghost use Rattle.dia_upgrades.specs.UnderWay.{IsMessageFor, IsMessageIn, IsRecordedIn, Sees, digits_text, shown_text};
+ghost use Rattle.dia_breaking.specs.Upgrades.{other_length_of, sides_of};
+ghost use Rattle.dia_upgrades.specs.Recorded.{AreShown, IsAfter, apart_of, has_message, message_line, place_of};
+ghost use Rattle.dia_upgrades.specs.Recorded.{Says, row_of, says_of};
+ghost use Rattle.dia_upgrades.specs.UnderWay.{IsMessageFor, IsMessageIn, IsRecordedIn, Sees, digits_text, plain_digits, shown_text};
 ghost use Rattle.dia_upgrades.specs.Forms.{line_in};
+ghost use Rattle.dia_upgrades.specs.Rows.{Row};
 
 use crate::asked::{Asked, Form};
 use crate::seen::Seen;
 use crate::shown::Shown;
 use dia_accepted::Causes;
 use dia_breaking::{Breaks, Line, Standing, Upgrade};
-use dia_breaking_json::line_json;
+use dia_breaking_json::line_object;
 use dia_dict::Book;
 use std::alloc::{AllocError, Global};
 
@@ -27,7 +30,7 @@ pub(crate) fn see_line<A: Book, B: Book>(
     place: usize,
     asked: Asked<'_>,
 ) -> Result<Option<Shown>, AllocError>
-    ensures { IfOk result (λ shown. (t : PlainRecorded)
+    ensures { IfOk result (λ shown. (t : Row)
         × IsRecordedIn upgrade.now breaks.now place asked.entry.messages line.now (t ∷ [])
         × Sees asked.entry place seen.old seen.new t (shown_text shown)) }
 {
@@ -55,25 +58,30 @@ pub(crate) fn see_line<A: Book, B: Book>(
     let digits = digits_of(alloc, upgrade, breaks, line, messages)?;
     let none = String::new(alloc);
     seen.causes.add(alloc, place, recorded, none)?;
-    let shown = in_form(alloc, asked, words, digits)?;
+    let shown = in_form(alloc, asked, upgrade, breaks, line, words, digits)?;
     Ok(Some(shown))
 }
 
 /// A line in the form that is asked for.
-fn in_form(
+fn in_form<A: Book, B: Book>(
     alloc: Global,
     asked: Asked<'_>,
+    upgrade: &Upgrade<'_, A, B>,
+    breaks: &Breaks,
+    line: &Line,
     words: String,
     digits: Option<String>,
 ) -> Result<Shown, AllocError>
-    ensures { IfOk result (λ shown. (place : ℕ) → shown_text (Some shown)
-        ≡ line_in asked.entry.form asked.entry.once (recorded_as place (string_bytes words) (digits_text digits))) }
+    ensures { IfOk result (λ shown. (place : ℕ) (says : Says) → says ≡ says_of
+        (sides_of upgrade.now) (other_length_of upgrade.now) breaks.now.command breaks.now.sites.items line.now
+        → says.words ≡ string_bytes words
+        → shown_text (Some shown) ≡ line_in asked.entry.form (row_of place says (plain_digits digits))) }
 {
     match asked.form {
         Form::Text => Ok(Shown { words, digits }),
         Form::Json(names) => {
-            let message = text_of(alloc, &digits)?;
-            let words = line_json(alloc, names, asked.once, words.as_str(), message.as_str())?;
+            let parts = upgrade.parts(alloc, breaks, line)?;
+            let words = line_object(alloc, names, &parts, digits_in(&digits))?;
             Ok(Shown {
                 words,
                 digits: None,
@@ -82,7 +90,16 @@ fn in_form(
     }
 }
 
-/// The message of a line that is to be kept for its cause: nothing where the cause is known.
+fn digits_in(digits: &Option<String>) -> Option<&str>
+    ensures { option_map (λ d. d.now) result ≡ plain_digits digits.now }
+{
+    match digits {
+        Some(digits) => Some(digits.as_str()),
+        None => None,
+    }
+}
+
+/// The message of a line that is stored for its cause: nothing where the cause is known.
 fn message_for<A: Book, B: Book>(
     alloc: Global,
     causes: &Causes,
@@ -142,7 +159,7 @@ fn encoded(alloc: Global, bytes: &[u8]) -> Result<String, AllocError>
     hex::encode(alloc, bytes)
 }
 
-/// Whether a line has its message behind it.
+/// Whether a line is followed by its message.
 fn has_message(messages: bool, standing: Standing) -> bool
     ensures { result ≡ has_message messages standing }
 {
@@ -152,7 +169,7 @@ fn has_message(messages: bool, standing: Standing) -> bool
     }
 }
 
-/// The lines of a command that are shown: those of its meanings stand behind the others of their site.
+/// The lines of a command that are shown: those of its meanings follow the others of their site.
 pub(crate) fn shown_of(
     alloc: Global,
     breaks: &Breaks,

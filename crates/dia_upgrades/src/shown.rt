@@ -11,7 +11,7 @@ use dia_io::{Failed, Sink};
 #[derive(Drop)]
 pub(crate) struct Shown {
     pub words: String,
-    /// The digits of the message that stands behind it, if one does.
+    /// The digits of the message that follows it, if one does.
     pub digits: Option<String>,
 }
 

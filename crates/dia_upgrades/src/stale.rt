@@ -1,12 +1,13 @@
 //! The entries of the list of accepted lines that are stale.
 
 ghost use Rattle.std.specs.Prelude.{◌≡◌, ◌<◌, ◌++◌, All, IfOk, List, false, filter, length, map, true};
-ghost use Rattle.dia_accepted.specs.Accepted.{PlainRecorded, is_about, plain_entry, unused_of};
+ghost use Rattle.dia_accepted.specs.Accepted.{is_about, plain_entry};
 ghost use Rattle.dia_breaking.specs.Upgrades.{sides_of};
 ghost use Rattle.dia_upgrades.specs.Asking.{names_of};
 ghost use Rattle.dia_upgrades.specs.Places.{asked_places};
 ghost use Rattle.dia_upgrades.specs.Stale.{AreLookedFor, AreUnused, AreUnusedBy, AreUnusedWith};
 ghost use Rattle.dia_upgrades.specs.Recorded.{AreRecorded};
+ghost use Rattle.dia_upgrades.specs.Rows.{Row, unused_of};
 
 use crate::asked::{Asked, Form, Stale};
 use crate::lines::put_lines;
@@ -118,7 +119,7 @@ fn unused_over<A: Book, B: Book>(
     list: &[Entry],
 ) -> Result<Vec<Entry>, AllocError>
     requires { All (λ place. place < length (sides_of upgrade.now).sender.commands) commands.now }
-    ensures { IfOk result (λ left. (recorded : List PlainRecorded) × (apart : List PlainRecorded)
+    ensures { IfOk result (λ left. (recorded : List Row) × (apart : List Row)
         × AreRecorded (sides_of upgrade.now) false asked.entry.meaning commands.now recorded apart
         × (map plain_entry left.items ≡ unused_of (map plain_entry list.now) (recorded ++ apart))) }
 {

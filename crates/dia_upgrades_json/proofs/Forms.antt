@@ -2,7 +2,7 @@
 use Rattle.std.proofs.Common.{ℕ, List, [], ◌++◌, refl}
 use Rattle.std.specs.Prelude.{filter}
 use Rattle.std.specs.Borrow.{Bor}
-use Rattle.dia_accepted.specs.Accepted.{PlainEntry, PlainRecorded, is_about, unused_of}
+use Rattle.dia_accepted.specs.Accepted.{PlainEntry, is_about}
 use Rattle.dia_book.specs.Dictionary.{Dictionary}
 use Rattle.dia_breaking_json.specs.declared.Names.{Names}
 use Rattle.dia_io.specs.declared.Inputs.{Inputs}
@@ -12,6 +12,7 @@ use Rattle.dia_upgrades.specs.declared.asked.Stale.TheVariants.{Fails, Allowed, 
 use Rattle.dia_upgrades.specs.Asking.{names_of}
 use Rattle.dia_upgrades.specs.Stale.{AreLookedFor, AreStale}
 use Rattle.dia_upgrades.specs.Outcome.{AreRead, AreRefused, IsSafeUpgrade, IsUnsafeUpgrade, NoneIsStale, accepted, bad_accepted, bad_first, bad_name, bad_second, none_there, safe}
+use Rattle.dia_upgrades.specs.Rows.{Row, unused_of}
 use Rattle.dia_upgrades_json.specs.Objects.{as_json}
 
 module _ (asked : Asked) (names : Bor Names) (inputs : Inputs) where
@@ -23,7 +24,7 @@ module _ (asked : Asked) (names : Bor Names) (inputs : Inputs) where
   looked_in_words Allowed a b list stale are = are
   looked_in_words Ignored a b list stale are = are
 
-  stale_in_words : (a b : Dictionary) (list : List PlainEntry) (recorded apart : List PlainRecorded) (stale : List PlainEntry) → AreStale (as_json asked names) a b list recorded apart stale
+  stale_in_words : (a b : Dictionary) (list : List PlainEntry) (recorded apart : List Row) (stale : List PlainEntry) → AreStale (as_json asked names) a b list recorded apart stale
       → AreStale asked a b list recorded apart stale
   stale_in_words a b list recorded apart stale are = looked_in_words asked.stale a b (filter (is_about (names_of asked)) (unused_of list (recorded ++ apart))) stale are
 

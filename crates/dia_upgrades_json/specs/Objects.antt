@@ -1,5 +1,5 @@
--- The objects of `breaking` as JSON: those of lines, and the one behind them.
-use Rattle.std.specs.Prelude.{◌≡◌, ℕ, Bool, List, [], ◌++◌, codes, length, map}
+-- The objects of `breaking` as JSON: those of lines, and the one after them.
+use Rattle.std.specs.Prelude.{◌≡◌, ℕ, Bool, true, if◌then◌else◌, List, [], ◌++◌, codes, length, map}
 use Rattle.std.specs.Borrow.{Bor}
 use Rattle.std.specs.List.{flat_map}
 use Rattle.serde_json.specs.Written.{compact_text}
@@ -8,6 +8,7 @@ use Rattle.dia_book.specs.Dictionary.{Dictionary}
 use Rattle.dia_breaking_json.specs.declared.Names.{Names}
 use Rattle.dia_breaking_json.specs.Fields.{Field, object_of, text_field}
 use Rattle.dia_breaking_json.specs.Keys.{key_in, key_named}
+use Rattle.dia_breaking_json.specs.LineObjects.{line_object}
 use Rattle.dia_breaking_json.specs.Lines.{line_json, unsigned_field}
 use Rattle.dia_inclusion.specs.Proposed.{IsFirstUnknown}
 use Rattle.dia_explain_places.specs.Places.{column_at, line_at}
@@ -22,6 +23,7 @@ use Rattle.dia_upgrades.specs.declared.list.BadList.{BadList}
 use Rattle.dia_upgrades.specs.declared.list.BadList.TheVariants.{TooLong, NotText, Syntax, Limit}
 use Rattle.dia_upgrades.specs.declared.reporting.Found.{Found}
 use Rattle.dia_upgrades.specs.declared.reporting.Found.TheVariants as found
+use Rattle.dia_upgrades.specs.Rows.{Row, once_of}
 use Rattle.dia_upgrades.specs.Stale.{failing}
 
 -- ---- lines
@@ -44,14 +46,19 @@ as_json asked names = record {
   names = asked.names;
 }
 
--- the object of a line over two dictionaries, or of one of `--once`
-abbrev pub object_over : Dictionary → Dictionary → Bool → PlainRecorded → List ℕ
-object_over a b once t = line (line_json (key_named a) (key_named b) once t.words t.message)
+-- the object of a line over two dictionaries
+abbrev pub object_over : Dictionary → Dictionary → Row → List ℕ
+object_over a b row = line (line_object (key_named a) (key_named b) row.parts row.digits)
 
-abbrev pub objects_over : Dictionary → Dictionary → Bool → List PlainRecorded → List ℕ
-objects_over a b once recorded = flat_map (object_over a b once) recorded
+-- that of a cause
+abbrev pub cause_over : Dictionary → Dictionary → PlainRecorded → List ℕ
+cause_over a b t = line (line_json (key_named a) (key_named b) true t.words t.message)
 
--- ---- behind them
+-- those of these lines; with `--once` those of their causes
+abbrev pub objects_over : Dictionary → Dictionary → Bool → List Row → List ℕ
+objects_over a b once rows = if once then flat_map (cause_over a b) (once_of rows) else flat_map (object_over a b) rows
+
+-- ---- after them
 
 -- the object of these members, on a line
 abbrev pub object_line : List Field → List ℕ
@@ -106,7 +113,7 @@ no_commands_fields = refused_fields (codes "breaking") (codes "no command")
 abbrev pub no_command_fields : List ℕ → List Field
 no_command_fields name = no_commands_fields ++ text_field (codes "name") name
 
--- the text of the objects behind those of lines, for what was found: those of the stale entries that fail, and a last one
+-- the text of the objects after those of lines, for what was found: those of the stale entries that fail, and a last one
 abbrev pub IsEnding : Stale → List (List ℕ) → Input → Dictionary → Found → List ℕ → Type 0
 IsEnding about names input a (found.Listed unused stale lines accepted causes meanings) text =
     text ≡ stale_objects (failing about (map plain_entry stale.items)) ++ object_line (counts_fields lines (length causes.items) accepted (length stale.items))

@@ -19,7 +19,7 @@ use Rattle.dia_upgrades.specs.Asking.{names_of}
 use Rattle.dia_upgrades.specs.Outcome.{IsListed}
 use Rattle.dia_upgrades_json.specs.Objects.{AreNamesOf, IsEnding, as_json}
 
--- `breaking` of two dictionaries and a list: the objects that stand in place of its lines, and the one behind them
+-- `breaking` of two dictionaries and a list: the objects in place of its lines, and the one after them
 pub record IsListedJson (asked : Asked) (input : Input) (a b : Dictionary) (text : List ℕ) (exit : Exit) (is : Found) : Type 0 where
   pub names : Bor Names
   pub objects : List ℕ

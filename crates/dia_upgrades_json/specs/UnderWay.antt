@@ -22,7 +22,7 @@ use Rattle.dia_upgrades_json.specs.Begun.{IsJsonBegun, IsJsonBegunOrWhole, IsLis
 use Rattle.dia_upgrades_json.specs.Objects.{IsEnding}
 use Rattle.dia_upgrades_json.specs.Outcome.{IsBreakingJson, IsJsonReport, IsListedJson}
 
--- the object behind those of lines is written, for what was found; or why not
+-- the object after those of lines is written, for what was found; or why not
 abbrev pub Ends : Stale → List (List ℕ) → Input → Dictionary → Listed → Option (List ℕ) → Option (List ℕ) → Result Listed RunFault → Type 0
 Ends about names input a listed old new (Ok ended) = (ended ≡ listed) × (text : List ℕ) × IsEnding about names input a listed.found text × Appends old new text
 Ends about names input a listed old new (Err Device) = (text : List ℕ) × IsEnding about names input a listed.found text × AppendsFront old new text

@@ -32,7 +32,7 @@ pub fn breaking<S: Sink>(
     ensures text { IfOk result (λ reported. (text : List ℕ) × IsBreakingJson asked.entry inputs.now text reported.exit
         × IsJsonReport ⟦<IndexedBook as Book>⟧.meaning asked.entry inputs.now reported.report text reported.exit
         × Appends (S.written sink.old) (S.written sink.new) text) }
-    // Where it answers yes, nothing breaks, or nothing but what the list accepts: `breaking` says which, in these words.
+    // Where it answers yes, nothing breaks, or nothing but what the list accepts: `breaking` writes which, in these words.
     ensures yes { IfOk result (λ reported. reported.exit ≡ Exit.Yes
         → (words : List ℕ) × IsSafeUpgrade asked.entry inputs.now words) }
     // Where it answers no, there are lines that the list doesn't accept: `breaking` writes these words.

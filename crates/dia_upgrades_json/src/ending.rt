@@ -1,4 +1,4 @@
-//! The objects behind those of lines: the stale entries, and how many there are of all; or why nothing was compared.
+//! The objects after those of lines: the stale entries, and how many there are of all; or why nothing was compared.
 
 ghost use Rattle.std.specs.Prelude.{◌≡◌, ◌++◌, IfOk, List, OnOk, codes, map, string_bytes, ℕ};
 ghost use Rattle.dia_breaking_json.specs.Fields.{Adds, Field, fields_text};

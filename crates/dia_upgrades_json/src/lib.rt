@@ -1,4 +1,4 @@
-//! The command `breaking` as JSON (RFC 8259): an object for each line, as it is found, and behind them one with how many there are.
+//! The command `breaking` as JSON (RFC 8259): an object for each line, as it is found, and then one with how many there are.
 #![tactic(auto)]
 
 mod command;

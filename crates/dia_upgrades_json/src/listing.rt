@@ -79,7 +79,7 @@ fn list_lines<'a, A: Book, B: Book, S: Sink>(
     breaking_of(alloc, asked, list, a, b, sink)
 }
 
-/// Writes the object behind all others.
+/// Writes the object after all others.
 fn put_ending<A: Book, S: Sink>(
     alloc: Global,
     asked: Asked<'_>,

@@ -1,7 +1,6 @@
-use Rattle.std.proofs.Common.{Err, ap, map, subst, ◌≡◌, ◌∙◌}
+use Rattle.std.proofs.Common.{ap, subst, ◌∙◌}
 use Rattle.std.proofs.lemmas.Result.{err_from_is_err_and}
 use Rattle.dia_io.specs.Writing.{AppendsFront}
-use Rattle.dia_io.specs.declared.RunFault.TheVariants.{Device}
 use Rattle.dia_upgrades.specs.Stale.{stale_text}
 use Rattle.dia_upgrades.proofs.Puts.{front_after, front_of_more}
 use Rattle.dia_upgrades.proofs.ending.put_ending.Goals as goal

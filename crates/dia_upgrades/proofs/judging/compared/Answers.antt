@@ -1,4 +1,3 @@
-use Rattle.std.proofs.Common.{◌≡◌}
 use Rattle.dia_breaking.specs.Sides.{sides}
 use Rattle.dia_upgrades.proofs.judging.compared.Goals as goal
 

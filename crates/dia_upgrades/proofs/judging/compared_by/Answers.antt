@@ -1,4 +1,4 @@
-use Rattle.std.proofs.Common.{All, ap, map, refl, subst, sym, ◌<◌, ◌∙◌, ℕ, length, List}
+use Rattle.std.proofs.Common.{All, map, refl, subst, sym, ◌<◌, ℕ, length}
 use Rattle.std.proofs.lemmas.Result.{err_from_is_err_and}
 use Rattle.dia_accepted.specs.Accepted.{plain_entry}
 use Rattle.dia_breaking.specs.Sides.{Sides}

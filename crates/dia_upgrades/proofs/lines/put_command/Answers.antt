@@ -2,20 +2,20 @@ use Rattle.std.proofs.Common.{ℕ, false, List, [], ◌++◌, ap, refl, subst, s
 use Rattle.std.specs.Prelude.{IsSome}
 use Rattle.std.proofs.lemmas.List.{append-nil}
 use Rattle.std.proofs.lemmas.Result.{err_from_is_err_and}
-use Rattle.dia_accepted.specs.Accepted.{PlainRecorded}
 use Rattle.dia_book.specs.Dictionary.{Dictionary}
 use Rattle.dia_breaking.specs.Words.{head_at}
 use Rattle.dia_breaking.specs.Upgrades.{facts_of, sender_of, sides_of, stock_of}
 use Rattle.dia_breaking.specs.RecordedMessages.{AreConfirmedWhere}
 use Rattle.dia_breaking.proofs.MessageBytes.{some_bytes}
 use Rattle.dia_breaking.specs.declared.line.Line.{Line}
-use Rattle.dia_upgrades.specs.Recorded.{AreParts, IsRecordedOf, apart_of, number_at, words_at}
+use Rattle.dia_upgrades.specs.Recorded.{AreParts, IsRecordedOf, apart_of, number_at, says_at}
 use Rattle.dia_upgrades.specs.declared.lines.Listing.{Listing}
 use Rattle.dia_upgrades.specs.UnderWay.{GoesOn, IsMessageIn, IsRecordedIn, among, before}
 use Rattle.dia_upgrades.proofs.CommandHeads.{head_occurs}
 use Rattle.dia_upgrades.proofs.Listings.{any_recorded, apart_goes, goes_both, goes_from, stops_after, stops_from, stops_here}
 use Rattle.dia_upgrades.proofs.RecordedCommands.{IsFound, recorded_so}
 use Rattle.dia_upgrades.proofs.lines.put_command.Goals as goal
+use Rattle.dia_upgrades.specs.Rows.{Row}
 
 pub returns-in_err-breaks-clause-stops : goal.returns-in_err-breaks-clause-stops
 returns-in_err-breaks-clause-stops g c =
@@ -44,7 +44,7 @@ returns-in_err-put_each-clause-stops g c =
     let same = found.command ∙ number in
     let some = subst (λ (n : ℕ). IsSome (head_at s.sender n)) (sym number) (head_occurs s.sender (g.met.A.Book.sound (sender_of up)) place c.requires.place) in
     let lengths = (facts_of up).lengths in
-    let words = words_at s lengths breaks.command breaks.sites.items in
+    let says = says_at s lengths breaks.command breaks.sites.items in
     let apart_is = c.apart_of-apart.ensures ∙ ap (apart_of asked.meaning) c.as_slice.ensures.value in
     let is_found : IsFound s k asked.meaning breaks.command c.args.listing.now.budget c.breaks.new.left breaks shown = record {
       are_lines = found.lines some;
@@ -62,7 +62,7 @@ returns-in_err-put_each-clause-stops g c =
     let stops = c.in_err-put_each.ensures.stops in
     let mid : Listing = record { seen = c.args.listing.now.seen; pending = c.args.listing.now.pending; budget = c.breaks.new.left } in
     let recorded = subst (λ (ls : List Line). AreParts (IsRecordedIn up breaks place asked.messages) ls (stops.more ++ stops.rest)) c.as_slice-lines.ensures.value stops.are_parts in
-    let apart = any_recorded place false words (IsMessageIn up breaks) (some_bytes s k breaks.command breaks.sites.items) (apart_of asked.meaning breaks.meanings.items) in
+    let apart = any_recorded place false says (IsMessageIn up breaks) (some_bytes s k breaks.command breaks.sites.items) (apart_of asked.meaning breaks.meanings.items) in
     rw (p.1, p.2)
     (among c.breaks.new.left stops.more stops.rest apart.0
     (recorded_so s k asked.messages asked.meaning lengths place breaks.command c.args.listing.now.budget c.breaks.new.left breaks shown (stops.more ++ stops.rest) apart.0 same is_found recorded apart.1)
@@ -83,7 +83,7 @@ returns-in_err-see_each_apart-clause-stops g c =
     let same = found.command ∙ number in
     let some = subst (λ (n : ℕ). IsSome (head_at s.sender n)) (sym number) (head_occurs s.sender (g.met.A.Book.sound (sender_of up)) place c.requires.place) in
     let lengths = (facts_of up).lengths in
-    let words = words_at s lengths breaks.command breaks.sites.items in
+    let says = says_at s lengths breaks.command breaks.sites.items in
     let apart_is = c.apart_of-apart.ensures ∙ ap (apart_of asked.meaning) c.as_slice.ensures.value in
     let is_found : IsFound s k asked.meaning breaks.command c.args.listing.now.budget c.breaks.new.left breaks shown = record {
       are_lines = found.lines some;
@@ -102,10 +102,10 @@ returns-in_err-see_each_apart-clause-stops g c =
     let mid : Listing = record { seen = c.args.listing.now.seen; pending = c.args.listing.now.pending; budget = c.breaks.new.left } in
     let new : Listing = record { seen = c.see_each_apart.new.seen; pending = c.put_each.new.listing.pending; budget = c.put_each.new.listing.budget } in
     let recorded = subst (λ (ls : List Line). AreParts (IsRecordedIn up breaks place asked.messages) ls more) c.as_slice-lines.ensures.value parts in
-    let apart = any_recorded place false words (IsMessageIn up breaks) (some_bytes s k breaks.command breaks.sites.items) (apart_of asked.meaning breaks.meanings.items) in
+    let apart = any_recorded place false says (IsMessageIn up breaks) (some_bytes s k breaks.command breaks.sites.items) (apart_of asked.meaning breaks.meanings.items) in
     let is_recorded = recorded_so s k asked.messages asked.meaning lengths place breaks.command c.args.listing.now.budget c.breaks.new.left breaks shown more apart.0 same is_found recorded apart.1 in
     rw (p.1, p.2)
-    (among c.breaks.new.left more [] apart.0 (subst (λ (xs : List PlainRecorded). IsRecordedOf s k asked.messages asked.meaning lengths place c.args.listing.now.budget c.breaks.new.left xs apart.0) (sym (append-nil more)) is_recorded)
+    (among c.breaks.new.left more [] apart.0 (subst (λ (xs : List Row). IsRecordedOf s k asked.messages asked.meaning lengths place c.args.listing.now.budget c.breaks.new.left xs apart.0) (sym (append-nil more)) is_recorded)
     (stops_after asked place _ _ c.args.listing.now c.put_each.new.listing new more [] refl (goes_from asked place _ _ c.args.listing.now mid c.put_each.new.listing more [] refl refl goes)))
 
 pub returns-clause-all : goal.returns-clause-all
@@ -122,7 +122,7 @@ returns-clause-all g c =
     let same = found.command ∙ number in
     let some = subst (λ (n : ℕ). IsSome (head_at s.sender n)) (sym number) (head_occurs s.sender (g.met.A.Book.sound (sender_of up)) place c.requires.place) in
     let lengths = (facts_of up).lengths in
-    let words = words_at s lengths breaks.command breaks.sites.items in
+    let says = says_at s lengths breaks.command breaks.sites.items in
     let apart_is = c.apart_of-apart.ensures ∙ ap (apart_of asked.meaning) c.as_slice.ensures.value in
     let is_found : IsFound s k asked.meaning breaks.command c.args.listing.now.budget c.breaks.new.left breaks shown = record {
       are_lines = found.lines some;
@@ -149,5 +149,5 @@ returns-clause-all g c =
       more,
       others,
       subst (λ (n : ℕ). IsRecordedOf s k asked.messages asked.meaning lengths place c.args.listing.now.budget n more others) (sym c.in_ok-put_each.ensures.budget) is_recorded,
-      subst (λ (xs : List PlainRecorded). GoesOn asked place (g.S.Sink.written c.args.sink.now) (g.S.Sink.written c.put_each.new.sink) c.args.listing.now new xs others) (append-nil more) both,
+      subst (λ (xs : List Row). GoesOn asked place (g.S.Sink.written c.args.sink.now) (g.S.Sink.written c.put_each.new.sink) c.args.listing.now new xs others) (append-nil more) both,
     )

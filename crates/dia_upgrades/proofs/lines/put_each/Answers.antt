@@ -2,10 +2,9 @@ use Rattle.std.proofs.Common.{[], List, refl, subst, ◌∷◌, ◌++◌, ◌∙
 use Rattle.std.proofs.lemmas.List.{take_all}
 use Rattle.std.proofs.lemmas.Result.{err_from_is_err_and}
 use Rattle.dia_breaking.specs.declared.line.Line.{Line}
-use Rattle.dia_breaking.specs.Words.{words_of}
 use Rattle.dia_breaking.specs.Upgrades.{other_length_of, sides_of, stock_of}
 use Rattle.dia_breaking.proofs.MessageBytes.{some_bytes}
-use Rattle.dia_upgrades.specs.Recorded.{AreParts}
+use Rattle.dia_upgrades.specs.Recorded.{AreParts, says_of}
 use Rattle.dia_upgrades.specs.UnderWay.{IsMessageIn, IsRecordedIn}
 use Rattle.dia_upgrades.proofs.Listings.{goes_both, goes_nothing, sound_ok, stops_at}
 use Rattle.dia_upgrades.proofs.Parts.{one_more}
@@ -35,11 +34,11 @@ pub returns-in_err-put_line-clause-stops : goal.returns-in_err-put_line-clause-s
 returns-in_err-put_line-clause-stops g c =
     let p = err_from_is_err_and c.from_residual.result c.from_residual.ensures.1 in
     let up = c.args.upgrade.now in
-    let words = words_of (sides_of up) (other_length_of up) c.args.breaks.now.command c.args.breaks.now.sites.items in
+    let says = says_of (sides_of up) (other_length_of up) c.args.breaks.now.command c.args.breaks.now.sites.items in
     let some = some_bytes (sides_of up) (stock_of up) c.args.breaks.now.command c.args.breaks.now.sites.items in
     let (recorded, parts, goes) = c.loop-line.invariant.recorded in
     rw (p.1, p.2)
-    (stops_at c.args.asked c.args.place c.args.asked.messages words (IsMessageIn up c.args.breaks.now) some _ _ _ _ c.args.listing.now c.loop-line.listing c.put_line.new.listing c.args.lines.now c.loop-line.line-index c.line-item.result recorded
+    (stops_at c.args.asked c.args.place c.args.asked.messages says (IsMessageIn up c.args.breaks.now) some _ _ _ _ c.args.listing.now c.loop-line.listing c.put_line.new.listing c.args.lines.now c.loop-line.line-index c.line-item.result recorded
     c.loop-line-test.true c.line-item.is parts goes c.in_err-put_line.ensures.stops)
 
 pub returns-clause-all : goal.returns-clause-all

@@ -1,16 +1,15 @@
-use Rattle.std.proofs.Common.{[], ◌∷◌, ◌++◌, List, ℕ, Bool, cond, ap, inl, refl, subst, sym, ◌∙◌}
+use Rattle.std.proofs.Common.{[], ◌∷◌, ◌++◌, Bool, cond, ap, inl, refl, subst, sym, ◌∙◌}
 use Rattle.std.proofs.lemmas.List.{append-nil}
-use Rattle.dia_accepted.specs.Accepted.{bare, kept}
-use Rattle.dia_accepted.specs.Seen.{AreCauses}
-use Rattle.dia_breaking.specs.Words.{words_of}
 use Rattle.dia_breaking.specs.Upgrades.{other_length_of, sides_of, stock_of}
 use Rattle.dia_breaking.proofs.MessageBytes.{some_bytes}
-use Rattle.dia_upgrades.specs.Recorded.{has_message, recorded_as, written}
+use Rattle.dia_upgrades.specs.Recorded.{has_message, row_of, says_of, written}
 use Rattle.dia_upgrades.specs.Forms.{line_in}
-use Rattle.dia_upgrades.specs.UnderWay.{IsMessageIn, digits_text}
-use Rattle.dia_upgrades.proofs.LinesToReport.{message_after, sees_accepted, sees_left}
+use Rattle.dia_upgrades.specs.UnderWay.{IsMessageIn, plain_digits}
+use Rattle.dia_upgrades.proofs.LinesToReport.{digits_after, sees_accepted, sees_left}
 use Rattle.dia_upgrades.proofs.Listings.{could_be}
 use Rattle.dia_upgrades.proofs.showing.see_line.Goals as goal
+use Rattle.dia_upgrades.specs.Rows.{AreCauses, bare, kept, recorded_of, tolds}
+use Rattle.dia_upgrades.proofs.Rows.{come_cause}
 
 pub returns-then-known : goal.returns-then-known
 returns-then-known g c =
@@ -18,14 +17,14 @@ returns-then-known g c =
     let place = c.args.place in
     let asked = c.args.asked in
     let line = c.args.line.now in
-    let words = words_of (sides_of up) (other_length_of up) c.args.breaks.now.command c.args.breaks.now.sites.items in
+    let says = says_of (sides_of up) (other_length_of up) c.args.breaks.now.command c.args.breaks.now.sites.items in
     let made = rw c.new-words.ensures.bytes at c.in_ok-push_words.ensures.words in
     let recorded = c.as_str-recorded.ensures.value ∙ made in
     let some = some_bytes (sides_of up) (stock_of up) c.args.breaks.now.command c.args.breaks.now.sites.items line in
-    let t = recorded_as place (words line) (message_after (has_message asked.messages line.standing) some.0) in
+    let t = row_of place (says line) (digits_after (has_message asked.messages line.standing) some.0) in
     let judged = c.in_ok-known.ensures in (
       t,
-      could_be place asked.messages words (IsMessageIn up c.args.breaks.now) line some.0 (some.1, some.2),
+      could_be place asked.messages says (IsMessageIn up c.args.breaks.now) line some.0 (some.1, some.2),
       sees_accepted asked place c.args.seen.now c.judge.new.self t c.as_str-recorded.result.now c.in_ok-known.known (sym recorded) judged.accepted judged.judged judged.causes judged.meanings c.if-known.true,
     )
 
@@ -35,18 +34,18 @@ returns-then-asked g c =
     let place = c.args.place in
     let asked = c.args.asked in
     let line = c.args.line.now in
-    let words = words_of (sides_of up) (other_length_of up) c.args.breaks.now.command c.args.breaks.now.sites.items in
+    let says = says_of (sides_of up) (other_length_of up) c.args.breaks.now.command c.args.breaks.now.sites.items in
     let made = rw c.new-words.ensures.bytes at c.in_ok-push_words.ensures.words in
     let recorded = c.as_str-recorded.ensures.value ∙ made in
     let keep = c.in_ok-message.ensures in
-    let t = recorded_as place (words line) keep.message in
+    let t = row_of place (says line) keep.digits in
     let judged = c.in_ok-known.ensures in
     let once = c.if-asked.true in (
       t,
-      (keep.message, keep.is_after, refl),
+      (keep.digits, keep.is_after, refl),
       sees_left asked place c.args.seen.now c.judge.new.self t c.as_str-recorded.result.now c.in_ok-known.known (sym recorded) judged.accepted judged.judged judged.causes judged.meanings _ [] c.if-known.false refl refl refl refl refl
           (λ forgets before visits small are. subst (λ (b : Bool). AreCauses forgets c.add.new.self (before ++ kept b t ∷ []) place visits) (sym once)
-          (c.in_ok-add.ensures forgets before t visits small refl (sym recorded) (keep.is_kept forgets before place visits are) are)) (sym (ap (λ (b : Bool). cond b [] (written asked (t ∷ []))) once)),
+          (come_cause forgets c.add.new.self before t place visits (c.in_ok-add.ensures forgets (tolds before) (recorded_of t) visits small refl (sym recorded) (keep.is_kept forgets (tolds before) place visits are) are))) (sym (ap (λ (b : Bool). cond b [] (written asked (t ∷ []))) once)),
     )
 
 pub returns : goal.returns
@@ -55,17 +54,17 @@ returns g c =
     let place = c.args.place in
     let asked = c.args.asked in
     let line = c.args.line.now in
-    let words = words_of (sides_of up) (other_length_of up) c.args.breaks.now.command c.args.breaks.now.sites.items in
+    let says = says_of (sides_of up) (other_length_of up) c.args.breaks.now.command c.args.breaks.now.sites.items in
     let made = rw c.new-words.ensures.bytes at c.in_ok-push_words.ensures.words in
     let recorded = c.as_str-recorded.ensures.value ∙ made in
-    let following = digits_text c.in_ok-digits.digits in
-    let t = recorded_as place (words line) following in
+    let following = plain_digits c.in_ok-digits.digits in
+    let t = row_of place (says line) following in
     let judged = c.in_ok-known.ensures in
     let each = c.if-asked.false in (
       t,
       (following, c.in_ok-digits.ensures, refl),
       sees_left asked place c.args.seen.now c.judge.new.self t c.as_str-recorded.result.now c.in_ok-known.known (sym recorded) judged.accepted judged.judged judged.causes judged.meanings _ _ c.if-known.false refl refl refl refl refl
           (λ forgets before visits small are. subst (λ (b : Bool). AreCauses forgets c.add-2.new.self (before ++ kept b t ∷ []) place visits) (sym each)
-          (c.in_ok-add-2.ensures forgets before (bare t) visits small refl (sym recorded) (inl (sym c.new-none.ensures.bytes)) are))
-          (c.in_ok-shown.ensures place ∙ ap (λ (w : List ℕ). line_in asked.form asked.once (recorded_as place w following)) made ∙ sym (append-nil (line_in asked.form asked.once t)) ∙ sym (ap (λ (b : Bool). cond b [] (written asked (t ∷ []))) each)),
+          (come_cause forgets c.add-2.new.self before (bare t) place visits (c.in_ok-add-2.ensures forgets (tolds before) (recorded_of (bare t)) visits small refl (sym recorded) (inl (sym c.new-none.ensures.bytes)) are)))
+          (c.in_ok-shown.ensures place (says line) refl (sym made) ∙ sym (append-nil (line_in asked.form t)) ∙ sym (ap (λ (b : Bool). cond b [] (written asked (t ∷ []))) each)),
     )
