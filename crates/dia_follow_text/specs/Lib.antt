@@ -1,5 +1,3 @@
-pub mod Entries
 pub mod Names
+pub mod Times
 pub mod Reasons
-pub mod Details
-pub mod Said

@@ -39,3 +39,41 @@ word reason.Kinds = codes "kinds"
 word reason.GoesOn = codes "goes-on"
 word reason.WatchdogEarly = codes "watchdog-early"
 word reason.Forgotten = codes "forgotten"
+
+-- ---- sections of RFC 6733
+
+-- of what an answer repeats of its request
+abbrev pub answer_section : Reason → Option (List ℕ)
+answer_section reason.AnswersNothing = Some (codes "6.2")
+answer_section reason.EndToEnd = Some (codes "6.2")
+answer_section reason.Command = Some (codes "3.1")
+answer_section reason.Application = Some (codes "3")
+answer_section reason.Proxiable = Some (codes "6.2")
+answer_section reason.SessionId = Some (codes "6.2")
+answer_section reason.Destination = Some (codes "6.2")
+answer_section r = None
+
+abbrev pub error_flag_section : Option ℕ → List ℕ
+error_flag_section None = codes "3"
+error_flag_section (Some code) = if code / 1000 == 3 then codes "7.1.3" else (if code / 1000 == 4 then codes "7.1.4" else codes "3")
+
+-- of a departure. That of `error-flag` goes by the Result-Code
+abbrev pub section : Reason → Option ℕ → Option (List ℕ)
+section reason.Version code = Some (codes "3")
+section reason.Length code = Some (codes "3")
+section reason.Bits code = Some (codes "3")
+section reason.AvpLength code = Some (codes "4.1")
+section reason.NoCer code = Some (codes "5.6.1")
+section reason.CerFromAcceptor code = Some (codes "5.6")
+section reason.CerAgain code = Some (codes "5.6")
+section reason.BeforeCea code = Some (codes "5.6")
+section reason.AfterDpr code = Some (codes "5.6")
+section reason.AfterDpa code = Some (codes "5.6")
+section reason.HopByHop code = Some (codes "3")
+section reason.WatchdogWaits code = Some (codes "5.5.3")
+section reason.NotAdvertised code = Some (codes "5.3")
+section reason.NoCommon code = Some (codes "5.3")
+section reason.CommonRefused code = Some (codes "7.1.5")
+section reason.ErrorFlag code = Some (error_flag_section code)
+section reason.OriginHost code = Some (codes "4.3.1")
+section r code = answer_section r

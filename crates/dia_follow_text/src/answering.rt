@@ -196,26 +196,90 @@ fn push_answer<B: Book>(
 ) -> Result<(), AllocError> {
     let found = state.connection.findings(alloc, end, line)?;
     state.counts.last(end, line.number, line.time);
+    push_seen(
+        alloc,
+        text,
+        manner,
+        &state.connection,
+        &mut state.counts,
+        end,
+        line,
+        &found,
+        verdict,
+    )?;
+    let departs = count_reasons(&mut state.counts, end, line.number, &found)?;
+    state.departs = state.departs || departs;
+    Ok(())
+}
+
+/// Adds the lines of a message, of its departures and of the notes on it.
+fn push_seen<B: Book>(
+    alloc: Global,
+    text: &mut String,
+    manner: &Manner<'_, B>,
+    connection: &Connection,
+    counts: &mut Counts,
+    end: End,
+    line: &Line<'_>,
+    found: &[Reason],
+    verdict: &str,
+) -> Result<(), AllocError> {
     match &line.seen {
         Seen::Unread(_) => {
-            push_unread(text, manner, end, line)?;
-            for reason in &found {
-                push_unread_finding(alloc, text, manner, end, line, verdict, *reason)?;
-            }
-            state.counts.unread();
+            counts.unread();
+            push_unread_answer(alloc, text, manner, end, line, found, verdict)
         }
         Seen::Message(message) => {
-            let moment = state.connection.moment(end, line, message);
-            push_message(alloc, text, manner, end, &moment)?;
-            for reason in &found {
-                push_finding(alloc, text, manner, end, &moment, verdict, *reason)?;
-            }
-            state.counts.message(alloc, manner.book, end, &moment)?;
+            let moment = connection.moment(end, line, message);
+            push_message_answer(alloc, text, manner, end, &moment, found, verdict)?;
+            counts.message(alloc, manner.book, end, &moment)
         }
     }
-    for reason in &found {
-        state.departs = state.departs || reason.is_departure();
-        state.counts.reason(end, line.number, *reason)?;
+}
+
+/// Counts departures and notes. Answers whether there is a departure.
+fn count_reasons(
+    counts: &mut Counts,
+    end: End,
+    number: u64,
+    found: &[Reason],
+) -> Result<bool, AllocError> {
+    let mut departs = false;
+    for reason in found {
+        departs = departs || reason.is_departure();
+        counts.reason(end, number, *reason)?;
+    }
+    Ok(departs)
+}
+
+fn push_unread_answer<B: Book>(
+    alloc: Global,
+    text: &mut String,
+    manner: &Manner<'_, B>,
+    end: End,
+    line: &Line<'_>,
+    found: &[Reason],
+    verdict: &str,
+) -> Result<(), AllocError> {
+    push_unread(text, manner, end, line)?;
+    for reason in found {
+        push_unread_finding(alloc, text, manner, end, line, verdict, *reason)?;
+    }
+    Ok(())
+}
+
+fn push_message_answer<B: Book>(
+    alloc: Global,
+    text: &mut String,
+    manner: &Manner<'_, B>,
+    end: End,
+    moment: &Moment<'_>,
+    found: &[Reason],
+    verdict: &str,
+) -> Result<(), AllocError> {
+    push_message(alloc, text, manner, end, moment)?;
+    for reason in found {
+        push_finding(alloc, text, manner, end, moment, verdict, *reason)?;
     }
     Ok(())
 }
@@ -288,15 +352,26 @@ fn push_all_unanswered<B: Book>(
 ) -> Result<(), AllocError> {
     let mut ours = state.connection.unanswered(End::Initiator);
     let mut theirs = state.connection.unanswered(End::Responder);
-    while let Some((end, request)) = next_unanswered(ours, theirs) {
+    for _ in 0..ours.len().saturating_add(theirs.len()) {
+        let Some((end, request)) = next_unanswered(ours, theirs) else {
+            break;
+        };
         push_unanswered(alloc, text, manner, end, request)?;
         state.counts.unanswered(end, request.line)?;
         match end {
-            End::Initiator => ours = &ours[1..],
-            End::Responder => theirs = &theirs[1..],
+            End::Initiator => ours = after_first(ours),
+            End::Responder => theirs = after_first(theirs),
         }
     }
     Ok(())
+}
+
+fn after_first(requests: &[Request]) -> &[Request] {
+    if requests.is_empty() {
+        requests
+    } else {
+        &requests[1..]
+    }
 }
 
 /// The first of both lists, by line.

@@ -197,21 +197,24 @@ fn push_listed(text: &mut String, listed: &Listed) -> Result<(), AllocError> {
 
 /// Adds the Origin-Host of a message, and the one before.
 fn push_hosts(text: &mut String, moment: &Moment<'_>) -> Result<(), AllocError> {
-    let Some(contents) = moment.contents() else {
-        return Ok(());
-    };
-    push_value(
-        text,
-        &Format::DiameterIdentity,
-        contents.host.unwrap_or(b""),
-    )?;
+    push_host(text, host_of(moment))?;
     text.push_str(", ")?;
-    push_value(
-        text,
-        &Format::DiameterIdentity,
-        moment.host().unwrap_or(b""),
-    )?;
+    push_host(text, moment.host())?;
     text.push_str(" before")
+}
+
+fn host_of<'a>(moment: &'a Moment<'_>) -> Option<&'a [u8]> {
+    match moment.contents() {
+        Some(contents) => contents.host,
+        None => None,
+    }
+}
+
+fn push_host(text: &mut String, host: Option<&[u8]>) -> Result<(), AllocError> {
+    match host {
+        Some(host) => push_value(text, &Format::DiameterIdentity, host),
+        None => Ok(()),
+    }
 }
 
 /// Adds how many bytes there are, and how many there should be.

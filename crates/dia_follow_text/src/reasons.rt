@@ -1,9 +1,15 @@
 //! The words and sections of departures and notes.
 
+ghost use Rattle.std.specs.Prelude.{◌≡◌};
+ghost use Rattle.std.specs.Option.{option_copied};
+ghost use Rattle.dia_follow_text.specs.Reasons.{answer_section, error_flag_section, section, word};
+
 use dia_follow::Reason;
 
 /// The word of a departure or a note.
-pub(crate) fn word(reason: Reason) -> &'static str {
+pub(crate) fn word(reason: Reason) -> &'static str
+    ensures { result.now ≡ word reason }
+{
     match reason {
         Reason::Version => "version",
         Reason::Length => "length",
@@ -45,30 +51,50 @@ pub(crate) fn word(reason: Reason) -> &'static str {
 
 /// The section of RFC 6733 that a departure is from. `None` for notes and for what `check` finds. That of `error-flag` goes by the
 /// Result-Code.
-pub(crate) fn section(reason: Reason, result_code: Option<u32>) -> Option<&'static str> {
+pub(crate) fn section(reason: Reason, result_code: Option<u32>) -> Option<&'static str>
+    ensures { option_copied result ≡ section reason result_code }
+{
     match reason {
-        Reason::Version | Reason::Length | Reason::Bits | Reason::HopByHop => Some("3"),
-        Reason::Application => Some("3"),
-        Reason::Command => Some("3.1"),
+        Reason::Version | Reason::Length | Reason::Bits => Some("3"),
         Reason::AvpLength => Some("4.1"),
-        Reason::OriginHost => Some("4.3.1"),
-        Reason::NotAdvertised | Reason::NoCommon => Some("5.3"),
-        Reason::WatchdogWaits => Some("5.5.3"),
+        Reason::NoCer => Some("5.6.1"),
         Reason::CerFromAcceptor | Reason::CerAgain | Reason::BeforeCea => Some("5.6"),
         Reason::AfterDpr | Reason::AfterDpa => Some("5.6"),
-        Reason::NoCer => Some("5.6.1"),
+        Reason::HopByHop => Some("3"),
+        Reason::WatchdogWaits => Some("5.5.3"),
+        Reason::NotAdvertised | Reason::NoCommon => Some("5.3"),
+        Reason::ErrorFlag => Some(error_flag_section(result_code)),
+        Reason::CommonRefused => Some("7.1.5"),
+        Reason::OriginHost => Some("4.3.1"),
+        _ => answer_section(reason),
+    }
+}
+
+/// The section of what an answer has to repeat of its request.
+fn answer_section(reason: Reason) -> Option<&'static str>
+    ensures { option_copied result ≡ answer_section reason }
+{
+    match reason {
         Reason::AnswersNothing | Reason::EndToEnd | Reason::Proxiable => Some("6.2"),
         Reason::SessionId | Reason::Destination => Some("6.2"),
-        Reason::CommonRefused => Some("7.1.5"),
-        Reason::ErrorFlag => Some(error_flag_section(result_code)),
+        Reason::Command => Some("3.1"),
+        Reason::Application => Some("3"),
         _ => None,
     }
 }
 
-fn error_flag_section(result_code: Option<u32>) -> &'static str {
-    match result_code {
-        Some(3000..=3999) => "7.1.3",
-        Some(4000..=4999) => "7.1.4",
-        _ => "3",
+fn error_flag_section(result_code: Option<u32>) -> &'static str
+    ensures { result.now ≡ error_flag_section result_code }
+{
+    let Some(code) = result_code else {
+        return "3";
+    };
+    let class = code / 1000;
+    if class == 3 {
+        "7.1.3"
+    } else if class == 4 {
+        "7.1.4"
+    } else {
+        "3"
     }
 }

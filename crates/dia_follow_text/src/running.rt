@@ -1,12 +1,14 @@
 //! The command over the text of a connection.
 
-ghost use Rattle.std.specs.Prelude.{IsTrue};
+ghost use Rattle.std.specs.Prelude.{◌≡◌, ◌↔◌, ◌⊎◌, Err, IsTrue};
+ghost use Rattle.dia_lines.specs.declared.fault.LinesFault.TheVariants.{Device};
 
 use crate::answering::{Answered, Manner};
 use crate::entry::BadLine;
 use crate::json;
 use crate::options::Options;
 use crate::summary::summary_of;
+use dia_dict::Book;
 use dia_io::{Exit, Feed, Input, Sink, put_all};
 use dia_lines::LinesFault;
 use dia_report::{Refused, Report, Reported};
@@ -40,6 +42,8 @@ pub fn follow<F: Feed, S: Sink>(
 ) -> Result<Followed, LinesFault>
     requires sound_feed { ¬ IsTrue (F.has_failed feed.old) }
     requires sound_sink { ¬ IsTrue (S.has_failed sink.old) }
+    ensures device { (result ≡ Err Device)
+        ↔ (IsTrue (F.has_failed feed.new) ⊎ IsTrue (S.has_failed sink.new)) }
 {
     let first = match read_dictionary(alloc, 1, dictionary) {
         Ok(read) => read,
@@ -51,23 +55,55 @@ pub fn follow<F: Feed, S: Sink>(
     };
     let mut answered = Answered::new(alloc, options);
     let mut piece = [0u8; PIECE];
-    for _ in 0..u64::MAX {
-        let count = feed.get(&mut piece)?;
-        let bad = if count == 0 {
-            answered.end(alloc, &manner)?
-        } else {
-            answered.read(alloc, &manner, &piece[..count])?
-        };
-        put_all(sink, answered.text.as_bytes())?;
-        answered.text.clear();
-        if let Some(bad) = bad {
-            return refuse_line(alloc, options, answered.number, bad, sink);
+    let mut pieces_left = u64::MAX;
+    while pieces_left > 0 {
+        match answer_piece(alloc, &manner, &mut answered, feed, sink, &mut piece)? {
+            Progress::More => {}
+            Progress::Bad(bad) => return refuse_line(alloc, options, answered.number, bad, sink),
+            Progress::Done => return Ok(ended(alloc, &answered)),
         }
-        if count == 0 {
-            return Ok(ended(alloc, &answered));
-        }
+        pieces_left -= 1;
     }
     Err(LinesFault::Endless)
+}
+
+/// What a piece comes to.
+#[derive(Clone, Copy)]
+enum Progress {
+    More,
+    /// A line is refused.
+    Bad(BadLine),
+    /// The feed is at its end.
+    Done,
+}
+
+/// Reads the next piece of a feed, and puts the answers to the lines that end in it.
+fn answer_piece<B: Book, F: Feed, S: Sink>(
+    alloc: Global,
+    manner: &Manner<'_, B>,
+    answered: &mut Answered,
+    feed: &mut F,
+    sink: &mut S,
+    piece: &mut [u8; PIECE],
+) -> Result<Progress, LinesFault>
+    requires sound_feed { ¬ IsTrue (F.has_failed feed.old) }
+    requires sound_sink { ¬ IsTrue (S.has_failed sink.old) }
+    ensures device { (result ≡ Err Device)
+        ↔ (IsTrue (F.has_failed feed.new) ⊎ IsTrue (S.has_failed sink.new)) }
+{
+    let count = feed.get(piece)?;
+    let bad = if count == 0 {
+        answered.end(alloc, manner)?
+    } else {
+        answered.read(alloc, manner, &piece[..count])?
+    };
+    put_all(sink, answered.text.as_bytes())?;
+    answered.text.clear();
+    match bad {
+        Some(bad) => Ok(Progress::Bad(bad)),
+        None if count == 0 => Ok(Progress::Done),
+        None => Ok(Progress::More),
+    }
 }
 
 fn ended(alloc: Global, answered: &Answered) -> Followed {
@@ -95,6 +131,7 @@ fn refuse_line<S: Sink>(
     sink: &mut S,
 ) -> Result<Followed, LinesFault>
     requires { ¬ IsTrue (S.has_failed sink.old) }
+    ensures device { (result ≡ Err Device) ↔ IsTrue (S.has_failed sink.new) }
 {
     let mut text = String::new(alloc);
     push_bad_line(&mut text, options.json, number, bad)?;
@@ -131,6 +168,7 @@ fn refuse<S: Sink>(
     sink: &mut S,
 ) -> Result<Followed, LinesFault>
     requires { ¬ IsTrue (S.has_failed sink.old) }
+    ensures device { (result ≡ Err Device) ↔ IsTrue (S.has_failed sink.new) }
 {
     let answered = if options.json {
         dia_refused_json::refuse(alloc, dictionary, refused)?
