@@ -4,5 +4,5 @@ pub mod OctetsLookups
 pub mod Fronts
 pub mod Messages
 pub mod LoneAvps
-pub mod StockLists
+pub mod OwnKeys
 pub mod Answers

@@ -1,5 +1,5 @@
 -- The answer to a request that reports its first fault (RFC 6733 sections 6.2, 7.1.5 and 7.2).
-use Rattle.std.specs.Prelude.{◌≡◌, ℕ, ◌/◌, ◌<◌, bit_and, bit_or, List, length, IfOk, Result, Err, ⊤}
+use Rattle.std.specs.Prelude.{◌≡◌, ℕ, ◌/◌, ◌<◌, bit_and, bit_or, List, length, IfOk, Result, codes, Err, ⊤}
 use Rattle.dia_wire.specs.declared.Header.{Header}
 use Rattle.dia_wire.specs.Wire.{PlainAvp, HasR, IsMessage}
 use Rattle.dia_book.specs.declared.Class.{Class}
@@ -70,6 +70,15 @@ IsNoAnswer d u most bytes no_answer.Truncated = IsRequest bytes × IsAnswer d u 
 IsNoAnswer d u most bytes no_answer.Trailing = IsRequest bytes × IsAnswer d u most bytes (Err refusal.Trailing)
 IsNoAnswer d u most bytes no_answer.Valid = IsRequest bytes × IsValid d u most bytes
 IsNoAnswer d u most bytes no_answer.TooLong = IsRequest bytes × ((fault : Fault) × IsRecorded d u most bytes fault)
+
+-- its word
+abbrev pub no_answer_word : NoAnswer → List ℕ
+no_answer_word no_answer.Short = codes "short"
+no_answer_word no_answer.Answer = codes "answer"
+no_answer_word no_answer.Truncated = codes "truncated"
+no_answer_word no_answer.Trailing = codes "trailing"
+no_answer_word no_answer.Valid = codes "valid"
+no_answer_word no_answer.TooLong = codes "too long"
 
 -- an answer that was made
 abbrev pub OnMade : (Made → Type 0) → Result (Result Made NoAnswer) AllocError → Type 0

@@ -1,10 +1,8 @@
 //! Answers to requests.
 
-ghost use Rattle.std.specs.Prelude.{◌≡◌, ◌<◌, ◌/◌, ◌↔◌, All, IfErr, IfOk, IfSome, IsTrue, ℕ, length, map, slice_get};
+ghost use Rattle.std.specs.Prelude.{◌≡◌, ◌<◌, ◌/◌, ◌↔◌, IfErr, IfOk, IfSome, IsTrue, length, map};
 ghost use Rattle.dia_wire.specs.Lengths.{three_bytes};
-ghost use Rattle.dia_wire.specs.Wire.{plain_avp, Agrees, MessageWithZeros};
-ghost use Rattle.dia_book.specs.Dictionary.{definitions};
-ghost use Rattle.dia_dict.specs.Base.{base};
+ghost use Rattle.dia_wire.specs.Wire.{plain_avp, MessageWithZeros};
 ghost use Rattle.dia_valid.specs.Valid.{IsValid};
 ghost use Rattle.dia_check.specs.Faults.{IsRecorded};
 ghost use Rattle.dia_answer.specs.Dictionaries.{opaque};
@@ -19,7 +17,6 @@ ghost use Rattle.dia_answer.specs.Reports.{
   OnMade,
   answer_header,
   form_class,
-  form_dictionary,
 };
 
 use crate::contents::{Contents, Extent};
@@ -34,7 +31,16 @@ use dia_dict::base_book;
 use dia_wire::{Avp, COMMAND_ERROR, COMMAND_PROXIABLE, Header, PutFault, put_message};
 use std::alloc::{AllocError, Global};
 
-/// The answer to a request that reports its first fault.
+/// The answer to a request that reports the first fault that `check` finds of it (RFC 6733 sections 6.2, 7.1.5, 7.2 and 7.5),
+/// or why it gets none. The bytes are checked here, so no verdict from elsewhere counts.
+///
+/// The forms are tried in the order of `Form`, the command's own answer for faults of 5xxx alone; the first that makes a
+/// valid message is the answer. `valid` is by the dictionary with Failed-AVP as OctetString where it is Grouped, since what
+/// is in it has a fault. If none of them makes one, since a message has at most 16,777,212 bytes, they are tried again
+/// without Failed-AVP and Error-Message.
+///
+/// A request whose version or Message Length is wrong is answered, too (section 7.1.5), by its header alone; the caller then
+/// closes the connection, since the stream has lost its bounds. The error comes only where memory was refused.
 pub fn answer<B: Book>(
     alloc: Global,
     book: &B,

@@ -1,7 +1,6 @@
 //! What an answer is, and why there is none.
 
 use dia_check::Fault;
-use std::fmt;
 
 /// By which definition an answer is made.
 #[derive(Debug, Clone, Copy, PartialEq, Eq)]
@@ -40,15 +39,21 @@ pub enum NoAnswer {
     TooLong,
 }
 
-impl fmt::Display for NoAnswer {
-    fn fmt<W: fmt::Write>(&self, f: &mut fmt::Formatter<W>) -> fmt::Result {
-        f.write_str(match self {
+impl NoAnswer {
+    ghost use Rattle.std.specs.Prelude.{◌≡◌};
+    ghost use Rattle.dia_answer.specs.Reports.{no_answer_word};
+
+    /// Its word, as in the line of a request that gets no answer.
+    pub fn word(&self) -> &'static str
+        ensures { result.now ≡ no_answer_word self.now }
+    {
+        match self {
             NoAnswer::Short => "short",
             NoAnswer::Answer => "answer",
             NoAnswer::Truncated => "truncated",
             NoAnswer::Trailing => "trailing",
             NoAnswer::Valid => "valid",
             NoAnswer::TooLong => "too long",
-        })
+        }
     }
 }

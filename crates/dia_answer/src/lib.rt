@@ -1,4 +1,12 @@
 //! The answer to a request that reports its first fault (RFC 6733 sections 6.2, 7.1, 7.1.5, 7.2 and 7.5).
+//!
+//! ```text
+//! let names = Names::new("host.invalid", "invalid")?;
+//! match answer(alloc, &book, Unknown::Kept, Levels::Any, &names, &request)? {
+//!     Ok(made) => send(&made.bytes),
+//!     Err(why) => log(why.word()),
+//! }
+//! ```
 #![tactic(auto)]
 
 mod alone;

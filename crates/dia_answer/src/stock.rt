@@ -1,33 +1,19 @@
 //! The AVPs that an answer may hold.
 
-ghost use Rattle.std.specs.Prelude.{◌≡◌, ◌||◌, ◌++◌, ◌∷◌, [], ◌<◌, ◌↔◌, ℕ, List, All, IfOk, IsTrue, OnOk, filter, length, map, not};
+ghost use Rattle.std.specs.Prelude.{◌≡◌, ◌<◌, ◌↔◌, All, IfOk, IsTrue, length};
 ghost use Rattle.std.specs.List.{list_all};
-ghost use Rattle.std.specs.Option.{option_map};
-ghost use Rattle.dia_wire.specs.Wire.{PlainAvp, plain_avp, key_of, Agrees};
-ghost use Rattle.dia_book.specs.Keys.{same_key};
+ghost use Rattle.dia_wire.specs.Wire.{plain_avp, Agrees};
 ghost use Rattle.dia_book.specs.Dictionary.{lists_key};
 ghost use Rattle.dia_valid.specs.Valid.{has_wildcard, is_listed};
-ghost use Rattle.dia_answer.specs.Dictionaries.{base_key};
 ghost use Rattle.dia_answer.specs.Stocks.{
-  AreCopies,
-  AreFirst,
-  AreOfRule,
-  AreOfRules,
   IsFitOf,
-  IsSession,
-  IsStock,
   TakesData,
-  are_listed,
   copied,
-  failed_avps,
-  in_order,
-  may_be_unlisted,
-  may_hold,
   has_format,
   is_nest,
   is_text,
-  message_avps,
-  of_rule,
+  may_be_unlisted,
+  may_hold,
   own,
 };
 

@@ -1,6 +1,6 @@
 use Rattle.std.proofs.Common.{◌∙◌}
 use Rattle.std.proofs.lemmas.Bool.{ne_eqb}
-use Rattle.dia_answer.proofs.StockLists.{not_own, are_own}
+use Rattle.dia_answer.proofs.OwnKeys.{not_own, are_own}
 use Rattle.dia_answer.specs.Stocks.{is_own_code}
 use Rattle.dia_answer.proofs.codes.is_own.Goals as goal
 
