@@ -13,12 +13,20 @@ use Rattle.dia_check.specs.declared.fault.Selected.{Selected}
 use Rattle.dia_check.specs.Faults.{IsRecorded}
 use Rattle.dia_check.specs.Walks.{Found, fault_of}
 use Rattle.dia_check.proofs.OneAnswer.{one_answer}
-use Rattle.dia_faults.specs.Collecting.{AreFirst}
+use Rattle.dia_faults.specs.declared.collector.Collector.{Collector}
+use Rattle.dia_faults.specs.Collecting.{Adds, AreFirst, Holds}
 use Rattle.dia_faults.specs.Messages.{AreAll, IsFirstOf}
 use Rattle.dia_faults.proofs.FirstListed.{first_of_all}
 
-none_taken : (most : ℕ) → take most {A = Fault} [] ≡ []
-none_taken most = take_all most {A = Fault} [] (omega arith)
+abbrev no_faults : List Fault
+no_faults = []
+
+none_taken : (most : ℕ) → take most no_faults ≡ []
+none_taken most = take_all most no_faults (omega arith)
+
+-- what is collected from nothing on
+pub collected : (old new : Collector) (most : ℕ) (all : List Found) → Holds old [] → old.most ≡ most → Adds old new (map fault_of all) → AreFirst most (map fault_of all) new.faults.items new.more
+collected old new most all none is adds = subst (λ (k : ℕ). AreFirst k (map fault_of all) new.faults.items new.more) (adds.same_most ∙ is) (adds.holds [] none)
 
 same_head : (a b : Fault) (xs ys : List Fault) → a ∷ xs ≡ b ∷ ys → a ≡ b
 same_head a b xs ys e = cc

@@ -13,3 +13,4 @@ pub mod HexTexts
 pub mod DecodedPieces
 pub mod FedTexts
 pub mod Verdicts
+pub mod AllFaultsRecorded

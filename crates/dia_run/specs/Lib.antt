@@ -10,3 +10,4 @@ pub mod Inclusion
 pub mod FedTexts
 pub mod Report
 pub mod Kinds
+pub mod AllFaults

@@ -12,6 +12,7 @@ use std::alloc::{AllocError, Global};
 
 pub mod check;
 pub mod compare;
+pub mod faults;
 pub mod propose;
 pub mod refute;
 pub mod render;

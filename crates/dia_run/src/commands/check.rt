@@ -89,7 +89,7 @@ fn valid<B: Book>(alloc: Global, book: &B, def: DefId) -> Result<Outcome, AllocE
 }
 
 /// The outcome of a message with this first fault.
-fn faulty<B: Book>(alloc: Global, book: &B, fault: &Fault) -> Result<Outcome, AllocError>
+pub(super) fn faulty<B: Book>(alloc: Global, book: &B, fault: &Fault) -> Result<Outcome, AllocError>
     ensures text { IfOk result
         (λ outcome. string_bytes outcome.text ≡ fault_line (B.meaning book.now) fault.now) }
     ensures exit { IfOk result (λ outcome. outcome.exit ≡ Exit.No) }

@@ -1,4 +1,4 @@
-use Rattle.std.proofs.Common.{List, length, sym, arith, refl}
+use Rattle.std.proofs.Common.{sym, arith, refl}
 use Rattle.std.proofs.Math.Logic.{∥∥₁_map}
 use Rattle.std.proofs.lemmas.List.{length-map}
 use Rattle.dia_wire.specs.Wire.{key_of, plain_avp}

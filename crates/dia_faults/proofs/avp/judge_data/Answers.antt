@@ -1,5 +1,4 @@
-use Rattle.std.proofs.Common.{[], ◌∷◌, sym, ◌∙◌}
-use Rattle.dia_valid.proofs.Entries.{entry_within}
+use Rattle.std.proofs.Common.{[], sym, ◌∙◌}
 use Rattle.dia_faults.proofs.Collecting.{adds_none}
 use Rattle.dia_faults.proofs.Data.{unknown_filled, unknown_opened, fine_filled, fine_opened, wrong_filled, wrong_opened}
 use Rattle.dia_faults.proofs.avp.judge_data.Goals as goal

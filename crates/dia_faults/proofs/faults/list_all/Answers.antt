@@ -1,4 +1,4 @@
-use Rattle.std.proofs.Common.{ℕ, ap, List, Err, inl, inr}
+use Rattle.std.proofs.Common.{ℕ, ap, List, Err, inr}
 use Rattle.dia_wire.specs.Wire.{BeginsMessage}
 use Rattle.dia_check.specs.Faults.{HasLength}
 use Rattle.dia_check.proofs.HeaderAnswers.{has_length}

@@ -1,9 +1,8 @@
-use Rattle.std.proofs.Common.{◌≡◌, ℕ, ◌+◌, ◌-◌, ◌<◌, ◌≤◌, List, [], ◌∷◌, ◌++◌, Option, Some, None, length, drop, refl, sym, ap, subst, ◌∙◌, arith}
+use Rattle.std.proofs.Common.{◌≡◌, ℕ, ◌-◌, List, [], ◌∷◌, ◌++◌, Some, None, length, drop, refl, sym, ap, subst, ◌∙◌, arith}
 use Rattle.std.proofs.lemmas.List.{length-drop, take_all}
 use Rattle.dia_wire.specs.Wire.{plain_avp}
 use Rattle.dia_faults.specs.declared.listing.Rest.{Rest}
 use Rattle.dia_faults.specs.Levels.{IsOpened}
-use Rattle.dia_faults.specs.States.{IsOpenedAs}
 use Rattle.dia_faults.proofs.Bodies.{all_closed, broken_found, end_found, few, group_entered, inner, leaf_passed, less_following, less_closed, less_inside, level_closed, low, of_command, room, some_definition, started}
 use Rattle.dia_faults.proofs.listing.list_body.Goals as goal
 

@@ -1,4 +1,4 @@
-use Rattle.std.proofs.Common.{◌≡◌, ◌+◌, ◌-◌, ◌*◌, ℕ, List, length, Some}
+use Rattle.std.proofs.Common.{◌≡◌, ◌+◌, ◌-◌, ◌*◌, length, Some}
 use Rattle.std.specs.Prelude.{slice_get}
 use Rattle.dia_book.specs.Dictionary.{PlainDefinition, definitions}
 use Rattle.dia_check.specs.Walks.{whole}

@@ -1,4 +1,4 @@
-use Rattle.std.proofs.Common.{[], ◌∷◌, sym, ◌∙◌}
+use Rattle.std.proofs.Common.{[], sym, ◌∙◌}
 use Rattle.std.proofs.lemmas.Option.{slice_get-get_or}
 use Rattle.dia_check.proofs.KeysByCounts.{is_max_of, no_max_of}
 use Rattle.dia_faults.proofs.Collecting.{adds_none}

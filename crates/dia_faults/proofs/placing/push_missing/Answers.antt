@@ -1,4 +1,4 @@
-use Rattle.std.proofs.Common.{ℕ, ◌≤◌, length, arith, inl, inr, refl, get_or}
+use Rattle.std.proofs.Common.{ℕ, arith, inl, inr, refl, get_or}
 use Rattle.std.proofs.lemmas.Option.{slice_get-get_or}
 use Rattle.dia_book.specs.declared.DRule.{DRule}
 use Rattle.dia_faults.specs.States.{count_of}

@@ -1,4 +1,4 @@
-use Rattle.std.proofs.Common.{◌-◌, ◌≤◌, ℕ, length}
+use Rattle.std.proofs.Common.{◌-◌, ℕ}
 use Rattle.dia_book.specs.declared.DRule.{DRule}
 use Rattle.dia_faults.specs.States.{count_of}
 use Rattle.dia_faults.proofs.Missing.{IsAdding}

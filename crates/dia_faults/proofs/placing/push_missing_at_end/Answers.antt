@@ -1,18 +1,11 @@
-use Rattle.std.proofs.Common.{ℕ, ◌≤◌, List, length, map, sym, subst, arith}
-use Rattle.std.specs.Prelude.{OnOk}
+use Rattle.std.proofs.Common.{List, subst, arith}
 use Rattle.std.proofs.Math.Logic.{∥∥₁_elim}
 use Rattle.std.proofs.lemmas.Option.{slice_get_within}
-use Rattle.std.proofs.lemmas.Result.{on_ok_weaker}
 use Rattle.std.specs.Coded.{le_prop}
 use Rattle.dia_book.specs.declared.DRule.{DRule}
 use Rattle.dia_book.specs.Dictionary.{definitions}
-use Rattle.dia_valid.proofs.Entries.{fixed_few}
-use Rattle.dia_check.specs.declared.open_levels.Wrong.{Wrong}
-use Rattle.dia_check.specs.Recording.{recorded}
-use Rattle.dia_faults.specs.Collecting.{Adds}
-use Rattle.dia_faults.specs.Rules.{AreMissingAtEnd}
 use Rattle.dia_faults.specs.States.{IsCounted}
-use Rattle.dia_faults.proofs.JudgedKeys.{are_rules, ended, same_rules, start_within}
+use Rattle.dia_faults.proofs.JudgedKeys.{are_rules, same_rules, start_within}
 use Rattle.dia_faults.proofs.placing.push_missing_at_end.Goals as goal
 
 pub def-definition-requires : goal.def-definition-requires
