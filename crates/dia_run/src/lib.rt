@@ -25,12 +25,8 @@ mod walk;
 
 pub use commands::check::{push_subject, verdict};
 pub use commands::compare::{recorded_answer, test_word};
-<<<<<<< HEAD
-pub use commands::show::{PlainRows, push_number, push_vendor, show_message};
-=======
 pub use commands::faults::report_faults;
-pub use commands::show::{listing_exit, push_vendor, show_message};
->>>>>>> 55ca03a5 (port of f3)
+pub use commands::show::{PlainRows, push_number, push_vendor, show_message};
 pub use commands::{Outcome, answer_of, outcome_of, recorded};
 pub use dia_io::{
     Command, Exit, Failed, Feed, FromReader, Input, InputFault, Inputs, RunFault, Sink, ToWriter,
