@@ -1,7 +1,7 @@
 -- How the faults of a body are collected, level by level.
-use Rattle.std.proofs.Common.{◌≡◌, ◌≢◌, ℕ, zero, suc, ◌+◌, ◌-◌, ◌*◌, ◌<◌, ◌≤◌, List, [], ◌∷◌, ◌++◌, length, map, drop, Option, Some, None, refl, sym, ap, subst, ◌∙◌, arith, append_assoc, get_or, inl, inr}
+use Rattle.std.proofs.Common.{◌≡◌, ◌≢◌, ℕ, suc, ◌+◌, ◌-◌, ◌*◌, ◌<◌, ◌≤◌, List, [], ◌∷◌, ◌++◌, length, map, drop, Some, None, refl, sym, ap, subst, ◌∙◌, arith, append_assoc, get_or, inl, inr}
 use Rattle.std.specs.Prelude.{slice_get, ◌⊎◌}
-use Rattle.std.proofs.lemmas.List.{append-nil, length-append, length-drop, length-map, map-append}
+use Rattle.std.proofs.lemmas.List.{length-append, length-drop, map-append}
 use Rattle.std.proofs.lemmas.Option.{same_Some, slice_get_cases, slice_get_within}
 use Rattle.dia_wire.specs.declared.Key.{Key}
 use Rattle.dia_wire.specs.Wire.{PlainAvp, key_of, head_length, avp_length, padded_length, BeginsWith, BeginsWithNone}
@@ -11,23 +11,22 @@ use Rattle.dia_book.specs.Dictionary.{Dictionary, IsDictionary, PlainDefinition,
 use Rattle.dia_policy.specs.declared.Unknown.{Unknown}
 use Rattle.dia_policy.specs.declared.Levels.{Levels}
 use Rattle.dia_valid.specs.Valid.{fixed_rules}
-use Rattle.dia_valid.specs.LongestRuns.{met}
 use Rattle.dia_valid.proofs.RunsOfOneKeyMore.{at_start}
 use Rattle.dia_check.specs.declared.fault.Fault.{Fault}
 use Rattle.dia_check.specs.declared.open_levels.Wrong.{Wrong}
 use Rattle.dia_check.specs.Levels.{Level}
 use Rattle.dia_check.specs.Recording.{recorded}
 use Rattle.dia_check.specs.Walks.{Found, Rest as AnyRest, following, inside, whole, fault_of}
-use Rattle.dia_check.proofs.FaultlessLevels.{met_none, more_keys}
+use Rattle.dia_check.proofs.FaultlessLevels.{met_none}
 use Rattle.dia_check.proofs.FirstFaults.{begun_room}
 use Rattle.dia_faults.specs.declared.collector.Collector.{Collector}
 use Rattle.dia_faults.specs.declared.listing.Rest.{Rest}
 use Rattle.dia_faults.specs.Collecting.{Adds}
 use Rattle.dia_faults.specs.Levels.{AreOwn, IsListing, IsOpened, at, at_end, broken_here, ended, broken, leaf, group}
 use Rattle.dia_faults.specs.Rules.{AreMissingAtEnd}
-use Rattle.dia_faults.specs.States.{HasRules, IsCounted, IsOpenedAs, count_of, rest_keys}
+use Rattle.dia_faults.specs.States.{HasRules, IsCounted, count_of, rest_keys}
 use Rattle.dia_faults.proofs.Collecting.{adds_both, adds_none}
-use Rattle.dia_faults.proofs.Nested.{AreNested, IsRestOf, few_rules, nested_from, nested_inner, nested_pop, nested_push, nested_renew, nested_to}
+use Rattle.dia_faults.proofs.Nested.{AreNested, IsRestOf, few_rules, nested_inner, nested_pop, nested_push, nested_renew, nested_to}
 use Rattle.dia_faults.proofs.Own.{JudgedAvp}
 
 -- ---- what is owed of the levels that wait: the innermost first, and then what is left of those round it

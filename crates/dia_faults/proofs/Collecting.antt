@@ -1,13 +1,12 @@
 -- Faults that are collected one list after the other.
-use Rattle.std.proofs.Common.{◌≡◌, ℕ, ◌<◌, ◌≤◌, ◌+◌, Bool, true, List, [], ◌∷◌, ◌++◌, length, map, take, refl, sym, ap, subst, ◌∙◌, arith, append_assoc}
-use Rattle.std.specs.Prelude.{nat_lt}
+use Rattle.std.proofs.Common.{◌≡◌, ℕ, true, List, [], ◌++◌, length, map, refl, sym, subst, ◌∙◌, arith, append_assoc}
 use Rattle.std.proofs.lemmas.Bool.{ltb-true, lt-ltb}
 use Rattle.std.proofs.lemmas.List.{append-nil, length-append, map-append, take-append-le}
 use Rattle.dia_check.specs.declared.fault.Fault.{Fault}
 use Rattle.dia_check.specs.declared.open_levels.Wrong.{Wrong}
 use Rattle.dia_check.specs.Recording.{recorded}
 use Rattle.dia_faults.specs.declared.collector.Collector.{Collector}
-use Rattle.dia_faults.specs.Collecting.{Adds, AreFirst, Holds}
+use Rattle.dia_faults.specs.Collecting.{Adds, Holds}
 
 pub adds_none : (c : Collector) → Adds c c []
 adds_none c = record { same_most = refl; holds = λ all h. subst (Holds c) (sym (append-nil all)) h }

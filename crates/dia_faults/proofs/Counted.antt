@@ -1,6 +1,6 @@
 -- What one key more does to the counts of a level.
-use Rattle.std.proofs.Common.{◌≡◌, ◌≢◌, ℕ, suc, ◌+◌, ◌<◌, ◌≤◌, Bool, true, false, List, [], ◌∷◌, ◌++◌, length, map, Option, Some, None, refl, sym, ap, subst, ◌∙◌, arith, inl, inr}
-use Rattle.std.specs.Prelude.{slice_get, ◌==◌, if◌then◌else◌, ◌⊎◌}
+use Rattle.std.proofs.Common.{◌≡◌, ◌≢◌, ℕ, suc, ◌+◌, ◌<◌, Bool, true, false, List, [], ◌∷◌, ◌++◌, length, Some, None, refl, sym, ap, subst, ◌∙◌, arith}
+use Rattle.std.specs.Prelude.{slice_get, ◌==◌, if◌then◌else◌}
 use Rattle.std.proofs.lemmas.Bool.{eqb-true, eq-eqb, both_ways}
 use Rattle.std.proofs.lemmas.Option.{same_Some}
 use Rattle.dia_wire.specs.declared.Key.{Key}
@@ -9,7 +9,7 @@ use Rattle.dia_valid.specs.LongestRuns.{met}
 use Rattle.dia_check.specs.declared.fault.Reason.TheVariants as reason
 use Rattle.dia_check.specs.declared.fault.Subject.TheVariants.{Avp}
 use Rattle.dia_check.specs.OpenLevels.{Leads}
-use Rattle.dia_faults.specs.Rules.{IsMisput, IsOneTooMany, fine, not_allowed, too_many}
+use Rattle.dia_faults.specs.Rules.{IsMisput, fine, not_allowed, too_many}
 use Rattle.dia_faults.specs.States.{IsCounted, count_of}
 
 module _ (rules : List DRule) (keys : List Key) (key : Key) (run next : ℕ) where

@@ -1,21 +1,18 @@
 -- What is wrong with the data of an AVP, and whether it is a level.
-use Rattle.std.proofs.Common.{◌≡◌, ℕ, List, [], ◌∷◌, Option, Some, None, refl, sym, ap, subst, ◌∙◌, inl, inr}
-use Rattle.std.specs.Prelude.{slice_get, MatchOption, IsSome, is_some, option_and_then, ◌⊎◌, ◌↔◌}
-use Rattle.std.proofs.lemmas.Option.{none-some, same_Some}
+use Rattle.std.proofs.Common.{◌≡◌, ℕ, List, [], ◌∷◌, Option, Some, None, refl, sym, ap, subst, ◌∙◌}
+use Rattle.std.specs.Prelude.{slice_get, IsSome, option_and_then, ◌↔◌}
 use Rattle.dia_wire.specs.declared.Key.{Key}
 use Rattle.dia_wire.specs.Wire.{PlainAvp, key_of}
 use Rattle.dia_data.specs.Plain.{PlainFormat, Grouped}
 use Rattle.dia_data.specs.Leaf.{LengthFits}
-use Rattle.dia_book.specs.Dictionary.{Dictionary, DictEntry, IsDictionary, PlainDefinition, definitions, entry_of}
+use Rattle.dia_book.specs.Dictionary.{Dictionary, DictEntry, IsDictionary, PlainDefinition, entry_of}
 use Rattle.dia_policy.specs.declared.Levels.{Levels}
 use Rattle.dia_valid.specs.Valid.{known, group_at}
 use Rattle.dia_valid.proofs.Entries.{all_at, entry_here, not_known}
 use Rattle.dia_check.specs.declared.fault.Reason.{Reason}
 use Rattle.dia_check.specs.declared.fault.Reason.TheVariants as reason
 use Rattle.dia_check.specs.declared.fault.Subject.TheVariants.{Avp}
-use Rattle.dia_check.specs.declared.open_levels.Wrong.{Wrong}
 use Rattle.dia_check.specs.Admission.{IsFineData, IsWrongData}
-use Rattle.dia_check.specs.Levels.{MayOpen}
 use Rattle.dia_faults.specs.Levels.{IsFilled, IsOpened}
 use Rattle.dia_faults.specs.Levels as levels
 use Rattle.dia_faults.specs.States.{IsOpenedAs}

@@ -1,20 +1,18 @@
 -- The first of all faults is the one that a check finds.
-use Rattle.std.proofs.Common.{◌≡◌, ℕ, ◌+◌, ◌<◌, ◌≤◌, List, [], ◌∷◌, ◌++◌, length, map, drop, Option, Some, None, refl, sym, ap, subst, ◌∙◌, arith, inl, inr}
-use Rattle.std.specs.Prelude.{Ok, Err, slice_get, ◌≢◌}
+use Rattle.std.proofs.Common.{◌≡◌, ℕ, List, [], ◌∷◌, ◌++◌, length, map, Option, Some, None, refl, sym, ap, subst, arith, inl, inr}
+use Rattle.std.specs.Prelude.{slice_get}
 use Rattle.std.proofs.lemmas.List.{map-append}
-use Rattle.std.proofs.lemmas.Option.{none-some}
 use Rattle.dia_wire.specs.declared.Header.{Header}
-use Rattle.dia_wire.specs.declared.Key.{Key}
 use Rattle.dia_wire.specs.Wire.{PlainAvp, key_of, BeginsWith}
 use Rattle.dia_book.specs.declared.DRule.{DRule}
 use Rattle.dia_book.specs.Dictionary.{AreRules, Dictionary, IsDictionary, PlainDefinition, definitions, selected}
 use Rattle.dia_policy.specs.declared.Unknown.{Unknown}
 use Rattle.dia_policy.specs.declared.Levels.{Levels}
 use Rattle.dia_valid.specs.Valid.{HasR, HasE, HasT, class_of, fixed_rules, group_at, known}
-use Rattle.dia_valid.specs.LongestRuns.{IsAt, met}
+use Rattle.dia_valid.specs.LongestRuns.{met}
 use Rattle.dia_valid.proofs.Entries.{kept_rules}
 use Rattle.dia_check.specs.declared.open_levels.Wrong.{Wrong}
-use Rattle.dia_check.specs.Faults.{HasGoodHeader, HasHeader, HasLength, IsRecorded}
+use Rattle.dia_check.specs.Faults.{HasGoodHeader, HasHeader, HasLength}
 use Rattle.dia_check.specs.Walks.{Found, Rest, IsFine, Walks, following, fault_of, inside, whole}
 use Rattle.dia_check.specs.Walks as walks
 use Rattle.dia_check.proofs.CheckAnswers.{application_first, bits_first, command_first, proxiable_first, walk_answers}

@@ -1,5 +1,5 @@
 -- What is first in a list of missing rules, and what the rules say first of one key more.
-use Rattle.std.proofs.Common.{◌≡◌, ◌≢◌, ℕ, zero, suc, ◌+◌, ◌-◌, ◌<◌, ◌≤◌, Bool, true, false, List, [], ◌∷◌, ◌++◌, length, take, sum, Option, Some, None, refl, sym, ap, subst, ◌∙◌, arith, inl, inr, get_or}
+use Rattle.std.proofs.Common.{◌≡◌, ℕ, zero, suc, ◌+◌, ◌-◌, ◌<◌, ◌≤◌, Bool, true, false, List, [], ◌∷◌, ◌++◌, length, Option, Some, None, refl, sym, ap, subst, ◌∙◌, arith, inl, inr}
 use Rattle.std.specs.Prelude.{nat_lt, slice_get, slice_index, ◌⊎◌, if◌then◌else◌}
 use Rattle.std.proofs.lemmas.Bool.{ltb-false, ltb-true}
 use Rattle.std.proofs.lemmas.List.{length-append}
@@ -12,18 +12,16 @@ use Rattle.dia_valid.specs.LongestRuns.{IsAt, met, run_end, runs}
 use Rattle.dia_valid.proofs.Entries.{fixed_few}
 use Rattle.dia_valid.proofs.RuleCounts.{fixed_place, met_fixed}
 use Rattle.dia_check.specs.declared.fault.Reason.{Reason}
-use Rattle.dia_check.specs.declared.fault.Reason.TheVariants as reason
 use Rattle.dia_check.specs.declared.fault.Subject.{Subject}
-use Rattle.dia_check.specs.declared.fault.Subject.TheVariants.{Avp}
 use Rattle.dia_check.specs.declared.open_levels.Wrong.{Wrong}
 use Rattle.dia_check.specs.Reasons.{row_of}
-use Rattle.dia_check.specs.Faults.{subject_of, IsFirstMissing, IsFirstShort}
+use Rattle.dia_check.specs.Faults.{IsFirstMissing, IsFirstShort}
 use Rattle.dia_check.specs.OpenLevels.{IsFirstMisplaced, IsMisplaced, IsWellPlaced}
 use Rattle.dia_check.specs.OpenLevels as open_levels
 use Rattle.dia_check.proofs.KeysByCounts.{fixed_at}
 use Rattle.dia_check.proofs.OneKeyMore.{all_to, at_within}
 use Rattle.dia_check.proofs.Uniqueness.{nat_cases}
-use Rattle.dia_faults.specs.Rules.{AreMissingAtEnd, ArePlaced, IsMisput, missing, missing_at, missing_between, missing_from, fine, not_allowed, too_many}
+use Rattle.dia_faults.specs.Rules.{IsMisput, missing, missing_at, missing_from, fine, not_allowed, too_many}
 use Rattle.dia_faults.proofs.PassedRuns.{at_one, ends_before, same_before}
 
 -- ---- the first of a list of missing rules

@@ -1,8 +1,7 @@
 -- What is first in the list of what is wrong with an AVP.
-use Rattle.std.proofs.Common.{◌≡◌, ℕ, ◌+◌, ◌-◌, ◌<◌, ◌≤◌, List, [], ◌∷◌, ◌++◌, length, map, Option, Some, None, refl, sym, ap, subst, ◌∙◌, inl, inr, ⊎_elim}
-use Rattle.std.specs.Prelude.{◌⊎◌, slice_get}
+use Rattle.std.proofs.Common.{◌≡◌, List, [], ◌∷◌, ◌++◌, Some, None, refl, sym, ap, subst, ◌∙◌, inl, inr, ⊎_elim}
+use Rattle.std.specs.Prelude.{◌⊎◌}
 use Rattle.std.proofs.lemmas.Option.{none-some, same_Some}
-use Rattle.dia_wire.specs.declared.Key.{Key}
 use Rattle.dia_wire.specs.Wire.{PlainAvp, key_of}
 use Rattle.dia_data.specs.Plain.{Grouped}
 use Rattle.dia_data.specs.Leaf.{IsLeaf, LengthFits}
@@ -21,7 +20,7 @@ use Rattle.dia_check.proofs.AvpFaults.{admitted, refused_by_flags, refused_by_pl
 use Rattle.dia_check.proofs.RestOfLevels.{ByData, by_depth, by_length, by_value, either, first_wrong, fits_of}
 use Rattle.dia_faults.specs.Levels.{AreOwn, IsFilled, IsFlagged, IsGoodData}
 use Rattle.dia_faults.specs.Levels as levels
-use Rattle.dia_faults.specs.Rules.{ArePlaced, IsMisput, missing_between, missing_from}
+use Rattle.dia_faults.specs.Rules.{ArePlaced, missing_between}
 use Rattle.dia_faults.specs.States.{rest_keys}
 use Rattle.dia_faults.proofs.FirstMissing.{Firstly, IsFront, MetFrom, Says, firstly_between, front_after, misput_says, missing_first}
 

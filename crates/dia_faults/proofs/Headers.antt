@@ -10,7 +10,6 @@ use Rattle.dia_policy.specs.declared.Unknown.{Unknown}
 use Rattle.dia_policy.specs.declared.Levels.{Levels}
 use Rattle.dia_valid.specs.Valid.{class_of}
 use Rattle.dia_check.specs.declared.fault.Reason.TheVariants as reason
-use Rattle.dia_check.specs.Faults.{HasLength}
 use Rattle.dia_check.specs.Walks.{Found, fault_of, whole}
 use Rattle.dia_check.proofs.HeaderAnswers.{has_length}
 use Rattle.dia_faults.specs.declared.collector.Collector.{Collector}

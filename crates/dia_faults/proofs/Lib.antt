@@ -12,3 +12,4 @@ pub mod FirstMissing
 pub mod FirstOwn
 pub mod FirstListed
 pub mod Laws
+pub mod InOrder

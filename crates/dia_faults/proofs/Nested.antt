@@ -1,9 +1,8 @@
 -- The levels that wait, one in the other, and what is counted of each.
-use Rattle.std.proofs.Common.{◌≡◌, ◌≢◌, ℕ, suc, ◌+◌, ◌-◌, ◌<◌, ◌≤◌, List, [], ◌∷◌, ◌++◌, length, map, Option, Some, None, refl, sym, ap, subst, ◌∙◌, arith}
-use Rattle.std.specs.Prelude.{slice_get}
+use Rattle.std.proofs.Common.{◌≡◌, ◌≢◌, ℕ, suc, ◌+◌, ◌<◌, ◌≤◌, List, [], ◌∷◌, ◌++◌, length, refl, ap, subst, ◌∙◌, arith}
 use Rattle.std.proofs.lemmas.Option.{slice_get_within}
 use Rattle.dia_book.specs.declared.DRule.{DRule}
-use Rattle.dia_book.specs.Dictionary.{AreRules, Dictionary, IsDictionary, definitions}
+use Rattle.dia_book.specs.Dictionary.{AreRules, Dictionary, IsDictionary}
 use Rattle.dia_valid.proofs.Entries.{kept_rules}
 use Rattle.dia_check.specs.Walks.{Rest as AnyRest}
 use Rattle.dia_faults.specs.declared.listing.Rest.{Rest}

@@ -1,5 +1,5 @@
 -- All that is wrong with a level, in the order of its bytes: each level is judged by itself (RFC 6733 sections 4.1 and 4.4; places and order are our profile).
-use Rattle.std.specs.Prelude.{◌≡◌, ℕ, ◌<◌, ◌⊎◌, List, [], ◌∷◌, ◌++◌, length, map, Option, Some, None, MatchOption}
+use Rattle.std.specs.Prelude.{◌≡◌, ℕ, ◌<◌, ◌⊎◌, List, [], ◌∷◌, ◌++◌, length, map, Option, Some, None}
 use Rattle.dia_wire.specs.Wire.{PlainAvp, key_of, BeginsWith, BeginsWithNone}
 use Rattle.dia_data.specs.Plain.{Grouped}
 use Rattle.dia_data.specs.Leaf.{IsLeaf}

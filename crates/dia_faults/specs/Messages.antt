@@ -1,5 +1,6 @@
 -- All faults of a message (RFC 6733 sections 3, 3.2, 4.1 and 4.4; which of them are looked for, places and order are our profile).
 use Rattle.std.specs.Prelude.{◌≡◌, ◌≢◌, ℕ, ◌<◌, ◌≤◌, ◌⊎◌, true, false, List, [], ◌∷◌, ◌++◌, length, take, drop, Some, None, slice_get, slice_index, ⊤}
+use Rattle.std.specs.List.{AllByRecursion}
 use Rattle.dia_wire.specs.declared.Header.{Header}
 use Rattle.dia_wire.specs.Number.{number}
 use Rattle.dia_wire.specs.Wire.{IsMessageLength}
@@ -59,3 +60,8 @@ pub data AreAll (d : Dictionary) (u : Unknown) (most : Levels) (bytes : List ℕ
 abbrev pub IsFirstOf : Dictionary → Unknown → Levels → List ℕ → List Found → Type 0
 IsFirstOf d u most bytes [] = IsValid d u most bytes
 IsFirstOf d u most bytes (f ∷ fs) = IsRecorded d u most bytes (fault_of f)
+
+-- no fault's place is behind that of a later one
+abbrev pub AreInOrder : List Found → Type 0
+AreInOrder [] = Unit {0}
+AreInOrder (f ∷ fs) = AllByRecursion (λ g. f.spot.place ≤ g.spot.place) fs × AreInOrder fs

@@ -1,11 +1,13 @@
 ghost use Rattle.std.specs.Prelude.{◌≡◌, ◌↔◌, ◌∷◌, [], false, ◌<◌, ◌≤◌, ◌^◌, IfErr, IfOk, List, OnOk, Some, length, map, slice_get, ℕ};
-ghost use Rattle.dia_book.specs.Dictionary.{PlainDefinition, definitions};
+ghost use Rattle.dia_book.specs.Dictionary.{Dictionary, PlainDefinition, definitions};
+ghost use Rattle.dia_policy.specs.declared.Unknown.{Unknown as AnyPolicy};
+ghost use Rattle.dia_policy.specs.declared.Levels.{Levels as AnyLevels};
 ghost use Rattle.dia_valid.specs.Valid.{IsValid};
 ghost use Rattle.dia_check.specs.declared.fault.Fault.{Fault as AnyFault};
 ghost use Rattle.dia_check.specs.Faults.{IsRecorded};
 ghost use Rattle.dia_check.specs.Walks.{Found, fault_of};
 ghost use Rattle.dia_faults.specs.Collecting.{Adds, AreFirst};
-ghost use Rattle.dia_faults.specs.Messages.{AreAll, HasBits, HasBody, HasProxiable, IsUnlisted};
+ghost use Rattle.dia_faults.specs.Messages.{AreAll, AreInOrder, HasBits, HasBody, HasProxiable, IsUnlisted};
 
 use crate::collector::Collector;
 use crate::listing::list_body;
@@ -67,6 +69,12 @@ pub fn all_faults<B: Book>(
         more: found.more,
     })
 }
+
+/// All faults of a message have the order of their places.
+pub fn in_order()
+    ensures { (d : Dictionary) (u : AnyPolicy) (levels : AnyLevels) (bytes : List ℕ) (all : List Found)
+        → AreAll d u levels bytes all → AreInOrder all }
+{}
 
 /// Adds all faults of a message.
 fn list_all<B: Book>(

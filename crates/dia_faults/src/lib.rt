@@ -8,4 +8,4 @@ mod faults;
 mod listing;
 mod placing;
 
-pub use faults::{AllFaults, all_faults};
+pub use faults::{AllFaults, all_faults, in_order};

@@ -1,12 +1,11 @@
 -- What is written of all faults of a message, from what was listed.
-use Rattle.std.proofs.Common.{◌≡◌, ◌≢◌, ℕ, ◌<◌, ◌≤◌, Bool, true, false, List, [], ◌∷◌, ◌++◌, length, map, take, Result, Ok, Err, refl, sym, ap, subst, ◌∙◌, arith}
-use Rattle.std.specs.Prelude.{IfOk, MatchResult, nat_lt}
+use Rattle.std.proofs.Common.{◌≡◌, ℕ, ◌<◌, Bool, false, List, [], ◌∷◌, ◌++◌, length, map, take, Result, Ok, Err, refl, ap, subst, ◌∙◌, arith}
+use Rattle.std.specs.Prelude.{IfOk, MatchResult}
 use Rattle.std.proofs.lemmas.Bool.{le-ltb}
 use Rattle.std.proofs.lemmas.List.{take_all}
-use Rattle.dia_dict.specs.Dictionary.{Dictionary, definitions}
+use Rattle.dia_dict.specs.Dictionary.{Dictionary}
 use Rattle.dia_policy.specs.declared.Unknown.{Unknown}
 use Rattle.dia_policy.specs.declared.Levels.{Levels}
-use Rattle.dia_valid.specs.Valid.{IsValidOf}
 use Rattle.dia_check.specs.declared.Fault.{Fault}
 use Rattle.dia_check.specs.declared.Refusal.{Refusal}
 use Rattle.dia_check.specs.declared.Refusal.TheVariants as refusal
@@ -14,10 +13,10 @@ use Rattle.dia_check.specs.declared.Selected.{Selected}
 use Rattle.dia_check.specs.Faults.{IsAnswer}
 use Rattle.dia_check.specs.Walks.{Found, fault_of}
 use Rattle.dia_faults.specs.Collecting.{AreFirst}
-use Rattle.dia_faults.specs.Messages.{AreAll, IsUnlisted}
+use Rattle.dia_faults.specs.Messages.{AreAll}
 use Rattle.dia_io.specs.declared.Exit.{Exit}
 use Rattle.dia_io.specs.declared.Exit.TheVariants.{No}
-use Rattle.dia_run.specs.AllFaults.{IsAllRecorded, faults, fault_lines, more_line, unlisted, valid}
+use Rattle.dia_run.specs.AllFaults.{IsAllRecorded, faults, fault_lines, more_line, valid}
 use Rattle.dia_run.specs.Verdict.{IsVerdict}
 
 pub recorded_if : {A E : Type 0} (P Q : A → Type 0) (r : Result A E) → IfOk r P → ((a : A) → P a → Q a) → IfOk r Q
