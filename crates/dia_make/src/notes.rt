@@ -2,15 +2,16 @@
 
 use crate::notes::meant::{Meant, byte_of, in_other_quotes, meant_of};
 use crate::notes::names::NamesOf;
+use crate::notes::shown::is_shown;
 use crate::notes::wanted::words_of;
 use crate::notes::word::{end_of_words, word_at};
 use crate::reporting::{BadText, RefusedText, Report};
 use dia_data::{Format, push_hex_byte, push_value};
-use dia_dict::base_text;
+use dia_dict::{IndexedBook, base_text};
 use dia_explain_places::{Note, line_from, start_of_line};
 use dia_io::{Input, Inputs};
 use dia_policy::MAX_MESSAGE_TEXT;
-use dia_text::Fault;
+use dia_text::{Fault, Faults, all_faults};
 use std::alloc::{AllocError, Global};
 
 mod meant;
@@ -57,7 +58,10 @@ fn push_refused(note: &mut Note, name: &str, inputs: &Inputs, refused: &RefusedT
                 Input::Bytes(text) => text.as_slice() == base_text().as_bytes(),
                 Input::TooLong => false,
             };
-            push_fault(note, name, &NamesOf { book, is_base }, text, fault)
+            push_fault(note, name, &NamesOf { book, is_base }, text, fault);
+            if !is_shown(line_of(text, fault)) {
+                push_others(note, name, book, text);
+            }
         }
         _ => {
             note.put_all(&[name, ": the text has more than "]);
@@ -67,10 +71,50 @@ fn push_refused(note: &mut Note, name: &str, inputs: &Inputs, refused: &RefusedT
     }
 }
 
+/// Adds the faults of a text but the first one. Whose dictionary the names are of is only a hint to that.
+fn push_others(note: &mut Note, name: &str, book: &IndexedBook, text: &[u8]) {
+    let names = NamesOf {
+        book,
+        is_base: false,
+    };
+    match all_faults(note.allocator(), book, text) {
+        Ok(faults) => {
+            for fault in faults.first.iter().skip(1) {
+                push_fault(note, name, &names, text, fault);
+            }
+            push_more(note, name, &faults);
+        }
+        Err(error) => note.keep(Err(error)),
+    }
+}
+
+/// Adds how many faults weren't reported.
+fn push_more(note: &mut Note, name: &str, faults: &Faults) {
+    let shown = faults.first.len();
+    let more = faults.count.saturating_sub(shown);
+    if more > 0 {
+        note.put_all(&[name, ": these are the first "]);
+        note.put_number(shown as u64);
+        note.put(" faults, and there are ");
+        note.put_number(more as u64);
+        note.put(" more\n");
+    }
+}
+
+/// The line of a fault.
+fn line_of<'a>(text: &'a [u8], fault: &Fault) -> &'a [u8] {
+    line_from(text, start_of_fault(text, fault))
+}
+
+/// The place of the line of a fault.
+fn start_of_fault(text: &[u8], fault: &Fault) -> usize {
+    start_of_line(text, u32::try_from(fault.line).unwrap_or(u32::MAX))
+}
+
 /// Adds the place of a fault, the word there and what could be in its place, and what may be meant. `names` are those of the
 /// dictionary by which the text was read.
 fn push_fault(note: &mut Note, name: &str, names: &NamesOf<'_>, text: &[u8], fault: &Fault) {
-    let start = start_of_line(text, u32::try_from(fault.line).unwrap_or(u32::MAX));
+    let start = start_of_fault(text, fault);
     let at = match fault.at {
         Some(at) => start.saturating_add(at),
         None => end_of_words(text, start),
@@ -87,7 +131,7 @@ fn push_fault(note: &mut Note, name: &str, names: &NamesOf<'_>, text: &[u8], fau
     note.put_all(&["; expected ", words_of(fault.wanted), "\n"]);
     note.put_excerpt(text, at);
     let before = text.get(..start).unwrap_or(text);
-    let line = line_from(text, start);
+    let line = line_of(text, fault);
     push_meant(
         note,
         names,

@@ -30,11 +30,30 @@ letters_value [] [] = Some 0
 letters_value [] (c ∷ cs) = None
 letters_value (l ∷ ls) word = letter_then l.1 (letters_value ls) word (after_letter l.0 word)
 
+-- the bits without a name, where one is set: `+` (43) and two hexadecimal digits
+abbrev pub reserved_value : List ℕ → Option ℕ
+reserved_value [] = Some 0
+reserved_value (c ∷ cs) = if c == 43 then hex_byte_of cs else None
+
+-- the flag of the first sign, and what follows: the letter, or a dash (45) where the flag is clear
+abbrev pub column : ℕ × ℕ → List ℕ → Option (ℕ × List ℕ)
+column l [] = None
+column l (c ∷ cs) = if c == l.0 then Some (l.1, cs) else if c == 45 then Some (0, cs) else None
+
+-- the sum of the flags of a word that has a sign for each letter of the table, in this order
+abbrev pub columns_value : List (ℕ × ℕ) → List ℕ → Option ℕ
+columns_value [] word = reserved_value word
+columns_value (l ∷ ls) word = option_and_then (λ first. option_map (λ n. first.0 + n) (columns_value ls first.1)) (column l word)
+
+-- letters as `show --names` prints them, or those that are set alone
+abbrev pub by_letters : List (ℕ × ℕ) → List ℕ → Option ℕ
+by_letters letters word = option_or (letters_value letters word) (columns_value letters word)
+
 -- flags: a dash for none, two hexadecimal digits, or letters
 abbrev pub flags_of : List (ℕ × ℕ) → List ℕ → Option ℕ
 flags_of letters [] = None
 flags_of letters (c ∷ cs) =
-    if same_bytes (c ∷ cs) (codes "-") then Some 0 else option_or (hex_byte_of (c ∷ cs)) (option_and_then (within 256) (letters_value letters (c ∷ cs)))
+    if same_bytes (c ∷ cs) (codes "-") then Some 0 else option_or (hex_byte_of (c ∷ cs)) (option_and_then (within 256) (by_letters letters (c ∷ cs)))
 
 -- flags after their keyword; without a default the keyword has to be there
 unfoldable pub flags_field : List (ℕ × ℕ) → Wanted → Option ℕ → Wanted → List ℕ → Result (ℕ × List ℕ) Misfit

@@ -4,7 +4,8 @@ ghost use Rattle.std.specs.Prelude.{option_and_then};
 ghost use Rattle.std.specs.Option.{option_map};
 ghost use Rattle.dia_text.specs.Fields.{number_field, flags_field, flags_of};
 ghost use Rattle.dia_text.specs.Fields.{length_field, padding_field, bytes_of};
-ghost use Rattle.dia_text.specs.Fields.{letters_value, decoded};
+ghost use Rattle.dia_text.specs.Fields.{letters_value, columns_value, column, reserved_value};
+ghost use Rattle.dia_text.specs.Fields.{by_letters, decoded};
 ghost use Rattle.hex.specs.Hex.{decode_of};
 ghost use Rattle.dia_text.specs.Numbers.{any_below, within};
 ghost use Rattle.dia_text.specs.Reading.{Gives, IsRead, Reads, some_or, at_word};
@@ -118,10 +119,59 @@ fn flags_of(letters: &[(u8, u8)], word: &[u8]) -> Option<u8>
 
 fn flags_by_letters(letters: &[(u8, u8)], word: &[u8]) -> Option<u8>
     requires { length letters.now ≤ 4 }
-    ensures { result ≡ option_and_then (within 256) (letters_value letters.now word.now) }
+    ensures { result ≡ option_and_then (within 256) (by_letters letters.now word.now) }
 {
-    let total = letters_value(letters, word)?;
+    let total = by_letters(letters, word)?;
     if total < 256 { Some(total as u8) } else { None }
+}
+
+/// The sum of the flags of a word: as `show --names` prints them, or of those that are set alone.
+fn by_letters(letters: &[(u8, u8)], word: &[u8]) -> Option<u32>
+    requires { length letters.now ≤ 4 }
+    ensures { result ≡ by_letters letters.now word.now }
+{
+    match letters_value(letters, word) {
+        Some(total) => Some(total),
+        None => columns_value(letters, word),
+    }
+}
+
+/// The sum of the flags of a word that has a sign for each letter: the letter, or a dash where the flag is clear.
+fn columns_value(letters: &[(u8, u8)], word: &[u8]) -> Option<u32>
+    requires { length letters.now ≤ 4 }
+    ensures { result ≡ columns_value letters.now word.now }
+{
+    let mut total = 0u32;
+    let mut rest = word;
+    for row in letters {
+        let (flag, following) = column(row, rest)?;
+        total += u32::from(flag);
+        rest = following;
+    }
+    let reserved = reserved_value(rest)?;
+    Some(total + u32::from(reserved))
+}
+
+/// The flag that the first sign of a word has in its column, and what follows.
+fn column<'a>(row: &(u8, u8), word: &'a [u8]) -> Option<(u8, &'a [u8])>
+    ensures { option_map (λ x. (x.0, x.1.now)) result ≡ column row.now word.entry.now }
+{
+    match word {
+        [first, following @ ..] if *first == row.0 => Some((row.1, following)),
+        [b'-', following @ ..] => Some((0, following)),
+        _ => None,
+    }
+}
+
+/// The bits without a name, after the letters.
+fn reserved_value(word: &[u8]) -> Option<u8>
+    ensures { result ≡ reserved_value word.now }
+{
+    match word {
+        [] => Some(0),
+        [b'+', digits @ ..] => hex_byte_of(digits),
+        _ => None,
+    }
 }
 
 /// An AVP Length after its keyword; and what follows.

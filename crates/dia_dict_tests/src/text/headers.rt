@@ -11,6 +11,14 @@ code 280 flags ET app 0 hop 1 end 2 => 01000014 30 000118 00000000 00000001 0000
 code 16777215 flags RPET app 4294967295 hop 4294967295 end 4294967295 => 01000014 f0 ffffff ffffffff ffffffff ffffffff
 code 1 flags ff app 0 hop 0 end 0 => 01000014 ff 000001 00000000 00000000 00000000
 code 1 flags 0F app 0 hop 0 end 0 => 01000014 0f 000001 00000000 00000000 00000000
+# As `show --names` prints them: a sign for each flag, and the bits without a name.
+code 1 flags R--T app 0 hop 0 end 0 => 01000014 90 000001 00000000 00000000 00000000
+code 1 flags ---- app 0 hop 0 end 0 => 01000014 00 000001 00000000 00000000 00000000
+code 1 flags -P--+01 app 0 hop 0 end 0 => 01000014 41 000001 00000000 00000000 00000000
+code 1 flags -P- app 0 hop 0 end 0 => value at line 1
+code 1 flags -P--- app 0 hop 0 end 0 => value at line 1
+code 1 flags P--- app 0 hop 0 end 0 => value at line 1
+code 1 flags -P--+1 app 0 hop 0 end 0 => value at line 1
 # Two letters that are hexadecimal digits would be digits; a letter alone is a letter.
 code 1 flags E app 0 hop 0 end 0 => 01000014 20 000001 00000000 00000000 00000000
 code 01 flags - app 007 hop 0 end 0 => 01000014 00 000001 00000007 00000000 00000000
