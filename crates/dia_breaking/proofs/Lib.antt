@@ -73,3 +73,4 @@ mod SpelledLevels
 mod ShownAvps
 mod EachShown
 pub mod StockOfUpgrade
+pub mod PartsOfLines

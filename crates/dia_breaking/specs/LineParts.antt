@@ -1,9 +1,9 @@
 -- What a line says, in its parts: where it is, the reason, the subject, and what is sent, accepted or read. A is the sender's dictionary, B the
 -- receiver's.
-use Rattle.std.specs.Prelude.{ℕ, Bool, true, false, not, if◌then◌else◌, List, [], ◌∷◌, ◌++◌, codes, map, string_bytes, Option, Some, None, option_and_then, slice_get}
-use Rattle.std.specs.List.{flat_map}
+use Rattle.std.specs.Prelude.{◌≡◌, ⊤, ℕ, Bool, true, not, if◌then◌else◌, List, [], ◌∷◌, ◌++◌, codes, map, string_bytes, Option, Some, None, option_and_then, slice_get}
+use Rattle.std.specs.Fmt.{decimal}
+use Rattle.std.specs.List.{AllByRecursion, flat_map}
 use Rattle.std.specs.Option.{option_map, option_map_or}
-use Rattle.std.specs.Borrow.{Bor}
 use Rattle.dia_wire.specs.declared.Key.{Key}
 use Rattle.dia_data.specs.Plain.{PlainFormat}
 use Rattle.dia_policy.specs.declared.Unknown.{Unknown}
@@ -29,7 +29,7 @@ use Rattle.dia_breaking.specs.declared.line_parts.Subject.{Subject}
 use Rattle.dia_breaking.specs.declared.line_parts.Subject.TheVariants as subjects
 use Rattle.dia_breaking.specs.Runs.{lacking_of}
 use Rattle.dia_breaking.specs.Sides.{Sides}
-use Rattle.dia_breaking.specs.Words.{accepted_bounds, accepted_rules, avp_name, bounds_text, definition_name, flag_word, format_in, is_command, path_to, range_text, ranges_at, sent_bounds, sent_rules, subject_name, whole_format}
+use Rattle.dia_breaking.specs.Words.{accepted_bounds, accepted_rules, application_text, avp_name, bounds_text, definition_name, flag_word, format_in, is_command, path_to, range_text, ranges_at, sent_bounds, sent_rules, standing_text, subject_name, whole_format, words_of}
 
 -- ---- the parts
 
@@ -316,3 +316,76 @@ parts_in s other c sites line = record {
 -- of a line about the command c of A, whose words are `words_of`
 abbrev pub parts_of : Sides → (Key → ℕ) → ℕ → List Site → Line → PlainParts
 parts_of s other c sites line = if is_command s.sender c then parts_in s other c sites line else no_parts line.standing
+
+-- ---- the words of the parts: `PATH: REASON SUBJECT: DETAIL`
+
+abbrev pub path_words : PlainPath → List ℕ
+path_words path = path.command ++ option_map_or (application_text true) path.application [] ++ flat_map (λ name. codes "/" ++ name) path.groups
+
+abbrev pub reason_words : Option LineReason → List ℕ
+reason_words reason = option_map_or (λ why. reason_text why ++ codes " ") reason []
+
+abbrev pub subject_words : PlainSubject → List ℕ
+subject_words Header = codes "-"
+subject_words (Application app) = decimal app
+subject_words (Avp name) = name
+
+-- `1 sent`, or `sent` alone
+abbrev pub sent_words : Option PlainAmount → List ℕ
+sent_words sent = option_map_or (λ amount. amount_text amount ++ codes " ") sent [] ++ codes "sent"
+
+abbrev pub accepted_words : Option PlainAmount → List ℕ
+accepted_words accepted = option_map_or (λ amount. amount_text amount ++ codes " accepted") accepted []
+
+-- `1 sent, 0..1 accepted`, or one of both
+abbrev pub both_words : Option PlainAmount → Option PlainAmount → List ℕ
+both_words (Some sent) (Some accepted) = sent_words (Some sent) ++ codes ", " ++ accepted_words (Some accepted)
+both_words (Some sent) None = sent_words (Some sent)
+both_words None accepted = accepted_words accepted
+
+-- numbers that B's list lacks, where nothing is accepted; else both formats
+abbrev pub format_words : Option PlainAmount → Option PlainAmount → List ℕ
+format_words sent None = sent_words sent ++ codes ", not in the list"
+format_words sent (Some accepted) = both_words sent (Some accepted)
+
+abbrev pub detail_by_reason : LineReason → PlainParts → List ℕ
+detail_by_reason reasons.Command parts = codes "not accepted"
+detail_by_reason reasons.Application parts = codes "not accepted"
+detail_by_reason reasons.Proxiable parts = sent_words parts.sent
+detail_by_reason reasons.Missing parts = both_words parts.sent parts.accepted
+detail_by_reason reasons.TooMany parts = both_words parts.sent parts.accepted
+detail_by_reason reasons.NotAllowed parts = sent_words parts.sent
+detail_by_reason reasons.Order parts = option_map_or (λ name. codes "behind " ++ name ++ codes " sent") parts.following []
+detail_by_reason reasons.Unknown parts = sent_words parts.sent ++ codes ", not known"
+detail_by_reason reasons.MBit parts = both_words parts.sent parts.accepted
+detail_by_reason reasons.Format parts = format_words parts.sent parts.accepted
+detail_by_reason reasons.Meaning parts = sent_words parts.sent ++ codes ", " ++ option_map_or (λ text. text ++ codes " read") parts.read []
+
+abbrev pub detail_words : PlainParts → List ℕ
+detail_words parts = option_map_or (λ why. detail_by_reason why parts) parts.reason (both_words parts.sent parts.accepted)
+
+abbrev pub matter_words : PlainParts → List ℕ
+matter_words parts = reason_words parts.reason ++ (subject_words parts.subject ++ (codes ": " ++ detail_words parts))
+
+abbrev pub parts_words : PlainParts → List ℕ
+parts_words parts = path_words parts.path ++ codes ": " ++ standing_text parts.standing ++ matter_words parts
+
+-- ---- the law
+
+abbrev pub IsCommandPlace : Place → Type 0
+IsCommandPlace (places.Command app read_as is_recorded proxiable) = ⊤
+IsCommandPlace (places.Group key outer) = ⊥
+
+abbrev pub IsGroupPlace : Place → Type 0
+IsGroupPlace (places.Command app read_as is_recorded proxiable) = ⊥
+IsGroupPlace (places.Group key outer) = ⊤
+
+-- the path begins at the command's level, and goes on in groups
+abbrev pub IsFromCommand : List Site → Type 0
+IsFromCommand [] = ⊥
+IsFromCommand (site ∷ sites) = IsCommandPlace site.place × AllByRecursion (λ other. IsGroupPlace other.place) sites
+
+-- a line of a command of A has the words of its parts
+abbrev pub WordsAreOfParts : Type 0
+WordsAreOfParts = (s : Sides) (other : Key → ℕ) (c : ℕ) (sites : List Site) (line : Line) (site : Site) → is_command s.sender c ≡ true → slice_get sites line.site ≡ Some site
+    → IsFromCommand (path_to sites line.site) → words_of s other c sites line ≡ parts_words (parts_of s other c sites line)

@@ -1,6 +1,7 @@
 //! What holds of the lines and the meanings of a command, and where a table shows inclusion.
 ghost use Rattle.dia_breaking.specs.Confirmed.{IncludedBreakNothing, IncludedHaveNoLines};
 ghost use Rattle.dia_breaking.specs.DataLines.{DataLinesAreApart};
+ghost use Rattle.dia_breaking.specs.LineParts.{WordsAreOfParts};
 ghost use Rattle.dia_breaking.specs.Listing.{ListingsAreOne};
 ghost use Rattle.dia_breaking.specs.Messages.{EachLineHasAMessage, LineMessagesAreBytes, LineMessagesAreOne};
 ghost use Rattle.dia_breaking.specs.ShownLines.{LinesAreShown};
@@ -55,4 +56,9 @@ pub fn the_meanings_are_one()
 /// reported, or one with an AVP whose flags or data are the reported ones, and that B refuses.
 pub fn lines_are_shown()
     ensures { LinesAreShown }
+{}
+
+/// The words of a line of a command are those of its parts.
+pub fn words_are_of_parts()
+    ensures { WordsAreOfParts }
 {}

@@ -43,6 +43,7 @@ pub use dia_policy::{Sends, Unknown};
 pub use laws::{
     data_lines_are_apart, included_commands_break_nothing, line_messages_are_one, lines_are_shown,
     listings_are_one, the_lines_are_all, the_lines_are_one, the_meanings_are_one,
+    words_are_of_parts,
 };
 pub use line::{Breaks, Cause, Line, Place, Site, Standing};
 pub use line_parts::{Amount, LineParts, LineReason, Path, Subject};
