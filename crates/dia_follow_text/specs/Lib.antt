@@ -1,3 +1,4 @@
 pub mod Names
 pub mod Times
+pub mod Entries
 pub mod Reasons

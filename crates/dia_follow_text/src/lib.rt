@@ -5,14 +5,18 @@
 //! let followed = follow(alloc, &options, &dictionary, &mut feed, &mut sink)?;
 //! ```
 //!
-//! The answer is put as the lines come. `followed.reported` says how the command ended, and `followed.summary` is for standard error.
+//! The answer is put as the lines come. `followed.reported` says how the command ended, and `followed.summary` is for standard
+//! error.
 #![tactic(auto)]
 
 mod answering;
 mod counts;
 mod details;
 mod entry;
+mod forms;
 mod json;
+mod judging;
+mod messages;
 mod names;
 mod options;
 mod reasons;
@@ -22,6 +26,7 @@ mod running;
 mod said;
 mod summary;
 mod times;
+mod unanswered;
 
 pub use entry::{BadLine, Entry, read_line};
 pub use options::{Check, Options};

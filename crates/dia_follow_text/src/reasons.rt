@@ -49,8 +49,8 @@ pub(crate) fn word(reason: Reason) -> &'static str
     }
 }
 
-/// The section of RFC 6733 that a departure is from. `None` for notes and for what `check` finds. That of `error-flag` goes by the
-/// Result-Code.
+/// The section of RFC 6733 that a departure is from. `None` for notes and for what `check` finds. That of `error-flag` goes by
+/// the Result-Code.
 pub(crate) fn section(reason: Reason, result_code: Option<u32>) -> Option<&'static str>
     ensures { option_copied result ≡ section reason result_code }
 {

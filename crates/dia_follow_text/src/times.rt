@@ -1,57 +1,116 @@
 //! Times: read, and written.
 
-ghost use Rattle.std.specs.Prelude.{◌≡◌, ◌++◌, OnOk, string_bytes};
-ghost use Rattle.dia_follow_text.specs.Times.{after, seconds, six_digits};
+ghost use Rattle.std.specs.Prelude.{◌≡◌, ◌==◌, ◌<◌, ◌≤◌, ◌^◌, ◌++◌, IfSome, OnOk, length, position, string_bytes};
+ghost use Rattle.std.specs.List.{list_all};
+ghost use Rattle.std.specs.Char.{is_ascii_digit};
+ghost use Rattle.dia_follow_text.specs.Times.{after, digit, digits_of, scale, seconds, six_digits, time_of, value, whole_time, with_decimals};
 
 use std::alloc::AllocError;
 
 const SECOND: u64 = 1_000_000_000;
 
 /// The nanoseconds of a time: 1 to 10 digits of seconds, with a point and 1 to 9 digits behind them or without.
-pub(crate) fn read_time(word: &[u8]) -> Option<u64> {
-    let Some(point) = word.iter().position(|byte| *byte == b'.') else {
-        return Some(digits(word, 10)?.saturating_mul(SECOND));
+pub(crate) fn read_time(word: &[u8]) -> Option<u64>
+    ensures { result ≡ time_of word.now }
+{
+    match point_of(word) {
+        Some(point) => {
+            let decimals = &word[point + 1..];
+            with_decimals(
+                digits(&word[..point], 10),
+                digits(decimals, 9),
+                decimals.len(),
+            )
+        }
+        None => whole_time(digits(word, 10)),
+    }
+}
+
+fn point_of(word: &[u8]) -> Option<usize>
+    ensures place { result ≡ position (λ byte. byte == 46) word.now }
+    ensures inside { IfSome result (λ point. point < length word.now) }
+{
+    word.iter().position(|byte| *byte == b'.')
+}
+
+fn whole_time(seconds: Option<u64>) -> Option<u64>
+    requires { IfSome seconds (λ seconds. seconds < 10 ^ 10) }
+    ensures { result ≡ whole_time seconds }
+{
+    match seconds {
+        Some(seconds) => Some(seconds * SECOND),
+        None => None,
+    }
+}
+
+fn with_decimals(seconds: Option<u64>, decimals: Option<u64>, count: usize) -> Option<u64>
+    requires seconds { IfSome seconds (λ seconds. seconds < 10 ^ 10) }
+    requires decimals { IfSome decimals (λ decimals. decimals < 10 ^ 10) }
+    ensures { result ≡ with_decimals seconds decimals count }
+{
+    let Some(seconds) = seconds else {
+        return None;
     };
-    let seconds = digits(&word[..point], 10)?;
-    let decimals = &word[point + 1..];
-    let fraction = digits(decimals, 9)?;
-    let fraction = fraction.saturating_mul(scale(decimals.len()));
-    Some(seconds.saturating_mul(SECOND).saturating_add(fraction))
+    let Some(decimals) = decimals else {
+        return None;
+    };
+    Some(seconds * SECOND + decimals * scale(count))
 }
 
 /// The number that 1 to so many digits are.
-fn digits(word: &[u8], most: usize) -> Option<u64> {
-    if word.is_empty() || word.len() > most {
+fn digits(word: &[u8], most: usize) -> Option<u64>
+    requires { most ≤ 10 }
+    ensures value { result ≡ digits_of most word.now }
+    ensures small { IfSome result (λ number. number < 10 ^ 10) }
+{
+    if word.is_empty() || word.len() > most || !are_digits(word) {
         return None;
     }
+    Some(value(word))
+}
+
+fn are_digits(word: &[u8]) -> bool
+    ensures { result ≡ list_all is_ascii_digit word.now }
+{
+    word.iter().all(|byte| byte.is_ascii_digit())
+}
+
+/// The number that digits are.
+fn value(word: &[u8]) -> u64
+    requires { length word.now ≤ 10 }
+    ensures value { result ≡ value word.now }
+    ensures small { result < 10 ^ 10 }
+{
     let mut number = 0u64;
     for byte in word {
-        if !byte.is_ascii_digit() {
-            return None;
-        }
-        let digit = u64::from(byte.saturating_sub(b'0'));
-        number = number.saturating_mul(10).saturating_add(digit);
+        number = number * 10 + digit(*byte);
     }
-    Some(number)
+    number
+}
+
+/// What a digit counts.
+fn digit(byte: u8) -> u64
+    ensures value { result ≡ digit byte }
+    ensures small { result ≤ 9 }
+{
+    u64::from(byte.saturating_sub(b'0').min(9))
 }
 
 /// How many nanoseconds the last of so many decimals counts.
-fn scale(decimals: usize) -> u64 {
-    const SCALES: [u64; 10] = [
-        1_000_000_000,
-        100_000_000,
-        10_000_000,
-        1_000_000,
-        100_000,
-        10_000,
-        1000,
-        100,
-        10,
-        1,
-    ];
-    match SCALES.get(decimals) {
-        Some(scale) => *scale,
-        None => 1,
+fn scale(decimals: usize) -> u64
+    ensures value { result ≡ scale decimals }
+    ensures bound { result ≤ 100000000 }
+{
+    match decimals {
+        1 => 100_000_000,
+        2 => 10_000_000,
+        3 => 1_000_000,
+        4 => 100_000,
+        5 => 10_000,
+        6 => 1000,
+        7 => 100,
+        8 => 10,
+        _ => 1,
     }
 }
 
