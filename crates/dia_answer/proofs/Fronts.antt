@@ -1,14 +1,13 @@
 -- A level that is gone through AVP by AVP.
 use Rattle.std.proofs.Common.{◌≡◌, ℕ, ◌<◌, List, [], ◌∷◌, ◌++◌, length, map, take, drop, ◌-◌, ◌+◌, ◌≤◌, ◌≢◌, append-nil, refl, sym, ap, subst, ◌∙◌, append_assoc, arith}
-use Rattle.std.specs.Prelude.{All, Result, Ok, Err, IfOk}
+use Rattle.std.specs.Prelude.{Result, Ok, Err, IfOk}
 use Rattle.byteorder.specs.Endian.{big_from}
 use Rattle.dia_wire.specs.Number.{number}
 use Rattle.dia_wire.proofs.Fields.{big_from-number}
 use Rattle.dia_check.specs.declared.Reason.{Reason}
 use Rattle.dia_check.specs.declared.Reason.TheVariants as reason
 use Rattle.std.proofs.lemmas.List.{length-append, length-drop, map-append, take_rest}
-use Rattle.std.proofs.lemmas.List.Elements.{All-push}
-use Rattle.dia_wire.specs.declared.Avp.{Avp}
+use Rattle.dia_answer.specs.declared.held.Held.{Held}
 use Rattle.dia_wire.specs.Wire.{PlainAvp, plain_avp, avp_length, Agrees, Spells, SpellsAll, BeginsWith, BeginsWithNone}
 use Rattle.dia_wire.proofs.Spelling.{opened, rounded-le, at_least_8}
 use Rattle.dia_answer.specs.Requests.{AreFront, AreRequestAvps}
@@ -32,26 +31,26 @@ spelled_more [] v b front all s = (front, [], s, ap (λ (x : List ℕ). x ++ fro
 spelled_more (w ∷ vs) v b front (head, rest, t, parts, all) s =
     (head, rest ++ front, t, ap (λ (x : List ℕ). x ++ front) parts ∙ append_assoc head rest front, spelled_more vs v rest front all s)
 
+abbrev pub plain_held : Held → PlainAvp
+plain_held h = plain_avp h.avp
+
 -- these AVPs were read, and this is left
-pub record HasRead (level : List ℕ) (avps : List Avp) (left : List ℕ) : Type 0 where
+pub record HasRead (level : List ℕ) (avps : List Held) (left : List ℕ) : Type 0 where
   pub front : List ℕ
   pub parts : level ≡ front ++ left
-  pub spelled : SpellsAll (map plain_avp avps) front
+  pub spelled : SpellsAll (map plain_held avps) front
 
 pub read_none : (level : List ℕ) → HasRead level [] level
 read_none level = record { front = []; parts = refl; spelled = refl }
 
-pub read_more : (level : List ℕ) (avps new : List Avp) (v : Avp) (left rest : List ℕ) → HasRead level avps left → BeginsWith (plain_avp v) left rest → new ≡ avps ++ v ∷ [] → HasRead level new rest
+pub read_more : (level : List ℕ) (avps new : List Held) (v : Held) (left rest : List ℕ) → HasRead level avps left → BeginsWith (plain_held v) left rest → new ≡ avps ++ v ∷ [] → HasRead level new rest
 read_more level avps new v left rest r b is = record {
   front = r.front ++ b.0;
   parts = r.parts ∙ ap (λ (x : List ℕ). r.front ++ x) b.2 ∙ sym (append_assoc r.front b.0 rest);
-  spelled = subst (λ (vs : List PlainAvp). SpellsAll vs (r.front ++ b.0)) (sym (ap (map plain_avp) is ∙ map-append plain_avp avps (v ∷ []))) (spelled_more (map plain_avp avps) (plain_avp v) r.front b.0 r.spelled b.1);
+  spelled = subst (λ (vs : List PlainAvp). SpellsAll vs (r.front ++ b.0)) (sym (ap (map plain_held) is ∙ map-append plain_held avps (v ∷ []))) (spelled_more (map plain_held avps) (plain_held v) r.front b.0 r.spelled b.1);
 }
 
-pub agree_more : (avps new : List Avp) (v : Avp) (left rest : List ℕ) → All (λ v. Agrees (plain_avp v)) avps → BeginsWith (plain_avp v) left rest → new ≡ avps ++ v ∷ [] → All (λ v. Agrees (plain_avp v)) new
-agree_more avps new v left rest agree b is = subst (All (λ v. Agrees (plain_avp v))) (sym is) (All-push (λ v. Agrees (plain_avp v)) avps v agree b.1.agrees)
-
-pub read_all : (level : List ℕ) (avps : List Avp) (left : List ℕ) → HasRead level avps left → BeginsWithNone left → AreFront (map plain_avp avps) level
+pub read_all : (level : List ℕ) (avps : List Held) (left : List ℕ) → HasRead level avps left → BeginsWithNone left → AreFront (map plain_held avps) level
 read_all level avps left r none = record { front = r.front; rest = left; parts = r.parts; spelled = r.spelled; none = none }
 
 pub IfOk-map : {X E : Type 0} (P Q : X → Type 0) → ((x : X) → P x → Q x) → (r : Result X E) → IfOk r P → IfOk r Q

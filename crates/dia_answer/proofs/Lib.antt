@@ -6,3 +6,4 @@ pub mod Messages
 pub mod LoneAvps
 pub mod OwnKeys
 pub mod Answers
+pub mod Flags

@@ -1,18 +1,19 @@
 //! Whether an AVP by itself is as a dictionary says.
 
 ghost use Rattle.std.specs.Prelude.{◌≡◌, ◌<◌, ◌↔◌, length, IfOk, IsTrue};
-ghost use Rattle.dia_wire.specs.Wire.{plain_avp, Agrees};
+ghost use Rattle.dia_wire.specs.Wire.{plain_avp};
 ghost use Rattle.dia_valid.specs.Valid.{IsValid};
 ghost use Rattle.dia_book.specs.Dictionary.{IsDictionary, groups as groups_of, plain_definition};
 ghost use Rattle.dia_answer.specs.Dictionaries.{alone, any_command};
 ghost use Rattle.dia_answer.specs.Stocks.{IsFit};
 ghost use Rattle.dia_book.specs.Opened.{opened};
 
+use crate::held::Held;
 use dia_book::{
     Book, Class, DRule, DefHead, DefId, Definition, Entry, Format, Key, MRule, Pxy, RuleKind, Slot,
 };
 use dia_check::{Levels, Refusal, Unknown, check};
-use dia_wire::{Avp, COMMAND_ERROR, Header, PutFault, put_message};
+use dia_wire::{COMMAND_ERROR, Header, PutFault, put_message};
 use std::alloc::{AllocError, Global};
 
 /// A dictionary with one command in place of its own: an error message, which may hold any AVPs. So its messages are valid
@@ -140,10 +141,9 @@ pub(crate) struct Judge<'a, B: Book> {
 
 impl<'a, B: Book> Judge<'a, B> {
     /// Whether a message that holds this AVP alone, and any AVPs by its command, is valid.
-    pub(crate) fn fits(&self, avp: &Avp<'_>) -> Result<bool, AllocError>
-        requires { Agrees (plain_avp avp.now) }
+    pub(crate) fn fits(&self, held: &Held<'_>) -> Result<bool, AllocError>
         ensures { IfOk result (λ ok. IsTrue ok ↔ IsFit (B.meaning self.now.book.book.now)
-            self.now.unknown self.now.levels (plain_avp avp.now)) }
+            self.now.unknown self.now.levels (plain_avp held.now.avp)) }
     {
         let header = Header {
             flags: COMMAND_ERROR,
@@ -153,7 +153,7 @@ impl<'a, B: Book> Judge<'a, B> {
             e2e: 0,
         };
         let mut bytes = Vec::new(self.alloc);
-        match put_message(&mut bytes, &header, &[*avp]) {
+        match put_message(&mut bytes, &header, &[held.avp]) {
             Ok(()) => self.is_valid(&bytes),
             Err(PutFault::TooLong) => Ok(false),
             Err(PutFault::NoMemory) => Err(AllocError),

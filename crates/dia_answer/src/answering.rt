@@ -21,6 +21,7 @@ ghost use Rattle.dia_answer.specs.Reports.{
 
 use crate::contents::{Contents, Extent};
 use crate::forms::{Form, Made, NoAnswer};
+use crate::held::{self, Held};
 use crate::names::Names;
 use crate::opaque::Opaque;
 use crate::request::header_of;
@@ -28,7 +29,7 @@ use crate::stock::Stock;
 use dia_book::{Book, Class, DRule};
 use dia_check::{Levels, Refusal, Unknown, check};
 use dia_dict::base_book;
-use dia_wire::{Avp, COMMAND_ERROR, COMMAND_PROXIABLE, Header, PutFault, put_message};
+use dia_wire::{COMMAND_ERROR, COMMAND_PROXIABLE, Header, PutFault, put_message};
 use std::alloc::{AllocError, Global};
 
 /// The answer to a request that reports the first fault that `check` finds of it (RFC 6733 sections 6.2, 7.1.5, 7.2 and 7.5),
@@ -195,16 +196,14 @@ fn header_for(request: &Header, form: Form) -> Header
 }
 
 /// The message of these AVPs; none where it would be too long.
-fn written(alloc: Global, header: &Header, avps: &[Avp<'_>]) -> Result<Option<Vec<u8>>, AllocError>
+fn written(alloc: Global, header: &Header, held: &[Held<'_>]) -> Result<Option<Vec<u8>>, AllocError>
     requires fits { header.now.code < three_bytes }
-    ensures { IfOk result (λ found. IfSome found
-        (λ bytes. MessageWithZeros header.now (map plain_avp avps.now) bytes.items)) }
+    ensures { IfOk result (λ found. IfSome found (λ bytes.
+        MessageWithZeros header.now (map (λ h. plain_avp h.avp) held.now) bytes.items)) }
 {
-    if !avps.iter().all(|avp| avp.agrees()) {
-        return Ok(None);
-    }
+    let avps = held::written(alloc, held)?;
     let mut bytes = Vec::new(alloc);
-    match put_message(&mut bytes, header, avps) {
+    match put_message(&mut bytes, header, &avps) {
         Ok(()) => Ok(Some(bytes)),
         Err(PutFault::TooLong) => Ok(None),
         Err(PutFault::NoMemory) => Err(AllocError),

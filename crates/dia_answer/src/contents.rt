@@ -1,20 +1,20 @@
 //! What an answer is made of, whatever its form.
 
-ghost use Rattle.std.specs.Prelude.{◌≡◌, ◌<◌, ◌≤◌, All, IfOk, length, string_bytes};
+ghost use Rattle.std.specs.Prelude.{◌≡◌, ◌<◌, ◌≤◌, IfOk, length, string_bytes};
 ghost use Rattle.std.specs.Option.{option_map};
 ghost use Rattle.byteorder.specs.Endian.{big_bytes};
 ghost use Rattle.dia_wire.specs.Lengths.{header_length, three_bytes};
-ghost use Rattle.dia_wire.specs.Wire.{plain_avp, Agrees};
 ghost use Rattle.dia_answer.specs.Contents.{full_line, full_failed};
 
 use crate::failed::failed_data;
+use crate::held::Held;
 use crate::line::line_of;
 use crate::names::Names;
 use crate::request::avps_of;
 use byteorder::{BigEndian, ByteOrder};
 use dia_book::Book;
 use dia_check::{Fault, Levels, Unknown};
-use dia_wire::{Avp, Header};
+use dia_wire::Header;
 use std::alloc::{AllocError, Global};
 
 /// Whether an answer has Error-Message and Failed-AVP.
@@ -35,7 +35,7 @@ pub(crate) struct Contents<'a> {
     pub(crate) header: Header,
     pub(crate) fault: Fault,
     /// The AVPs of the request.
-    pub(crate) request: Vec<Avp<'a>>,
+    pub(crate) request: Vec<Held<'a>>,
     /// The data of Result-Code.
     pub(crate) code: [u8; 4],
     /// The data of Error-Message.
@@ -44,7 +44,6 @@ pub(crate) struct Contents<'a> {
     failed: Option<Vec<u8>>,
     ghost fits: { header.code < three_bytes },
     ghost number: { code ≡ big_bytes 4 fault.code },
-    ghost agree: { All (λ v. Agrees (plain_avp v)) request.items },
 }
 
 impl<'a> Contents<'a> {

@@ -17,6 +17,7 @@ mod contents;
 mod example;
 mod failed;
 mod forms;
+mod held;
 mod line;
 mod names;
 mod opaque;

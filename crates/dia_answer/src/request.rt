@@ -1,13 +1,14 @@
 //! The header and the AVPs of a request.
 
-ghost use Rattle.std.specs.Prelude.{◌≡◌, ◌<◌, ◌≤◌, ◌↔◌, All, IfOk, IfSome, None, length, map};
+ghost use Rattle.std.specs.Prelude.{◌≡◌, ◌<◌, ◌≤◌, ◌↔◌, IfOk, IfSome, None, length, map};
 ghost use Rattle.dia_wire.specs.Lengths.{header_length, three_bytes};
-ghost use Rattle.dia_wire.specs.Wire.{plain_avp, Agrees};
+ghost use Rattle.dia_wire.specs.Wire.{plain_avp};
 ghost use Rattle.dia_answer.specs.Requests.{AreFront, AreRequestAvps, IsRequestHead};
 
+use crate::held::Held;
 use byteorder::{BigEndian, ByteOrder};
 use dia_check::Reason;
-use dia_wire::{Avp, HEADER_LENGTH, Header, next_avp};
+use dia_wire::{HEADER_LENGTH, Header, next_avp};
 use std::alloc::{AllocError, Global};
 
 /// The header of these bytes as version 1 has it, whatever their version and Message Length are (RFC 6733 section 3). None of
@@ -34,11 +35,10 @@ pub(crate) fn avps_of(
     alloc: Global,
     reason: Reason,
     bytes: &[u8],
-) -> Result<Vec<Avp<'_>>, AllocError>
+) -> Result<Vec<Held<'_>>, AllocError>
     requires { header_length ≤ length bytes.now }
     ensures avps { IfOk result
-        (λ avps. AreRequestAvps reason (map plain_avp avps.items) bytes.now) }
-    ensures agree { IfOk result (λ avps. All (λ v. Agrees (plain_avp v)) avps.items) }
+        (λ avps. AreRequestAvps reason (map (λ h. plain_avp h.avp) avps.items) bytes.now) }
 {
     match reason {
         Reason::Version => Ok(Vec::new(alloc)),
@@ -48,16 +48,16 @@ pub(crate) fn avps_of(
 }
 
 /// The AVPs of a level, up to a place where none begins.
-fn front_of(alloc: Global, level: &[u8]) -> Result<Vec<Avp<'_>>, AllocError>
-    ensures avps { IfOk result (λ avps. AreFront (map plain_avp avps.items) level.now) }
-    ensures agree { IfOk result (λ avps. All (λ v. Agrees (plain_avp v)) avps.items) }
+fn front_of(alloc: Global, level: &[u8]) -> Result<Vec<Held<'_>>, AllocError>
+    ensures avps { IfOk result (λ avps. AreFront (map (λ h. plain_avp h.avp) avps.items) level.now) }
 {
     let mut avps = Vec::new(alloc);
     let mut left = level;
     loop {
         match next_avp(left) {
             Ok(Some((avp, rest))) => {
-                avps.push(avp)?;
+                let held = Held::new(avp);
+                avps.push(held)?;
                 left = rest;
             }
             Ok(None) => return Ok(avps),

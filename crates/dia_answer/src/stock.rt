@@ -1,14 +1,13 @@
 //! The AVPs that an answer may hold.
 
-ghost use Rattle.std.specs.Prelude.{◌≡◌, ◌<◌, ◌↔◌, All, IfOk, IsTrue, length};
+ghost use Rattle.std.specs.Prelude.{◌≡◌, ◌<◌, ◌↔◌, IfOk, IsTrue, length};
 ghost use Rattle.std.specs.List.{list_all};
-ghost use Rattle.dia_wire.specs.Wire.{plain_avp, Agrees};
+ghost use Rattle.dia_wire.specs.Wire.{plain_avp};
 ghost use Rattle.dia_book.specs.Dictionary.{lists_key};
 ghost use Rattle.dia_valid.specs.Valid.{has_wildcard, is_listed};
 ghost use Rattle.dia_answer.specs.Stocks.{
   IsFitOf,
   TakesData,
-  copied,
   has_format,
   is_nest,
   is_text,
@@ -25,15 +24,16 @@ use crate::codes::{
 use crate::contents::{Contents, Extent};
 use crate::example::m_flag;
 use crate::forms::Form;
+use crate::held::Held;
 use dia_book::{Book, DRule, Format, Leaf, accepts};
-use dia_wire::{AVP_VENDOR, Avp, Key, key};
+use dia_wire::{Avp, Key};
 use std::alloc::{AllocError, Global};
 
 /// The AVPs that an answer may hold: at first those that are few, then each Proxy-Info.
 #[derive(Drop)]
 pub(crate) struct Stock<'a> {
-    pub(crate) few: Vec<Avp<'a>>,
-    pub(crate) proxies: Vec<Avp<'a>>,
+    pub(crate) few: Vec<Held<'a>>,
+    pub(crate) proxies: Vec<Held<'a>>,
 }
 
 impl<'a> Stock<'a> {
@@ -80,7 +80,7 @@ impl<'a> Stock<'a> {
         &self,
         alloc: Global,
         rules: &[DRule],
-    ) -> Result<Vec<Avp<'a>>, AllocError> {
+    ) -> Result<Vec<Held<'a>>, AllocError> {
         let mut avps = Vec::new(alloc);
         for rule in rules {
             self.push_of_rule(&mut avps, rule)?;
@@ -93,7 +93,7 @@ impl<'a> Stock<'a> {
     }
 
     /// Adds the AVPs of a rule.
-    fn push_of_rule(&self, out: &mut Vec<Avp<'a>>, rule: &DRule) -> Result<(), AllocError> {
+    fn push_of_rule(&self, out: &mut Vec<Held<'a>>, rule: &DRule) -> Result<(), AllocError> {
         push_listed(out, &self.few, rule)?;
         if lists(rule, base_key(PROXY_INFO)) {
             out.extend_from_slice(&self.proxies)?;
@@ -127,41 +127,41 @@ fn has_wildcard(rules: &[DRule]) -> bool
     rules.iter().any(|rule| rule.key.is_none())
 }
 
-fn all_listed(avps: &[Avp<'_>], rules: &[DRule]) -> bool
-    ensures { result ≡ list_all (λ v. may_be_unlisted rules.now (plain_avp v)) avps.now }
+fn all_listed(avps: &[Held<'_>], rules: &[DRule]) -> bool
+    ensures { result ≡ list_all (λ v. may_be_unlisted rules.now (plain_avp v.avp)) avps.now }
 {
     avps.iter().all(|avp| may_be_unlisted(avp, rules))
 }
 
-fn may_be_unlisted(avp: &Avp<'_>, rules: &[DRule]) -> bool
-    ensures { result ≡ may_be_unlisted rules.now (plain_avp avp.now) }
+fn may_be_unlisted(avp: &Held<'_>, rules: &[DRule]) -> bool
+    ensures { result ≡ may_be_unlisted rules.now (plain_avp avp.now.avp) }
 {
-    key(avp) == base_key(ERROR_MESSAGE) || is_listed(rules, key(avp))
+    avp.key() == base_key(ERROR_MESSAGE) || is_listed(rules, avp.key())
 }
 
 fn push_listed<'a>(
-    out: &mut Vec<Avp<'a>>,
-    avps: &[Avp<'a>],
+    out: &mut Vec<Held<'a>>,
+    avps: &[Held<'a>],
     rule: &DRule,
 ) -> Result<(), AllocError> {
     for avp in avps {
-        push_if(out, avp, lists(rule, key(avp)))?;
+        push_if(out, avp, lists(rule, avp.key()))?;
     }
     Ok(())
 }
 
 fn push_unlisted<'a>(
-    out: &mut Vec<Avp<'a>>,
-    avps: &[Avp<'a>],
+    out: &mut Vec<Held<'a>>,
+    avps: &[Held<'a>],
     rules: &[DRule],
 ) -> Result<(), AllocError> {
     for avp in avps {
-        push_if(out, avp, !is_listed(rules, key(avp)))?;
+        push_if(out, avp, !is_listed(rules, avp.key()))?;
     }
     Ok(())
 }
 
-fn push_if<'a>(out: &mut Vec<Avp<'a>>, avp: &Avp<'a>, is: bool) -> Result<(), AllocError> {
+fn push_if<'a>(out: &mut Vec<Held<'a>>, avp: &Held<'a>, is: bool) -> Result<(), AllocError> {
     if is {
         out.push(*avp)?;
     }
@@ -169,29 +169,29 @@ fn push_if<'a>(out: &mut Vec<Avp<'a>>, avp: &Avp<'a>, is: bool) -> Result<(), Al
 }
 
 /// An AVP of the base protocol with these data.
-fn own<'a, B: Book>(book: &B, code: u32, bytes: &'a [u8]) -> Avp<'a>
-    ensures { plain_avp result ≡ own (B.meaning book.now) code bytes.now }
+fn own<'a, B: Book>(book: &B, code: u32, bytes: &'a [u8]) -> Held<'a>
+    ensures { plain_avp result.avp ≡ own (B.meaning book.now) code bytes.now }
 {
-    Avp {
+    Held::new(Avp {
         code,
         flags: m_flag(book, base_key(code)),
         vendor: None,
         bytes,
-    }
+    })
 }
 
 /// The data of the request's first Session-Id, if the dictionary takes it (RFC 6733 section 6.2).
 fn push_session<'a, B: Book>(
-    out: &mut Vec<Avp<'a>>,
+    out: &mut Vec<Held<'a>>,
     book: &B,
-    request: &[Avp<'a>],
+    request: &[Held<'a>],
 ) -> Result<(), AllocError> {
     let wanted = base_key(SESSION_ID);
-    let Some(avp) = request.iter().find(|avp| key(avp) == wanted) else {
+    let Some(avp) = request.iter().find(|avp| avp.key() == wanted) else {
         return Ok(());
     };
-    if takes(book, wanted, avp.bytes) {
-        out.push(own(book, SESSION_ID, avp.bytes))?;
+    if takes(book, wanted, avp.avp.bytes) {
+        out.push(own(book, SESSION_ID, avp.avp.bytes))?;
     }
     Ok(())
 }
@@ -231,7 +231,7 @@ fn has_nest<B: Book>(book: &B, key: Key) -> bool
 
 /// Adds Error-Message (RFC 6733 section 7.3), where the dictionary has it as a text and the definition may hold it.
 fn push_message<'a, B: Book>(
-    out: &mut Vec<Avp<'a>>,
+    out: &mut Vec<Held<'a>>,
     book: &B,
     rules: &[DRule],
     line: Option<&'a str>,
@@ -241,12 +241,12 @@ fn push_message<'a, B: Book>(
     };
     let wanted = base_key(ERROR_MESSAGE);
     if has_text(book, wanted) && may_hold(rules, wanted) {
-        out.push(Avp {
+        out.push(Held::new(Avp {
             code: ERROR_MESSAGE,
             flags: 0,
             vendor: None,
             bytes: line.as_bytes(),
-        })?;
+        }))?;
     }
     Ok(())
 }
@@ -254,7 +254,7 @@ fn push_message<'a, B: Book>(
 /// Adds Failed-AVP (RFC 6733 section 7.5), where the dictionary has it as a group or as octets and, in an error message, the
 /// definition may hold it.
 fn push_failed<'a, B: Book>(
-    out: &mut Vec<Avp<'a>>,
+    out: &mut Vec<Held<'a>>,
     book: &B,
     form: Form,
     rules: &[DRule],
@@ -276,14 +276,12 @@ fn push_failed<'a, B: Book>(
 
 /// Adds, in the command's own answer, for each rule as many AVPs of the request as it requires.
 fn push_copies<'a, B: Book>(
-    out: &mut Vec<Avp<'a>>,
+    out: &mut Vec<Held<'a>>,
     judge: &Judge<'_, B>,
     form: Form,
     rules: &[DRule],
-    request: &[Avp<'a>],
-) -> Result<(), AllocError>
-    requires { All (λ v. Agrees (plain_avp v)) request.now }
-{
+    request: &[Held<'a>],
+) -> Result<(), AllocError> {
     match form {
         Form::Own => {
             for rule in rules {
@@ -297,13 +295,11 @@ fn push_copies<'a, B: Book>(
 
 /// Adds as many AVPs of the request as a rule requires.
 fn push_required<'a, B: Book>(
-    out: &mut Vec<Avp<'a>>,
+    out: &mut Vec<Held<'a>>,
     judge: &Judge<'_, B>,
     rule: &DRule,
-    request: &[Avp<'a>],
-) -> Result<(), AllocError>
-    requires { All (λ v. Agrees (plain_avp v)) request.now }
-{
+    request: &[Held<'a>],
+) -> Result<(), AllocError> {
     match rule.key {
         Some(key) if !is_own(key) => push_fitting(out, judge, request, key, rule.min as usize),
         _ => Ok(()),
@@ -312,21 +308,19 @@ fn push_required<'a, B: Book>(
 
 /// Adds the first AVPs of a key that fit the dictionary, at most so many.
 fn push_fitting<'a, B: Book>(
-    out: &mut Vec<Avp<'a>>,
+    out: &mut Vec<Held<'a>>,
     judge: &Judge<'_, B>,
-    request: &[Avp<'a>],
+    request: &[Held<'a>],
     wanted: Key,
     most: usize,
-) -> Result<(), AllocError>
-    requires { All (λ v. Agrees (plain_avp v)) request.now }
-{
+) -> Result<(), AllocError> {
     let mut left = most;
     for avp in request {
         if left == 0 {
             return Ok(());
         }
         if is_fit_of(judge, wanted, avp)? {
-            out.push(copied(*avp))?;
+            out.push(avp.copied())?;
             left -= 1;
         }
     }
@@ -334,29 +328,13 @@ fn push_fitting<'a, B: Book>(
 }
 
 /// Whether the AVP has the key, and fits.
-fn is_fit_of<B: Book>(judge: &Judge<'_, B>, wanted: Key, avp: &Avp<'_>) -> Result<bool, AllocError>
-    requires { Agrees (plain_avp avp.now) }
+fn is_fit_of<B: Book>(judge: &Judge<'_, B>, wanted: Key, avp: &Held<'_>) -> Result<bool, AllocError>
     ensures { IfOk result (λ ok. IsTrue ok ↔ IsFitOf (B.meaning judge.now.book.book.now)
-        judge.now.unknown judge.now.levels wanted (plain_avp avp.now)) }
+        judge.now.unknown judge.now.levels wanted (plain_avp avp.now.avp)) }
 {
-    if key(avp) == wanted {
+    if avp.key() == wanted {
         judge.fits(avp)
     } else {
         Ok(false)
-    }
-}
-
-/// A copy, with no Vendor-ID where that is 0.
-fn copied(avp: Avp<'_>) -> Avp<'_>
-    ensures { plain_avp result ≡ copied (plain_avp avp.entry) }
-{
-    match avp.vendor {
-        Some(0) => Avp {
-            code: avp.code,
-            flags: avp.flags & !AVP_VENDOR,
-            vendor: None,
-            bytes: avp.bytes,
-        },
-        _ => avp,
     }
 }
