@@ -1,12 +1,20 @@
 -- What is written for a command whose inputs are read whole, and how it ends.
-use Rattle.std.specs.Prelude.{ℕ, Bool, true, false, List, map, string_bytes}
+use Rattle.std.specs.Prelude.{◌≡◌, ◌⊎◌, ℕ, Bool, true, false, List, map, codes, string_bytes}
 use Rattle.dia_io.specs.declared.Command.{Command}
 use Rattle.dia_io.specs.declared.Command.TheVariants.{Show, Render, Check, Compare, Refute, Propose}
 use Rattle.dia_io.specs.declared.Inputs.{Inputs}
 use Rattle.dia_io.specs.declared.Exit.{Exit}
+use Rattle.dia_io.specs.declared.Exit.TheVariants.{Bad}
+use Rattle.dia_policy.specs.declared.Levels.{Levels}
+use Rattle.dia_policy.specs.declared.Unknown.{Unknown}
+use Rattle.dia_dict.specs.Dictionary.{Dictionary}
+use Rattle.dia_answer_run.specs.Outcome.{IsAnswerText}
+use Rattle.dia_cli.specs.declared.task.Answering.{Answering}
 use Rattle.dia_cli.specs.declared.origin.Origin.{Origin}
 use Rattle.dia_cli.specs.declared.origin.Origin.TheVariants.{Nowhere}
-use Rattle.dia_run.specs.Outcome.{IsOutcome, IsRenderOutcome}
+use Rattle.dia_run.specs.AllFaults.{IsAllRecorded}
+use Rattle.dia_run.specs.Outcome.{IsMessageOutcome, IsOutcome, IsRenderOutcome}
+use Rattle.dia_run.specs.Texts.{line}
 use Rattle.dia_show.specs.Outcome.{IsNamedOutcome}
 use Rattle.dia_json.specs.Runs.{IsCheckJson, IsRefuteJson}
 use Rattle.dia_json.specs.Whole.{IsShowJson, IsProposeJson}
@@ -40,3 +48,19 @@ IsText table command inputs text exit = IsOutcome command inputs text exit
 abbrev pub IsAnswer : Bool → Origin → Command → Inputs → List ℕ → Exit → Type 0
 IsAnswer true table command inputs text exit = IsJson command inputs text exit
 IsAnswer false table command inputs text exit = IsText table command inputs text exit
+
+-- `check --all`: the faults of a message, at most 1,000
+abbrev pub AreFaults : Unknown → Levels → Dictionary → List ℕ → List ℕ → Exit → Type 0
+AreFaults u most d bytes text exit = IsAllRecorded d u most 1000 bytes text exit
+
+abbrev pub IsAllFaults : Unknown → Levels → Inputs → List ℕ → Exit → Type 0
+IsAllFaults u most inputs text exit = IsMessageOutcome (AreFaults u most) inputs text exit
+
+-- `answer`: a name of the node is refused
+abbrev pub IsNameRefused : List ℕ → Exit → Type 0
+IsNameRefused text exit = ((text ≡ line (codes "answer: host")) ⊎ (text ≡ line (codes "answer: realm"))) × (exit ≡ Bad)
+
+-- or the answer that reports a request's first fault, or why there is none
+abbrev pub IsReplied : Answering → Inputs → List ℕ → Exit → Type 0
+IsReplied asked inputs text exit =
+    IsMessageOutcome (IsAnswerText asked.unknown asked.levels) inputs text exit ⊎ IsNameRefused text exit

@@ -113,3 +113,8 @@ Captures lines u most json inputs known word out ended =
 -- `show --lines`
 abbrev pub Lists : Bool → Inputs → Option (List ℕ) → List ℕ → Stream → Result Reported Ending → Type 0
 Lists names inputs known word out ended = Ends (AreShown names inputs) (IsShownBegun names inputs) known word out ended
+
+-- `follow`: where it fails, a device did, or memory was refused. What it writes is tested, and not stated here
+abbrev pub Follows : List ℕ → Stream → Result Reported Ending → Type 0
+Follows word out (Ok reported) = ¬ IsTrue out.failed
+Follows word out (Err made) = IsFailure word out.failed made

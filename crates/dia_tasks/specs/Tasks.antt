@@ -10,8 +10,8 @@ use Rattle.dia_cli.specs.declared.ending.Ending.{Ending}
 use Rattle.dia_cli.specs.declared.origin.Origins.{Origins}
 use Rattle.dia_cli.specs.declared.task.Task.{Task}
 use Rattle.dia_cli.specs.declared.task.Task.TheVariants as task
-use Rattle.dia_tasks.specs.Answers.{IsAnswer, IsNamed}
-use Rattle.dia_tasks.specs.Captures.{Captures, Lists, known_of, messages_word}
+use Rattle.dia_tasks.specs.Answers.{IsAllFaults, IsAnswer, IsNamed, IsReplied}
+use Rattle.dia_tasks.specs.Captures.{Captures, Follows, Lists, known_of, messages_word}
 use Rattle.dia_tasks.specs.Endings.{Runs}
 use Rattle.dia_tasks.specs.declared.running.Attempt.{Attempt}
 use Rattle.dia_tasks.specs.declared.running.Attempt.TheVariants as attempt
@@ -44,6 +44,9 @@ TaskRuns (task.RefuteLines u most) json w origins inputs out ended =
     Captures Refuted u most json inputs (messages_of w origins) (messages_word origins.messages) out ended
 TaskRuns (task.CheckStream u most) json w origins inputs out ended =
     Captures Placed u most json inputs (messages_of w origins) (messages_word origins.messages) out ended
+TaskRuns (task.CheckAll u most) json w origins inputs out ended = Runs (IsAllFaults u most inputs) out ended
+TaskRuns (task.Answer asked) json w origins inputs out ended = Runs (IsReplied asked inputs) out ended
+TaskRuns (task.Follow asked) json w origins inputs out ended = Follows (messages_word origins.messages) out ended
 
 -- `breaking` is left to be done: nothing was written
 abbrev pub IsLeft : Task → Stream → Type 0

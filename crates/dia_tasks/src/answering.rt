@@ -66,7 +66,7 @@ fn made_as_json(alloc: Global, command: &Command, inputs: &Inputs) -> Result<Ans
 }
 
 /// Writes what was answered.
-fn put_answer<'a, W: Write>(
+pub fn put_answer<'a, W: Write>(
     made: Result<Answered, AllocError>,
     out: &mut ToWriter<W>,
 ) -> Result<Reported, Ending<'a>>

@@ -2,14 +2,17 @@
 //! `breaking`, which depends on more crates than these.
 #![tactic(auto)]
 
+mod all_faults;
 mod answering;
 mod captured;
+mod following;
 mod front;
 mod inputs;
 mod listing;
 mod manner;
 mod notes;
 mod recording;
+mod replying;
 mod running;
 mod showing;
 mod text;

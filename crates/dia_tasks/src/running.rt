@@ -6,12 +6,15 @@ ghost use Rattle.dia_tasks.specs.Answers.{IsAnswer, IsJson, IsShow};
 ghost use Rattle.dia_tasks.specs.Endings.{Runs};
 ghost use Rattle.dia_tasks.specs.Tasks.{Attempts, Performs, world};
 
+use crate::all_faults::list_faults;
 use crate::answering::{answer, answer_as_json};
 use crate::captured::{Capture, captured};
+use crate::following::followed;
 use crate::inputs::texts_of;
 use crate::listing::list_lines;
 use crate::manner::Manner;
 use crate::notes::{note, note_unnamed};
+use crate::replying::reply;
 use crate::showing::{show_json, show_named, show_words};
 use crate::text::{made, shown};
 use dia_captures::Lines;
@@ -110,6 +113,13 @@ where
         Task::CheckStream { unknown, levels } => {
             let capture = Capture::new(Lines::Placed, *unknown, *levels);
             Attempt::Ended(captured(rt, opener, capture, inputs, origins, manner, out))
+        }
+        Task::CheckAll { unknown, levels } => {
+            Attempt::Ended(list_faults(rt.alloc(), *unknown, *levels, inputs, out))
+        }
+        Task::Answer(asked) => Attempt::Ended(reply(rt, asked, inputs, quiet, out)),
+        Task::Follow(asked) => {
+            Attempt::Ended(followed(rt, opener, *asked, inputs, origins, manner, out))
         }
     }
 }

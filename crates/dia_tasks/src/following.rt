@@ -1,0 +1,110 @@
+//! `follow`: where the ends of a captured connection depart from RFC 6733.
+
+ghost use Rattle.std.specs.Prelude.{IsTrue};
+ghost use Rattle.dia_cli.specs.Ending.{stream};
+ghost use Rattle.dia_tasks.specs.Captures.{Follows, messages_word};
+
+use crate::captured::ending_of;
+use crate::manner::Manner;
+use dia_cli::{Ending, Following, Opener, Origin, Origins, STANDARD_INPUT};
+use dia_follow_text::{Check, Followed, Options, follow};
+use dia_io::{FromReader, Inputs, Sink, ToWriter};
+use dia_report::Reported;
+use std::io::{Read, Write};
+
+/// Writes what the messages of a connection show of its ends, and a summary on standard error, unless it is to be quiet.
+pub fn followed<'a, R, O, W>(
+    rt: &R,
+    opener: &O,
+    asked: Following,
+    inputs: &Inputs,
+    origins: &Origins<'a>,
+    manner: Manner,
+    out: &mut ToWriter<W>,
+) -> Result<Reported, Ending<'a>>
+where
+    R: AllocGlobal + Eprint,
+    O: Opener,
+    W: Write,
+    requires { ¬ IsTrue (⟦<ToWriter<W> as Sink>⟧.has_failed out.old) }
+    ensures { Follows (messages_word origins.now.messages)
+        (stream (⟦<ToWriter<W> as Sink>⟧.written out.old) (⟦<ToWriter<W> as Sink>⟧.written out.new)
+        (⟦<ToWriter<W> as Sink>⟧.has_failed out.new)) result }
+{
+    match origins.messages {
+        Origin::File { path, .. } => match opener.open(path) {
+            Ok(file) => follow_reader(rt, asked, inputs, file, path, manner, out),
+            Err(error) => Err(Ending::Device {
+                name: path,
+                error: Some(error),
+            }),
+        },
+        _ => {
+            let reader = opener.standard_input();
+            follow_reader(rt, asked, inputs, reader, STANDARD_INPUT, manner, out)
+        }
+    }
+}
+
+/// The same of the text that a reader gives. `name` is the word that names the reader.
+fn follow_reader<'a, R, D, W>(
+    rt: &R,
+    asked: Following,
+    inputs: &Inputs,
+    reader: D,
+    name: &'a str,
+    manner: Manner,
+    out: &mut ToWriter<W>,
+) -> Result<Reported, Ending<'a>>
+where
+    R: AllocGlobal + Eprint,
+    D: Read + Drop,
+    W: Write,
+    requires { ¬ IsTrue (⟦<ToWriter<W> as Sink>⟧.has_failed out.old) }
+    ensures { Follows name.entry.now
+        (stream (⟦<ToWriter<W> as Sink>⟧.written out.old) (⟦<ToWriter<W> as Sink>⟧.written out.new)
+        (⟦<ToWriter<W> as Sink>⟧.has_failed out.new)) result }
+{
+    let mut feed = FromReader::new(reader);
+    let options = options_of(asked, manner.json);
+    match follow(rt.alloc(), &options, &inputs.first, &mut feed, out) {
+        Ok(followed) => {
+            if !manner.quiet {
+                explain(rt, name, &followed);
+            }
+            Ok(followed.reported)
+        }
+        Err(fault) => Err(ending_of(fault, name, out.failure(), feed.failure())),
+    }
+}
+
+/// How the connection is read.
+fn options_of(asked: Following, json: bool) -> Options {
+    let Following {
+        middle,
+        check,
+        unknown,
+        levels,
+    } = asked;
+    Options {
+        middle,
+        check: if check {
+            Some(Check { unknown, levels })
+        } else {
+            None
+        },
+        json,
+    }
+}
+
+/// Writes the summary, or where a line is refused. Where memory or the device fails, nothing is written.
+fn explain<R: AllocGlobal + Eprint>(rt: &R, name: &str, followed: &Followed) {
+    if let Some(Ok(text)) = &followed.summary {
+        let _ = rt.eprint(text);
+    }
+    if let Some((number, _)) = followed.bad_line {
+        let _ = eprint!(rt;
+            "{name}:{number}: a line is END [TIME] HEX: > or <, seconds, and a message in hexadecimal\n"
+        );
+    }
+}
