@@ -51,6 +51,9 @@ task_failed (task.ShowLines names) json w origins inputs out made b = pieces_fai
 task_failed (task.CheckLines u most) json w origins inputs out made b = pieces_failed _ _ made b.0
 task_failed (task.RefuteLines u most) json w origins inputs out made b = pieces_failed _ _ made b.0
 task_failed (task.CheckStream u most) json w origins inputs out made b = pieces_failed _ _ made b.0
+task_failed (task.CheckAll u most) json w origins inputs out made b = whole_failed _ out made b
+task_failed (task.Answer asked) json w origins inputs out made b = whole_failed _ out made b
+task_failed (task.Follow asked) json w origins inputs out made b = pieces_failed _ _ made b
 
 fault_failed : (word : List ℕ) (made : Ending) → IsFaultOf word made → IsFailed made
 fault_failed word (ending.Device name error) b = tt
