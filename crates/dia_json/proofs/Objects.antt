@@ -90,10 +90,10 @@ object_text place depth code vendor flags len rest =
     codes "{\"at\":" ++ (decimal place ++ (codes ",\"depth\":" ++ (decimal depth ++ (codes ",\"code\":" ++ (decimal code ++ (codes ",\"vendor\":" ++ (vendor
     ++ (codes ",\"flags\":" ++ (decimal flags ++ (codes ",\"length\":" ++ (decimal len ++ rest)))))))))))
 
-object_is : (place depth : ℕ) (v : PlainAvp) (members : Members) → json_line (shown_members place depth v members)
-    ≡ object_text place depth v.code (compact_text (vendor_value v.vendor)) v.flags (avp_length v) (members_text true members) ++ codes "\n"
+object_is : (place depth : ℕ) (v : PlainAvp) (named : Members) → json_line (shown_members place depth v named)
+    ≡ object_text place depth v.code (compact_text (vendor_value v.vendor)) v.flags (avp_length v) (members_text true named) ++ codes "\n"
 unfolding serde_json_on_literals
-object_is place depth v members = refl
+object_is place depth v named = refl
 
 object_ends : (place depth code : ℕ) (vendor : List ℕ) (flags len : ℕ) (rest : List ℕ)
     → object_text place depth code vendor flags len (rest ++ codes "\n") ≡ object_text place depth code vendor flags len rest ++ codes "\n"

@@ -106,7 +106,8 @@ fn listed(
     inputs: &Inputs,
 ) -> Result<Answered, Refused>
     ensures outcome { IsReadFrom ⟦<IndexedBook as Book>⟧.meaning inputs.now.first first.value
-        → IsValuesText inputs.now.table (plain_words manner.now.words) → Gives (IsNamedOutcome manner.now.names inputs.now) result }
+        → IsValuesText inputs.now.table (plain_words manner.now.words)
+        → Gives (IsNamedOutcome manner.now.names inputs.now) result }
     ensures report { IsReadFrom ⟦<IndexedBook as Book>⟧.meaning inputs.now.first first.value
         → IfOk result (HasReport ⟦<IndexedBook as Book>⟧.meaning inputs.now) }
 {

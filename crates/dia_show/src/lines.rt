@@ -24,8 +24,8 @@ use dia_report::{ReadBook, Refused};
 use dia_run::{Outcome, read_dictionary};
 use std::alloc::{AllocError, Global};
 
-/// `show` of each line of a feed: a line with its number, and then what `show` writes for it alone. Yes where each is shown to its
-/// end. Where the dictionary or the words are refused, nothing is read.
+/// `show` of each line of a feed: a line with its number, and then what `show` writes for it alone. Yes where each is shown to
+/// its end. Where the dictionary or the words are refused, nothing is read.
 pub fn show_lines<F: Feed, S: Sink>(
     alloc: Global,
     names: bool,
