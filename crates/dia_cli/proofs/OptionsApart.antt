@@ -6,7 +6,7 @@ use Rattle.dia_cli.specs.Apart.{show_apart}
 use Rattle.dia_cli.specs.Asking.{IsApart}
 use Rattle.dia_cli.specs.Words.{apart_in, is_file, is_given}
 use Rattle.dia_cli.specs.declared.apart.Apart.{Apart}
-use Rattle.dia_cli.specs.declared.apart.Apart.TheVariants.{LinesAndStream, AllAndLines, AllAndStream, AllAndJson, AsTextAndNames, AsTextAndValues, AsTextAndLines, AsTextAndJson, JsonAndLines}
+use Rattle.dia_cli.specs.declared.apart.Apart.TheVariants.{LinesAndStream, AllAndLines, AllAndStream, AllAndJson, AsTextAndNames, AsTextAndValues, AsTextAndLines, AsTextAndJson}
 
 -- they are of `show`
 abbrev IsOfShow : Option Apart → Type 0
@@ -23,9 +23,7 @@ of_show true false true lines json = tt
 of_show true false false true json = tt
 of_show true false false false true = tt
 of_show true false false false false = tt
-of_show false names values lines false = tt
-of_show false names values true true = tt
-of_show false names values false true = tt
+of_show false names values lines json = tt
 
 apart_is_of_show : (rows : List Row) (apart : Apart) → apart_in rows ≡ Some apart → IsOfShow (Some apart)
 apart_is_of_show rows apart is =
@@ -42,4 +40,3 @@ is_apart rows AsTextAndNames is = (refl, is)
 is_apart rows AsTextAndValues is = (refl, is)
 is_apart rows AsTextAndLines is = (refl, is)
 is_apart rows AsTextAndJson is = (refl, is)
-is_apart rows JsonAndLines is = (refl, is)

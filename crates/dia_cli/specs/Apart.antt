@@ -2,7 +2,7 @@
 use Rattle.std.specs.Prelude.{Bool, if◌then◌else◌, Option, Some, None, codes}
 use Rattle.clap.specs.Walk.{Text}
 use Rattle.dia_cli.specs.declared.apart.Apart.{Apart}
-use Rattle.dia_cli.specs.declared.apart.Apart.TheVariants.{LinesAndStream, AllAndLines, AllAndStream, AllAndJson, AsTextAndNames, AsTextAndValues, AsTextAndLines, AsTextAndJson, JsonAndLines}
+use Rattle.dia_cli.specs.declared.apart.Apart.TheVariants.{LinesAndStream, AllAndLines, AllAndStream, AllAndJson, AsTextAndNames, AsTextAndValues, AsTextAndLines, AsTextAndJson}
 
 -- the name of the first option
 abbrev pub first_option : Apart → Text
@@ -14,7 +14,6 @@ first_option AsTextAndNames = codes "as-text"
 first_option AsTextAndValues = codes "as-text"
 first_option AsTextAndLines = codes "as-text"
 first_option AsTextAndJson = codes "as-text"
-first_option JsonAndLines = codes "json"
 
 -- and of the second
 abbrev pub second_option : Apart → Text
@@ -26,12 +25,10 @@ second_option AsTextAndNames = codes "names"
 second_option AsTextAndValues = codes "values"
 second_option AsTextAndLines = codes "lines"
 second_option AsTextAndJson = codes "json"
-second_option JsonAndLines = codes "lines"
 
--- of the options of `show`: `--as-text` goes with none of the others, and `--json` not with `--lines`; the first two of those
--- that are given
+-- of the options of `show`: `--as-text` goes with none of the others; the first two of those that are given
 abbrev pub show_apart : (as_text names values lines json : Bool) → Option Apart
 show_apart as_text names values lines json =
     if as_text then (if names then Some AsTextAndNames else (if values then Some AsTextAndValues
     else (if lines then Some AsTextAndLines else (if json then Some AsTextAndJson else None))))
-    else (if json then (if lines then Some JsonAndLines else None) else None)
+    else None

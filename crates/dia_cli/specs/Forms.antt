@@ -25,11 +25,10 @@ pub data Manner : Type 0 where
   in_stream : Manner
   in_full : Manner
 
--- how `show` writes a message: as a text; as JSON, with `--names` and `--values` or without; or as a listing, with `--lines`, `--names`
--- and `--values` or without
+-- how `show` writes a message: as a text; or as JSON, or as a listing, each with `--lines`, `--names` and `--values` or without
 pub data Recording : Type 0 where
   as_text : Recording
-  as_json : Bool → Option Text → Recording
+  as_json : Bool → Bool → Option Text → Recording
   as_listing : Bool → Bool → Option Text → Recording
 
 -- a command with its options and the words of its inputs. `--levels`, `--dict`, `--values` and `--accepted` are their words; `check`, `compare`
@@ -86,20 +85,21 @@ is_text as_text = true
 is_text recording = false
 
 abbrev pub is_json : Recording → Bool
-is_json (as_json names values) = true
+is_json (as_json many names values) = true
 is_json recording = false
 
 abbrev pub has_names : Recording → Bool
-has_names (as_json names values) = names
+has_names (as_json many names values) = names
 has_names (as_listing many names values) = names
 has_names recording = false
 
 abbrev pub values_given : Recording → Option Text
-values_given (as_json names values) = values
+values_given (as_json many names values) = values
 values_given (as_listing many names values) = values
 values_given recording = None
 
 abbrev pub has_lines : Recording → Bool
+has_lines (as_json many names values) = many
 has_lines (as_listing many names values) = many
 has_lines recording = false
 
@@ -143,8 +143,9 @@ form_inputs (follow json middle judged unknown levels dictionary connection) = w
 -- the task is the form's
 abbrev pub IsTaskOfForm : Form → Task → Type 0
 IsTaskOfForm (show as_text dictionary message) ShowText = ⊤
-IsTaskOfForm (show (as_json false values) dictionary message) (Whole command.Show) = ⊤
-IsTaskOfForm (show (as_json true values) dictionary message) ShowNamed = ⊤
+IsTaskOfForm (show (as_json false false values) dictionary message) (Whole command.Show) = ⊤
+IsTaskOfForm (show (as_json false true values) dictionary message) ShowNamed = ⊤
+IsTaskOfForm (show (as_json true names values) dictionary messages) (ShowLines named) = named ≡ names
 IsTaskOfForm (show (as_listing false false values) dictionary message) (Whole command.Show) = ⊤
 IsTaskOfForm (show (as_listing false true values) dictionary message) ShowNamed = ⊤
 IsTaskOfForm (show (as_listing true names values) dictionary messages) (ShowLines named) = named ≡ names
@@ -179,6 +180,8 @@ IsTaskOfForm form task = ⊥
 abbrev pub form_words : Form → InputTexts
 form_words (show as_text dictionary message) =
     record (one_text (unwrap_or dictionary (codes "@base"))) { message = Some message }
+form_words (show (as_json true names values) dictionary messages) =
+    record (one_text (unwrap_or dictionary (codes "@base"))) { table = Some (unwrap_or values (codes "@none")); messages = Some messages }
 form_words (show (as_listing true names values) dictionary messages) =
     record (one_text (unwrap_or dictionary (codes "@base"))) { table = Some (unwrap_or values (codes "@none")); messages = Some messages }
 form_words (show recording dictionary message) =

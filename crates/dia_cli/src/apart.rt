@@ -22,8 +22,6 @@ pub enum Apart {
     AsTextAndLines,
     /// `--as-text` and `--json`.
     AsTextAndJson,
-    /// `--json` and `--lines`.
-    JsonAndLines,
 }
 
 impl Apart {
@@ -38,7 +36,6 @@ impl Apart {
             | Apart::AsTextAndValues
             | Apart::AsTextAndLines
             | Apart::AsTextAndJson => "as-text",
-            Apart::JsonAndLines => "json",
         }
     }
 
@@ -50,7 +47,7 @@ impl Apart {
             Apart::LinesAndStream | Apart::AllAndStream => "stream",
             Apart::AsTextAndNames => "names",
             Apart::AsTextAndValues => "values",
-            Apart::AllAndLines | Apart::AsTextAndLines | Apart::JsonAndLines => "lines",
+            Apart::AllAndLines | Apart::AsTextAndLines => "lines",
             Apart::AllAndJson | Apart::AsTextAndJson => "json",
         }
     }
@@ -71,7 +68,6 @@ pub(crate) fn show_apart(
         (true, false, true, _, _) => Some(Apart::AsTextAndValues),
         (true, false, false, true, _) => Some(Apart::AsTextAndLines),
         (true, false, false, false, true) => Some(Apart::AsTextAndJson),
-        (false, _, _, true, true) => Some(Apart::JsonAndLines),
         _ => None,
     }
 }

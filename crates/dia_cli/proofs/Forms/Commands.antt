@@ -259,33 +259,38 @@ pub asked_is : (form : Form) (rows : List Row) (task : Task) (origins : Origins)
     → IsAskedOf form task origins
 asked_is (show as_text dictionary message) rows ShowText origins says named is found =
     (tt, message_named origins rows (codes "dict") (unwrap_or dictionary (codes "@base")) (codes "MESSAGE") message says.0 says.1 found)
-asked_is (show (as_json false values) dictionary message) rows (Whole command.Show) origins says named is found =
+asked_is (show (as_json false false values) dictionary message) rows (Whole command.Show) origins says named is found =
     (tt, listing_named origins rows (unwrap_or dictionary (codes "@base")) message (unwrap_or values (codes "@none")) says.0 says.1 says.4 found)
-asked_is (show (as_json true values) dictionary message) rows ShowNamed origins says named is found =
+asked_is (show (as_json false true values) dictionary message) rows ShowNamed origins says named is found =
     (tt, listing_named origins rows (unwrap_or dictionary (codes "@base")) message (unwrap_or values (codes "@none")) says.0 says.1 says.4 found)
 asked_is (show (as_listing false false values) dictionary message) rows (Whole command.Show) origins says named is found =
     (tt, listing_named origins rows (unwrap_or dictionary (codes "@base")) message (unwrap_or values (codes "@none")) says.0 says.1 says.4 found)
 asked_is (show (as_listing false true values) dictionary message) rows ShowNamed origins says named is found =
     (tt, listing_named origins rows (unwrap_or dictionary (codes "@base")) message (unwrap_or values (codes "@none")) says.0 says.1 says.4 found)
+asked_is (show (as_json true names values) dictionary messages) rows (ShowLines many) origins says named is found =
+    (same_given _ names many says.3 is.1, listings_named origins rows (unwrap_or dictionary (codes "@base")) messages (unwrap_or values (codes "@none")) says.0 says.1 says.4 found)
 asked_is (show (as_listing true names values) dictionary messages) rows (ShowLines many) origins says named is found =
     (same_given _ names many says.3 is.1, listings_named origins rows (unwrap_or dictionary (codes "@base")) messages (unwrap_or values (codes "@none")) says.0 says.1 says.4 found)
 asked_is (show as_text dictionary message) rows (Whole command.Show) origins says named is found = other_given _ true false says.2 is.0 not_true
 asked_is (show as_text dictionary message) rows ShowNamed origins says named is found = other_given _ true false says.2 is.0 not_true
 asked_is (show as_text dictionary message) rows (ShowLines names) origins says named is found = other_given _ true false says.2 is.0 not_true
-asked_is (show (as_json false values) dictionary message) rows ShowText origins says named is found = other_given _ false true says.2 is.0 not_false
-asked_is (show (as_json false values) dictionary message) rows ShowNamed origins says named is found = other_given _ false true says.3 is.1 not_false
-asked_is (show (as_json false values) dictionary message) rows (ShowLines names) origins says named is found = other_given _ false true says.5 is.2 not_false
-asked_is (show (as_json true values) dictionary message) rows (Whole command.Show) origins says named is found = other_given _ true false says.3 is.1 not_true
-asked_is (show (as_json true values) dictionary message) rows ShowText origins says named is found = other_given _ false true says.2 is.0 not_false
-asked_is (show (as_json true values) dictionary message) rows (ShowLines names) origins says named is found = other_given _ false true says.5 is.2 not_false
+asked_is (show (as_json false false values) dictionary message) rows ShowText origins says named is found = other_given _ false true says.2 is.0 not_false
+asked_is (show (as_json false false values) dictionary message) rows ShowNamed origins says named is found = other_given _ false true says.3 is.1 not_false
+asked_is (show (as_json false false values) dictionary message) rows (ShowLines names) origins says named is found = other_given _ false true says.5 is.2 not_false
+asked_is (show (as_json false true values) dictionary message) rows (Whole command.Show) origins says named is found = other_given _ true false says.3 is.1 not_true
+asked_is (show (as_json false true values) dictionary message) rows ShowText origins says named is found = other_given _ false true says.2 is.0 not_false
+asked_is (show (as_json false true values) dictionary message) rows (ShowLines names) origins says named is found = other_given _ false true says.5 is.2 not_false
 asked_is (show (as_listing false false values) dictionary message) rows ShowText origins says named is found = other_given _ false true says.2 is.0 not_false
 asked_is (show (as_listing false false values) dictionary message) rows ShowNamed origins says named is found = other_given _ false true says.3 is.1 not_false
 asked_is (show (as_listing false false values) dictionary message) rows (ShowLines names) origins says named is found = other_given _ false true says.5 is.2 not_false
 asked_is (show (as_listing false true values) dictionary message) rows (Whole command.Show) origins says named is found = other_given _ true false says.3 is.1 not_true
 asked_is (show (as_listing false true values) dictionary message) rows ShowText origins says named is found = other_given _ false true says.2 is.0 not_false
 asked_is (show (as_listing false true values) dictionary message) rows (ShowLines names) origins says named is found = other_given _ false true says.5 is.2 not_false
+asked_is (show (as_json true names values) dictionary message) rows (Whole command.Show) origins says named is found = other_given _ true false says.5 is.2 not_true
 asked_is (show (as_listing true names values) dictionary message) rows (Whole command.Show) origins says named is found = other_given _ true false says.5 is.2 not_true
+asked_is (show (as_json true names values) dictionary message) rows ShowText origins says named is found = other_given _ false true says.2 is.0 not_false
 asked_is (show (as_listing true names values) dictionary message) rows ShowText origins says named is found = other_given _ false true says.2 is.0 not_false
+asked_is (show (as_json true names values) dictionary message) rows ShowNamed origins says named is found = other_given _ true false says.5 is.2 not_true
 asked_is (show (as_listing true names values) dictionary message) rows ShowNamed origins says named is found = other_given _ true false says.5 is.2 not_true
 asked_is (make dictionary written) rows Make origins says named is found =
     (tt, message_named origins rows (codes "dict") (unwrap_or dictionary (codes "@base")) (codes "TEXT") written says.0 says.1 found)

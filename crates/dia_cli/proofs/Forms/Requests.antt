@@ -10,7 +10,7 @@ use Rattle.dia_cli.specs.Asking.{IsApart, IsCheckWithBoth, IsRequestOf, is_asked
 use Rattle.dia_cli.specs.Forms.{Form, IsOfForm, Recording, alone, as_json, as_listing, as_text, check, form_inputs, form_json, form_name, form_row, has_lines, has_names, in_full, in_lines, in_stream, is_json, is_plain_form, is_text, show, values_given, words_of}
 use Rattle.dia_cli.specs.Words.{apart_in, flag_word, is_file, is_given, policy_word, sends_word}
 use Rattle.dia_cli.specs.declared.apart.Apart.{Apart}
-use Rattle.dia_cli.specs.declared.apart.Apart.TheVariants.{LinesAndStream, AllAndLines, AllAndStream, AllAndJson, AsTextAndNames, AsTextAndValues, AsTextAndLines, AsTextAndJson, JsonAndLines}
+use Rattle.dia_cli.specs.declared.apart.Apart.TheVariants.{LinesAndStream, AllAndLines, AllAndStream, AllAndJson, AsTextAndNames, AsTextAndValues, AsTextAndLines, AsTextAndJson}
 use Rattle.dia_cli.specs.declared.request.Request.{Request}
 use Rattle.dia_cli.proofs.Forms.Commands.{Says, all_options, asked_is, form_fits, form_has, form_named, form_says}
 use Rattle.dia_cli.proofs.Forms.Ends.{Finds, row_taken}
@@ -71,7 +71,7 @@ module _ (quiet : Bool) (rows : List Row) where
 module _ (rows : List Row) where
   recorded_together : (recording : Recording) → show_apart (is_text recording) (has_names recording) (is_file (Some (unwrap_or (values_given recording) (codes "@none")))) (has_lines recording) (is_json recording) ≡ None
   recorded_together as_text = refl
-  recorded_together (as_json names values) = refl
+  recorded_together (as_json many names values) = refl
   recorded_together (as_listing many names values) = refl
 
   shown_together : (recording : Recording) → first_of (codes "as-text") rows ≡ Some (flag_word (is_text recording)) → first_of (codes "names") rows ≡ Some (flag_word (has_names recording))
@@ -98,7 +98,6 @@ form_goes_together quiet form rows says AsTextAndNames bad = show_goes_together 
 form_goes_together quiet form rows says AsTextAndValues bad = show_goes_together rows quiet form AsTextAndValues says bad
 form_goes_together quiet form rows says AsTextAndLines bad = show_goes_together rows quiet form AsTextAndLines says bad
 form_goes_together quiet form rows says AsTextAndJson bad = show_goes_together rows quiet form AsTextAndJson says bad
-form_goes_together quiet form rows says JsonAndLines bad = show_goes_together rows quiet form JsonAndLines says bad
 
 pub request_is : (quiet : Bool) (form : Form) (rows : List Row) (request : Request) → Says quiet form rows → IsRequestOf request (form_name form, rows)
     → IsOfForm form request × (request.quiet ≡ quiet) × (request.json ≡ form_json form)
