@@ -1,4 +1,4 @@
--- A line of `breaking` as a JSON object, whose members are in this order.
+-- A line of `breaking --once` as a JSON object, by its words. Its members are in this order.
 use Rattle.std.specs.Prelude.{ℕ, ◌==◌, ◌||◌, Bool, true, false, if◌then◌else◌, List, [], ◌∷◌, ◌++◌, codes, Option, Some, None, length, nat_lt}
 use Rattle.std.specs.Option.{option_map_or, option_or}
 use Rattle.std.specs.Str.{bytes_eq}
@@ -31,12 +31,9 @@ abbrev pub place_fields : List ℕ → List Field
 place_fields path = text_field (codes "command") (command_of path) ++ number_field (codes "application") (application_of path)
     ++ ((codes "path", array (strings (groups_of path))) ∷ [])
 
--- with `--once` the number of commands, and the first place
+-- the number of commands, and the first place
 abbrev pub once_fields : List ℕ → List Field
 once_fields detail = number_field (codes "commands") (count_of detail) ++ ((codes "first", object_of (place_fields (first_path detail))) ∷ [])
-
-abbrev pub where_fields : Bool → List ℕ → List Field
-where_fields once words = if once then once_fields (detail_of once words) else place_fields (before 58 words)
 
 -- ---- what it is about
 
@@ -136,10 +133,10 @@ matter_fields first second reason subject detail = reason_field reason ++ subjec
 abbrev pub message_field : List ℕ → List Field
 message_field message = if length message == 0 then [] else text_field (codes "message") (before 10 (after 32 (after 32 message)))
 
--- a line with these words, followed by this message, or one of `--once`; the look-ups by name are those of the two dictionaries
-abbrev pub line_fields : (first second : List ℕ → Option Key) → Bool → (words message : List ℕ) → List Field
-line_fields first second once words message = undecided_field (is_undecided once words) ++ where_fields once words
-    ++ matter_fields first second (reason_of once words) (subject_of once words) (detail_of once words) ++ message_field message
+-- a line with these words, followed by this message; the look-ups by name are those of the two dictionaries
+abbrev pub cause_fields : (first second : List ℕ → Option Key) → (words message : List ℕ) → List Field
+cause_fields first second words message = undecided_field (is_undecided words) ++ once_fields (detail_of words)
+    ++ matter_fields first second (reason_of words) (subject_of words) (detail_of words) ++ message_field message
 
-unfoldable pub line_json : (first second : List ℕ → Option Key) → Bool → (words message : List ℕ) → List ℕ
-line_json first second once words message = compact_text (object_of (line_fields first second once words message))
+unfoldable pub cause_json : (first second : List ℕ → Option Key) → (words message : List ℕ) → List ℕ
+cause_json first second words message = compact_text (object_of (cause_fields first second words message))

@@ -1,5 +1,4 @@
--- The parts of a line of `breaking`, `PATH: REASON SUBJECT: DETAIL`, or of one of `breaking --once`,
--- `REASON SUBJECT: DETAIL, in N commands, first in PATH`.
+-- The parts of a line of `breaking --once`, `REASON SUBJECT: DETAIL, in N commands, first in PATH`.
 use Rattle.std.specs.Prelude.{ℕ, ◌==◌, ◌-◌, nat_eq, nat_lt, Bool, if◌then◌else◌, List, codes, drop, length, take, Option, Some, None}
 use Rattle.std.specs.List.{after_first, before_first, ends_with, slice_split}
 use Rattle.std.specs.Str.{bytes_eq}
@@ -29,33 +28,29 @@ without ending text = if ends_with nat_eq text ending then Some (take (length te
 
 -- ---- a line
 
--- `REASON SUBJECT: DETAIL`, and what follows it with `--once`
-abbrev pub cause_of : Bool → List ℕ → List ℕ
-cause_of once words = if once then words else following 58 words
-
 -- `undecided REASON SUBJECT`, `REASON SUBJECT`, or these without REASON
-abbrev pub head_of : Bool → List ℕ → List ℕ
-head_of once words = before 58 (cause_of once words)
+abbrev pub head_of : List ℕ → List ℕ
+head_of words = before 58 words
 
-abbrev pub is_undecided : Bool → List ℕ → Bool
-is_undecided once words = begins (codes "undecided") (head_of once words)
+abbrev pub is_undecided : List ℕ → Bool
+is_undecided words = begins (codes "undecided") (head_of words)
 
 -- `REASON SUBJECT`, or SUBJECT
-abbrev pub matter_of : Bool → List ℕ → List ℕ
-matter_of once words = if is_undecided once words then after 32 (head_of once words) else head_of once words
+abbrev pub matter_of : List ℕ → List ℕ
+matter_of words = if is_undecided words then after 32 (head_of words) else head_of words
 
 abbrev pub has_reason : List ℕ → Bool
 has_reason matter = nat_lt 0 (length (after 32 matter))
 
-abbrev pub reason_of : Bool → List ℕ → List ℕ
-reason_of once words = if has_reason (matter_of once words) then first_word (matter_of once words) else codes ""
+abbrev pub reason_of : List ℕ → List ℕ
+reason_of words = if has_reason (matter_of words) then first_word (matter_of words) else codes ""
 
-abbrev pub subject_of : Bool → List ℕ → List ℕ
-subject_of once words = if has_reason (matter_of once words) then after 32 (matter_of once words) else matter_of once words
+abbrev pub subject_of : List ℕ → List ℕ
+subject_of words = if has_reason (matter_of words) then after 32 (matter_of words) else matter_of words
 
 -- the parts of DETAIL and of what follows it: there are four at most, with commas between
-abbrev pub detail_of : Bool → List ℕ → List ℕ
-detail_of once words = following 58 (cause_of once words)
+abbrev pub detail_of : List ℕ → List ℕ
+detail_of words = following 58 words
 
 abbrev pub first_part : List ℕ → List ℕ
 first_part detail = before 44 detail

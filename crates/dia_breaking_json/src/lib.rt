@@ -1,4 +1,4 @@
-//! The lines of `breaking` as JSON (RFC 8259), each from its words.
+//! The lines of `breaking` as JSON (RFC 8259), each from its parts; those of `--once` from their words.
 #![tactic(auto)]
 
 mod amounts;
@@ -16,5 +16,5 @@ mod texts;
 
 pub use fields::{object_text, push_null, push_text, push_unsigned};
 pub use keys::{Keys, Names};
-pub use lines::line_json;
+pub use lines::cause_json;
 pub use objects::{cause_object, line_object};

@@ -1,35 +1,34 @@
-//! Lines as JSON.
+//! Lines of `--once` as JSON, by their words.
 
 ghost use Rattle.std.specs.Prelude.{◌≡◌, ◌++◌, IfOk, OnOk, string_bytes};
-ghost use Rattle.dia_breaking_json.specs.Parts.{after, before, detail_of};
+ghost use Rattle.dia_breaking_json.specs.Parts.{after, before};
 ghost use Rattle.dia_breaking_json.specs.Fields.{Adds};
 ghost use Rattle.dia_breaking_json.specs.Keys.{key_in};
-ghost use Rattle.dia_breaking_json.specs.Lines.{is_in_header, line_fields, line_json, matter_fields};
-ghost use Rattle.dia_breaking_json.specs.Lines.{message_field, reason_field, subject_field, undecided_field, where_fields};
+ghost use Rattle.dia_breaking_json.specs.Lines.{cause_fields, cause_json, is_in_header, matter_fields};
+ghost use Rattle.dia_breaking_json.specs.Lines.{message_field, once_fields, reason_field, subject_field, undecided_field};
 
 use crate::details::push_detail;
 use crate::fields::{object_text, push_bool, push_text};
 use crate::keys::Names;
 use crate::parts::{Parts, parts_of};
-use crate::places::push_where;
+use crate::places::push_first;
 use crate::subjects::{push_reason, push_subject};
 use crate::texts::{after, before};
 use std::alloc::{AllocError, Global};
 
-/// The object of a line with these words, or of one of `--once`, and with the message that follows it, if one does: two spaces,
-/// its hexadecimal digits and a line feed.
-pub fn line_json(
+/// The object of a line of `--once` with these words, and with the message that follows it, if one does: two spaces, its
+/// hexadecimal digits and a line feed.
+pub fn cause_json(
     alloc: Global,
     names: &Names,
-    once: bool,
     words: &str,
     message: &str,
 ) -> Result<String, AllocError>
     ensures { IfOk result (λ text. string_bytes text
-        ≡ line_json (key_in names.now.first) (key_in names.now.second) once words.now message.now) }
+        ≡ cause_json (key_in names.now.first) (key_in names.now.second) words.now message.now) }
 {
     let mut fields = String::new(alloc);
-    push_fields(alloc, &mut fields, names, once, words, message)?;
+    push_fields(alloc, &mut fields, names, words, message)?;
     object_text(alloc, fields.as_str())
 }
 
@@ -37,22 +36,13 @@ fn push_fields(
     alloc: Global,
     out: &mut String,
     names: &Names,
-    once: bool,
     words: &str,
     message: &str,
 ) -> Result<(), AllocError>
     ensures { OnOk result (Adds out.old out.new
-        (line_fields (key_in names.now.first) (key_in names.now.second) once words.now message.now)) }
+        (cause_fields (key_in names.now.first) (key_in names.now.second) words.now message.now)) }
 {
-    push_parts(
-        alloc,
-        out,
-        names,
-        once,
-        words,
-        parts_of(words, once),
-        message,
-    )
+    push_parts(alloc, out, names, parts_of(words), message)
 }
 
 /// Adds the members of a line with these parts.
@@ -60,19 +50,16 @@ fn push_parts(
     alloc: Global,
     out: &mut String,
     names: &Names,
-    once: bool,
-    words: &str,
     parts: Parts<'_>,
     message: &str,
 ) -> Result<(), AllocError>
-    requires { parts.detail.now ≡ detail_of once words.now }
-    ensures { OnOk result (Adds out.old out.new (undecided_field parts.entry.is_undecided ++ where_fields once words.now
+    ensures { OnOk result (Adds out.old out.new (undecided_field parts.entry.is_undecided ++ once_fields parts.entry.detail.now
         ++ matter_fields (key_in names.now.first) (key_in names.now.second)
         parts.entry.reason.now parts.entry.subject.now parts.entry.detail.now
         ++ message_field message.now)) }
 {
     push_undecided(alloc, out, parts.is_undecided)?;
-    push_where(alloc, out, words, parts.detail, once)?;
+    push_first(alloc, out, parts.detail)?;
     push_matter(alloc, out, names, parts.reason, parts.subject, parts.detail)?;
     push_message(alloc, out, message)
 }

@@ -1,63 +1,56 @@
-//! The parts of a line.
+//! The parts of a line of `--once`.
 
 ghost use Rattle.std.specs.Prelude.{◌≡◌, ◌<◌};
-ghost use Rattle.dia_breaking_json.specs.Parts.{cause_of, count_of, detail_of, first_part, first_path, head_of, is_undecided};
+ghost use Rattle.dia_breaking_json.specs.Parts.{count_of, detail_of, first_part, first_path, head_of, is_undecided};
 ghost use Rattle.dia_breaking_json.specs.Parts.{fourth_part, has_reason, matter_of, reason_of};
 ghost use Rattle.dia_breaking_json.specs.Parts.{second_part, subject_of, third_part};
 
 use crate::texts::{after, before, begins, first_word, following};
 
-/// What a line says after its path: `undecided REASON SUBJECT: DETAIL`.
+/// What a line says: `undecided REASON SUBJECT: DETAIL`.
 #[derive(Clone, Copy)]
 pub(crate) struct Parts<'w> {
     pub is_undecided: bool,
     /// It may be empty.
     pub reason: &'w str,
     pub subject: &'w str,
-    /// With `--once` the count of commands and the first path follow it.
+    /// The count of commands and the first path follow it.
     pub detail: &'w str,
 }
 
-/// The parts of a line, or of one of `--once`.
-pub(crate) fn parts_of(words: &str, once: bool) -> Parts<'_>
-    ensures undecided { result.is_undecided ≡ is_undecided once words.now }
-    ensures reason { result.reason.now ≡ reason_of once words.now }
-    ensures subject { result.subject.now ≡ subject_of once words.now }
-    ensures detail { result.detail.now ≡ detail_of once words.now }
+/// The parts of a line.
+pub(crate) fn parts_of(words: &str) -> Parts<'_>
+    ensures undecided { result.is_undecided ≡ is_undecided words.now }
+    ensures reason { result.reason.now ≡ reason_of words.now }
+    ensures subject { result.subject.now ≡ subject_of words.now }
+    ensures detail { result.detail.now ≡ detail_of words.now }
 {
-    let cause = cause_of(words, once);
     Parts {
-        is_undecided: is_undecided(words, once),
-        reason: reason_of(words, once),
-        subject: subject_of(words, once),
-        detail: following(cause, ':'),
+        is_undecided: is_undecided(words),
+        reason: reason_of(words),
+        subject: subject_of(words),
+        detail: following(words, ':'),
     }
 }
 
-fn cause_of(words: &str, once: bool) -> &str
-    ensures { result.now ≡ cause_of once words.now }
+fn head_of(words: &str) -> &str
+    ensures { result.now ≡ head_of words.now }
 {
-    if once { words } else { following(words, ':') }
+    before(words, ':')
 }
 
-fn head_of(words: &str, once: bool) -> &str
-    ensures { result.now ≡ head_of once words.now }
+fn is_undecided(words: &str) -> bool
+    ensures { result ≡ is_undecided words.now }
 {
-    before(cause_of(words, once), ':')
-}
-
-fn is_undecided(words: &str, once: bool) -> bool
-    ensures { result ≡ is_undecided once words.now }
-{
-    begins(head_of(words, once), "undecided")
+    begins(head_of(words), "undecided")
 }
 
 /// The reason and the subject.
-fn matter_of(words: &str, once: bool) -> &str
-    ensures { result.now ≡ matter_of once words.now }
+fn matter_of(words: &str) -> &str
+    ensures { result.now ≡ matter_of words.now }
 {
-    let head = head_of(words, once);
-    if is_undecided(words, once) {
+    let head = head_of(words);
+    if is_undecided(words) {
         after(head, ' ')
     } else {
         head
@@ -70,10 +63,10 @@ fn has_reason(matter: &str) -> bool
     after(matter, ' ').len() > 0
 }
 
-fn reason_of(words: &str, once: bool) -> &str
-    ensures { result.now ≡ reason_of once words.now }
+fn reason_of(words: &str) -> &str
+    ensures { result.now ≡ reason_of words.now }
 {
-    let matter = matter_of(words, once);
+    let matter = matter_of(words);
     if has_reason(matter) {
         first_word(matter)
     } else {
@@ -81,10 +74,10 @@ fn reason_of(words: &str, once: bool) -> &str
     }
 }
 
-fn subject_of(words: &str, once: bool) -> &str
-    ensures { result.now ≡ subject_of once words.now }
+fn subject_of(words: &str) -> &str
+    ensures { result.now ≡ subject_of words.now }
 {
-    let matter = matter_of(words, once);
+    let matter = matter_of(words);
     if has_reason(matter) {
         after(matter, ' ')
     } else {

@@ -5,34 +5,16 @@ ghost use Rattle.std.specs.List.{flat_map};
 ghost use Rattle.serde_json.specs.Data.{array};
 ghost use Rattle.serde_json.specs.Written.{compact_text};
 ghost use Rattle.dia_breaking_json.specs.Fields.{Adds, name_text, object_of, strings};
-ghost use Rattle.dia_breaking_json.specs.Lines.{once_fields, place_fields, where_fields};
-ghost use Rattle.dia_breaking_json.specs.Parts.{application_of, command_of, detail_of, groups_of};
+ghost use Rattle.dia_breaking_json.specs.Lines.{once_fields, place_fields};
+ghost use Rattle.dia_breaking_json.specs.Parts.{application_of, command_of, groups_of};
 
 use crate::fields::{object_text, push_field, push_number, push_text, quoted};
 use crate::parts::{count_of, first_path};
 use crate::texts::{after, before};
 use std::alloc::{AllocError, Global};
 
-/// Adds the place of a line; with `--once` how many commands have its cause, and the first place.
-pub(crate) fn push_where(
-    alloc: Global,
-    out: &mut String,
-    words: &str,
-    detail: &str,
-    once: bool,
-) -> Result<(), AllocError>
-    requires { detail.now ≡ detail_of once words.now }
-    ensures { OnOk result (Adds out.old out.new (where_fields once words.now)) }
-{
-    if once {
-        push_first(alloc, out, detail)
-    } else {
-        push_place(alloc, out, before(words, ':'))
-    }
-}
-
 /// Adds how many commands have the cause, and the first place.
-fn push_first(alloc: Global, out: &mut String, detail: &str) -> Result<(), AllocError>
+pub(crate) fn push_first(alloc: Global, out: &mut String, detail: &str) -> Result<(), AllocError>
     ensures { OnOk result (Adds out.old out.new (once_fields detail.now)) }
 {
     let place = place_text(alloc, first_path(detail))?;

@@ -1,7 +1,7 @@
 //! Lines and causes of `breaking` as JSON.
 
 use dia_breaking::{Amount, LineParts, LineReason, Path, Standing, Subject};
-use dia_breaking_json::{Keys, Names, cause_object, line_json, line_object};
+use dia_breaking_json::{Keys, Names, cause_json, cause_object, line_object};
 use dia_dict::base_book;
 use std::alloc::{AllocError, Global};
 use std::process::Abort;
@@ -134,7 +134,7 @@ fn a_cause_has_the_first_place(rt: HostRuntime) -> Result<(), Fail> {
     assert!(rt; cause.as_str() == ONCE);
     let words =
         "m-bit Product-Name: M clear sent, M set accepted, in 2 commands, first in T[application 5]/G";
-    let by_words = line_json(alloc, &names, true, words, "")?;
+    let by_words = cause_json(alloc, &names, words, "")?;
     assert!(rt; by_words.as_str() == ONCE);
     Ok(())
 }

@@ -18,7 +18,7 @@ use crate::pending::Pending;
 use crate::reporting::{Found, Listed};
 use crate::seen::Seen;
 use dia_accepted::{Entry, Recorded};
-use dia_breaking_json::{Names, line_json};
+use dia_breaking_json::{Names, cause_json};
 use dia_io::{Exit, Failed, RunFault, Sink, put_all};
 use std::alloc::{AllocError, Global};
 
@@ -216,13 +216,7 @@ fn push_cause(
 ) -> Result<(), AllocError>
     ensures { OnOk result (string_bytes text.new ≡ string_bytes text.old ++ cause_object_in names.now (plain_recorded recorded.now)) }
 {
-    let object = line_json(
-        alloc,
-        names,
-        true,
-        recorded.words.as_str(),
-        recorded.message.as_str(),
-    )?;
+    let object = cause_json(alloc, names, recorded.words.as_str(), recorded.message.as_str())?;
     write!(text, "{object}\n")
 }
 

@@ -1,5 +1,5 @@
 -- The objects of `breaking` as JSON: those of lines, and the one after them.
-use Rattle.std.specs.Prelude.{◌≡◌, ℕ, Bool, true, if◌then◌else◌, List, [], ◌++◌, codes, length, map}
+use Rattle.std.specs.Prelude.{◌≡◌, ℕ, Bool, if◌then◌else◌, List, [], ◌++◌, codes, length, map}
 use Rattle.std.specs.Borrow.{Bor}
 use Rattle.std.specs.List.{flat_map}
 use Rattle.serde_json.specs.Written.{compact_text}
@@ -9,7 +9,7 @@ use Rattle.dia_breaking_json.specs.declared.Names.{Names}
 use Rattle.dia_breaking_json.specs.Fields.{Field, object_of, text_field}
 use Rattle.dia_breaking_json.specs.Keys.{key_in, key_named}
 use Rattle.dia_breaking_json.specs.LineObjects.{line_object}
-use Rattle.dia_breaking_json.specs.Lines.{line_json, unsigned_field}
+use Rattle.dia_breaking_json.specs.Lines.{cause_json, unsigned_field}
 use Rattle.dia_inclusion.specs.Proposed.{IsFirstUnknown}
 use Rattle.dia_explain_places.specs.Places.{column_at, line_at}
 use Rattle.dia_explain_places.specs.Tables.{line_from, start_of_line}
@@ -52,7 +52,7 @@ object_over a b row = line (line_object (key_named a) (key_named b) row.parts ro
 
 -- that of a cause
 abbrev pub cause_over : Dictionary → Dictionary → PlainRecorded → List ℕ
-cause_over a b t = line (line_json (key_named a) (key_named b) true t.words t.message)
+cause_over a b t = line (cause_json (key_named a) (key_named b) t.words t.message)
 
 -- those of these lines; with `--once` those of their causes
 abbrev pub objects_over : Dictionary → Dictionary → Bool → List Row → List ℕ

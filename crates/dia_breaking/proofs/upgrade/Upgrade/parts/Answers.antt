@@ -2,7 +2,7 @@ use Rattle.std.proofs.Common.{◌≡◌, ◌∙◌, Bool, List, Option, ap, cond
 use Rattle.dia_breaking.specs.declared.line.Site.{Site}
 use Rattle.dia_breaking.specs.LineParts.{accepted_of, no_parts, parts_in, path_on, sent_of, subject_of}
 use Rattle.dia_breaking.specs.Upgrades.{other_length_of, sides_of}
-use Rattle.dia_breaking.specs.Words.{is_command, path_to}
+use Rattle.dia_breaking.specs.Words.{is_command}
 use Rattle.dia_breaking.proofs.upgrade.Upgrade.parts.Goals as goal
 
 pub returns : goal.returns
