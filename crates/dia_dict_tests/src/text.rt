@@ -63,7 +63,7 @@ const DICTIONARY: &str = "
   * [ AVP ]
 ";
 
-/// A header as a text, and what stands behind its Message Length.
+/// A header as a text, and what follows its Message Length.
 const HEADER: &str = r"
 let H = code 272 flags RP app 4 hop 1 end 2
 let B = c0 000110 00000004 00000001 00000002

@@ -71,7 +71,7 @@ fn push_refused(note: &mut Note, name: &str, inputs: &Inputs, refused: &RefusedT
     }
 }
 
-/// Adds the faults of a text but the first one. Whose dictionary the names are of is only a hint to that.
+/// Adds the faults of a text but the first one. That the names are those of the base dictionary is a hint of the first one alone.
 fn push_others(note: &mut Note, name: &str, book: &IndexedBook, text: &[u8]) {
     let names = NamesOf {
         book,

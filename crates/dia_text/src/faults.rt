@@ -50,7 +50,8 @@ struct Under {
 /// The faults of all lines of a text, over this dictionary (our profile).
 ///
 /// Each line is judged as if the faulty lines before it were absent. Only, the first line of a message counts as its header, and a
-/// line whose last byte is `{` opens a group, also where they are faulty. An empty line ends a message. The error comes only where memory was refused.
+/// line whose last byte is `{` opens a group, also where they are faulty. An empty line ends a message. The error comes only
+/// where memory was refused.
 pub fn all_faults<B: Book>(alloc: Global, book: &B, text: &[u8]) -> Result<Faults, AllocError>
     ensures { IfOk result (λ found. AreCounted (all_faults (B.meaning book.now) text.now)
         found.first.items found.count) }
