@@ -6,24 +6,17 @@ use Rattle.dia_wire.specs.Number.{number}
 use Rattle.dia_wire.proofs.Fields.{big_from-number}
 use Rattle.dia_check.specs.declared.Reason.{Reason}
 use Rattle.dia_check.specs.declared.Reason.TheVariants as reason
-use Rattle.std.proofs.lemmas.List.{length-append, length-drop, map-append, take_rest}
+use Rattle.std.proofs.lemmas.List.{length-drop, map-append, take_rest}
 use Rattle.dia_answer.specs.declared.held.Held.{Held}
-use Rattle.dia_wire.specs.Wire.{PlainAvp, plain_avp, avp_length, Agrees, Spells, SpellsAll, BeginsWith, BeginsWithNone}
+use Rattle.dia_wire.specs.Wire.{PlainAvp, plain_avp, avp_length, Agrees, Spells, SpellsAll, BeginsWith}
 use Rattle.dia_wire.proofs.Spelling.{opened, rounded-le, at_least_8}
 use Rattle.dia_answer.specs.Requests.{AreFront, AreRequestAvps}
 
 pub begun : (v : PlainAvp) (front : List ℕ) → Spells v front → 0 < length front
 begun v front s = let o = opened v front [] s in omega (arith, o.front_length, rounded-le (avp_length v), at_least_8 v.vendor)
 
--- what follows the first AVP is shorter
-pub shorter : (v : PlainAvp) (level rest : List ℕ) → BeginsWith v level rest → length rest < length level
-shorter v level rest (front, s, parts) = omega (arith, begun v front s, ap length parts, length-append front rest)
-
 pub begins_agrees : (v : PlainAvp) (level rest : List ℕ) → BeginsWith v level rest → Agrees v
 begins_agrees v level rest b = b.1.agrees
-
-pub nothing_begins : (level : List ℕ) → length level ≡ 0 → BeginsWithNone level
-nothing_begins level none v rest b = absurd (omega (arith, none, shorter v level rest b))
 
 -- one AVP more
 pub spelled_more : (vs : List PlainAvp) (v : PlainAvp) (b front : List ℕ) → SpellsAll vs b → Spells v front → SpellsAll (vs ++ v ∷ []) (b ++ front)
@@ -40,18 +33,12 @@ pub record HasRead (level : List ℕ) (avps : List Held) (left : List ℕ) : Typ
   pub parts : level ≡ front ++ left
   pub spelled : SpellsAll (map plain_held avps) front
 
-pub read_none : (level : List ℕ) → HasRead level [] level
-read_none level = record { front = []; parts = refl; spelled = refl }
-
 pub read_more : (level : List ℕ) (avps new : List Held) (v : Held) (left rest : List ℕ) → HasRead level avps left → BeginsWith (plain_held v) left rest → new ≡ avps ++ v ∷ [] → HasRead level new rest
 read_more level avps new v left rest r b is = record {
   front = r.front ++ b.0;
   parts = r.parts ∙ ap (λ (x : List ℕ). r.front ++ x) b.2 ∙ sym (append_assoc r.front b.0 rest);
   spelled = subst (λ (vs : List PlainAvp). SpellsAll vs (r.front ++ b.0)) (sym (ap (map plain_held) is ∙ map-append plain_held avps (v ∷ []))) (spelled_more (map plain_held avps) (plain_held v) r.front b.0 r.spelled b.1);
 }
-
-pub read_all : (level : List ℕ) (avps : List Held) (left : List ℕ) → HasRead level avps left → BeginsWithNone left → AreFront (map plain_held avps) level
-read_all level avps left r none = record { front = r.front; rest = left; parts = r.parts; spelled = r.spelled; none = none }
 
 pub IfOk-map : {X E : Type 0} (P Q : X → Type 0) → ((x : X) → P x → Q x) → (r : Result X E) → IfOk r P → IfOk r Q
 IfOk-map P Q h (Ok x) p = h x p

@@ -70,6 +70,3 @@ pub is_fit : (d : Dictionary) (u : Unknown) (most : Levels) (v : PlainAvp) (byte
     → IsTrue ok ↔ IsFit d u most v
 is_fit d u most v bytes room message ok same =
     (λ h. record { room = room; fits = (lone_valid d u most v bytes message).0 (same.0 h) }, λ f. same.1 ((lone_valid d u most v bytes message).1 f.fits))
-
-pub too_long : (d : Dictionary) (u : Unknown) (most : Levels) (v : PlainAvp) → IsTooLong (v ∷ []) → IsTrue false ↔ IsFit d u most v
-too_long d u most v long = (λ (f : IsTrue false). absurd cc, λ f. absurd (f.room long))

@@ -3,3 +3,4 @@ pub mod Requests
 pub mod Contents
 pub mod Stocks
 pub mod Reports
+pub mod Names

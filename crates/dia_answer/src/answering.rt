@@ -1,8 +1,8 @@
 //! Answers to requests.
 
-ghost use Rattle.std.specs.Prelude.{◌≡◌, ◌<◌, ◌/◌, ◌↔◌, IfErr, IfOk, IfSome, IsTrue, length, map};
+ghost use Rattle.std.specs.Prelude.{◌≡◌, ◌<◌, ◌≤◌, ◌/◌, ◌↔◌, Err, IfErr, IfOk, IfSome, IsTrue, Ok, length, map, slice_index};
 ghost use Rattle.dia_wire.specs.Lengths.{three_bytes};
-ghost use Rattle.dia_wire.specs.Wire.{plain_avp, MessageWithZeros};
+ghost use Rattle.dia_wire.specs.Wire.{plain_avp, HasR, MessageWithZeros};
 ghost use Rattle.dia_valid.specs.Valid.{IsValid};
 ghost use Rattle.dia_check.specs.Faults.{IsRecorded};
 ghost use Rattle.dia_answer.specs.Dictionaries.{opaque};
@@ -54,6 +54,9 @@ pub fn answer<B: Book>(
     ensures valid { OnMade (λ made. IsValidBy (B.meaning book.now) unknown levels made.form made.bytes.items) result }
     ensures processed { OnMade (λ made. IsProcessed bytes.now made.fault.code made.form made.bytes.items) result }
     ensures permanent { OnMade (λ made. IsFormFor made.fault.code made.form) result }
+    ensures short { (result ≡ Ok (Err NoAnswer.Short)) ↔ (length bytes.now < 20) }
+    ensures answer { (result ≡ Ok (Err NoAnswer.Answer))
+        ↔ ((20 ≤ length bytes.now) × (¬ HasR (slice_index bytes.now 4))) }
     ensures no_answer { IfOk result
         (λ found. IfErr found (IsNoAnswer (B.meaning book.now) unknown levels bytes.now)) }
 {

@@ -1,5 +1,8 @@
 //! The names of the node that answers.
 
+ghost use Rattle.std.specs.Prelude.{◌≡◌, ◌↔◌, Err, IfOk, IsTrue};
+ghost use Rattle.dia_answer.specs.Names.{IsName};
+
 use dia_book::{Format, Leaf, accepts};
 use thiserror::Error;
 
@@ -10,7 +13,7 @@ pub struct Names<'a> {
     pub realm: &'a str,
 }
 
-/// Why names are refused: the first that stands.
+/// Why names are refused: the first that holds.
 #[derive(Clone, Copy, Debug, PartialEq, Eq, Error)]
 pub enum NameFault {
     #[error("the host is no DiameterIdentity of at most 255 bytes")]
@@ -23,8 +26,14 @@ pub enum NameFault {
 const NAME_LIMIT: usize = 255;
 
 impl<'a> Names<'a> {
-    /// These names, if both are DiameterIdentities of at most 255 bytes.
-    pub fn new(host: &'a str, realm: &'a str) -> Result<Self, NameFault> {
+    /// These names, if both are DiameterIdentities of at most 255 bytes (our profile). With others no form of an answer is
+    /// valid.
+    pub fn new(host: &'a str, realm: &'a str) -> Result<Self, NameFault>
+        ensures ok { IfOk result
+            (λ names. (names.host.now ≡ host.now) × (names.realm.now ≡ realm.now)) }
+        ensures host { (result ≡ Err NameFault.Host) ↔ (¬ IsName host.now) }
+        ensures realm { (result ≡ Err NameFault.Realm) ↔ (IsName host.now × (¬ IsName realm.now)) }
+    {
         if !is_name(host) {
             return Err(NameFault::Host);
         }
@@ -35,6 +44,8 @@ impl<'a> Names<'a> {
     }
 }
 
-fn is_name(name: &str) -> bool {
+fn is_name(name: &str) -> bool
+    ensures { IsTrue result ↔ IsName name.now }
+{
     name.len() <= NAME_LIMIT && accepts(&Format::DiameterIdentity, name.as_bytes()) == Leaf::Fine
 }

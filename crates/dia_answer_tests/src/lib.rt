@@ -1,8 +1,10 @@
-//! Rows of `answer`: requests, and the answers to them. There is nothing but tests.
+//! The tests of `dia_answer` and `dia_answer_run`: `rows` has requests with their answers in bytes. There is nothing but tests.
 #![tactic(auto)]
 
 #[cfg(test)]
 mod dictionaries;
+#[cfg(test)]
+mod lines;
 #[cfg(test)]
 mod requests;
 #[cfg(test)]
