@@ -1,5 +1,5 @@
 -- The applications of AVPs, of which some were passed.
-use Rattle.std.proofs.Common.{◌≡◌, ℕ, Bool, true, false, List, [], ◌∷◌, sym, subst, refl}
+use Rattle.std.proofs.Common.{◌≡◌, ℕ, Bool, true, false, List, sym, subst, refl}
 use Rattle.dia_wire.specs.Wire.{PlainAvp, BeginsWith, BeginsWithNone}
 use Rattle.dia_follow.specs.Applications.{Apps}
 use Rattle.std.specs.List.{fold}

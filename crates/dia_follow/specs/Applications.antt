@@ -1,5 +1,5 @@
 -- Sets of applications, and what two of them have in common (RFC 6733 sections 2.4 and 5.3).
-use Rattle.std.specs.Prelude.{ℕ, ◌||◌, Bool, not, if◌then◌else◌, List, [], ◌++◌, filter, length, ◌==◌, ◌&&◌}
+use Rattle.std.specs.Prelude.{ℕ, ◌||◌, Bool, List, [], filter, length, ◌==◌, ◌&&◌}
 use Rattle.std.specs.List.{list_any, fold}
 use Rattle.std.specs.Ordering.{nat_cmp, is_eq}
 use Rattle.std.specs.BTreeSet.{insert_key}

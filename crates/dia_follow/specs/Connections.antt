@@ -1,13 +1,11 @@
 -- What is known of a connection, and what a message does to it.
 use Rattle.std.specs.Prelude.{ℕ, ◌==◌, ◌&&◌, Bool, true, false, not, if◌then◌else◌, List, [], ◌∷◌, ◌++◌, drop, Option, Some, None, option_map, is_some}
-use Rattle.std.specs.Option.{option_map_or}
 use Rattle.dia_follow.specs.declared.codes.TheConstants.{CAPABILITIES_EXCHANGE, CAPABILITIES_UPDATE, DEVICE_WATCHDOG, DISCONNECT_PEER}
 use Rattle.dia_follow.specs.declared.end.End.{End}
 use Rattle.dia_follow.specs.declared.end.End.TheVariants.{Initiator, Responder}
 use Rattle.dia_follow.specs.declared.phase.Phase.{Phase}
 use Rattle.dia_follow.specs.declared.phase.Phase.TheVariants.{Start, Asked, Open, Refused, Middle}
 use Rattle.dia_follow.specs.declared.side.Side.{Side}
-use Rattle.dia_follow.specs.declared.side.Watchdog.{Watchdog}
 use Rattle.dia_follow.specs.declared.kept.Stray.{Stray}
 use Rattle.dia_follow.specs.declared.message.Head.{Head}
 use Rattle.dia_follow.specs.declared.message.Body.{Body}
@@ -18,7 +16,6 @@ use Rattle.dia_follow.specs.declared.message.Seen.TheVariants.{Unread, Message}
 use Rattle.dia_follow.specs.declared.reason.Reason.{Reason}
 use Rattle.dia_follow.specs.declared.request.Request.{Request}
 use Rattle.dia_follow.specs.Applications.{Apps, union}
-use Rattle.dia_follow.specs.Contents.{PlainContents}
 use Rattle.dia_follow.specs.Departures.{findings, unread_findings}
 use Rattle.dia_follow.specs.Ends.{other, same_end}
 use Rattle.dia_follow.specs.Kept.{has_stray, with_stray, without_stray}

@@ -12,9 +12,7 @@ use Rattle.dia_follow.specs.declared.message.Body.{Body}
 use Rattle.dia_follow.specs.declared.message.Body.TheVariants.{Cut, Gap, Known}
 use Rattle.dia_follow.specs.declared.message.Judged.{Judged}
 use Rattle.dia_follow.specs.declared.message.Judged.TheVariants as judged
-use Rattle.dia_follow.specs.declared.message.Line.{Line}
 use Rattle.dia_follow.specs.declared.request.Request.{Request}
-use Rattle.dia_follow.specs.declared.side.Watchdog.{Watchdog}
 use Rattle.dia_follow.specs.declared.reason.Reason.{Reason}
 use Rattle.dia_follow.specs.declared.reason.Reason.TheVariants as reason
 use Rattle.dia_follow.specs.Ends.{asker, is_agreed, same_end}

@@ -1,7 +1,6 @@
 -- The AVPs at the front of a level (RFC 6733 section 4.1).
 use Rattle.std.specs.Prelude.{◌≡◌, ℕ, ◌==◌, ◌&&◌, Bool, if◌then◌else◌, List, ◌++◌, length, Option, Some, None, unwrap_or, option_map}
 use Rattle.std.specs.List.{find}
-use Rattle.std.specs.Option.{option_and_then}
 use Rattle.dia_wire.specs.Number.{number}
 use Rattle.dia_wire.specs.Wire.{PlainAvp, SpellsAll, BeginsWithNone}
 

@@ -1,5 +1,5 @@
 -- What is there as a message comes.
-use Rattle.std.specs.Prelude.{ℕ, List, length, Option, Some, None}
+use Rattle.std.specs.Prelude.{Option}
 use Rattle.dia_follow.specs.declared.end.End.{End}
 use Rattle.dia_follow.specs.declared.phase.Phase.{Phase}
 use Rattle.dia_follow.specs.declared.side.Side.{Side}

@@ -1,5 +1,5 @@
 -- What the bytes of a message are (RFC 6733 sections 3 and 4.1).
-use Rattle.std.specs.Prelude.{◌≡◌, ◌≢◌, ◌↔◌, ℕ, ◌+◌, ◌-◌, ◌<◌, ◌≤◌, List, [], ◌++◌, length, take, drop, slice_index, IsTrue}
+use Rattle.std.specs.Prelude.{◌≡◌, ◌≢◌, ◌↔◌, ℕ, ◌+◌, ◌-◌, ◌<◌, ◌≤◌, List, [], length, take, drop, slice_index, IsTrue}
 use Rattle.dia_wire.specs.declared.header.Header.{Header}
 use Rattle.dia_wire.specs.declared.header.HeadFault.TheVariants as fault
 use Rattle.dia_wire.specs.Lengths.{header_length}

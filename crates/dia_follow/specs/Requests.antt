@@ -1,7 +1,6 @@
 -- Requests without answer, and the Session-Ids that are remembered of them.
-use Rattle.std.specs.Prelude.{ℕ, ◌==◌, ◌&&◌, Bool, List, length, take, Option, Some, None}
+use Rattle.std.specs.Prelude.{ℕ, ◌==◌, ◌&&◌, Bool, List, length, take}
 use Rattle.std.specs.Str.{bytes_eq}
-use Rattle.std.specs.List.{find}
 use Rattle.dia_follow.specs.declared.codes.TheConstants.{SESSION_START}
 
 -- what is remembered of a Session-Id (RFC 6733 section 8.8): how long it is, and how it begins

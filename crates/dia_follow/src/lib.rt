@@ -27,6 +27,8 @@ mod reading;
 mod reason;
 mod request;
 mod side;
+#[cfg(test)]
+mod tests;
 mod waiting;
 
 pub use applications::{Applications, Common, Listed};

@@ -1,6 +1,6 @@
 //! The bytes of a message, read.
 
-ghost use Rattle.std.specs.Prelude.{◌≡◌, ◌<◌, ◌≤◌, IfOk, length};
+ghost use Rattle.std.specs.Prelude.{◌≤◌, IfOk};
 ghost use Rattle.dia_follow.specs.Reading.{HasFields, IsBody, IsSeen};
 
 use crate::contents::read_contents;

@@ -1,5 +1,5 @@
 -- The lines of a connection: `END [TIME] HEX`, with blanks between and around the words.
-use Rattle.std.specs.Prelude.{ℕ, ◌==◌, ◌||◌, Bool, false, not, if◌then◌else◌, List, ◌∷◌, [], length, take, drop, position, Option, Some, None, Result, Ok, Err, codes, unwrap_or, slice_get}
+use Rattle.std.specs.Prelude.{ℕ, ◌==◌, ◌||◌, Bool, false, not, if◌then◌else◌, List, length, take, drop, position, Option, Some, None, Result, Ok, Err, codes, unwrap_or, slice_get}
 use Rattle.std.specs.Option.{option_map_or}
 use Rattle.std.specs.Str.{bytes_eq}
 use Rattle.dia_follow.specs.declared.End.{End}

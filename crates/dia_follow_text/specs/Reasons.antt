@@ -1,5 +1,5 @@
 -- The words and the sections of departures and notes.
-use Rattle.std.specs.Prelude.{ℕ, ◌/◌, ◌==◌, if◌then◌else◌, Bool, true, false, List, Option, Some, None, codes}
+use Rattle.std.specs.Prelude.{ℕ, ◌/◌, ◌==◌, if◌then◌else◌, List, Option, Some, None, codes}
 use Rattle.dia_follow.specs.declared.Reason.{Reason}
 use Rattle.dia_follow.specs.declared.Reason.TheVariants as reason
 

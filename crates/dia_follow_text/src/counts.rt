@@ -3,7 +3,7 @@
 use crate::names::push_name;
 use crate::times::after;
 use dia_dict::Book;
-use dia_follow::{End, Head, Moment, Reason, Request};
+use dia_follow::{End, Moment, Reason, Request};
 use std::alloc::{AllocError, Global};
 use std::collections::BTreeMap;
 

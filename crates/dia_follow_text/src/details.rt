@@ -1,45 +1,16 @@
 //! What a departure or a note says of its message.
 
-use crate::names::mark;
+ghost use Rattle.std.specs.Prelude.{◌≡◌, ◌++◌, OnOk, codes, if◌then◌else◌, length, option_map, string_bytes};
+ghost use Rattle.std.specs.Fmt.{decimal};
+ghost use Rattle.dia_follow_text.specs.Details.{earlier_at, earlier_text, field_pair, field_text, gap_text, has_session};
+ghost use Rattle.dia_follow_text.specs.Details.{interval_text, order_text, since_text};
+ghost use Rattle.dia_follow_text.specs.Details.{interval, number_text, other_line, plain_text, request_line, sizes};
+ghost use Rattle.dia_follow_text.specs.Details.{unlike_flag, unlike_session};
+
 use crate::times::{after, push_seconds};
 use dia_data::{Format, push_value};
 use dia_follow::{Body, Common, Head, Line, Listed, Message, Moment, Reason, Request};
-use dia_wire::{HEADER_LENGTH, number32};
 use std::alloc::{AllocError, Global};
-
-/// Adds the text of a departure or a note on bytes whose header can't be read.
-pub(crate) fn push_unread_detail(
-    text: &mut String,
-    bytes: &[u8],
-    verdict: &str,
-    reason: Reason,
-) -> Result<(), AllocError> {
-    match reason {
-        Reason::Version => {
-            let version = bytes.first().copied().unwrap_or(0);
-            write!(text, "{version} for 1")
-        }
-        Reason::Length => {
-            let length = message_length(bytes);
-            write!(text, "{length}")
-        }
-        Reason::Invalid => text.push_str(verdict),
-        _ => {
-            let count = bytes.len();
-            write!(text, "{count} of {HEADER_LENGTH} bytes of the header")
-        }
-    }
-}
-
-/// The Message Length.
-fn message_length(bytes: &[u8]) -> u32 {
-    match bytes {
-        [_, high, middle, low, ..] => {
-            u32::from(*high) * 65_536 + u32::from(*middle) * 256 + u32::from(*low)
-        }
-        _ => 0,
-    }
-}
 
 /// Adds the text of a departure or a note. `verdict` is what `check` says.
 pub(crate) fn push_detail(
@@ -60,12 +31,8 @@ pub(crate) fn push_detail(
             push_result(alloc, text, moment, reason)
         }
         Reason::OriginHost => push_hosts(text, moment),
-        Reason::Truncated | Reason::Trailing => push_sizes(
-            text,
-            moment.line(),
-            moment.message(),
-            reason,
-        ),
+        Reason::Truncated => push_sizes(text, true, moment.line(), moment.message()),
+        Reason::Trailing => push_sizes(text, false, moment.line(), moment.message()),
         Reason::HopByHop | Reason::WatchdogWaits | Reason::Order | Reason::WatchdogEarly => {
             push_earlier(text, moment, reason)
         }
@@ -76,11 +43,22 @@ pub(crate) fn push_detail(
     }
 }
 
+fn wrong_bit(head: &Head) -> &'static str
+    ensures { result.now ≡ (if head.now.request then codes "E in a request" else codes "T in an answer") }
+{
+    if head.request {
+        "E in a request"
+    } else {
+        "T in an answer"
+    }
+}
+
 /// The text of a departure or a note that has no numbers.
-fn plain(head: &Head, reason: Reason) -> &'static str {
+fn plain(head: &Head, reason: Reason) -> &'static str
+    ensures { result.now ≡ plain_text reason head.now }
+{
     match reason {
-        Reason::Bits if head.request => "E in a request",
-        Reason::Bits => "T in an answer",
+        Reason::Bits => wrong_bit(head),
         Reason::NoCer => "the first message of the connection",
         Reason::CerFromAcceptor => "the other end opened the connection",
         Reason::CerAgain => "the CER of this connection is sent",
@@ -97,7 +75,9 @@ fn plain(head: &Head, reason: Reason) -> &'static str {
     }
 }
 
-fn push_gap(text: &mut String, message: &Message<'_>) -> Result<(), AllocError> {
+fn push_gap(text: &mut String, message: &Message<'_>) -> Result<(), AllocError>
+    ensures { OnOk result (string_bytes text.new ≡ string_bytes text.old ++ gap_text message.now.body) }
+{
     match message.body {
         Body::Gap(at) => write!(text, "no AVP begins at byte {at}"),
         _ => Ok(()),
@@ -105,36 +85,87 @@ fn push_gap(text: &mut String, message: &Message<'_>) -> Result<(), AllocError> 
 }
 
 /// Adds a field of an answer, and that of its request.
-fn push_other(text: &mut String, moment: &Moment<'_>, reason: Reason) -> Result<(), AllocError> {
+fn push_other(text: &mut String, moment: &Moment<'_>, reason: Reason) -> Result<(), AllocError>
+    ensures { OnOk result (string_bytes text.new ≡ string_bytes text.old ++ field_text reason moment.now.message.head moment.now.request) }
+{
     let head = moment.message().head;
     let Some(request) = moment.request() else {
         return Ok(());
     };
     let line = request.line;
-    let (own, wanted) = match reason {
+    let (own, wanted) = field_pair(&head, request, reason);
+    write!(text, "{own}, {wanted} in line {line}")
+}
+
+/// A field of an answer, and that of its request.
+fn field_pair(head: &Head, request: &Request, reason: Reason) -> (u32, u32)
+    ensures { result ≡ field_pair reason head.now request.now }
+{
+    match reason {
         Reason::EndToEnd => (head.e2e, request.e2e),
         Reason::Command => (head.code, request.code),
         _ => (head.app, request.app),
-    };
-    write!(text, "{own}, {wanted} in line {line}")
+    }
+}
+
+/// Adds which P flags an answer and its request have.
+fn push_flags(text: &mut String, request: &Request) -> Result<(), AllocError>
+    ensures { OnOk result (string_bytes text.new
+        ≡ string_bytes text.old ++ unlike_flag request.now.proxiable ++ decimal request.now.line) }
+{
+    push_line(text, unlike_flag(request.proxiable), request.line)
+}
+
+fn unlike_flag(proxiable: bool) -> &'static str
+    ensures { result.now ≡ unlike_flag proxiable }
+{
+    if proxiable {
+        "P clear, set in line "
+    } else {
+        "P set, clear in line "
+    }
+}
+
+/// Adds which Session-Ids an answer and its request have.
+fn push_sessions(
+    text: &mut String,
+    moment: &Moment<'_>,
+    request: &Request,
+) -> Result<(), AllocError>
+    ensures { OnOk result (string_bytes text.new ≡ string_bytes text.old
+        ++ unlike_session (has_session moment.now) ++ decimal request.now.line) }
+{
+    push_line(text, unlike_session(has_session(moment)), request.line)
+}
+
+fn unlike_session(has_session: bool) -> &'static str
+    ensures { result.now ≡ unlike_session has_session }
+{
+    if has_session {
+        "another in line "
+    } else {
+        "none, one in line "
+    }
+}
+
+fn push_line(text: &mut String, lead: &str, line: u64) -> Result<(), AllocError>
+    ensures { OnOk result (string_bytes text.new ≡ string_bytes text.old ++ lead.now ++ decimal line) }
+{
+    write!(text, "{lead}{line}")
 }
 
 /// Adds what of an answer isn't as in its request.
 fn push_unlike(text: &mut String, moment: &Moment<'_>, reason: Reason) -> Result<(), AllocError> {
-    let Some(request) = moment.request() else {
-        return Ok(());
-    };
-    let line = request.line;
-    let what = match reason {
-        Reason::Proxiable if request.proxiable => "P clear, set in line",
-        Reason::Proxiable => "P set, clear in line",
-        _ if has_session(moment) => "another in line",
-        _ => "none, one in line",
-    };
-    write!(text, "{what} {line}")
+    match (moment.request(), reason) {
+        (Some(request), Reason::Proxiable) => push_flags(text, request),
+        (Some(request), _) => push_sessions(text, moment, request),
+        (None, _) => Ok(()),
+    }
 }
 
-fn has_session(moment: &Moment<'_>) -> bool {
+fn has_session(moment: &Moment<'_>) -> bool
+    ensures { result ≡ has_session moment.now }
+{
     match moment.contents() {
         Some(contents) => contents.session.is_some(),
         None => false,
@@ -220,54 +251,108 @@ fn push_host(text: &mut String, host: Option<&[u8]>) -> Result<(), AllocError> {
 /// Adds how many bytes there are, and how many there should be.
 fn push_sizes(
     text: &mut String,
+    is_cut: bool,
     line: &Line<'_>,
     message: &Message<'_>,
-    reason: Reason,
-) -> Result<(), AllocError> {
+) -> Result<(), AllocError>
+    ensures { OnOk result (string_bytes text.new ≡ string_bytes text.old
+        ++ sizes is_cut (length line.now.bytes.now) message.now.length) }
+{
     let count = line.bytes.len();
     let length = message.length;
-    match reason {
-        Reason::Truncated => write!(text, "{count} of {length} bytes"),
-        _ => write!(text, "{count} bytes for {length}"),
+    if is_cut {
+        write!(text, "{count} of {length} bytes")
+    } else {
+        write!(text, "{count} bytes for {length}")
     }
 }
 
 /// The line that a departure or a note speaks of.
-pub(crate) fn other_line(moment: &Moment<'_>, reason: Reason) -> Option<u64> {
+pub(crate) fn other_line(moment: &Moment<'_>, reason: Reason) -> Option<u64>
+    ensures { result ≡ other_line reason moment.now }
+{
     match reason {
         Reason::HopByHop => moment.since(),
         Reason::WatchdogWaits => moment.waiting_dwr(),
         Reason::Order => moment.answer_line(),
-        Reason::WatchdogEarly => Some(moment.last_dwr()?.line),
+        Reason::WatchdogEarly => last_line(moment),
         Reason::EndToEnd | Reason::Command | Reason::Application => request_line(moment),
         Reason::Proxiable | Reason::SessionId => request_line(moment),
         _ => None,
     }
 }
 
-fn request_line(moment: &Moment<'_>) -> Option<u64> {
-    Some(moment.request()?.line)
-}
-
-/// Adds an earlier line.
-fn push_earlier(text: &mut String, moment: &Moment<'_>, reason: Reason) -> Result<(), AllocError> {
-    let Some(line) = other_line(moment, reason) else {
-        return Ok(());
-    };
-    let hop = moment.message().head.hop;
-    match reason {
-        Reason::HopByHop => write!(text, "{hop} waits since line {line}"),
-        Reason::WatchdogWaits => write!(text, "the DWR of line {line} waits"),
-        Reason::Order => write!(text, "line {line} answers this one"),
-        _ => {
-            push_seconds(text, interval(moment))?;
-            write!(text, " behind line {line}")
-        }
+fn last_line(moment: &Moment<'_>) -> Option<u64>
+    ensures { result ≡ option_map (λ dwr. dwr.line) moment.now.own.dwr }
+{
+    match moment.last_dwr() {
+        Some(last) => Some(last.line),
+        None => None,
     }
 }
 
+fn request_line(moment: &Moment<'_>) -> Option<u64>
+    ensures { result ≡ request_line moment.now.request }
+{
+    match moment.request() {
+        Some(request) => Some(request.line),
+        None => None,
+    }
+}
+
+/// Adds an earlier line.
+fn push_earlier(text: &mut String, moment: &Moment<'_>, reason: Reason) -> Result<(), AllocError>
+    ensures { OnOk result (string_bytes text.new
+        ≡ string_bytes text.old ++ earlier_text reason moment.now (other_line reason moment.now)) }
+{
+    match other_line(moment, reason) {
+        Some(line) => push_earlier_at(text, moment, reason, line),
+        None => Ok(()),
+    }
+}
+
+fn push_earlier_at(
+    text: &mut String,
+    moment: &Moment<'_>,
+    reason: Reason,
+    line: u64,
+) -> Result<(), AllocError>
+    ensures { OnOk result (string_bytes text.new
+        ≡ string_bytes text.old ++ earlier_at reason moment.now line) }
+{
+    match reason {
+        Reason::HopByHop => push_since(text, &moment.message().head, line),
+        Reason::WatchdogWaits => write!(text, "the DWR of line {line} waits"),
+        Reason::Order => push_order(text, line),
+        _ => push_interval(text, interval(moment), line),
+    }
+}
+
+fn push_since(text: &mut String, head: &Head, line: u64) -> Result<(), AllocError>
+    ensures { OnOk result (string_bytes text.new ≡ string_bytes text.old ++ since_text head.now.hop line) }
+{
+    let hop = head.hop;
+    write!(text, "{hop}")?;
+    push_line(text, " waits since line ", line)
+}
+
+fn push_order(text: &mut String, line: u64) -> Result<(), AllocError>
+    ensures { OnOk result (string_bytes text.new ≡ string_bytes text.old ++ order_text line) }
+{
+    write!(text, "line {line} answers this one")
+}
+
+fn push_interval(text: &mut String, nanoseconds: u64, line: u64) -> Result<(), AllocError>
+    ensures { OnOk result (string_bytes text.new ≡ string_bytes text.old ++ interval_text nanoseconds line) }
+{
+    push_seconds(text, nanoseconds)?;
+    write!(text, " behind line {line}")
+}
+
 /// How long the message comes after the last DWR of its end.
-fn interval(moment: &Moment<'_>) -> u64 {
+fn interval(moment: &Moment<'_>) -> u64
+    ensures { result ≡ interval moment.now }
+{
     match moment.last_dwr() {
         Some(last) => after(last.time, moment.line().time).unwrap_or(0),
         None => 0,
@@ -275,7 +360,9 @@ fn interval(moment: &Moment<'_>) -> u64 {
 }
 
 /// Adds a number of the header.
-fn push_number(text: &mut String, head: &Head, reason: Reason) -> Result<(), AllocError> {
+fn push_number(text: &mut String, head: &Head, reason: Reason) -> Result<(), AllocError>
+    ensures { OnOk result (string_bytes text.new ≡ string_bytes text.old ++ number_text reason head.now) }
+{
     let app = head.app;
     let hop = head.hop;
     match reason {

@@ -1,11 +1,12 @@
 //! The lines of the answer, as JSON (RFC 8259).
 
-use crate::details::{other_line, push_detail, push_known_common, push_unread_detail};
+use crate::details::{other_line, push_detail, push_known_common};
 use crate::entry::BadLine;
 use crate::names::{mark, push_name};
 use crate::reasons::{section, word};
 use crate::said::kind;
 use crate::times::after;
+use crate::unread::push_unread_detail;
 use dia_dict::Book;
 use dia_follow::{End, Head, Moment, Reason, Request};
 use dia_refused_json::quoted;

@@ -27,6 +27,7 @@ mod said;
 mod summary;
 mod times;
 mod unanswered;
+mod unread;
 
 pub use entry::{BadLine, Entry, read_line};
 pub use options::{Check, Options};

@@ -20,21 +20,21 @@ mod requests;
 
 #[test]
 fn connections_begin(rt: HostRuntime) {
-    answers(&rt, opening::ROWS, 4096);
+    answers(&rt, opening::ROWS);
 }
 
 #[test]
 fn requests_are_answered(rt: HostRuntime) {
-    answers(&rt, requests::ROWS, 4096);
+    answers(&rt, requests::ROWS);
 }
 
 #[test]
 fn bodies_are_read(rt: HostRuntime) {
-    answers(&rt, bodies::ROWS, 4096);
+    answers(&rt, bodies::ROWS);
 }
 
 /// Asserts that each text of the rows has its answer.
-fn answers(rt: &(impl AllocGlobal + Abort), rows: &str, _piece: usize) {
+fn answers(rt: &(impl AllocGlobal + Abort), rows: &str) {
     for row in rows.split("== ") {
         if let Some((head, rest)) = row.split_once("\n") {
             let (connection, answer) = rest.split_once("--\n").unwrap_or((rest, ""));

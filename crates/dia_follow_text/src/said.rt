@@ -1,9 +1,14 @@
 //! The lines of the answer, as text.
 
-use crate::details::{push_detail, push_known_common, push_unread_detail};
+ghost use Rattle.std.specs.Prelude.{◌≡◌, ◌++◌, OnOk, Some, string_bytes};
+ghost use Rattle.dia_follow_text.specs.Said.{after_text, code_text, fields_text, front_text, head_text, kind_word};
+ghost use Rattle.dia_follow_text.specs.Said.{section_text, unanswered_line, unread_line};
+
+use crate::details::{push_detail, push_known_common};
 use crate::names::{mark, push_name};
 use crate::reasons::{section, word};
 use crate::times::{after, push_seconds};
+use crate::unread::push_unread_detail;
 use dia_dict::Book;
 use dia_follow::{End, Head, Moment, Reason, Request};
 use std::alloc::{AllocError, Global};
@@ -14,7 +19,9 @@ pub(crate) fn push_unread(
     number: u64,
     end: End,
     count: usize,
-) -> Result<(), AllocError> {
+) -> Result<(), AllocError>
+    ensures { OnOk result (string_bytes text.new ≡ string_bytes text.old ++ unread_line number end count) }
+{
     let mark = mark(end);
     writeln!(text, "{number} {mark} unread {count} bytes")
 }
@@ -39,18 +46,40 @@ pub(crate) fn push_message<B: Book>(
     text.push('\n')
 }
 
-/// Adds the fields of a header.
+/// Adds the command of a message and the fields of its header.
 fn push_head<B: Book>(
     text: &mut String,
     book: &B,
     number: u64,
     end: End,
     head: &Head,
-) -> Result<(), AllocError> {
-    let mark = mark(end);
-    let kind = if head.request { "request" } else { "answer" };
-    write!(text, "{number} {mark} {kind} ")?;
+) -> Result<(), AllocError>
+    ensures { OnOk result (string_bytes text.new
+        ≡ string_bytes text.old ++ head_text (B.meaning book.now) number end head.now) }
+{
+    push_front(text, number, end, head.request)?;
     push_name(text, book, head.code, head.request, head.app)?;
+    push_fields(text, head)
+}
+
+fn push_front(text: &mut String, number: u64, end: End, request: bool) -> Result<(), AllocError>
+    ensures { OnOk result (string_bytes text.new ≡ string_bytes text.old ++ front_text number end request) }
+{
+    let mark = mark(end);
+    let kind = kind_word(request);
+    write!(text, "{number} {mark} {kind} ")
+}
+
+fn kind_word(request: bool) -> &'static str
+    ensures { result.now ≡ kind_word request }
+{
+    if request { "request" } else { "answer" }
+}
+
+/// Adds the fields of a header.
+fn push_fields(text: &mut String, head: &Head) -> Result<(), AllocError>
+    ensures { OnOk result (string_bytes text.new ≡ string_bytes text.old ++ fields_text head.now) }
+{
     let app = head.app;
     let hop = head.hop;
     let e2e = head.e2e;
@@ -70,16 +99,29 @@ fn push_cause(text: &mut String, moment: &Moment<'_>) -> Result<(), AllocError> 
 /// Adds the Result-Code or the Experimental-Result of an answer, and whether E is set.
 fn push_code(text: &mut String, moment: &Moment<'_>) -> Result<(), AllocError> {
     if let Some(contents) = moment.contents() {
-        match (contents.result, contents.experimental) {
-            (Some(code), _) => write!(text, " code {code}")?,
-            (None, Some((vendor, code))) => write!(text, " code {vendor}:{code}")?,
-            (None, None) => {}
-        }
+        push_result(text, contents.result, contents.experimental)?;
     }
     if moment.message().head.error {
         text.push_str(" E")
     } else {
         Ok(())
+    }
+}
+
+fn push_result(
+    text: &mut String,
+    result_code: Option<u32>,
+    experimental: Option<(u32, u32)>,
+) -> Result<(), AllocError>
+    ensures { OnOk result (string_bytes text.new
+        ≡ string_bytes text.old ++ code_text result_code experimental) }
+{
+    if let Some(code) = result_code {
+        return write!(text, " code {code}");
+    }
+    match experimental {
+        Some((vendor, code)) => write!(text, " code {vendor}:{code}"),
+        None => Ok(()),
     }
 }
 
@@ -90,13 +132,18 @@ fn push_request(text: &mut String, moment: &Moment<'_>) -> Result<(), AllocError
     };
     let line = request.line;
     write!(text, " answers {line}")?;
-    match after(request.time, moment.line().time) {
-        Some(nanoseconds) => {
-            text.push_str(" after ")?;
-            push_seconds(text, nanoseconds)
-        }
-        None => Ok(()),
-    }
+    push_after(text, after(request.time, moment.line().time))
+}
+
+/// Adds how long after its request an answer comes.
+fn push_after(text: &mut String, nanoseconds: Option<u64>) -> Result<(), AllocError>
+    ensures { OnOk result (string_bytes text.new ≡ string_bytes text.old ++ after_text nanoseconds) }
+{
+    let Some(nanoseconds) = nanoseconds else {
+        return Ok(());
+    };
+    text.push_str(" after ")?;
+    push_seconds(text, nanoseconds)
 }
 
 /// Adds the common applications of a CEA of success.
@@ -152,11 +199,18 @@ pub(crate) fn kind(reason: Reason) -> &'static str {
     }
 }
 
-fn push_section(text: &mut String, section: Option<&'static str>) -> Result<(), AllocError> {
+fn push_section(text: &mut String, section: Option<&str>) -> Result<(), AllocError> {
     match section {
-        Some(section) => writeln!(text, " (RFC 6733 {section})"),
+        Some(section) => push_number_of_section(text, section),
         None => text.push('\n'),
     }
+}
+
+fn push_number_of_section(text: &mut String, section: &str) -> Result<(), AllocError>
+    ensures { OnOk result (string_bytes text.new
+        ≡ string_bytes text.old ++ section_text (Some section.now)) }
+{
+    writeln!(text, " (RFC 6733 {section})")
 }
 
 /// Adds the note on a request that has no answer.
@@ -165,10 +219,13 @@ pub(crate) fn push_unanswered<B: Book>(
     book: &B,
     end: End,
     request: &Request,
-) -> Result<(), AllocError> {
+) -> Result<(), AllocError>
+    ensures { OnOk result (string_bytes text.new
+        ≡ string_bytes text.old ++ unanswered_line (B.meaning book.now) end request.now) }
+{
     let number = request.line;
     let mark = mark(end);
     write!(text, "{number} {mark} note unanswered: ")?;
     push_name(text, book, request.code, true, request.app)?;
-    text.push('\n')
+    text.push_str("\n")
 }

@@ -1,7 +1,7 @@
-use Rattle.std.proofs.Common.{ap, sym, ◌∙◌}
+use Rattle.std.proofs.Common.{ap, sym}
 use Rattle.std.specs.List.{fold}
 use Rattle.dia_wire.specs.Level.{level_left}
-use Rattle.dia_wire.specs.Wire.{PlainAvp, plain_avp}
+use Rattle.dia_wire.specs.Wire.{plain_avp}
 use Rattle.dia_follow.specs.Applications.{Apps}
 use Rattle.dia_follow.specs.Contents.{add_named}
 use Rattle.dia_follow.proofs.Fronts.{goes_on, ends, ends_at_fault, walk_on, walk_end}

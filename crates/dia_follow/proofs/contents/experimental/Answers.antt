@@ -1,4 +1,4 @@
-use Rattle.std.proofs.Common.{ℕ, List, Option, Some, None, subst}
+use Rattle.std.proofs.Common.{ℕ, List, Option, None, subst}
 use Rattle.dia_follow.specs.Contents.{IsExperimental}
 use Rattle.dia_follow.proofs.contents.experimental.Goals as goal
 

@@ -1,4 +1,4 @@
-use Rattle.std.proofs.Common.{ap, ◌∙◌}
+use Rattle.std.proofs.Common.{◌∙◌}
 use Rattle.dia_follow.specs.Contents.{both_numbers}
 use Rattle.dia_follow.proofs.contents.experimental_in.Goals as goal
 

@@ -1,4 +1,4 @@
-use Rattle.std.proofs.Common.{◌≡◌, ℕ, ◌==◌, ◌-◌, ◌<◌, ◌≤◌, Bool, true, false, List, [], ◌∷◌, length, drop, refl, sym, ap, subst, eqb-true, length-append, arith}
+use Rattle.std.proofs.Common.{◌≡◌, ℕ, ◌==◌, ◌-◌, ◌<◌, ◌≤◌, true, false, List, [], ◌∷◌, length, drop, refl, sym, ap, subst, eqb-true, length-append, arith}
 use Rattle.std.proofs.lemmas.List.{length-take}
 use Rattle.dia_wire.specs.Wire.{PlainAvp}
 use Rattle.dia_follow.specs.Fronts.{IsFront}
