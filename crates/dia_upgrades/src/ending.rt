@@ -216,7 +216,12 @@ fn push_cause(
 ) -> Result<(), AllocError>
     ensures { OnOk result (string_bytes text.new ≡ string_bytes text.old ++ cause_object_in names.now (plain_recorded recorded.now)) }
 {
-    let object = cause_json(alloc, names, recorded.words.as_str(), recorded.message.as_str())?;
+    let object = cause_json(
+        alloc,
+        names,
+        recorded.words.as_str(),
+        recorded.message.as_str(),
+    )?;
     write!(text, "{object}\n")
 }
 
