@@ -14,6 +14,7 @@ use Rattle.dia_captures.specs.declared.runs.Captured.{Captured}
 use Rattle.dia_captures.specs.Lines.{AreLinesAnswered, IsFrontPut, checks, refutations}
 use Rattle.dia_captures.specs.Streams.{IsStreamAnswered, IsStreamFrontPut}
 use Rattle.dia_json.specs.Runs.{ChecksLines, ChecksFront, RefutesLines, RefutesFront, ChecksStream, StreamFront}
+use Rattle.dia_json.specs.ShownLines.{ShowsFront, ShowsLines}
 use Rattle.dia_show.specs.Lines.{AreLinesShown, IsFrontShown}
 use Rattle.dia_report.specs.declared.reporting.Reported.{Reported}
 use Rattle.dia_cli.specs.Ending.{Stream}
@@ -58,12 +59,14 @@ IsBegun Refuted true u most inputs feed out = RefutesFront u most inputs feed.ol
 IsBegun Placed false u most inputs feed out = IsStreamFrontPut u most inputs feed.old feed.new out.old out.new
 IsBegun Placed true u most inputs feed out = StreamFront u most inputs feed.old feed.new out.old out.new
 
--- the same of `show --lines`
-abbrev pub AreShown : Bool → Inputs → Fed → Stream → Exit → Type 0
-AreShown names inputs feed out exit = AreLinesShown names inputs feed.old feed.new out.old out.new exit × IsReadOut feed exit
+-- the same of `show --lines`: as JSON, if that is asked for
+abbrev pub AreShown : Bool → Bool → Inputs → Fed → Stream → Exit → Type 0
+AreShown false names inputs feed out exit = AreLinesShown names inputs feed.old feed.new out.old out.new exit × IsReadOut feed exit
+AreShown true names inputs feed out exit = ShowsLines names inputs feed.old feed.new out.old out.new exit × IsReadOut feed exit
 
-abbrev pub IsShownBegun : Bool → Inputs → Fed → Stream → Type 0
-IsShownBegun names inputs feed out = IsFrontShown names inputs feed.old feed.new out.old out.new
+abbrev pub IsShownBegun : Bool → Bool → Inputs → Fed → Stream → Type 0
+IsShownBegun false names inputs feed out = IsFrontShown names inputs feed.old feed.new out.old out.new
+IsShownBegun true names inputs feed out = ShowsFront names inputs feed.old feed.new out.old out.new
 
 -- the word of the device that failed: standard output, or else the messages
 abbrev pub IsFailing : List ℕ → Bool → List ℕ → Type 0
@@ -111,8 +114,8 @@ Captures lines u most json inputs known word out ended =
     Ends (ArePut lines json u most inputs) (IsBegun lines json u most inputs) known word out ended
 
 -- `show --lines`
-abbrev pub Lists : Bool → Inputs → Option (List ℕ) → List ℕ → Stream → Result Reported Ending → Type 0
-Lists names inputs known word out ended = Ends (AreShown names inputs) (IsShownBegun names inputs) known word out ended
+abbrev pub Lists : Bool → Bool → Inputs → Option (List ℕ) → List ℕ → Stream → Result Reported Ending → Type 0
+Lists json names inputs known word out ended = Ends (AreShown json names inputs) (IsShownBegun json names inputs) known word out ended
 
 -- `follow`: where it fails, a device did, or memory was refused. What it writes is tested, and not stated here
 abbrev pub Follows : List ℕ → Stream → Result Reported Ending → Type 0

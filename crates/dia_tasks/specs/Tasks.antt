@@ -36,7 +36,7 @@ TaskRuns task.Make json w origins inputs out ended = Runs (IsMakeOutcome inputs)
 TaskRuns task.ShowText json w origins inputs out ended = Runs (IsShowTextOutcome inputs) out ended
 TaskRuns task.ShowNamed json w origins inputs out ended = Runs (IsNamed json true inputs) out ended
 TaskRuns (task.ShowLines names) json w origins inputs out ended =
-    Lists names inputs (messages_of w origins) (messages_word origins.messages) out ended
+    Lists json names inputs (messages_of w origins) (messages_word origins.messages) out ended
 TaskRuns (task.Breaking asked) json w origins inputs out ended = ⊥
 TaskRuns (task.CheckLines u most) json w origins inputs out ended =
     Captures Checked u most json inputs (messages_of w origins) (messages_word origins.messages) out ended

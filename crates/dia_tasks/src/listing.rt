@@ -1,18 +1,21 @@
 //! `show --lines`.
 
-ghost use Rattle.std.specs.Prelude.{IsTrue};
+ghost use Rattle.std.specs.Prelude.{◌≡◌, ◌↔◌, ◌⊎◌, Err, IfOk, IsErr, IsTrue};
 ghost use Rattle.dia_cli.specs.Ending.{stream};
-ghost use Rattle.dia_tasks.specs.Captures.{Lists, known_of, messages_word};
+ghost use Rattle.dia_lines.specs.declared.fault.LinesFault.TheVariants.{Device};
+ghost use Rattle.dia_tasks.specs.Captures.{AreShown, IsShownBegun, Lists, fed, known_of, messages_word};
 
 use crate::captured::{ending_of, report_front};
 use crate::front::Front;
 use crate::inputs::word_of;
+use crate::manner::Manner;
 use crate::showing::recorded_of;
 use dia_captures::Lines;
 use dia_cli::{BASE_DICTIONARY, Ending, Opener, Origin, Origins, STANDARD_INPUT};
-use dia_io::{Exit, FromReader, Inputs, Sink, ToWriter};
+use dia_io::{Exit, Feed, FromReader, Inputs, Sink, ToWriter};
+use dia_lines::LinesFault;
 use dia_report::Reported;
-use dia_show::show_lines;
+use std::alloc::Global;
 use std::io::{Read, Write};
 
 /// Shows the message of each line, with names or without, and sums them up on standard error, unless it is to be
@@ -23,7 +26,7 @@ pub fn list_lines<'a, R, O, W>(
     names: bool,
     inputs: &Inputs,
     origins: &Origins<'a>,
-    quiet: bool,
+    manner: Manner,
     out: &mut ToWriter<W>,
 ) -> Result<Reported, Ending<'a>>
 where
@@ -31,13 +34,13 @@ where
     O: Opener,
     W: Write,
     requires { ¬ IsTrue (⟦<ToWriter<W> as Sink>⟧.has_failed out.old) }
-    ensures { Lists names inputs.now
+    ensures { Lists manner.json names inputs.now
         (known_of (O.content opener.now) (O.input opener.now) origins.now.messages) (messages_word origins.now.messages)
         (stream (⟦<ToWriter<W> as Sink>⟧.written out.old) (⟦<ToWriter<W> as Sink>⟧.written out.new)
         (⟦<ToWriter<W> as Sink>⟧.has_failed out.new)) result }
 {
-    let listed = list_messages(rt, opener, names, inputs, origins, quiet, out);
-    if !quiet && matches!(&listed, Ok(Reported { exit: Exit::No, .. })) {
+    let listed = list_messages(rt, opener, names, inputs, origins, manner, out);
+    if !manner.quiet && matches!(&listed, Ok(Reported { exit: Exit::No, .. })) {
         advise(rt, word_of(origins.messages), word_of(origins.first));
     }
     listed
@@ -50,7 +53,7 @@ fn list_messages<'a, R, O, W>(
     names: bool,
     inputs: &Inputs,
     origins: &Origins<'a>,
-    quiet: bool,
+    manner: Manner,
     out: &mut ToWriter<W>,
 ) -> Result<Reported, Ending<'a>>
 where
@@ -58,14 +61,14 @@ where
     O: Opener,
     W: Write,
     requires { ¬ IsTrue (⟦<ToWriter<W> as Sink>⟧.has_failed out.old) }
-    ensures { Lists names inputs.now
+    ensures { Lists manner.json names inputs.now
         (known_of (O.content opener.now) (O.input opener.now) origins.now.messages) (messages_word origins.now.messages)
         (stream (⟦<ToWriter<W> as Sink>⟧.written out.old) (⟦<ToWriter<W> as Sink>⟧.written out.new)
         (⟦<ToWriter<W> as Sink>⟧.has_failed out.new)) result }
 {
     match origins.messages {
         Origin::File { path, .. } => match opener.open(path) {
-            Ok(file) => list(rt, names, inputs, origins, quiet, file, path, out),
+            Ok(file) => list(rt, names, inputs, origins, manner, file, path, out),
             Err(error) => Err(Ending::Device {
                 name: path,
                 error: Some(error),
@@ -78,7 +81,7 @@ where
                 names,
                 inputs,
                 origins,
-                quiet,
+                manner,
                 reader,
                 STANDARD_INPUT,
                 out,
@@ -93,7 +96,7 @@ fn list<'a, R, D, W>(
     names: bool,
     inputs: &Inputs,
     origins: &Origins<'a>,
-    quiet: bool,
+    manner: Manner,
     reader: D,
     name: &'a str,
     out: &mut ToWriter<W>,
@@ -103,20 +106,47 @@ where
     D: Read + Drop,
     W: Write,
     requires { ¬ IsTrue (⟦<ToWriter<W> as Sink>⟧.has_failed out.old) }
-    ensures { Lists names inputs.now (D.remaining reader) name.entry.now
+    ensures { Lists manner.json names inputs.now (D.remaining reader) name.entry.now
         (stream (⟦<ToWriter<W> as Sink>⟧.written out.old) (⟦<ToWriter<W> as Sink>⟧.written out.new)
         (⟦<ToWriter<W> as Sink>⟧.has_failed out.new)) result }
 {
     let alloc = rt.alloc();
     let mut feed = Front::new(alloc, FromReader::new(reader));
-    match show_lines(alloc, names, inputs, &mut feed, out) {
+    match show_lines(alloc, manner.json, names, inputs, &mut feed, out) {
         Ok(reported) => {
-            if !quiet && !matches!(reported.exit, Exit::Bad) {
+            if !manner.quiet && !matches!(reported.exit, Exit::Bad) {
                 report_front(rt, name, Lines::Checked, &feed.kept);
             }
-            Ok(recorded_of(rt, reported, origins, quiet))
+            Ok(recorded_of(rt, reported, origins, manner.quiet))
         }
         Err(fault) => Err(ending_of(fault, name, out.failure(), feed.feed.failure())),
+    }
+}
+
+/// Puts what `show` writes for each line: as JSON, if that is asked for.
+fn show_lines<F: Feed, S: Sink>(
+    alloc: Global,
+    json: bool,
+    names: bool,
+    inputs: &Inputs,
+    feed: &mut F,
+    sink: &mut S,
+) -> Result<dia_show::Reported, LinesFault>
+    requires sound_feed { ¬ IsTrue (F.has_failed feed.old) }
+    requires sound_sink { ¬ IsTrue (S.has_failed sink.old) }
+    ensures shown { IfOk result (λ reported. AreShown json names inputs.now
+        (fed (F.remaining feed.old) (F.remaining feed.new))
+        (stream (S.written sink.old) (S.written sink.new) (S.has_failed sink.new)) reported.exit) }
+    ensures begun { IsErr result → IsShownBegun json names inputs.now
+        (fed (F.remaining feed.old) (F.remaining feed.new))
+        (stream (S.written sink.old) (S.written sink.new) (S.has_failed sink.new)) }
+    ensures device { (result ≡ Err Device)
+        ↔ (IsTrue (F.has_failed feed.new) ⊎ IsTrue (S.has_failed sink.new)) }
+{
+    if json {
+        dia_json::show_lines(alloc, names, inputs, feed, sink)
+    } else {
+        dia_show::show_lines(alloc, names, inputs, feed, sink)
     }
 }
 

@@ -98,7 +98,7 @@ where
         }
         Task::ShowNamed => Attempt::Ended(show_named(rt, true, inputs, origins, manner, out)),
         Task::ShowLines { names } => {
-            Attempt::Ended(list_lines(rt, opener, *names, inputs, origins, quiet, out))
+            Attempt::Ended(list_lines(rt, opener, *names, inputs, origins, manner, out))
         }
         Task::Make => Attempt::Ended(made(rt, inputs, origins.message, quiet, out)),
         Task::ShowText => Attempt::Ended(shown(rt, inputs, origins.message, quiet, out)),

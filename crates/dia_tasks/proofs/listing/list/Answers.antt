@@ -11,7 +11,7 @@ returns-in-Ok g c = rw c.recorded_of.ensures (
   (
     fed (g.D.Read.remaining c.new-feed.result.feed.reader) (g.D.Read.remaining c.show_lines.new.feed.feed.reader),
     rw c.new-feed.ensures (rw c.new.ensures.remaining (gives_itself _)),
-    (c.in-Ok.ensures.shown, c.in-Ok.ensures.all),
+    c.in-Ok.ensures.shown,
   ),
 )
 
@@ -21,6 +21,6 @@ returns g c = (
   inr (
     fed (g.D.Read.remaining c.new-feed.result.feed.reader) (g.D.Read.remaining c.show_lines.new.feed.feed.reader),
     rw c.new-feed.ensures (rw c.new.ensures.remaining (gives_itself _)),
-    c.in-Err.ensures.front refl,
+    c.in-Err.ensures.begun refl,
   ),
 )
