@@ -73,5 +73,5 @@ module _ (names : Bool) (inputs : Inputs) (bytes : List ℕ) where
       (h.text, all_shown h.bytes h.text feed.new exit (subst (λ (o : Option (List ℕ)). Consumes o feed.new h.bytes) same h.consumed) to_end h.outcome, h.is_put)
 
 pub lists_of_bytes : (names : Bool) (inputs : Inputs) (bytes word : List ℕ) (out : Stream) (reported : Reported)
-    → Lists names inputs (Some bytes) word out (Ok reported) → Runs (AreLinesOutcome names inputs bytes) out (Ok reported)
+    → Lists false names inputs (Some bytes) word out (Ok reported) → Runs (AreLinesOutcome names inputs bytes) out (Ok reported)
 lists_of_bytes names inputs bytes word out reported p = (p.0, shown_of_bytes names inputs bytes p.1.0 out reported.exit p.1.1 p.1.2.0 p.1.2.1)

@@ -39,6 +39,6 @@ pub fn captures_of_bytes()
 /// So does `show --lines`.
 pub fn lists_of_bytes()
     ensures { (names : Bool) (inputs : AnyInputs) (bytes word : List ℕ) (out : Stream)
-        (reported : AnyReported) → Lists names inputs (Some bytes) word out (Ok reported)
+        (reported : AnyReported) → Lists false names inputs (Some bytes) word out (Ok reported)
         → Runs (IsLinesOutcome names inputs bytes) out (Ok reported) }
 {}
