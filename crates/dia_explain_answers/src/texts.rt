@@ -83,7 +83,7 @@ static WORDS: [(&str, Word); 69] = [
     ("at", Word::At),
     ("b", Word::B),
     ("bad", Word::Bad),
-    ("behind", Word::After),
+    ("following", Word::After),
     ("byte", Word::Byte),
     ("bytes", Word::Bytes),
     ("class", Word::Class),
