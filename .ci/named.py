@@ -165,6 +165,11 @@ def objects(room):
     room.check("show --json --names --dict when.txt when.hex", 0, f'{head}}}\n{time},"time":"1970-01-01T00:00:00Z"}}')
     both = f'{head}}}\n{time},"word":"EPOCH","time":"1970-01-01T00:00:00Z"}}'
     room.check("show --json --names --values - --dict when.txt when.hex", 0, both, stdin="When 2208988800 EPOCH")
+    # with `--lines` each object begins with the line's number, and a message that is refused has one
+    numbered = [row.replace("{", '{"line":1,', 1) for row in worded.split("\n")]
+    room.check("show --lines --json --values words.txt cause.hex", 0, "\n".join(numbered))
+    room.check("show --json --lines --names -", 1, '{"line":1,"error":"message","kind":"not hexadecimal"}\n{"line":2,"error":"message","kind":"short"}', stdin="zz\n00\n")
+    room.check("show --lines --json --values twice.txt cause.hex", 2, '{"error":"values","kind":"duplicate","line":2}')
     # what is refused: the dictionary, then the words, then the message
     refusal = {"A 0 X\nA 0": '"syntax","line":2', "A 0 X\nA 0 Y": '"duplicate","line":2', 65537 * "\n": '"limit","line":65537', "#" + 4194304 * "x": '"too long"'}
     for text, kind in refusal.items():

@@ -6,8 +6,8 @@ _diacmd() {
     [ "$before" = = ] && before=${COMP_WORDS[COMP_CWORD - 2]}
     [ "$word" = = ] && word=
     case $COMP_CWORD:$command:$before in
-        1:*) words='show make check render compare refute propose breaking help -h --help -V --version' ;;
-        *:help:*) words='show make check render compare refute propose breaking help' ;;
+        1:*) words='show make check render compare refute propose breaking answer follow help -h --help -V --version' ;;
+        *:help:*) words='show make check render compare refute propose breaking answer follow help' ;;
         *:check:--unknown) words='kept refused' ;;
         *:check:--levels) return ;;
         *:compare:--unknown) words='kept refused' ;;
@@ -16,15 +16,21 @@ _diacmd() {
         *:propose:--unknown) words='kept refused' ;;
         *:breaking:--unknown) words='kept refused' ;;
         *:breaking:--sends) words='any known listed' ;;
+        *:answer:--unknown) words='kept refused' ;;
+        *:answer:--levels) return ;;
+        *:follow:--unknown) words='kept refused' ;;
+        *:follow:--levels) return ;;
         *) case $command:$word in
             show:-*) words='--quiet --dict --as-text --names --values --lines --json -h --help' ;;
             make:-*) words='--quiet --dict -h --help' ;;
-            check:-*) words='--quiet --unknown --levels --lines --stream --json -h --help' ;;
+            check:-*) words='--quiet --unknown --levels --lines --stream --all --json -h --help' ;;
             render:-*) words='--quiet -h --help' ;;
             compare:-*) words='--quiet --unknown --json -h --help' ;;
             refute:-*) words='--quiet --unknown --levels --lines --json -h --help' ;;
             propose:-*) words='--quiet --unknown --json -h --help' ;;
             breaking:-*) words='--quiet --unknown --sends --messages --once --meaning --accepted --stale-allowed --json -h --help' ;;
+            answer:-*) words='--quiet --unknown --levels --host --realm -h --help' ;;
+            follow:-*) words='--quiet --dict --middle --check --unknown --levels --json -h --help' ;;
         esac ;;
     esac
     if [ -n "$words" ]; then
