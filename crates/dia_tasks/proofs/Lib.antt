@@ -2,3 +2,4 @@ pub mod Commands
 pub mod Failures
 pub mod Feeds
 pub mod Results
+pub mod Runs

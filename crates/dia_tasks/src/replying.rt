@@ -2,6 +2,8 @@
 
 ghost use Rattle.std.specs.Prelude.{IfOk, IsTrue, string_bytes};
 ghost use Rattle.dia_cli.specs.Ending.{stream};
+ghost use Rattle.dia_answer_run.specs.Outcome.{IsAnswerText};
+ghost use Rattle.dia_run.specs.Outcome.{IsMessageOutcome};
 ghost use Rattle.dia_tasks.specs.Answers.{IsNameRefused, IsReplied};
 ghost use Rattle.dia_tasks.specs.Endings.{Runs};
 
@@ -49,7 +51,7 @@ where
     R: AllocGlobal + Eprint,
     W: Write,
     requires { ¬ IsTrue (⟦<ToWriter<W> as Sink>⟧.has_failed out.old) }
-    ensures { Runs (IsReplied asked.now inputs.now)
+    ensures { Runs (IsMessageOutcome (IsAnswerText asked.now.unknown asked.now.levels) inputs.now)
         (stream (⟦<ToWriter<W> as Sink>⟧.written out.old) (⟦<ToWriter<W> as Sink>⟧.written out.new)
         (⟦<ToWriter<W> as Sink>⟧.has_failed out.new)) result }
 {

@@ -15,4 +15,4 @@ returns-in_err-message c =
     rw (p.1, p.2) (Ends-no_message (AreFaults c.args.unknown c.args.levels) c.args.inputs.now _ _ c.in_ok-first.ensures.book c.in_err-message.ensures.recorded)
 
 pub returns : goal.returns
-returns c = ended _ _ c.in_ok-first.ensures.book c.in_ok-message.ensures.message (rw (c.deref-2.ensures.value) c.in_ok-text.ensures)
+returns c = ended _ _ c.in_ok-first.ensures.book c.in_ok-message.ensures.message (rw (c.deref.ensures, c.deref-2.ensures.value) at c.in_ok-text.ensures)
