@@ -16,8 +16,8 @@ returns-then-means_base g c = record {
   recorded = λ _. c.report_error-status.ensures;
 }
 
-pub returns-else-means_base : goal.returns-else-means_base
-returns-else-means_base g c = record {
+pub returns-else-not-quiet : goal.returns-else-not-quiet
+returns-else-not-quiet g c = record {
   is_3 = failed_with_3 c.args.ending.now _ c.report_error-status.result c.requires.failed c.report_error-status.ensures;
   quiet = λ is. absurd (by_false c.is_unread.result _ c.is_unread.ensures c.if-is_unread.false is);
   recorded = λ _. c.report_error-status.ensures;
