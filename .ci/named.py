@@ -168,7 +168,7 @@ def objects(room):
     # with `--lines` each object begins with the line's number, and a message that is refused has one
     numbered = [row.replace("{", '{"line":1,', 1) for row in worded.split("\n")]
     room.check("show --lines --json --values words.txt cause.hex", 0, "\n".join(numbered))
-    room.check("show --json --lines --names -", 1, '{"line":1,"error":"message","kind":"not hexadecimal"}\n{"line":2,"error":"message","kind":"short"}', stdin="zz\n00\n")
+    room.check("show --json --lines --names -", 1, '{"line":1,"error":"message","kind":"not hexadecimal"}\n{"line":2,"error":"message","kind":"short"}', stdin="zz\n00")
     room.check("show --lines --json --values twice.txt cause.hex", 2, '{"error":"values","kind":"duplicate","line":2}')
     # what is refused: the dictionary, then the words, then the message
     refusal = {"A 0 X\nA 0": '"syntax","line":2', "A 0 X\nA 0 Y": '"duplicate","line":2', 65537 * "\n": '"limit","line":65537', "#" + 4194304 * "x": '"too long"'}
