@@ -18,11 +18,16 @@ fn base_names(alloc: Global) -> Result<Names, Fail> {
 
 /// A line about a level of `T` itself, of which nothing is sent or accepted.
 fn of_command(alloc: Global, application: Option<u32>) -> LineParts<'static> {
+    of_level(application, Vec::new(alloc))
+}
+
+/// A line about a level of `T` in these groups, of which nothing is sent or accepted.
+fn of_level(application: Option<u32>, groups: Vec<&'static str>) -> LineParts<'static> {
     LineParts {
         path: Path {
             command: "T",
             application,
-            groups: Vec::new(alloc),
+            groups,
         },
         standing: Standing::Confirmed,
         reason: Some(LineReason::Command),
@@ -48,7 +53,7 @@ const REFUSED: &str =
     r#"{"command":"T","application":5,"path":[],"reason":"application","refused_application":5,"in_header":true}"#;
 
 const ORDER: &str =
-    r#"{"command":"T","path":[],"reason":"order","avp":{"name":"X"},"following":"Y","in_header":false}"#;
+    r#"{"command":"T","path":[],"reason":"order","avp":{"name":"X"},"behind":"Y","in_header":false}"#;
 
 const MEANING: &str =
     r#"{"command":"T","path":[],"reason":"meaning","avp":{"name":"X"},"sent":"Time","read":"Unsigned32","in_header":false}"#;
@@ -60,8 +65,7 @@ const ONCE: &str =
 fn counts_of_a_level_are_numbers(rt: HostRuntime) -> Result<(), Fail> {
     let alloc = rt.alloc();
     let names = base_names(alloc)?;
-    let mut parts = of_command(alloc, None);
-    parts.path.groups = vec![in alloc; "G", "H"]?;
+    let mut parts = of_level(None, vec![in alloc; "G", "H"]?);
     parts.reason = Some(LineReason::Missing);
     parts.subject = Subject::Avp("Product-Name");
     parts.sent = Some(Amount::Counts {
@@ -124,8 +128,7 @@ fn order_and_meaning_have_members_of_their_own(rt: HostRuntime) -> Result<(), Fa
 fn a_cause_has_the_first_place(rt: HostRuntime) -> Result<(), Fail> {
     let alloc = rt.alloc();
     let names = base_names(alloc)?;
-    let mut parts = of_command(alloc, Some(5));
-    parts.path.groups = vec![in alloc; "G"]?;
+    let mut parts = of_level(Some(5), vec![in alloc; "G"]?);
     parts.reason = Some(LineReason::MBit);
     parts.subject = Subject::Avp("Product-Name");
     parts.sent = Some(Amount::M(false));
