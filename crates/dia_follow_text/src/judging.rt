@@ -56,8 +56,9 @@ fn check_bytes<B: Book>(
     bytes: &[u8],
 ) -> Result<Verdict, AllocError> {
     let answer = check(alloc, book, asked.unknown, asked.levels, bytes);
-    if let Err(Refusal::NoMemory) = answer {
-        return Err(AllocError);
+    match answer {
+        Err(Refusal::NoMemory) => return Err(AllocError),
+        _ => {}
     }
     let judged = if answer.is_ok() {
         Judged::Passed
