@@ -1,6 +1,6 @@
 //! The command, from its inputs to what is written.
 
-ghost use Rattle.std.specs.Prelude.{◌≡◌, ◌↔◌, ℕ, List, Err, IfOk, IsTrue, map, string_bytes};
+ghost use Rattle.std.specs.Prelude.{◌≡◌, ◌↔◌, ℕ, List, Err, IfOk, IsTrue, map, string_bytes, true};
 ghost use Rattle.std.specs.Io.KnownBytes.{Appends};
 ghost use Rattle.dia_io.specs.declared.Exit.{Exit as AnyExit};
 ghost use Rattle.dia_io.specs.Writing.{AppendsFront};
@@ -174,11 +174,20 @@ fn unknown_line(alloc: Global, json: bool, word: &str) -> Result<String, AllocEr
     ensures { IfOk result (λ text. string_bytes text ≡ unknown_text json word.now) }
 {
     if json {
-        let name = quoted(alloc, word)?;
-        format!(in alloc; "{{\"error\":\"uses\",\"kind\":\"no AVP\",\"name\":{name}}}\n")
+        unknown_object(alloc, word)
     } else {
         format!(in alloc; "uses: no AVP {word}\n")
     }
+}
+
+fn unknown_object(alloc: Global, word: &str) -> Result<String, AllocError>
+    ensures { IfOk result (λ text. string_bytes text ≡ unknown_text true word.now) }
+{
+    let name = quoted(alloc, word)?;
+    let mut text = String::from_str(alloc, "{\"error\":\"uses\",\"kind\":\"no AVP\",\"name\":")?;
+    text.push_str(name.as_str())?;
+    text.push_str("}\n")?;
+    Ok(text)
 }
 
 /// The answer where the dictionary is refused.
