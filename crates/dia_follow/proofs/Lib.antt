@@ -1,2 +1,4 @@
 mod Fronts
 mod Tellings
+mod Numbered
+mod Sets

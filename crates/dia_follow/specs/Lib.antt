@@ -10,6 +10,7 @@ pub mod Kept
 pub mod Places
 pub mod Requests
 pub mod Waits
+pub mod Numbered
 pub mod Moments
 pub mod Departures
 pub mod Connections

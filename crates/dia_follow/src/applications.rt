@@ -194,7 +194,7 @@ impl Applications {
         Ok(Common::These(Listed { auth, acct }))
     }
 
-    /// Those of each kind that are in both.
+    /// The applications of each kind that are in both sets.
     fn shared(&self, alloc: Global, theirs: &Applications) -> Result<Common, AllocError>
         ensures { IfOk result (λ common. common_of common ≡ Some (both self.now theirs.now)) }
     {

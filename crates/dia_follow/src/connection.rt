@@ -71,12 +71,12 @@ impl Connection {
     }
 
     /// The requests of an end that have no answer, in order.
-    pub fn unanswered(&self, end: End) -> &[Request]
-        ensures { result.now ≡ (own self.entry.now end).waits }
+    pub fn unanswered(&self, alloc: Global, end: End) -> Result<Vec<Request>, AllocError>
+        ensures { IfOk result (λ requests. requests.items ≡ (own self.now end).waits) }
     {
         match end {
-            End::Initiator => self.initiator.waits.all(),
-            End::Responder => self.responder.waits.all(),
+            End::Initiator => self.initiator.waits.all(alloc),
+            End::Responder => self.responder.waits.all(alloc),
         }
     }
 
@@ -91,10 +91,10 @@ impl Connection {
     {
         let own = self.own(from);
         let other = self.own(from.other());
-        let place = if message.head.request {
+        let request = if message.head.request {
             None
         } else {
-            other.waits.place(message.head.hop, message.head.e2e)
+            other.waits.answered(message.head.hop, message.head.e2e)
         };
         Moment {
             phase: self.phase,
@@ -103,7 +103,7 @@ impl Connection {
             other,
             line,
             message,
-            request: other.waits.get(place),
+            request,
         }
     }
 

@@ -1,6 +1,6 @@
 //! Requests that wait for their answers.
 
-ghost use Rattle.std.specs.Prelude.{◌≡◌, take};
+ghost use Rattle.std.specs.Prelude.{◌≡◌, IfOk, take};
 ghost use Rattle.dia_follow.specs.declared.codes.TheConstants.{SESSION_START as session_start};
 
 use crate::codes::SESSION_START;
@@ -35,6 +35,39 @@ pub struct Session {
     start: Vec<u8>,
 }
 
+impl Request {
+    ghost use Rattle.std.specs.Prelude.{◌≡◌, IfOk};
+
+    pub(crate) fn copied(&self, alloc: Global) -> Result<Request, AllocError>
+        ensures { IfOk result (λ copy. copy ≡ self.now) }
+    {
+        let session = copied_session(alloc, &self.session)?;
+        Ok(Request {
+            line: self.line,
+            time: self.time,
+            hop: self.hop,
+            e2e: self.e2e,
+            code: self.code,
+            app: self.app,
+            proxiable: self.proxiable,
+            session,
+        })
+    }
+}
+
+fn copied_session(
+    alloc: Global,
+    session: &Option<Session>,
+) -> Result<Option<Session>, AllocError>
+    ensures { IfOk result (λ copy. copy ≡ session.now) }
+{
+    let Some(session) = session else {
+        return Ok(None);
+    };
+    let copy = session.copied(alloc)?;
+    Ok(Some(copy))
+}
+
 impl Model for Session {
     ghost use Rattle.dia_follow.specs.Requests.{PlainSession};
 
@@ -53,6 +86,14 @@ impl Session {
     {
         let length = bytes.len();
         let start = Vec::from_slice(alloc, start_of(bytes))?;
+        Ok(Session { length, start })
+    }
+
+    fn copied(&self, alloc: Global) -> Result<Session, AllocError>
+        ensures { IfOk result (λ copy. copy ≡ self.now) }
+    {
+        let length = self.length;
+        let start = Vec::from_slice(alloc, &self.start)?;
         Ok(Session { length, start })
     }
 

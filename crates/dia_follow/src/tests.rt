@@ -23,5 +23,8 @@ fn has_no_cer(rt: &(impl AllocGlobal + Abort)) {
         .step(alloc, End::Initiator, &line)
         .expect(rt, "memory");
     assert!(rt; found.as_slice() == [Reason::NoCer].as_slice());
-    assert!(rt; connection.unanswered(End::Initiator).len() == 1);
+    let unanswered = connection
+        .unanswered(alloc, End::Initiator)
+        .expect(rt, "memory");
+    assert!(rt; unanswered.len() == 1);
 }

@@ -1,39 +1,54 @@
 //! The requests of an end that have no answer yet.
 
-ghost use Rattle.std.specs.Prelude.{◌≡◌, position};
-ghost use Rattle.dia_follow.specs.Waits.{has_hop, has_ids, is_dwr};
+mod numbers;
+mod table;
 
-use crate::codes::{DEVICE_WATCHDOG, DISCONNECT_PEER, MOST_WAITING};
+ghost use Rattle.std.specs.Prelude.{◌≡◌, ◌<◌, ◌-◌, ◌^◌, ℕ, IfOk, OnErr, OnOk, length};
+ghost use Rattle.std.specs.Map.{values_of};
+ghost use Rattle.dia_follow.specs.Numbered.{AreBelow};
+
+use crate::codes::MOST_WAITING;
 use crate::request::Request;
 use std::alloc::{AllocError, Global};
 use std::marker::Model;
+use table::Table;
 
 /// The requests of an end without answers, in order.
+///
+/// Each has a number above those of the requests before it, by which it is found: adding, finding and removing one takes the
+/// time of a search in a tree. After a call that was refused memory requests are lost.
 #[derive(Drop)]
 pub(crate) struct Waiting {
-    requests: Vec<Request>,
+    table: Table,
+    /// The number of the next request.
+    next: u64,
 }
 
 impl Model for Waiting {
     ghost use Rattle.std.specs.Prelude.{List};
+    ghost use Rattle.std.specs.Map.{values_of};
+    ghost use Rattle.dia_follow.specs.Numbered.{AreBelow};
     ghost use Rattle.dia_follow.specs.declared.request.Request.{Request};
 
     ghost Value = { List Request };
 
-    ghost view = { λ w. w.requests.items };
+    ghost view = { λ w. values_of w.table };
+
+    ghost invariant = { λ w. AreBelow w.table w.next };
 }
 
 impl Waiting {
-    ghost use Rattle.std.specs.Prelude.{◌≡◌, ◌++◌, ◌∷◌, [], OnOk, drop};
+    ghost use Rattle.std.specs.Prelude.{◌≡◌, ◌++◌, ◌∷◌, [], IfOk, OnOk, drop, is_some};
     ghost use Rattle.std.specs.Option.{option_copied};
     ghost use Rattle.dia_follow.specs.Places.{at_place, without_place};
-    ghost use Rattle.dia_follow.specs.Waits.{answered_place, dwr_line, is_dpr, is_full, since};
+    ghost use Rattle.dia_follow.specs.Waits.{answered_place, dwr_line, is_full, since};
 
     pub(crate) fn new(alloc: Global) -> Waiting
         ensures { result ≡ [] }
     {
         Waiting {
-            requests: Vec::new(alloc),
+            table: Table::new(alloc),
+            next: 0,
         }
     }
 
@@ -41,14 +56,16 @@ impl Waiting {
     pub(crate) fn is_full(&self) -> bool
         ensures { result ≡ is_full self.now }
     {
-        self.requests.len() >= MOST_WAITING
+        self.table.len() >= MOST_WAITING
     }
 
     /// Adds a request at the end.
-    pub(crate) fn add(&mut self, request: Request) -> Result<(), AllocError>
+    pub(crate) fn add(&mut self, alloc: Global, request: Request) -> Result<(), AllocError>
         ensures { OnOk result (self.new ≡ self.old ++ request ∷ []) }
     {
-        self.requests.push(request)?;
+        let number = free_number(alloc, &mut self.table, self.next)?;
+        self.table.insert(number, request)?;
+        self.next = number + 1;
         Ok(())
     }
 
@@ -56,47 +73,28 @@ impl Waiting {
     pub(crate) fn forget(&mut self)
         ensures { self.new ≡ drop 1 self.old }
     {
-        if !self.requests.is_empty() {
-            self.requests.remove(0);
+        self.table.take_first();
+    }
+
+    /// The request that an answer with these identifiers answers: the first with both, else the first with the Hop-by-Hop
+    /// Identifier.
+    pub(crate) fn answered(&self, hop: u32, e2e: u32) -> Option<&Request>
+        ensures request { option_copied result ≡ at_place self.entry.now (answered_place self.entry.now hop e2e) }
+        ensures known { is_some result ≡ is_some (answered_place self.entry.now hop e2e) }
+    {
+        match self.table.answered(hop, e2e) {
+            Some(number) => self.table.get(number),
+            None => None,
         }
     }
 
-    /// The place of the request that an answer with these identifiers answers: the first with both, else the first with the
-    /// Hop-by-Hop Identifier.
-    pub(crate) fn place(&self, hop: u32, e2e: u32) -> Option<usize>
-        ensures { result ≡ answered_place self.now hop e2e }
+    /// The request that an answer with these identifiers answers waits no more.
+    pub(crate) fn remove_answered(&mut self, hop: u32, e2e: u32)
+        ensures { self.new ≡ without_place self.old (answered_place self.old hop e2e) }
     {
-        match place_of(&self.requests, hop, e2e) {
-            Some(place) => Some(place),
-            None => place_since(&self.requests, hop),
-        }
-    }
-
-    /// The request at a place.
-    pub(crate) fn get(&self, place: Option<usize>) -> Option<&Request>
-        ensures { option_copied result ≡ at_place self.entry.now place }
-    {
-        self.requests.get(place?)
-    }
-
-    /// Whether the request at a place is a DPR.
-    pub(crate) fn is_dpr(&self, place: Option<usize>) -> bool
-        ensures { result ≡ is_dpr (at_place self.now place) }
-    {
-        match self.get(place) {
-            Some(request) => request.code == DISCONNECT_PEER,
-            None => false,
-        }
-    }
-
-    /// The request at a place waits no more.
-    pub(crate) fn remove(&mut self, place: Option<usize>)
-        ensures { self.new ≡ without_place self.old place }
-    {
-        if let Some(place) = place {
-            if place < self.requests.len() {
-                self.requests.remove(place);
-            }
+        match self.table.answered(hop, e2e) {
+            Some(number) => self.table.remove(number),
+            None => {}
         }
     }
 
@@ -104,60 +102,57 @@ impl Waiting {
     pub(crate) fn since(&self, hop: u32) -> Option<u64>
         ensures { result ≡ since self.now hop }
     {
-        let place = place_since(&self.requests, hop);
-        Some(self.get(place)?.line)
+        match self.table.with_hop(hop) {
+            Some(number) => self.table.line(number),
+            None => None,
+        }
     }
 
     /// The line of the first DWR.
     pub(crate) fn dwr_line(&self) -> Option<u64>
         ensures { result ≡ dwr_line self.now }
     {
-        let place = dwr_place(&self.requests);
-        Some(self.get(place)?.line)
+        match self.table.watchdog() {
+            Some(number) => self.table.line(number),
+            None => None,
+        }
     }
 
     /// The requests, in order.
-    pub(crate) fn all(&self) -> &[Request]
-        ensures { result.now ≡ self.entry.now }
+    pub(crate) fn all(&self, alloc: Global) -> Result<Vec<Request>, AllocError>
+        ensures { IfOk result (λ all. all.items ≡ self.now) }
     {
-        self.requests.as_slice()
+        self.table.requests(alloc)
     }
 }
 
-fn place_of(requests: &[Request], hop: u32, e2e: u32) -> Option<usize>
-    ensures { result ≡ position (has_ids hop e2e) requests.now }
+/// A number above those of the requests in a table. Where there is none, the requests are numbered anew.
+fn free_number(alloc: Global, table: &mut Table, next: u64) -> Result<u64, AllocError>
+    requires { AreBelow table.old next }
+    ensures small { IfOk result (λ number. number < 2 ^ 64 - 1) }
+    ensures above { IfOk result (AreBelow table.new) }
+    ensures same { OnOk result (values_of table.new ≡ values_of table.old) }
+    ensures refused { OnErr result (AreBelow table.new next) }
 {
-    requests
-        .iter()
-        .position(|request| has_ids(request, hop, e2e))
+    if next < u64::MAX {
+        return Ok(next);
+    }
+    let renumbered = renumber(alloc, table)?;
+    let next = renumbered.len() as u64;
+    *table = renumbered;
+    Ok(next)
 }
 
-fn place_since(requests: &[Request], hop: u32) -> Option<usize>
-    ensures { result ≡ position (has_hop hop) requests.now }
+/// Takes the requests out of a table, and gives them numbers from 0.
+fn renumber(alloc: Global, table: &mut Table) -> Result<Table, AllocError>
+    ensures same { IfOk result (λ renumbered. values_of renumbered ≡ values_of table.old) }
+    ensures above { IfOk result (λ renumbered. AreBelow renumbered (length renumbered)) }
+    ensures left { OnErr result ((n : ℕ) → AreBelow table.old n → AreBelow table.new n) }
 {
-    requests.iter().position(|request| has_hop(request, hop))
-}
-
-fn dwr_place(requests: &[Request]) -> Option<usize>
-    ensures { result ≡ position is_dwr requests.now }
-{
-    requests.iter().position(|request| is_dwr(request))
-}
-
-fn has_ids(request: &Request, hop: u32, e2e: u32) -> bool
-    ensures { result ≡ has_ids hop e2e request.now }
-{
-    request.hop == hop && request.e2e == e2e
-}
-
-fn has_hop(request: &Request, hop: u32) -> bool
-    ensures { result ≡ has_hop hop request.now }
-{
-    request.hop == hop
-}
-
-fn is_dwr(request: &Request) -> bool
-    ensures { result ≡ is_dwr request.now }
-{
-    request.code == DEVICE_WATCHDOG
+    let mut renumbered = Table::new(alloc);
+    while let Some(request) = table.take_first() {
+        let number = renumbered.len() as u64;
+        renumbered.insert(number, request)?;
+    }
+    Ok(renumbered)
 }

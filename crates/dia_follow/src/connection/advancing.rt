@@ -1,8 +1,10 @@
 //! What a message does to what is known of the two ends.
 
 ghost use Rattle.std.specs.Prelude.{◌≡◌, IfOk, OnOk};
+ghost use Rattle.std.specs.Option.{option_copied};
 ghost use Rattle.dia_follow.specs.Connections.{after_answer, after_request, apps_of, host_in, named};
 ghost use Rattle.dia_follow.specs.Connections.{passed, request_of, requested, session_in, updated, waits_more};
+ghost use Rattle.dia_follow.specs.Waits.{is_dpr};
 
 use super::Connection;
 use crate::applications::Applications;
@@ -124,7 +126,7 @@ fn pass_request(
         other.strays.remove(head.hop, head.e2e, head.code);
     } else {
         let request = request_of(alloc, number, time, message)?;
-        wait(own, request)?;
+        wait(alloc, own, request)?;
     }
     learn_request(own, number, time, message)
 }
@@ -167,7 +169,7 @@ fn session_in(alloc: Global, body: &Body<'_>) -> Result<Option<Session>, AllocEr
 }
 
 /// A request waits. Of more than are remembered the oldest is forgotten.
-fn wait(own: &mut Side, request: Request) -> Result<(), AllocError>
+fn wait(alloc: Global, own: &mut Side, request: Request) -> Result<(), AllocError>
     ensures { OnOk result (own.new ≡ waits_more own.old request) }
 {
     if own.waits.is_full() {
@@ -175,7 +177,7 @@ fn wait(own: &mut Side, request: Request) -> Result<(), AllocError>
         own.gap = true;
         own.forgot = true;
     }
-    own.waits.add(request)
+    own.waits.add(alloc, request)
 }
 
 /// What a request says of the end that sends it.
@@ -226,9 +228,10 @@ fn pass_answer(
         (other.new ≡ (after_answer own.old other.old number message.now).theirs) }
 {
     let head = message.head;
-    let place = other.waits.place(head.hop, head.e2e);
-    let is_dpa = head.code == DISCONNECT_PEER && other.waits.is_dpr(place);
-    if place.is_none() && !other.gap {
+    let request = other.waits.answered(head.hop, head.e2e);
+    let is_stray = request.is_none();
+    let is_dpa = head.code == DISCONNECT_PEER && is_dpr(request);
+    if is_stray && !other.gap {
         own.strays.add(Stray {
             line: number,
             hop: head.hop,
@@ -236,7 +239,7 @@ fn pass_answer(
             code: head.code,
         })?;
     }
-    other.waits.remove(place);
+    other.waits.remove_answered(head.hop, head.e2e);
     if is_dpa {
         if is_success(message.body.result()) {
             own.dpa = true;
@@ -245,6 +248,16 @@ fn pass_answer(
         }
     }
     Ok(())
+}
+
+/// Whether a request is a DPR.
+fn is_dpr(request: Option<&Request>) -> bool
+    ensures { result ≡ is_dpr (option_copied request.entry) }
+{
+    match request {
+        Some(request) => request.code == DISCONNECT_PEER,
+        None => false,
+    }
 }
 
 /// The first Origin-Host of a command between neighbors is the end's.
