@@ -13,8 +13,10 @@ pub(crate) fn push_all_unanswered<B: Book>(
     manner: &Manner<'_, B>,
     state: &mut State,
 ) -> Result<(), AllocError> {
-    let mut ours = state.connection.unanswered(End::Initiator);
-    let mut theirs = state.connection.unanswered(End::Responder);
+    let of_initiator = state.connection.unanswered(alloc, End::Initiator)?;
+    let of_responder = state.connection.unanswered(alloc, End::Responder)?;
+    let mut ours = of_initiator.as_slice();
+    let mut theirs = of_responder.as_slice();
     for _ in 0..ours.len().saturating_add(theirs.len()) {
         let Some((end, request)) = next_unanswered(ours, theirs) else {
             break;
