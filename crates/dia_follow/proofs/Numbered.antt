@@ -108,18 +108,18 @@ module _ {X : Type 0} where
   first_is test [] n r p least = absurd (both_ways false refl p)
   first_is test (e ∷ es) n r p least = ⊎_elim
       (λ (hit : test e.1 ≡ true).
-        let here : n ≤ e.0 = least e.0 (ap (λ o. option_map_or test o false) (found_here e es e.0 refl) ∙ hit) in
-        first_yes test e es hit ∙ ap Some (⊎_elim
-          (λ (is : n ≡ e.0). sym is)
-          (λ (not : n ≡ e.0 → ⊥).
-            let above : e.0 < n = passes_above test e.0 n es (above_first e es r) (sym (ap (λ o. option_map_or test o false) (found_later e es n not)) ∙ p) in
-            absurd (omega arith))
-          (cases_eq n e.0)))
+      let here : n ≤ e.0 = least e.0 (ap (λ o. option_map_or test o false) (found_here e es e.0 refl) ∙ hit) in
+      first_yes test e es hit ∙ ap Some (⊎_elim
+      (λ (is : n ≡ e.0). sym is)
+      (λ (not : n ≡ e.0 → ⊥).
+      let above : e.0 < n = passes_above test e.0 n es (above_first e es r) (sym (ap (λ o. option_map_or test o false) (found_later e es n not)) ∙ p) in
+      absurd (omega arith))
+      (cases_eq n e.0)))
       (λ (miss : test e.1 ≡ false).
-        let not : n ≡ e.0 → ⊥ = λ is. both_ways (test e.1) miss (sym (ap (λ o. option_map_or test o false) (found_here e es n is)) ∙ p) in
-        first_no test e es miss ∙ first_is test es n (rest_rises e es r)
-          (sym (ap (λ o. option_map_or test o false) (found_later e es n not)) ∙ p)
-          (λ m q. least m (passes_rest test e es m r q)))
+      let not : n ≡ e.0 → ⊥ = λ is. both_ways (test e.1) miss (sym (ap (λ o. option_map_or test o false) (found_here e es n is)) ∙ p) in
+      first_no test e es miss ∙ first_is test es n (rest_rises e es r)
+      (sym (ap (λ o. option_map_or test o false) (found_later e es n not)) ∙ p)
+      (λ m q. least m (passes_rest test e es m r q)))
       (cases_Bool (test e.1))
 
   pub first_is_none : (test : X → Bool) (es : List (ℕ × X)) → Rises es → ((m : ℕ) → passes test es m ≡ true → ⊥) → first_number test es ≡ None
@@ -144,9 +144,9 @@ module _ {X : Type 0} where
       let less : e.0 < n = All-head (λ k. k < n) e.0 (keys_of es) below in
       let more : numbered (es ++ (n, x) ∷ []) m ≡ cond (n == m) (Some x) (numbered es m) = number_pushed es n m x (All-tail (λ k. k < n) e.0 (keys_of es) below) in
       ⊎_elim
-        (λ (is : m ≡ e.0). found_here e (es ++ (n, x) ∷ []) m is ∙ sym (ap (λ b. cond b (Some x) (numbered (e ∷ es) m)) (ne_eqb n m (λ same. absurd (omega arith))) ∙ found_here e es m is))
-        (λ (not : m ≡ e.0 → ⊥). found_later e (es ++ (n, x) ∷ []) m not ∙ more ∙ ap (λ o. cond (n == m) (Some x) o) (sym (found_later e es m not)))
-        (cases_eq m e.0)
+      (λ (is : m ≡ e.0). found_here e (es ++ (n, x) ∷ []) m is ∙ sym (ap (λ b. cond b (Some x) (numbered (e ∷ es) m)) (ne_eqb n m (λ same. absurd (omega arith))) ∙ found_here e es m is))
+      (λ (not : m ≡ e.0 → ⊥). found_later e (es ++ (n, x) ∷ []) m not ∙ more ∙ ap (λ o. cond (n == m) (Some x) o) (sym (found_later e es m not)))
+      (cases_eq m e.0)
 
   above_push : (c n : ℕ) (x : X) (es : List (ℕ × X)) → AllByRecursion (λ k. nat_cmp c k ≡ Less) (keys_of es) → c < n → AllByRecursion (λ k. nat_cmp c k ≡ Less) (keys_of (es ++ (n, x) ∷ []))
   above_push c n x [] a less = (lt-less c n less, tt)
@@ -162,13 +162,13 @@ module _ {X : Type 0} where
   insert_last [] n x below = refl
   insert_last (e ∷ es) n x below =
       rw (greater e.0 n (All-head (λ k. k < n) e.0 (keys_of es) below))
-        (ap (λ l. e ∷ l) (insert_last es n x (All-tail (λ k. k < n) e.0 (keys_of es) below)))
+      (ap (λ l. e ∷ l) (insert_last es n x (All-tail (λ k. k < n) e.0 (keys_of es) below)))
 
   pub below_pushed : (es : List (ℕ × X)) (n b : ℕ) (x : X) → AreBelow es b → n < b → AreBelow (es ++ (n, x) ∷ []) b
   below_pushed [] n b x below small = All-cons (λ k. k < b) n [] small (All-nil (λ k. k < b))
   below_pushed (e ∷ es) n b x below small =
       All-cons (λ k. k < b) e.0 (keys_of (es ++ (n, x) ∷ [])) (All-head (λ k. k < b) e.0 (keys_of es) below)
-        (below_pushed es n b x (All-tail (λ k. k < b) e.0 (keys_of es) below) small)
+      (below_pushed es n b x (All-tail (λ k. k < b) e.0 (keys_of es) below) small)
 
   -- ---- one less
 
@@ -196,13 +196,13 @@ module _ {X : Type 0} where
   number_left [] n m r = grind (arith, nat_tests)
   number_left (e ∷ es) n m r = ⊎_elim
       (λ (is : n ≡ e.0). ap (λ l. numbered l m) (dropped_here e es n is) ∙ ⊎_elim
-        (λ (also : m ≡ e.0). ap (λ k. numbered es k) also ∙ not_above e.0 es (above_first e es r) ∙ sym (ap (λ b. cond b None (numbered (e ∷ es) m)) (eq-eqb n m (is ∙ sym also))))
-        (λ (not : m ≡ e.0 → ⊥). sym (found_later e es m not) ∙ sym (ap (λ b. cond b None (numbered (e ∷ es) m)) (ne_eqb n m (λ same. not (sym same ∙ is)))))
-        (cases_eq m e.0))
+      (λ (also : m ≡ e.0). ap (λ k. numbered es k) also ∙ not_above e.0 es (above_first e es r) ∙ sym (ap (λ b. cond b None (numbered (e ∷ es) m)) (eq-eqb n m (is ∙ sym also))))
+      (λ (not : m ≡ e.0 → ⊥). sym (found_later e es m not) ∙ sym (ap (λ b. cond b None (numbered (e ∷ es) m)) (ne_eqb n m (λ same. not (sym same ∙ is)))))
+      (cases_eq m e.0))
       (λ (other : n ≡ e.0 → ⊥). ap (λ l. numbered l m) (kept_later e es n other) ∙ ⊎_elim
-        (λ (also : m ≡ e.0). found_here e (without_number es n) m also ∙ sym (ap (λ b. cond b None (numbered (e ∷ es) m)) (ne_eqb n m (λ same. other (same ∙ also))) ∙ found_here e es m also))
-        (λ (not : m ≡ e.0 → ⊥). found_later e (without_number es n) m not ∙ number_left es n m (rest_rises e es r) ∙ ap (λ o. cond (n == m) None o) (sym (found_later e es m not)))
-        (cases_eq m e.0))
+      (λ (also : m ≡ e.0). found_here e (without_number es n) m also ∙ sym (ap (λ b. cond b None (numbered (e ∷ es) m)) (ne_eqb n m (λ same. other (same ∙ also))) ∙ found_here e es m also))
+      (λ (not : m ≡ e.0 → ⊥). found_later e (without_number es n) m not ∙ number_left es n m (rest_rises e es r) ∙ ap (λ o. cond (n == m) None o) (sym (found_later e es m not)))
+      (cases_eq m e.0))
       (cases_eq n e.0)
 
   -- ---- places

@@ -41,14 +41,14 @@ gt_first Greater p h = h
 
 gt_second : (o p : Ordering) → o ≡ Equal → is_gt (ordering_then o p) ≡ false → is_gt p ≡ false
 gt_second Less p is h = absurd (less_not is)
-    where
-      less_not : Less ≡ Equal → ⊥
-      less_not e = cc
+  where
+    less_not : Less ≡ Equal → ⊥
+    less_not e = cc
 gt_second Equal p is h = h
 gt_second Greater p is h = absurd (greater_not is)
-    where
-      greater_not : Greater ≡ Equal → ⊥
-      greater_not e = cc
+  where
+    greater_not : Greater ≡ Equal → ⊥
+    greater_not e = cc
 
 gt_both : (o p : Ordering) → o ≡ Equal → is_gt p ≡ false → is_gt (ordering_then o p) ≡ false
 gt_both o p is h = subst (λ q. is_gt (ordering_then q p) ≡ false) (sym is) h
@@ -75,10 +75,10 @@ pair_prefix : (h b : ℕ) (k : ℕ × ℕ) → IsInRange pair_cmp (Included (h, 
 pair_prefix h b k inside = between h k.0 h (gt_first _ _ inside.0) (gt_first _ _ inside.1) refl
 
 triple_inside : (h e b m : ℕ) → m ≤ b → IsInRange triple_cmp (Included (h, e, 0)) (Included (h, e, b)) (h, e, m)
-triple_inside h e b m le =
-    ( gt_both _ _ (equal_both _ _ (equal_itself h) (equal_itself e)) (not_gt 0 m (omega arith))
-    , gt_both _ _ (equal_both _ _ (equal_itself h) (equal_itself e)) (not_gt m b le)
-    )
+triple_inside h e b m le = (
+  gt_both _ _ (equal_both _ _ (equal_itself h) (equal_itself e)) (not_gt 0 m (omega arith)),
+  gt_both _ _ (equal_both _ _ (equal_itself h) (equal_itself e)) (not_gt m b le),
+)
 
 triple_prefix : (h e b : ℕ) (k : ℕ × ℕ × ℕ) → IsInRange triple_cmp (Included (h, e, 0)) (Included (h, e, b)) k → (k.0 ≡ h) × (k.1 ≡ e)
 triple_prefix h e b k inside =
@@ -93,16 +93,16 @@ module _ {X : Type 0} (test : X → Bool) (es : List (ℕ × X)) (b : ℕ) (rise
   first_in_pairs s h same (k ∷ ks) range =
       let prefix : k.0 ≡ h = pair_prefix h b k range.1.0 in
       sym (first_is test es k.1 rise
-        (sym (same k.1) ∙ subst (λ (a : ℕ). contains pair_cmp s (a, k.1) ≡ true) prefix range.1.1)
-        (λ m p. le_from_not_gt k.1 m (gt_second _ _ (equal_by k.0 h prefix) (range.2 (h, m) (pair_inside h b m (fit m p)) (same m ∙ p)))))
+      (sym (same k.1) ∙ subst (λ (a : ℕ). contains pair_cmp s (a, k.1) ≡ true) prefix range.1.1)
+      (λ m p. le_from_not_gt k.1 m (gt_second _ _ (equal_by k.0 h prefix) (range.2 (h, m) (pair_inside h b m (fit m p)) (same m ∙ p)))))
 
   pub first_in_triples : (s : BTreeSet (ℕ × ℕ × ℕ)) (h e : ℕ) → ((m : ℕ) → contains triple_cmp s (h, e, m) ≡ passes test es m) → (r : List (ℕ × ℕ × ℕ)) → IsKeyRangeOf triple_cmp (Included (h, e, 0)) (Included (h, e, b)) s r → option_map (λ (k : ℕ × ℕ × ℕ). k.2) (slice_get r 0) ≡ first_number test es
   first_in_triples s h e same [] range = sym (first_is_none test es rise (λ m p. both_ways (contains triple_cmp s (h, e, m)) (range.5 refl (h, e, m) (triple_inside h e b m (fit m p))) (same m ∙ p)))
   first_in_triples s h e same (k ∷ ks) range =
       let prefix = triple_prefix h e b k range.1.0 in
       sym (first_is test es k.2 rise
-        (sym (same k.2) ∙ subst (λ (a : ℕ). contains triple_cmp s (a, e, k.2) ≡ true) prefix.0 (subst (λ (a : ℕ). contains triple_cmp s (k.0, a, k.2) ≡ true) prefix.1 range.1.1))
-        (λ m p. le_from_not_gt k.2 m (gt_second _ _ (equal_both _ _ (equal_by k.0 h prefix.0) (equal_by k.1 e prefix.1)) (range.2 (h, e, m) (triple_inside h e b m (fit m p)) (same m ∙ p)))))
+      (sym (same k.2) ∙ subst (λ (a : ℕ). contains triple_cmp s (a, e, k.2) ≡ true) prefix.0 (subst (λ (a : ℕ). contains triple_cmp s (k.0, a, k.2) ≡ true) prefix.1 range.1.1))
+      (λ m p. le_from_not_gt k.2 m (gt_second _ _ (equal_both _ _ (equal_by k.0 h prefix.0) (equal_by k.1 e prefix.1)) (range.2 (h, e, m) (triple_inside h e b m (fit m p)) (same m ∙ p)))))
 
   -- the least of a set of numbers
   pub first_in_numbers : (s : BTreeSet ℕ) → ((m : ℕ) → contains nat_cmp s m ≡ passes test es m) → (n : ℕ) → contains nat_cmp s n ≡ true → IsLowerBound nat_cmp s n → Some n ≡ first_number test es
@@ -119,14 +119,14 @@ fits test es below m p = le_of_suc-le-suc (passes_below test es 1844674407370955
 pub with_hop_listed : (sets : Numbers) (es : List (ℕ × Request)) (hop : ℕ) (lo hi : ℕ × ℕ) (r : List (ℕ × ℕ)) → AreListed sets es → lo ≡ (hop, 0) → hi ≡ (hop, 18446744073709551615) → IsKeyRangeOf pair_cmp (Included lo) (Included hi) sets.by_hop r → option_map (λ (k : ℕ × ℕ). k.1) (slice_get r 0) ≡ first_number (has_hop hop) es
 with_hop_listed sets es hop lo hi r l is_lo is_hi range =
     first_in_pairs (has_hop hop) es 18446744073709551615 l.rise (fits (has_hop hop) es l.fit) sets.by_hop hop (l.by_hop hop) r
-      (subst (λ (k : ℕ × ℕ). IsKeyRangeOf pair_cmp (Included (hop, 0)) (Included k) sets.by_hop r) is_hi
-        (subst (λ (k : ℕ × ℕ). IsKeyRangeOf pair_cmp (Included k) (Included hi) sets.by_hop r) is_lo range))
+    (subst (λ (k : ℕ × ℕ). IsKeyRangeOf pair_cmp (Included (hop, 0)) (Included k) sets.by_hop r) is_hi
+    (subst (λ (k : ℕ × ℕ). IsKeyRangeOf pair_cmp (Included k) (Included hi) sets.by_hop r) is_lo range))
 
 pub with_ids_listed : (sets : Numbers) (es : List (ℕ × Request)) (hop e2e : ℕ) (lo hi : ℕ × ℕ × ℕ) (r : List (ℕ × ℕ × ℕ)) → AreListed sets es → lo ≡ (hop, e2e, 0) → hi ≡ (hop, e2e, 18446744073709551615) → IsKeyRangeOf triple_cmp (Included lo) (Included hi) sets.by_ids r → option_map (λ (k : ℕ × ℕ × ℕ). k.2) (slice_get r 0) ≡ first_number (has_ids hop e2e) es
 with_ids_listed sets es hop e2e lo hi r l is_lo is_hi range =
     first_in_triples (has_ids hop e2e) es 18446744073709551615 l.rise (fits (has_ids hop e2e) es l.fit) sets.by_ids hop e2e (l.by_ids hop e2e) r
-      (subst (λ (k : ℕ × ℕ × ℕ). IsKeyRangeOf triple_cmp (Included (hop, e2e, 0)) (Included k) sets.by_ids r) is_hi
-        (subst (λ (k : ℕ × ℕ × ℕ). IsKeyRangeOf triple_cmp (Included k) (Included hi) sets.by_ids r) is_lo range))
+    (subst (λ (k : ℕ × ℕ × ℕ). IsKeyRangeOf triple_cmp (Included (hop, e2e, 0)) (Included k) sets.by_ids r) is_hi
+    (subst (λ (k : ℕ × ℕ × ℕ). IsKeyRangeOf triple_cmp (Included k) (Included hi) sets.by_ids r) is_lo range))
 
 pub watchdog_listed : (sets : Numbers) (es : List (ℕ × Request)) (n : ℕ) → AreListed sets es → contains nat_cmp sets.watchdogs n ≡ true → IsLowerBound nat_cmp sets.watchdogs n → Some n ≡ first_number is_dwr es
 watchdog_listed sets es n l member least = first_in_numbers is_dwr es 18446744073709551615 l.rise (fits is_dwr es l.fit) sets.watchdogs l.watchdogs n member least
@@ -166,13 +166,13 @@ passes_left test es n m r = ap (λ o. option_map_or test o false) (number_left e
 
 new_number : {X : Type 0} (test : X → Bool) (es : List (ℕ × X)) (n m : ℕ) → AreBelow es n → (n == m) ≡ true → passes test es m ≡ false
 new_number test es n m below same = by_test (passes test es m) refl
-    where
-      by_test : (b : Bool) → b ≡ passes test es m → b ≡ false
-      by_test false is = refl
-      by_test true is =
-          let less : m < n = passes_below test es n m below (sym is) in
-          let equal : n ≡ m = eqb-true n m same in
-          absurd (omega arith)
+  where
+    by_test : (b : Bool) → b ≡ passes test es m → b ≡ false
+    by_test false is = refl
+    by_test true is =
+        let less : m < n = passes_below test es n m below (sym is) in
+        let equal : n ≡ m = eqb-true n m same in
+        absurd (omega arith)
 
 old_number : {X : Type 0} (test : X → Bool) (es : List (ℕ × X)) (n m : ℕ) (x : X) → numbered es n ≡ Some x → (n == m) ≡ true → passes test es m ≡ test x
 old_number test es n m x at same = ap (λ k. passes test es k) (sym (eqb-true n m same)) ∙ ap (λ o. option_map_or test o false) at

@@ -55,10 +55,7 @@ impl Request {
     }
 }
 
-fn copied_session(
-    alloc: Global,
-    session: &Option<Session>,
-) -> Result<Option<Session>, AllocError>
+fn copied_session(alloc: Global, session: &Option<Session>) -> Result<Option<Session>, AllocError>
     ensures { IfOk result (λ copy. copy ≡ session.now) }
 {
     let Some(session) = session else {

@@ -28,5 +28,5 @@ on_any (Err e) P holds = holds
 pub returns-in_err-insert-clause-left : goal.returns-in_err-insert-clause-left
 returns-in_err-insert-clause-left c =
     on_any c.from_residual.result ((n : ℕ) → AreBelow c.args.table.now n → AreBelow c.take_first.new.self n)
-      (λ n below. subst (λ (l : List (ℕ × Request)). AreBelow l n) (sym c.in-Some.ensures.others)
-        (below_dropped c.loop-request.table n (c.loop-request.invariant.left n below)))
+    (λ n below. subst (λ (l : List (ℕ × Request)). AreBelow l n) (sym c.in-Some.ensures.others)
+    (below_dropped c.loop-request.table n (c.loop-request.invariant.left n below)))

@@ -12,7 +12,7 @@ invariant_of-self-in_err-insert c = subst (λ (l : List (ℕ × Request)). AreBe
 pub invariant_of-self-2 : goal.invariant_of-self-2
 invariant_of-self-2 c =
     subst (λ (l : List (ℕ × Request)). AreBelow l (c.in_ok-number.number + 1)) (sym c.in_ok-insert.ensures.added)
-      (below_next c.free_number.new.table c.in_ok-number.number _ c.args.request c.in_ok-number.ensures.above refl)
+    (below_next c.free_number.new.table c.in_ok-number.number _ c.args.request c.in_ok-number.ensures.above refl)
 
 pub returns : goal.returns
 returns c =

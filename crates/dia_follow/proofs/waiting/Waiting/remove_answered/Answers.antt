@@ -12,7 +12,7 @@ use Rattle.dia_follow.proofs.waiting.Waiting.remove_answered.Goals as goal
 pub invariant_of-self : goal.invariant_of-self
 invariant_of-self c =
     subst (λ (es : List (ℕ × Request)). AreBelow es c.self.inside.next) (sym c.remove.ensures)
-      (All-map-remove_entry (is_at (nat_cmp c.in-Some.number)) (λ (e : ℕ × Request). e.0) (λ k. k < c.self.inside.next) c.self.inside.table c.self.invariant)
+    (All-map-remove_entry (is_at (nat_cmp c.in-Some.number)) (λ (e : ℕ × Request). e.0) (λ k. k < c.self.inside.next) c.self.inside.table c.self.invariant)
 
 pub returns-in-Some : goal.returns-in-Some
 returns-in-Some c =
