@@ -6,8 +6,8 @@ _diacmd() {
     [ "$before" = = ] && before=${COMP_WORDS[COMP_CWORD - 2]}
     [ "$word" = = ] && word=
     case $COMP_CWORD:$command:$before in
-        1:*) words='show make check render compare refute propose breaking answer follow help -h --help -V --version' ;;
-        *:help:*) words='show make check render compare refute propose breaking answer follow help' ;;
+        1:*) words='show make check render compare refute propose breaking answer follow uses diff help -h --help -V --version' ;;
+        *:help:*) words='show make check render compare refute propose breaking answer follow uses diff help' ;;
         *:check:--unknown) words='kept refused' ;;
         *:check:--levels) return ;;
         *:compare:--unknown) words='kept refused' ;;
@@ -20,6 +20,8 @@ _diacmd() {
         *:answer:--levels) return ;;
         *:follow:--unknown) words='kept refused' ;;
         *:follow:--levels) return ;;
+        *:diff:--unknown) words='kept refused' ;;
+        *:diff:--sends) words='any known listed' ;;
         *) case $command:$word in
             show:-*) words='--quiet --dict --as-text --names --values --lines --json -h --help' ;;
             make:-*) words='--quiet --dict -h --help' ;;
@@ -28,9 +30,11 @@ _diacmd() {
             compare:-*) words='--quiet --unknown --json -h --help' ;;
             refute:-*) words='--quiet --unknown --levels --lines --json -h --help' ;;
             propose:-*) words='--quiet --unknown --json -h --help' ;;
-            breaking:-*) words='--quiet --unknown --sends --messages --once --meaning --accepted --stale-allowed --json -h --help' ;;
+            breaking:-*) words='--quiet --unknown --sends --messages --once --meaning --accepted --stale-allowed --explain --json -h --help' ;;
             answer:-*) words='--quiet --unknown --levels --host --realm -h --help' ;;
             follow:-*) words='--quiet --dict --middle --check --unknown --levels --json -h --help' ;;
+            uses:-*) words='--quiet --json -h --help' ;;
+            diff:-*) words='--quiet --unknown --sends --json -h --help' ;;
         esac ;;
     esac
     if [ -n "$words" ]; then

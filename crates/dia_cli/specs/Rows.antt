@@ -108,7 +108,8 @@ abbrev pub breaking_row : CommandRow
 breaking_row = record {
   name = codes "breaking";
   options = quiet_option ∷ unknown_option ∷ option (codes "sends") sender ∷ option (codes "messages") no_value ∷ option (codes "once") no_value
-      ∷ option (codes "meaning") no_value ∷ option (codes "accepted") (any_word (codes "@none")) ∷ option (codes "stale-allowed") no_value ∷ json_option ∷ [];
+      ∷ option (codes "meaning") no_value ∷ option (codes "accepted") (any_word (codes "@none")) ∷ option (codes "stale-allowed") no_value
+      ∷ option (codes "explain") no_value ∷ json_option ∷ [];
   inputs = input (codes "A") one ∷ input (codes "B") one ∷ input (codes "COMMAND") any ∷ [];
 }
 
@@ -128,8 +129,23 @@ follow_row = record {
   inputs = input (codes "CONNECTION") one ∷ [];
 }
 
+abbrev pub uses_row : CommandRow
+uses_row = record {
+  name = codes "uses";
+  options = quiet_option ∷ json_option ∷ [];
+  inputs = input (codes "D") one ∷ input (codes "AVP") some ∷ [];
+}
+
+abbrev pub diff_row : CommandRow
+diff_row = record {
+  name = codes "diff";
+  options = quiet_option ∷ unknown_option ∷ option (codes "sends") sender ∷ json_option ∷ [];
+  inputs = input (codes "A") one ∷ input (codes "B") one ∷ [];
+}
+
 abbrev pub command_rows : List CommandRow
-command_rows = show_row ∷ make_row ∷ check_row ∷ render_row ∷ compare_row ∷ refute_row ∷ propose_row ∷ breaking_row ∷ answer_row ∷ follow_row ∷ []
+command_rows = show_row ∷ make_row ∷ check_row ∷ render_row ∷ compare_row ∷ refute_row ∷ propose_row ∷ breaking_row ∷ answer_row ∷ follow_row
+    ∷ uses_row ∷ diff_row ∷ []
 
 -- ---- the declaration of a row for clap
 

@@ -17,9 +17,10 @@ pub(crate) struct Shown {
     pub once: bool,
     pub meaning: bool,
     pub stale_allowed: bool,
+    pub explain: bool,
 }
 
-/// Which of `--messages`, `--once`, `--meaning` and `--stale-allowed` are given.
+/// Which of `--messages`, `--once`, `--meaning`, `--stale-allowed` and `--explain` are given.
 pub(crate) fn shown_of(found: &ArgMatches<'_>) -> Option<Shown>
     ensures messages { IfSome result
         (λ shown. IsFlag (codes "messages") shown.messages (rows_of (found_of found.now))) }
@@ -29,17 +30,21 @@ pub(crate) fn shown_of(found: &ArgMatches<'_>) -> Option<Shown>
         (λ shown. IsFlag (codes "meaning") shown.meaning (rows_of (found_of found.now))) }
     ensures stale { IfSome result
         (λ shown. IsFlag (codes "stale-allowed") shown.stale_allowed (rows_of (found_of found.now))) }
+    ensures explain { IfSome result
+        (λ shown. IsFlag (codes "explain") shown.explain (rows_of (found_of found.now))) }
     ensures none { result ≡ None → has_flags (rows_of (found_of found.now)) ≡ false }
 {
     let messages = flag_of(found, "messages")?;
     let once = flag_of(found, "once")?;
     let meaning = flag_of(found, "meaning")?;
     let stale_allowed = flag_of(found, "stale-allowed")?;
+    let explain = flag_of(found, "explain")?;
     Some(Shown {
         messages,
         once,
         meaning,
         stale_allowed,
+        explain,
     })
 }
 

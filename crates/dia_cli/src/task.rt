@@ -28,6 +28,10 @@ pub enum Task {
     Answer(Answering),
     /// Prints where the ends of a connection depart from RFC 6733.
     Follow(Following),
+    /// Prints where messages may have AVPs, each a name or `CODE[:VENDOR]`.
+    Uses { avps: Vec<String> },
+    /// Prints what differs in meaning between two dictionaries.
+    Diff { sends: Sends, unknown: Unknown },
 }
 
 /// By what `answer` makes an answer.
@@ -65,6 +69,8 @@ pub struct Breaking {
     pub meaning: bool,
     /// Whether the answer is the same where an entry of the list of accepted lines is stale.
     pub stale_allowed: bool,
+    /// Whether standard error explains each cause, and not only the first ones.
+    pub explain: bool,
     /// The commands of A that are asked for: all where there is none.
     pub names: Vec<String>,
 }

@@ -54,6 +54,8 @@ task_failed (task.CheckStream u most) json w origins inputs out made b = pieces_
 task_failed (task.CheckAll u most) json w origins inputs out made b = whole_failed _ out made b
 task_failed (task.Answer asked) json w origins inputs out made b = whole_failed _ out made b
 task_failed (task.Follow asked) json w origins inputs out made b = pieces_failed _ _ made b
+task_failed (task.Uses avps) json w origins inputs out made b = whole_failed _ out made b
+task_failed (task.Diff sends unknown) json w origins inputs out made b = whole_failed _ out made b
 
 fault_failed : (word : List ℕ) (made : Ending) → IsFaultOf word made → IsFailed made
 fault_failed word (ending.Device name error) b = tt

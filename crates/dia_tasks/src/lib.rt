@@ -4,6 +4,7 @@
 
 mod all_faults;
 mod answering;
+mod asking;
 mod captured;
 mod following;
 mod front;

@@ -8,6 +8,7 @@ ghost use Rattle.dia_tasks.specs.Tasks.{Attempts, Performs, world};
 
 use crate::all_faults::list_faults;
 use crate::answering::{answer, answer_as_json};
+use crate::asking::{differed, used};
 use crate::captured::{Capture, captured};
 use crate::following::followed;
 use crate::inputs::texts_of;
@@ -120,6 +121,10 @@ where
         Task::Answer(asked) => Attempt::Ended(reply(rt, asked, inputs, quiet, out)),
         Task::Follow(asked) => {
             Attempt::Ended(followed(rt, opener, *asked, inputs, origins, manner, out))
+        }
+        Task::Uses { avps } => Attempt::Ended(used(rt, avps.as_slice(), inputs, manner, out)),
+        Task::Diff { sends, unknown } => {
+            Attempt::Ended(differed(rt, *sends, *unknown, inputs, manner, out))
         }
     }
 }

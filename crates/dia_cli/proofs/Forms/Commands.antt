@@ -9,14 +9,14 @@ use Rattle.clap.specs.declared.parser.matches.ValueSource.TheVariants.{CommandLi
 use Rattle.clap.proofs.OnLiterals.{clap_on_literals}
 use Rattle.dia_io.specs.declared.Command.TheVariants as command
 use Rattle.dia_cli.specs.declared.task.Task.{Task}
-use Rattle.dia_cli.specs.declared.task.Task.TheVariants.{Whole, Make, ShowText, ShowNamed, ShowLines, Breaking, CheckLines, RefuteLines, CheckStream, CheckAll, Answer, Follow}
+use Rattle.dia_cli.specs.declared.task.Task.TheVariants.{Whole, Make, ShowText, ShowNamed, ShowLines, Breaking, CheckLines, RefuteLines, CheckStream, CheckAll, Answer, Follow, Uses, Diff}
 use Rattle.dia_policy.specs.declared.Sends.TheVariants.{Any, Known, Listed}
 use Rattle.dia_policy.specs.declared.Unknown.{Unknown}
 use Rattle.dia_policy.specs.declared.Unknown.TheVariants.{Kept, Refused}
 use Rattle.dia_cli.specs.Asking.{line_shape}
-use Rattle.dia_cli.specs.Forms.{Form, HasOptionsOf, IsTaskOfForm, alone, answer, arguments_of, as_json, as_listing, as_text, breaking, check, compare, follow, form_inputs, form_json, form_name, form_options, form_row, form_words, has_arguments, has_lines, has_names, in_full, in_lines, in_stream, is_full, is_json, is_lines, is_plain_form, is_stream, is_text, json_of, make, propose, refute, render, show, task_name, values_given}
+use Rattle.dia_cli.specs.Forms.{Form, HasOptionsOf, IsTaskOfForm, alone, answer, arguments_of, as_json, as_listing, as_text, breaking, check, compare, diff, follow, form_inputs, form_json, form_name, form_options, form_row, form_words, has_arguments, has_lines, has_names, in_full, in_lines, in_stream, is_full, is_json, is_lines, is_plain_form, is_stream, is_text, json_of, make, propose, refute, render, show, task_name, uses, values_given}
 use Rattle.dia_cli.specs.InputWords.{AreFound, AreNamed}
-use Rattle.dia_cli.specs.Rows.{answer_row, breaking_row, check_row, compare_row, follow_row, make_row, propose_row, refute_row, render_row, show_row}
+use Rattle.dia_cli.specs.Rows.{answer_row, breaking_row, check_row, compare_row, diff_row, follow_row, make_row, propose_row, refute_row, render_row, show_row, uses_row}
 use Rattle.dia_cli.specs.Slots.{Slot, flag, number, text, unknown_slot}
 use Rattle.dia_cli.specs.Words.{flag_word, is_given, policy_word, sends_word}
 use Rattle.dia_cli.specs.declared.origin.Origins.{Origins}
@@ -56,8 +56,8 @@ module _ (policies senders : Bor (List (Bor Text))) (two : texts policies.now �
       row_fits policies senders two three propose_row _ _ refl (refl, tt, (refl, policy_passes policies senders two three unknown, (refl, tt, tt)))
       (record { by_index = refl; by_id = refl; next = refl }, (record { by_index = refl; by_id = refl; next = refl }, (true, record { by_index = refl; by_id = refl; next = refl })))
       refl refl refl refl
-  form_fits quiet (breaking json sends unknown messages once meaning allowed accepted first second names) =
-      row_fits policies senders two three breaking_row _ _ refl (refl, tt, (refl, policy_passes policies senders two three unknown, (refl, sender_passes policies senders two three sends, (refl, tt, (refl, tt, (refl, tt, (refl, tt, (refl, tt, (refl, tt, tt)))))))))
+  form_fits quiet (breaking json sends unknown messages once meaning allowed explained accepted first second names) =
+      row_fits policies senders two three breaking_row _ _ refl (refl, tt, (refl, policy_passes policies senders two three unknown, (refl, sender_passes policies senders two three sends, (refl, tt, (refl, tt, (refl, tt, (refl, tt, (refl, tt, (refl, tt, (refl, tt, tt))))))))))
       (record { by_index = refl; by_id = refl; next = refl }, (record { by_index = refl; by_id = refl; next = refl }, (false, record { by_index = refl; by_id = refl; next = refl })))
       refl refl refl refl
   form_fits quiet (answer unknown levels host realm dictionary message) =
@@ -66,6 +66,11 @@ module _ (policies senders : Bor (List (Bor Text))) (two : texts policies.now �
   form_fits quiet (follow json middle judged unknown levels dictionary connection) =
       row_fits policies senders two three follow_row _ _ refl (refl, tt, (refl, tt, (refl, tt, (refl, tt, (refl, policy_passes policies senders two three unknown, (refl, tt, (refl, tt, tt)))))))
       (record { by_index = refl; by_id = refl; next = refl }, tt) refl refl refl refl
+  form_fits quiet (uses json dictionary avp avps) =
+      row_fits policies senders two three uses_row _ _ refl (refl, tt, (refl, tt, tt)) (record { by_index = refl; by_id = refl; next = refl }, (true, record { by_index = refl; by_id = refl; next = refl })) refl refl refl refl
+  form_fits quiet (diff json sends unknown first second) =
+      row_fits policies senders two three diff_row _ _ refl (refl, tt, (refl, policy_passes policies senders two three unknown, (refl, sender_passes policies senders two three sends, (refl, tt, tt))))
+      (record { by_index = refl; by_id = refl; next = refl }, (record { by_index = refl; by_id = refl; next = refl }, tt)) refl refl refl refl
 
   -- the name of its command is that of its row
   pub form_named : (form : Form) → Names_at (built (line_shape policies senders)) (form_name form) (shape policies senders (form_row form)) × ((shape policies senders (form_row form)).name ≡ form_name form)
@@ -77,9 +82,11 @@ module _ (policies senders : Bor (List (Bor Text))) (two : texts policies.now �
   form_named (compare json unknown first second table) = (record { stops = refl; fine = refl; finds = refl; rest = refl }, refl)
   form_named (refute many json unknown levels first second message) = (record { stops = refl; fine = refl; finds = refl; rest = refl }, refl)
   form_named (propose json unknown first second name names) = (record { stops = refl; fine = refl; finds = refl; rest = refl }, refl)
-  form_named (breaking json sends unknown messages once meaning allowed accepted first second names) = (record { stops = refl; fine = refl; finds = refl; rest = refl }, refl)
+  form_named (breaking json sends unknown messages once meaning allowed explained accepted first second names) = (record { stops = refl; fine = refl; finds = refl; rest = refl }, refl)
   form_named (answer unknown levels host realm dictionary message) = (record { stops = refl; fine = refl; finds = refl; rest = refl }, refl)
   form_named (follow json middle judged unknown levels dictionary connection) = (record { stops = refl; fine = refl; finds = refl; rest = refl }, refl)
+  form_named (uses json dictionary avp avps) = (record { stops = refl; fine = refl; finds = refl; rest = refl }, refl)
+  form_named (diff json sends unknown first second) = (record { stops = refl; fine = refl; finds = refl; rest = refl }, refl)
 
 abbrev SaysPair : Unknown → Text → Text → List Row → Type 0
 SaysPair unknown first second rows = (first_of (codes "unknown") rows ≡ Some (policy_word unknown)) × (first_of (codes "A") rows ≡ Some first)
@@ -103,11 +110,11 @@ SaysForm (refute many json unknown levels first second message) rows =
     SaysPair unknown first second rows × (first_of (codes "lines") rows ≡ Some (flag_word many)) × (first_of (codes "levels") rows ≡ levels)
     × (first_of (codes "MESSAGE") rows ≡ Some message)
 SaysForm (propose json unknown first second name names) rows = SaysPair unknown first second rows × (all_of (codes "COMMAND") rows ≡ Some (name ∷ names))
-SaysForm (breaking json sends unknown messages once meaning allowed accepted first second names) rows =
+SaysForm (breaking json sends unknown messages once meaning allowed explained accepted first second names) rows =
     SaysPair unknown first second rows × (first_of (codes "sends") rows ≡ Some (sends_word sends)) × (first_of (codes "messages") rows ≡ Some (flag_word messages))
     × (all_of (codes "COMMAND") rows ≡ some_names names) × (first_of (codes "accepted") rows ≡ Some (unwrap_or accepted (codes "@none")))
     × (first_of (codes "once") rows ≡ Some (flag_word once)) × (first_of (codes "meaning") rows ≡ Some (flag_word meaning))
-    × (first_of (codes "stale-allowed") rows ≡ Some (flag_word allowed))
+    × (first_of (codes "stale-allowed") rows ≡ Some (flag_word allowed)) × (first_of (codes "explain") rows ≡ Some (flag_word explained))
 SaysForm (answer unknown levels host realm dictionary message) rows =
     (first_of (codes "unknown") rows ≡ Some (policy_word unknown)) × (first_of (codes "levels") rows ≡ levels)
     × (first_of (codes "D") rows ≡ Some dictionary) × (first_of (codes "MESSAGE") rows ≡ Some message)
@@ -116,6 +123,8 @@ SaysForm (follow json middle judged unknown levels dictionary connection) rows =
     (first_of (codes "unknown") rows ≡ Some (policy_word unknown)) × (first_of (codes "levels") rows ≡ levels)
     × (first_of (codes "middle") rows ≡ Some (flag_word middle)) × (first_of (codes "check") rows ≡ Some (flag_word judged))
     × (first_of (codes "dict") rows ≡ Some (unwrap_or dictionary (codes "@base"))) × (first_of (codes "CONNECTION") rows ≡ Some connection)
+SaysForm (uses json dictionary avp avps) rows = (first_of (codes "D") rows ≡ Some dictionary) × (all_of (codes "AVP") rows ≡ Some (avp ∷ avps))
+SaysForm (diff json sends unknown first second) rows = SaysPair unknown first second rows × (first_of (codes "sends") rows ≡ Some (sends_word sends))
 
 abbrev pub Says : Bool → Form → List Row → Type 0
 Says quiet form rows = (first_of (codes "quiet") rows ≡ Some (flag_word quiet)) × SaysForm form rows
@@ -176,7 +185,7 @@ module _ (policies senders : Bor (List (Bor Text))) (quiet : Bool) (rows : List 
     ((first (codes "unknown") ∙ policy_found unknown, first (codes "A"), first (codes "B")), all (codes "COMMAND")),
     flag_given json (first (codes "json") ∙ flag_found json),
   )
-  form_says (breaking json sends unknown messages once meaning allowed accepted one two names) first all = (
+  form_says (breaking json sends unknown messages once meaning allowed explained accepted one two names) first all = (
     first (codes "quiet") ∙ flag_found quiet,
     (
       (first (codes "unknown") ∙ policy_found unknown, first (codes "A"), first (codes "B")),
@@ -187,6 +196,7 @@ module _ (policies senders : Bor (List (Bor Text))) (quiet : Bool) (rows : List 
       first (codes "once") ∙ flag_found once,
       first (codes "meaning") ∙ flag_found meaning,
       first (codes "stale-allowed") ∙ flag_found allowed,
+      first (codes "explain") ∙ flag_found explained,
     ),
     flag_given json (first (codes "json") ∙ flag_found json),
   )
@@ -214,6 +224,13 @@ module _ (policies senders : Bor (List (Bor Text))) (quiet : Bool) (rows : List 
     ),
     flag_given json (first (codes "json") ∙ flag_found json),
   )
+  form_says (uses json dictionary avp avps) first all =
+      (first (codes "quiet") ∙ flag_found quiet, (first (codes "D"), all (codes "AVP")), flag_given json (first (codes "json") ∙ flag_found json))
+  form_says (diff json sends unknown one two) first all = (
+    first (codes "quiet") ∙ flag_found quiet,
+    ((first (codes "unknown") ∙ policy_found unknown, first (codes "A"), first (codes "B")), first (codes "sends") ∙ sender_found sends),
+    flag_given json (first (codes "json") ∙ flag_found json),
+  )
 
 -- ---- what is asked for
 
@@ -237,10 +254,10 @@ form_has (refute many json unknown levels first second third) rows plain says =
     (also (pair_passes first second rows says.0.1 says.0.2) (also (has_flag _ many says.1) (has_some _ third says.3)))
 form_has (propose json unknown first second name names) rows plain says =
     also (has_policy _ unknown says.0.0) (also (pair_passes first second rows says.0.1 says.0.2) (has_some _ (name ∷ names) says.1))
-form_has (breaking json sends unknown messages once meaning allowed accepted first second names) rows plain says =
+form_has (breaking json sends unknown messages once meaning allowed explained accepted first second names) rows plain says =
     also (has_policy _ unknown says.0.0) (also (pair_passes first second rows says.0.1 says.0.2)
     (also (has_sender _ sends says.1)
-    (also (also (has_flag _ messages says.2) (also (has_flag _ once says.5) (also (has_flag _ meaning says.6) (has_flag _ allowed says.7)))) (has_some _ (unwrap_or accepted (codes "@none")) says.4))))
+    (also (also (has_flag _ messages says.2) (also (has_flag _ once says.5) (also (has_flag _ meaning says.6) (also (has_flag _ allowed says.7) (has_flag _ explained says.8))))) (has_some _ (unwrap_or accepted (codes "@none")) says.4))))
 form_has (answer unknown levels host realm dictionary message) rows plain says =
     also (also (also (has_policy _ unknown says.0) (has_limit _ levels says.1 (number_passes levels (form_inputs (answer unknown levels host realm dictionary message)) (later_plain (text (codes "realm") realm) (number (codes "levels") levels ∷ form_inputs (answer unknown levels host realm dictionary message))
     (later_plain (text (codes "host") host) (text (codes "realm") realm ∷ number (codes "levels") levels ∷ form_inputs (answer unknown levels host realm dictionary message)) plain)))))
@@ -249,6 +266,9 @@ form_has (follow json middle judged unknown levels dictionary connection) rows p
     also (also (has_policy _ unknown says.0) (has_limit _ levels says.1 (number_passes levels (form_inputs (follow json middle judged unknown levels dictionary connection)) (later_plain (text (codes "dict") dictionary)
     (flag (codes "middle") middle ∷ flag (codes "check") judged ∷ unknown_slot unknown ∷ flag (codes "json") json ∷ number (codes "levels") levels ∷ form_inputs (follow json middle judged unknown levels dictionary connection)) plain))))
     (also (has_flag _ middle says.2) (also (has_flag _ judged says.3) (also (has_some _ (unwrap_or dictionary (codes "@base")) says.4) (has_some _ connection says.5))))
+form_has (uses json dictionary avp avps) rows plain says = also (has_some _ dictionary says.0) (has_some _ (avp ∷ avps) says.1)
+form_has (diff json sends unknown first second) rows plain says =
+    also (has_policy _ unknown says.0.0) (also (pair_passes first second rows says.0.1 says.0.2) (has_sender _ sends says.1))
 
 -- what the words of a form ask for
 abbrev IsAskedOf : Form → Task → Origins → Type 0
@@ -325,7 +345,7 @@ asked_is (refute false json unknown levels first second third) rows (RefuteLines
 asked_is (refute true json unknown levels first second third) rows (Whole (command.Refute policy limit)) origins says named is found = other_flag _ false true is.0 says.1 not_true
 asked_is (propose json unknown first second name names) rows (Whole (command.Propose policy commands)) origins says named is found =
     ((same_policy _ _ _ is.0 says.0.0, sym (same_value _ _ _ says.1 is.1)), pair_named origins rows first second says.0.1 says.0.2 found)
-asked_is (breaking json sends unknown messages once meaning allowed accepted first second names) rows (Breaking asked) origins says named is found = (
+asked_is (breaking json sends unknown messages once meaning allowed explained accepted first second names) rows (Breaking asked) origins says named is found = (
   (
     same_sender _ _ _ is.1 says.1,
     same_policy _ _ _ is.0 says.0.0,
@@ -333,7 +353,8 @@ asked_is (breaking json sends unknown messages once meaning allowed accepted fir
     same_flag _ _ _ is.3 says.5,
     same_flag _ _ _ is.4 says.6,
     same_flag _ _ _ is.5 says.7,
-    same_names _ _ names says.3 is.6,
+    same_flag _ _ _ is.6 says.8,
+    same_names _ _ names says.3 is.7,
   ),
   table_named origins rows first second says.0.1 says.0.2 (codes "accepted") (unwrap_or accepted (codes "@none")) says.4 found,
 )
@@ -355,8 +376,14 @@ asked_is (follow json middle judged unknown levels dictionary connection) rows (
   ),
   messages_named origins rows (codes "dict") (unwrap_or dictionary (codes "@base")) (codes "CONNECTION") connection says.4 says.5 found,
 )
-asked_is (breaking json sends unknown messages once meaning allowed accepted first second names) rows (Whole command.Show) origins says named is found = unlike (codes "breaking") (codes "show") refl named
+asked_is (uses json dictionary avp avps) rows (Uses names) origins says named is found =
+    (sym (same_value _ _ _ says.1 is), one_named origins rows (codes "D") dictionary says.0 found)
+asked_is (diff json sends unknown first second) rows (Diff sender policy) origins says named is found =
+    ((same_sender _ _ _ is.1 says.1, same_policy _ _ _ is.0 says.0.0), pair_named origins rows first second says.0.1 says.0.2 found)
+asked_is (breaking json sends unknown messages once meaning allowed explained accepted first second names) rows (Whole command.Show) origins says named is found = unlike (codes "breaking") (codes "show") refl named
 asked_is (make dictionary written) rows (Whole command.Show) origins says named is found = unlike (codes "make") (codes "show") refl named
 asked_is (answer unknown levels host realm dictionary message) rows (Whole command.Show) origins says named is found = unlike (codes "answer") (codes "show") refl named
 asked_is (follow json middle judged unknown levels dictionary connection) rows (Whole command.Show) origins says named is found = unlike (codes "follow") (codes "show") refl named
+asked_is (uses json dictionary avp avps) rows (Whole command.Show) origins says named is found = unlike (codes "uses") (codes "show") refl named
+asked_is (diff json sends unknown first second) rows (Whole command.Show) origins says named is found = unlike (codes "diff") (codes "show") refl named
 asked_is form rows task origins says named is found = unlike (form_name form) (task_name task) refl named

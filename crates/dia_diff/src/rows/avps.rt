@@ -73,7 +73,7 @@ pub(super) const ROWS: &str = r#"== an M rule; options listed; status 1
 + AVP G 9003 vendor 7 Grouped must
 + AVP G: { X } 1
 + AVP G: [ AVP ] 0..*
-== unknown AVPs are refused; options refused; status 1
+== unknown AVPs are refused; options known refused; status 1
 %avp X 9001 Unsigned32 any
 %avp Y 9002 Unsigned32 any
 <C> ::= < Diameter Header: 302, REQ > * [ AVP ]
