@@ -278,6 +278,31 @@ dia_status dia_text_length(dia_text *text, size_t *length);
 /* Closes the handle. Takes no memory. */
 void dia_text_close(dia_text *text);
 
+/* ---- answers to requests that have a fault ---- */
+
+/* By which definition an answer is made (docs/FORMATS.md). */
+enum {
+    DIA_FORM_OWN = 1,   /* the command's own answer, with E clear; for faults of 5xxx alone */
+    DIA_FORM_ERROR = 2, /* the error message of the dictionary for this command (a definition with ERR), with E set */
+    DIA_FORM_BASE = 3   /* the error message of the built-in dictionary, with E set */
+};
+
+/* Opens the closed handle `bytes` with the answer to a request that reports its first fault (RFC 6733 sections 6.2, 7.1.5, 7.2 and
+ * 7.5): the bytes of a message, which `diacmd answer` writes as hexadecimal digits. `host` and `realm` are the answer's Origin-Host
+ * and Origin-Realm; `unknown` and `levels` are those of dia_check. *form is DIA_FORM_..: the first in this order that makes a valid
+ * message. *verdict is what dia_check says of the message, also on DIA_NONE.
+ * The answer has the Command Code, the Application-ID, both identifiers and the P flag of the request. It is valid under the
+ * dictionary (of DIA_FORM_BASE under the built-in one), where Failed-AVP is read as OctetString.
+ * DIA_NONE: the message gets no answer. It has fewer than 20 bytes, is no request, has another length than its Message Length, or is
+ * valid; or no answer to it has room in a message.
+ * DIA_BAD_ARGUMENT: `unknown` is neither of its two values; or `host` or `realm` is no DiameterIdentity (section 4.3.1) of at most
+ * 255 bytes: 1 to 255 bytes, each from '!' to '~'.
+ * *form is written on DIA_OK alone, *verdict on DIA_OK and DIA_NONE. A request whose version or Message Length is at fault is
+ * answered, too; then close the connection, since the stream has lost its bounds. */
+dia_status dia_answer(dia_dict *dict, uint32_t unknown, uint32_t levels, const uint8_t *host, size_t host_len, const uint8_t *realm,
+                      size_t realm_len, const uint8_t *message, size_t message_len, dia_text *bytes, uint32_t *form,
+                      dia_verdict *verdict);
+
 /* ---- two dictionaries ---- */
 
 /* Compares two dictionaries by the text of a table of pairs (docs/FORMATS.md), and opens the closed handle `line` with the line

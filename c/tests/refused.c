@@ -54,6 +54,9 @@ static const char source[] = "%avp A 1 OctetString any\n%avp B 2 Grouped any\nB 
 
 static const char table[] = "avp Origin-Host = Origin-Host\n";
 
+/* A Device-Watchdog-Request without AVPs. */
+static const uint8_t unanswered[] = {1, 0, 0, 20, 0x80, 0, 1, 0x18, 0, 0, 0, 0, 0, 0, 0, 1, 0, 0, 0, 2};
+
 /* A name that is declared twice, and a rule that names nothing. */
 static const char wrong[] = "%avp A 1 Time any\n%avp A 2 Time any\nB ::= < AVP Header: 2 > { X }\n";
 
@@ -109,6 +112,12 @@ static dia_status tells(void) {
 static dia_status shows(void) {
     uint32_t whole;
     return dia_show(&dict, watchdog, sizeof watchdog, &line, &whole, &verdict);
+}
+
+static dia_status replies(void) {
+    uint32_t form;
+    const uint8_t *name = (const uint8_t *)"a.b";
+    return dia_answer(&dict, DIA_KEPT, DIA_ANY_LEVELS, name, 3, name, 3, unanswered, sizeof unanswered, &line, &form, &verdict);
 }
 
 /* A stream is spent once memory was refused, and a finish lets it go. */
@@ -247,6 +256,8 @@ int main(void) {
     refuse_each("show", shows, close_line, 2);
     dia_text_close(&line);
     refuse_each("check_json", tells, close_line, 2);
+    dia_text_close(&line);
+    refuse_each("answer", replies, close_line, 10);
     dia_text_close(&line);
     EXPECT(open_text(source, &own, &problem) == DIA_OK);
     refuse_each("breaking", lists, close_line, 20);

@@ -31,6 +31,7 @@ impl<'a> Names<'a> {
     pub fn new(host: &'a str, realm: &'a str) -> Result<Self, NameFault>
         ensures ok { IfOk result
             (λ names. (names.host.now ≡ host.now) × (names.realm.now ≡ realm.now)) }
+        ensures names { IfOk result (λ _. IsName host.now × IsName realm.now) }
         ensures host { (result ≡ Err NameFault.Host) ↔ (¬ IsName host.now) }
         ensures realm { (result ≡ Err NameFault.Realm) ↔ (IsName host.now × (¬ IsName realm.now)) }
     {

@@ -12,6 +12,7 @@ mod fault_lists;
 mod layout;
 mod listings;
 mod peers;
+mod replies;
 mod streams;
 mod texts;
 mod upgrades;
@@ -28,6 +29,7 @@ pub use peers::{
     dia_peer_close, dia_peer_common, dia_peer_event, dia_peer_open, dia_peer_open_as,
     dia_peer_output, dia_peer_serves, dia_peer_state,
 };
+pub use replies::dia_answer;
 pub use streams::{
     dia_stream_close, dia_stream_feed, dia_stream_finish, dia_stream_levels, dia_stream_open,
 };

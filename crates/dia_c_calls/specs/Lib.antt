@@ -9,6 +9,7 @@ pub mod Openings
 pub mod PeerSteps
 pub mod Peers
 pub mod PlainFaults
+pub mod Replies
 pub mod Statuses
 pub mod Streams
 pub mod Upgrades

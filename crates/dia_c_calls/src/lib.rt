@@ -2,7 +2,6 @@
 //! functions to C, with the same clauses.
 #![tactic(auto)]
 
-mod answer;
 mod checks;
 mod comparison;
 mod comparisons;
@@ -16,11 +15,14 @@ mod listing;
 mod listings;
 mod names;
 mod opening;
+mod outcomes;
 mod peer;
 mod peer_config;
 mod peer_numbers;
 mod peers;
 mod recorded_fault;
+mod replies;
+mod reply;
 mod sink;
 mod status;
 mod streams;
@@ -44,6 +46,7 @@ pub use peers::{
     peer_state,
 };
 pub use recorded_fault::RecordedFault;
+pub use replies::answer;
 pub use status::{
     BAD_ARGUMENT, DONE, IS_CLOSED, IS_OPEN, NO_MEMORY, NO_ROOM, NONE, OUTPUTS_LEFT, REFUSED, SPENT,
     status_numbers,
