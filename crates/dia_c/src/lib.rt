@@ -5,6 +5,7 @@
 ghost use Rattle.std.specs.Prelude.{◌≡◌};
 ghost use Rattle.dia_c_calls.specs.Statuses.{abi_version};
 
+mod batches;
 mod checks;
 mod comparisons;
 mod dictionaries;
@@ -16,7 +17,9 @@ mod replies;
 mod streams;
 mod texts;
 mod upgrades;
+mod words;
 
+pub use batches::dia_check_many;
 pub use checks::{dia_check, dia_check_json, dia_message_length};
 pub use comparisons::{dia_compare, dia_table_place};
 pub use dictionaries::{
@@ -35,6 +38,7 @@ pub use streams::{
 };
 pub use texts::{dia_render, dia_text_close, dia_text_length, dia_text_read};
 pub use upgrades::dia_breaking;
+pub use words::{dia_kind_word, dia_reason_word, dia_status_word, dia_verdict_text};
 
 /// The version of this interface, which a program compares with `DIA_ABI_VERSION` of its header.
 const ABI_VERSION: u32 = 1;

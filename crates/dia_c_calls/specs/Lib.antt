@@ -1,4 +1,5 @@
 pub mod AllFaults
+pub mod Batches
 pub mod Comparisons
 pub mod Feedings
 pub mod Handles
@@ -15,3 +16,4 @@ pub mod Streams
 pub mod Upgrades
 pub mod VerdictLines
 pub mod Verdicts
+pub mod Words

@@ -2,6 +2,8 @@
 //! functions to C, with the same clauses.
 #![tactic(auto)]
 
+mod batch;
+mod batches;
 mod checks;
 mod comparison;
 mod comparisons;
@@ -14,6 +16,7 @@ mod held;
 mod listing;
 mod listings;
 mod names;
+mod numbers;
 mod opening;
 mod outcomes;
 mod peer;
@@ -31,8 +34,11 @@ mod upgrade;
 mod upgrades;
 mod verdict;
 mod verdict_line;
+mod verdict_text;
 mod wanted;
+mod words;
 
+pub use batches::check_many;
 pub use checks::{check, check_json, message_length};
 pub use comparisons::{compare, table_place};
 pub use dictionaries::{avp_name, command_name, dict_close, dict_open, dict_open_base, dict_share};
@@ -55,6 +61,7 @@ pub use streams::{Fed, stream_close, stream_feed, stream_finish, stream_levels, 
 pub use texts::{render, text_close, text_length, text_read};
 pub use upgrades::breaking;
 pub use verdict::Verdict;
+pub use words::{kind_word, reason_word, status_word, verdict_text};
 
 fn sent<T: Send>(x: T) -> T {
     x

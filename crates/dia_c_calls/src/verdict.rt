@@ -3,7 +3,7 @@
 ghost use Rattle.std.specs.Prelude.{◌≡◌, ◌↔◌, None, Err, IfOk, IfErr, IfSome, Result};
 ghost use Rattle.dia_check.specs.Faults.{HasLength, IsAnswer, simple};
 ghost use Rattle.dia_c_calls.specs.Verdicts.{IsHeadVerdict, IsUnknownPolicy, IsVerdict, IsVerdictOn};
-ghost use Rattle.dia_c_calls.specs.Verdicts.{fault_verdict, limit_of, no_message, policy_of};
+ghost use Rattle.dia_c_calls.specs.Verdicts.{fault_verdict, limit_of, no_message, policy_of, said};
 
 use dia_book::Book;
 use dia_check::{
@@ -44,13 +44,13 @@ const ALL_ZERO: Verdict = Verdict {
 };
 
 /// There are fewer bytes than the header or than Message Length.
-const TRUNCATED: Verdict = Verdict {
+pub const TRUNCATED: Verdict = Verdict {
     outcome: 2,
     ..ALL_ZERO
 };
 
 /// There are more bytes than Message Length.
-const TRAILING: Verdict = Verdict {
+pub const TRAILING: Verdict = Verdict {
     outcome: 3,
     ..ALL_ZERO
 };
@@ -126,15 +126,22 @@ pub fn verdict_of(answer: Result<Selected, Refusal>) -> Result<Verdict, Unrecord
     ensures spent { (result ≡ Err Unrecorded.Spent) ↔ (answer ≡ Err Refusal.Spent) }
 {
     match answer {
-        Ok(found) => Ok(Verdict {
-            command: found.def.index() as u32,
-            ..ALL_ZERO
-        }),
+        Ok(found) => Ok(valid(found.def.index() as u32)),
         Err(Refusal::Fault(fault)) => Ok(faulty(fault)),
         Err(Refusal::Truncated) => Ok(TRUNCATED),
         Err(Refusal::Trailing) => Ok(TRAILING),
         Err(Refusal::NoMemory) => Err(Unrecorded::NoMemory),
         Err(Refusal::Spent) => Err(Unrecorded::Spent),
+    }
+}
+
+/// The verdict of a valid message of this command.
+pub fn valid(command: u32) -> Verdict
+    ensures { result ≡ said 0 command }
+{
+    Verdict {
+        command,
+        ..ALL_ZERO
     }
 }
 

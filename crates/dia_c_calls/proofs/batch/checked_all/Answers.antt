@@ -1,0 +1,8 @@
+use Rattle.std.proofs.lemmas.List.{nil_from_length}
+use Rattle.std.proofs.lemmas.Option.{MatchOption-at_none}
+use Rattle.dia_c_calls.proofs.Batches.{all_there}
+use Rattle.dia_c_calls.proofs.batch.checked_all.Goals as goal
+
+pub returns : goal.returns
+returns g c =
+    all_there _ _ _ _ _ _ _ _ c.loop-end.invariant.1 (nil_from_length _ (MatchOption-at_none _ _ c.in_default.is c.split_first.ensures.cases))
