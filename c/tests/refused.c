@@ -120,6 +120,26 @@ static dia_status replies(void) {
     return dia_answer(&dict, DIA_KEPT, DIA_ANY_LEVELS, name, 3, name, 3, unanswered, sizeof unanswered, &line, &form, &verdict);
 }
 
+static dia_status says(void) {
+    uint8_t said[DIA_MAX_LINE];
+    size_t count;
+    static const dia_verdict truncated = {DIA_TRUNCATED, 0, 0, 0, 0, 0, 0, 0};
+    return dia_verdict_text(&dict, &truncated, said, sizeof said, &count);
+}
+
+static dia_status delivers(void) {
+    dia_header header;
+    dia_avp avps[2];
+    size_t count;
+    uint32_t whole;
+    return dia_avps(&dict, watchdog, sizeof watchdog, &header, avps, 2, &count, &whole, &verdict);
+}
+
+static dia_status checks_many(void) {
+    static const size_t ends[] = {sizeof watchdog};
+    return dia_check_many(&dict, DIA_KEPT, DIA_ANY_LEVELS, watchdog, sizeof watchdog, ends, 1, &verdict, 1);
+}
+
 /* A stream is spent once memory was refused, and a finish lets it go. */
 static dia_status streams(void) {
     dia_fed fed = {9, 9};
@@ -222,6 +242,9 @@ static void take_no_memory(void) {
     long before = asked;
     EXPECT(dia_abi_version() == DIA_ABI_VERSION);
     EXPECT(dia_avp_name(&dict, 264, 0, name, sizeof name, &count) == DIA_OK);
+    EXPECT(dia_reason_word(DIA_R_DEPTH, name, sizeof name, &count) == DIA_OK);
+    EXPECT(dia_kind_word(DIA_LIMIT, name, sizeof name, &count) == DIA_OK);
+    EXPECT(dia_status_word(DIA_SPENT, name, sizeof name, &count) == DIA_OK);
     EXPECT(dia_command_name(&dict, verdict.command, name, sizeof name, &count) == DIA_OK);
     EXPECT(dia_message_length(watchdog, 20, &length, &verdict) == DIA_OK);
     EXPECT(dia_text_length(&text, &count) == DIA_OK);
@@ -251,6 +274,9 @@ int main(void) {
     refuse_each("open_base", opens_base, close_dict, 100);
     refuse_each("share", shares, close_nothing, 1);
     refuse_each("check", checks, close_nothing, 1);
+    refuse_each("check_many", checks_many, close_nothing, 1);
+    refuse_each("verdict_text", says, close_nothing, 1);
+    refuse_each("avps", delivers, close_nothing, 1);
     refuse_each("compare", compares, close_line, 3);
     dia_text_close(&line);
     refuse_each("show", shows, close_line, 2);

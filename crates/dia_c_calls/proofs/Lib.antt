@@ -1,5 +1,6 @@
 pub mod AllFound
 pub mod AsBox
+pub mod Avps
 pub mod Batches
 pub mod ComparedHandles
 pub mod FedStreams

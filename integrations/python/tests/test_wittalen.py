@@ -57,6 +57,36 @@ class Checks(unittest.TestCase):
         with self.assertRaises(ValueError):
             book.check(report(1), levels=1 << 32)
 
+    def test_many(self):
+        book = Dictionary(USAGE)
+        messages = [report(1), report(1, 2, 3), b"", report(1)[:-1], report(2, 2)]
+        self.assertEqual(book.check_many(messages), [book.check(message) for message in messages])
+        self.assertEqual(book.check_many(iter(())), [])
+        with self.assertRaises(TypeError):
+            book.check_many(["a"])
+
+    def test_answered(self):
+        book = Dictionary()
+        answer = book.answer(BARE, "host.invalid", "invalid")
+        self.assertEqual(str(answer.verdict), "fault 5005 at 20 missing Origin-Host")
+        # the header with R clear, and Result-Code 5005 (RFC 6733 sections 6.2 and 7.1)
+        self.assertEqual((answer.form, answer.message[4:20]), (wittalen.Form.OWN, b"\0" + BARE[5:]))
+        avps = {avp.name: avp for avp in book.avps(answer.message)}
+        self.assertEqual(avps["Result-Code"].data, (5005).to_bytes(4, "big"))
+        self.assertEqual((avps["Origin-Host"].data, avps["Origin-Realm"].data), (b"host.invalid", b"invalid"))
+        self.assertIsNone(book.answer(answer.message, "a", "b"))
+        for host, realm in (("", "b"), ("a", "x" * 256), ("a b", "c"), ("a", "\u00e4")):
+            with self.assertRaises(ValueError):
+                book.answer(BARE, host, realm)
+
+    def test_avps(self):
+        book = Dictionary(USAGE)
+        found = book.avps(report(*range(100)))
+        self.assertEqual((len(found), found[1]), (100, wittalen.Avp(32, 0, 12, 9002, 0, 0, "Usage", b"\0\0\0\1")))
+        self.assertEqual([avp.name for avp in Dictionary().avps(report(1))], [None])
+        with self.assertRaises(ValueError):
+            book.avps(report(1)[:-1])
+
     def test_types(self):
         book = Dictionary(USAGE)
         self.assertTrue(book.check(bytearray(report(1))) and book.check(memoryview(report(1))))

@@ -54,6 +54,18 @@ class Numbers(c.Structure):
     _fields_ = [(name, c.c_uint32) for name in ("vendor", "has_state_id", "state_id", "hop", "e2e")]
 
 
+class RawHeader(c.Structure):
+    _fields_ = [("length", c.c_size_t)] + [
+        (name, c.c_uint32) for name in ("flags", "code", "app", "hop", "e2e", "has_command", "command")
+    ]
+
+
+class RawAvp(c.Structure):
+    _fields_ = [(name, c.c_size_t) for name in ("place", "depth", "length", "data_place", "data_length")] + [
+        (name, c.c_uint32) for name in ("code", "vendor", "flags", "format")
+    ]
+
+
 H, U, S, B = c.POINTER(Handle), c.c_uint32, c.c_size_t, c.c_char_p
 NUMBER, SIZE, PROBLEM, VERDICT = c.POINTER(U), c.POINTER(S), c.POINTER(Problem), c.POINTER(RawVerdict)
 CALLS: dict[str, tuple[Any, ...]] = {
@@ -70,7 +82,10 @@ CALLS: dict[str, tuple[Any, ...]] = {
     "avp_name": (H, U, U, B, S, SIZE),
     "check": (H, U, U, B, S, VERDICT),
     "check_json": (H, U, U, B, S, H),
+    "check_many": (H, U, U, B, S, SIZE, S, VERDICT, S),
     "message_length": (B, S, NUMBER, VERDICT),
+    "answer": (H, U, U, B, S, B, S, B, S, H, NUMBER, VERDICT),
+    "avps": (H, B, S, c.POINTER(RawHeader), c.POINTER(RawAvp), S, SIZE, NUMBER, VERDICT),
     "stream_open": (H, U, U, H),
     "stream_feed": (H, B, S, c.POINTER(Fed)),
     "stream_finish": (H, VERDICT),
@@ -183,8 +198,11 @@ class Text(Owner):
     _closing = "dia_text_close"
 
     def read(self) -> str:
+        return self.read_bytes().decode()
+
+    def read_bytes(self) -> bytes:
         count = c.c_size_t()
         require(lib.dia_text_length(self._handle, count))
         room = c.create_string_buffer(count.value + 1)
         require(lib.dia_text_read(self._handle, 0, room, count.value, count))
-        return room.raw[: count.value].decode()
+        return room.raw[: count.value]

@@ -1,0 +1,45 @@
+//! The AVPs of a message.
+
+ghost use Rattle.std.specs.Prelude.{◌⊎◌, ◌≡◌, ◌≢◌, ◌≤◌, ◌<◌, ℕ, List, IfSome, IsSome, None, drop, length, take};
+ghost use Rattle.dia_c_calls.specs.declared.MessageAvp.{MessageAvp as AnyAvp};
+ghost use Rattle.dia_c_calls.specs.declared.MessageHeader.{MessageHeader as AnyHeader};
+ghost use Rattle.dia_c_calls.specs.Avps.{HasAvps};
+ghost use Rattle.dia_c_calls.specs.Held.{dict_in};
+ghost use Rattle.dia_c_calls.specs.Verdicts.{IsNoMessage};
+
+use dia_c_calls::{
+    DONE, DictHandle, IS_CLOSED, MessageAvp, MessageHeader, NO_MEMORY, NO_ROOM, REFUSED, Verdict,
+};
+use std::alloc::Global;
+
+/// The header of a message and its AVPs, with what the dictionary has of them.
+#[unsafe(no_mangle)]
+pub extern "C" fn dia_avps(
+    alloc: Global,
+    handle: &mut DictHandle,
+    message: &[u8],
+    header: &mut MessageHeader,
+    avps: &mut [MessageAvp],
+    count: &mut usize,
+    whole: &mut u32,
+    verdict: &mut Verdict,
+) -> u32
+    ensures ends { (result ≡ DONE) ⊎ (result ≡ REFUSED) ⊎ (result ≡ NO_MEMORY) ⊎ (result ≡ NO_ROOM) ⊎ (result ≡ IS_CLOSED) }
+    ensures kept { handle.new.slot.seal.held ≡ handle.old.slot.seal.held }
+    ensures done { result ≡ DONE → IfSome (dict_in handle.old.slot.seal.held)
+        (λ d. HasAvps d message.now header.new (take count.new avps.new) whole.new) }
+    ensures wanted { result ≡ NO_ROOM → IfSome (dict_in handle.old.slot.seal.held)
+        (λ d. (h : AnyHeader) × (all : List AnyAvp) × (w : ℕ) × HasAvps d message.now h all w × (count.new ≡ length all)) }
+    ensures refused { result ≡ REFUSED → IsNoMessage message.now verdict.new }
+    ensures count { result ≡ DONE → count.new ≤ length avps.new }
+    ensures rest { result ≡ DONE → drop count.new avps.new ≡ drop count.new avps.old }
+    ensures room { result ≡ NO_ROOM → length avps.new < count.new }
+    ensures untouched { result ≢ DONE → avps.new ≡ avps.old }
+    ensures only_done { result ≢ DONE → (header.new ≡ header.old) × (whole.new ≡ whole.old) }
+    ensures only_count { result ≢ DONE → result ≢ NO_ROOM → count.new ≡ count.old }
+    ensures only { result ≢ REFUSED → verdict.new ≡ verdict.old }
+    ensures closed { result ≡ IS_CLOSED → handle.old.slot.seal.held ≡ None }
+    ensures dict_is_open { result ≢ IS_CLOSED → IsSome (dict_in handle.old.slot.seal.held) }
+{
+    dia_c_calls::avps(alloc, handle, message, header, avps, count, whole, verdict)
+}
