@@ -127,7 +127,6 @@ static void drop(connection *c) {
 /* Whether a message is valid. A request that isn't gets the answer that says why (RFC 6733 sections 6.2 and 7). */
 static int is_valid(connection *c, const uint8_t *message, size_t len) {
     dia_verdict v;
-#ifdef DIA_ANSWERS
     dia_text answer = DIA_TEXT_INIT;
     uint32_t form;
     size_t count = 0;
@@ -140,10 +139,6 @@ static int is_valid(connection *c, const uint8_t *message, size_t len) {
         c->out_count += count;
     }
     return status == DIA_NONE && v.outcome == DIA_VALID;
-#else
-    (void)c;
-    return dia_check(&dict, DIA_KEPT, DIA_ANY_LEVELS, message, len, &v) == DIA_OK && v.outcome == DIA_VALID;
-#endif
 }
 
 /* Delivers an event to the end, and does what it asks for. Answers whether the connection goes on. */
