@@ -60,9 +60,9 @@ say_event(Event) when is_tuple(Event) -> io:format("~p~n", [element(1, Event)]);
 say_event(Event) -> io:format("~p~n", [Event]).
 
 say_answer({Name, #{'Result-Code' := Code} = Avps}) ->
-    io:format("answer ~p ~p ~p~n", [Name, Code, maps:get('Failed-AVP', Avps, none)]);
+    io:format("answer ~0p ~p ~0p~n", [Name, Code, maps:get('Failed-AVP', Avps, none)]);
 say_answer(Other) ->
-    io:format("no answer ~p~n", [Other]).
+    io:format("no answer ~0p~n", [Other]).
 
 %% Without strict arities a list would be several AVPs.
 broken() ->
