@@ -1,0 +1,85 @@
+//! Which lines break messages: each line of `breaking` comes from the differences that it is about.
+
+use crate::lines::Line;
+use crate::finding::places_of;
+use crate::origins::origin_of;
+use crate::sides::Side;
+use crate::subjects::Subjects;
+use dia_book::Book;
+use dia_breaking::{Breaks, Upgrade};
+use dia_policy::{Sends, Unknown};
+use std::alloc::{AllocError, Global};
+
+/// Messages of one side, which the other reads.
+pub(crate) struct Traffic<'d, A: Book, B: Book> {
+    pub sender: &'d A,
+    pub receiver: &'d B,
+    /// The side of the sender.
+    pub side: Side,
+    /// Of each command of the sender the one of the receiver that corresponds.
+    pub commands: &'d [Option<usize>],
+    pub sends: Sends,
+    pub unknown: Unknown,
+}
+
+/// Marks the lines from which it comes that messages break.
+pub(crate) fn mark<A: Book, B: Book>(
+    alloc: Global,
+    lines: &mut Vec<Line>,
+    subjects: &Subjects,
+    traffic: &Traffic<'_, A, B>,
+) -> Result<(), AllocError> {
+    let sender = traffic.sender;
+    let upgrade = Upgrade::new(
+        alloc,
+        sender,
+        traffic.receiver,
+        traffic.sends,
+        traffic.unknown,
+    )?;
+    for index in 0..sender.commands() {
+        // No message is checked: a line counts whatever its standing.
+        let mut left = 0;
+        let breaks = upgrade.breaks(alloc, sender.command_at(index), &mut left)?;
+        mark_breaks(alloc, lines, subjects, traffic, index, &breaks)?;
+    }
+    Ok(())
+}
+
+/// Marks the lines from which what breaks a command comes.
+fn mark_breaks<A: Book, B: Book>(
+    alloc: Global,
+    lines: &mut Vec<Line>,
+    subjects: &Subjects,
+    traffic: &Traffic<'_, A, B>,
+    index: usize,
+    breaks: &Breaks,
+) -> Result<(), AllocError> {
+    for line in &breaks.lines {
+        let origin = origin_of(traffic, index, breaks, line);
+        let places = places_of(alloc, lines, subjects, traffic, &origin)?;
+        mark_all(lines, traffic.side, &places);
+    }
+    Ok(())
+}
+
+/// Marks these lines; where there is none, all.
+fn mark_all(lines: &mut Vec<Line>, side: Side, places: &[usize]) {
+    if places.is_empty() {
+        for place in 0..lines.len() {
+            mark_one(&mut lines[place], side);
+        }
+    }
+    for place in places {
+        if let Some(line) = lines.get_mut(*place) {
+            mark_one(line, side);
+        }
+    }
+}
+
+fn mark_one(line: &mut Line, side: Side) {
+    match side {
+        Side::First => line.there = true,
+        Side::Second => line.back = true,
+    }
+}
