@@ -1,16 +1,20 @@
 //! The command, from its inputs to what is written.
 
+ghost use Rattle.std.specs.Prelude.{◌≡◌, ◌↔◌, ℕ, List, Err, IfOk, IsTrue, string_bytes};
+ghost use Rattle.std.specs.Io.KnownBytes.{Appends};
+ghost use Rattle.dia_io.specs.declared.Exit.{Exit as AnyExit};
+ghost use Rattle.dia_io.specs.Writing.{AppendsFront};
+ghost use Rattle.dia_run.specs.Texts.{IsDictionaryText};
+ghost use Rattle.dia_diff.specs.Outcome.{IsDiffOutcome, IsDiffText, refused_text, same_text};
+
 use crate::json::push_object;
-use crate::lines::Line;
-use crate::listing::lines_of;
 use crate::marking::{Traffic, mark};
-use crate::notes::push_counts;
+use crate::notes::counts_of;
 use crate::parts::parts_of;
-use crate::partners::Partners;
-use crate::sides::Side;
 use crate::subjects::Subjects;
 use crate::writing::push_line;
 use dia_book::Book;
+use dia_differences::{Line, Partners, Side, lines_of};
 use dia_io::{Exit, Input, Inputs, RunFault, Sink, put_all};
 use dia_policy::{Sends, Unknown};
 use dia_refused_json::bad_input_line;
@@ -29,8 +33,8 @@ pub struct Asked {
     pub json: bool,
 }
 
-/// Writes a line for each difference in meaning between the first dictionary, A, and the second, B; `same` where there is none.
-/// Each line ends with whether it breaks messages from A's side to B's, or the other way.
+/// Writes a line for each difference in meaning between the first dictionary, A, and the second, B; `same` where there is none,
+/// and ends with `Yes`. Each line ends with whether it breaks messages from A's side to B's, or the other way.
 ///
 /// What is written is made first, and then written in whatever pieces the sink takes. `notes` gets what standard error is to say:
 /// nothing if memory is refused for it.
@@ -40,7 +44,18 @@ pub fn write_diff<S: Sink>(
     inputs: &Inputs,
     notes: &mut String,
     sink: &mut S,
-) -> Result<Reported, RunFault> {
+) -> Result<Reported, RunFault>
+    requires { ¬ IsTrue (S.has_failed sink.old) }
+    ensures text { IfOk result (λ reported. (text : List ℕ)
+        × IsDiffOutcome asked.sends asked.unknown asked.json inputs.now text reported.exit
+        × Appends (S.written sink.old) (S.written sink.new) text) }
+    ensures device { (result ≡ Err RunFault.Device) ↔ IsTrue (S.has_failed sink.new) }
+    ensures front { result ≡ Err RunFault.Device
+        → (text : List ℕ) × (exit : AnyExit)
+        × IsDiffOutcome asked.sends asked.unknown asked.json inputs.now text exit
+        × AppendsFront (S.written sink.old) (S.written sink.new) text }
+    ensures no_memory { result ≡ Err RunFault.NoMemory → S.written sink.new ≡ S.written sink.old }
+{
     let Answered { text, exit, report } = text_for(alloc, asked, inputs, notes)?;
     put_all(sink, text.as_bytes())?;
     Ok(Reported { exit, report })
@@ -52,7 +67,10 @@ fn text_for(
     asked: Asked,
     inputs: &Inputs,
     notes: &mut String,
-) -> Result<Answered, AllocError> {
+) -> Result<Answered, AllocError>
+    ensures { IfOk result (λ a. IsDiffOutcome
+        asked.sends asked.unknown asked.json inputs.now (string_bytes a.text) a.exit) }
+{
     match read_dictionary(alloc, 1, &inputs.first) {
         Ok(first) => text_after(alloc, asked, &first.book, inputs, notes),
         Err(Refused::Bad(bad)) => refuse(alloc, asked.json, &inputs.first, bad),
@@ -67,12 +85,33 @@ fn text_after<A: Book>(
     a: &A,
     inputs: &Inputs,
     notes: &mut String,
-) -> Result<Answered, AllocError> {
+) -> Result<Answered, AllocError>
+    requires { IsDictionaryText inputs.now.first (A.meaning a.now) }
+    ensures { IfOk result (λ a. IsDiffOutcome
+        asked.sends asked.unknown asked.json inputs.now (string_bytes a.text) a.exit) }
+{
     match read_dictionary(alloc, 2, &inputs.second) {
-        Ok(second) => differences(alloc, asked, a, &second.book, notes),
+        Ok(second) => text_by(alloc, asked, a, &second.book, inputs, notes),
         Err(Refused::Bad(bad)) => refuse(alloc, asked.json, &inputs.second, bad),
         Err(Refused::NoMemory) => Err(AllocError),
     }
+}
+
+/// The same by the dictionaries that were read.
+fn text_by<A: Book, B: Book>(
+    alloc: Global,
+    asked: Asked,
+    a: &A,
+    b: &B,
+    inputs: &Inputs,
+    notes: &mut String,
+) -> Result<Answered, AllocError>
+    requires first { IsDictionaryText inputs.now.first (A.meaning a.now) }
+    requires second { IsDictionaryText inputs.now.second (B.meaning b.now) }
+    ensures { IfOk result (λ a. IsDiffOutcome
+        asked.sends asked.unknown asked.json inputs.now (string_bytes a.text) a.exit) }
+{
+    differences(alloc, asked, a, b, notes)
 }
 
 /// What differs between the dictionaries.
@@ -82,14 +121,18 @@ fn differences<A: Book, B: Book>(
     a: &A,
     b: &B,
     notes: &mut String,
-) -> Result<Answered, AllocError> {
+) -> Result<Answered, AllocError>
+    ensures { IfOk result (λ a. IsDiffText asked.json a.exit (string_bytes a.text)) }
+{
     let partners = Partners::new(alloc, a, b)?;
     let mut lines = lines_of(alloc, a, b, &partners)?;
     if lines.is_empty() {
         return same(alloc, asked.json);
     }
     mark_both(alloc, asked, a, b, &partners, &mut lines)?;
-    push_counts(notes, &lines)?;
+    if let Ok(said) = counts_of(alloc, &lines) {
+        *notes = said;
+    }
     written(alloc, asked.json, a, b, &lines)
 }
 
@@ -124,54 +167,95 @@ fn mark_both<A: Book, B: Book>(
     mark(alloc, lines, &subjects, &back)
 }
 
-/// The answer of these lines.
+/// The answer of these lines. There are some, so the text isn't empty.
 fn written<A: Book, B: Book>(
     alloc: Global,
     json: bool,
     a: &A,
     b: &B,
     lines: &[Line],
-) -> Result<Answered, AllocError> {
+) -> Result<Answered, AllocError>
+    ensures { IfOk result (λ a. IsDiffText json a.exit (string_bytes a.text)) }
+{
     let mut text = String::new(alloc);
     for line in lines {
-        let parts = parts_of(alloc, a, b, line)?;
-        if json {
-            push_object(&mut text, &parts)?;
-        } else {
-            push_line(&mut text, &parts)?;
-        }
+        push(alloc, &mut text, json, a, b, line)?;
     }
-    let exit = Exit::No;
-    let report = Report::Done;
-    Ok(Answered { text, exit, report })
+    if text.is_empty() {
+        return same(alloc, json);
+    }
+    Ok(Answered {
+        text,
+        exit: Exit::No,
+        report: Report::Done,
+    })
+}
+
+fn push<A: Book, B: Book>(
+    alloc: Global,
+    text: &mut String,
+    json: bool,
+    a: &A,
+    b: &B,
+    line: &Line,
+) -> Result<(), AllocError> {
+    let parts = parts_of(alloc, a, b, line)?;
+    if json {
+        push_object(text, &parts)
+    } else {
+        push_line(text, &parts)
+    }
 }
 
 /// The answer where nothing differs.
-fn same(alloc: Global, json: bool) -> Result<Answered, AllocError> {
-    let line = if json {
+fn same(alloc: Global, json: bool) -> Result<Answered, AllocError>
+    ensures { IfOk result (λ a. IsDiffText json a.exit (string_bytes a.text)) }
+{
+    let text = String::from_str(alloc, same_line(json))?;
+    Ok(Answered {
+        text,
+        exit: Exit::Yes,
+        report: Report::Done,
+    })
+}
+
+fn same_line(json: bool) -> &'static str
+    ensures { result.now ≡ same_text json }
+{
+    if json {
         "{\"verdict\":\"same\"}\n"
     } else {
         "same\n"
-    };
-    let text = String::from_str(alloc, line)?;
-    let exit = Exit::Yes;
-    let report = Report::Done;
-    Ok(Answered { text, exit, report })
+    }
 }
 
-/// The line of an input that is refused.
+/// The answer where a dictionary is refused.
 fn refuse(
     alloc: Global,
     json: bool,
     input: &Input,
     bad: BadInput,
-) -> Result<Answered, AllocError> {
-    let text = if json {
-        bad_input_line(alloc, input, &bad)?
-    } else {
-        format!(in alloc; "{bad}\n")?
-    };
+) -> Result<Answered, AllocError>
+    ensures text { IfOk result (λ a. string_bytes a.text ≡ refused_text json input.now bad) }
+    ensures exit { IfOk result (λ a. a.exit ≡ Exit.Bad) }
+{
+    let text = refused_line(alloc, json, input, &bad)?;
     let exit = Exit::Bad;
     let report = Report::Refused(bad);
     Ok(Answered { text, exit, report })
+}
+
+fn refused_line(
+    alloc: Global,
+    json: bool,
+    input: &Input,
+    bad: &BadInput,
+) -> Result<String, AllocError>
+    ensures { IfOk result (λ text. string_bytes text ≡ refused_text json input.now bad.now) }
+{
+    if json {
+        bad_input_line(alloc, input, bad)
+    } else {
+        format!(in alloc; "{bad}\n")
+    }
 }

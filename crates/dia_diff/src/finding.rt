@@ -1,18 +1,17 @@
 //! The differences from which a line of `breaking` comes: those of the first list below that isn't empty.
 //!
-//! - Of headers: the P flag where the line is about it; all of the two commands.
-//! - Of a level: the rules for the line's AVP, or for the wildcard, and for the AVP that precedes; the code or vendor of the AVP; all
+//! - Owner headers: the P flag where the line is about it; all of the two commands.
+//! - Owner a level: the rules for the line's AVP, or for the wildcard, and for the AVP that precedes; the code or vendor of the AVP; all
 //!   rules of the two definitions; all of the AVP.
-//! - Of an AVP by itself: the field that the line is about, and AVPs that one dictionary alone has; all of the AVP.
+//! - Owner an AVP by itself: the field that the line is about, and AVPs that one dictionary alone has; all of the AVP.
 //!
 //! Where all are empty the line comes from every difference.
 
-use crate::lines::{AvpField, HeadField, Line, Of, RulePlace, What};
 use crate::marking::Traffic;
 use crate::origins::Origin;
-use crate::rules::slot_place;
-use crate::sides::Side;
 use crate::subjects::{Subject, Subjects};
+use dia_differences::{AvpField, HeadField, Line, RulePlace, Side, What, slot_place};
+use dia_owners::Owner;
 use dia_book::Book;
 use dia_breaking_levels::Line as LevelLine;
 use dia_wire::Key;
@@ -30,11 +29,11 @@ pub(crate) fn places_of<A: Book, B: Book>(
     match origin {
         Origin::Header { own, other, field } => {
             let all = of_headers(alloc, subjects, side, *own, *other)?;
-            narrowed(alloc, lines, all, |what| is_of_header(what, *field))
+            narrowed(alloc, lines, all, Wanted::Header(*field))
         }
         Origin::Avp { key, field } => {
             let all = of_avp(alloc, subjects, traffic, *key)?;
-            narrowed(alloc, lines, all, |what| is_of_avp(what, *field))
+            narrowed(alloc, lines, all, Wanted::Avp(*field))
         }
         Origin::Level { own, other, line } => {
             of_level(alloc, lines, subjects, traffic, *own, *other, line)
@@ -42,17 +41,38 @@ pub(crate) fn places_of<A: Book, B: Book>(
     }
 }
 
-/// Those of the lines that pass the test; all where none does.
+/// The lines that are about what a line of `breaking` is about.
+#[derive(Clone, Copy)]
+enum Wanted {
+    /// A field of a header.
+    Header(Option<HeadField>),
+    /// A field of an AVP, its key, or all of it.
+    Avp(Option<AvpField>),
+    /// The key of an AVP.
+    Key,
+}
+
+impl Wanted {
+    fn has(self, what: What) -> bool {
+        match self {
+            Wanted::Header(field) => is_of_header(what, field),
+            Wanted::Avp(field) => is_of_avp(what, field),
+            Wanted::Key => is_key_change(what),
+        }
+    }
+}
+
+/// Those of the lines that are wanted; all where none is.
 fn narrowed(
     alloc: Global,
     lines: &[Line],
     places: Vec<usize>,
-    test: impl Fn(What) -> bool,
+    wanted: Wanted,
 ) -> Result<Vec<usize>, AllocError> {
     let mut found = Vec::new(alloc);
     for place in &places {
         if let Some(line) = lines.get(*place) {
-            if test(line.what) {
+            if wanted.has(line.what) {
                 found.push(*place)?;
             }
         }
@@ -126,8 +146,8 @@ fn of_level<A: Book, B: Book>(
     lines: &[Line],
     subjects: &Subjects,
     traffic: &Traffic<'_, A, B>,
-    own: Of,
-    other: Of,
+    own: Owner,
+    other: Owner,
     line: &LevelLine,
 ) -> Result<Vec<usize>, AllocError> {
     let side = traffic.side;
@@ -142,7 +162,7 @@ fn of_level<A: Book, B: Book>(
         None => Vec::new(alloc),
     };
     if avp.iter().any(|place| is_key_change_at(lines, *place)) {
-        return narrowed(alloc, lines, avp, is_key_change);
+        return narrowed(alloc, lines, avp, Wanted::Key);
     }
     rules.extend_from_slice(subjects.get(Subject::Rules(side, own)))?;
     rules.extend_from_slice(subjects.get(Subject::Rules(side.other(), other)))?;
@@ -162,7 +182,7 @@ fn push_rules<D: Book>(
     subjects: &Subjects,
     side: Side,
     book: &D,
-    of: Of,
+    of: Owner,
     line: &LevelLine,
 ) -> Result<(), AllocError> {
     if let Some(rule) = place_for(book, of, line.key) {
@@ -177,7 +197,7 @@ fn push_rules<D: Book>(
 }
 
 /// The place of the rule for a key, or of the wildcard.
-fn place_for<D: Book>(book: &D, of: Of, key: Option<Key>) -> Option<usize> {
+fn place_for<D: Book>(book: &D, of: Owner, key: Option<Key>) -> Option<usize> {
     let def = of.definition(book)?;
     match key {
         Some(key) => slot_place(book.slot(def, key)),

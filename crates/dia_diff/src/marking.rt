@@ -1,10 +1,9 @@
 //! Which lines break messages: each line of `breaking` comes from the differences that it is about.
 
-use crate::lines::Line;
 use crate::finding::places_of;
 use crate::origins::origin_of;
-use crate::sides::Side;
 use crate::subjects::Subjects;
+use dia_differences::{Line, Side};
 use dia_book::Book;
 use dia_breaking::{Breaks, Upgrade};
 use dia_policy::{Sends, Unknown};
@@ -16,10 +15,24 @@ pub(crate) struct Traffic<'d, A: Book, B: Book> {
     pub receiver: &'d B,
     /// The side of the sender.
     pub side: Side,
-    /// Of each command of the sender the one of the receiver that corresponds.
+    /// Owner each command of the sender the one of the receiver that corresponds.
     pub commands: &'d [Option<usize>],
     pub sends: Sends,
     pub unknown: Unknown,
+}
+
+// Written out: a derive would require it of the books.
+impl<A: Book, B: Book> Drop for Traffic<'_, A, B> {
+    fn drop(self) {
+        let Traffic {
+            sender: _,
+            receiver: _,
+            side: _,
+            commands: _,
+            sends: _,
+            unknown: _,
+        } = self;
+    }
 }
 
 /// Marks the lines from which it comes that messages break.

@@ -1,7 +1,8 @@
 //! What the lines of `breaking` are about.
 
-use crate::lines::{AvpField, HeadField, Of};
 use crate::marking::Traffic;
+use dia_differences::{AvpField, HeadField};
+use dia_owners::Owner;
 use dia_book::{Book, DefId};
 use dia_breaking::{Breaks, Cause, Line as Breach, Place};
 use dia_breaking_levels::Line as LevelLine;
@@ -18,8 +19,8 @@ pub(crate) enum Origin {
     },
     /// A level, by the definitions of the sender and of the receiver.
     Level {
-        own: Of,
-        other: Of,
+        own: Owner,
+        other: Owner,
         line: LevelLine,
     },
     /// The flags or the data of an AVP.
@@ -81,8 +82,8 @@ fn group_level<A: Book, B: Book>(
 ) -> Origin {
     match (traffic.sender.avp(key), traffic.receiver.avp(key)) {
         (Some(own), Some(other)) => Origin::Level {
-            own: Of::Avp(own.index()),
-            other: Of::Avp(other.index()),
+            own: Owner::Avp(own.index()),
+            other: Owner::Avp(other.index()),
             line,
         },
         _ => header(index, None, None),
@@ -97,8 +98,8 @@ fn command_level<A: Book, B: Book>(
 ) -> Origin {
     match reader {
         Some(other) if corresponds(traffic, index, other) => Origin::Level {
-            own: Of::Command(index),
-            other: Of::Command(other),
+            own: Owner::Command(index),
+            other: Owner::Command(other),
             line,
         },
         _ => header(index, reader, None),

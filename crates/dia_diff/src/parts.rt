@@ -1,8 +1,8 @@
 //! What a line says, in its parts.
 
-use crate::lines::{AvpField, HeadField, Line, Of, What};
-use crate::sides::Side;
 use crate::words::{push_avp_field, push_declaration, push_head_field, push_header, push_rule};
+use dia_differences::{AvpField, HeadField, Line, Side, What};
+use dia_owners::Owner;
 use dia_book::Book;
 use std::alloc::{AllocError, Global};
 
@@ -38,8 +38,8 @@ pub(crate) fn parts_of<'d, A: Book, B: Book>(
     let Line { what, there, back } = *line;
     let (side, of) = subject_of(what);
     let name = match side {
-        Side::First => name_of(a, of),
-        Side::Second => name_of(b, of),
+        Side::First => of.name(a),
+        Side::Second => of.name(b),
     };
     Ok(Parts {
         is_command: is_command(of),
@@ -53,31 +53,21 @@ pub(crate) fn parts_of<'d, A: Book, B: Book>(
 }
 
 /// The AVP or command that a line is about: that of the first dictionary, if it has it.
-fn subject_of(what: What) -> (Side, Of) {
+fn subject_of(what: What) -> (Side, Owner) {
     match what {
-        What::Avp(side, index) => (side, Of::Avp(index)),
-        What::AvpField { first, .. } => (Side::First, Of::Avp(first)),
-        What::Command(side, index) => (side, Of::Command(index)),
-        What::HeadField { first, .. } => (Side::First, Of::Command(first)),
+        What::Avp(side, index) => (side, Owner::Avp(index)),
+        What::AvpField { first, .. } => (Side::First, Owner::Avp(first)),
+        What::Command(side, index) => (side, Owner::Command(index)),
+        What::HeadField { first, .. } => (Side::First, Owner::Command(first)),
         What::Rule(side, place) => (side, place.of),
         What::RuleChange { first, .. } => (Side::First, first.of),
     }
 }
 
-fn is_command(of: Of) -> bool {
+fn is_command(of: Owner) -> bool {
     match of {
-        Of::Avp(_) => false,
-        Of::Command(_) => true,
-    }
-}
-
-fn name_of<D: Book>(book: &D, of: Of) -> &str {
-    match of {
-        Of::Avp(index) if index < book.entries() => book.entry_name(book.entry_at(index)),
-        Of::Command(index) if index < book.commands() => {
-            book.def(book.command_at(index)).name.as_str()
-        }
-        _ => "",
+        Owner::Avp(_) => false,
+        Owner::Command(_) => true,
     }
 }
 

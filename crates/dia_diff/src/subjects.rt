@@ -1,7 +1,7 @@
 //! The lines by what they are about.
 
-use crate::lines::{Line, Of, RulePlace, What};
-use crate::sides::Side;
+use dia_differences::{Line, RulePlace, Side, What};
+use dia_owners::Owner;
 use std::alloc::{AllocError, Global};
 use std::collections::HashMap;
 
@@ -14,7 +14,7 @@ pub(crate) enum Subject {
     Command(Side, usize),
     Rule(Side, RulePlace),
     /// All rules of a definition.
-    Rules(Side, Of),
+    Rules(Side, Owner),
 }
 
 /// The places of the lines, by what they are about.
@@ -68,6 +68,7 @@ impl Subjects {
     }
 
     fn put(&mut self, subject: Subject, line: usize) -> Result<(), AllocError> {
-        self.lines.entry(subject)?.or_default().push(line)
+        self.lines.entry(subject)?.or_default().push(line)?;
+        Ok(())
     }
 }

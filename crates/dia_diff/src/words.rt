@@ -1,8 +1,6 @@
 //! The words of AVPs, headers and rules.
 
-use crate::headers::{pxy_of, selector_of};
-use crate::lines::{AvpField, HeadField, RulePlace};
-use crate::rules::rules_of;
+use dia_differences::{AvpField, HeadField, RulePlace, pxy_of, selector_of};
 use dia_book::{Book, Class, DRule, DefHead, DefId, Entry, Format, RuleKind};
 use dia_breaking::Amount;
 use dia_terms::Pxy;
@@ -157,7 +155,7 @@ pub(crate) fn push_rule<D: Book>(
     book: &D,
     place: RulePlace,
 ) -> Result<(), AllocError> {
-    let Some(rule) = rules_of(book, place.of).get(place.rule).copied() else {
+    let Some(rule) = place.of.rules(book).get(place.rule).copied() else {
         return Ok(());
     };
     let (open, close) = brackets(rule.kind);

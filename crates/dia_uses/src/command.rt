@@ -1,11 +1,17 @@
 //! The command, from its inputs to what is written.
 
-use crate::asking::asked;
-use crate::graph::reached;
-use crate::notes::push_counts;
-use crate::writing::{name_of, push_lines};
+ghost use Rattle.std.specs.Prelude.{◌≡◌, ◌↔◌, ℕ, List, Err, IfOk, IsTrue, map, string_bytes};
+ghost use Rattle.std.specs.Io.KnownBytes.{Appends};
+ghost use Rattle.dia_io.specs.declared.Exit.{Exit as AnyExit};
+ghost use Rattle.dia_io.specs.Writing.{AppendsFront};
+ghost use Rattle.dia_run.specs.Texts.{IsDictionaryText};
+ghost use Rattle.dia_uses.specs.Outcome.{IsUsesOutcome, IsUsesText, nowhere_text, refused_text, unknown_text};
+
+use crate::notes::{Tally, notes_of};
+use crate::writing::push_lines;
 use dia_book::Book;
 use dia_io::{Exit, Input, Inputs, RunFault, Sink, put_all};
+use dia_places::{asked, reached};
 use dia_refused_json::{bad_input_line, quoted};
 use dia_report::{Answered, BadInput, Refused, Report, Reported};
 use dia_run::read_dictionary;
@@ -13,7 +19,8 @@ use dia_wire::Key;
 use std::alloc::{AllocError, Global};
 
 /// Writes a line for each definition in which messages of the first dictionary's commands may hold the AVPs, for each AVP in the
-/// order of the words: first those with a rule for it, then those that let it in by a wildcard.
+/// order of the words: first those with a rule for it, then those that let it in by a wildcard. Without any line it writes
+/// `no place`, and ends with `No`.
 ///
 /// A word is a name, or `CODE[:VENDOR]`. What is written is made first, and then written in whatever pieces the sink takes.
 /// `notes` gets what standard error is to say: nothing if memory is refused for it.
@@ -24,7 +31,18 @@ pub fn write_uses<S: Sink>(
     inputs: &Inputs,
     notes: &mut String,
     sink: &mut S,
-) -> Result<Reported, RunFault> {
+) -> Result<Reported, RunFault>
+    requires { ¬ IsTrue (S.has_failed sink.old) }
+    ensures text { IfOk result (λ reported. (text : List ℕ)
+        × IsUsesOutcome json (map (λ avp. string_bytes avp) avps.now) inputs.now text reported.exit
+        × Appends (S.written sink.old) (S.written sink.new) text) }
+    ensures device { (result ≡ Err RunFault.Device) ↔ IsTrue (S.has_failed sink.new) }
+    ensures front { result ≡ Err RunFault.Device
+        → (text : List ℕ) × (exit : AnyExit)
+        × IsUsesOutcome json (map (λ avp. string_bytes avp) avps.now) inputs.now text exit
+        × AppendsFront (S.written sink.old) (S.written sink.new) text }
+    ensures no_memory { result ≡ Err RunFault.NoMemory → S.written sink.new ≡ S.written sink.old }
+{
     let Answered { text, exit, report } = text_for(alloc, json, avps, inputs, notes)?;
     put_all(sink, text.as_bytes())?;
     Ok(Reported { exit, report })
@@ -37,9 +55,12 @@ fn text_for(
     avps: &[String],
     inputs: &Inputs,
     notes: &mut String,
-) -> Result<Answered, AllocError> {
+) -> Result<Answered, AllocError>
+    ensures { IfOk result (λ a. IsUsesOutcome
+        json (map (λ avp. string_bytes avp) avps.now) inputs.now (string_bytes a.text) a.exit) }
+{
     match read_dictionary(alloc, 1, &inputs.first) {
-        Ok(first) => text_by(alloc, &first.book, json, avps, notes),
+        Ok(first) => text_by(alloc, &first.book, json, avps, inputs, notes),
         Err(Refused::Bad(bad)) => refuse(alloc, json, &inputs.first, bad),
         Err(Refused::NoMemory) => Err(AllocError),
     }
@@ -51,8 +72,26 @@ fn text_by<B: Book>(
     book: &B,
     json: bool,
     avps: &[String],
+    inputs: &Inputs,
     notes: &mut String,
-) -> Result<Answered, AllocError> {
+) -> Result<Answered, AllocError>
+    requires { IsDictionaryText inputs.now.first (B.meaning book.now) }
+    ensures { IfOk result (λ a. IsUsesOutcome
+        json (map (λ avp. string_bytes avp) avps.now) inputs.now (string_bytes a.text) a.exit) }
+{
+    answer(alloc, book, json, avps, notes)
+}
+
+/// The answer by a dictionary.
+fn answer<B: Book>(
+    alloc: Global,
+    book: &B,
+    json: bool,
+    avps: &[String],
+    notes: &mut String,
+) -> Result<Answered, AllocError>
+    ensures { IfOk result (λ a. IsUsesText json a.exit (string_bytes a.text)) }
+{
     match asked(alloc, book, avps)? {
         Ok(keys) => uses(alloc, book, json, &keys, notes),
         Err(word) => unknown(alloc, json, word),
@@ -66,35 +105,51 @@ fn uses<B: Book>(
     json: bool,
     keys: &[Key],
     notes: &mut String,
-) -> Result<Answered, AllocError> {
-    let steps = reached(alloc, book)?;
+) -> Result<Answered, AllocError>
+    ensures { IfOk result (λ a. IsUsesText json a.exit (string_bytes a.text)) }
+{
+    let reached = reached(alloc, book)?;
     let mut text = String::new(alloc);
-    let mut said = String::new(alloc);
+    let mut tallies = Vec::new(alloc);
     for key in keys {
-        let counts = push_lines(alloc, &mut text, json, book, &steps, *key)?;
-        push_counts(&mut said, *key, name_of(book, *key), counts)?;
+        let counts = push_lines(alloc, &mut text, json, book, &reached, *key)?;
+        tallies.push(Tally { key: *key, counts })?;
     }
-    *notes = said;
+    if let Ok(said) = notes_of(alloc, book, &tallies) {
+        *notes = said;
+    }
     ended(alloc, json, text)
 }
 
-/// The answer of these lines: `no place` where there is none.
-fn ended(alloc: Global, json: bool, lines: String) -> Result<Answered, AllocError> {
-    let report = Report::Done;
+/// The answer of these lines.
+fn ended(alloc: Global, json: bool, lines: String) -> Result<Answered, AllocError>
+    ensures { IfOk result (λ a. IsUsesText json a.exit (string_bytes a.text)) }
+{
     if lines.is_empty() {
-        let text = String::from_str(alloc, nowhere(json))?;
-        let exit = Exit::No;
-        return Ok(Answered { text, exit, report });
+        return nowhere(alloc, json);
     }
-    let exit = Exit::Yes;
     Ok(Answered {
         text: lines,
-        exit,
-        report,
+        exit: Exit::Yes,
+        report: Report::Done,
     })
 }
 
-fn nowhere(json: bool) -> &'static str {
+/// The answer where there is no line.
+fn nowhere(alloc: Global, json: bool) -> Result<Answered, AllocError>
+    ensures { IfOk result (λ a. IsUsesText json a.exit (string_bytes a.text)) }
+{
+    let text = String::from_str(alloc, nowhere_line(json))?;
+    Ok(Answered {
+        text,
+        exit: Exit::No,
+        report: Report::Done,
+    })
+}
+
+fn nowhere_line(json: bool) -> &'static str
+    ensures { result.now ≡ nowhere_text json }
+{
     if json {
         "{\"verdict\":\"no place\"}\n"
     } else {
@@ -102,32 +157,56 @@ fn nowhere(json: bool) -> &'static str {
     }
 }
 
-/// The line of a word that names no AVP.
-fn unknown(alloc: Global, json: bool, word: &str) -> Result<Answered, AllocError> {
-    let text = if json {
-        let name = quoted(alloc, word)?;
-        format!(in alloc; "{{\"error\":\"uses\",\"kind\":\"no AVP\",\"name\":{name}}}\n")?
-    } else {
-        format!(in alloc; "uses: no AVP {word}\n")?
-    };
-    let exit = Exit::Bad;
-    let report = Report::Done;
-    Ok(Answered { text, exit, report })
+/// The answer where a word names no AVP.
+fn unknown(alloc: Global, json: bool, word: &str) -> Result<Answered, AllocError>
+    ensures { IfOk result (λ a. IsUsesText json a.exit (string_bytes a.text)) }
+{
+    let text = unknown_line(alloc, json, word)?;
+    Ok(Answered {
+        text,
+        exit: Exit::Bad,
+        report: Report::Done,
+    })
 }
 
-/// The line of an input that is refused.
+fn unknown_line(alloc: Global, json: bool, word: &str) -> Result<String, AllocError>
+    ensures { IfOk result (λ text. string_bytes text ≡ unknown_text json word.now) }
+{
+    if json {
+        let name = quoted(alloc, word)?;
+        format!(in alloc; "{{\"error\":\"uses\",\"kind\":\"no AVP\",\"name\":{name}}}\n")
+    } else {
+        format!(in alloc; "uses: no AVP {word}\n")
+    }
+}
+
+/// The answer where the dictionary is refused.
 fn refuse(
     alloc: Global,
     json: bool,
     input: &Input,
     bad: BadInput,
-) -> Result<Answered, AllocError> {
-    let text = if json {
-        bad_input_line(alloc, input, &bad)?
-    } else {
-        format!(in alloc; "{bad}\n")?
-    };
+) -> Result<Answered, AllocError>
+    ensures text { IfOk result (λ a. string_bytes a.text ≡ refused_text json input.now bad) }
+    ensures exit { IfOk result (λ a. a.exit ≡ Exit.Bad) }
+{
+    let text = refused_line(alloc, json, input, &bad)?;
     let exit = Exit::Bad;
     let report = Report::Refused(bad);
     Ok(Answered { text, exit, report })
+}
+
+fn refused_line(
+    alloc: Global,
+    json: bool,
+    input: &Input,
+    bad: &BadInput,
+) -> Result<String, AllocError>
+    ensures { IfOk result (λ text. string_bytes text ≡ refused_text json input.now bad.now) }
+{
+    if json {
+        bad_input_line(alloc, input, bad)
+    } else {
+        format!(in alloc; "{bad}\n")
+    }
 }

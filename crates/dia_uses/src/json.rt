@@ -1,8 +1,8 @@
 //! Lines as JSON objects (RFC 8259). Names are of letters, digits and dashes, and need no escapes.
 
-use crate::places::By;
 use crate::writing::Place;
 use dia_book::DRule;
+use dia_places::By;
 use dia_wire::Key;
 use std::alloc::AllocError;
 

@@ -1,28 +1,43 @@
 //! What standard error says of an answer.
 
-use crate::writing::{Counts, push_avp};
+use crate::writing::{Counts, name_of, push_avp};
+use dia_book::Book;
 use dia_wire::Key;
-use std::alloc::AllocError;
+use std::alloc::{AllocError, Global};
 
-/// Adds how many lines an AVP has.
-pub(crate) fn push_counts(
-    out: &mut String,
-    key: Key,
-    name: Option<&str>,
-    counts: Counts,
-) -> Result<(), AllocError> {
-    push_avp(out, key, name)?;
+/// How many lines an AVP has.
+#[derive(Clone, Copy)]
+pub(crate) struct Tally {
+    pub key: Key,
+    pub counts: Counts,
+}
+
+/// How many definitions hold each AVP.
+pub(crate) fn notes_of<B: Book>(
+    alloc: Global,
+    book: &B,
+    tallies: &[Tally],
+) -> Result<String, AllocError> {
+    let mut notes = String::new(alloc);
+    for tally in tallies {
+        push_avp(&mut notes, tally.key, name_of(book, tally.key))?;
+        push_counts(&mut notes, tally.counts)?;
+    }
+    Ok(notes)
+}
+
+fn push_counts(out: &mut String, counts: Counts) -> Result<(), AllocError> {
     let Counts { rules, wildcards } = counts;
     if rules == 0 && wildcards == 0 {
         return out.push_str(
             ": no definition that a command reaches has a rule for it, or a wildcard\n",
         );
     }
-    let rule = counted(rules, "definition has", "definitions have");
-    let wildcard = counted(wildcards, "lets", "let");
+    let has = counted(rules, "definition has", "definitions have");
+    let lets = counted(wildcards, "lets", "let");
     write!(
         out,
-        ": {rules} {rule} a rule for it, and {wildcards} {wildcard} it in by a wildcard\n"
+        ": {rules} {has} a rule for it, and {wildcards} {lets} it in by a wildcard\n"
     )
 }
 

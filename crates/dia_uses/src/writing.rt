@@ -1,10 +1,8 @@
 //! The lines of an AVP.
 
 use crate::json::push_object;
-use crate::paths::path_to;
-use crate::places::{By, by_of};
-use dia_book::{Book, DRule, DefId, RuleKind};
-use dia_breaking_ways::Step;
+use dia_book::{Book, DRule, RuleKind};
+use dia_places::{By, Reached, by_of, path_to};
 use dia_wire::Key;
 use std::alloc::{AllocError, Global};
 
@@ -39,30 +37,29 @@ pub(crate) fn push_lines<B: Book>(
     out: &mut String,
     json: bool,
     book: &B,
-    steps: &[Step],
+    reached: &[Reached],
     key: Key,
 ) -> Result<Counts, AllocError> {
-    let rules = push_kind(alloc, out, json, book, steps, key, Kind::Rules)?;
-    let wildcards = push_kind(alloc, out, json, book, steps, key, Kind::Wildcards)?;
+    let rules = push_kind(alloc, out, json, book, reached, key, Kind::Rules)?;
+    let wildcards = push_kind(alloc, out, json, book, reached, key, Kind::Wildcards)?;
     Ok(Counts { rules, wildcards })
 }
 
-/// Adds the lines of one kind, in the order of the steps, and answers how many there are.
+/// Adds the lines of one kind, in the order of the definitions, and answers how many there are.
 fn push_kind<B: Book>(
     alloc: Global,
     out: &mut String,
     json: bool,
     book: &B,
-    steps: &[Step],
+    reached: &[Reached],
     key: Key,
     kind: Kind,
 ) -> Result<usize, AllocError> {
     let mut count = 0usize;
-    for step in 0..steps.len() {
-        let def = DefId::new(steps[step].place);
-        if let Some(by) = by_of(book, def, key) {
+    for place in 0..reached.len() {
+        if let Some(by) = by_of(book, reached[place].of, key) {
             if is_of(by, kind) {
-                let path = path_to(alloc, book, steps, step)?;
+                let path = path_to(alloc, book, reached, place)?;
                 let name = name_of(book, key);
                 push_line(
                     out,

@@ -1,12 +1,13 @@
 //! Where a definition holds an AVP.
 
 use crate::graph::allows;
-use dia_book::{Book, DRule, DefId, Slot};
+use dia_book::{Book, DRule, Slot};
+use dia_owners::Owner;
 use dia_wire::Key;
 
 /// By what the AVPs of a key occur in the levels of a definition.
 #[derive(Clone, Copy, PartialEq, Eq)]
-pub(crate) enum By {
+pub enum By {
     /// By the rule that lists the key.
     Rule(DRule),
     /// By the wildcard: no rule lists the key.
@@ -14,19 +15,17 @@ pub(crate) enum By {
 }
 
 /// By what AVPs of the key may occur in levels of a definition, if they may.
-pub(crate) fn by_of<B: Book>(book: &B, def: DefId, key: Key) -> Option<By> {
+pub fn by_of<B: Book>(book: &B, of: Owner, key: Key) -> Option<By> {
+    let def = of.definition(book)?;
+    let rules = &book.def(def).rules;
     let by = match book.slot(def, key) {
-        Slot::Fixed(place) | Slot::Loose(place) => By::Rule(rule_at(book, def, place)?),
+        Slot::Fixed(place) | Slot::Loose(place) => By::Rule(rules.get(place).copied()?),
         Slot::Unlisted => {
             let place = book.def(def).shape.wildcard?;
-            By::Wildcard(rule_at(book, def, place)?)
+            By::Wildcard(rules.get(place).copied()?)
         }
     };
     if allows(by.rule()) { Some(by) } else { None }
-}
-
-fn rule_at<B: Book>(book: &B, def: DefId, place: usize) -> Option<DRule> {
-    book.def(def).rules.get(place).copied()
 }
 
 impl By {

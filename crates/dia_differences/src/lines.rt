@@ -1,11 +1,11 @@
 //! The lines: what differs.
 
 use crate::sides::Side;
-use dia_book::{Book, DefId};
+use dia_owners::Owner;
 
 /// A field of an AVP.
 #[derive(Clone, Copy, PartialEq, Eq)]
-pub(crate) enum AvpField {
+pub enum AvpField {
     Name,
     Code,
     Vendor,
@@ -15,7 +15,7 @@ pub(crate) enum AvpField {
 
 /// A field of a command's header, or its name.
 #[derive(Clone, Copy, PartialEq, Eq)]
-pub(crate) enum HeadField {
+pub enum HeadField {
     Name,
     Code,
     Class,
@@ -23,34 +23,16 @@ pub(crate) enum HeadField {
     Proxiable,
 }
 
-/// What a definition is of: an AVP or a command, by its place.
-#[derive(Clone, Copy, PartialEq, Eq, Hash)]
-pub(crate) enum Of {
-    Avp(usize),
-    Command(usize),
-}
-
-impl Of {
-    /// The definition in a dictionary, if there is one.
-    pub fn definition<D: Book>(self, book: &D) -> Option<DefId> {
-        match self {
-            Of::Avp(index) if index < book.entries() => book.group(book.entry_at(index)),
-            Of::Command(index) if index < book.commands() => Some(book.command_at(index)),
-            _ => None,
-        }
-    }
-}
-
 /// A rule, by its definition and its place there.
 #[derive(Clone, Copy, PartialEq, Eq, Hash)]
-pub(crate) struct RulePlace {
-    pub of: Of,
+pub struct RulePlace {
+    pub of: Owner,
     pub rule: usize,
 }
 
 /// What differs. AVPs and commands are named by their places.
 #[derive(Clone, Copy, PartialEq, Eq)]
-pub(crate) enum What {
+pub enum What {
     /// The dictionary of this side alone has the AVP.
     Avp(Side, usize),
     AvpField {
@@ -76,7 +58,7 @@ pub(crate) enum What {
 
 /// A difference, and whether it breaks messages.
 #[derive(Clone, Copy, PartialEq, Eq)]
-pub(crate) struct Line {
+pub struct Line {
     pub what: What,
     /// Messages of the first side, which the second reads.
     pub there: bool,

@@ -1,5 +1,7 @@
 //! Which AVPs and commands of two dictionaries correspond.
 
+ghost use Rattle.std.specs.Prelude.{◌<◌, length};
+
 use crate::headers::{Selector, selector_of};
 use dia_book::{Book, Entry};
 use std::alloc::{AllocError, Global};
@@ -7,14 +9,14 @@ use std::collections::HashMap;
 
 /// Of each of one dictionary, by its place there, the place of the one of the other that corresponds; and the same the other way.
 #[derive(Drop)]
-pub(crate) struct Pairs {
+pub struct Pairs {
     pub there: Vec<Option<usize>>,
     pub back: Vec<Option<usize>>,
 }
 
 /// The AVPs and commands that correspond: those of one key or selector; and of the others those of one name.
 #[derive(Drop)]
-pub(crate) struct Partners {
+pub struct Partners {
     pub avps: Pairs,
     pub commands: Pairs,
 }
@@ -63,7 +65,9 @@ fn avp_there<A: Book, B: Book>(
     entry: Entry,
     b: &B,
     names: &HashMap<&str, usize>,
-) -> Option<usize> {
+) -> Option<usize>
+    requires { entry < length (A.meaning a.now).entries }
+{
     if let Some(other) = b.avp(a.entry_key(entry)) {
         return Some(other.index());
     }
@@ -108,7 +112,9 @@ fn command_there<A: Book, B: Book>(
     own: &HashMap<Selector, usize>,
     others: &HashMap<Selector, usize>,
     names: &HashMap<&str, usize>,
-) -> Option<usize> {
+) -> Option<usize>
+    requires { index < length (A.meaning a.now).commands }
+{
     let command = a.def(a.command_at(index));
     if let Some(place) = others.get(&selector_of(command.head)) {
         return Some(*place);

@@ -9,7 +9,7 @@ use std::alloc::{AllocError, Global};
 
 /// The lines in their order: the AVPs of the first dictionary in its order, then those that the second alone has; and then the
 /// same of commands. After the lines of an AVP or a command come those of its rules.
-pub(crate) fn lines_of<A: Book, B: Book>(
+pub fn lines_of<A: Book, B: Book>(
     alloc: Global,
     a: &A,
     b: &B,

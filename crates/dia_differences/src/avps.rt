@@ -1,15 +1,18 @@
 //! The lines of AVPs and their rules.
 
-use crate::lines::{AvpField, Line, Of, What};
+ghost use Rattle.std.specs.Prelude.{◌<◌, IfSome, length};
+
+use crate::lines::{AvpField, Line, What};
 use crate::partners::Partners;
 use crate::rules::{push_all_rules, push_rules};
 use crate::sides::Side;
 use dia_book::{Book, Entry, Format};
 use dia_data::format_below;
+use dia_owners::Owner;
 use std::alloc::AllocError;
 
 /// Adds the lines of the AVPs of the first dictionary.
-pub(crate) fn push_avps<A: Book, B: Book>(
+pub fn push_avps<A: Book, B: Book>(
     lines: &mut Vec<Line>,
     a: &A,
     b: &B,
@@ -19,7 +22,7 @@ pub(crate) fn push_avps<A: Book, B: Book>(
         match partner(&partners.avps.there, first, b.entries()) {
             Some(second) => {
                 push_fields(lines, a, first, b, second)?;
-                push_rules(lines, a, Of::Avp(first), b, Of::Avp(second), partners)?;
+                push_rules(lines, a, Owner::Avp(first), b, Owner::Avp(second), partners)?;
             }
             None => push_alone(lines, Side::First, a, first)?,
         }
@@ -28,7 +31,7 @@ pub(crate) fn push_avps<A: Book, B: Book>(
 }
 
 /// Adds the lines of the AVPs that the second dictionary alone has.
-pub(crate) fn push_added_avps<B: Book>(
+pub fn push_added_avps<B: Book>(
     lines: &mut Vec<Line>,
     b: &B,
     partners: &Partners,
@@ -42,7 +45,9 @@ pub(crate) fn push_added_avps<B: Book>(
 }
 
 /// The partner of the one at a place, if it has one below the count.
-pub(crate) fn partner(pairs: &[Option<usize>], index: usize, count: usize) -> Option<usize> {
+pub fn partner(pairs: &[Option<usize>], index: usize, count: usize) -> Option<usize>
+    ensures { IfSome result (λ other. other < count) }
+{
     match pairs.get(index) {
         Some(Some(other)) if *other < count => Some(*other),
         _ => None,
@@ -57,7 +62,7 @@ fn push_alone<D: Book>(
     index: usize,
 ) -> Result<(), AllocError> {
     lines.push(Line::new(What::Avp(side, index)))?;
-    push_all_rules(lines, side, book, Of::Avp(index))
+    push_all_rules(lines, side, book, Owner::Avp(index))
 }
 
 /// Adds a line for each field that differs.
@@ -67,7 +72,10 @@ fn push_fields<A: Book, B: Book>(
     first: usize,
     b: &B,
     second: usize,
-) -> Result<(), AllocError> {
+) -> Result<(), AllocError>
+    requires first { first < length (A.meaning a.now).entries }
+    requires second { second < length (B.meaning b.now).entries }
+{
     let own = a.entry_at(first);
     let other = b.entry_at(second);
     for field in FIELDS {
@@ -91,7 +99,10 @@ const FIELDS: [AvpField; 5] = [
 ];
 
 /// Whether two AVPs have the same field.
-fn is_same<A: Book, B: Book>(a: &A, own: Entry, b: &B, other: Entry, field: AvpField) -> bool {
+fn is_same<A: Book, B: Book>(a: &A, own: Entry, b: &B, other: Entry, field: AvpField) -> bool
+    requires own { own < length (A.meaning a.now).entries }
+    requires other { other < length (B.meaning b.now).entries }
+{
     match field {
         AvpField::Name => a.entry_name(own) == b.entry_name(other),
         AvpField::Code => a.entry_key(own).code == b.entry_key(other).code,

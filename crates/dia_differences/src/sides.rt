@@ -2,7 +2,7 @@
 
 /// One of the two dictionaries.
 #[derive(Clone, Copy, PartialEq, Eq, Hash)]
-pub(crate) enum Side {
+pub enum Side {
     First,
     Second,
 }

@@ -2,15 +2,16 @@
 
 use crate::avps::partner;
 use crate::headers::{pxy_of, selector_of};
-use crate::lines::{HeadField, Line, Of, What};
+use crate::lines::{HeadField, Line, What};
 use crate::partners::Partners;
 use crate::rules::{push_all_rules, push_rules};
 use crate::sides::Side;
 use dia_book::{Book, Definition};
+use dia_owners::Owner;
 use std::alloc::AllocError;
 
 /// Adds the lines of the commands of the first dictionary.
-pub(crate) fn push_commands<A: Book, B: Book>(
+pub fn push_commands<A: Book, B: Book>(
     lines: &mut Vec<Line>,
     a: &A,
     b: &B,
@@ -22,7 +23,7 @@ pub(crate) fn push_commands<A: Book, B: Book>(
                 let own = a.def(a.command_at(first));
                 let other = b.def(b.command_at(second));
                 push_fields(lines, own, first, other, second)?;
-                push_rules(lines, a, Of::Command(first), b, Of::Command(second), partners)?;
+                push_rules(lines, a, Owner::Command(first), b, Owner::Command(second), partners)?;
             }
             None => push_alone(lines, Side::First, a, first)?,
         }
@@ -31,7 +32,7 @@ pub(crate) fn push_commands<A: Book, B: Book>(
 }
 
 /// Adds the lines of the commands that the second dictionary alone has.
-pub(crate) fn push_added_commands<B: Book>(
+pub fn push_added_commands<B: Book>(
     lines: &mut Vec<Line>,
     b: &B,
     partners: &Partners,
@@ -52,7 +53,7 @@ fn push_alone<D: Book>(
     index: usize,
 ) -> Result<(), AllocError> {
     lines.push(Line::new(What::Command(side, index)))?;
-    push_all_rules(lines, side, book, Of::Command(index))
+    push_all_rules(lines, side, book, Owner::Command(index))
 }
 
 /// Adds a line for each field that differs.

@@ -6,7 +6,7 @@ use indexmap::IndexSet;
 use std::alloc::{AllocError, Global};
 
 /// The keys of the AVPs that the words name, or the first word that names none.
-pub(crate) fn asked<'a, B: Book>(
+pub fn asked<'a, B: Book>(
     alloc: Global,
     book: &B,
     words: &'a [String],
@@ -34,8 +34,10 @@ fn names_of<B: Book>(alloc: Global, book: &B) -> Result<IndexSet<&str>, AllocErr
 /// The key that a word names: that of the AVP of this name, or `CODE[:VENDOR]`. No name is a number.
 fn key_of<B: Book>(book: &B, names: &IndexSet<&str>, word: &str) -> Option<Key> {
     match names.get_index_of(&word) {
-        Some(index) => Some(book.entry_key(book.entry_at(index))),
-        None => numbers_of(word),
+        Some(index) if index < book.entries() => {
+            Some(book.entry_key(book.entry_at(index)))
+        }
+        _ => numbers_of(word),
     }
 }
 

@@ -1,40 +1,33 @@
 //! The lines of rules.
 
 use crate::avps::partner;
-use crate::lines::{Line, Of, RulePlace, What};
+use crate::lines::{Line, RulePlace, What};
 use crate::partners::Partners;
 use crate::sides::Side;
 use dia_book::{Book, DRule, RuleKind, Slot};
+use dia_owners::Owner;
 use std::alloc::AllocError;
 
 /// Adds the rules of a definition that one dictionary alone has.
-pub(crate) fn push_all_rules<D: Book>(
+pub fn push_all_rules<D: Book>(
     lines: &mut Vec<Line>,
     side: Side,
     book: &D,
-    of: Of,
+    of: Owner,
 ) -> Result<(), AllocError> {
-    for rule in 0..rules_of(book, of).len() {
+    for rule in 0..of.rules(book).len() {
         lines.push(Line::new(What::Rule(side, RulePlace { of, rule })))?;
     }
     Ok(())
 }
 
-/// The rules of a definition; none where there is no definition.
-pub(crate) fn rules_of<D: Book>(book: &D, of: Of) -> &[DRule] {
-    match of.definition(book) {
-        Some(def) => &book.def(def).rules,
-        None => &[],
-    }
-}
-
 /// Adds the lines of two definitions that correspond: the rules of the first in their order, then those that the second alone has.
-pub(crate) fn push_rules<A: Book, B: Book>(
+pub fn push_rules<A: Book, B: Book>(
     lines: &mut Vec<Line>,
     a: &A,
-    own: Of,
+    own: Owner,
     b: &B,
-    other: Of,
+    other: Owner,
     partners: &Partners,
 ) -> Result<(), AllocError> {
     push_own_rules(lines, a, own, b, other, &partners.avps.there)?;
@@ -45,13 +38,13 @@ pub(crate) fn push_rules<A: Book, B: Book>(
 fn push_own_rules<A: Book, B: Book>(
     lines: &mut Vec<Line>,
     a: &A,
-    own: Of,
+    own: Owner,
     b: &B,
-    other: Of,
+    other: Owner,
     pairs: &[Option<usize>],
 ) -> Result<(), AllocError> {
-    let rules = rules_of(a, own);
-    let others = rules_of(b, other);
+    let rules = own.rules(a);
+    let others = other.rules(b);
     for place in 0..rules.len() {
         let first = RulePlace {
             of: own,
@@ -74,12 +67,12 @@ fn push_own_rules<A: Book, B: Book>(
 fn push_other_rules<A: Book, B: Book>(
     lines: &mut Vec<Line>,
     b: &B,
-    other: Of,
+    other: Owner,
     a: &A,
-    own: Of,
+    own: Owner,
     pairs: &[Option<usize>],
 ) -> Result<(), AllocError> {
-    let rules = rules_of(b, other);
+    let rules = other.rules(b);
     for rule in 0..rules.len() {
         if rule_for(b, rules[rule], a, own, pairs).is_none() {
             let second = RulePlace { of: other, rule };
@@ -94,7 +87,7 @@ fn rule_for<D: Book, E: Book>(
     book: &D,
     rule: DRule,
     other: &E,
-    of: Of,
+    of: Owner,
     pairs: &[Option<usize>],
 ) -> Option<usize> {
     let def = of.definition(other)?;
@@ -107,7 +100,7 @@ fn rule_for<D: Book, E: Book>(
 }
 
 /// The place of a slot's rule.
-pub(crate) fn slot_place(slot: Slot) -> Option<usize> {
+pub fn slot_place(slot: Slot) -> Option<usize> {
     match slot {
         Slot::Fixed(place) | Slot::Loose(place) => Some(place),
         Slot::Unlisted => None,

@@ -1,0 +1,41 @@
+//! Answers as JSON.
+
+pub(super) const ROWS: &str = r#"== nothing; options -; status 0
+%avp X 9001 Unsigned32 any
+--
+%avp X 9001 Unsigned32 any
+--
+{"verdict":"same"}
+== a rule and an AVP; options listed; status 1
+%avp X 9001 Unsigned32 any
+<C> ::= < Diameter Header: 302, REQ > [ X ]
+--
+%avp X 9001 Unsigned32 any
+%avp Y 9002 Unsigned32 any
+<C> ::= < Diameter Header: 302, REQ > { X }
+--
+{"sign":"+","kind":"avp","name":"Y","second":"9002 Unsigned32 any","breaks":[]}
+{"sign":"~","kind":"command","name":"C","field":"rule","first":"[ X ] 0..1","second":"{ X } 1","breaks":["A to B"]}
+== a field, both ways; options listed; status 1
+%avp X 9001 Unsigned32 any
+<C> ::= < Diameter Header: 302, REQ > [ X ]
+--
+%avp X 9001 vendor 5 Unsigned32 any
+<C> ::= < Diameter Header: 302, REQ > [ X ]
+--
+{"sign":"~","kind":"avp","name":"X","field":"vendor","first":"0","second":"5","breaks":["A to B","B to A"]}
+== a command; options listed; status 1
+%avp X 9001 Unsigned32 any
+<D> ::= < Diameter Header: 303, PXY, 9 > 
+--
+%avp X 9001 Unsigned32 any
+--
+{"sign":"-","kind":"command","name":"D","first":"< Diameter Header: 303, PXY, 9 >","breaks":["A to B"]}
+== a dictionary that is refused; options -; status 2
+%avp X 9001 Unsigned32 any
+--
+%avp X 9001 Unsigned32 any
+%avp X 9001 Unsigned32 any
+--
+{"error":"dictionary 2","kind":"duplicate-name","name":"X","slot":null}
+"#;

@@ -1,0 +1,13 @@
+//! Where messages of a dictionary's commands can hold an AVP: the definitions that a command reaches, by what they let the AVP in,
+//! and the path to each.
+#![tactic(auto)]
+
+mod asking;
+mod graph;
+mod paths;
+mod places;
+
+pub use asking::asked;
+pub use graph::{Reached, reached};
+pub use paths::path_to;
+pub use places::{By, by_of};
