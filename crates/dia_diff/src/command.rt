@@ -7,13 +7,11 @@ ghost use Rattle.dia_io.specs.Writing.{AppendsFront};
 ghost use Rattle.dia_run.specs.Texts.{IsDictionaryText};
 ghost use Rattle.dia_diff.specs.Outcome.{IsDiffOutcome, IsDiffText, refused_text, same_text};
 
-use crate::json::push_object;
 use crate::marking::{Traffic, mark};
 use crate::notes::counts_of;
-use crate::parts::parts_of;
 use crate::subjects::Subjects;
-use crate::writing::push_line;
 use dia_book::Book;
+use dia_diff_text::push;
 use dia_differences::{Line, Partners, Side, lines_of};
 use dia_io::{Exit, Input, Inputs, RunFault, Sink, put_all};
 use dia_policy::{Sends, Unknown};
@@ -189,22 +187,6 @@ fn written<A: Book, B: Book>(
         exit: Exit::No,
         report: Report::Done,
     })
-}
-
-fn push<A: Book, B: Book>(
-    alloc: Global,
-    text: &mut String,
-    json: bool,
-    a: &A,
-    b: &B,
-    line: &Line,
-) -> Result<(), AllocError> {
-    let parts = parts_of(alloc, a, b, line)?;
-    if json {
-        push_object(text, &parts)
-    } else {
-        push_line(text, &parts)
-    }
 }
 
 /// The answer where nothing differs.

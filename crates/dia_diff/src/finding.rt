@@ -10,10 +10,10 @@
 use crate::marking::Traffic;
 use crate::origins::Origin;
 use crate::subjects::{Subject, Subjects};
-use dia_differences::{AvpField, HeadField, Line, RulePlace, Side, What, slot_place};
-use dia_owners::Owner;
 use dia_book::Book;
 use dia_breaking_levels::Line as LevelLine;
+use dia_differences::{AvpField, HeadField, Line, RulePlace, Side, What, slot_place};
+use dia_owners::Owner;
 use dia_wire::Key;
 use std::alloc::{AllocError, Global};
 

@@ -3,15 +3,11 @@
 
 mod command;
 mod finding;
-mod json;
 mod marking;
 mod notes;
 mod origins;
-mod parts;
 #[cfg(test)]
 mod rows;
 mod subjects;
-mod words;
-mod writing;
 
 pub use command::{Asked, write_diff};

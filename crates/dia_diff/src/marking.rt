@@ -1,11 +1,14 @@
 //! Which lines break messages: each line of `breaking` comes from the differences that it is about.
 
+ghost use Rattle.std.specs.Prelude.{◌<◌, length};
+ghost use Rattle.dia_breaking.specs.Upgrades.{sides_of};
+
 use crate::finding::places_of;
 use crate::origins::origin_of;
 use crate::subjects::Subjects;
-use dia_differences::{Line, Side};
 use dia_book::Book;
 use dia_breaking::{Breaks, Upgrade};
+use dia_differences::{Line, Side};
 use dia_policy::{Sends, Unknown};
 use std::alloc::{AllocError, Global};
 
@@ -42,21 +45,31 @@ pub(crate) fn mark<A: Book, B: Book>(
     subjects: &Subjects,
     traffic: &Traffic<'_, A, B>,
 ) -> Result<(), AllocError> {
-    let sender = traffic.sender;
     let upgrade = Upgrade::new(
         alloc,
-        sender,
+        traffic.sender,
         traffic.receiver,
         traffic.sends,
         traffic.unknown,
     )?;
-    for index in 0..sender.commands() {
-        // No message is checked: a line counts whatever its standing.
-        let mut left = 0;
-        let breaks = upgrade.breaks(alloc, sender.command_at(index), &mut left)?;
+    for index in 0..upgrade.sender().commands() {
+        let breaks = breaks_of(alloc, &upgrade, index)?;
         mark_breaks(alloc, lines, subjects, traffic, index, &breaks)?;
     }
     Ok(())
+}
+
+/// What breaks a command of the sender. No message is checked: a line counts whatever its standing.
+fn breaks_of<A: Book, B: Book>(
+    alloc: Global,
+    upgrade: &Upgrade<'_, A, B>,
+    index: usize,
+) -> Result<Breaks, AllocError>
+    requires { index < length (sides_of upgrade.now).sender.commands }
+{
+    let mut left = 0;
+    let command = upgrade.sender().command_at(index);
+    upgrade.breaks(alloc, command, &mut left)
 }
 
 /// Marks the lines from which what breaks a command comes.
@@ -79,8 +92,8 @@ fn mark_breaks<A: Book, B: Book>(
 /// Marks these lines; where there is none, all.
 fn mark_all(lines: &mut Vec<Line>, side: Side, places: &[usize]) {
     if places.is_empty() {
-        for place in 0..lines.len() {
-            mark_one(&mut lines[place], side);
+        for line in lines.iter_mut() {
+            mark_one(line, side);
         }
     }
     for place in places {

@@ -1,11 +1,11 @@
 //! What the lines of `breaking` are about.
 
 use crate::marking::Traffic;
-use dia_differences::{AvpField, HeadField};
-use dia_owners::Owner;
 use dia_book::{Book, DefId};
 use dia_breaking::{Breaks, Cause, Line as Breach, Place};
 use dia_breaking_levels::Line as LevelLine;
+use dia_differences::{AvpField, HeadField};
+use dia_owners::Owner;
 use dia_wire::Key;
 
 /// What a line of `breaking` is about.

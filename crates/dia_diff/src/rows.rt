@@ -15,12 +15,30 @@ use dia_policy::{Sends, Unknown};
 use std::alloc::Global;
 use std::process::Abort;
 
+mod avps;
+mod commands;
 mod objects;
-mod words;
+mod others;
+mod rules;
 
 #[test]
-fn answers_in_words(rt: HostRuntime) {
-    answers(&rt, words::ROWS, false);
+fn avps_differ(rt: HostRuntime) {
+    answers(&rt, avps::ROWS, false);
+}
+
+#[test]
+fn rules_differ(rt: HostRuntime) {
+    answers(&rt, rules::ROWS, false);
+}
+
+#[test]
+fn commands_differ(rt: HostRuntime) {
+    answers(&rt, commands::ROWS, false);
+}
+
+#[test]
+fn nothing_differs_or_a_text_is_refused(rt: HostRuntime) {
+    answers(&rt, others::ROWS, false);
 }
 
 #[test]

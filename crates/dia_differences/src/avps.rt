@@ -114,5 +114,13 @@ fn is_same<A: Book, B: Book>(a: &A, own: Entry, b: &B, other: Entry, field: AvpF
 
 /// Whether two formats have one name, and the same numbers in their lists.
 fn is_same_format(own: &Format, other: &Format) -> bool {
-    own.name() == other.name() && format_below(own, other) && format_below(other, own)
+    own.name() == other.name() && is_same_list(own, other)
+}
+
+/// Whether two formats of one name have the same numbers in their lists. Only that of an Enumerated has a list.
+fn is_same_list(own: &Format, other: &Format) -> bool {
+    match own {
+        Format::Enumerated(_) => format_below(own, other) && format_below(other, own),
+        _ => true,
+    }
 }

@@ -23,14 +23,14 @@ pub struct Partners {
 
 impl Partners {
     pub fn new<A: Book, B: Book>(alloc: Global, a: &A, b: &B) -> Result<Self, AllocError> {
-        let avps = pairs(alloc, avps_there(alloc, a, b)?, b.entries())?;
-        let commands = pairs(alloc, commands_there(alloc, a, b)?, b.commands())?;
+        let avps = both_ways(alloc, avps_there(alloc, a, b)?, b.entries())?;
+        let commands = both_ways(alloc, commands_there(alloc, a, b)?, b.commands())?;
         Ok(Partners { avps, commands })
     }
 }
 
 /// The same pairs both ways.
-fn pairs(alloc: Global, there: Vec<Option<usize>>, count: usize) -> Result<Pairs, AllocError> {
+fn both_ways(alloc: Global, there: Vec<Option<usize>>, count: usize) -> Result<Pairs, AllocError> {
     let mut back = Vec::with_capacity(alloc, count)?;
     for _ in 0..count {
         back.push(None)?;

@@ -19,7 +19,7 @@ pub struct Reached {
 /// The definitions that a command reaches by rules whose greatest count isn't 0, each with the definition before it on a shortest
 /// path. Those with the shortest path come first, and of one length those that come first in the dictionary: groups in the order of
 /// their AVPs, and then commands. Of several shortest paths it is the one whose last group is in the first definition in this order.
-pub fn reached<B: Book>(alloc: Global, book: &B) -> Result<Vec<Reached>, AllocError> {
+pub fn all_reached<B: Book>(alloc: Global, book: &B) -> Result<Vec<Reached>, AllocError> {
     let owners = owners_of(alloc, book)?;
     let nodes = nodes_of(alloc, book, &owners)?;
     let start = start_of(alloc, book)?;

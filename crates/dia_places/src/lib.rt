@@ -8,6 +8,6 @@ mod paths;
 mod places;
 
 pub use asking::asked;
-pub use graph::{Reached, reached};
+pub use graph::{Reached, all_reached};
 pub use paths::path_to;
 pub use places::{By, by_of};

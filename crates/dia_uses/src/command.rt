@@ -11,7 +11,7 @@ use crate::notes::{Tally, notes_of};
 use crate::writing::push_lines;
 use dia_book::Book;
 use dia_io::{Exit, Input, Inputs, RunFault, Sink, put_all};
-use dia_places::{asked, reached};
+use dia_places::{all_reached, asked};
 use dia_refused_json::{bad_input_line, quoted};
 use dia_report::{Answered, BadInput, Refused, Report, Reported};
 use dia_run::read_dictionary;
@@ -108,7 +108,7 @@ fn uses<B: Book>(
 ) -> Result<Answered, AllocError>
     ensures { IfOk result (λ a. IsUsesText json a.exit (string_bytes a.text)) }
 {
-    let reached = reached(alloc, book)?;
+    let reached = all_reached(alloc, book)?;
     let mut text = String::new(alloc);
     let mut tallies = Vec::new(alloc);
     for key in keys {

@@ -1,7 +1,8 @@
 //! The lines of an AVP.
 
 use crate::json::push_object;
-use dia_book::{Book, DRule, RuleKind};
+use dia_book::{Book, RuleKind};
+use dia_owners::push_counts;
 use dia_places::{By, Reached, by_of, path_to};
 use dia_wire::Key;
 use std::alloc::{AllocError, Global};
@@ -140,15 +141,5 @@ fn wildcard_words(kind: RuleKind) -> &'static str {
         RuleKind::Fixed => " by < AVP >",
         RuleKind::Required => " by { AVP }",
         RuleKind::Optional => " by [ AVP ]",
-    }
-}
-
-/// Adds the counts of a rule, as `3`, `0..1` or `1..*`.
-fn push_counts(out: &mut String, rule: DRule) -> Result<(), AllocError> {
-    let min = rule.min;
-    match rule.max {
-        None => write!(out, "{min}..*"),
-        Some(max) if max == min => write!(out, "{min}"),
-        Some(max) => write!(out, "{min}..{max}"),
     }
 }

@@ -1,8 +1,11 @@
 //! The words of AVPs, headers and rules.
 
-use dia_differences::{AvpField, HeadField, RulePlace, pxy_of, selector_of};
+ghost use Rattle.std.specs.Prelude.{◌<◌, length};
+ghost use Rattle.dia_book.specs.Dictionary.{definitions};
+
 use dia_book::{Book, Class, DRule, DefHead, DefId, Entry, Format, RuleKind};
-use dia_breaking::Amount;
+use dia_differences::{AvpField, HeadField, RulePlace, pxy_of, selector_of};
+use dia_owners::push_counts;
 use dia_terms::Pxy;
 use std::alloc::AllocError;
 
@@ -11,7 +14,9 @@ pub(crate) fn push_declaration<D: Book>(
     out: &mut String,
     book: &D,
     entry: Entry,
-) -> Result<(), AllocError> {
+) -> Result<(), AllocError>
+    requires { entry < length (D.meaning book.now).entries }
+{
     let key = book.entry_key(entry);
     let code = key.code;
     write!(out, "{code} ")?;
@@ -32,7 +37,9 @@ pub(crate) fn push_avp_field<D: Book>(
     book: &D,
     entry: Entry,
     field: AvpField,
-) -> Result<(), AllocError> {
+) -> Result<(), AllocError>
+    requires { entry < length (D.meaning book.now).entries }
+{
     match field {
         AvpField::Name => out.push_str(book.entry_name(entry)),
         AvpField::Code => push_number(out, book.entry_key(entry).code),
@@ -114,7 +121,9 @@ pub(crate) fn push_head_field<D: Book>(
     book: &D,
     def: DefId,
     field: HeadField,
-) -> Result<(), AllocError> {
+) -> Result<(), AllocError>
+    requires { def < length (definitions (D.meaning book.now)) }
+{
     let definition = book.def(def);
     let (code, class, app) = selector_of(definition.head);
     match field {
@@ -161,8 +170,7 @@ pub(crate) fn push_rule<D: Book>(
     let (open, close) = brackets(rule.kind);
     let name = rule_name(book, rule);
     write!(out, "{open} {name} {close} ")?;
-    let DRule { min, max, .. } = rule;
-    Amount::Counts { min, max }.push(out)?;
+    push_counts(out, rule)?;
     if rule.kind == RuleKind::Fixed {
         let number = place.rule.saturating_add(1);
         write!(out, " at {number}")?;

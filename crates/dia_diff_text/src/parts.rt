@@ -1,9 +1,9 @@
 //! What a line says, in its parts.
 
 use crate::words::{push_avp_field, push_declaration, push_head_field, push_header, push_rule};
+use dia_book::Book;
 use dia_differences::{AvpField, HeadField, Line, Side, What};
 use dia_owners::Owner;
-use dia_book::Book;
 use std::alloc::{AllocError, Global};
 
 /// What a line says.

@@ -1,0 +1,69 @@
+//! Rules that differ.
+
+pub(super) const ROWS: &str = r#"== a rule that is added, and one that is removed; options listed; status 1
+%avp X 9001 Unsigned32 any
+%avp Y 9002 Unsigned32 any
+<C> ::= < Diameter Header: 302, REQ > [ X ]
+--
+%avp X 9001 Unsigned32 any
+%avp Y 9002 Unsigned32 any
+<C> ::= < Diameter Header: 302, REQ > [ Y ]
+--
+- command C: [ X ] 0..1; breaks A to B
++ command C: [ Y ] 0..1; breaks B to A
+== greater counts break the other way; options listed; status 1
+%avp X 9001 Unsigned32 any
+<C> ::= < Diameter Header: 302, REQ > [ X ]
+--
+%avp X 9001 Unsigned32 any
+<C> ::= < Diameter Header: 302, REQ > * [ X ]
+--
+~ command C: [ X ] 0..1 -> [ X ] 0..*; breaks B to A
+== brackets; options listed; status 1
+%avp X 9001 Unsigned32 any
+<C> ::= < Diameter Header: 302, REQ > [ X ]
+--
+%avp X 9001 Unsigned32 any
+<C> ::= < Diameter Header: 302, REQ > { X }
+--
+~ command C: [ X ] 0..1 -> { X } 1; breaks A to B
+== the order of fixed rules; options listed; status 1
+%avp X 9001 Unsigned32 any
+%avp Y 9002 Unsigned32 any
+<C> ::= < Diameter Header: 302, REQ > < X > < Y >
+--
+%avp X 9001 Unsigned32 any
+%avp Y 9002 Unsigned32 any
+<C> ::= < Diameter Header: 302, REQ > < Y > < X >
+--
+~ command C: < X > 1 at 1 -> < X > 1 at 2; breaks A to B, breaks B to A
+~ command C: < Y > 1 at 2 -> < Y > 1 at 1; breaks A to B, breaks B to A
+== a rule of a group; options listed; status 1
+%avp X 9001 Unsigned32 any
+%avp G 9003 Grouped must
+<G> ::= < AVP Header: 9003 > 1* { X }
+<C> ::= < Diameter Header: 302, REQ > [ G ]
+--
+%avp X 9001 Unsigned32 any
+%avp G 9003 Grouped must
+<G> ::= < AVP Header: 9003 > { X }
+<C> ::= < Diameter Header: 302, REQ > [ G ]
+--
+~ AVP G: { X } 1..* -> { X } 1; breaks A to B
+== a wildcard that is removed; options -; status 1
+%avp X 9001 Unsigned32 any
+<C> ::= < Diameter Header: 302, REQ > [ X ] * [ AVP ]
+--
+%avp X 9001 Unsigned32 any
+<C> ::= < Diameter Header: 302, REQ > [ X ]
+--
+- command C: [ AVP ] 0..*; breaks A to B
+== the same, where no AVP comes by it; options listed; status 1
+%avp X 9001 Unsigned32 any
+<C> ::= < Diameter Header: 302, REQ > [ X ] * [ AVP ]
+--
+%avp X 9001 Unsigned32 any
+<C> ::= < Diameter Header: 302, REQ > [ X ]
+--
+- command C: [ AVP ] 0..*
+"#;
