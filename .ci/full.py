@@ -36,6 +36,18 @@ COMMANDS = """
 + compare wide.txt narrow.txt table.txt
 + refute open.txt other.txt unlike.hex
 + refute --lines open.txt other.txt unlike.hex
++ mask @base request.hex
++ uses @base Session-Id
++ uses @base 9
++ diff narrow.txt wide.txt
++ diff @base @base
++ lint narrow.txt
++ examples narrow.txt
+  examples --text narrow.txt
+  follow connection.txt
+  follow --json connection.txt
+  answer @base broken.hex
+  check --all @base broken.hex
   --help
   --version
   breaking --help
@@ -49,6 +61,7 @@ def full(room):
     """Each command reports that standard output is full, whatever it has to say, and ends with 3."""
     room.write("words.txt", WORDS)
     room.write("known.txt", KNOWN)
+    room.write("connection.txt", f"> {REQUEST}\n")
     if not os.access("/dev/full", os.W_OK):
         print("skipped: commands over /dev/full, since it isn't there")
         return

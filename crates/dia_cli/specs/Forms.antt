@@ -5,15 +5,15 @@ use Rattle.std.specs.Str.{bytes_eq}
 use Rattle.clap.specs.Walk.{Row, Text, all_of, first_of}
 use Rattle.dia_io.specs.declared.Command.TheVariants as command
 use Rattle.dia_cli.specs.declared.task.Task.{Task}
-use Rattle.dia_cli.specs.declared.task.Task.TheVariants.{Whole, Make, ShowText, ShowNamed, ShowLines, Breaking, CheckLines, RefuteLines, CheckStream, CheckAll, Answer, Follow}
+use Rattle.dia_cli.specs.declared.task.Task.TheVariants.{Whole, Make, ShowText, ShowNamed, ShowLines, Breaking, CheckLines, RefuteLines, CheckStream, CheckAll, Answer, Follow, Mask, Uses, Diff, Lint, Examples}
 use Rattle.dia_policy.specs.declared.Levels.{Levels}
 use Rattle.dia_policy.specs.declared.Sends.{Sends}
 use Rattle.dia_policy.specs.declared.Unknown.{Unknown}
 use Rattle.dia_cli.specs.InputWords.{AreNamed, InputTexts, one_text, pair_texts}
 use Rattle.dia_cli.specs.Origins.{reads_twice}
-use Rattle.dia_cli.specs.Rows.{CommandRow, answer_row, breaking_row, check_row, compare_row, follow_row, make_row, propose_row, refute_row, render_row, show_row}
+use Rattle.dia_cli.specs.Rows.{CommandRow, answer_row, breaking_row, check_row, compare_row, diff_row, examples_row, follow_row, lint_row, make_row, mask_row, propose_row, refute_row, render_row, show_row, uses_row}
 use Rattle.dia_cli.specs.Slots.{Slot, choice, flag, is_given_slot, is_plain_slot, number, pair_slots, sender_given, text, unknown_slot, word, words, words_of_slots}
-use Rattle.dia_cli.specs.Words.{AreJudged, IsFlag, IsLimitOf, IsPolicy, apart_in, has_pair, has_policy, has_word, is_flag, is_given, is_judged, is_sender, sends_word}
+use Rattle.dia_cli.specs.Words.{AreJudged, IsFlag, IsLimitOf, IsPolicy, apart_in, has_pair, has_policy, has_word, is_flag, is_given, is_judged, is_sender, masked_apart_in, sends_word}
 use Rattle.dia_cli.specs.declared.ending.Ending.{Ending}
 use Rattle.dia_cli.specs.declared.ending.Ending.TheVariants as ending
 use Rattle.dia_cli.specs.declared.request.Request.{Request}
@@ -31,10 +31,22 @@ pub data Recording : Type 0 where
   as_json : Bool → Bool → Option Text → Recording
   as_listing : Bool → Bool → Option Text → Recording
 
+-- which AVPs `mask` replaces: the words of `--keep` and `--mask`, or that of `--only`
+pub data Masked : Type 0 where
+  masked : Option Text → Option Text → Masked
+  masked_only : Text → Masked
+
+-- how `examples` writes its vectors: in columns, as texts, or as JSON
+pub data Layout : Type 0 where
+  in_columns : Layout
+  in_texts : Layout
+  in_objects : Layout
+
 -- a command with its options and the words of its inputs. `--levels`, `--dict`, `--values` and `--accepted` are their words; `check`, `compare`
--- and `propose` have `--json`, `refute` has `--lines` and `--json`, and `breaking` has `--json`, `--messages`, `--once`, `--meaning` and
--- `--stale-allowed`, or not; `answer` has the words of `--levels`, `--host` and `--realm`, and `follow` has `--json`, `--middle` and
--- `--check`, or not, and the words of `--levels` and `--dict`
+-- and `propose` have `--json`, `refute` has `--lines` and `--json`, and `breaking` has `--json`, `--messages`, `--once`, `--meaning`,
+-- `--stale-allowed` and `--explain`, or not; `answer` has the words of `--levels`, `--host` and `--realm`, and `follow` has `--json`, `--middle` and
+-- `--check`, or not, and the words of `--levels` and `--dict`; `mask`, `uses`, `diff` and `lint` have `--json`, or not, and `lint` the words
+-- of `--only`, `--except` and `--accepted`
 pub data Form : Type 0 where
   show : Recording → Option Text → Text → Form
   make : Option Text → Text → Form
@@ -43,9 +55,14 @@ pub data Form : Type 0 where
   compare : Bool → Unknown → Text → Text → Text → Form
   refute : Bool → Bool → Unknown → Option Text → Text → Text → Text → Form
   propose : Bool → Unknown → Text → Text → Text → List Text → Form
-  breaking : Bool → Sends → Unknown → Bool → Bool → Bool → Bool → Option Text → Text → Text → List Text → Form
+  breaking : Bool → Sends → Unknown → Bool → Bool → Bool → Bool → Bool → Option Text → Text → Text → List Text → Form
   answer : Unknown → Option Text → Option Text → Option Text → Text → Text → Form
   follow : Bool → Bool → Bool → Unknown → Option Text → Option Text → Text → Form
+  mask : Masked → Bool → Text → Text → Form
+  uses : Bool → Text → Text → List Text → Form
+  diff : Bool → Sends → Unknown → Text → Text → Form
+  lint : Bool → Unknown → Option Text → Option Text → Option Text → Text → Form
+  examples : Layout → Unknown → Text → List Text → Form
 
 -- its row
 abbrev pub form_row : Form → CommandRow
@@ -56,9 +73,14 @@ form_row (render dictionary) = render_row
 form_row (compare json unknown first second table) = compare_row
 form_row (refute many json unknown levels first second message) = refute_row
 form_row (propose json unknown first second name names) = propose_row
-form_row (breaking json sends unknown messages once meaning allowed accepted first second names) = breaking_row
+form_row (breaking json sends unknown messages once meaning allowed explained accepted first second names) = breaking_row
 form_row (answer unknown levels host realm dictionary message) = answer_row
 form_row (follow json middle judged unknown levels dictionary connection) = follow_row
+form_row (mask avps json dictionary messages) = mask_row
+form_row (uses json dictionary avp avps) = uses_row
+form_row (diff json sends unknown first second) = diff_row
+form_row (lint json unknown only except accepted dictionary) = lint_row
+form_row (examples layout unknown dictionary names) = examples_row
 
 abbrev pub form_name : Form → Text
 form_name form = (form_row form).name
@@ -103,6 +125,26 @@ has_lines (as_json many names values) = many
 has_lines (as_listing many names values) = many
 has_lines recording = false
 
+abbrev pub keep_given : Masked → Option Text
+keep_given (masked keep mask) = keep
+keep_given (masked_only only) = None
+
+abbrev pub mask_given : Masked → Option Text
+mask_given (masked keep mask) = mask
+mask_given (masked_only only) = None
+
+abbrev pub only_given : Masked → Option Text
+only_given (masked keep mask) = None
+only_given (masked_only only) = Some only
+
+abbrev pub is_texts : Layout → Bool
+is_texts in_texts = true
+is_texts layout = false
+
+abbrev pub is_objects : Layout → Bool
+is_objects in_objects = true
+is_objects layout = false
+
 abbrev pub form_options : Form → List Slot
 form_options (show recording dictionary message) =
     text (codes "dict") dictionary ∷ flag (codes "as-text") (is_text recording) ∷ flag (codes "names") (has_names recording)
@@ -116,15 +158,26 @@ form_options (compare json unknown first second table) = unknown_slot unknown �
 form_options (refute many json unknown levels first second message) =
     unknown_slot unknown ∷ flag (codes "lines") many ∷ flag (codes "json") json ∷ number (codes "levels") levels ∷ []
 form_options (propose json unknown first second name names) = unknown_slot unknown ∷ flag (codes "json") json ∷ []
-form_options (breaking json sends unknown messages once meaning allowed accepted first second names) =
+form_options (breaking json sends unknown messages once meaning allowed explained accepted first second names) =
     unknown_slot unknown ∷ choice (codes "sends") (sender_given sends) ∷ flag (codes "messages") messages
-    ∷ flag (codes "once") once ∷ flag (codes "meaning") meaning ∷ flag (codes "stale-allowed") allowed ∷ flag (codes "json") json
+    ∷ flag (codes "once") once ∷ flag (codes "meaning") meaning ∷ flag (codes "stale-allowed") allowed ∷ flag (codes "explain") explained ∷ flag (codes "json") json
     ∷ text (codes "accepted") accepted ∷ []
 form_options (answer unknown levels host realm dictionary message) =
     unknown_slot unknown ∷ text (codes "host") host ∷ text (codes "realm") realm ∷ number (codes "levels") levels ∷ []
 form_options (follow json middle judged unknown levels dictionary connection) =
     text (codes "dict") dictionary ∷ flag (codes "middle") middle ∷ flag (codes "check") judged ∷ unknown_slot unknown
     ∷ flag (codes "json") json ∷ number (codes "levels") levels ∷ []
+form_options (mask avps json dictionary messages) =
+    text (codes "keep") (keep_given avps) ∷ text (codes "mask") (mask_given avps) ∷ text (codes "only") (only_given avps)
+    ∷ flag (codes "json") json ∷ []
+form_options (uses json dictionary avp avps) = flag (codes "json") json ∷ []
+form_options (diff json sends unknown first second) =
+    unknown_slot unknown ∷ choice (codes "sends") (sender_given sends) ∷ flag (codes "json") json ∷ []
+form_options (lint json unknown only except accepted dictionary) =
+    unknown_slot unknown ∷ text (codes "only") only ∷ text (codes "except") except ∷ text (codes "accepted") accepted
+    ∷ flag (codes "json") json ∷ []
+form_options (examples layout unknown dictionary names) =
+    unknown_slot unknown ∷ flag (codes "text") (is_texts layout) ∷ flag (codes "json") (is_objects layout) ∷ []
 
 abbrev pub form_inputs : Form → List Slot
 form_inputs (show recording dictionary message) = word (codes "MESSAGE") message ∷ []
@@ -134,9 +187,14 @@ form_inputs (render dictionary) = word (codes "D") dictionary ∷ []
 form_inputs (compare json unknown first second table) = pair_slots first second (word (codes "TABLE") table)
 form_inputs (refute many json unknown levels first second message) = pair_slots first second (word (codes "MESSAGE") message)
 form_inputs (propose json unknown first second name names) = pair_slots first second (words (codes "COMMAND") (name ∷ names))
-form_inputs (breaking json sends unknown messages once meaning allowed accepted first second names) = pair_slots first second (words (codes "COMMAND") names)
+form_inputs (breaking json sends unknown messages once meaning allowed explained accepted first second names) = pair_slots first second (words (codes "COMMAND") names)
 form_inputs (answer unknown levels host realm dictionary message) = word (codes "D") dictionary ∷ word (codes "MESSAGE") message ∷ []
 form_inputs (follow json middle judged unknown levels dictionary connection) = word (codes "CONNECTION") connection ∷ []
+form_inputs (mask avps json dictionary messages) = word (codes "D") dictionary ∷ word (codes "MESSAGES") messages ∷ []
+form_inputs (uses json dictionary avp avps) = word (codes "D") dictionary ∷ words (codes "AVP") (avp ∷ avps) ∷ []
+form_inputs (diff json sends unknown first second) = word (codes "A") first ∷ word (codes "B") second ∷ []
+form_inputs (lint json unknown only except accepted dictionary) = word (codes "D") dictionary ∷ []
+form_inputs (examples layout unknown dictionary names) = word (codes "D") dictionary ∷ words (codes "COMMAND") names ∷ []
 
 -- ---- its task, and the words of its inputs
 
@@ -166,14 +224,24 @@ IsTaskOfForm (refute true json unknown levels first second messages) (RefuteLine
     (policy ≡ unknown) × IsLimitOf levels limit
 IsTaskOfForm (propose json unknown first second name names) (Whole (command.Propose policy commands)) =
     (policy ≡ unknown) × (map string_bytes commands.items ≡ name ∷ names)
-IsTaskOfForm (breaking json sends unknown messages once meaning allowed accepted first second names) (Breaking asked) =
+IsTaskOfForm (breaking json sends unknown messages once meaning allowed explained accepted first second names) (Breaking asked) =
     (asked.sends ≡ sends) × (asked.unknown ≡ unknown) × (asked.messages ≡ messages) × (asked.once ≡ once) × (asked.meaning ≡ meaning)
-    × (asked.stale_allowed ≡ allowed) × (map string_bytes asked.names.items ≡ names)
+    × (asked.stale_allowed ≡ allowed) × (asked.explain ≡ explained) × (map string_bytes asked.names.items ≡ names)
 IsTaskOfForm (answer unknown levels host realm dictionary message) (Answer asked) =
     (asked.unknown ≡ unknown) × IsLimitOf levels asked.levels × (string_bytes asked.host ≡ unwrap_or host (codes "host.invalid"))
     × (string_bytes asked.realm ≡ unwrap_or realm (codes "invalid"))
 IsTaskOfForm (follow json middle judged unknown levels dictionary connection) (Follow asked) =
     (asked.middle ≡ middle) × (asked.check ≡ judged) × (asked.unknown ≡ unknown) × IsLimitOf levels asked.levels
+IsTaskOfForm (mask avps json dictionary messages) (Mask asked) =
+    (string_bytes asked.keep ≡ unwrap_or (keep_given avps) (codes "@none")) × (string_bytes asked.mask ≡ unwrap_or (mask_given avps) (codes "@none"))
+    × (string_bytes asked.only ≡ unwrap_or (only_given avps) (codes "@none"))
+IsTaskOfForm (uses json dictionary avp avps) (Uses named) = map string_bytes named.items ≡ avp ∷ avps
+IsTaskOfForm (diff json sends unknown first second) (Diff sender policy) = (sender ≡ sends) × (policy ≡ unknown)
+IsTaskOfForm (lint json unknown only except accepted dictionary) (Lint asked) =
+    (asked.unknown ≡ unknown) × (string_bytes asked.only ≡ unwrap_or only (codes "exact,guidelines"))
+    × (string_bytes asked.except ≡ unwrap_or except (codes "@none"))
+IsTaskOfForm (examples layout unknown dictionary names) (Examples asked) =
+    (asked.unknown ≡ unknown) × (asked.text ≡ is_texts layout) × (map string_bytes asked.names.items ≡ names)
 IsTaskOfForm form task = ⊥
 
 -- the words of its inputs
@@ -196,11 +264,17 @@ form_words (compare json unknown first second table) = record (pair_texts first 
 form_words (refute false json unknown levels first second message) = record (pair_texts first second) { message = Some message }
 form_words (refute true json unknown levels first second messages) = record (pair_texts first second) { messages = Some messages }
 form_words (propose json unknown first second name names) = pair_texts first second
-form_words (breaking json sends unknown messages once meaning allowed accepted first second names) =
+form_words (breaking json sends unknown messages once meaning allowed explained accepted first second names) =
     record (pair_texts first second) { table = Some (unwrap_or accepted (codes "@none")) }
 form_words (answer unknown levels host realm dictionary message) = record (one_text dictionary) { message = Some message }
 form_words (follow json middle judged unknown levels dictionary connection) =
     record (one_text (unwrap_or dictionary (codes "@base"))) { messages = Some connection }
+form_words (mask avps json dictionary messages) = record (one_text dictionary) { messages = Some messages }
+form_words (uses json dictionary avp avps) = one_text dictionary
+form_words (diff json sends unknown first second) = pair_texts first second
+form_words (lint json unknown only except accepted dictionary) =
+    record (one_text dictionary) { table = Some (unwrap_or accepted (codes "@none")) }
+form_words (examples layout unknown dictionary names) = one_text dictionary
 
 -- ---- what is found of a task
 
@@ -223,6 +297,11 @@ task_name (Breaking asked) = codes "breaking"
 task_name (CheckAll unknown levels) = codes "check"
 task_name (Answer asked) = codes "answer"
 task_name (Follow asked) = codes "follow"
+task_name (Mask asked) = codes "mask"
+task_name (Uses avps) = codes "uses"
+task_name (Diff sends unknown) = codes "diff"
+task_name (Lint asked) = codes "lint"
+task_name (Examples asked) = codes "examples"
 
 -- `check` with `--lines`, `--stream` and `--all`, or without them
 abbrev pub IsCheck : (lines stream all : Bool) → Unknown → Levels → List Row → Type 0
@@ -259,12 +338,25 @@ HasOptionsOf (Whole (command.Propose unknown names)) rows =
 HasOptionsOf (Breaking asked) rows =
     IsPolicy asked.unknown rows × (first_of (codes "sends") rows ≡ Some (sends_word asked.sends)) × IsFlag (codes "messages") asked.messages rows
     × IsFlag (codes "once") asked.once rows × IsFlag (codes "meaning") asked.meaning rows
-    × IsFlag (codes "stale-allowed") asked.stale_allowed rows × (unwrap_or (all_of (codes "COMMAND") rows) [] ≡ map string_bytes asked.names.items)
+    × IsFlag (codes "stale-allowed") asked.stale_allowed rows × IsFlag (codes "explain") asked.explain rows
+    × (unwrap_or (all_of (codes "COMMAND") rows) [] ≡ map string_bytes asked.names.items)
 HasOptionsOf (Answer asked) rows =
     AreJudged asked.unknown asked.levels rows × (first_of (codes "host") rows ≡ Some (string_bytes asked.host))
     × (first_of (codes "realm") rows ≡ Some (string_bytes asked.realm))
 HasOptionsOf (Follow asked) rows =
     AreJudged asked.unknown asked.levels rows × IsFlag (codes "middle") asked.middle rows × IsFlag (codes "check") asked.check rows
+HasOptionsOf (Mask asked) rows =
+    (first_of (codes "keep") rows ≡ Some (string_bytes asked.keep)) × (first_of (codes "mask") rows ≡ Some (string_bytes asked.mask))
+    × (first_of (codes "only") rows ≡ Some (string_bytes asked.only)) × (masked_apart_in rows ≡ None)
+HasOptionsOf (Uses avps) rows = all_of (codes "AVP") rows ≡ Some (map string_bytes avps.items)
+HasOptionsOf (Diff sends unknown) rows = IsPolicy unknown rows × (first_of (codes "sends") rows ≡ Some (sends_word sends))
+HasOptionsOf (Lint asked) rows =
+    IsPolicy asked.unknown rows × (first_of (codes "only") rows ≡ Some (string_bytes asked.only))
+    × (first_of (codes "except") rows ≡ Some (string_bytes asked.except))
+HasOptionsOf (Examples asked) rows =
+    IsPolicy asked.unknown rows × IsFlag (codes "text") asked.text rows
+    × (unwrap_or (all_of (codes "COMMAND") rows) [] ≡ map string_bytes asked.names.items)
+    × ((asked.text && is_given (first_of (codes "json") rows)) ≡ false)
 
 -- the task that was found: the name of its command, and its options
 abbrev pub IsTaskOf : Task → Text × List Row → Type 0
@@ -293,6 +385,11 @@ arguments_of (Breaking asked) =
     record (pair_texts (codes "A") (codes "B")) { table = Some (codes "accepted") }
 arguments_of (Answer asked) = record (one_text (codes "D")) { message = Some (codes "MESSAGE") }
 arguments_of (Follow asked) = record (one_text (codes "dict")) { messages = Some (codes "CONNECTION") }
+arguments_of (Mask asked) = record (one_text (codes "D")) { messages = Some (codes "MESSAGES") }
+arguments_of (Uses avps) = one_text (codes "D")
+arguments_of (Diff sends unknown) = pair_texts (codes "A") (codes "B")
+arguments_of (Lint asked) = record (one_text (codes "D")) { table = Some (codes "accepted") }
+arguments_of (Examples asked) = one_text (codes "D")
 
 -- ---- the arguments that a command has
 
@@ -328,14 +425,32 @@ has_refuted rows = is_judged rows && (has_pair rows
 abbrev pub has_proposed : List Row → Bool
 has_proposed rows = has_policy rows && (has_pair rows && is_some (all_of (codes "COMMAND") rows))
 
--- `--messages`, `--once`, `--meaning` and `--stale-allowed`, given or not
+-- `--messages`, `--once`, `--meaning`, `--stale-allowed` and `--explain`, given or not
 abbrev pub has_flags : List Row → Bool
 has_flags rows = is_flag (first_of (codes "messages") rows)
-    && (is_flag (first_of (codes "once") rows) && (is_flag (first_of (codes "meaning") rows) && is_flag (first_of (codes "stale-allowed") rows)))
+    && (is_flag (first_of (codes "once") rows) && (is_flag (first_of (codes "meaning") rows) && (is_flag (first_of (codes "stale-allowed") rows)
+    && is_flag (first_of (codes "explain") rows))))
 
 abbrev pub has_listed : List Row → Bool
 has_listed rows = has_policy rows && (has_pair rows
     && (is_sender (first_of (codes "sends") rows) && (has_flags rows && has_word (codes "accepted") rows)))
+
+abbrev pub has_masked : List Row → Bool
+has_masked rows = has_word (codes "D") rows && (has_word (codes "MESSAGES") rows && (has_word (codes "keep") rows
+    && (has_word (codes "mask") rows && has_word (codes "only") rows)))
+
+abbrev pub has_used : List Row → Bool
+has_used rows = has_word (codes "D") rows && is_some (all_of (codes "AVP") rows)
+
+abbrev pub has_differed : List Row → Bool
+has_differed rows = has_policy rows && (has_pair rows && is_sender (first_of (codes "sends") rows))
+
+abbrev pub has_linted : List Row → Bool
+has_linted rows = has_policy rows && (has_word (codes "D") rows && (has_word (codes "accepted") rows
+    && (has_word (codes "only") rows && has_word (codes "except") rows)))
+
+abbrev pub has_sampled : List Row → Bool
+has_sampled rows = has_policy rows && (has_word (codes "D") rows && is_flag (first_of (codes "text") rows))
 
 -- the arguments that the subcommand of this name has
 abbrev pub has_arguments : Text → List Row → Bool
@@ -350,7 +465,12 @@ has_arguments name rows =
     else (if bytes_eq name (codes "breaking") then has_listed rows
     else (if bytes_eq name (codes "answer") then has_answered rows
     else (if bytes_eq name (codes "follow") then has_followed rows
-    else false)))))))))
+    else (if bytes_eq name (codes "mask") then has_masked rows
+    else (if bytes_eq name (codes "uses") then has_used rows
+    else (if bytes_eq name (codes "diff") then has_differed rows
+    else (if bytes_eq name (codes "lint") then has_linted rows
+    else (if bytes_eq name (codes "examples") then has_sampled rows
+    else false))))))))))))))
 
 -- ---- what the words of a form ask for
 

@@ -7,7 +7,7 @@ ghost use Rattle.clap.specs.Words.{app_of, found_of, first_of, rows_of, subcomma
 ghost use Rattle.dia_cli.specs.Asking.{IsRefused, IsUnasked, IsUnrun, IsWanting};
 ghost use Rattle.dia_cli.specs.Forms.{has_judged};
 ghost use Rattle.dia_cli.specs.Words.{has_pair};
-ghost use Rattle.dia_cli.specs.Forms.{has_compared, has_made, has_refuted};
+ghost use Rattle.dia_cli.specs.Forms.{has_made};
 ghost use Rattle.dia_cli.specs.Words.{has_word, is_judged};
 ghost use Rattle.dia_cli.specs.Asking.{is_asked};
 ghost use Rattle.dia_cli.specs.Words.{is_policy};
@@ -22,7 +22,10 @@ ghost use Rattle.dia_cli.specs.Words.{AreJudged};
 use crate::apart::Apart;
 use crate::arguments::answering::answer_of;
 use crate::arguments::breaking::breaking_of;
+use crate::arguments::comparing::{compare_of, propose_of, refute_of, render_of};
 use crate::arguments::following::follow_of;
+use crate::arguments::masking::mask_of;
+use crate::arguments::questions::{diff_of, examples_of, lint_of, uses_of};
 use crate::arguments::showing::show_of;
 use crate::ending::Ending;
 use crate::line::{Words, command_line};
@@ -31,19 +34,22 @@ use crate::request::Request;
 use crate::rows::command_rows;
 use crate::task::Task;
 use crate::values::{
-    copies_of, dictionary_of, flag_of, is_given, limit_of, message_of, messages_of, policy_of,
-    table_of, word_of, words_of,
+    dictionary_of, flag_of, is_given, limit_of, message_of, messages_of, policy_of, sends_of,
+    word_of,
 };
 use clap::ArgMatches;
 use clap::error::ErrorKind;
 use dia_io::Command;
-use dia_policy::{Levels, Unknown};
+use dia_policy::{Levels, Sends, Unknown};
 use std::alloc::{AllocError, Global};
 use std::convert::AsStr;
 
 mod answering;
 mod breaking;
+mod comparing;
 mod following;
+mod masking;
+mod questions;
 mod showing;
 
 /// The values of `--unknown`, the policies for AVPs that the dictionary doesn't know.
@@ -222,6 +228,11 @@ fn task_of<'a>(alloc: Global, name: &str, found: &ArgMatches<'a>) -> Result<Aske
         "breaking" => breaking_of(alloc, found),
         "answer" => answer_of(alloc, found),
         "follow" => follow_of(found).ok_or(Unasked::Nothing),
+        "mask" => mask_of(alloc, found),
+        "uses" => uses_of(alloc, found),
+        "diff" => diff_of(found).ok_or(Unasked::Nothing),
+        "lint" => lint_of(alloc, found),
+        "examples" => examples_of(alloc, found),
         _ => Err(Unasked::Nothing),
     }
 }
@@ -319,81 +330,6 @@ fn judged_of(found: &ArgMatches<'_>) -> Option<(Unknown, Levels)>
     Some((unknown, levels))
 }
 
-/// `render` with the arguments that were found.
-fn render_of<'a>(found: &ArgMatches<'a>) -> Option<Asked<'a>>
-    ensures made { IfSome result
-        (λ made. IsAsked made.task made.origins (codes "render", rows_of (found_of found.now))) }
-    ensures none { result ≡ None → has_word (codes "D") (rows_of (found_of found.now)) ≡ false }
-{
-    Some(Asked {
-        task: Task::Whole(Command::Render),
-        origins: Origins::of_one(dictionary_of(found, "D")?),
-    })
-}
-
-/// `compare` with the arguments that were found.
-fn compare_of<'a>(found: &ArgMatches<'a>) -> Option<Asked<'a>>
-    ensures made { IfSome result
-        (λ made. IsAsked made.task made.origins (codes "compare", rows_of (found_of found.now))) }
-    ensures none { result ≡ None → has_compared (rows_of (found_of found.now)) ≡ false }
-{
-    let unknown = unknown_of(found)?;
-    let origins = pair_of(found)?;
-    let table = table_of(found, "TABLE")?;
-    Some(Asked {
-        task: Task::Whole(Command::Compare { unknown }),
-        origins: Origins { table, ..origins },
-    })
-}
-
-/// `refute` with the arguments that were found.
-fn refute_of<'a>(found: &ArgMatches<'a>) -> Option<Asked<'a>>
-    ensures made { IfSome result
-        (λ made. IsAsked made.task made.origins (codes "refute", rows_of (found_of found.now))) }
-    ensures none { result ≡ None → has_refuted (rows_of (found_of found.now)) ≡ false }
-{
-    let (unknown, levels) = judged_of(found)?;
-    let origins = pair_of(found)?;
-    if flag_of(found, "lines")? {
-        let messages = messages_of(found, "MESSAGE")?;
-        Some(Asked {
-            task: Task::RefuteLines { unknown, levels },
-            origins: Origins {
-                messages,
-                ..origins
-            },
-        })
-    } else {
-        let message = message_of(found, "MESSAGE")?;
-        Some(Asked {
-            task: Task::Whole(Command::Refute { unknown, levels }),
-            origins: Origins { message, ..origins },
-        })
-    }
-}
-
-/// `propose` with the arguments that were found.
-fn propose_of<'a>(alloc: Global, found: &ArgMatches<'a>) -> Result<Asked<'a>, Unasked>
-    ensures made { IfOk result
-        (λ made. IsAsked made.task made.origins (codes "propose", rows_of (found_of found.now))) }
-    ensures wanting { IfErr result (IsWanting (codes "propose") (rows_of (found_of found.now))) }
-{
-    let Some(unknown) = unknown_of(found) else {
-        return Err(Unasked::Nothing);
-    };
-    let Some(origins) = pair_of(found) else {
-        return Err(Unasked::Nothing);
-    };
-    let Some(words) = words_of(found, "COMMAND") else {
-        return Err(Unasked::Nothing);
-    };
-    let names = copies_of(alloc, words)?;
-    Ok(Asked {
-        task: Task::Whole(Command::Propose { unknown, names }),
-        origins,
-    })
-}
-
 /// The policy for AVPs that the dictionary doesn't know.
 fn unknown_of(found: &ArgMatches<'_>) -> Option<Unknown>
     ensures made { IfSome result (λ unknown. IsPolicy unknown (rows_of (found_of found.now))) }
@@ -410,4 +346,13 @@ fn pair_of<'a>(found: &ArgMatches<'a>) -> Option<Origins<'a>>
 {
     let first = dictionary_of(found, "A")?;
     Some(Origins::of_pair(first, dictionary_of(found, "B")?))
+}
+
+/// What the side of A sends.
+fn sender_of(found: &ArgMatches<'_>) -> Option<Sends>
+    ensures sends { IfSome result (λ sends.
+        first_of (codes "sends") (rows_of (found_of found.now)) ≡ Some (sends_word sends)) }
+    ensures none { result ≡ None → is_sender (first_of (codes "sends") (rows_of (found_of found.now))) ≡ false }
+{
+    sends_of(word_of(found, "sends")?)
 }

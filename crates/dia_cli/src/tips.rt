@@ -94,21 +94,34 @@ fn has_dict(row: &CommandRow<'_>) -> bool {
     false
 }
 
-/// The names of the commands that have `--dict`.
+/// The names of the commands that have `--dict`, as `show, make and follow`.
 fn with_dict(alloc: Global, rows: &[CommandRow<'_>]) -> Result<String, AllocError> {
     let mut names = String::new(alloc);
+    let mut left = count_with_dict(rows);
     for row in rows {
         if has_dict(row) {
-            push_name(&mut names, row.name)?;
+            left = left.saturating_sub(1);
+            push_name(&mut names, row.name, left == 0)?;
         }
     }
     Ok(names)
 }
 
-/// One more name.
-fn push_name(names: &mut String, name: &str) -> Result<(), AllocError> {
+/// How many commands have `--dict`.
+fn count_with_dict(rows: &[CommandRow<'_>]) -> usize {
+    let mut count = 0usize;
+    for row in rows {
+        if has_dict(row) {
+            count = count.saturating_add(1);
+        }
+    }
+    count
+}
+
+/// One more name, the last one or not.
+fn push_name(names: &mut String, name: &str, last: bool) -> Result<(), AllocError> {
     if !names.is_empty() {
-        names.push_str(" and ")?;
+        names.push_str(if last { " and " } else { ", " })?;
     }
     names.push_str(name)
 }

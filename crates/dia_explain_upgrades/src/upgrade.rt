@@ -1,5 +1,6 @@
 //! The note of an answer of `breaking`.
 
+use crate::causes::push_causes;
 use crate::less::push_less;
 use crate::list::{push_bad_list, push_unused};
 use crate::namesakes::push_namesakes;
@@ -13,19 +14,24 @@ use dia_report::BothBooks;
 use dia_upgrades::{Asked, Found, Report};
 use std::alloc::{AllocError, Global};
 
-/// What standard error reports of an answer of `breaking`.
+/// What standard error reports of an answer of `breaking`. `explain` says whether each cause is explained, and not only the first
+/// ones.
 pub fn explain_upgrade(
     alloc: Global,
     texts: &InputTexts<'_>,
     asked: Asked<'_>,
     inputs: &Inputs,
     report: &Report,
+    explain: bool,
 ) -> Result<String, AllocError> {
     let mut note = Note::new(alloc);
     match report {
         Report::Refused(bad) => push_refused(&mut note, texts, bad),
         Report::Read { books, found } => {
             push_empty(&mut note, &texts.second);
+            if let Found::Listed { causes, .. } = found {
+                push_causes(&mut note, texts, books, causes, explain)?;
+            }
             push_found(&mut note, texts, asked, inputs, books, found)?;
         }
     }

@@ -59,7 +59,10 @@ where
     match run_task(rt, opener, &request.task, inputs, origins, manner, out) {
         Ok(outcome) => match outcome {
             Outcome::Done(exit) => Ok(exit),
-            Outcome::Breaking(asked) => list(rt, asked_of(asked), inputs, origins, manner, out),
+            Outcome::Breaking(asked) => {
+                let explain = asked.explain;
+                list(rt, asked_of(asked), explain, inputs, origins, manner, out)
+            }
         },
         Err(ending) => Err(ending),
     }

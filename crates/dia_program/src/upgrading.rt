@@ -42,10 +42,11 @@ fn stale_in(is_allowed: bool) -> Stale
     }
 }
 
-/// Lists what breaks, and explains it, unless it is to be quiet.
+/// Lists what breaks, and explains it, unless it is to be quiet: each cause if `explain`, and otherwise the first ones.
 pub(crate) fn list<'a, R, W>(
     rt: &R,
     asked: Asked<'_>,
+    explain: bool,
     inputs: &Inputs,
     origins: &Origins<'a>,
     manner: Manner,
@@ -63,7 +64,7 @@ where
         Ok(listed) => {
             if !manner.quiet {
                 let texts = texts_of(origins, inputs);
-                note_upgrade(rt, &texts, asked, inputs, &listed.report);
+                note_upgrade(rt, &texts, asked, explain, inputs, &listed.report);
             }
             Ok(listed.exit)
         }
@@ -100,10 +101,11 @@ fn note_upgrade<R: AllocGlobal + Eprint>(
     rt: &R,
     texts: &InputTexts<'_>,
     asked: Asked<'_>,
+    explain: bool,
     inputs: &Inputs,
     report: &Report,
 ) {
-    if let Ok(text) = explain_upgrade(rt.alloc(), texts, asked, inputs, report) {
+    if let Ok(text) = explain_upgrade(rt.alloc(), texts, asked, inputs, report, explain) {
         let _ = eprint!(rt; "{text}");
     }
 }

@@ -7,13 +7,12 @@ ghost use Rattle.dia_cli.specs.Words.{is_sender};
 ghost use Rattle.dia_cli.specs.Asking.{IsAsked};
 ghost use Rattle.dia_cli.specs.Words.{sends_word};
 
-use crate::arguments::{Asked, Unasked, pair_of, unknown_of};
+use crate::arguments::{Asked, Unasked, pair_of, sender_of, unknown_of};
 use crate::origin::Origins;
 use crate::shown::{Shown, shown_of};
 use crate::task::{Breaking, Task};
-use crate::values::{names_of, sends_of, table_of, word_of};
+use crate::values::{names_of, table_of};
 use clap::ArgMatches;
-use dia_policy::Sends;
 use std::alloc::Global;
 
 /// `breaking` with the arguments that were found.
@@ -37,6 +36,7 @@ pub(super) fn breaking_of<'a>(alloc: Global, found: &ArgMatches<'a>) -> Result<A
             once,
             meaning,
             stale_allowed,
+            explain,
         },
     ) = shown_of(found)
     else {
@@ -54,17 +54,9 @@ pub(super) fn breaking_of<'a>(alloc: Global, found: &ArgMatches<'a>) -> Result<A
             once,
             meaning,
             stale_allowed,
+            explain,
             names,
         }),
         origins: Origins { table, ..origins },
     })
-}
-
-/// The sender.
-fn sender_of(found: &ArgMatches<'_>) -> Option<Sends>
-    ensures sends { IfSome result (λ sends.
-        first_of (codes "sends") (rows_of (found_of found.now)) ≡ Some (sends_word sends)) }
-    ensures none { result ≡ None → is_sender (first_of (codes "sends") (rows_of (found_of found.now))) ≡ false }
-{
-    sends_of(word_of(found, "sends")?)
 }

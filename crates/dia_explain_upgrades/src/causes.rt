@@ -1,0 +1,303 @@
+//! Where both dictionaries have what a cause is about, and what can be changed.
+
+use crate::places::{Avp, Places};
+use dia_ccf::Def;
+use dia_explain_places::{InputTexts, Note};
+use dia_report::BothBooks;
+use dia_upgrades::Recorded;
+use std::alloc::AllocError;
+
+/// The most causes that are explained, unless all are asked for.
+const MOST: usize = 20;
+
+/// The most bytes of a declaration, a head or a rule that are shown.
+const MOST_SHOWN: usize = 120;
+
+/// The parts of `REASON SUBJECT: DETAIL, in N commands, first in PATH`.
+#[derive(Clone, Copy)]
+struct Cause<'a> {
+    /// `REASON SUBJECT: DETAIL`
+    summary: &'a str,
+    /// The reason, without `undecided` before it; or `undecided`.
+    reason: &'a str,
+    subject: &'a str,
+    path: &'a str,
+}
+
+impl<'a> Cause<'a> {
+    fn of(words: &'a str) -> Option<Cause<'a>> {
+        let (rest, path) = words.rsplit_once(", first in ")?;
+        let (summary, _) = rest.rsplit_once(", in ")?;
+        let (front, _) = summary.split_once(':')?;
+        let (reason, subject) = front.rsplit_once(' ')?;
+        let reason = reason.strip_prefix("undecided ").unwrap_or(reason);
+        Some(Cause {
+            summary,
+            reason,
+            subject,
+            path,
+        })
+    }
+
+    /// The name of the command of the path.
+    fn command(&self) -> &'a str {
+        let first = match self.path.split_once('/') {
+            Some((first, _)) => first,
+            None => self.path,
+        };
+        match first.split_once(' ') {
+            Some((name, _)) => name,
+            None => first,
+        }
+    }
+
+    /// The name of the last group of the path.
+    fn group(&self) -> Option<&'a str> {
+        let (_, last) = self.path.rsplit_once('/')?;
+        Some(last)
+    }
+}
+
+/// Adds of each cause where both dictionaries have what it is about, and of the first one of each reason what can be changed: of
+/// the first causes, and how many are left, or of all.
+pub(crate) fn push_causes(
+    note: &mut Note,
+    texts: &InputTexts<'_>,
+    books: &BothBooks,
+    causes: &[Recorded],
+    all: bool,
+) -> Result<(), AllocError> {
+    let alloc = note.allocator();
+    let first = Places::of(alloc, &texts.first, &books.first.source)?;
+    let second = Places::of(alloc, &texts.second, &books.second.source)?;
+    let count = if all {
+        causes.len()
+    } else {
+        causes.len().min(MOST)
+    };
+    let mut hinted = Vec::new(alloc);
+    for recorded in causes.iter().take(count) {
+        if let Some(cause) = Cause::of(recorded.words.as_str()) {
+            push_cause(note, &first, &second, &cause);
+            let fixes = fixes_of(cause.reason, cause.subject);
+            if !hinted.contains(&fixes.in_second) {
+                push_fixes(note, &first, &second, fixes);
+                hinted.push(fixes.in_second)?;
+            }
+        }
+    }
+    push_left(note, causes.len().saturating_sub(count));
+    Ok(())
+}
+
+/// Adds how many causes aren't explained, if there are some.
+fn push_left(note: &mut Note, left: usize) {
+    if left > 0 {
+        note.put_number(left as u64);
+        note.put(if left == 1 {
+            " more cause"
+        } else {
+            " more causes"
+        });
+        note.put(": --explain explains all\n");
+    }
+}
+
+/// Adds a cause, with the places in both dictionaries.
+fn push_cause(note: &mut Note, first: &Places<'_>, second: &Places<'_>, cause: &Cause<'_>) {
+    note.put_all(&[cause.summary, "\n"]);
+    match cause.reason {
+        "command" | "application" | "proxiable" => push_heads(note, first, second, cause),
+        "missing" | "too-many" | "not-allowed" | "order" => push_rules(note, first, second, cause),
+        _ => push_avps(note, first, second, cause),
+    }
+}
+
+/// Adds the heads of the commands of both.
+fn push_heads(note: &mut Note, first: &Places<'_>, second: &Places<'_>, cause: &Cause<'_>) {
+    let Some(own) = first.command(cause.command()) else {
+        return;
+    };
+    push_spot(note, first, own.at);
+    if let Some(other) = second.same_command(own) {
+        push_spot(note, second, other.at);
+    }
+}
+
+/// Adds the rules of both for the AVP, or the heads of the definitions that have none.
+fn push_rules(note: &mut Note, first: &Places<'_>, second: &Places<'_>, cause: &Cause<'_>) {
+    let Some((own, other)) = definitions(first, second, cause) else {
+        return;
+    };
+    push_spot(
+        note,
+        first,
+        first.rule(own, cause.subject).unwrap_or(own.at),
+    );
+    if let Some(other) = other {
+        let subject = second_name(first, second, cause.subject);
+        push_spot(
+            note,
+            second,
+            second.rule(other, subject).unwrap_or(other.at),
+        );
+    }
+}
+
+/// Adds the declarations of the AVP in both.
+fn push_avps(note: &mut Note, first: &Places<'_>, second: &Places<'_>, cause: &Cause<'_>) {
+    if let Some(own) = first.avp(cause.subject) {
+        push_spot(note, first, own.at);
+    }
+    if let Some(other) = second.avp(second_name(first, second, cause.subject)) {
+        push_spot(note, second, other.at);
+    }
+}
+
+/// The definition of the first dictionary that the path leads to, and that of the second, if it has one.
+fn definitions<'a, 'b>(
+    first: &Places<'a>,
+    second: &Places<'b>,
+    cause: &Cause<'_>,
+) -> Option<(&'a Def, Option<&'b Def>)> {
+    match cause.group() {
+        Some(name) => {
+            let own = first.avp(name)?;
+            Some((own.group?, group_of(second, own)))
+        }
+        None => {
+            let own = first.command(cause.command())?;
+            Some((own, second.same_command(own)))
+        }
+    }
+}
+
+/// The group of the same AVP.
+fn group_of<'b>(second: &Places<'b>, own: Avp<'_>) -> Option<&'b Def> {
+    second.avp(second.name_of(own.number)?)?.group
+}
+
+/// The second dictionary's name of the AVP that has a name in the first, or else this name.
+fn second_name<'n>(first: &Places<'_>, second: &Places<'n>, name: &'n str) -> &'n str {
+    match first.avp(name) {
+        Some(avp) => second.name_of(avp.number).unwrap_or(name),
+        None => name,
+    }
+}
+
+/// Adds the place of a declaration, a head or a rule, and its text.
+fn push_spot(note: &mut Note, places: &Places<'_>, at: usize) {
+    note.put_place(places.name, places.text, at);
+    note.put_shown(part_from(places.text, at));
+    note.put("\n");
+}
+
+/// The text of the part that begins at a place: a rule or a head to the end of its bracket, a declaration to the end of its line.
+fn part_from(text: &[u8], at: usize) -> &[u8] {
+    let rest = text.get(at..).unwrap_or(&[]);
+    let rest = rest.get(..MOST_SHOWN).unwrap_or(rest);
+    let end = if rest.starts_with(b"%") {
+        end_of_line(rest)
+    } else {
+        end_of_bracket(rest)
+    };
+    rest.get(..end).unwrap_or(rest)
+}
+
+fn end_of_line(rest: &[u8]) -> usize {
+    let end = rest
+        .iter()
+        .position(|byte| matches!(*byte, b'\n' | b'\r' | b';'));
+    let line = rest.get(..end.unwrap_or(rest.len())).unwrap_or(rest);
+    line.trim_ascii_end().len()
+}
+
+/// The end of the first bracket; of a head the one after `::=`.
+fn end_of_bracket(rest: &[u8]) -> usize {
+    let from = rest.iter().position(|byte| *byte == b'=').unwrap_or(0);
+    let tail = rest.get(from..).unwrap_or(rest);
+    match tail
+        .iter()
+        .position(|byte| matches!(*byte, b'>' | b'}' | b']'))
+    {
+        Some(end) => from.saturating_add(end).saturating_add(1),
+        None => rest.len(),
+    }
+}
+
+/// What can be changed: in the second dictionary, or in the first and its node.
+#[derive(Clone, Copy)]
+struct Fixes {
+    in_second: &'static str,
+    in_first: &'static str,
+}
+
+fn push_fixes(note: &mut Note, first: &Places<'_>, second: &Places<'_>, fixes: Fixes) {
+    let Fixes {
+        in_second,
+        in_first,
+    } = fixes;
+    note.put_all(&[
+        "hint: in ",
+        second.name,
+        " ",
+        in_second,
+        "; or in ",
+        first.name,
+        " ",
+        in_first,
+        "\n",
+    ]);
+}
+
+/// The fixes of a reason, as docs/FAULTS.md has them.
+fn fixes_of(reason: &str, subject: &str) -> Fixes {
+    let (in_second, in_first) = match (reason, subject) {
+        ("command", _) => ("define the command", "don't send it to this node"),
+        ("application", _) => (
+            "define the command for this application",
+            "don't send it to this node",
+        ),
+        ("proxiable", _) => ("add or drop PXY in the header", "do the same"),
+        ("missing" | "too-many", "AVP") => (
+            "widen the counts of the wildcard",
+            "send as many as are accepted, and declare it",
+        ),
+        ("missing", _) => (
+            "lower the least count, as [ X ] for { X }",
+            "always send the AVP, as { X }",
+        ),
+        ("too-many", _) => (
+            "raise or drop the greatest count",
+            "send fewer, and lower it",
+        ),
+        ("not-allowed", "AVP") => (
+            "add * [ AVP ]",
+            "drop the wildcard, or ask with --sends listed",
+        ),
+        ("not-allowed", _) => (
+            "list the AVP, or add * [ AVP ]",
+            "don't send it, and drop its rule",
+        ),
+        ("order", _) => (
+            "make the rule loose, as { X } for < X >",
+            "fix the AVP as well, in the same order",
+        ),
+        ("unknown", _) => (
+            "declare the AVP",
+            "clear its M flag (mustnot) if such AVPs are accepted, else don't send it",
+        ),
+        ("m-bit", _) => (
+            "let the M rule be any",
+            "set or clear the flag as it is accepted, and declare it so",
+        ),
+        _ => (
+            "declare the AVP with the format that is sent",
+            "declare it with the format that is accepted, and send only such data",
+        ),
+    };
+    Fixes {
+        in_second,
+        in_first,
+    }
+}

@@ -1,0 +1,152 @@
+//! Questions about dictionaries: `uses`, `diff`, `lint` and `examples`.
+
+ghost use Rattle.std.specs.Prelude.{IsTrue, map, string_bytes};
+ghost use Rattle.dia_cli.specs.Ending.{stream};
+ghost use Rattle.dia_diff.specs.Outcome.{IsDiffOutcome};
+ghost use Rattle.dia_tasks.specs.Endings.{Runs};
+ghost use Rattle.dia_uses.specs.Outcome.{IsUsesOutcome};
+
+use crate::inputs::word_of;
+use crate::manner::Manner;
+use dia_cli::{Ending, Linting, NO_TABLE, Origins, STANDARD_OUTPUT, Sampling};
+use dia_diff::write_diff;
+use dia_examples_text::{Form, write_examples};
+use dia_io::{Inputs, RunFault, Sink, ToWriter};
+use dia_lint_text::write_lint;
+use dia_policy::{Sends, Unknown};
+use dia_report::Reported;
+use dia_uses::write_uses;
+use std::io::Write;
+
+/// Writes where messages may have AVPs.
+pub fn used<'a, R, W>(
+    rt: &R,
+    avps: &[String],
+    inputs: &Inputs,
+    manner: Manner,
+    out: &mut ToWriter<W>,
+) -> Result<Reported, Ending<'a>>
+where
+    R: AllocGlobal + Eprint,
+    W: Write,
+    requires { ¬ IsTrue (⟦<ToWriter<W> as Sink>⟧.has_failed out.old) }
+    ensures { Runs (IsUsesOutcome manner.json (map string_bytes avps.now) inputs.now)
+        (stream (⟦<ToWriter<W> as Sink>⟧.written out.old) (⟦<ToWriter<W> as Sink>⟧.written out.new)
+        (⟦<ToWriter<W> as Sink>⟧.has_failed out.new)) result }
+{
+    let mut notes = String::new(rt.alloc());
+    let answered = write_uses(rt.alloc(), manner.json, avps, inputs, &mut notes, out);
+    put_notes(rt, &notes, manner);
+    ended(answered, out)
+}
+
+/// Writes what differs between two dictionaries.
+pub fn differed<'a, R, W>(
+    rt: &R,
+    sends: Sends,
+    unknown: Unknown,
+    inputs: &Inputs,
+    manner: Manner,
+    out: &mut ToWriter<W>,
+) -> Result<Reported, Ending<'a>>
+where
+    R: AllocGlobal + Eprint,
+    W: Write,
+    requires { ¬ IsTrue (⟦<ToWriter<W> as Sink>⟧.has_failed out.old) }
+    ensures { Runs (IsDiffOutcome sends unknown manner.json inputs.now)
+        (stream (⟦<ToWriter<W> as Sink>⟧.written out.old) (⟦<ToWriter<W> as Sink>⟧.written out.new)
+        (⟦<ToWriter<W> as Sink>⟧.has_failed out.new)) result }
+{
+    let asked = dia_diff::Asked {
+        sends,
+        unknown,
+        json: manner.json,
+    };
+    let mut notes = String::new(rt.alloc());
+    let answered = write_diff(rt.alloc(), asked, inputs, &mut notes, out);
+    put_notes(rt, &notes, manner);
+    ended(answered, out)
+}
+
+/// Writes what a dictionary says to no effect, and where it departs from RFC 6733.
+pub fn linted<'a, R, W>(
+    rt: &R,
+    asked: &Linting,
+    inputs: &Inputs,
+    origins: &Origins<'a>,
+    manner: Manner,
+    out: &mut ToWriter<W>,
+) -> Result<Reported, Ending<'a>>
+where
+    R: AllocGlobal + Eprint,
+    W: Write,
+    requires { ¬ IsTrue (⟦<ToWriter<W> as Sink>⟧.has_failed out.old) }
+{
+    let asked = dia_lint_text::Asked {
+        unknown: asked.unknown,
+        only: list_of(asked.only.as_str()),
+        except: list_of(asked.except.as_str()),
+        json: manner.json,
+        file: word_of(origins.first),
+    };
+    let mut notes = String::new(rt.alloc());
+    let answered = write_lint(rt.alloc(), &asked, inputs, &mut notes, out);
+    put_notes(rt, &notes, manner);
+    ended(answered, out)
+}
+
+/// Writes test vectors of a dictionary.
+pub fn sampled<'a, R, W>(
+    rt: &R,
+    asked: &Sampling,
+    inputs: &Inputs,
+    manner: Manner,
+    out: &mut ToWriter<W>,
+) -> Result<Reported, Ending<'a>>
+where
+    R: AllocGlobal + Eprint,
+    W: Write,
+    requires { ¬ IsTrue (⟦<ToWriter<W> as Sink>⟧.has_failed out.old) }
+{
+    let form = match (asked.text, manner.json) {
+        (true, _) => Form::Text,
+        (false, true) => Form::Json,
+        (false, false) => Form::Columns,
+    };
+    let mut notes = String::new(rt.alloc());
+    let names = asked.names.as_slice();
+    let answered = write_examples(
+        rt.alloc(),
+        asked.unknown,
+        form,
+        names,
+        inputs,
+        &mut notes,
+        out,
+    );
+    put_notes(rt, &notes, manner);
+    ended(answered, out)
+}
+
+/// A list of names with commas: the word that names an empty one is no name.
+pub(crate) fn list_of(word: &str) -> &str {
+    if word == NO_TABLE { "" } else { word }
+}
+
+/// Writes notes on standard error, unless it is to be quiet. Where the device fails, they are lost.
+pub(crate) fn put_notes<R: Eprint>(rt: &R, notes: &String, manner: Manner) {
+    if !manner.quiet {
+        let _ = rt.eprint(notes);
+    }
+}
+
+/// How a run over whole inputs ended.
+fn ended<'a, W: Write>(
+    answered: Result<Reported, RunFault>,
+    out: &mut ToWriter<W>,
+) -> Result<Reported, Ending<'a>> {
+    match answered {
+        Ok(reported) => Ok(reported),
+        Err(fault) => Err(Ending::of_run(fault, STANDARD_OUTPUT, out.failure())),
+    }
+}
