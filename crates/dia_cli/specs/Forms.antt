@@ -126,15 +126,15 @@ has_lines (as_listing many names values) = many
 has_lines recording = false
 
 abbrev pub keep_given : Masked → Option Text
-keep_given (masked keep mask) = keep
+keep_given (masked keep more) = keep
 keep_given (masked_only only) = None
 
 abbrev pub mask_given : Masked → Option Text
-mask_given (masked keep mask) = mask
+mask_given (masked keep more) = more
 mask_given (masked_only only) = None
 
 abbrev pub only_given : Masked → Option Text
-only_given (masked keep mask) = None
+only_given (masked keep more) = None
 only_given (masked_only only) = Some only
 
 abbrev pub is_texts : Layout → Bool

@@ -8,7 +8,7 @@ ghost use Rattle.dia_cli.specs.Asking.{IsRefused, IsUnasked, IsUnrun, IsWanting}
 ghost use Rattle.dia_cli.specs.Forms.{has_judged};
 ghost use Rattle.dia_cli.specs.Words.{has_pair};
 ghost use Rattle.dia_cli.specs.Forms.{has_made};
-ghost use Rattle.dia_cli.specs.Words.{has_word, is_judged};
+ghost use Rattle.dia_cli.specs.Words.{is_judged, is_sender, sends_word};
 ghost use Rattle.dia_cli.specs.Asking.{is_asked};
 ghost use Rattle.dia_cli.specs.Words.{is_policy};
 ghost use Rattle.dia_cli.specs.Forms.{Form, IsAccepted, form_name, is_plain_form, words_of};

@@ -1,5 +1,5 @@
 -- What is found of the words of a form is a subcommand with its arguments, and the request that is made of it is the form's.
-use Rattle.std.proofs.Common.{◌≡◌, ◌∙◌, Bool, true, List, [], ◌∷◌, ◌++◌, Some, None, refl, sym, ap, codes}
+use Rattle.std.proofs.Common.{◌≡◌, ◌∙◌, Bool, true, false, List, [], ◌∷◌, ◌++◌, Some, None, refl, sym, ap, codes}
 use Rattle.std.specs.Borrow.{Bor}
 use Rattle.std.specs.Prelude.{unwrap_or}
 use Rattle.clap.specs.Walk.{Row, Text, first_of, texts}
@@ -96,14 +96,14 @@ module _ (rows : List Row) where
 
   given_together : (avps : Masked) → mask_apart (is_file (Some (unwrap_or (keep_given avps) (codes "@none")))) (is_file (Some (unwrap_or (mask_given avps) (codes "@none"))))
       (is_file (Some (unwrap_or (only_given avps) (codes "@none")))) ≡ None
-  given_together (masked keep mask) = refl
+  given_together (masked keep more) = refl
   given_together (masked_only only) = without_others (is_file (Some only))
 
   masked_together : (avps : Masked) → first_of (codes "keep") rows ≡ Some (unwrap_or (keep_given avps) (codes "@none")) → first_of (codes "mask") rows ≡ Some (unwrap_or (mask_given avps) (codes "@none"))
       → first_of (codes "only") rows ≡ Some (unwrap_or (only_given avps) (codes "@none")) → masked_apart_in rows ≡ None
-  masked_together avps keep mask only =
+  masked_together avps keep more only =
       let k = ap is_file keep in
-      let m = ap is_file mask in
+      let m = ap is_file more in
       let o = ap is_file only in (λ i. mask_apart (k i) (m i) (o i)) ∙ given_together avps
 
   mask_goes_together : (quiet : Bool) (form : Form) (apart : Apart) → Says quiet form rows → (form_name form ≡ codes "mask") × (masked_apart_in rows ≡ Some apart) → ⊥
