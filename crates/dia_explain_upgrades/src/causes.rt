@@ -192,24 +192,28 @@ fn push_spot(note: &mut Note, places: &Places<'_>, at: usize) {
     note.put("\n");
 }
 
-/// The text of the part that begins at a place: a rule or a head to the end of its bracket, a declaration to the end of its line.
+/// The text of the part that begins at a place: of a rule or a head to the end of its bracket, of a declaration to the next part, a
+/// comment or the end of the line.
 fn part_from(text: &[u8], at: usize) -> &[u8] {
     let rest = text.get(at..).unwrap_or(&[]);
     let rest = rest.get(..MOST_SHOWN).unwrap_or(rest);
     let end = if rest.starts_with(b"%") {
-        end_of_line(rest)
+        end_of_declaration(rest)
     } else {
         end_of_bracket(rest)
     };
-    rest.get(..end).unwrap_or(rest)
+    rest.get(..end).unwrap_or(rest).trim_ascii_end()
 }
 
-fn end_of_line(rest: &[u8]) -> usize {
-    let end = rest
+fn end_of_declaration(rest: &[u8]) -> usize {
+    let tail = rest.get(1..).unwrap_or(&[]);
+    match tail
         .iter()
-        .position(|byte| matches!(*byte, b'\n' | b'\r' | b';'));
-    let line = rest.get(..end.unwrap_or(rest.len())).unwrap_or(rest);
-    line.trim_ascii_end().len()
+        .position(|byte| matches!(*byte, b'\n' | b'\r' | b';' | b'%' | b'<'))
+    {
+        Some(end) => end.saturating_add(1),
+        None => rest.len(),
+    }
 }
 
 /// The end of the first bracket; of a head the one after `::=`.
