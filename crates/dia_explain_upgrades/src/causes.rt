@@ -244,11 +244,11 @@ fn push_fixes(note: &mut Note, first: &Places<'_>, second: &Places<'_>, fixes: F
     note.put_all(&[
         "hint: in ",
         second.name,
-        " ",
+        ": ",
         in_second,
         "; or in ",
         first.name,
-        " ",
+        ": ",
         in_first,
         "\n",
     ]);
