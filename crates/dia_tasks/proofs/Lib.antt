@@ -1,5 +1,6 @@
 pub mod Commands
 pub mod Failures
 pub mod Feeds
+pub mod Names
 pub mod Results
 pub mod Runs

@@ -1,5 +1,5 @@
 -- What is written for a command whose inputs are read whole, and how it ends.
-use Rattle.std.specs.Prelude.{◌≡◌, ◌⊎◌, ℕ, Bool, true, false, List, map, codes, string_bytes}
+use Rattle.std.specs.Prelude.{◌≡◌, ⊤, ℕ, Bool, true, false, List, map, codes, string_bytes}
 use Rattle.dia_io.specs.declared.Command.{Command}
 use Rattle.dia_io.specs.declared.Command.TheVariants.{Show, Render, Check, Compare, Refute, Propose}
 use Rattle.dia_io.specs.declared.Inputs.{Inputs}
@@ -8,6 +8,9 @@ use Rattle.dia_io.specs.declared.Exit.TheVariants.{Bad}
 use Rattle.dia_policy.specs.declared.Levels.{Levels}
 use Rattle.dia_policy.specs.declared.Unknown.{Unknown}
 use Rattle.dia_dict.specs.Dictionary.{Dictionary}
+use Rattle.dia_answer.specs.Names.{IsName}
+use Rattle.dia_answer.specs.declared.names.NameFault.{NameFault}
+use Rattle.dia_answer.specs.declared.names.NameFault.TheVariants.{Host, Realm}
 use Rattle.dia_answer_run.specs.Outcome.{IsAnswerText}
 use Rattle.dia_cli.specs.declared.task.Answering.{Answering}
 use Rattle.dia_cli.specs.declared.origin.Origin.{Origin}
@@ -56,11 +59,19 @@ AreFaults u most d bytes text exit = IsAllRecorded d u most 1000 bytes text exit
 abbrev pub IsAllFaults : Unknown → Levels → Inputs → List ℕ → Exit → Type 0
 IsAllFaults u most inputs text exit = IsMessageOutcome (AreFaults u most) inputs text exit
 
--- `answer`: a name of the node is refused
-abbrev pub IsNameRefused : List ℕ → Exit → Type 0
-IsNameRefused text exit = ((text ≡ line (codes "answer: host")) ⊎ (text ≡ line (codes "answer: realm"))) × (exit ≡ Bad)
+-- `answer`: the answer that reports a request's first fault, or why there is none; or the first name of the node that is none
+pub data IsReplied (asked : Answering) (inputs : Inputs) (text : List ℕ) (exit : Exit) : Type 0 where
+  named : IsName (string_bytes asked.host) → IsName (string_bytes asked.realm)
+      → IsMessageOutcome (IsAnswerText asked.unknown asked.levels) inputs text exit → IsReplied asked inputs text exit
+  no_host : ¬ IsName (string_bytes asked.host) → text ≡ line (codes "answer: host") → exit ≡ Bad → IsReplied asked inputs text exit
+  no_realm : IsName (string_bytes asked.host) → ¬ IsName (string_bytes asked.realm) → text ≡ line (codes "answer: realm") → exit ≡ Bad
+      → IsReplied asked inputs text exit
 
--- or the answer that reports a request's first fault, or why there is none
-abbrev pub IsReplied : Answering → Inputs → List ℕ → Exit → Type 0
-IsReplied asked inputs text exit =
-    IsMessageOutcome (IsAnswerText asked.unknown asked.levels) inputs text exit ⊎ IsNameRefused text exit
+-- the line of a name that is none
+abbrev pub name_line : NameFault → List ℕ
+name_line Host = line (codes "answer: host")
+name_line Realm = line (codes "answer: realm")
+
+-- any text: what `lint` writes is tested, and not stated here
+abbrev pub IsAnyText : List ℕ → Exit → Type 0
+IsAnyText text exit = ⊤

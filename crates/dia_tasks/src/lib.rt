@@ -4,12 +4,14 @@
 
 mod all_faults;
 mod answering;
+mod asking;
 mod captured;
 mod following;
 mod front;
 mod inputs;
 mod listing;
 mod manner;
+mod masking;
 mod notes;
 mod recording;
 mod replying;

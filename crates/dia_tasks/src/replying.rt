@@ -1,10 +1,11 @@
 //! `answer`: the answer that reports the first fault of a request.
 
-ghost use Rattle.std.specs.Prelude.{IfOk, IsTrue, string_bytes};
+ghost use Rattle.std.specs.Prelude.{◌≡◌, IfOk, IsTrue, string_bytes};
 ghost use Rattle.dia_cli.specs.Ending.{stream};
 ghost use Rattle.dia_answer_run.specs.Outcome.{IsAnswerText};
 ghost use Rattle.dia_run.specs.Outcome.{IsMessageOutcome};
-ghost use Rattle.dia_tasks.specs.Answers.{IsNameRefused, IsReplied};
+ghost use Rattle.dia_io.specs.declared.Exit.TheVariants.{Bad};
+ghost use Rattle.dia_tasks.specs.Answers.{IsReplied, name_line};
 ghost use Rattle.dia_tasks.specs.Endings.{Runs};
 
 use crate::answering::put_answer;
@@ -88,7 +89,8 @@ fn text_of(form: Form) -> &'static str {
 
 /// The line of a name that is refused.
 fn name_refused(alloc: Global, fault: NameFault) -> Result<Answered, AllocError>
-    ensures { IfOk result (λ answered. IsNameRefused (string_bytes answered.text) answered.exit) }
+    ensures text { IfOk result (λ answered. string_bytes answered.text ≡ name_line fault) }
+    ensures exit { IfOk result (λ answered. answered.exit ≡ Bad) }
 {
     let text = match fault {
         NameFault::Host => "answer: host\n",

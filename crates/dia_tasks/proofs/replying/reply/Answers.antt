@@ -1,17 +1,18 @@
-use Rattle.std.proofs.Common.{inl, inr}
-use Rattle.std.proofs.lemmas.Result.{IfOk-weaker}
+use Rattle.std.proofs.Common.{◌≡◌, List, ℕ, refl}
+use Rattle.std.specs.Prelude.{Err, Result, string_bytes}
+use Rattle.std.proofs.lemmas.Result.{IfOk-both}
 use Rattle.dia_answer_run.specs.Outcome.{IsAnswerText}
 use Rattle.dia_run.specs.Outcome.{IsMessageOutcome}
-use Rattle.dia_tasks.specs.Answers.{IsReplied}
+use Rattle.dia_tasks.specs.Answers.{IsReplied, named}
 use Rattle.dia_tasks.proofs.Runs.{runs_of_put, runs_weaker}
+use Rattle.dia_tasks.proofs.Names.{is_refused}
 use Rattle.dia_tasks.proofs.replying.reply.Goals as goal
 
 pub returns-in-Ok : goal.returns-in-Ok
 returns-in-Ok g c =
     runs_weaker (IsMessageOutcome (IsAnswerText c.args.asked.now.unknown c.args.asked.now.levels) c.args.inputs.now) (IsReplied c.args.asked.now c.args.inputs.now) _ c.reply_by.result
-    (λ text exit is. inl is) c.reply_by.ensures
+    (λ text exit is. named c.in-Ok.ensures.names.0 c.in-Ok.ensures.names.1 is) c.reply_by.ensures
 
 pub returns-in-Err : goal.returns-in-Err
-returns-in-Err g c =
-    runs_of_put (IsReplied c.args.asked.now c.args.inputs.now) c.name_refused.result _ c.put_answer.result
-    (IfOk-weaker c.name_refused.result _ _ (λ answered refused. inr refused) c.name_refused.ensures) c.put_answer.ensures
+returns-in-Err g c = runs_of_put (IsReplied c.args.asked.now c.args.inputs.now) c.name_refused.result _ c.put_answer.result
+    (is_refused c.args.asked.now c.args.inputs.now _ c.in-Err.fault c.in-Err.is c.new.ensures.host c.new.ensures.realm c.name_refused.result c.name_refused.ensures.text c.name_refused.ensures.exit) c.put_answer.ensures
