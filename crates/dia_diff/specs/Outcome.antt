@@ -1,5 +1,5 @@
 -- What is written of the differences of two dictionaries, and how the command ends.
-use Rattle.std.specs.Prelude.{◌≡◌, ℕ, Bool, true, false, List, [], ⊥, codes}
+use Rattle.std.specs.Prelude.{◌≡◌, ℕ, ◌<◌, Bool, true, false, List, ⊥, length, codes}
 use Rattle.dia_io.specs.declared.Exit.{Exit}
 use Rattle.dia_io.specs.declared.Exit.TheVariants as exits
 use Rattle.dia_io.specs.declared.Input.{Input}
@@ -26,7 +26,7 @@ refused_text false input bad = line (bad_input_text bad)
 -- the line where nothing differs, or lines
 abbrev pub IsDiffText : Bool → Exit → List ℕ → Type 0
 IsDiffText json exits.Yes text = text ≡ same_text json
-IsDiffText json exits.No text = ¬ (text ≡ [])
+IsDiffText json exits.No text = 0 < length text
 IsDiffText json exits.Bad text = ⊥
 
 -- the dictionaries are read and answered, or one is refused

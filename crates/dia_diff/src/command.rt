@@ -179,7 +179,7 @@ fn written<A: Book, B: Book>(
     for line in lines {
         push(alloc, &mut text, json, a, b, line)?;
     }
-    if text.is_empty() {
+    if text.as_str().is_empty() {
         return same(alloc, json);
     }
     Ok(Answered {
@@ -212,12 +212,7 @@ fn same_line(json: bool) -> &'static str
 }
 
 /// The answer where a dictionary is refused.
-fn refuse(
-    alloc: Global,
-    json: bool,
-    input: &Input,
-    bad: BadInput,
-) -> Result<Answered, AllocError>
+fn refuse(alloc: Global, json: bool, input: &Input, bad: BadInput) -> Result<Answered, AllocError>
     ensures text { IfOk result (λ a. string_bytes a.text ≡ refused_text json input.now bad) }
     ensures exit { IfOk result (λ a. a.exit ≡ Exit.Bad) }
 {

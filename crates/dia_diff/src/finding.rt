@@ -153,7 +153,14 @@ fn of_level<A: Book, B: Book>(
     let side = traffic.side;
     let mut rules = Vec::new(alloc);
     push_rules(&mut rules, subjects, side, traffic.sender, own, line)?;
-    push_rules(&mut rules, subjects, side.other(), traffic.receiver, other, line)?;
+    push_rules(
+        &mut rules,
+        subjects,
+        side.other(),
+        traffic.receiver,
+        other,
+        line,
+    )?;
     if !rules.is_empty() {
         return Ok(rules);
     }

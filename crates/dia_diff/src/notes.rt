@@ -9,5 +9,7 @@ pub(crate) fn counts_of(alloc: Global, lines: &[Line]) -> Result<String, AllocEr
     let there = lines.iter().filter(|line| line.there).count();
     let back = lines.iter().filter(|line| line.back).count();
     let word = if count == 1 { "line" } else { "lines" };
-    format!(in alloc; "{count} {word}: {there} with what breaks A to B, {back} with what breaks B to A\n")
+    format!(in alloc;
+        "{count} {word}: {there} with what breaks A to B, {back} with what breaks B to A\n"
+    )
 }

@@ -24,7 +24,10 @@ pub(crate) enum Origin {
         line: LevelLine,
     },
     /// The flags or the data of an AVP.
-    Avp { key: Key, field: Option<AvpField> },
+    Avp {
+        key: Key,
+        field: Option<AvpField>,
+    },
 }
 
 /// What a line about a command of the sender is about.

@@ -21,11 +21,7 @@ pub(crate) fn push_object(out: &mut String, parts: &Parts<'_>) -> Result<(), All
     out.push_str(breaks(parts.there, parts.back))
 }
 
-fn push_words(
-    out: &mut String,
-    member: &str,
-    words: &Option<String>,
-) -> Result<(), AllocError> {
+fn push_words(out: &mut String, member: &str, words: &Option<String>) -> Result<(), AllocError> {
     match words {
         Some(words) => {
             let words = words.as_str();

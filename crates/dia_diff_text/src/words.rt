@@ -93,11 +93,18 @@ fn push_ranges(out: &mut String, ranges: &[(u32, u32)]) -> Result<(), AllocError
 pub(crate) fn push_header(out: &mut String, head: DefHead) -> Result<(), AllocError> {
     match head {
         DefHead::Command {
-            code, class, app, ..
+            code,
+            class,
+            app,
+            ..
         } => {
             write!(out, "< Diameter Header: {code}")?;
             out.push_str(if class == Class::Request { ", REQ" } else { "" })?;
-            out.push_str(if pxy_of(head) == Pxy::Set { ", PXY" } else { "" })?;
+            out.push_str(if pxy_of(head) == Pxy::Set {
+                ", PXY"
+            } else {
+                ""
+            })?;
             if let Some(app) = app {
                 write!(out, ", {app}")?;
             }

@@ -34,9 +34,7 @@ fn names_of<B: Book>(alloc: Global, book: &B) -> Result<IndexSet<&str>, AllocErr
 /// The key that a word names: that of the AVP of this name, or `CODE[:VENDOR]`. No name is a number.
 fn key_of<B: Book>(book: &B, names: &IndexSet<&str>, word: &str) -> Option<Key> {
     match names.get_index_of(&word) {
-        Some(index) if index < book.entries() => {
-            Some(book.entry_key(book.entry_at(index)))
-        }
+        Some(index) if index < book.entries() => { Some(book.entry_key(book.entry_at(index))) }
         _ => numbers_of(word),
     }
 }

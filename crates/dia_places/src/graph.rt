@@ -44,11 +44,7 @@ fn owners_of<B: Book>(alloc: Global, book: &B) -> Result<Vec<Owner>, AllocError>
 }
 
 /// The definitions as nodes, each at its number.
-fn nodes_of<B: Book>(
-    alloc: Global,
-    book: &B,
-    owners: &[Owner],
-) -> Result<Vec<Node>, AllocError> {
+fn nodes_of<B: Book>(alloc: Global, book: &B, owners: &[Owner]) -> Result<Vec<Node>, AllocError> {
     let mut nodes = Vec::new(alloc);
     for of in owners {
         nodes.push(node_of(alloc, book, *of)?)?;
@@ -113,11 +109,7 @@ fn start_of<B: Book>(alloc: Global, book: &B) -> Result<Exits, AllocError> {
 }
 
 /// The definitions of the steps.
-fn by_steps(
-    alloc: Global,
-    owners: &[Owner],
-    steps: &[Step],
-) -> Result<Vec<Reached>, AllocError> {
+fn by_steps(alloc: Global, owners: &[Owner], steps: &[Step]) -> Result<Vec<Reached>, AllocError> {
     let mut reached = Vec::new(alloc);
     for step in steps {
         if let Some(of) = owners.get(step.place).copied() {

@@ -1,5 +1,5 @@
 -- What is written of the places of AVPs, and how the command ends.
-use Rattle.std.specs.Prelude.{◌≡◌, ℕ, Bool, true, false, List, [], ◌++◌, codes}
+use Rattle.std.specs.Prelude.{◌≡◌, ℕ, ◌<◌, Bool, true, false, List, ◌++◌, length, codes}
 use Rattle.json.specs.Print.{quoted}
 use Rattle.dia_io.specs.declared.Exit.{Exit}
 use Rattle.dia_io.specs.declared.Exit.TheVariants as exits
@@ -29,7 +29,7 @@ refused_text false input bad = line (bad_input_text bad)
 
 -- lines; the one where there is no place; or that of a word that names no AVP
 abbrev pub IsUsesText : Bool → Exit → List ℕ → Type 0
-IsUsesText json exits.Yes text = ¬ (text ≡ [])
+IsUsesText json exits.Yes text = 0 < length text
 IsUsesText json exits.No text = text ≡ nowhere_text json
 IsUsesText json exits.Bad text = (word : List ℕ) × (text ≡ unknown_text json word)
 

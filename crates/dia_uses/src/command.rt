@@ -125,7 +125,7 @@ fn uses<B: Book>(
 fn ended(alloc: Global, json: bool, lines: String) -> Result<Answered, AllocError>
     ensures { IfOk result (λ a. IsUsesText json a.exit (string_bytes a.text)) }
 {
-    if lines.is_empty() {
+    if lines.as_str().is_empty() {
         return nowhere(alloc, json);
     }
     Ok(Answered {
@@ -181,12 +181,7 @@ fn unknown_line(alloc: Global, json: bool, word: &str) -> Result<String, AllocEr
 }
 
 /// The answer where the dictionary is refused.
-fn refuse(
-    alloc: Global,
-    json: bool,
-    input: &Input,
-    bad: BadInput,
-) -> Result<Answered, AllocError>
+fn refuse(alloc: Global, json: bool, input: &Input, bad: BadInput) -> Result<Answered, AllocError>
     ensures text { IfOk result (λ a. string_bytes a.text ≡ refused_text json input.now bad) }
     ensures exit { IfOk result (λ a. a.exit ≡ Exit.Bad) }
 {

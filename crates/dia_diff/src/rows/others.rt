@@ -1,6 +1,20 @@
-//! Dictionaries of which nothing differs, and some that are refused.
+//! All together, dictionaries of which nothing differs, and some that are refused.
 
-pub(super) const ROWS: &str = r#"== nothing; options -; status 0
+pub(super) const ROWS: &str = r#"== all kinds of lines together; options listed; status 1
+%avp Price 9001 vendor 32473 Unsigned32 must
+%avp Note 9002 vendor 32473 UTF8String must
+<Sale-Request> ::= < Diameter Header: 316, REQ, 16777301 > { Price } * [ Note ] * [ AVP ]
+--
+%avp Price 9001 vendor 32473 Unsigned64 must
+%avp Note 9002 vendor 32473 UTF8String must
+%avp Kind 9003 vendor 32473 Enumerated any ( 0..3 )
+<Sale-Request> ::= < Diameter Header: 316, REQ, 16777301 > { Price } [ Note ] [ Kind ] * [ AVP ]
+--
+~ AVP Price: format Unsigned32 -> Unsigned64; breaks A to B, breaks B to A
++ AVP Kind 9003 vendor 32473 Enumerated any ( 0..3 ); breaks B to A
+~ command Sale-Request: [ Note ] 0..* -> [ Note ] 0..1; breaks A to B
++ command Sale-Request: [ Kind ] 0..1
+== nothing; options -; status 0
 %avp X 9001 Unsigned32 any
 <C> ::= < Diameter Header: 302, REQ > [ X ]
 --

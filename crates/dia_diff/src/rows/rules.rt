@@ -1,6 +1,7 @@
 //! Rules that differ.
 
-pub(super) const ROWS: &str = r#"== a rule that is added, and one that is removed; options listed; status 1
+pub(super) const ROWS: &str =
+    r#"== a rule that is added, and one that is removed; options listed; status 1
 %avp X 9001 Unsigned32 any
 %avp Y 9002 Unsigned32 any
 <C> ::= < Diameter Header: 302, REQ > [ X ]
