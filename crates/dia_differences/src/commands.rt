@@ -23,7 +23,14 @@ pub fn push_commands<A: Book, B: Book>(
                 let own = a.def(a.command_at(first));
                 let other = b.def(b.command_at(second));
                 push_fields(lines, own, first, other, second)?;
-                push_rules(lines, a, Owner::Command(first), b, Owner::Command(second), partners)?;
+                push_rules(
+                    lines,
+                    a,
+                    Owner::Command(first),
+                    b,
+                    Owner::Command(second),
+                    partners,
+                )?;
             }
             None => push_alone(lines, Side::First, a, first)?,
         }

@@ -11,7 +11,10 @@ pub type Selector = (Option<u32>, Class, Option<u32>);
 pub fn selector_of(head: DefHead) -> Selector {
     match head {
         DefHead::Command {
-            code, class, app, ..
+            code,
+            class,
+            app,
+            ..
         } => (Some(code), class, app),
         DefHead::Group(_) | DefHead::Error { .. } => (None, Class::Error, None),
     }

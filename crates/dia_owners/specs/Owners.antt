@@ -1,5 +1,5 @@
 -- The definitions of a dictionary, by what they are of.
-use Rattle.std.specs.Prelude.{ℕ, ◌+◌, nat_lt, if◌then◌else◌, List, length, Option, Some, None}
+use Rattle.std.specs.Prelude.{ℕ, ◌+◌, nat_lt, if◌then◌else◌, length, Option, Some, None}
 use Rattle.dia_book.specs.Dictionary.{Dictionary, group_place, groups}
 use Rattle.dia_owners.specs.declared.owner.Owner.{Owner}
 use Rattle.dia_owners.specs.declared.owner.Owner.TheVariants.{Avp, Command}

@@ -28,9 +28,7 @@ impl Owner {
     /// The name of the AVP or the command, empty where the dictionary doesn't have it.
     pub fn name<B: Book>(self, book: &B) -> &str {
         match self {
-            Owner::Avp(index) if index < book.entries() => {
-                book.entry_name(book.entry_at(index))
-            }
+            Owner::Avp(index) if index < book.entries() => { book.entry_name(book.entry_at(index)) }
             Owner::Command(index) if index < book.commands() => {
                 book.def(book.command_at(index)).name.as_str()
             }
