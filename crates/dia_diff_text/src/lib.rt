@@ -1,8 +1,8 @@
 //! The lines of `diff`, as text and as JSON.
 #![tactic(auto)]
 
-mod json;
 mod line;
+mod objects;
 mod parts;
 mod words;
 mod writing;

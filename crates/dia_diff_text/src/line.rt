@@ -1,6 +1,6 @@
 //! A line, in the form that is asked for.
 
-use crate::json::push_object;
+use crate::objects::push_object;
 use crate::parts::parts_of;
 use crate::writing::push_line;
 use dia_book::Book;

@@ -2,8 +2,8 @@
 #![tactic(auto)]
 
 mod command;
-mod json;
 mod notes;
+mod objects;
 #[cfg(test)]
 mod rows;
 mod writing;

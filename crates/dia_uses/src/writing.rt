@@ -1,6 +1,6 @@
 //! The lines of an AVP.
 
-use crate::json::push_object;
+use crate::objects::push_object;
 use dia_book::{Book, RuleKind};
 use dia_owners::push_counts;
 use dia_places::{By, Reached, by_of, path_to};
