@@ -165,7 +165,7 @@ fn mark_both<A: Book, B: Book>(
     mark(alloc, lines, &subjects, &back)
 }
 
-/// The answer of these lines. There are some, so the text isn't empty.
+/// The answer of these lines.
 fn written<A: Book, B: Book>(
     alloc: Global,
     json: bool,
@@ -179,14 +179,22 @@ fn written<A: Book, B: Book>(
     for line in lines {
         push(alloc, &mut text, json, a, b, line)?;
     }
-    if text.as_str().is_empty() {
-        return same(alloc, json);
+    ended(alloc, json, text)
+}
+
+/// The answer of a text: where it is empty, nothing differs.
+fn ended(alloc: Global, json: bool, text: String) -> Result<Answered, AllocError>
+    ensures { IfOk result (λ a. IsDiffText json a.exit (string_bytes a.text)) }
+{
+    if text.as_str().len() > 0 {
+        Ok(Answered {
+            text,
+            exit: Exit::No,
+            report: Report::Done,
+        })
+    } else {
+        same(alloc, json)
     }
-    Ok(Answered {
-        text,
-        exit: Exit::No,
-        report: Report::Done,
-    })
 }
 
 /// The answer where nothing differs.

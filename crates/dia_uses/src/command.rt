@@ -125,14 +125,15 @@ fn uses<B: Book>(
 fn ended(alloc: Global, json: bool, lines: String) -> Result<Answered, AllocError>
     ensures { IfOk result (λ a. IsUsesText json a.exit (string_bytes a.text)) }
 {
-    if lines.as_str().is_empty() {
-        return nowhere(alloc, json);
+    if lines.as_str().len() > 0 {
+        Ok(Answered {
+            text: lines,
+            exit: Exit::Yes,
+            report: Report::Done,
+        })
+    } else {
+        nowhere(alloc, json)
     }
-    Ok(Answered {
-        text: lines,
-        exit: Exit::Yes,
-        report: Report::Done,
-    })
 }
 
 /// The answer where there is no line.
