@@ -1,6 +1,7 @@
 //! Where both dictionaries have what a cause is about, and what can be changed.
 
-use crate::places::{Avp, Places};
+use crate::namesakes::Number;
+use crate::places::{Avp, Places, rule_place};
 use dia_ccf::Def;
 use dia_explain_places::{InputTexts, Note};
 use dia_report::BothBooks;
@@ -126,63 +127,61 @@ fn push_heads(note: &mut Note, first: &Places<'_>, second: &Places<'_>, cause: &
 
 /// Adds the rules of both for the AVP, or the heads of the definitions that have none.
 fn push_rules(note: &mut Note, first: &Places<'_>, second: &Places<'_>, cause: &Cause<'_>) {
-    let Some((own, other)) = definitions(first, second, cause) else {
-        return;
-    };
-    push_spot(
-        note,
-        first,
-        first.rule(own, cause.subject).unwrap_or(own.at),
-    );
-    if let Some(other) = other {
-        let subject = second_name(first, second, cause.subject);
-        push_spot(
-            note,
-            second,
-            second.rule(other, subject).unwrap_or(other.at),
-        );
+    if let Some(own) = definition(first, cause) {
+        push_spot(note, first, rule_place(own, cause.subject));
+    }
+    if let Some(other) = same_definition(first, second, cause) {
+        let place = match same_name(first, second, cause.subject) {
+            Some(name) => rule_place(other, name),
+            None => rule_place(other, cause.subject),
+        };
+        push_spot(note, second, place);
     }
 }
 
 /// Adds the declarations of the AVP in both.
 fn push_avps(note: &mut Note, first: &Places<'_>, second: &Places<'_>, cause: &Cause<'_>) {
-    if let Some(own) = first.avp(cause.subject) {
+    let own = first.avp(cause.subject);
+    if let Some(own) = own {
         push_spot(note, first, own.at);
     }
-    if let Some(other) = second.avp(second_name(first, second, cause.subject)) {
+    let other = match own {
+        Some(own) => same_avp(second, own.number),
+        None => second.avp(cause.subject),
+    };
+    if let Some(other) = other {
         push_spot(note, second, other.at);
     }
 }
 
-/// The definition of the first dictionary that the path leads to, and that of the second, if it has one.
-fn definitions<'a, 'b>(
-    first: &Places<'a>,
+/// The definition that the path leads to.
+fn definition<'a>(first: &Places<'a>, cause: &Cause<'_>) -> Option<&'a Def> {
+    match cause.group() {
+        Some(name) => first.avp(name)?.group,
+        None => first.command(cause.command()),
+    }
+}
+
+/// The definition of the second dictionary for the level that the path leads to.
+fn same_definition<'b>(
+    first: &Places<'_>,
     second: &Places<'b>,
     cause: &Cause<'_>,
-) -> Option<(&'a Def, Option<&'b Def>)> {
+) -> Option<&'b Def> {
     match cause.group() {
-        Some(name) => {
-            let own = first.avp(name)?;
-            Some((own.group?, group_of(second, own)))
-        }
-        None => {
-            let own = first.command(cause.command())?;
-            Some((own, second.same_command(own)))
-        }
+        Some(name) => same_avp(second, first.avp(name)?.number)?.group,
+        None => second.same_command(first.command(cause.command())?),
     }
 }
 
-/// The group of the same AVP.
-fn group_of<'b>(second: &Places<'b>, own: Avp<'_>) -> Option<&'b Def> {
-    second.avp(second.name_of(own.number)?)?.group
+/// The AVP of a number.
+fn same_avp<'b>(second: &Places<'b>, number: Number) -> Option<Avp<'b>> {
+    second.avp(second.name_of(number)?)
 }
 
-/// The second dictionary's name of the AVP that has a name in the first, or else this name.
-fn second_name<'n>(first: &Places<'_>, second: &Places<'n>, name: &'n str) -> &'n str {
-    match first.avp(name) {
-        Some(avp) => second.name_of(avp.number).unwrap_or(name),
-        None => name,
-    }
+/// The second dictionary's name of the AVP that has a name in the first.
+fn same_name<'b>(first: &Places<'_>, second: &Places<'b>, name: &str) -> Option<&'b str> {
+    second.name_of(first.avp(name)?.number)
 }
 
 /// Adds the place of a declaration, a head or a rule, and its text.
@@ -237,21 +236,17 @@ struct Fixes {
 }
 
 fn push_fixes(note: &mut Note, first: &Places<'_>, second: &Places<'_>, fixes: Fixes) {
-    let Fixes {
-        in_second,
-        in_first,
-    } = fixes;
-    note.put_all(&[
-        "hint: in ",
-        second.name,
-        ": ",
-        in_second,
-        "; or in ",
-        first.name,
-        ": ",
-        in_first,
-        "\n",
-    ]);
+    push_fix(note, "hint: in ", second, fixes.in_second);
+    push_fix(note, "; or in ", first, fixes.in_first);
+    note.put("\n");
+}
+
+/// Adds what can be changed in one dictionary.
+fn push_fix(note: &mut Note, front: &str, places: &Places<'_>, fix: &str) {
+    note.put(front);
+    note.put(places.name);
+    note.put(": ");
+    note.put(fix);
 }
 
 /// The fixes of a reason, as docs/FAULTS.md has them.

@@ -34,8 +34,6 @@ pub(crate) struct Places<'a> {
     numbered: BTreeMap<Number, &'a str>,
     commands: BTreeMap<&'a str, &'a Def>,
     kinds: BTreeMap<CommandKind, &'a Def>,
-    /// The place of each rule, by the place of its definition and the AVP's name, `AVP` for the wildcard.
-    rules: BTreeMap<(usize, &'a str), usize>,
 }
 
 impl<'a> Places<'a> {
@@ -51,7 +49,6 @@ impl<'a> Places<'a> {
             numbered: BTreeMap::new(alloc),
             commands: BTreeMap::new(alloc),
             kinds: BTreeMap::new(alloc),
-            rules: BTreeMap::new(alloc),
         };
         for decl in &source.avps {
             let number = Number {
@@ -90,20 +87,13 @@ impl<'a> Places<'a> {
                 Some(def),
             )?;
         }
-        self.add_rules(def)
+        Ok(())
     }
 
     fn add_command(&mut self, def: &'a Def) -> Result<(), AllocError> {
         self.commands.insert(def.name.as_str(), def)?;
         if let Some(kind) = kind_of(def) {
             self.kinds.insert(kind, def)?;
-        }
-        self.add_rules(def)
-    }
-
-    fn add_rules(&mut self, def: &'a Def) -> Result<(), AllocError> {
-        for rule in &def.rules {
-            self.rules.insert((def.at, rule.slot_name()), rule.at)?;
         }
         Ok(())
     }
@@ -138,14 +128,21 @@ impl<'a> Places<'a> {
             _ => None,
         }
     }
+}
 
-    /// The place of the rule for an AVP in a definition, else that of the wildcard.
-    pub fn rule(&self, def: &Def, avp: &str) -> Option<usize> {
-        match self.rules.get(&(def.at, avp)) {
-            Some(at) => Some(*at),
-            None => self.rules.get(&(def.at, "AVP")).copied(),
+/// The place of the rule for an AVP in a definition, else that of the wildcard, else that of the definition.
+pub(crate) fn rule_place(def: &Def, avp: &str) -> usize {
+    let mut place = def.at;
+    for rule in &def.rules {
+        let name = rule.slot_name();
+        if name == avp {
+            return rule.at;
+        }
+        if name == "AVP" {
+            place = rule.at;
         }
     }
+    place
 }
 
 /// The code, class and application of a definition. None of a group.
