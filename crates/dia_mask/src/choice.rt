@@ -1,6 +1,6 @@
 //! Which AVPs are masked.
 
-ghost use Rattle.std.specs.Prelude.{◌≡◌, ◌<◌, length};
+ghost use Rattle.std.specs.Prelude.{◌<◌, length};
 
 use dia_book::{Book, Entry, Format, Key};
 use std::alloc::{AllocError, Global};
@@ -29,9 +29,6 @@ pub struct Choice {
 }
 
 impl Choice {
-    ghost use Rattle.std.specs.Prelude.{Some};
-    ghost use Rattle.dia_mask.specs.Masked.{masks};
-
     /// By formats: texts, addresses and bytes are masked, but for Product-Name and Service-Context-Id; Framed-Interface-Id; and
     /// all that the dictionary doesn't know.
     pub fn by_format<B: Book>(alloc: Global, book: &B) -> Result<Choice, AllocError> {
@@ -54,23 +51,17 @@ impl Choice {
     }
 
     /// Whether the AVPs of an entry are masked.
-    pub fn masks(&self, entry: Entry) -> bool
-        ensures { result ≡ masks self.now (Some entry) }
-    {
+    pub fn masks(&self, entry: Entry) -> bool {
         self.masked.get(entry.index()).copied().unwrap_or(false)
     }
 
     /// Whether AVPs are masked that the dictionary doesn't know.
-    pub fn masks_unknown(&self) -> bool
-        ensures { result ≡ self.now.unknown }
-    {
+    pub fn masks_unknown(&self) -> bool {
         self.unknown
     }
 
     /// Whether an AVP is masked, by its entry if the dictionary knows it.
-    pub(crate) fn masks_avp(&self, entry: &Option<Entry>) -> bool
-        ensures { result ≡ masks self.now entry.now }
-    {
+    pub(crate) fn masks_avp(&self, entry: &Option<Entry>) -> bool {
         match entry {
             Some(entry) => self.masks(*entry),
             None => self.unknown,

@@ -1,10 +1,6 @@
 //! The masked bytes of a message.
 
-ghost use Rattle.std.specs.Prelude.{◌≡◌, ◌++◌, IfOk, OnOk, is_some};
 ghost use Rattle.dia_wire.specs.Wire.{BeginsWith, plain_avp};
-ghost use Rattle.dia_valid.specs.Valid.{group_at};
-ghost use Rattle.dia_mask.specs.Masked.{Adds, IsAround, IsLeafMasked, IsMasked, IsMessageMasked, IsNoAvpMasked};
-ghost use Rattle.dia_mask.specs.Masked.{is_masked, zeros};
 
 use crate::choice::Choice;
 use crate::counts::Counts;
@@ -58,9 +54,7 @@ pub fn mask_message<B: Book>(
     run: &mut Run,
     bytes: &[u8],
     out: &mut Vec<u8>,
-) -> Result<(), AllocError>
-    ensures masked { OnOk result (Adds (IsMessageMasked choice.now (B.meaning book.now) bytes.now) out.old.items out.new.items) }
-{
+) -> Result<(), AllocError> {
     match read_header(bytes) {
         Ok((_, length)) => {
             let end = bytes.len().min(length as usize);
@@ -89,9 +83,7 @@ fn mask_level<B: Book>(
     run: &mut Run,
     level: &[u8],
     out: &mut Vec<u8>,
-) -> Result<(), AllocError>
-    ensures { OnOk result (Adds (IsMasked choice.now (B.meaning book.now) level.now) out.old.items out.new.items) }
-{
+) -> Result<(), AllocError> {
     let mut outer = Vec::new(alloc);
     let mut rest = level;
     loop {
@@ -124,7 +116,6 @@ fn mask_level<B: Book>(
 /// The head and the padding of an AVP at the front of a level, which these bytes follow.
 fn edges_of<'a>(level: &'a [u8], avp: &Avp<'_>, following: &[u8]) -> Edges<'a>
     requires { BeginsWith (plain_avp avp.now) level.now following.now }
-    ensures { IsAround (plain_avp avp.now) level.entry.now following.now result.head.now result.padding.now }
 {
     let end = avp.length();
     Edges {
@@ -134,9 +125,7 @@ fn edges_of<'a>(level: &'a [u8], avp: &Avp<'_>, following: &[u8]) -> Edges<'a>
 }
 
 /// Whether an AVP is a group that the dictionary knows.
-fn is_group<B: Book>(book: &B, avp: &Avp<'_>) -> bool
-    ensures { result ≡ is_some (group_at (B.meaning book.now) (plain_avp avp.now)) }
-{
+fn is_group<B: Book>(book: &B, avp: &Avp<'_>) -> bool {
     match book.avp(key(avp)) {
         Some(entry) => book.group(entry).is_some(),
         None => false,
@@ -152,10 +141,7 @@ fn mask_leaf<B: Book>(
     avp: &Avp<'_>,
     padding: &[u8],
     out: &mut Vec<u8>,
-) -> Result<(), AllocError>
-    ensures { OnOk result (Adds (IsLeafMasked (is_masked choice.now (B.meaning book.now) (plain_avp avp.now)) avp.now.bytes.now padding.now)
-        out.old.items out.new.items) }
-{
+) -> Result<(), AllocError> {
     let entry = book.avp(key(avp));
     run.counts.add(alloc, &entry, avp.bytes)?;
     if choice.masks_avp(&entry) {
@@ -179,9 +165,7 @@ fn format_of<'b, B: Book>(book: &'b B, avp: &Avp<'_>) -> Option<&'b Format> {
 }
 
 /// Adds what is left of a level where no AVP begins: 8 bytes of a head, and then zeros. Fewer bytes are no head.
-fn push_no_avp(run: &mut Run, rest: &[u8], out: &mut Vec<u8>) -> Result<(), AllocError>
-    ensures { OnOk result (Adds (IsNoAvpMasked rest.now) out.old.items out.new.items) }
-{
+fn push_no_avp(run: &mut Run, rest: &[u8], out: &mut Vec<u8>) -> Result<(), AllocError> {
     if rest.len() < AVP_HEAD_LENGTH {
         return push_zeros(run, out, rest.len());
     }
@@ -190,9 +174,7 @@ fn push_no_avp(run: &mut Run, rest: &[u8], out: &mut Vec<u8>) -> Result<(), Allo
 }
 
 /// Adds zeros in place of so many bytes, and counts them.
-fn push_zeros(run: &mut Run, out: &mut Vec<u8>, count: usize) -> Result<(), AllocError>
-    ensures { OnOk result (out.new.items ≡ out.old.items ++ zeros count) }
-{
+fn push_zeros(run: &mut Run, out: &mut Vec<u8>, count: usize) -> Result<(), AllocError> {
     run.counts.zero(count);
     push_many(out, 0, count)
 }
