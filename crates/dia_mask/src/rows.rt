@@ -115,7 +115,7 @@ fn bytes_of(alloc: Global, text: &str) -> Result<Vec<u8>, AllocError> {
         return Vec::from_slice(alloc, text.as_bytes());
     };
     let mut bytes = Vec::new(alloc);
-    let mut high = None;
+    let mut high: Option<u8> = None;
     for digit in digits.as_bytes() {
         let value = value_of(*digit);
         match high {
