@@ -3,6 +3,7 @@ ghost use Rattle.std.specs.Prelude.{◌<◌, length};
 ghost use Rattle.dia_book.specs.Dictionary.{definitions};
 
 use crate::change::HeadChange;
+use crate::lookup::command_at;
 use dia_book::{Book, Class, DefHead, DefId, Pxy};
 use dia_wire::{COMMAND_ERROR, COMMAND_PROXIABLE, COMMAND_REQUEST};
 use std::alloc::{AllocError, Global};
@@ -184,7 +185,7 @@ fn first_request<B: Book>(book: &B) -> (u32, u32) {
             class: Class::Request,
             app,
             ..
-        } = book.def(book.command_at(index)).head
+        } = book.def(command_at(book, index)).head
         {
             return (code, app.unwrap_or(0));
         }

@@ -7,7 +7,7 @@ use crate::change::{Change, Part};
 use crate::data::Context;
 use crate::heads::Head;
 use crate::levels::{Run, runs_of};
-use crate::lookup::group_of;
+use crate::lookup::{command_at, group_of};
 use crate::stock::Stock;
 use dia_book::{Book, DRule, DefId, Definition, Key, RuleKind};
 use dia_breaking_shortest::shortest_head;
@@ -203,7 +203,7 @@ impl<'s, 'a, B: Book> Plan<'s, 'a, B> {
     fn new(alloc: Global, stock: &'s Stock<'a, B>, place: usize) -> Result<Self, AllocError>
         requires { place < length (B.meaning stock.now.book.now).commands }
     {
-        let command = stock.book.command_at(place);
+        let command = command_at(stock.book, place);
         let head = Head::of(stock.book, stock.book.def(command).head);
         let Found { reached, sites } = Found::new(alloc, stock, command)?;
         Ok(Plan {

@@ -58,10 +58,12 @@ fn has<B: Book>(
         &mut notes,
         &mut sink,
     );
-    let is_there = sink
-        .writer
-        .as_slice()
-        .split(|byte| *byte == b'\n')
-        .any(|found| found == wanted);
+    let text = str::from_utf8(sink.writer.as_slice()).expect(rt, line);
+    let mut is_there = false;
+    for found in text.lines() {
+        if found.as_bytes() == wanted {
+            is_there = true;
+        }
+    }
     assert!(rt; ended.is_ok() && is_there, "{line}");
 }
