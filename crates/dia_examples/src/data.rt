@@ -73,7 +73,7 @@ fn of_base(code: u32, format: &Format, context: Context) -> Option<Datum> {
 }
 
 /// The data of the format in a plain message, for all other AVPs.
-pub(crate) fn plain_of(format: &Format) -> Datum {
+fn plain_of(format: &Format) -> Datum {
     match format {
         Format::OctetString => Datum::Bytes(b"\0\0\0\x01"),
         Format::IpFilterRule => Datum::Bytes(b"permit in ip from any to any"),

@@ -1,7 +1,7 @@
 //! What leaves a message valid, done to one of its levels.
 
 use crate::change::LevelChange;
-use crate::data::{further, plain_of};
+use crate::data::{further, plain};
 use crate::plan::{Plan, Reached, is_fixed, some_of};
 use dia_book::{Book, DRule, Key, MRule};
 use std::alloc::{AllocError, Global};
@@ -43,7 +43,7 @@ impl<B: Book> Plan<'_, '_, B> {
             changes.push(LevelChange::Flag { rule, key, m: true })?;
         }
         let format = self.stock.book.format(entry);
-        let own = plain_of(format);
+        let own = plain(key, format, self.context());
         for datum in &further(alloc, format)? {
             if datum.as_slice() != own.as_slice() {
                 changes.push(LevelChange::Data {
@@ -77,7 +77,7 @@ impl<B: Book> Plan<'_, '_, B> {
         if optional >= 2 {
             changes.push(LevelChange::EachRule)?;
         }
-        if optional >= 2 && loose >= 2 {
+        if loose >= 2 {
             changes.push(LevelChange::Reversed)?;
         }
         Ok(())
