@@ -1,5 +1,5 @@
 -- What a check answers.
-use Rattle.std.proofs.Common.{◌≡◌, ◌≢◌, ℕ, List, Result, Err, subst}
+use Rattle.std.proofs.Common.{◌≢◌, ℕ, List, Result, Err, subst}
 use Rattle.dia_dict.specs.Dictionary.{Dictionary}
 use Rattle.dia_policy.specs.declared.Unknown.{Unknown}
 use Rattle.dia_policy.specs.declared.Levels.{Levels}

@@ -1,5 +1,5 @@
 -- The commands of verdicts.
-use Rattle.std.proofs.Common.{◌≡◌, ◌<◌, ℕ, length, Option, Some, Result, Ok, sym, subst}
+use Rattle.std.proofs.Common.{◌≡◌, ◌<◌, length, Some, Result, Ok, sym, subst}
 use Rattle.std.specs.Prelude.{IfOk}
 use Rattle.std.proofs.lemmas.Option.{same_Some}
 use Rattle.dia_dict.specs.Dictionary.{Dictionary, definitions}

@@ -1,6 +1,6 @@
 //! Vectors as JSON.
 
-ghost use Rattle.std.specs.Prelude.{◌≡◌, ◌<◌, ◌≢◌, Err, IfOk, length};
+ghost use Rattle.std.specs.Prelude.{◌<◌, ◌≢◌, Err, IfOk, length};
 ghost use Rattle.dia_dict.specs.Dictionary.{definitions};
 
 use crate::forms::Vector;
