@@ -3,7 +3,7 @@
 use dia_book::Key;
 
 /// An AVP of RFC 6733 that guidelines speak of.
-#[derive(Clone, Copy, PartialEq, Eq)]
+#[derive(Clone, Copy)]
 pub enum BaseAvp {
     AuthSessionState,
     DestinationHost,
@@ -19,8 +19,13 @@ pub enum BaseAvp {
 }
 
 impl BaseAvp {
+    ghost use Rattle.std.specs.Prelude.{◌≡◌};
+    ghost use Rattle.dia_lint.specs.BaseAvps.{base_code, base_key};
+
     /// The AVP's code (RFC 6733 section 4.5).
-    pub fn code(self) -> u32 {
+    pub fn code(self) -> u32
+        ensures { result ≡ base_code self }
+    {
         match self {
             BaseAvp::AuthSessionState => 277,
             BaseAvp::DestinationHost => 293,
@@ -54,7 +59,9 @@ impl BaseAvp {
     }
 
     /// The AVP's code, without a vendor.
-    pub fn key(self) -> Key {
+    pub fn key(self) -> Key
+        ensures { result ≡ base_key self }
+    {
         Key {
             code: self.code(),
             vendor: 0,

@@ -16,6 +16,9 @@ pub(crate) struct Lengths<'a, B: Book> {
 }
 
 impl<'a, B: Book> Lengths<'a, B> {
+    ghost use Rattle.std.specs.Prelude.{◌≡◌};
+    ghost use Rattle.dia_breaking_shortest.specs.Lengths.{length_of};
+
     pub fn new(alloc: Global, book: &'a B, sends: Sends) -> Result<Self, AllocError> {
         let least = least_lengths(alloc, book, sends)?;
         let others = others_of(alloc, book, &least)?;
@@ -27,7 +30,9 @@ impl<'a, B: Book> Lengths<'a, B> {
     }
 
     /// The length of a shortest AVP of the key, whatever lets it in.
-    pub fn key(&self, key: Key) -> u64 {
+    pub fn key(&self, key: Key) -> u64
+        ensures { result ≡ length_of (B.meaning self.now.book.now) self.now.least.sends self.now.least.lengths.items key }
+    {
         self.least.key(self.book, key)
     }
 }
@@ -70,7 +75,8 @@ impl<'a, B: Book> Costs for Lengths<'a, B> {
 
     fn other(&self, key: Key) -> u64 {
         match self.least.sends {
-            Sends::Any | Sends::Known => self.key(key),
+            Sends::Any => self.key(key),
+            Sends::Known => self.key(key),
             Sends::Listed => TOO_LONG,
         }
     }

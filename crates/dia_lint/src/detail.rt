@@ -5,7 +5,7 @@ use dia_book::{DefId, Key};
 use dia_terms::{FormatName, MRule, Pxy};
 
 /// What a finding says of its subject.
-#[derive(Clone, Copy, PartialEq, Eq)]
+#[derive(Clone, Copy)]
 pub enum Detail {
     /// A group requires an AVP of its own key.
     NeedsItself,

@@ -6,7 +6,7 @@ use crate::rule::Rule;
 use dia_book::{DefId, Entry, Key};
 
 /// What `lint` found of a dictionary. Entries and definitions are those of the book.
-#[derive(Clone, Copy, PartialEq, Eq)]
+#[derive(Clone, Copy)]
 pub struct Finding {
     pub rule: Rule,
     pub place: Place,
@@ -15,7 +15,7 @@ pub struct Finding {
 }
 
 /// The part of a dictionary at which a finding is reported.
-#[derive(Clone, Copy, PartialEq, Eq)]
+#[derive(Clone, Copy)]
 pub enum Place {
     /// An AVP: its declaration, and the head of its group where it has no declaration.
     Avp(Entry),
@@ -26,7 +26,7 @@ pub enum Place {
 }
 
 /// What a finding is about.
-#[derive(Clone, Copy, PartialEq, Eq)]
+#[derive(Clone, Copy)]
 pub enum Subject {
     /// A command or a group.
     Definition(DefId),
@@ -37,7 +37,7 @@ pub enum Subject {
 }
 
 /// The AVPs of one name.
-#[derive(Clone, Copy, PartialEq, Eq)]
+#[derive(Clone, Copy)]
 pub enum Named {
     /// Those of a key that the dictionary knows.
     Key(Key),

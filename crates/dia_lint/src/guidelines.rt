@@ -2,66 +2,67 @@
 //!
 //! A rule *lists* an AVP if its greatest count is above 0, and *requires* it if its least count is.
 
+ghost use Rattle.std.specs.Prelude.{◌≡◌, ◌<◌, ◌++◌, IfOk, OnOk, if◌then◌else◌, length, option_to_list};
+ghost use Rattle.dia_book.specs.Dictionary.{definitions};
+ghost use Rattle.dia_lint.specs.Guidelines.{about, at_head, at_rule, command_head, command_lines, group_lines};
+ghost use Rattle.dia_lint.specs.Guidelines.{is_proxiable, is_request, only_if, own_lines};
+
 mod base;
 mod closed;
+mod numbers;
 mod pairs;
 mod results;
 mod routing;
 mod sessions;
 
-ghost use Rattle.std.specs.Prelude.{◌<◌, length};
-ghost use Rattle.dia_book.specs.Dictionary.{definitions};
-
+use crate::base_avps::BaseAvp;
 use crate::books::{command_at, group_of};
+use crate::definitions::rule_or_head;
 use crate::detail::Detail;
-use crate::finding::{Finding, Place, Subject};
+use crate::finding::{Finding, Named, Place, Subject};
 use crate::rule::Rule;
 use base::push_base;
-use closed::{closed_command, closed_group, open_to_some};
+use closed::{closed_group, open_to_some};
 use dia_book::{Book, Class, DRule, DefHead, DefId, Pxy};
+use numbers::number_findings;
 use pairs::{Firsts, push_pairs};
-use results::{no_failed_avp, no_result};
-use routing::push_routing;
-use sessions::{no_session, session_place};
+use results::answer_findings;
+use routing::{hop_findings, origin_findings, realm_findings};
+use sessions::session_findings;
 use std::alloc::{AllocError, Global};
 
-/// The Command Codes for experiments (RFC 6733 section 3).
-const FIRST_EXPERIMENT: u32 = 16_777_214;
-
-const LAST_EXPERIMENT: u32 = 16_777_215;
-
-/// The Application-ID of relays (RFC 6733 section 2.4).
-const RELAY: u32 = 4_294_967_295;
-
-/// A command, with what guidelines ask of its head.
+/// The head of a command.
 #[derive(Clone, Copy)]
-pub(crate) struct Told<'a> {
-    pub def: DefId,
+pub(crate) struct Head {
     pub class: Class,
     /// None for errors.
     pub code: Option<u32>,
     pub app: Option<u32>,
     pub p: Pxy,
-    pub rules: &'a [DRule],
 }
 
-impl Told<'_> {
-    pub fn is_request(&self) -> bool {
-        self.class == Class::Request
+impl Head {
+    ghost use Rattle.std.specs.Prelude.{◌≡◌};
+    ghost use Rattle.dia_lint.specs.Guidelines.{is_proxiable, is_request};
+
+    pub fn is_request(&self) -> bool
+        ensures { result ≡ is_request self.now }
+    {
+        match self.class {
+            Class::Request => true,
+            Class::Answer => false,
+            Class::Error => false,
+        }
     }
 
-    /// Whether its messages may be proxied.
-    pub fn is_proxiable(&self) -> bool {
-        self.p != Pxy::Clear
-    }
-
-    /// A finding about the command at its head.
-    pub fn at_head(&self, rule: Rule, detail: Detail) -> Finding {
-        Finding {
-            rule,
-            place: Place::Head(self.def),
-            subject: Subject::Definition(self.def),
-            detail,
+    /// Whether the messages may be proxied.
+    pub fn is_proxiable(&self) -> bool
+        ensures { result ≡ is_proxiable self.now }
+    {
+        match self.p {
+            Pxy::Clear => false,
+            Pxy::Set => true,
+            Pxy::Either => true,
         }
     }
 }
@@ -72,89 +73,155 @@ pub fn guideline_findings<B: Book>(alloc: Global, book: &B) -> Result<Vec<Findin
     let mut found = Vec::new(alloc);
     for index in 0..book.commands() {
         let def = command_at(book, index);
-        if let Some(told) = told_of(book, def) {
-            push_command(&mut found, &told)?;
-            push_pairs(&mut found, book, &told, &firsts)?;
-        }
+        found.extend_from_slice(&command_guidelines(alloc, book, def)?)?;
+        push_pairs(&mut found, book, def, &firsts)?;
     }
     for index in 0..book.entries() {
         let entry = book.entry_at(index);
         if let Some(def) = group_of(book, entry) {
-            push_group(&mut found, def, &book.def(def).rules)?;
+            found.extend_from_slice(&group_guidelines(alloc, book, def)?)?;
         }
         push_base(&mut found, book, entry)?;
     }
     Ok(found)
 }
 
-pub(crate) fn told_of<B: Book>(book: &B, def: DefId) -> Option<Told<'_>>
+/// The findings of a command by its head and its rules alone. A group has none.
+pub fn command_guidelines<B: Book>(
+    alloc: Global,
+    book: &B,
+    def: DefId,
+) -> Result<Vec<Finding>, AllocError>
     requires { def < length (definitions (B.meaning book.now)) }
+    ensures { IfOk result (λ found. found.items ≡ command_lines (B.meaning book.now) def) }
 {
     let definition = book.def(def);
-    let rules = definition.rules.as_slice();
-    match definition.head {
+    match command_head(&definition.head) {
+        Some(head) => own_findings(alloc, def, &head, &definition.rules),
+        None => Ok(Vec::new(alloc)),
+    }
+}
+
+/// The findings of a group by its rules alone.
+pub fn group_guidelines<B: Book>(
+    alloc: Global,
+    book: &B,
+    def: DefId,
+) -> Result<Vec<Finding>, AllocError>
+    requires { def < length (definitions (B.meaning book.now)) }
+    ensures { IfOk result (λ found. found.items ≡ group_lines (B.meaning book.now) def) }
+{
+    let rules = &book.def(def).rules;
+    let mut found = Vec::new(alloc);
+    push(&mut found, open_to_some(def, rules))?;
+    push(&mut found, closed_group(def, rules))?;
+    Ok(found)
+}
+
+/// The head of a command.
+pub(crate) fn command_head(head: &DefHead) -> Option<Head>
+    ensures { result ≡ command_head head.now }
+{
+    match *head {
         DefHead::Group(_) => None,
         DefHead::Command {
             code,
             class,
             app,
             p,
-        } => Some(Told {
-            def,
+        } => Some(Head {
             class,
             code: Some(code),
             app,
             p,
-            rules,
         }),
-        DefHead::Error { p } => Some(Told {
-            def,
+        DefHead::Error { p } => Some(Head {
             class: Class::Error,
             code: None,
             app: None,
             p,
-            rules,
         }),
     }
 }
 
+fn own_findings(
+    alloc: Global,
+    def: DefId,
+    head: &Head,
+    rules: &[DRule],
+) -> Result<Vec<Finding>, AllocError>
+    ensures { IfOk result (λ found. found.items ≡ own_lines def head.now rules.now) }
+{
+    let mut found = origin_findings(alloc, def, head, rules)?;
+    found.extend_from_slice(&realm_findings(alloc, def, head, rules)?)?;
+    found.extend_from_slice(&hop_findings(alloc, def, head, rules)?)?;
+    found.extend_from_slice(&answer_findings(alloc, def, head, rules)?)?;
+    found.extend_from_slice(&session_findings(alloc, def, head, rules)?)?;
+    found.extend_from_slice(&number_findings(alloc, def, head, rules)?)?;
+    Ok(found)
+}
+
 /// Adds a finding, if there is one.
-pub(crate) fn push(found: &mut Vec<Finding>, finding: Option<Finding>) -> Result<(), AllocError> {
+pub(crate) fn push(found: &mut Vec<Finding>, finding: Option<Finding>) -> Result<(), AllocError>
+    ensures { OnOk result (found.new.items ≡ found.old.items ++ option_to_list finding) }
+{
     if let Some(finding) = finding {
         found.push(finding)?;
     }
     Ok(())
 }
 
-fn push_command(found: &mut Vec<Finding>, told: &Told<'_>) -> Result<(), AllocError> {
-    push_routing(found, told)?;
-    push(found, no_result(told))?;
-    push(found, no_failed_avp(told))?;
-    push(found, session_place(told))?;
-    push(found, no_session(told))?;
-    push(found, closed_command(told))?;
-    push(found, reserved_code(told))?;
-    push(found, reserved_app(told))
+/// The finding, if the test holds.
+pub(crate) fn only_if(test: bool, finding: Finding) -> Option<Finding>
+    ensures { result ≡ only_if test finding }
+{
+    if test { Some(finding) } else { None }
 }
 
-fn push_group(found: &mut Vec<Finding>, def: DefId, rules: &[DRule]) -> Result<(), AllocError> {
-    push(found, open_to_some(def, rules))?;
-    push(found, closed_group(def, rules))
-}
-
-fn reserved_code(told: &Told<'_>) -> Option<Finding> {
-    let code = told.code?;
-    if code == FIRST_EXPERIMENT || code == LAST_EXPERIMENT {
-        Some(told.at_head(Rule::Reserved, Detail::ForExperiments(code)))
-    } else {
-        None
+/// A finding about a definition at its head.
+pub(crate) fn at_head(def: DefId, rule: Rule, detail: Detail) -> Finding
+    ensures { result ≡ at_head def rule detail }
+{
+    Finding {
+        rule,
+        place: Place::Head(def),
+        subject: Subject::Definition(def),
+        detail,
     }
 }
 
-fn reserved_app(told: &Told<'_>) -> Option<Finding> {
-    if told.app == Some(RELAY) {
-        Some(told.at_head(Rule::Reserved, Detail::OfRelays))
-    } else {
-        None
+/// A finding about a definition, at the rule of an AVP if it has one.
+pub(crate) fn at_rule(
+    def: DefId,
+    rules: &[DRule],
+    rule: Rule,
+    avp: BaseAvp,
+    detail: Detail,
+) -> Finding
+    ensures { result ≡ at_rule def rules.now rule avp detail }
+{
+    Finding {
+        rule,
+        place: rule_or_head(def, rules, avp),
+        subject: Subject::Definition(def),
+        detail,
+    }
+}
+
+/// A finding about an AVP of the base protocol in the levels of a definition.
+pub(crate) fn about(
+    def: DefId,
+    rules: &[DRule],
+    rule: Rule,
+    avp: BaseAvp,
+    detail: Detail,
+) -> Finding
+    ensures { result ≡ about def rules.now rule avp detail }
+{
+    Finding {
+        rule,
+        place: rule_or_head(def, rules, avp),
+        subject: Subject::Within(def, Named::Base(avp)),
+        detail,
     }
 }

@@ -27,7 +27,7 @@ pub use base_table::BaseRow;
 pub use detail::Detail;
 pub use exact::exact_findings;
 pub use finding::{Finding, Named, Place, Subject};
-pub use guidelines::guideline_findings;
+pub use guidelines::{command_guidelines, group_guidelines, guideline_findings};
 pub use own_rules::rule_findings;
 pub use rule::{RULE_COUNT, RULES, Rule, RuleSet};
 pub use same_commands::command_findings;

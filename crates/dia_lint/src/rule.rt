@@ -1,7 +1,7 @@
 //! The rules of `lint`, by their words, sets and sections.
 
 /// A rule of `lint`, in the order in which findings of one place are reported.
-#[derive(Clone, Copy, PartialEq, Eq)]
+#[derive(Clone, Copy)]
 pub enum Rule {
     NoMessage,
     NoLevel,

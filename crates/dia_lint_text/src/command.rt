@@ -1,6 +1,6 @@
 //! The command, from its inputs to what is written.
 
-ghost use Rattle.std.specs.Prelude.{◌≡◌, ◌↔◌, ℕ, List, Err, IfOk, IsTrue, string_bytes};
+ghost use Rattle.std.specs.Prelude.{◌≡◌, ◌↔◌, ℕ, List, Err, IfOk, IsTrue};
 ghost use Rattle.std.specs.Io.KnownBytes.{Appends};
 ghost use Rattle.dia_io.specs.Writing.{AppendsFront};
 
@@ -39,7 +39,10 @@ pub fn write_lint<S: Sink>(
     sink: &mut S,
 ) -> Result<Reported, RunFault>
     requires { ¬ IsTrue (S.has_failed sink.old) }
+    ensures text { IfOk result (λ reported. (text : List ℕ) × Appends (S.written sink.old) (S.written sink.new) text) }
     ensures device { (result ≡ Err RunFault.Device) ↔ IsTrue (S.has_failed sink.new) }
+    ensures front { result ≡ Err RunFault.Device
+        → (text : List ℕ) × AppendsFront (S.written sink.old) (S.written sink.new) text }
     ensures no_memory { result ≡ Err RunFault.NoMemory → S.written sink.new ≡ S.written sink.old }
 {
     let Answered { text, exit, report } = answer(alloc, asked, inputs, notes)?;

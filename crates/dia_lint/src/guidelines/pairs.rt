@@ -1,6 +1,7 @@
 //! Requests and their answers.
 //!
 //! The answer to a request is what its application selects, and without an application the answer without one.
+
 ghost use Rattle.std.specs.Prelude.{◌<◌, IfSome, length};
 ghost use Rattle.dia_book.specs.Dictionary.{definitions};
 
@@ -10,10 +11,9 @@ use crate::commands::{selected, unnamed_app};
 use crate::definitions::lists;
 use crate::detail::Detail;
 use crate::finding::Finding;
-use crate::guidelines::routing::at_rule;
-use crate::guidelines::{Told, push, told_of};
+use crate::guidelines::{Head, at_head, at_rule, command_head, push};
 use crate::rule::Rule;
-use dia_book::{Book, Class, DefHead, DefId, Pxy};
+use dia_book::{Book, Class, DRule, DefId, Pxy};
 use std::alloc::{AllocError, Global};
 
 /// A request.
@@ -51,35 +51,37 @@ impl Firsts {
             session: none_for_each(alloc, count)?,
         };
         for index in 0..book.commands() {
-            if let Some(told) = told_of(book, command_at(book, index)) {
-                firsts.see(book, &told);
-            }
+            firsts.see(book, command_at(book, index));
         }
         Ok(firsts)
     }
 
-    fn see<B: Book>(&mut self, book: &B, told: &Told<'_>) {
-        match told.class {
-            Class::Request => self.see_request(book, told),
-            Class::Answer => {}
-            Class::Error => self.has_errors = true,
+    fn see<B: Book>(&mut self, book: &B, def: DefId)
+        requires { def < length (definitions (B.meaning book.now)) }
+    {
+        let definition = book.def(def);
+        if let Some(head) = command_head(&definition.head) {
+            match head.class {
+                Class::Request => self.see_request(book, def, &head, &definition.rules),
+                Class::Answer => {}
+                Class::Error => self.has_errors = true,
+            }
         }
     }
 
-    fn see_request<B: Book>(&mut self, book: &B, told: &Told<'_>) {
+    fn see_request<B: Book>(&mut self, book: &B, def: DefId, head: &Head, rules: &[DRule]) {
         if self.request.is_none() {
-            self.request = Some(told.def);
+            self.request = Some(def);
         }
-        let Some(answer) = answer_to(book, told, self.unnamed) else {
+        let Some(answer) = answer_to(book, head, self.unnamed) else {
             return;
         };
-        let request = request_of(told);
-        put_first(&mut self.any, answer, request);
-        if is_unlike(book, answer, told.p) {
-            put_first(&mut self.unlike, answer, request);
+        put_first(&mut self.any, answer, def, head.p);
+        if is_unlike(book, answer, head.p) {
+            put_first(&mut self.unlike, answer, def, head.p);
         }
-        if lists(told.rules, BaseAvp::SessionId) {
-            put_first(&mut self.session, answer, request);
+        if lists(rules, BaseAvp::SessionId) {
+            put_first(&mut self.session, answer, def, head.p);
         }
     }
 }
@@ -103,10 +105,10 @@ fn none_for_each(alloc: Global, count: usize) -> Result<Vec<Option<Request>>, Al
     Ok(list)
 }
 
-fn put_first(firsts: &mut Vec<Option<Request>>, answer: DefId, request: Request) {
+fn put_first(firsts: &mut Vec<Option<Request>>, answer: DefId, def: DefId, p: Pxy) {
     if let Some(first) = firsts.get_mut(answer.index()) {
         if first.is_none() {
-            *first = Some(request);
+            *first = Some(Request { def, p });
         }
     }
 }
@@ -118,27 +120,12 @@ fn first_of(firsts: &[Option<Request>], answer: DefId) -> Option<Request> {
     }
 }
 
-fn answer_to<B: Book>(book: &B, told: &Told<'_>, unnamed: u32) -> Option<DefId>
+fn answer_to<B: Book>(book: &B, head: &Head, unnamed: u32) -> Option<DefId>
     ensures within { IfSome result (λ def. def < length (definitions (B.meaning book.now))) }
 {
-    selected(book, told.code?, Class::Answer, told.app, unnamed)
-}
-
-fn request_of(told: &Told<'_>) -> Request {
-    Request {
-        def: told.def,
-        p: told.p,
-    }
-}
-
-/// The P flag of this definition's messages.
-fn p_of<B: Book>(book: &B, def: DefId) -> Option<Pxy>
-    requires { def < length (definitions (B.meaning book.now)) }
-{
-    match book.def(def).head {
-        DefHead::Group(_) => None,
-        DefHead::Command { p, .. } => Some(p),
-        DefHead::Error { p } => Some(p),
+    match head.code {
+        Some(code) => selected(book, code, Class::Answer, head.app, unnamed),
+        None => None,
     }
 }
 
@@ -146,8 +133,8 @@ fn p_of<B: Book>(book: &B, def: DefId) -> Option<Pxy>
 fn is_unlike<B: Book>(book: &B, def: DefId, p: Pxy) -> bool
     requires { def < length (definitions (B.meaning book.now)) }
 {
-    match p_of(book, def) {
-        Some(own) => own != p,
+    match command_head(&book.def(def).head) {
+        Some(head) => head.p != p,
         None => false,
     }
 }
@@ -156,68 +143,94 @@ fn is_unlike<B: Book>(book: &B, def: DefId, p: Pxy) -> bool
 pub(super) fn push_pairs<B: Book>(
     found: &mut Vec<Finding>,
     book: &B,
-    told: &Told<'_>,
+    def: DefId,
+    firsts: &Firsts,
+) -> Result<(), AllocError>
+    requires { def < length (definitions (B.meaning book.now)) }
+{
+    let definition = book.def(def);
+    let Some(head) = command_head(&definition.head) else {
+        return Ok(());
+    };
+    match head.class {
+        Class::Request => {
+            push(found, no_answer(book, def, &head, firsts))?;
+            push(found, no_error(def, firsts))
+        }
+        Class::Answer => push_answer(found, def, &head, &definition.rules, firsts),
+        Class::Error => push_errors(found, book, def, &head, &definition.rules),
+    }
+}
+
+fn push_answer(
+    found: &mut Vec<Finding>,
+    def: DefId,
+    head: &Head,
+    rules: &[DRule],
     firsts: &Firsts,
 ) -> Result<(), AllocError> {
-    match told.class {
-        Class::Request => {
-            push(found, no_answer(book, told, firsts))?;
-            push(found, no_error(told, firsts))
-        }
-        Class::Answer => {
-            push(found, no_request(told, firsts))?;
-            push(found, p_differs(told, first_of(&firsts.unlike, told.def)))?;
-            push(
-                found,
-                session_lost(told, first_of(&firsts.session, told.def)),
-            )
-        }
-        Class::Error => {
-            push(found, p_differs(told, first_not_allowed(book, told.p)))?;
-            push(found, session_lost(told, first_with_session(book)))
-        }
-    }
+    push(found, no_request(def, head, firsts))?;
+    push(found, p_differs(def, head, first_of(&firsts.unlike, def)))?;
+    push(
+        found,
+        session_lost(def, rules, first_of(&firsts.session, def)),
+    )
 }
 
-fn no_answer<B: Book>(book: &B, told: &Told<'_>, firsts: &Firsts) -> Option<Finding> {
-    match answer_to(book, told, firsts.unnamed) {
+fn push_errors<B: Book>(
+    found: &mut Vec<Finding>,
+    book: &B,
+    def: DefId,
+    head: &Head,
+    rules: &[DRule],
+) -> Result<(), AllocError> {
+    push(found, p_differs(def, head, first_not_allowed(book, head.p)))?;
+    push(found, session_lost(def, rules, first_with_session(book)))
+}
+
+fn no_answer<B: Book>(book: &B, def: DefId, head: &Head, firsts: &Firsts) -> Option<Finding> {
+    match answer_to(book, head, firsts.unnamed) {
         Some(_) => None,
-        None => Some(told.at_head(Rule::NoAnswer, selector(told))),
+        None => Some(at_head(def, Rule::NoAnswer, selector(head))),
     }
 }
 
-fn no_request(told: &Told<'_>, firsts: &Firsts) -> Option<Finding> {
-    match first_of(&firsts.any, told.def) {
+fn no_request(def: DefId, head: &Head, firsts: &Firsts) -> Option<Finding> {
+    match first_of(&firsts.any, def) {
         Some(_) => None,
-        None => Some(told.at_head(Rule::NoRequest, selector(told))),
+        None => Some(at_head(def, Rule::NoRequest, selector(head))),
     }
 }
 
-fn selector(told: &Told<'_>) -> Detail {
+fn selector(head: &Head) -> Detail {
     Detail::Selector {
-        code: told.code.unwrap_or(0),
-        app: told.app,
+        code: head.code.unwrap_or(0),
+        app: head.app,
     }
 }
 
 /// Errors answer any request (RFC 6733 section 7.2).
-fn no_error(told: &Told<'_>, firsts: &Firsts) -> Option<Finding> {
-    if firsts.has_errors || firsts.request != Some(told.def) {
+fn no_error(def: DefId, firsts: &Firsts) -> Option<Finding> {
+    if firsts.has_errors || firsts.request != Some(def) {
         None
     } else {
-        Some(told.at_head(Rule::NoError, Detail::NoErrors))
+        Some(at_head(def, Rule::NoError, Detail::NoErrors))
     }
 }
 
 /// An answer has the P flag of its request (RFC 6733 sections 6.2 and 7.2).
-fn p_differs(told: &Told<'_>, request: Option<Request>) -> Option<Finding> {
-    let Request { def, p } = request?;
-    let detail = Detail::Proxiable {
-        own: told.p,
-        of: def,
-        theirs: p,
-    };
-    Some(told.at_head(Rule::PDiffers, detail))
+fn p_differs(def: DefId, head: &Head, request: Option<Request>) -> Option<Finding> {
+    match request {
+        Some(request) => {
+            let detail = Detail::Proxiable {
+                own: head.p,
+                of: request.def,
+                theirs: request.p,
+            };
+            Some(at_head(def, Rule::PDiffers, detail))
+        }
+        None => None,
+    }
 }
 
 /// Whether errors with this P flag answer requests with the other.
@@ -226,36 +239,58 @@ fn allows(own: Pxy, theirs: Pxy) -> bool {
 }
 
 /// An answer has the Session-Id of its request (RFC 6733 section 6.2).
-fn session_lost(told: &Told<'_>, request: Option<Request>) -> Option<Finding> {
-    let of = request?.def;
+fn session_lost(def: DefId, rules: &[DRule], request: Option<Request>) -> Option<Finding> {
     let avp = BaseAvp::SessionId;
-    if lists(told.rules, avp) {
-        None
-    } else {
-        Some(at_rule(told, Rule::SessionLost, avp, Detail::HasSession(of)))
+    match request {
+        Some(request) if !lists(rules, avp) => {
+            let detail = Detail::HasSession(request.def);
+            Some(at_rule(def, rules, Rule::SessionLost, avp, detail))
+        }
+        _ => None,
     }
 }
 
 /// The first request that has Session-Id.
 fn first_with_session<B: Book>(book: &B) -> Option<Request> {
     for index in 0..book.commands() {
-        if let Some(told) = told_of(book, command_at(book, index)) {
-            if told.is_request() && lists(told.rules, BaseAvp::SessionId) {
-                return Some(request_of(&told));
-            }
+        let def = command_at(book, index);
+        if let Some(p) = request_with_session(book, def) {
+            return Some(Request { def, p });
         }
     }
     None
 }
 
+/// The P flag of a request that has Session-Id.
+fn request_with_session<B: Book>(book: &B, def: DefId) -> Option<Pxy>
+    requires { def < length (definitions (B.meaning book.now)) }
+{
+    let definition = book.def(def);
+    match command_head(&definition.head) {
+        Some(head) if head.is_request() && lists(&definition.rules, BaseAvp::SessionId) => {
+            Some(head.p)
+        }
+        _ => None,
+    }
+}
+
 /// The first request whose P flag errors with this one don't allow.
 fn first_not_allowed<B: Book>(book: &B, own: Pxy) -> Option<Request> {
     for index in 0..book.commands() {
-        if let Some(told) = told_of(book, command_at(book, index)) {
-            if told.is_request() && !allows(own, told.p) {
-                return Some(request_of(&told));
-            }
+        let def = command_at(book, index);
+        if let Some(p) = request_not_allowed(book, def, own) {
+            return Some(Request { def, p });
         }
     }
     None
+}
+
+/// The P flag of a request, if errors with the other don't allow it.
+fn request_not_allowed<B: Book>(book: &B, def: DefId, own: Pxy) -> Option<Pxy>
+    requires { def < length (definitions (B.meaning book.now)) }
+{
+    match command_head(&book.def(def).head) {
+        Some(head) if head.is_request() && !allows(own, head.p) => Some(head.p),
+        _ => None,
+    }
 }
