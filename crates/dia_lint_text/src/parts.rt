@@ -1,4 +1,5 @@
 //! The parts of a dictionary by which findings name their places and subjects.
+ghost use Rattle.std.specs.Prelude.{◌<◌, IfSome, length};
 
 use dia_book::{Book, DefId, Entry, Key};
 use dia_ccf::{Decl, Def, Head, Source};
@@ -115,7 +116,7 @@ fn put_group<'a, B: Book>(
     let Some(key) = key_of(group.head) else {
         return Ok(());
     };
-    let Some(entry) = book.avp(key) else {
+    let Some(entry) = entry_of(book, key) else {
         return Ok(());
     };
     if let Some(def) = book.group(entry) {
@@ -131,6 +132,13 @@ fn put_group<'a, B: Book>(
         })?;
     }
     Ok(())
+}
+
+/// The entry of a key.
+pub(crate) fn entry_of<B: Book>(book: &B, key: Key) -> Option<Entry>
+    ensures within { IfSome result (λ entry. entry < length (B.meaning book.now).entries) }
+{
+    book.avp(key)
 }
 
 fn key_of(head: Head) -> Option<Key> {

@@ -1,7 +1,7 @@
 //! The words of a finding: `SUBJECT: DETAIL`.
 
 use crate::details::push_detail;
-use crate::parts::Parts;
+use crate::parts::{Parts, entry_of};
 use dia_book::{Book, Key};
 use dia_lint::{Finding, Named, Subject};
 use std::alloc::{AllocError, Global};
@@ -16,7 +16,7 @@ pub(crate) struct Names<'a, B: Book> {
 impl<'a, B: Book> Names<'a, B> {
     /// The name of a key that the dictionary knows.
     pub fn key(&self, key: Key) -> &'a str {
-        match self.book.avp(key) {
+        match entry_of(self.book, key) {
             Some(entry) => self.book.entry_name(entry),
             None => "",
         }
