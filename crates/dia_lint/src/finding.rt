@@ -1,9 +1,12 @@
 //! A finding.
 
+ghost use Rattle.std.specs.Prelude.{◌≡◌, ◌++◌, OnOk, option_to_list};
+
 use crate::base_avps::BaseAvp;
 use crate::detail::Detail;
 use crate::rule::Rule;
 use dia_book::{DefId, Entry, Key};
+use std::alloc::AllocError;
 
 /// What `lint` found of a dictionary. Entries and definitions are those of the book.
 #[derive(Clone, Copy)]
@@ -45,4 +48,27 @@ pub enum Named {
     Others,
     /// Those of the base protocol.
     Base(BaseAvp),
+}
+
+/// Adds a finding, if there is one.
+pub(crate) fn push(found: &mut Vec<Finding>, finding: Option<Finding>) -> Result<(), AllocError>
+    ensures { OnOk result (found.new.items ≡ found.old.items ++ option_to_list finding) }
+{
+    if let Some(
+        Finding {
+            rule,
+            place,
+            subject,
+            detail,
+        },
+    ) = finding
+    {
+        found.push(Finding {
+            rule,
+            place,
+            subject,
+            detail,
+        })?;
+    }
+    Ok(())
 }

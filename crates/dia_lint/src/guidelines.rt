@@ -2,7 +2,7 @@
 //!
 //! A rule *lists* an AVP if its greatest count is above 0, and *requires* it if its least count is.
 
-ghost use Rattle.std.specs.Prelude.{◌≡◌, ◌<◌, ◌++◌, IfOk, OnOk, if◌then◌else◌, length, option_to_list};
+ghost use Rattle.std.specs.Prelude.{◌≡◌, ◌<◌, IfOk, length};
 ghost use Rattle.dia_book.specs.Dictionary.{definitions};
 ghost use Rattle.dia_lint.specs.Guidelines.{about, at_head, at_rule, command_head, command_lines, group_lines};
 ghost use Rattle.dia_lint.specs.Guidelines.{is_proxiable, is_request, only_if, own_lines};
@@ -19,7 +19,7 @@ use crate::base_avps::BaseAvp;
 use crate::books::{command_at, group_of};
 use crate::definitions::rule_or_head;
 use crate::detail::Detail;
-use crate::finding::{Finding, Named, Place, Subject};
+use crate::finding::{Finding, Named, Place, Subject, push};
 use crate::rule::Rule;
 use base::push_base;
 use closed::{closed_group, open_to_some};
@@ -159,16 +159,6 @@ fn own_findings(
     found.extend_from_slice(&session_findings(alloc, def, head, rules)?)?;
     found.extend_from_slice(&number_findings(alloc, def, head, rules)?)?;
     Ok(found)
-}
-
-/// Adds a finding, if there is one.
-pub(crate) fn push(found: &mut Vec<Finding>, finding: Option<Finding>) -> Result<(), AllocError>
-    ensures { OnOk result (found.new.items ≡ found.old.items ++ option_to_list finding) }
-{
-    if let Some(finding) = finding {
-        found.push(finding)?;
-    }
-    Ok(())
 }
 
 /// The finding, if the test holds.

@@ -3,7 +3,7 @@
 use crate::books::{command_at, group_of};
 use crate::definitions::wildcard_of;
 use crate::detail::Detail;
-use crate::finding::{Finding, Named, Place, Subject};
+use crate::finding::{Finding, Named, Place, Subject, push};
 use crate::rule::Rule;
 use dia_book::{Book, DRule, DefId, RuleKind};
 use std::alloc::{AllocError, Global};
@@ -26,9 +26,7 @@ pub fn rule_findings<B: Book>(alloc: Global, book: &B) -> Result<Vec<Finding>, A
 fn push_rules(found: &mut Vec<Finding>, def: DefId, rules: &[DRule]) -> Result<(), AllocError> {
     let wildcard = wildcard_of(rules);
     for index in 0..rules.len() {
-        if let Some(finding) = says_nothing(def, index, &rules[index], wildcard) {
-            found.push(finding)?;
-        }
+        push(found, says_nothing(def, index, &rules[index], wildcard))?;
     }
     Ok(())
 }

@@ -3,8 +3,7 @@ ghost use Rattle.std.specs.Prelude.{◌<◌, length};
 
 use crate::base_table::BaseRow;
 use crate::detail::Detail;
-use crate::finding::{Finding, Place, Subject};
-use crate::guidelines::push;
+use crate::finding::{Finding, Place, Subject, push};
 use crate::rule::Rule;
 use dia_book::{Book, Entry};
 use dia_terms::MRule;

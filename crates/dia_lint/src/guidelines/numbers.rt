@@ -4,9 +4,9 @@ ghost use Rattle.std.specs.Prelude.{◌≡◌, IfOk};
 ghost use Rattle.dia_lint.specs.Guidelines.{number_lines, reserved_app, reserved_code};
 
 use crate::detail::Detail;
-use crate::finding::Finding;
+use crate::finding::{Finding, push};
 use crate::guidelines::closed::closed_command;
-use crate::guidelines::{Head, at_head, only_if, push};
+use crate::guidelines::{Head, at_head, only_if};
 use crate::rule::Rule;
 use dia_book::{DRule, DefId};
 use std::alloc::{AllocError, Global};

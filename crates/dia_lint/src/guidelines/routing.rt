@@ -7,8 +7,8 @@ ghost use Rattle.dia_lint.specs.Guidelines.{origin_lines, realm_answered, realm_
 use crate::base_avps::BaseAvp;
 use crate::definitions::{is_required, lists, takes_any_number};
 use crate::detail::Detail;
-use crate::finding::Finding;
-use crate::guidelines::{Head, about, at_rule, only_if, push};
+use crate::finding::{Finding, push};
+use crate::guidelines::{Head, about, at_rule, only_if};
 use crate::rule::Rule;
 use dia_book::{DRule, DefId};
 use std::alloc::{AllocError, Global};

@@ -6,8 +6,8 @@ ghost use Rattle.dia_lint.specs.Guidelines.{is_of_application, no_session, sessi
 use crate::base_avps::BaseAvp;
 use crate::definitions::{comes_first, is_required, lists};
 use crate::detail::Detail;
-use crate::finding::Finding;
-use crate::guidelines::{Head, at_head, at_rule, only_if, push};
+use crate::finding::{Finding, push};
+use crate::guidelines::{Head, at_head, at_rule, only_if};
 use crate::rule::Rule;
 use dia_book::{DRule, DefId};
 use std::alloc::{AllocError, Global};
