@@ -7,7 +7,7 @@ ghost use Rattle.dia_c_calls.specs.Avps.{HasAvps};
 ghost use Rattle.dia_c_calls.specs.Held.{dict_in};
 ghost use Rattle.dia_c_calls.specs.Verdicts.{IsNoMessage};
 
-use crate::avp_list::listed;
+use crate::avp_list::list_avps;
 use crate::avp_records::{MessageAvp, MessageHeader};
 use crate::handle::{DictHandle, owner_in};
 use crate::listing::Unshown;
@@ -46,7 +46,7 @@ pub fn avps(
     let Some(held) = handle.take(alloc) else {
         return IS_CLOSED;
     };
-    let made = listed(alloc, &**owner_in(&held), message);
+    let made = list_avps(alloc, &**owner_in(&held), message);
     handle.put(held);
     match made {
         Ok(found) => {

@@ -36,7 +36,7 @@ struct Rest<'a> {
 }
 
 /// The header and the AVPs of a message, each followed by the members of a group that the dictionary has.
-pub fn listed<B: Book>(alloc: Global, book: &B, message: &[u8]) -> Result<Listed, Unshown>
+pub fn list_avps<B: Book>(alloc: Global, book: &B, message: &[u8]) -> Result<Listed, Unshown>
     ensures done { IfOk result (λ found. HasAvps (B.meaning book.now) message.now found.header found.avps.items found.whole) }
     ensures no_message { IfErr result (λ e. (v : AnyVerdict) → e ≡ Unshown.NoMessage v → IsNoMessage message.now v) }
 {

@@ -37,7 +37,7 @@ mod upgrade;
 mod upgrades;
 mod verdict;
 mod verdict_line;
-mod verdict_text;
+mod verdict_words;
 mod wanted;
 mod words;
 

@@ -7,7 +7,7 @@ ghost use Rattle.dia_c_calls.specs.Replies.{IsAnswered, IsUnanswered};
 ghost use Rattle.dia_c_calls.specs.Verdicts.{Answers, IsUnknownPolicy, limit_of, policy_of};
 
 use crate::handle::{DictHandle, TextHandle, owner_in};
-use crate::reply::{Reply, names_of, reply};
+use crate::reply::{Reply, names_of, reply_to};
 use crate::status::{BAD_ARGUMENT, DONE, IS_CLOSED, IS_OPEN, NO_MEMORY, NONE};
 use crate::verdict::{Verdict, limit_of, policy_of};
 use std::alloc::{AllocError, Global};
@@ -59,7 +59,7 @@ pub fn answer(
     let Some(held) = handle.take(alloc) else {
         return IS_CLOSED;
     };
-    let found = reply(alloc, &**owner_in(&held), unknown, levels, &names, message);
+    let found = reply_to(alloc, &**owner_in(&held), unknown, levels, &names, message);
     handle.put(held);
     match found {
         Ok(Reply::Made(made)) => {

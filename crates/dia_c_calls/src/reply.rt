@@ -42,11 +42,14 @@ pub fn names_of<'a>(host: &'a [u8], realm: &'a [u8]) -> Option<Names<'a>>
     let Ok(realm) = str::from_utf8(realm) else {
         return None;
     };
-    Names::new(host, realm).ok()
+    match Names::new(host, realm) {
+        Ok(names) => Some(names),
+        Err(_) => None,
+    }
 }
 
 /// The answer to a request, or the verdict on a message that gets none.
-pub fn reply<B: Book>(
+pub fn reply_to<B: Book>(
     alloc: Global,
     book: &B,
     unknown: Unknown,
@@ -65,13 +68,13 @@ pub fn reply<B: Book>(
         × IsVerdictOn (B.meaning book.now) unknown levels message.now v) }
 {
     match answer(alloc, book, unknown, levels, names, message)? {
-        Ok(made) => Ok(Reply::Made(answered(alloc, made)?)),
+        Ok(made) => Ok(Reply::Made(boxed(alloc, made)?)),
         Err(_) => Ok(Reply::None(verdict_on(alloc, book, unknown, levels, message)?)),
     }
 }
 
 /// An answer that was made, in a box.
-fn answered(alloc: Global, made: Made) -> Result<Answered, AllocError>
+fn boxed(alloc: Global, made: Made) -> Result<Answered, AllocError>
     ensures text { IfOk result (λ a. text_in (Some a.text.value) ≡ Some made.bytes.items) }
     ensures is_text { IfOk result (λ a. ∥ MayBeText (Some a.text.value) ∥₁) }
     ensures form { IfOk result (λ a. a.form ≡ form_number made.form) }

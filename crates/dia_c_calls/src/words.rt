@@ -10,7 +10,7 @@ use crate::names::copied;
 use crate::numbers::{word_of_kind, word_of_reason, word_of_status};
 use crate::status::{BAD_ARGUMENT, DONE, IS_CLOSED, NO_MEMORY, NO_ROOM, NONE};
 use crate::verdict::Verdict;
-use crate::verdict_text::text_of;
+use crate::verdict_words::text_of;
 use std::alloc::{AllocError, Global};
 
 /// The word of a status.

@@ -1,6 +1,6 @@
 use Rattle.std.proofs.Common.{[], map}
 use Rattle.dia_run.proofs.RowsOfLevels.{IsUnderWay, left_to_read}
-use Rattle.dia_c_calls.proofs.Avps.{HasNumbers, all_numbers, rest_of}
+use Rattle.dia_c_calls.proofs.NumbersOfAvps.{HasNumbers, all_numbers, rest_of}
 use Rattle.dia_c_calls.proofs.avp_list.level_of.Given as goal
 
 abbrev pub invariant-loop-avp : goal.invariant-loop-avp

@@ -1,6 +1,6 @@
 use Rattle.std.proofs.lemmas.List.{nil_from_length}
 use Rattle.std.proofs.lemmas.Option.{MatchOption-at_none}
-use Rattle.dia_c_calls.proofs.Batches.{all_there}
+use Rattle.dia_c_calls.proofs.ManyMessages.{all_there}
 use Rattle.dia_c_calls.proofs.batch.checked_all.Goals as goal
 
 pub returns : goal.returns
