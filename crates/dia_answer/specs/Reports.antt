@@ -84,13 +84,6 @@ no_answer_word no_answer.TooLong = codes "too long"
 abbrev pub OnMade : (Made → Type 0) → Result (Result Made NoAnswer) AllocError → Type 0
 OnMade P result = IfOk result (λ found. IfOk found P)
 
--- an answer to the request that reports its first fault
-pub record IsReply (d : Dictionary) (u : Unknown) (most : Levels) (request : List ℕ) (made : Made) : Type 0 where
-  pub first_fault : IsRecorded d u most request made.fault
-  pub valid : IsValidBy d u most made.form made.bytes.items
-  pub processed : IsProcessed request made.fault.code made.form made.bytes.items
-  pub permanent : IsFormFor made.fault.code made.form
-
 -- ---- what the parts of the code answer
 
 -- a message with the request's header, whose AVPs have the Result-Code, and valid

@@ -1,7 +1,7 @@
 //! The names of the node that answers.
 
-ghost use Rattle.std.specs.Prelude.{◌≡◌, ◌↔◌, Err, IfErr, IfOk, IsTrue};
-ghost use Rattle.dia_answer.specs.Names.{IsName, IsNameFault};
+ghost use Rattle.std.specs.Prelude.{◌≡◌, ◌↔◌, Err, IfOk, IsTrue};
+ghost use Rattle.dia_answer.specs.Names.{IsName};
 
 use dia_book::{Format, Leaf, accepts};
 use thiserror::Error;
@@ -32,7 +32,6 @@ impl<'a> Names<'a> {
         ensures ok { IfOk result
             (λ names. (names.host.now ≡ host.now) × (names.realm.now ≡ realm.now)) }
         ensures names { IfOk result (λ _. IsName host.now × IsName realm.now) }
-        ensures fault { IfErr result (IsNameFault host.now realm.now) }
         ensures host { (result ≡ Err NameFault.Host) ↔ (¬ IsName host.now) }
         ensures realm { (result ≡ Err NameFault.Realm) ↔ (IsName host.now × (¬ IsName realm.now)) }
     {

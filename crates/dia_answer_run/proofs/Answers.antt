@@ -14,9 +14,9 @@ use Rattle.dia_run.specs.Outcome.{IsMessageOutcome, ended, no_dictionary, no_mes
 use Rattle.dia_run.specs.Texts.{line, IsDictionaryText, IsNoDictionaryText, IsMessageText, IsNoMessageText}
 use Rattle.dia_answer.specs.declared.Made.{Made}
 use Rattle.dia_answer.specs.declared.NoAnswer.{NoAnswer}
-use Rattle.dia_answer.specs.Reports.{IsNoAnswer, IsReply, no_answer_word}
+use Rattle.dia_answer.specs.Reports.{IsNoAnswer, no_answer_word}
 use Rattle.dia_answer_run.specs.declared.command.Answered.{Answered}
-use Rattle.dia_answer_run.specs.Outcome.{IsAnswerText, made, none}
+use Rattle.dia_answer_run.specs.Outcome.{IsAnswerText, IsReply, made, none}
 
 pub bad_dictionary : {E : Type 0} (u : Unknown) (most : Levels) (inputs : Inputs) (why : BadInput) (r : Result Answered E)
     → RecordsOf (λ recorded. (w : List ℕ) × IsNoDictionaryText inputs.first w × (recorded ≡ dictionary_line 1 w)) (Bad why)

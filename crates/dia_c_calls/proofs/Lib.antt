@@ -8,6 +8,7 @@ pub mod Next
 pub mod PeerCalls
 pub mod NoTables
 pub mod NodeNames
+pub mod Answered
 pub mod Places
 pub mod Recorded
 pub mod Unread
