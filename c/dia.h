@@ -235,63 +235,6 @@ dia_status dia_status_word(dia_status status, uint8_t *out, size_t out_len, size
 #define DIA_MAX_LINE 192u
 dia_status dia_verdict_text(dia_dict *dict, const dia_verdict *verdict, uint8_t *out, size_t out_len, size_t *count);
 
-/* ---- the AVPs of a message ---- */
-
-/* The data formats of docs/FORMATS.md, by the number that an AVP has. */
-enum {
-    DIA_F_UNKNOWN = 0, /* the dictionary does not have the AVP */
-    DIA_F_OCTET_STRING = 1,
-    DIA_F_INTEGER32 = 2,
-    DIA_F_INTEGER64 = 3,
-    DIA_F_UNSIGNED32 = 4,
-    DIA_F_UNSIGNED64 = 5,
-    DIA_F_FLOAT32 = 6,
-    DIA_F_FLOAT64 = 7,
-    DIA_F_GROUPED = 8,
-    DIA_F_ADDRESS = 9,
-    DIA_F_TIME = 10,
-    DIA_F_UTF8STRING = 11,
-    DIA_F_DIAMETER_IDENTITY = 12,
-    DIA_F_DIAMETER_URI = 13,
-    DIA_F_ENUMERATED = 14,
-    DIA_F_IP_FILTER_RULE = 15,
-    DIA_F_QOS_FILTER_RULE = 16
-};
-
-/* The fields of a header (RFC 6733 section 3). */
-typedef struct dia_header {
-    size_t length;        /* Message Length */
-    uint32_t flags;       /* Command Flags, 8 bits */
-    uint32_t code;        /* Command Code */
-    uint32_t app;         /* Application-ID */
-    uint32_t hop;         /* Hop-by-Hop Identifier */
-    uint32_t e2e;         /* End-to-End Identifier */
-    uint32_t has_command; /* 1: the dictionary has a command for the code, the flags R and E and the application; else 0 */
-    uint32_t command;     /* the number of this command, for dia_command_name; 0 without one */
-} dia_header;
-
-/* An AVP (section 4.1). dia_avp_name has its name. Offsets are in bytes from the first of the message. */
-typedef struct dia_avp {
-    size_t place;       /* where it begins */
-    size_t depth;       /* how many groups are around it; 0: it is in the body */
-    size_t length;      /* AVP Length: without the padding */
-    size_t data_place;  /* where its data begins */
-    size_t data_length; /* and how many bytes this has */
-    uint32_t code;
-    uint32_t vendor; /* Vendor-ID; 0 without one */
-    uint32_t flags;  /* AVP Flags, 8 bits */
-    uint32_t format; /* DIA_F_.. */
-} dia_avp;
-
-/* Delivers the header of a message and all its AVPs in the order of their bytes, each group that the dictionary has followed by its
- * members, as `diacmd show` lists them: *count of them, in avps[0] to avps[*count - 1]. *whole is 1 where they are all, and 0 where an
- * AVP Length that no AVP can have ends them. The message need not be valid.
- * DIA_NO_ROOM: there are *count AVPs, more than `avp_room`. DIA_REFUSED: the bytes are no message. *verdict says why, and is written on
- * no other status: DIA_TRUNCATED, DIA_TRAILING, or the fault of the version or of the Message Length. *count is written on DIA_OK and
- * DIA_NO_ROOM alone, *header, the AVPs and *whole on DIA_OK alone. It takes memory for the AVPs, and frees it. */
-dia_status dia_avps(dia_dict *dict, const uint8_t *message, size_t message_len, dia_header *header, dia_avp *avps, size_t avp_room,
-                    size_t *count, uint32_t *whole, dia_verdict *verdict);
-
 /* ---- messages that come in pieces ---- */
 
 /* A message that comes in pieces, and is checked while it comes. It holds its dictionary, at most 20 bytes of the message,

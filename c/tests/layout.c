@@ -68,24 +68,3 @@ AT(dia_stream, dia_state, 8);
 _Static_assert(sizeof(dia_fed) == 16, "dia_fed");
 AT(dia_fed, taken, 0);
 AT(dia_fed, done, 8);
-
-_Static_assert(sizeof(dia_header) == 40, "dia_header");
-AT(dia_header, length, 0);
-AT(dia_header, flags, 8);
-AT(dia_header, code, 12);
-AT(dia_header, app, 16);
-AT(dia_header, hop, 20);
-AT(dia_header, e2e, 24);
-AT(dia_header, has_command, 28);
-AT(dia_header, command, 32);
-
-_Static_assert(sizeof(dia_avp) == 56, "dia_avp");
-AT(dia_avp, place, 0);
-AT(dia_avp, depth, 8);
-AT(dia_avp, length, 16);
-AT(dia_avp, data_place, 24);
-AT(dia_avp, data_length, 32);
-AT(dia_avp, code, 40);
-AT(dia_avp, vendor, 44);
-AT(dia_avp, flags, 48);
-AT(dia_avp, format, 52);

@@ -1,4 +1,4 @@
-/* Words, the AVPs of a message, and checks of many messages. The words are those of docs/FAULTS.md, the rest is worked out by hand
+/* Words, and checks of many messages. The words are those of docs/FAULTS.md, the rest is worked out by hand
  * from RFC 6733. */
 #include "tests.h"
 
@@ -108,56 +108,6 @@ static void verdicts_have_lines(void) {
     dia_dict_close(&dict);
 }
 
-/* ---- AVPs ---- */
-
-static int is_avp(const dia_avp *avp, size_t place, size_t depth, size_t length, uint32_t code, uint32_t format) {
-    return avp->place == place && avp->depth == depth && avp->length == length && avp->data_place == place + 8
-        && avp->data_length == length - 8 && avp->code == code && avp->vendor == 0 && avp->flags == 0x40 && avp->format == format;
-}
-
-static int is_untouched(const dia_avp *avps, size_t count) {
-    return is_left((const uint8_t *)avps, count * sizeof *avps);
-}
-
-static void avps_are_delivered(void) {
-    /* an AVP of a vendor, without the M flag and with three bytes of data, and the padding of it */
-    static const uint8_t vendors[36] = {1, 0, 0, 36, 0x80, 0, 1, 0x18, 0, 0, 0, 4, 0, 0, 0, 7, 0, 0, 0, 9,
-                                        0, 0, 0x27, 0x0f, 0x80, 0, 0, 15, 0, 0, 0x28, 0xaf, 'a', 'b', 'c', 0};
-    dia_dict dict = DIA_DICT_INIT;
-    dia_avp avps[4];
-    dia_header header;
-    dia_verdict verdict = untouched;
-    uint8_t name[DIA_MAX_NAME], cut[sizeof watchdog];
-    size_t count = 99;
-    uint32_t whole = 99;
-    memset(avps, FILLING, sizeof avps);
-    EXPECT(dia_avps(&dict, grouped, sizeof grouped, &header, avps, 4, &count, &whole, &verdict) == DIA_IS_CLOSED);
-    EXPECT(dia_dict_open_base(&dict) == DIA_OK);
-    EXPECT(dia_avps(&dict, grouped, sizeof grouped, &header, avps, 2, &count, &whole, &verdict) == DIA_NO_ROOM);
-    EXPECT(count == 3 && whole == 99 && is_untouched(avps, 4));
-    EXPECT(dia_avps(&dict, grouped, sizeof grouped, &header, avps, 3, &count, &whole, &verdict) == DIA_OK && count == 3 && whole == 1);
-    EXPECT(header.length == 52 && header.flags == 0x80 && header.code == 257 && header.app == 0 && header.hop == 1 && header.e2e == 2);
-    EXPECT(is_avp(&avps[0], 20, 0, 32, 260, DIA_F_GROUPED) && is_avp(&avps[1], 28, 1, 12, 266, DIA_F_UNSIGNED32));
-    EXPECT(is_avp(&avps[2], 40, 1, 12, 258, DIA_F_UNSIGNED32) && is_untouched(avps + 3, 1));
-    EXPECT(header.has_command == 1 && dia_command_name(&dict, header.command, name, sizeof name, &count) == DIA_OK);
-    EXPECT(count == 3 && memcmp(name, "CER", 3) == 0);
-    EXPECT(dia_avps(&dict, vendors, sizeof vendors, &header, avps, 4, &count, &whole, &verdict) == DIA_OK && count == 1 && whole == 1);
-    EXPECT(header.app == 4 && header.hop == 7 && header.e2e == 9);
-    EXPECT(avps[0].place == 20 && avps[0].length == 15 && avps[0].data_place == 32 && avps[0].data_length == 3 && avps[0].code == 9999);
-    EXPECT(avps[0].vendor == 10415 && avps[0].flags == 0x80 && avps[0].format == DIA_F_UNKNOWN && avps[0].depth == 0);
-    memcpy(cut, watchdog, sizeof cut);
-    cut[51] = 7; /* an AVP has at least 8 bytes */
-    cut[5] = 1;  /* and no command has this code */
-    EXPECT(dia_avps(&dict, cut, sizeof cut, &header, avps, 4, &count, &whole, &verdict) == DIA_OK && count == 1 && whole == 0);
-    EXPECT(is_avp(&avps[0], 20, 0, 24, 264, DIA_F_DIAMETER_IDENTITY) && header.has_command == 0 && header.command == 0);
-    EXPECT(memcmp(&verdict, &untouched, sizeof verdict) == 0);
-    count = 99;
-    EXPECT(dia_avps(&dict, watchdog, 63, &header, avps, 4, &count, &whole, &verdict) == DIA_REFUSED);
-    EXPECT(verdict.outcome == DIA_TRUNCATED && count == 99);
-    EXPECT(dia_avps(&dict, watchdog, 20, &header, avps, 0, &count, &whole, &verdict) == DIA_REFUSED);
-    dia_dict_close(&dict);
-}
-
 /* ---- many messages ---- */
 
 static void many_are_checked(void) {
@@ -200,7 +150,6 @@ static void many_are_checked(void) {
 int main(void) {
     numbers_have_words();
     verdicts_have_lines();
-    avps_are_delivered();
     many_are_checked();
     return tell_counts();
 }

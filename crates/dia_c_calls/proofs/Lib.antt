@@ -1,6 +1,5 @@
 pub mod AllFound
 pub mod AsBox
-pub mod NumbersOfAvps
 pub mod ManyMessages
 pub mod ComparedHandles
 pub mod FedStreams

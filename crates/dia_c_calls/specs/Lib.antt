@@ -1,5 +1,4 @@
 pub mod AllFaults
-pub mod Avps
 pub mod Batches
 pub mod Comparisons
 pub mod Feedings

@@ -71,21 +71,13 @@ class Checks(unittest.TestCase):
         self.assertEqual(str(answer.verdict), "fault 5005 at 20 missing Origin-Host")
         # the header with R clear, and Result-Code 5005 (RFC 6733 sections 6.2 and 7.1)
         self.assertEqual((answer.form, answer.message[4:20]), (wittalen.Form.OWN, b"\0" + BARE[5:]))
-        avps = {avp.name: avp for avp in book.avps(answer.message)}
-        self.assertEqual(avps["Result-Code"].data, (5005).to_bytes(4, "big"))
-        self.assertEqual((avps["Origin-Host"].data, avps["Origin-Realm"].data), (b"host.invalid", b"invalid"))
+        self.assertIn(b"\0\0\x01\x0c\x40\0\0\x0c" + (5005).to_bytes(4, "big"), answer.message)
+        self.assertIn(b"\0\0\x01\x08\x40\0\0\x14host.invalid", answer.message)
+        self.assertIn(b"\0\0\x01\x28\x40\0\0\x0finvalid\0", answer.message)
         self.assertIsNone(book.answer(answer.message, "a", "b"))
         for host, realm in (("", "b"), ("a", "x" * 256), ("a b", "c"), ("a", "\u00e4")):
             with self.assertRaises(ValueError):
                 book.answer(BARE, host, realm)
-
-    def test_avps(self):
-        book = Dictionary(USAGE)
-        found = book.avps(report(*range(100)))
-        self.assertEqual((len(found), found[1]), (100, wittalen.Avp(32, 0, 12, 9002, 0, 0, "Usage", b"\0\0\0\1")))
-        self.assertEqual([avp.name for avp in Dictionary().avps(report(1))], [None])
-        with self.assertRaises(ValueError):
-            book.avps(report(1)[:-1])
 
     def test_types(self):
         book = Dictionary(USAGE)

@@ -72,21 +72,6 @@ class Answer:
 
 
 @dataclass(frozen=True)
-class Avp:
-    """An AVP of a message. `offset` and `data_offset` are in bytes from the message's first, `length` is AVP Length, and `depth` is
-    how many groups are around it. Without a Vendor-ID `vendor` is 0. `name` is None where the dictionary doesn't have it."""
-
-    offset: int
-    depth: int
-    length: int
-    code: int
-    vendor: int
-    flags: int
-    name: Optional[str]
-    data: bytes
-
-
-@dataclass(frozen=True)
 class Fault:
     """A fault of a dictionary's text. Lines and columns count from 1; they are None where the whole text is at fault."""
 
@@ -189,22 +174,6 @@ class Dictionary(Owner):
         require(status)
         return Answer(text.read_bytes(), Form(form.value), self._verdict(raw))
 
-    def avps(self, message: bytes) -> list[Avp]:
-        """The AVPs of a message, each group that the dictionary has followed by its members. An AVP Length that no AVP can have ends
-        them. Raises ValueError where the bytes have no message's header and length."""
-        header, count, whole, raw, data = _lib.RawHeader(), c.c_size_t(), c.c_uint32(), RawVerdict(), octets(message)
-        room = 64
-        while True:
-            found = (_lib.RawAvp * room)()
-            status = lib.dia_avps(self._handle, data, len(data), header, found, room, count, whole, raw)
-            if status != _lib.NO_ROOM:
-                break
-            room = count.value
-        if status == _lib.REFUSED:
-            raise ValueError(str(self._verdict(raw)))
-        require(status)
-        return [self._avp(avp, data) for avp in found[: count.value]]
-
     def show(self, message: bytes) -> str:
         """The lines that `diacmd show` writes, with the dictionary's names. Raises ValueError where the bytes have no message's
         header and length."""
@@ -229,11 +198,6 @@ class Dictionary(Owner):
         avp = subjects[raw.subject] if raw.subject in subjects else self._name(lib.dia_avp_name, (raw.avp_code, raw.avp_vendor))
         reason = REASONS[raw.reason] if raw.reason < len(REASONS) else f"reason-{raw.reason}"
         return Verdict(outcome, None, raw.code, raw.place, reason, avp)
-
-    def _avp(self, avp: _lib.RawAvp, data: bytes) -> Avp:
-        name = self._name(lib.dia_avp_name, (avp.code, avp.vendor)) if avp.format else None
-        octets_of = data[avp.data_place : avp.data_place + avp.data_length]
-        return Avp(avp.place, avp.depth, avp.length, avp.code, avp.vendor, avp.flags, name, octets_of)
 
     def _name(self, look_up: Any, key: tuple[int, ...]) -> str:
         name = self._names.get(key)
