@@ -98,10 +98,13 @@ abbrev pub reason_members : Reason → Option (List ℕ) → List ℕ → List �
 reason_members r section detail = codes ",\"" ++ kind r ++ codes "\":\"" ++ word r ++ codes "\"" ++ section_member section ++ codes ",\"text\":" ++ quoted detail
 
 -- the line that it speaks of
+abbrev pub line_word : Reason → List ℕ
+line_word reason.Order = codes "answer"
+line_word r = codes "request"
+
 abbrev pub line_member : Reason → Option ℕ → List ℕ
 line_member r None = []
-line_member reason.Order (Some line) = codes ",\"answer\":" ++ decimal line
-line_member r (Some line) = codes ",\"request\":" ++ decimal line
+line_member r (Some line) = codes ",\"" ++ line_word r ++ codes "\":" ++ decimal line
 
 abbrev pub finding_object : End → PlainMoment → List ℕ → Reason → List ℕ
 finding_object e m verdict r = begin_text m.line.number e ++ reason_members r (section r (result_of m.message.body)) (detail_text m verdict r) ++ line_member r (other_line r m) ++ codes "}\n"

@@ -6,7 +6,7 @@ ghost use Rattle.json.specs.Print.{quoted};
 ghost use Rattle.dia_follow.specs.Messages.{contents_of, result_of};
 ghost use Rattle.dia_follow_text.specs.Objects.{answer_members, answered_members, bad_line_object, begin_text, cause_member, code_members};
 ghost use Rattle.dia_follow_text.specs.Objects.{contents_members, duration_member, error_member, finding_object, head_members, identifier_members};
-ghost use Rattle.dia_follow_text.specs.Objects.{line_member, message_object, opening_member, reason_members, rest_members};
+ghost use Rattle.dia_follow_text.specs.Objects.{line_member, line_word, message_object, opening_member, reason_members, rest_members};
 ghost use Rattle.dia_follow_text.specs.Objects.{section_member, unanswered_object, unread_finding_object, unread_object};
 ghost use Rattle.dia_follow_text.specs.Names.{name_of};
 
@@ -269,9 +269,16 @@ fn push_other_line(text: &mut String, line: Option<u64>, reason: Reason) -> Resu
     let Some(line) = line else {
         return Ok(());
     };
+    let member = line_word(reason);
+    write!(text, ",\"{member}\":{line}")
+}
+
+fn line_word(reason: Reason) -> &'static str
+    ensures { result.now ≡ line_word reason }
+{
     match reason {
-        Reason::Order => write!(text, ",\"answer\":{line}"),
-        _ => write!(text, ",\"request\":{line}"),
+        Reason::Order => "answer",
+        _ => "request",
     }
 }
 
