@@ -1,0 +1,4 @@
+-- Lemmas.
+pub mod ListedEntries
+pub mod Identities
+pub mod Judgements

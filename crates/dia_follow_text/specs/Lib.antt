@@ -2,5 +2,11 @@ pub mod Names
 pub mod Times
 pub mod Entries
 pub mod Reasons
+pub mod Commons
+pub mod Hosts
 pub mod Details
+pub mod Unread
 pub mod Said
+pub mod Objects
+pub mod Answers
+pub mod Judging

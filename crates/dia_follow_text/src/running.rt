@@ -5,7 +5,7 @@ ghost use Rattle.dia_lines.specs.declared.fault.LinesFault.TheVariants.{Device};
 
 use crate::answering::{Answered, Manner};
 use crate::entry::BadLine;
-use crate::json;
+use crate::forms::push_bad_line;
 use crate::options::Options;
 use crate::summary::summary_of;
 use dia_dict::Book;
@@ -144,19 +144,6 @@ fn refuse_line<S: Sink>(
         bad_line: Some((number, bad)),
         summary: None,
     })
-}
-
-fn push_bad_line(
-    text: &mut String,
-    json: bool,
-    number: u64,
-    bad: BadLine,
-) -> Result<(), AllocError> {
-    if json {
-        return json::push_bad_line(text, number, bad);
-    }
-    let word = bad.word();
-    writeln!(text, "connection: {word} at line {number}")
 }
 
 /// Puts the line of a dictionary that is refused.
