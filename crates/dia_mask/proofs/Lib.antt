@@ -1,0 +1,7 @@
+pub mod Alike
+pub mod Bytes
+pub mod Faults
+pub mod Judged
+pub mod Levels
+pub mod Messages
+pub mod Spelled
