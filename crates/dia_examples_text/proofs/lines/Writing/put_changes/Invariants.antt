@@ -1,0 +1,9 @@
+use Rattle.std.specs.Prelude.{IsTrue}
+use Rattle.dia_examples_text.specs.Vectors.{Writes}
+use Rattle.dia_examples_text.proofs.lines.Writing.put_changes.Given as goal
+
+abbrev pub invariant-loop-change : goal.invariant-loop-change
+invariant-loop-change g l = record {
+  sound : ¬ IsTrue (g.S.Sink.has_failed l.sink);
+  written : Writes l.self.form (g.B.Book.meaning l.self.book.now) l.self.unknown (g.S.Sink.written l.initial.sink) (g.S.Sink.written l.sink);
+}
