@@ -1,0 +1,10 @@
+pub mod Added
+pub mod CommandLines
+pub mod ExactFindings
+pub mod Fillers
+pub mod Headers
+pub mod InRange
+pub mod MadeAvps
+pub mod MadeLevels
+pub mod Messages
+pub mod Reported

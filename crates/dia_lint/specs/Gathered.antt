@@ -1,0 +1,36 @@
+-- What findings are added, and the definitions whose least levels no message has room for, one after the other.
+use Rattle.std.specs.Prelude.{◌≡◌, ℕ, zero, suc, ◌+◌, nat_le, false, if◌then◌else◌, List, [], ◌∷◌, ◌++◌, Option, IfSome}
+use Rattle.std.specs.Option.{option_map_or}
+use Rattle.dia_book.specs.Dictionary.{Dictionary, group_place}
+use Rattle.dia_breaking_levels.specs.LevelTests.{too_long}
+use Rattle.dia_breaking_shortest.specs.Lengths.{entry_length}
+use Rattle.dia_lint.specs.declared.finding.Finding.{Finding}
+use Rattle.dia_lint.specs.Exact.{is_no_level, is_no_message, reported}
+
+-- n parts, one after the other
+abbrev pub gathered : (ℕ → List ℕ) → ℕ → List ℕ
+gathered part zero = []
+gathered part (suc n) = gathered part n ++ part n
+
+-- of the commands, whose numbers begin with the first
+abbrev pub long_command : (ℕ → ℕ) → ℕ → ℕ → List ℕ
+long_command level first i = if nat_le too_long (level (first + i)) then (first + i) ∷ [] else []
+
+abbrev pub long_commands : (ℕ → ℕ) → ℕ → ℕ → List ℕ
+long_commands level first n = gathered (long_command level first) n
+
+-- of the groups, by their entries
+abbrev pub long_group : Dictionary → List ℕ → ℕ → List ℕ
+long_group d lengths e = option_map_or (λ def. if nat_le too_long (entry_length lengths e) then def ∷ [] else []) (group_place d e) []
+
+abbrev pub long_groups : Dictionary → List ℕ → ℕ → List ℕ
+long_groups d lengths n = gathered (long_group d lengths) n
+
+-- findings of both rules are added for these definitions
+pub record Adds (messages levels : List ℕ) (old new : List Finding) : Type 0 where
+  pub of_messages : reported is_no_message new ≡ reported is_no_message old ++ messages
+  pub of_levels : reported is_no_level new ≡ reported is_no_level old ++ levels
+
+-- a finding of another rule
+abbrev pub IsAside : Option Finding → Type 0
+IsAside found = IfSome found (λ (x : Finding). (is_no_message x.rule ≡ false) × (is_no_level x.rule ≡ false))

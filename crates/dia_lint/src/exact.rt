@@ -1,0 +1,362 @@
+//! What no valid message has.
+ghost use Rattle.std.specs.Prelude.{◌≡◌, ◌<◌, nat_le, [], ◌∷◌, if◌then◌else◌, length, IfOk, OnOk, option_to_list};
+ghost use Rattle.dia_book.specs.Dictionary.{definitions, groups};
+ghost use Rattle.dia_breaking_levels.specs.LevelTests.{too_long};
+ghost use Rattle.dia_breaking_shortest.specs.Lengths.{entry_length};
+ghost use Rattle.dia_lint.specs.Costs.{level_of, sender_of};
+ghost use Rattle.dia_lint.specs.Exact.{AreAscending, NoLevelIsExact, NoMessageIsExact, OthersHaveAvps};
+ghost use Rattle.dia_lint.specs.Exact.{OthersHaveMessages, is_no_level, is_no_message, reported};
+ghost use Rattle.dia_lint.specs.Gathered.{Adds, IsAside, long_command, long_commands, long_group, long_groups};
+
+use crate::books::{command_at, group_of};
+use crate::costs::Lengths;
+use crate::detail::Detail;
+use crate::finding::{Finding, Place, Subject, push};
+use crate::levels::LevelCost;
+use crate::own_rules::named;
+use crate::reached::{Reached, has_room};
+use crate::rule::Rule;
+use dia_book::{Book, DRule, DefHead, DefId, Entry, Key};
+use dia_breaking_levels::TOO_LONG;
+use dia_policy::{Sends, Unknown};
+use std::alloc::{AllocError, Global};
+
+/// The commands without a valid message, the groups without an AVP that fits, and the rules and AVPs that no valid message has;
+/// and the AVPs that only wildcards let in.
+pub fn exact_findings<B: Book>(
+    alloc: Global,
+    book: &B,
+    unknown: Unknown,
+) -> Result<Vec<Finding>, AllocError>
+    ensures no_message { IfOk result (λ found. NoMessageIsExact (B.meaning book.now) unknown found.items) }
+    ensures no_level { IfOk result (λ found. NoLevelIsExact (B.meaning book.now) unknown found.items) }
+    ensures others_have_messages { IfOk result (λ found. OthersHaveMessages (B.meaning book.now) unknown found.items) }
+    ensures others_have_avps { IfOk result (λ found. OthersHaveAvps (B.meaning book.now) unknown found.items) }
+    ensures messages_once { IfOk result (λ found. AreAscending (reported is_no_message found.items)) }
+    ensures levels_once { IfOk result (λ found. AreAscending (reported is_no_level found.items)) }
+{
+    let lengths = Lengths::new(alloc, book, sender_of(unknown))?;
+    let reached = Reached::of(alloc, &lengths)?;
+    let mut found = Vec::new(alloc);
+    push_groups(&mut found, &lengths, &reached)?;
+    push_commands(&mut found, &lengths, &reached)?;
+    push_unreached(alloc, &mut found, &lengths, &reached)?;
+    Ok(found)
+}
+
+/// The side that sends what is valid.
+fn sender_of(unknown: Unknown) -> Sends
+    ensures { result ≡ sender_of unknown }
+{
+    match unknown {
+        Unknown::Kept => Sends::Any,
+        Unknown::Refused => Sends::Known,
+    }
+}
+
+/// Adds the AVPs that no message has, and those that only wildcards let in, if there is a command.
+fn push_unreached<B: Book>(
+    alloc: Global,
+    found: &mut Vec<Finding>,
+    lengths: &Lengths<'_, B>,
+    reached: &Reached,
+) -> Result<(), AllocError>
+    ensures { OnOk result (Adds [] [] found.old.items found.new.items) }
+{
+    if lengths.book.commands() == 0 {
+        return Ok(());
+    }
+    let listed = reached_by_rules(alloc, lengths.book)?;
+    push_avps(found, lengths, reached, &listed)
+}
+
+/// What messages have in which each AVP comes by a rule of its own.
+fn reached_by_rules<B: Book>(alloc: Global, book: &B) -> Result<Reached, AllocError> {
+    let lengths = Lengths::new(alloc, book, Sends::Listed)?;
+    Reached::of(alloc, &lengths)
+}
+
+fn push_groups<B: Book>(
+    found: &mut Vec<Finding>,
+    lengths: &Lengths<'_, B>,
+    reached: &Reached,
+) -> Result<(), AllocError>
+    ensures { OnOk result (Adds [] (long_groups (B.meaning lengths.now.book.now) lengths.now.least.lengths.items
+        (length (B.meaning lengths.now.book.now).entries)) found.old.items found.new.items) }
+{
+    for index in 0..lengths.book.entries() {
+        push_group(found, lengths, reached, lengths.book.entry_at(index))?;
+    }
+    Ok(())
+}
+
+/// Adds what there is to report of the entry's group, if it has one.
+fn push_group<B: Book>(
+    found: &mut Vec<Finding>,
+    lengths: &Lengths<'_, B>,
+    reached: &Reached,
+    entry: Entry,
+) -> Result<(), AllocError>
+    requires { entry < length (B.meaning lengths.now.book.now).entries }
+    ensures { OnOk result (Adds [] (long_group (B.meaning lengths.now.book.now) lengths.now.least.lengths.items entry)
+        found.old.items found.new.items) }
+{
+    match group_of(lengths.book, entry) {
+        Some(def) => {
+            push(found, no_level(lengths, entry, def))?;
+            push_reached(found, lengths, def, reached.way_to_group(entry))
+        }
+        None => Ok(()),
+    }
+}
+
+/// The finding of a group of which no AVP fits.
+fn no_level<B: Book>(lengths: &Lengths<'_, B>, entry: Entry, def: DefId) -> Option<Finding>
+    requires { def < length (definitions (B.meaning lengths.now.book.now)) }
+    ensures messages { reported is_no_message (option_to_list result) ≡ [] }
+    ensures levels { reported is_no_level (option_to_list result) ≡
+        (if nat_le too_long (entry_length lengths.now.least.lengths.items entry) then def ∷ [] else []) }
+{
+    if has_no_level(lengths, entry) {
+        Some(needs(lengths, def, Rule::NoLevel))
+    } else {
+        None
+    }
+}
+
+/// Whether no AVP of the group fits.
+fn has_no_level<B: Book>(lengths: &Lengths<'_, B>, entry: Entry) -> bool
+    ensures { result ≡ nat_le too_long (entry_length lengths.now.least.lengths.items entry) }
+{
+    lengths.least.entry(entry) >= TOO_LONG
+}
+
+fn push_commands<B: Book>(
+    found: &mut Vec<Finding>,
+    lengths: &Lengths<'_, B>,
+    reached: &Reached,
+) -> Result<(), AllocError>
+    ensures { OnOk result (Adds (long_commands
+        (level_of (B.meaning lengths.now.book.now) lengths.now.least.sends lengths.now.least.lengths.items
+        lengths.now.others.items)
+        (length (groups (B.meaning lengths.now.book.now))) (length (B.meaning lengths.now.book.now).commands)) []
+        found.old.items found.new.items) }
+{
+    for index in 0..lengths.book.commands() {
+        push_command(found, lengths, reached, index)?;
+    }
+    Ok(())
+}
+
+/// Adds what there is to report of the command at a place.
+fn push_command<B: Book>(
+    found: &mut Vec<Finding>,
+    lengths: &Lengths<'_, B>,
+    reached: &Reached,
+    index: usize,
+) -> Result<(), AllocError>
+    requires { index < length (B.meaning lengths.now.book.now).commands }
+    ensures { OnOk result (Adds (long_command
+        (level_of (B.meaning lengths.now.book.now) lengths.now.least.sends lengths.now.least.lengths.items
+        lengths.now.others.items)
+        (length (groups (B.meaning lengths.now.book.now))) index) [] found.old.items found.new.items) }
+{
+    let def = command_at(lengths.book, index);
+    push(found, no_message(lengths, def))?;
+    push_reached(found, lengths, def, reached.way_to_command(index))
+}
+
+/// The finding of a command without a valid message.
+fn no_message<B: Book>(lengths: &Lengths<'_, B>, def: DefId) -> Option<Finding>
+    requires { def < length (definitions (B.meaning lengths.now.book.now)) }
+    ensures messages { reported is_no_message (option_to_list result) ≡ (if nat_le too_long
+        (level_of (B.meaning lengths.now.book.now) lengths.now.least.sends lengths.now.least.lengths.items
+        lengths.now.others.items def)
+        then def ∷ [] else []) }
+    ensures levels { reported is_no_level (option_to_list result) ≡ [] }
+{
+    if LevelCost::of(lengths, def).base >= TOO_LONG {
+        Some(needs(lengths, def, Rule::NoMessage))
+    } else {
+        None
+    }
+}
+
+/// The finding of a definition whose least level no message has room for.
+fn needs<B: Book>(lengths: &Lengths<'_, B>, def: DefId, rule: Rule) -> Finding
+    requires { def < length (definitions (B.meaning lengths.now.book.now)) }
+    ensures rule { result.rule ≡ rule }
+    ensures subject { result.subject ≡ Subject.Definition def }
+{
+    Finding {
+        rule,
+        place: Place::Head(def),
+        subject: Subject::Definition(def),
+        detail: first_unmet(lengths, def),
+    }
+}
+
+/// The first rule whose least count no AVPs meet.
+fn first_unmet<B: Book>(lengths: &Lengths<'_, B>, def: DefId) -> Detail
+    requires { def < length (definitions (B.meaning lengths.now.book.now)) }
+{
+    let filler = LevelCost::of(lengths, def).filler;
+    let definition = lengths.book.def(def);
+    for rule in &definition.rules {
+        if rule.min > 0 && length_of(lengths, filler, rule) >= TOO_LONG {
+            return unmet(definition.head, rule);
+        }
+    }
+    Detail::TooLong
+}
+
+fn unmet(head: DefHead, rule: &DRule) -> Detail {
+    match rule.key {
+        Some(key) if is_of(head, key) => Detail::NeedsItself,
+        Some(key) => Detail::Needs(key),
+        None => Detail::NeedsOthers,
+    }
+}
+
+/// Whether the definition is that of the key's group.
+fn is_of(head: DefHead, key: Key) -> bool {
+    match head {
+        DefHead::Group(own) => own == key,
+        DefHead::Command { .. } | DefHead::Error { .. } => false,
+    }
+}
+
+/// The length of a shortest AVP of the rule, where `filler` is that of one that no rule lists.
+fn length_of<B: Book>(lengths: &Lengths<'_, B>, filler: u64, rule: &DRule) -> u64 {
+    match rule.key {
+        Some(key) => lengths.key(key),
+        None => filler,
+    }
+}
+
+/// Adds the rules of a definition whose AVPs no message has in its levels, where messages have such levels.
+fn push_reached<B: Book>(
+    found: &mut Vec<Finding>,
+    lengths: &Lengths<'_, B>,
+    def: DefId,
+    way: Option<u64>,
+) -> Result<(), AllocError>
+    requires { def < length (definitions (B.meaning lengths.now.book.now)) }
+    ensures { OnOk result (Adds [] [] found.old.items found.new.items) }
+{
+    match way {
+        Some(way) => push_rules(found, lengths, def, way),
+        None => Ok(()),
+    }
+}
+
+/// The same, where a message takes so much around them.
+fn push_rules<B: Book>(
+    found: &mut Vec<Finding>,
+    lengths: &Lengths<'_, B>,
+    def: DefId,
+    way: u64,
+) -> Result<(), AllocError>
+    requires { def < length (definitions (B.meaning lengths.now.book.now)) }
+    ensures { OnOk result (Adds [] [] found.old.items found.new.items) }
+{
+    let cost = LevelCost::of(lengths, def);
+    let rules = &lengths.book.def(def).rules;
+    for index in 0..rules.len() {
+        push(
+            found,
+            never_stands(
+                lengths,
+                &cost,
+                way,
+                Place::Rule(def, index),
+                def,
+                &rules[index],
+            ),
+        )?;
+    }
+    Ok(())
+}
+
+/// The finding of a rule of which no message has an AVP in levels of the definition.
+fn never_stands<B: Book>(
+    lengths: &Lengths<'_, B>,
+    cost: &LevelCost,
+    way: u64,
+    place: Place,
+    def: DefId,
+    rule: &DRule,
+) -> Option<Finding>
+    ensures { IsAside result }
+{
+    let length = length_of(lengths, cost.filler, rule);
+    if rule.max == Some(0) || has_room(way, cost.with(rule, length)) {
+        return None;
+    }
+    Some(Finding {
+        rule: Rule::NeverStands,
+        place,
+        subject: Subject::Within(def, named(rule)),
+        detail: why_never(rule, length),
+    })
+}
+
+/// Why no message has an AVP of a rule, of which a shortest one has this length.
+fn why_never(rule: &DRule, length: u64) -> Detail {
+    match rule.key {
+        Some(key) if length >= TOO_LONG => Detail::ThereIsNo(key),
+        Some(_) => Detail::NoRoom,
+        None => Detail::NoneLeft,
+    }
+}
+
+/// Adds the AVPs that no message has, and those that messages have only where a wildcard lets them in.
+fn push_avps<B: Book>(
+    found: &mut Vec<Finding>,
+    lengths: &Lengths<'_, B>,
+    reached: &Reached,
+    listed: &Reached,
+) -> Result<(), AllocError>
+    ensures { OnOk result (Adds [] [] found.old.items found.new.items) }
+{
+    for index in 0..lengths.book.entries() {
+        push(
+            found,
+            avp_finding(lengths, reached, listed, lengths.book.entry_at(index)),
+        )?;
+    }
+    Ok(())
+}
+
+/// The finding of an AVP, unless it is a group of which no AVP fits.
+fn avp_finding<B: Book>(
+    lengths: &Lengths<'_, B>,
+    reached: &Reached,
+    listed: &Reached,
+    entry: Entry,
+) -> Option<Finding>
+    requires { entry < length (B.meaning lengths.now.book.now).entries }
+    ensures { IsAside result }
+{
+    if group_of(lengths.book, entry).is_some() && has_no_level(lengths, entry) {
+        return None;
+    }
+    if !reached.has(entry) {
+        return Some(about_avp(entry, Rule::NeverHeld, Detail::NotHeld));
+    }
+    if !listed.has(entry) {
+        return Some(about_avp(entry, Rule::NeverListed, Detail::OnlyWildcards));
+    }
+    None
+}
+
+fn about_avp(entry: Entry, rule: Rule, detail: Detail) -> Finding
+    ensures { result.rule ≡ rule }
+{
+    Finding {
+        rule,
+        place: Place::Avp(entry),
+        subject: Subject::Avp(entry),
+        detail,
+    }
+}
