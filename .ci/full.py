@@ -36,10 +36,14 @@ COMMANDS = """
 + compare wide.txt narrow.txt table.txt
 + refute open.txt other.txt unlike.hex
 + refute --lines open.txt other.txt unlike.hex
++ mask @base request.hex
 + uses @base Session-Id
 + uses @base 9
 + diff narrow.txt wide.txt
 + diff @base @base
++ lint narrow.txt
++ examples narrow.txt
+  examples --text narrow.txt
   follow connection.txt
   follow --json connection.txt
   answer @base broken.hex

@@ -6,8 +6,8 @@ _diacmd() {
     [ "$before" = = ] && before=${COMP_WORDS[COMP_CWORD - 2]}
     [ "$word" = = ] && word=
     case $COMP_CWORD:$command:$before in
-        1:*) words='show make check render compare refute propose breaking answer follow uses diff help -h --help -V --version' ;;
-        *:help:*) words='show make check render compare refute propose breaking answer follow uses diff help' ;;
+        1:*) words='show make check render compare refute propose breaking answer follow mask uses diff lint examples help -h --help -V --version' ;;
+        *:help:*) words='show make check render compare refute propose breaking answer follow mask uses diff lint examples help' ;;
         *:check:--unknown) words='kept refused' ;;
         *:check:--levels) return ;;
         *:compare:--unknown) words='kept refused' ;;
@@ -22,6 +22,8 @@ _diacmd() {
         *:follow:--levels) return ;;
         *:diff:--unknown) words='kept refused' ;;
         *:diff:--sends) words='any known listed' ;;
+        *:lint:--unknown) words='kept refused' ;;
+        *:examples:--unknown) words='kept refused' ;;
         *) case $command:$word in
             show:-*) words='--quiet --dict --as-text --names --values --lines --json -h --help' ;;
             make:-*) words='--quiet --dict -h --help' ;;
@@ -33,8 +35,11 @@ _diacmd() {
             breaking:-*) words='--quiet --unknown --sends --messages --once --meaning --accepted --stale-allowed --explain --json -h --help' ;;
             answer:-*) words='--quiet --unknown --levels --host --realm -h --help' ;;
             follow:-*) words='--quiet --dict --middle --check --unknown --levels --json -h --help' ;;
+            mask:-*) words='--quiet --keep --mask --only --json -h --help' ;;
             uses:-*) words='--quiet --json -h --help' ;;
             diff:-*) words='--quiet --unknown --sends --json -h --help' ;;
+            lint:-*) words='--quiet --unknown --only --except --accepted --json -h --help' ;;
+            examples:-*) words='--quiet --unknown --text --json -h --help' ;;
         esac ;;
     esac
     if [ -n "$words" ]; then

@@ -6,12 +6,12 @@ use Rattle.clap.specs.Walk.{Row, Text, first_of, texts}
 use Rattle.clap.specs.Words.{App, IsAmong, Kinds, fault_of, kind_of, subcommand_of}
 use Rattle.dia_policy.specs.declared.Sends.TheVariants as sent
 use Rattle.dia_policy.specs.declared.Unknown.TheVariants.{Kept, Refused}
-use Rattle.dia_cli.specs.Forms.{IsTaskOf, arguments_of, has_arguments}
+use Rattle.dia_cli.specs.FoundTasks.{IsTaskOf, arguments_of, has_arguments}
 use Rattle.dia_cli.specs.InputWords.{AreFound}
 use Rattle.dia_cli.specs.Lines.{program_app}
 use Rattle.dia_cli.specs.Origins.{reads_twice}
 use Rattle.dia_cli.specs.Rows.{command_rows, with_commands}
-use Rattle.dia_cli.specs.Words.{IsFlag, apart_in, flag_word, is_flag, is_given, policy_word, sends_word}
+use Rattle.dia_cli.specs.Words.{IsFlag, apart_in, flag_word, is_flag, is_given, masked_apart_in, policy_word, sends_word}
 use Rattle.dia_cli.specs.declared.task.Task.{Task}
 use Rattle.dia_cli.specs.declared.ending.Ending.{Ending}
 use Rattle.dia_cli.specs.declared.ending.Ending.TheVariants as ending
@@ -20,7 +20,7 @@ use Rattle.dia_cli.specs.declared.request.Request.{Request}
 use Rattle.dia_cli.specs.declared.arguments.Unasked.{Unasked}
 use Rattle.dia_cli.specs.declared.arguments.Unasked.TheVariants as unasked
 use Rattle.dia_cli.specs.declared.apart.Apart.{Apart}
-use Rattle.dia_cli.specs.declared.apart.Apart.TheVariants.{LinesAndStream, AllAndLines, AllAndStream, AllAndJson}
+use Rattle.dia_cli.specs.declared.apart.Apart.TheVariants.{LinesAndStream, AllAndLines, AllAndStream, AllAndJson, OnlyAndKeep, OnlyAndMask, TextAndJson}
 
 abbrev pub line_shape : Bor (List (Bor Text)) → Bor (List (Bor Text)) → App
 line_shape policies senders = with_commands policies senders program_app command_rows
@@ -52,10 +52,13 @@ IsAskedBy words request =
 abbrev pub is_asked : Option (Text × List Row) → Bool
 is_asked = λ found. option_map_or (λ f. is_flag (first_of (codes "quiet") f.1) && has_arguments f.0 f.1) found false
 
--- `check` with both of these options
+-- a command with both of these options
+abbrev pub IsWithBoth : (command first second : Text) → Text × List Row → Type 0
+IsWithBoth command first second found =
+    (found.0 ≡ command) × (first_of first found.1 ≡ Some (flag_word true)) × (first_of second found.1 ≡ Some (flag_word true))
+
 abbrev pub IsCheckWithBoth : Text → Text → Text × List Row → Type 0
-IsCheckWithBoth first second found =
-    (found.0 ≡ codes "check") × (first_of first found.1 ≡ Some (flag_word true)) × (first_of second found.1 ≡ Some (flag_word true))
+IsCheckWithBoth = IsWithBoth (codes "check")
 
 -- two options are given that don't go together
 abbrev pub IsApart : Apart → Text × List Row → Type 0
@@ -63,6 +66,9 @@ IsApart LinesAndStream found = IsCheckWithBoth (codes "lines") (codes "stream") 
 IsApart AllAndLines found = IsCheckWithBoth (codes "all") (codes "lines") found
 IsApart AllAndStream found = IsCheckWithBoth (codes "all") (codes "stream") found
 IsApart AllAndJson found = IsCheckWithBoth (codes "all") (codes "json") found
+IsApart OnlyAndKeep found = (found.0 ≡ codes "mask") × (masked_apart_in found.1 ≡ Some OnlyAndKeep)
+IsApart OnlyAndMask found = (found.0 ≡ codes "mask") × (masked_apart_in found.1 ≡ Some OnlyAndMask)
+IsApart TextAndJson found = IsWithBoth (codes "examples") (codes "text") (codes "json") found
 IsApart apart found = (found.0 ≡ codes "show") × (apart_in found.1 ≡ Some apart)
 
 -- why what was found for a subcommand is none that the program runs

@@ -1,19 +1,17 @@
--- The commands: the forms of each, the words of these, what they ask for, and what is found of it.
-use Rattle.std.specs.Prelude.{◌≡◌, ◌&&◌, ⊤, Bool, true, false, if◌then◌else◌, List, [], ◌∷◌, ◌++◌, map, Option, Some, None, Result, Ok, Err, codes, is_some, string_bytes, unwrap_or}
+-- The commands: the forms of each, the words of these, and what they ask for.
+use Rattle.std.specs.Prelude.{◌≡◌, ⊤, Bool, true, false, List, [], ◌∷◌, ◌++◌, map, Option, Some, None, Result, Ok, Err, codes, string_bytes, unwrap_or}
 use Rattle.std.specs.List.{list_all}
-use Rattle.std.specs.Str.{bytes_eq}
-use Rattle.clap.specs.Walk.{Row, Text, all_of, first_of}
+use Rattle.clap.specs.Walk.{Text}
 use Rattle.dia_io.specs.declared.Command.TheVariants as command
 use Rattle.dia_cli.specs.declared.task.Task.{Task}
-use Rattle.dia_cli.specs.declared.task.Task.TheVariants.{Whole, Make, ShowText, ShowNamed, ShowLines, Breaking, CheckLines, RefuteLines, CheckStream, CheckAll, Answer, Follow, Uses, Diff}
-use Rattle.dia_policy.specs.declared.Levels.{Levels}
+use Rattle.dia_cli.specs.declared.task.Task.TheVariants.{Whole, Make, ShowText, ShowNamed, ShowLines, Breaking, CheckLines, RefuteLines, CheckStream, CheckAll, Answer, Follow, Mask, Uses, Diff, Lint, Examples}
 use Rattle.dia_policy.specs.declared.Sends.{Sends}
 use Rattle.dia_policy.specs.declared.Unknown.{Unknown}
 use Rattle.dia_cli.specs.InputWords.{AreNamed, InputTexts, one_text, pair_texts}
 use Rattle.dia_cli.specs.Origins.{reads_twice}
-use Rattle.dia_cli.specs.Rows.{CommandRow, answer_row, breaking_row, check_row, compare_row, diff_row, follow_row, make_row, propose_row, refute_row, render_row, show_row, uses_row}
+use Rattle.dia_cli.specs.Rows.{CommandRow, answer_row, breaking_row, check_row, compare_row, diff_row, examples_row, follow_row, lint_row, make_row, mask_row, propose_row, refute_row, render_row, show_row, uses_row}
 use Rattle.dia_cli.specs.Slots.{Slot, choice, flag, is_given_slot, is_plain_slot, number, pair_slots, sender_given, text, unknown_slot, word, words, words_of_slots}
-use Rattle.dia_cli.specs.Words.{AreJudged, IsFlag, IsLimitOf, IsPolicy, apart_in, has_pair, has_policy, has_word, is_flag, is_given, is_judged, is_sender, sends_word}
+use Rattle.dia_cli.specs.Words.{IsLimitOf}
 use Rattle.dia_cli.specs.declared.ending.Ending.{Ending}
 use Rattle.dia_cli.specs.declared.ending.Ending.TheVariants as ending
 use Rattle.dia_cli.specs.declared.request.Request.{Request}
@@ -31,10 +29,22 @@ pub data Recording : Type 0 where
   as_json : Bool → Bool → Option Text → Recording
   as_listing : Bool → Bool → Option Text → Recording
 
+-- which AVPs `mask` replaces: the words of `--keep` and `--mask`, or that of `--only`
+pub data Masked : Type 0 where
+  masked : Option Text → Option Text → Masked
+  masked_only : Text → Masked
+
+-- how `examples` writes its vectors: in columns, as texts, or as JSON
+pub data Layout : Type 0 where
+  in_columns : Layout
+  in_texts : Layout
+  in_objects : Layout
+
 -- a command with its options and the words of its inputs. `--levels`, `--dict`, `--values` and `--accepted` are their words; `check`, `compare`
 -- and `propose` have `--json`, `refute` has `--lines` and `--json`, and `breaking` has `--json`, `--messages`, `--once`, `--meaning`,
 -- `--stale-allowed` and `--explain`, or not; `answer` has the words of `--levels`, `--host` and `--realm`, and `follow` has `--json`, `--middle` and
--- `--check`, or not, and the words of `--levels` and `--dict`; `uses` and `diff` have `--json`, or not
+-- `--check`, or not, and the words of `--levels` and `--dict`; `mask`, `uses`, `diff` and `lint` have `--json`, or not, and `lint` the words
+-- of `--only`, `--except` and `--accepted`
 pub data Form : Type 0 where
   show : Recording → Option Text → Text → Form
   make : Option Text → Text → Form
@@ -46,8 +56,11 @@ pub data Form : Type 0 where
   breaking : Bool → Sends → Unknown → Bool → Bool → Bool → Bool → Bool → Option Text → Text → Text → List Text → Form
   answer : Unknown → Option Text → Option Text → Option Text → Text → Text → Form
   follow : Bool → Bool → Bool → Unknown → Option Text → Option Text → Text → Form
+  mask : Masked → Bool → Text → Text → Form
   uses : Bool → Text → Text → List Text → Form
   diff : Bool → Sends → Unknown → Text → Text → Form
+  lint : Bool → Unknown → Option Text → Option Text → Option Text → Text → Form
+  examples : Layout → Unknown → Text → List Text → Form
 
 -- its row
 abbrev pub form_row : Form → CommandRow
@@ -61,8 +74,11 @@ form_row (propose json unknown first second name names) = propose_row
 form_row (breaking json sends unknown messages once meaning allowed explained accepted first second names) = breaking_row
 form_row (answer unknown levels host realm dictionary message) = answer_row
 form_row (follow json middle judged unknown levels dictionary connection) = follow_row
+form_row (mask avps json dictionary messages) = mask_row
 form_row (uses json dictionary avp avps) = uses_row
 form_row (diff json sends unknown first second) = diff_row
+form_row (lint json unknown only except accepted dictionary) = lint_row
+form_row (examples layout unknown dictionary names) = examples_row
 
 abbrev pub form_name : Form → Text
 form_name form = (form_row form).name
@@ -107,6 +123,26 @@ has_lines (as_json many names values) = many
 has_lines (as_listing many names values) = many
 has_lines recording = false
 
+abbrev pub keep_given : Masked → Option Text
+keep_given (masked keep more) = keep
+keep_given (masked_only only) = None
+
+abbrev pub mask_given : Masked → Option Text
+mask_given (masked keep more) = more
+mask_given (masked_only only) = None
+
+abbrev pub only_given : Masked → Option Text
+only_given (masked keep more) = None
+only_given (masked_only only) = Some only
+
+abbrev pub is_texts : Layout → Bool
+is_texts in_texts = true
+is_texts layout = false
+
+abbrev pub is_objects : Layout → Bool
+is_objects in_objects = true
+is_objects layout = false
+
 abbrev pub form_options : Form → List Slot
 form_options (show recording dictionary message) =
     text (codes "dict") dictionary ∷ flag (codes "as-text") (is_text recording) ∷ flag (codes "names") (has_names recording)
@@ -129,9 +165,17 @@ form_options (answer unknown levels host realm dictionary message) =
 form_options (follow json middle judged unknown levels dictionary connection) =
     text (codes "dict") dictionary ∷ flag (codes "middle") middle ∷ flag (codes "check") judged ∷ unknown_slot unknown
     ∷ flag (codes "json") json ∷ number (codes "levels") levels ∷ []
+form_options (mask avps json dictionary messages) =
+    text (codes "keep") (keep_given avps) ∷ text (codes "mask") (mask_given avps) ∷ text (codes "only") (only_given avps)
+    ∷ flag (codes "json") json ∷ []
 form_options (uses json dictionary avp avps) = flag (codes "json") json ∷ []
 form_options (diff json sends unknown first second) =
     unknown_slot unknown ∷ choice (codes "sends") (sender_given sends) ∷ flag (codes "json") json ∷ []
+form_options (lint json unknown only except accepted dictionary) =
+    unknown_slot unknown ∷ text (codes "only") only ∷ text (codes "except") except ∷ text (codes "accepted") accepted
+    ∷ flag (codes "json") json ∷ []
+form_options (examples layout unknown dictionary names) =
+    unknown_slot unknown ∷ flag (codes "text") (is_texts layout) ∷ flag (codes "json") (is_objects layout) ∷ []
 
 abbrev pub form_inputs : Form → List Slot
 form_inputs (show recording dictionary message) = word (codes "MESSAGE") message ∷ []
@@ -144,8 +188,11 @@ form_inputs (propose json unknown first second name names) = pair_slots first se
 form_inputs (breaking json sends unknown messages once meaning allowed explained accepted first second names) = pair_slots first second (words (codes "COMMAND") names)
 form_inputs (answer unknown levels host realm dictionary message) = word (codes "D") dictionary ∷ word (codes "MESSAGE") message ∷ []
 form_inputs (follow json middle judged unknown levels dictionary connection) = word (codes "CONNECTION") connection ∷ []
+form_inputs (mask avps json dictionary messages) = word (codes "D") dictionary ∷ word (codes "MESSAGES") messages ∷ []
 form_inputs (uses json dictionary avp avps) = word (codes "D") dictionary ∷ words (codes "AVP") (avp ∷ avps) ∷ []
 form_inputs (diff json sends unknown first second) = word (codes "A") first ∷ word (codes "B") second ∷ []
+form_inputs (lint json unknown only except accepted dictionary) = word (codes "D") dictionary ∷ []
+form_inputs (examples layout unknown dictionary names) = word (codes "D") dictionary ∷ words (codes "COMMAND") names ∷ []
 
 -- ---- its task, and the words of its inputs
 
@@ -183,8 +230,16 @@ IsTaskOfForm (answer unknown levels host realm dictionary message) (Answer asked
     × (string_bytes asked.realm ≡ unwrap_or realm (codes "invalid"))
 IsTaskOfForm (follow json middle judged unknown levels dictionary connection) (Follow asked) =
     (asked.middle ≡ middle) × (asked.check ≡ judged) × (asked.unknown ≡ unknown) × IsLimitOf levels asked.levels
+IsTaskOfForm (mask avps json dictionary messages) (Mask asked) =
+    (string_bytes asked.keep ≡ unwrap_or (keep_given avps) (codes "@none")) × (string_bytes asked.mask ≡ unwrap_or (mask_given avps) (codes "@none"))
+    × (string_bytes asked.only ≡ unwrap_or (only_given avps) (codes "@none"))
 IsTaskOfForm (uses json dictionary avp avps) (Uses named) = map string_bytes named.items ≡ avp ∷ avps
 IsTaskOfForm (diff json sends unknown first second) (Diff sender policy) = (sender ≡ sends) × (policy ≡ unknown)
+IsTaskOfForm (lint json unknown only except accepted dictionary) (Lint asked) =
+    (asked.unknown ≡ unknown) × (string_bytes asked.only ≡ unwrap_or only (codes "exact,guidelines"))
+    × (string_bytes asked.except ≡ unwrap_or except (codes "@none"))
+IsTaskOfForm (examples layout unknown dictionary names) (Examples asked) =
+    (asked.unknown ≡ unknown) × (asked.text ≡ is_texts layout) × (map string_bytes asked.names.items ≡ names)
 IsTaskOfForm form task = ⊥
 
 -- the words of its inputs
@@ -212,174 +267,12 @@ form_words (breaking json sends unknown messages once meaning allowed explained 
 form_words (answer unknown levels host realm dictionary message) = record (one_text dictionary) { message = Some message }
 form_words (follow json middle judged unknown levels dictionary connection) =
     record (one_text (unwrap_or dictionary (codes "@base"))) { messages = Some connection }
+form_words (mask avps json dictionary messages) = record (one_text dictionary) { messages = Some messages }
 form_words (uses json dictionary avp avps) = one_text dictionary
 form_words (diff json sends unknown first second) = pair_texts first second
-
--- ---- what is found of a task
-
--- the name of the command of a task
-abbrev pub task_name : Task → Text
-task_name (Whole command.Show) = codes "show"
-task_name ShowText = codes "show"
-task_name ShowNamed = codes "show"
-task_name (ShowLines names) = codes "show"
-task_name Make = codes "make"
-task_name (Whole command.Render) = codes "render"
-task_name (Whole (command.Check unknown levels)) = codes "check"
-task_name (CheckLines unknown levels) = codes "check"
-task_name (CheckStream unknown levels) = codes "check"
-task_name (Whole (command.Compare unknown)) = codes "compare"
-task_name (Whole (command.Refute unknown levels)) = codes "refute"
-task_name (RefuteLines unknown levels) = codes "refute"
-task_name (Whole (command.Propose unknown names)) = codes "propose"
-task_name (Breaking asked) = codes "breaking"
-task_name (CheckAll unknown levels) = codes "check"
-task_name (Answer asked) = codes "answer"
-task_name (Follow asked) = codes "follow"
-task_name (Uses avps) = codes "uses"
-task_name (Diff sends unknown) = codes "diff"
-
--- `check` with `--lines`, `--stream` and `--all`, or without them
-abbrev pub IsCheck : (lines stream all : Bool) → Unknown → Levels → List Row → Type 0
-IsCheck lines stream all unknown levels rows =
-    IsFlag (codes "lines") lines rows × IsFlag (codes "stream") stream rows × AreJudged unknown levels rows × IsFlag (codes "all") all rows
-
--- `refute` with `--lines`, or without it
-abbrev pub IsRefute : Bool → Unknown → Levels → List Row → Type 0
-IsRefute lines unknown levels rows = IsFlag (codes "lines") lines rows × AreJudged unknown levels rows
-
--- `show` with `--as-text`, `--names` and `--lines`, or without them, and with no two options that don't go together
-abbrev pub IsShow : Bool → Bool → Bool → List Row → Type 0
-IsShow written names lines rows =
-    (written ≡ is_given (first_of (codes "as-text") rows)) × (names ≡ is_given (first_of (codes "names") rows))
-    × (lines ≡ is_given (first_of (codes "lines") rows)) × (apart_in rows ≡ None)
-
--- what was found of a task's options: their first values, and all names of commands
-abbrev pub HasOptionsOf : Task → List Row → Type 0
-HasOptionsOf (Whole command.Show) rows = IsShow false false false rows
-HasOptionsOf ShowText rows = IsShow true false false rows
-HasOptionsOf ShowNamed rows = IsShow false true false rows
-HasOptionsOf (ShowLines names) rows = IsShow false names true rows
-HasOptionsOf Make rows = ⊤
-HasOptionsOf (Whole command.Render) rows = ⊤
-HasOptionsOf (Whole (command.Check unknown levels)) rows = IsCheck false false false unknown levels rows
-HasOptionsOf (CheckLines unknown levels) rows = IsCheck true false false unknown levels rows
-HasOptionsOf (CheckStream unknown levels) rows = IsCheck false true false unknown levels rows
-HasOptionsOf (CheckAll unknown levels) rows = IsCheck false false true unknown levels rows
-HasOptionsOf (Whole (command.Compare unknown)) rows = IsPolicy unknown rows
-HasOptionsOf (Whole (command.Refute unknown levels)) rows = IsRefute false unknown levels rows
-HasOptionsOf (RefuteLines unknown levels) rows = IsRefute true unknown levels rows
-HasOptionsOf (Whole (command.Propose unknown names)) rows =
-    IsPolicy unknown rows × (all_of (codes "COMMAND") rows ≡ Some (map string_bytes names.items))
-HasOptionsOf (Breaking asked) rows =
-    IsPolicy asked.unknown rows × (first_of (codes "sends") rows ≡ Some (sends_word asked.sends)) × IsFlag (codes "messages") asked.messages rows
-    × IsFlag (codes "once") asked.once rows × IsFlag (codes "meaning") asked.meaning rows
-    × IsFlag (codes "stale-allowed") asked.stale_allowed rows × IsFlag (codes "explain") asked.explain rows
-    × (unwrap_or (all_of (codes "COMMAND") rows) [] ≡ map string_bytes asked.names.items)
-HasOptionsOf (Answer asked) rows =
-    AreJudged asked.unknown asked.levels rows × (first_of (codes "host") rows ≡ Some (string_bytes asked.host))
-    × (first_of (codes "realm") rows ≡ Some (string_bytes asked.realm))
-HasOptionsOf (Follow asked) rows =
-    AreJudged asked.unknown asked.levels rows × IsFlag (codes "middle") asked.middle rows × IsFlag (codes "check") asked.check rows
-HasOptionsOf (Uses avps) rows = all_of (codes "AVP") rows ≡ Some (map string_bytes avps.items)
-HasOptionsOf (Diff sends unknown) rows = IsPolicy unknown rows × (first_of (codes "sends") rows ≡ Some (sends_word sends))
-
--- the task that was found: the name of its command, and its options
-abbrev pub IsTaskOf : Task → Text × List Row → Type 0
-IsTaskOf task found = (found.0 ≡ task_name task) × HasOptionsOf task found.1
-
--- the arguments that take the words of a task's inputs
-abbrev pub arguments_of : Task → InputTexts
-arguments_of (Whole command.Show) = record (one_text (codes "dict")) { table = Some (codes "values"); message = Some (codes "MESSAGE") }
-arguments_of ShowNamed = record (one_text (codes "dict")) { table = Some (codes "values"); message = Some (codes "MESSAGE") }
-arguments_of (ShowLines names) = record (one_text (codes "dict")) { table = Some (codes "values"); messages = Some (codes "MESSAGE") }
-arguments_of ShowText = record (one_text (codes "dict")) { message = Some (codes "MESSAGE") }
-arguments_of Make = record (one_text (codes "dict")) { message = Some (codes "TEXT") }
-arguments_of (Whole command.Render) = one_text (codes "D")
-arguments_of (Whole (command.Check unknown levels)) = record (one_text (codes "D")) { message = Some (codes "MESSAGE") }
-arguments_of (CheckLines unknown levels) = record (one_text (codes "D")) { messages = Some (codes "MESSAGE") }
-arguments_of (CheckStream unknown levels) = record (one_text (codes "D")) { messages = Some (codes "MESSAGE") }
-arguments_of (CheckAll unknown levels) = record (one_text (codes "D")) { message = Some (codes "MESSAGE") }
-arguments_of (Whole (command.Compare unknown)) =
-    record (pair_texts (codes "A") (codes "B")) { table = Some (codes "TABLE") }
-arguments_of (Whole (command.Refute unknown levels)) =
-    record (pair_texts (codes "A") (codes "B")) { message = Some (codes "MESSAGE") }
-arguments_of (RefuteLines unknown levels) =
-    record (pair_texts (codes "A") (codes "B")) { messages = Some (codes "MESSAGE") }
-arguments_of (Whole (command.Propose unknown names)) = pair_texts (codes "A") (codes "B")
-arguments_of (Breaking asked) =
-    record (pair_texts (codes "A") (codes "B")) { table = Some (codes "accepted") }
-arguments_of (Answer asked) = record (one_text (codes "D")) { message = Some (codes "MESSAGE") }
-arguments_of (Follow asked) = record (one_text (codes "dict")) { messages = Some (codes "CONNECTION") }
-arguments_of (Uses avps) = one_text (codes "D")
-arguments_of (Diff sends unknown) = pair_texts (codes "A") (codes "B")
-
--- ---- the arguments that a command has
-
--- the policies of `check`, and its dictionary
-abbrev pub has_judged : List Row → Bool
-has_judged rows = is_judged rows && has_word (codes "D") rows
-
-abbrev pub has_shown : List Row → Bool
-has_shown rows = has_word (codes "dict") rows && (has_word (codes "MESSAGE") rows && has_word (codes "values") rows)
-
-abbrev pub has_made : List Row → Bool
-has_made rows = has_word (codes "dict") rows && has_word (codes "TEXT") rows
-
-abbrev pub has_checked : List Row → Bool
-has_checked rows = is_flag (first_of (codes "lines") rows) && (is_flag (first_of (codes "stream") rows)
-    && (is_flag (first_of (codes "all") rows) && (is_flag (first_of (codes "json") rows)
-    && (has_judged rows && has_word (codes "MESSAGE") rows))))
-
-abbrev pub has_answered : List Row → Bool
-has_answered rows = has_judged rows && (has_word (codes "MESSAGE") rows && (has_word (codes "host") rows && has_word (codes "realm") rows))
-
-abbrev pub has_followed : List Row → Bool
-has_followed rows = is_judged rows && (is_flag (first_of (codes "middle") rows) && (is_flag (first_of (codes "check") rows)
-    && (has_word (codes "dict") rows && has_word (codes "CONNECTION") rows)))
-
-abbrev pub has_compared : List Row → Bool
-has_compared rows = has_policy rows && (has_pair rows && has_word (codes "TABLE") rows)
-
-abbrev pub has_refuted : List Row → Bool
-has_refuted rows = is_judged rows && (has_pair rows
-    && (is_flag (first_of (codes "lines") rows) && has_word (codes "MESSAGE") rows))
-
-abbrev pub has_proposed : List Row → Bool
-has_proposed rows = has_policy rows && (has_pair rows && is_some (all_of (codes "COMMAND") rows))
-
--- `--messages`, `--once`, `--meaning`, `--stale-allowed` and `--explain`, given or not
-abbrev pub has_flags : List Row → Bool
-has_flags rows = is_flag (first_of (codes "messages") rows)
-    && (is_flag (first_of (codes "once") rows) && (is_flag (first_of (codes "meaning") rows) && (is_flag (first_of (codes "stale-allowed") rows)
-    && is_flag (first_of (codes "explain") rows))))
-
-abbrev pub has_listed : List Row → Bool
-has_listed rows = has_policy rows && (has_pair rows
-    && (is_sender (first_of (codes "sends") rows) && (has_flags rows && has_word (codes "accepted") rows)))
-
-abbrev pub has_used : List Row → Bool
-has_used rows = has_word (codes "D") rows && is_some (all_of (codes "AVP") rows)
-
-abbrev pub has_differed : List Row → Bool
-has_differed rows = has_policy rows && (has_pair rows && is_sender (first_of (codes "sends") rows))
-
--- the arguments that the subcommand of this name has
-abbrev pub has_arguments : Text → List Row → Bool
-has_arguments name rows =
-    if bytes_eq name (codes "show") then has_shown rows
-    else (if bytes_eq name (codes "make") then has_made rows
-    else (if bytes_eq name (codes "check") then has_checked rows
-    else (if bytes_eq name (codes "render") then has_word (codes "D") rows
-    else (if bytes_eq name (codes "compare") then has_compared rows
-    else (if bytes_eq name (codes "refute") then has_refuted rows
-    else (if bytes_eq name (codes "propose") then has_proposed rows
-    else (if bytes_eq name (codes "breaking") then has_listed rows
-    else (if bytes_eq name (codes "answer") then has_answered rows
-    else (if bytes_eq name (codes "follow") then has_followed rows
-    else (if bytes_eq name (codes "uses") then has_used rows
-    else (if bytes_eq name (codes "diff") then has_differed rows
-    else false)))))))))))
+form_words (lint json unknown only except accepted dictionary) =
+    record (one_text dictionary) { table = Some (unwrap_or accepted (codes "@none")) }
+form_words (examples layout unknown dictionary names) = one_text dictionary
 
 -- ---- what the words of a form ask for
 

@@ -2,6 +2,7 @@ pub mod Apart
 pub mod Asking
 pub mod Ending
 pub mod Forms
+pub mod FoundTasks
 pub mod InputWords
 pub mod Lines
 pub mod Origins

@@ -129,6 +129,14 @@ follow_row = record {
   inputs = input (codes "CONNECTION") one ∷ [];
 }
 
+abbrev pub mask_row : CommandRow
+mask_row = record {
+  name = codes "mask";
+  options = quiet_option ∷ option (codes "keep") (any_word (codes "@none")) ∷ option (codes "mask") (any_word (codes "@none"))
+      ∷ option (codes "only") (any_word (codes "@none")) ∷ json_option ∷ [];
+  inputs = input (codes "D") one ∷ input (codes "MESSAGES") one ∷ [];
+}
+
 abbrev pub uses_row : CommandRow
 uses_row = record {
   name = codes "uses";
@@ -143,9 +151,24 @@ diff_row = record {
   inputs = input (codes "A") one ∷ input (codes "B") one ∷ [];
 }
 
+abbrev pub lint_row : CommandRow
+lint_row = record {
+  name = codes "lint";
+  options = quiet_option ∷ unknown_option ∷ option (codes "only") (any_word (codes "exact,guidelines"))
+      ∷ option (codes "except") (any_word (codes "@none")) ∷ option (codes "accepted") (any_word (codes "@none")) ∷ json_option ∷ [];
+  inputs = input (codes "D") one ∷ [];
+}
+
+abbrev pub examples_row : CommandRow
+examples_row = record {
+  name = codes "examples";
+  options = quiet_option ∷ unknown_option ∷ option (codes "text") no_value ∷ json_option ∷ [];
+  inputs = input (codes "D") one ∷ input (codes "COMMAND") any ∷ [];
+}
+
 abbrev pub command_rows : List CommandRow
 command_rows = show_row ∷ make_row ∷ check_row ∷ render_row ∷ compare_row ∷ refute_row ∷ propose_row ∷ breaking_row ∷ answer_row ∷ follow_row
-    ∷ uses_row ∷ diff_row ∷ []
+    ∷ mask_row ∷ uses_row ∷ diff_row ∷ lint_row ∷ examples_row ∷ []
 
 -- ---- the declaration of a row for clap
 

@@ -11,7 +11,7 @@ use Rattle.dia_policy.specs.declared.Sends.{Sends}
 use Rattle.dia_policy.specs.declared.Sends.TheVariants as sent
 use Rattle.dia_policy.specs.declared.Unknown.{Unknown}
 use Rattle.dia_policy.specs.declared.Unknown.TheVariants.{Kept, Refused}
-use Rattle.dia_cli.specs.Apart.{show_apart}
+use Rattle.dia_cli.specs.Apart.{mask_apart, show_apart}
 use Rattle.dia_cli.specs.declared.apart.Apart.{Apart}
 
 abbrev pub flag_word : Bool → Text
@@ -57,6 +57,11 @@ is_file word = option_map_or (λ w. not (bytes_eq w (codes "@none"))) word false
 abbrev pub apart_in : List Row → Option Apart
 apart_in rows = show_apart (is_given (first_of (codes "as-text") rows)) (is_given (first_of (codes "names") rows))
     (is_file (first_of (codes "values") rows)) (is_given (first_of (codes "lines") rows)) (is_given (first_of (codes "json") rows))
+
+-- and two of `mask`
+abbrev pub masked_apart_in : List Row → Option Apart
+masked_apart_in rows =
+    mask_apart (is_file (first_of (codes "keep") rows)) (is_file (first_of (codes "mask") rows)) (is_file (first_of (codes "only") rows))
 
 -- ---- whether they are found
 

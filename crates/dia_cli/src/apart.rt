@@ -1,7 +1,7 @@
 //! Options that don't go together.
 
 ghost use Rattle.std.specs.Prelude.{◌≡◌};
-ghost use Rattle.dia_cli.specs.Apart.{first_option, second_option, show_apart};
+ghost use Rattle.dia_cli.specs.Apart.{first_option, mask_apart, second_option, show_apart};
 
 /// Two options of a command that don't go together.
 #[derive(Clone, Copy)]
@@ -22,6 +22,12 @@ pub enum Apart {
     AsTextAndLines,
     /// `--as-text` and `--json`.
     AsTextAndJson,
+    /// Of `mask`: `--only` and `--keep`.
+    OnlyAndKeep,
+    /// `--only` and `--mask`.
+    OnlyAndMask,
+    /// Of `examples`: `--text` and `--json`.
+    TextAndJson,
 }
 
 impl Apart {
@@ -36,6 +42,8 @@ impl Apart {
             | Apart::AsTextAndValues
             | Apart::AsTextAndLines
             | Apart::AsTextAndJson => "as-text",
+            Apart::OnlyAndKeep | Apart::OnlyAndMask => "only",
+            Apart::TextAndJson => "text",
         }
     }
 
@@ -48,7 +56,9 @@ impl Apart {
             Apart::AsTextAndNames => "names",
             Apart::AsTextAndValues => "values",
             Apart::AllAndLines | Apart::AsTextAndLines => "lines",
-            Apart::AllAndJson | Apart::AsTextAndJson => "json",
+            Apart::AllAndJson | Apart::AsTextAndJson | Apart::TextAndJson => "json",
+            Apart::OnlyAndKeep => "keep",
+            Apart::OnlyAndMask => "mask",
         }
     }
 }
@@ -68,6 +78,17 @@ pub(crate) fn show_apart(
         (true, false, true, _, _) => Some(Apart::AsTextAndValues),
         (true, false, false, true, _) => Some(Apart::AsTextAndLines),
         (true, false, false, false, true) => Some(Apart::AsTextAndJson),
+        _ => None,
+    }
+}
+
+/// The first two of the given options of `mask` that don't go together.
+pub(crate) fn mask_apart(keep: bool, mask: bool, only: bool) -> Option<Apart>
+    ensures { result ≡ mask_apart keep mask only }
+{
+    match (only, keep, mask) {
+        (true, true, _) => Some(Apart::OnlyAndKeep),
+        (true, false, true) => Some(Apart::OnlyAndMask),
         _ => None,
     }
 }

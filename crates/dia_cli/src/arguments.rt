@@ -5,9 +5,9 @@ ghost use Rattle.std.specs.Prelude.{◌∷◌, true, Bool, ℕ, IfErr, List, Non
 ghost use Rattle.clap.specs.Walk.{Row, Text};
 ghost use Rattle.clap.specs.Words.{app_of, found_of, first_of, rows_of, subcommand_rows_of};
 ghost use Rattle.dia_cli.specs.Asking.{IsRefused, IsUnasked, IsUnrun, IsWanting};
-ghost use Rattle.dia_cli.specs.Forms.{has_judged};
+ghost use Rattle.dia_cli.specs.FoundTasks.{has_judged};
 ghost use Rattle.dia_cli.specs.Words.{has_pair};
-ghost use Rattle.dia_cli.specs.Forms.{has_made};
+ghost use Rattle.dia_cli.specs.FoundTasks.{has_made};
 ghost use Rattle.dia_cli.specs.Words.{is_judged, is_sender, sends_word};
 ghost use Rattle.dia_cli.specs.Asking.{is_asked};
 ghost use Rattle.dia_cli.specs.Words.{is_policy};
@@ -24,7 +24,8 @@ use crate::arguments::answering::answer_of;
 use crate::arguments::breaking::breaking_of;
 use crate::arguments::comparing::{compare_of, propose_of, refute_of, render_of};
 use crate::arguments::following::follow_of;
-use crate::arguments::questions::{diff_of, uses_of};
+use crate::arguments::masking::mask_of;
+use crate::arguments::questions::{diff_of, examples_of, lint_of, uses_of};
 use crate::arguments::showing::show_of;
 use crate::ending::Ending;
 use crate::line::{Words, command_line};
@@ -47,6 +48,7 @@ mod answering;
 mod breaking;
 mod comparing;
 mod following;
+mod masking;
 mod questions;
 mod showing;
 
@@ -226,8 +228,11 @@ fn task_of<'a>(alloc: Global, name: &str, found: &ArgMatches<'a>) -> Result<Aske
         "breaking" => breaking_of(alloc, found),
         "answer" => answer_of(alloc, found),
         "follow" => follow_of(found).ok_or(Unasked::Nothing),
+        "mask" => mask_of(alloc, found),
         "uses" => uses_of(alloc, found),
         "diff" => diff_of(found).ok_or(Unasked::Nothing),
+        "lint" => lint_of(alloc, found),
+        "examples" => examples_of(alloc, found),
         _ => Err(Unasked::Nothing),
     }
 }

@@ -42,5 +42,5 @@ pub use opened_inputs::open_inputs;
 pub use opener::{OfProcess, Opener};
 pub use origin::{BASE_DICTIONARY, NO_TABLE, Origin, Origins, STANDARD_INPUT};
 pub use request::Request;
-pub use task::{Answering, Breaking, Following, Task};
+pub use task::{Answering, Breaking, Following, Linting, Masking, Sampling, Task};
 pub use tips::advised;

@@ -5,9 +5,10 @@ ghost use Rattle.dia_cli.specs.Lines.{command_of};
 ghost use Rattle.dia_cli.specs.Rows.{command_rows};
 
 use crate::rows::dictionaries::{
-    breaking_row, compare_row, diff_row, propose_row, refute_row, render_row, uses_row,
+    breaking_row, compare_row, diff_row, examples_row, lint_row, propose_row, refute_row,
+    render_row, uses_row,
 };
-use crate::rows::messages::{answer_row, check_row, follow_row, make_row, show_row};
+use crate::rows::messages::{answer_row, check_row, follow_row, make_row, mask_row, show_row};
 
 mod dictionaries;
 mod messages;
@@ -65,13 +66,13 @@ pub(crate) enum Count {
 
 /// What the statuses of the process mean, of each command in the order of the rows.
 pub(crate) const STATUSES: &str = "Status:
-  0  done; for make, the messages made; for check, valid; for compare, yes; for refute, refutes; for breaking, nothing breaks; for answer, the answer; for follow, no departure; for uses, places; for diff, the same
-  1  for check, not valid; for compare, no; for refute, does not refute; for breaking, something breaks; for answer, no answer; for follow, a departure; for uses, no place; for diff, differences; for show, a bad AVP length, or with --lines a line that is no message
+  0  done; for make, the messages made; for check, valid; for compare, yes; for refute, refutes; for breaking, nothing breaks; for answer, the answer; for follow, no departure; for mask, each line replaced; for uses, places; for diff, the same; for lint, nothing found; for examples, vectors of each command
+  1  for check, not valid; for compare, no; for refute, does not refute; for breaking, something breaks; for answer, no answer; for follow, a departure; for mask, a line that is no message; for uses, no place; for diff, differences; for lint, findings; for examples, a command without vectors; for show, a bad AVP length, or with --lines a line that is no message
   2  bad input, or a bad command line
   3  a file or a device failed, or memory was refused";
 
 /// The commands of the program. Each row has a function of its own, since a proof of all of them together takes longer.
-pub(crate) fn command_rows<'a>() -> [CommandRow<'a>; 12]
+pub(crate) fn command_rows<'a>() -> [CommandRow<'a>; 15]
     ensures { map command_of result ≡ command_rows }
 {
     [
@@ -85,7 +86,10 @@ pub(crate) fn command_rows<'a>() -> [CommandRow<'a>; 12]
         breaking_row(),
         answer_row(),
         follow_row(),
+        mask_row(),
         uses_row(),
         diff_row(),
+        lint_row(),
+        examples_row(),
     ]
 }

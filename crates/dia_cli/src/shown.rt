@@ -1,11 +1,11 @@
-//! What `breaking` and `show` are to print.
+//! What `breaking`, `show` and `mask` are to print.
 
 ghost use Rattle.std.specs.Prelude.{◌≡◌, IfSome, None, codes, false, option_map};
 ghost use Rattle.clap.specs.Words.{found_of, rows_of};
-ghost use Rattle.dia_cli.specs.Forms.{has_flags};
-ghost use Rattle.dia_cli.specs.Words.{IsFlag, apart_in, is_file};
+ghost use Rattle.dia_cli.specs.FoundTasks.{has_flags};
+ghost use Rattle.dia_cli.specs.Words.{IsFlag, apart_in, is_file, masked_apart_in};
 
-use crate::apart::{Apart, show_apart};
+use crate::apart::{Apart, mask_apart, show_apart};
 use crate::origin::NO_TABLE;
 use crate::values::{flag_of, is_given, word_of};
 use clap::ArgMatches;
@@ -61,7 +61,18 @@ pub(crate) fn apart_in(found: &ArgMatches<'_>) -> Option<Apart>
     )
 }
 
-/// Whether a word isn't that for a text without lines.
+/// The first two options of `mask` that are given, and don't go together.
+pub(crate) fn masked_apart_in(found: &ArgMatches<'_>) -> Option<Apart>
+    ensures { result ≡ masked_apart_in (rows_of (found_of found.now)) }
+{
+    mask_apart(
+        is_file(word_of(found, "keep")),
+        is_file(word_of(found, "mask")),
+        is_file(word_of(found, "only")),
+    )
+}
+
+/// Whether a word isn't that for a text without lines, or for an empty list.
 fn is_file(word: Option<&str>) -> bool
     ensures { result ≡ is_file (option_map (λ text. text.now) word.entry) }
 {

@@ -28,10 +28,46 @@ pub enum Task {
     Answer(Answering),
     /// Prints where the ends of a connection depart from RFC 6733.
     Follow(Following),
+    /// Prints messages with the data replaced that may identify subscribers or nodes.
+    Mask(Masking),
     /// Prints where messages may have AVPs, each a name or `CODE[:VENDOR]`.
     Uses { avps: Vec<String> },
     /// Prints what differs in meaning between two dictionaries.
     Diff { sends: Sends, unknown: Unknown },
+    /// Prints what a dictionary says to no effect, and where it departs from RFC 6733.
+    Lint(Linting),
+    /// Prints test vectors of a dictionary.
+    Examples(Sampling),
+}
+
+/// Which AVPs `mask` replaces: names with commas, or `@none`.
+#[derive(Drop)]
+pub struct Masking {
+    /// AVPs that stay as they are.
+    pub keep: String,
+    /// AVPs that are replaced too.
+    pub mask: String,
+    /// The only AVPs that are replaced.
+    pub only: String,
+}
+
+/// Which rules `lint` applies: names of rules and of sets with commas, or `@none`.
+#[derive(Drop)]
+pub struct Linting {
+    pub unknown: Unknown,
+    pub only: String,
+    /// The rules of `only` that aren't applied.
+    pub except: String,
+}
+
+/// Which test vectors `examples` prints.
+#[derive(Drop)]
+pub struct Sampling {
+    pub unknown: Unknown,
+    /// Whether each message is printed as a text that `make` reads.
+    pub text: bool,
+    /// The commands that are asked for: all where there is none.
+    pub names: Vec<String>,
 }
 
 /// By what `answer` makes an answer.

@@ -109,8 +109,11 @@ task_says (task.CheckStream u most) json w origins inputs out exit p = tt
 task_says (task.CheckAll u most) json w origins inputs out exit p = tt
 task_says (task.Answer asked) json w origins inputs out exit p = tt
 task_says (task.Follow asked) json w origins inputs out exit p = tt
+task_says (task.Mask asked) json w origins inputs out exit p = tt
 task_says (task.Uses avps) json w origins inputs out exit p = tt
 task_says (task.Diff sends unknown) json w origins inputs out exit p = tt
+task_says (task.Lint asked) json w origins inputs out exit p = tt
+task_says (task.Examples asked) json w origins inputs out exit p = tt
 
 pub answers_say : (request : Request) (w : World) (out : Stream) (exit : Exit) → RequestEnds request w out (Ok exit)
     → (inputs : Inputs) × IsReadOf w.content w.standard request.origins inputs × Says request.task inputs exit

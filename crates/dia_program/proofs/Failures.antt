@@ -54,8 +54,11 @@ task_failed (task.CheckStream u most) json w origins inputs out made b = pieces_
 task_failed (task.CheckAll u most) json w origins inputs out made b = whole_failed _ out made b
 task_failed (task.Answer asked) json w origins inputs out made b = whole_failed _ out made b
 task_failed (task.Follow asked) json w origins inputs out made b = pieces_failed _ _ made b
+task_failed (task.Mask asked) json w origins inputs out made b = pieces_failed _ _ made b
 task_failed (task.Uses avps) json w origins inputs out made b = whole_failed _ out made b
 task_failed (task.Diff sends unknown) json w origins inputs out made b = whole_failed _ out made b
+task_failed (task.Lint asked) json w origins inputs out made b = whole_failed _ out made b
+task_failed (task.Examples asked) json w origins inputs out made b = pieces_failed _ _ made b.0
 
 fault_failed : (word : List ℕ) (made : Ending) → IsFaultOf word made → IsFailed made
 fault_failed word (ending.Device name error) b = tt

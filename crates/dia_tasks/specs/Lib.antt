@@ -1,4 +1,5 @@
 pub mod Answers
 pub mod Captures
 pub mod Endings
+pub mod Samples
 pub mod Tasks

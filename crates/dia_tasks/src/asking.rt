@@ -1,15 +1,20 @@
-//! Questions about dictionaries: `uses` and `diff`.
+//! Questions about dictionaries: `uses`, `diff`, `lint` and `examples`.
 
-ghost use Rattle.std.specs.Prelude.{IsTrue, map, string_bytes};
+ghost use Rattle.std.specs.Prelude.{◌≡◌, IsTrue, map, string_bytes};
 ghost use Rattle.dia_cli.specs.Ending.{stream};
 ghost use Rattle.dia_diff.specs.Outcome.{IsDiffOutcome};
+ghost use Rattle.dia_tasks.specs.Answers.{IsAnyText};
 ghost use Rattle.dia_tasks.specs.Endings.{Runs};
+ghost use Rattle.dia_tasks.specs.Samples.{Samples, form_of};
 ghost use Rattle.dia_uses.specs.Outcome.{IsUsesOutcome};
 
+use crate::inputs::word_of;
 use crate::manner::Manner;
-use dia_cli::{Ending, STANDARD_OUTPUT};
+use dia_cli::{Ending, Linting, NO_TABLE, Origins, STANDARD_OUTPUT, Sampling};
 use dia_diff::write_diff;
+use dia_examples_text::{Form, write_examples};
 use dia_io::{Inputs, Sink, ToWriter};
+use dia_lint_text::write_lint;
 use dia_policy::{Sends, Unknown};
 use dia_report::Reported;
 use dia_uses::write_uses;
@@ -73,8 +78,94 @@ where
     }
 }
 
+/// Writes what a dictionary says to no effect, and where it departs from RFC 6733.
+pub fn linted<'a, R, W>(
+    rt: &R,
+    asked: &Linting,
+    inputs: &Inputs,
+    origins: &Origins<'a>,
+    manner: Manner,
+    out: &mut ToWriter<W>,
+) -> Result<Reported, Ending<'a>>
+where
+    R: AllocGlobal + Eprint,
+    W: Write,
+    requires { ¬ IsTrue (⟦<ToWriter<W> as Sink>⟧.has_failed out.old) }
+    ensures { Runs IsAnyText
+        (stream (⟦<ToWriter<W> as Sink>⟧.written out.old) (⟦<ToWriter<W> as Sink>⟧.written out.new)
+        (⟦<ToWriter<W> as Sink>⟧.has_failed out.new)) result }
+{
+    let asked = dia_lint_text::Asked {
+        unknown: asked.unknown,
+        only: list_of(asked.only.as_str()),
+        except: list_of(asked.except.as_str()),
+        json: manner.json,
+        file: word_of(origins.first),
+    };
+    let mut notes = String::new(rt.alloc());
+    match write_lint(rt.alloc(), &asked, inputs, &mut notes, out) {
+        Ok(reported) => {
+            put_notes(rt, &notes, manner);
+            Ok(reported)
+        }
+        Err(fault) => Err(Ending::of_run(fault, STANDARD_OUTPUT, out.failure())),
+    }
+}
+
+/// Writes test vectors of a dictionary.
+pub fn sampled<'a, R, W>(
+    rt: &R,
+    asked: &Sampling,
+    inputs: &Inputs,
+    manner: Manner,
+    out: &mut ToWriter<W>,
+) -> Result<Reported, Ending<'a>>
+where
+    R: AllocGlobal + Eprint,
+    W: Write,
+    requires { ¬ IsTrue (⟦<ToWriter<W> as Sink>⟧.has_failed out.old) }
+    ensures { Samples (form_of asked.now.text manner.json) asked.now.unknown inputs.now
+        (stream (⟦<ToWriter<W> as Sink>⟧.written out.old) (⟦<ToWriter<W> as Sink>⟧.written out.new)
+        (⟦<ToWriter<W> as Sink>⟧.has_failed out.new)) result }
+{
+    let form = form_of(asked.text, manner.json);
+    let names = asked.names.as_slice();
+    let mut notes = String::new(rt.alloc());
+    match write_examples(
+        rt.alloc(),
+        asked.unknown,
+        form,
+        names,
+        inputs,
+        &mut notes,
+        out,
+    ) {
+        Ok(reported) => {
+            put_notes(rt, &notes, manner);
+            Ok(reported)
+        }
+        Err(fault) => Err(Ending::of_run(fault, STANDARD_OUTPUT, out.failure())),
+    }
+}
+
+/// How vectors are written: as texts for `make` where both are asked for.
+fn form_of(text: bool, json: bool) -> Form
+    ensures { result ≡ form_of text json }
+{
+    match (text, json) {
+        (true, _) => Form::Text,
+        (false, true) => Form::Json,
+        (false, false) => Form::Columns,
+    }
+}
+
+/// A list of names with commas, which is empty for the word that names no table.
+pub(crate) fn list_of(word: &str) -> &str {
+    if word == NO_TABLE { "" } else { word }
+}
+
 /// Writes notes on standard error, unless it is to be quiet. Where the device fails, they are lost.
-fn put_notes<R: Eprint>(rt: &R, notes: &String, manner: Manner) {
+pub(crate) fn put_notes<R: Eprint>(rt: &R, notes: &String, manner: Manner) {
     if !manner.quiet {
         let _ = rt.eprint(notes);
     }

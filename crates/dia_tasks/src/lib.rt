@@ -11,6 +11,7 @@ mod front;
 mod inputs;
 mod listing;
 mod manner;
+mod masking;
 mod notes;
 mod recording;
 mod replying;

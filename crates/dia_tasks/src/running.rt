@@ -8,12 +8,13 @@ ghost use Rattle.dia_tasks.specs.Tasks.{Attempts, Performs, world};
 
 use crate::all_faults::list_faults;
 use crate::answering::{answer, answer_as_json};
-use crate::asking::{differed, used};
+use crate::asking::{differed, linted, sampled, used};
 use crate::captured::{Capture, captured};
 use crate::following::followed;
 use crate::inputs::texts_of;
 use crate::listing::list_lines;
 use crate::manner::Manner;
+use crate::masking::masked;
 use crate::notes::{note, note_unnamed};
 use crate::replying::reply;
 use crate::showing::{show_json, show_named, show_words};
@@ -122,10 +123,15 @@ where
         Task::Follow(asked) => {
             Attempt::Ended(followed(rt, opener, *asked, inputs, origins, manner, out))
         }
+        Task::Mask(asked) => {
+            Attempt::Ended(masked(rt, opener, asked, inputs, origins, manner, out))
+        }
         Task::Uses { avps } => Attempt::Ended(used(rt, avps.as_slice(), inputs, manner, out)),
         Task::Diff { sends, unknown } => {
             Attempt::Ended(differed(rt, *sends, *unknown, inputs, manner, out))
         }
+        Task::Lint(asked) => Attempt::Ended(linted(rt, asked, inputs, origins, manner, out)),
+        Task::Examples(asked) => Attempt::Ended(sampled(rt, asked, inputs, manner, out)),
     }
 }
 

@@ -9,21 +9,22 @@ use Rattle.clap.specs.declared.parser.matches.ValueSource.TheVariants.{CommandLi
 use Rattle.clap.proofs.OnLiterals.{clap_on_literals}
 use Rattle.dia_io.specs.declared.Command.TheVariants as command
 use Rattle.dia_cli.specs.declared.task.Task.{Task}
-use Rattle.dia_cli.specs.declared.task.Task.TheVariants.{Whole, Make, ShowText, ShowNamed, ShowLines, Breaking, CheckLines, RefuteLines, CheckStream, CheckAll, Answer, Follow, Uses, Diff}
+use Rattle.dia_cli.specs.declared.task.Task.TheVariants.{Whole, Make, ShowText, ShowNamed, ShowLines, Breaking, CheckLines, RefuteLines, CheckStream, CheckAll, Answer, Follow, Mask, Uses, Diff, Lint, Examples}
 use Rattle.dia_policy.specs.declared.Sends.TheVariants.{Any, Known, Listed}
 use Rattle.dia_policy.specs.declared.Unknown.{Unknown}
 use Rattle.dia_policy.specs.declared.Unknown.TheVariants.{Kept, Refused}
 use Rattle.dia_cli.specs.Asking.{line_shape}
-use Rattle.dia_cli.specs.Forms.{Form, HasOptionsOf, IsTaskOfForm, alone, answer, arguments_of, as_json, as_listing, as_text, breaking, check, compare, diff, follow, form_inputs, form_json, form_name, form_options, form_row, form_words, has_arguments, has_lines, has_names, in_full, in_lines, in_stream, is_full, is_json, is_lines, is_plain_form, is_stream, is_text, json_of, make, propose, refute, render, show, task_name, uses, values_given}
+use Rattle.dia_cli.specs.Forms.{Form, IsTaskOfForm, alone, answer, as_json, as_listing, as_text, breaking, check, compare, diff, examples, follow, form_inputs, form_json, form_name, form_options, form_row, form_words, has_lines, has_names, in_full, in_lines, in_stream, is_full, is_json, is_lines, is_objects, is_plain_form, is_stream, is_text, is_texts, json_of, keep_given, lint, make, mask, mask_given, only_given, propose, refute, render, show, uses, values_given}
+use Rattle.dia_cli.specs.FoundTasks.{HasOptionsOf, arguments_of, has_arguments, task_name}
 use Rattle.dia_cli.specs.InputWords.{AreFound, AreNamed}
-use Rattle.dia_cli.specs.Rows.{answer_row, breaking_row, check_row, compare_row, diff_row, follow_row, make_row, propose_row, refute_row, render_row, show_row, uses_row}
+use Rattle.dia_cli.specs.Rows.{answer_row, breaking_row, check_row, compare_row, diff_row, examples_row, follow_row, lint_row, make_row, mask_row, propose_row, refute_row, render_row, show_row, uses_row}
 use Rattle.dia_cli.specs.Slots.{Slot, flag, number, text, unknown_slot}
 use Rattle.dia_cli.specs.Words.{flag_word, is_given, policy_word, sends_word}
 use Rattle.dia_cli.specs.declared.origin.Origins.{Origins}
 use Rattle.dia_cli.proofs.Forms.Ends.{IsRow}
 use Rattle.dia_cli.proofs.Forms.FormRows.{policy_passes, row_fits, sender_passes, shape}
 use Rattle.dia_cli.proofs.Forms.Lookup.{Found, default_found, or_found, values_from}
-use Rattle.dia_cli.proofs.Forms.Named.{also, has_flag, has_limit, has_policy, has_sender, has_some, later_plain, listing_named, listings_named, message_named, messages_named, not_false, not_true, number_passes, one_named, other_flag, other_given, pair_message_named, pair_messages_named, pair_named, pair_passes, same_flag, same_given, same_limit, same_names, same_policy, same_sender, same_value, table_named, unlike}
+use Rattle.dia_cli.proofs.Forms.Named.{also, has_flag, has_limit, has_policy, has_sender, has_some, later_plain, listing_named, listings_named, message_named, messages_named, not_false, not_true, number_passes, one_named, one_table_named, other_flag, other_given, pair_message_named, pair_messages_named, pair_named, pair_passes, same_flag, same_given, same_limit, same_names, same_policy, same_sender, same_value, table_named, unlike}
 use Rattle.dia_cli.proofs.Forms.Says.{first_value, flag_found, flag_given, names_found, not_given, number_found, policy_found, sender_found, some_names, text_found}
 use Rattle.dia_cli.proofs.Forms.Steps.{values_of}
 use Rattle.dia_cli.proofs.Forms.Walked.{Names_at}
@@ -66,11 +67,20 @@ module _ (policies senders : Bor (List (Bor Text))) (two : texts policies.now �
   form_fits quiet (follow json middle judged unknown levels dictionary connection) =
       row_fits policies senders two three follow_row _ _ refl (refl, tt, (refl, tt, (refl, tt, (refl, tt, (refl, policy_passes policies senders two three unknown, (refl, tt, (refl, tt, tt)))))))
       (record { by_index = refl; by_id = refl; next = refl }, tt) refl refl refl refl
+  form_fits quiet (mask avps json dictionary messages) =
+      row_fits policies senders two three mask_row _ _ refl (refl, tt, (refl, tt, (refl, tt, (refl, tt, (refl, tt, tt)))))
+      (record { by_index = refl; by_id = refl; next = refl }, (record { by_index = refl; by_id = refl; next = refl }, tt)) refl refl refl refl
   form_fits quiet (uses json dictionary avp avps) =
       row_fits policies senders two three uses_row _ _ refl (refl, tt, (refl, tt, tt)) (record { by_index = refl; by_id = refl; next = refl }, (true, record { by_index = refl; by_id = refl; next = refl })) refl refl refl refl
   form_fits quiet (diff json sends unknown first second) =
       row_fits policies senders two three diff_row _ _ refl (refl, tt, (refl, policy_passes policies senders two three unknown, (refl, sender_passes policies senders two three sends, (refl, tt, tt))))
       (record { by_index = refl; by_id = refl; next = refl }, (record { by_index = refl; by_id = refl; next = refl }, tt)) refl refl refl refl
+  form_fits quiet (lint json unknown only except accepted dictionary) =
+      row_fits policies senders two three lint_row _ _ refl (refl, tt, (refl, policy_passes policies senders two three unknown, (refl, tt, (refl, tt, (refl, tt, (refl, tt, tt))))))
+      (record { by_index = refl; by_id = refl; next = refl }, tt) refl refl refl refl
+  form_fits quiet (examples layout unknown dictionary names) =
+      row_fits policies senders two three examples_row _ _ refl (refl, tt, (refl, policy_passes policies senders two three unknown, (refl, tt, (refl, tt, tt))))
+      (record { by_index = refl; by_id = refl; next = refl }, (false, record { by_index = refl; by_id = refl; next = refl })) refl refl refl refl
 
   -- the name of its command is that of its row
   pub form_named : (form : Form) → Names_at (built (line_shape policies senders)) (form_name form) (shape policies senders (form_row form)) × ((shape policies senders (form_row form)).name ≡ form_name form)
@@ -85,8 +95,11 @@ module _ (policies senders : Bor (List (Bor Text))) (two : texts policies.now �
   form_named (breaking json sends unknown messages once meaning allowed explained accepted first second names) = (record { stops = refl; fine = refl; finds = refl; rest = refl }, refl)
   form_named (answer unknown levels host realm dictionary message) = (record { stops = refl; fine = refl; finds = refl; rest = refl }, refl)
   form_named (follow json middle judged unknown levels dictionary connection) = (record { stops = refl; fine = refl; finds = refl; rest = refl }, refl)
+  form_named (mask avps json dictionary messages) = (record { stops = refl; fine = refl; finds = refl; rest = refl }, refl)
   form_named (uses json dictionary avp avps) = (record { stops = refl; fine = refl; finds = refl; rest = refl }, refl)
   form_named (diff json sends unknown first second) = (record { stops = refl; fine = refl; finds = refl; rest = refl }, refl)
+  form_named (lint json unknown only except accepted dictionary) = (record { stops = refl; fine = refl; finds = refl; rest = refl }, refl)
+  form_named (examples layout unknown dictionary names) = (record { stops = refl; fine = refl; finds = refl; rest = refl }, refl)
 
 abbrev SaysPair : Unknown → Text → Text → List Row → Type 0
 SaysPair unknown first second rows = (first_of (codes "unknown") rows ≡ Some (policy_word unknown)) × (first_of (codes "A") rows ≡ Some first)
@@ -123,8 +136,20 @@ SaysForm (follow json middle judged unknown levels dictionary connection) rows =
     (first_of (codes "unknown") rows ≡ Some (policy_word unknown)) × (first_of (codes "levels") rows ≡ levels)
     × (first_of (codes "middle") rows ≡ Some (flag_word middle)) × (first_of (codes "check") rows ≡ Some (flag_word judged))
     × (first_of (codes "dict") rows ≡ Some (unwrap_or dictionary (codes "@base"))) × (first_of (codes "CONNECTION") rows ≡ Some connection)
+SaysForm (mask avps json dictionary messages) rows =
+    (first_of (codes "D") rows ≡ Some dictionary) × (first_of (codes "MESSAGES") rows ≡ Some messages)
+    × (first_of (codes "keep") rows ≡ Some (unwrap_or (keep_given avps) (codes "@none"))) × (first_of (codes "mask") rows ≡ Some (unwrap_or (mask_given avps) (codes "@none")))
+    × (first_of (codes "only") rows ≡ Some (unwrap_or (only_given avps) (codes "@none")))
 SaysForm (uses json dictionary avp avps) rows = (first_of (codes "D") rows ≡ Some dictionary) × (all_of (codes "AVP") rows ≡ Some (avp ∷ avps))
 SaysForm (diff json sends unknown first second) rows = SaysPair unknown first second rows × (first_of (codes "sends") rows ≡ Some (sends_word sends))
+SaysForm (lint json unknown only except accepted dictionary) rows =
+    (first_of (codes "unknown") rows ≡ Some (policy_word unknown)) × (first_of (codes "D") rows ≡ Some dictionary)
+    × (first_of (codes "accepted") rows ≡ Some (unwrap_or accepted (codes "@none"))) × (first_of (codes "only") rows ≡ Some (unwrap_or only (codes "exact,guidelines")))
+    × (first_of (codes "except") rows ≡ Some (unwrap_or except (codes "@none")))
+SaysForm (examples layout unknown dictionary names) rows =
+    (first_of (codes "unknown") rows ≡ Some (policy_word unknown)) × (first_of (codes "D") rows ≡ Some dictionary)
+    × (first_of (codes "text") rows ≡ Some (flag_word (is_texts layout))) × (first_of (codes "json") rows ≡ Some (flag_word (is_objects layout)))
+    × (all_of (codes "COMMAND") rows ≡ some_names names)
 
 abbrev pub Says : Bool → Form → List Row → Type 0
 Says quiet form rows = (first_of (codes "quiet") rows ≡ Some (flag_word quiet)) × SaysForm form rows
@@ -224,12 +249,45 @@ module _ (policies senders : Bor (List (Bor Text))) (quiet : Bool) (rows : List 
     ),
     flag_given json (first (codes "json") ∙ flag_found json),
   )
+  form_says (mask avps json dictionary messages) first all = (
+    first (codes "quiet") ∙ flag_found quiet,
+    (
+      first (codes "D"),
+      first (codes "MESSAGES"),
+      first (codes "keep") ∙ text_found (keep_given avps) (codes "@none"),
+      first (codes "mask") ∙ text_found (mask_given avps) (codes "@none"),
+      first (codes "only") ∙ text_found (only_given avps) (codes "@none"),
+    ),
+    flag_given json (first (codes "json") ∙ flag_found json),
+  )
   form_says (uses json dictionary avp avps) first all =
       (first (codes "quiet") ∙ flag_found quiet, (first (codes "D"), all (codes "AVP")), flag_given json (first (codes "json") ∙ flag_found json))
   form_says (diff json sends unknown one two) first all = (
     first (codes "quiet") ∙ flag_found quiet,
     ((first (codes "unknown") ∙ policy_found unknown, first (codes "A"), first (codes "B")), first (codes "sends") ∙ sender_found sends),
     flag_given json (first (codes "json") ∙ flag_found json),
+  )
+  form_says (lint json unknown only except accepted dictionary) first all = (
+    first (codes "quiet") ∙ flag_found quiet,
+    (
+      first (codes "unknown") ∙ policy_found unknown,
+      first (codes "D"),
+      first (codes "accepted") ∙ text_found accepted (codes "@none"),
+      first (codes "only") ∙ text_found only (codes "exact,guidelines"),
+      first (codes "except") ∙ text_found except (codes "@none"),
+    ),
+    flag_given json (first (codes "json") ∙ flag_found json),
+  )
+  form_says (examples layout unknown dictionary names) first all = (
+    first (codes "quiet") ∙ flag_found quiet,
+    (
+      first (codes "unknown") ∙ policy_found unknown,
+      first (codes "D"),
+      first (codes "text") ∙ flag_found (is_texts layout),
+      first (codes "json") ∙ flag_found (is_objects layout),
+      all (codes "COMMAND") ∙ names_found names,
+    ),
+    flag_given (is_objects layout) (first (codes "json") ∙ flag_found (is_objects layout)),
   )
 
 -- ---- what is asked for
@@ -266,9 +324,17 @@ form_has (follow json middle judged unknown levels dictionary connection) rows p
     also (also (has_policy _ unknown says.0) (has_limit _ levels says.1 (number_passes levels (form_inputs (follow json middle judged unknown levels dictionary connection)) (later_plain (text (codes "dict") dictionary)
     (flag (codes "middle") middle ∷ flag (codes "check") judged ∷ unknown_slot unknown ∷ flag (codes "json") json ∷ number (codes "levels") levels ∷ form_inputs (follow json middle judged unknown levels dictionary connection)) plain))))
     (also (has_flag _ middle says.2) (also (has_flag _ judged says.3) (also (has_some _ (unwrap_or dictionary (codes "@base")) says.4) (has_some _ connection says.5))))
+form_has (mask avps json dictionary messages) rows plain says =
+    also (has_some _ dictionary says.0) (also (has_some _ messages says.1) (also (has_some _ (unwrap_or (keep_given avps) (codes "@none")) says.2)
+    (also (has_some _ (unwrap_or (mask_given avps) (codes "@none")) says.3) (has_some _ (unwrap_or (only_given avps) (codes "@none")) says.4))))
 form_has (uses json dictionary avp avps) rows plain says = also (has_some _ dictionary says.0) (has_some _ (avp ∷ avps) says.1)
 form_has (diff json sends unknown first second) rows plain says =
     also (has_policy _ unknown says.0.0) (also (pair_passes first second rows says.0.1 says.0.2) (has_sender _ sends says.1))
+form_has (lint json unknown only except accepted dictionary) rows plain says =
+    also (has_policy _ unknown says.0) (also (has_some _ dictionary says.1) (also (has_some _ (unwrap_or accepted (codes "@none")) says.2)
+    (also (has_some _ (unwrap_or only (codes "exact,guidelines")) says.3) (has_some _ (unwrap_or except (codes "@none")) says.4))))
+form_has (examples layout unknown dictionary names) rows plain says =
+    also (has_policy _ unknown says.0) (also (has_some _ dictionary says.1) (has_flag _ (is_texts layout) says.2))
 
 -- what the words of a form ask for
 abbrev IsAskedOf : Form → Task → Origins → Type 0
@@ -376,14 +442,29 @@ asked_is (follow json middle judged unknown levels dictionary connection) rows (
   ),
   messages_named origins rows (codes "dict") (unwrap_or dictionary (codes "@base")) (codes "CONNECTION") connection says.4 says.5 found,
 )
+asked_is (mask avps json dictionary messages) rows (Mask asked) origins says named is found = (
+  (same_value _ _ _ is.0 says.2, same_value _ _ _ is.1 says.3, same_value _ _ _ is.2 says.4),
+  messages_named origins rows (codes "D") dictionary (codes "MESSAGES") messages says.0 says.1 found,
+)
 asked_is (uses json dictionary avp avps) rows (Uses names) origins says named is found =
     (sym (same_value _ _ _ says.1 is), one_named origins rows (codes "D") dictionary says.0 found)
 asked_is (diff json sends unknown first second) rows (Diff sender policy) origins says named is found =
     ((same_sender _ _ _ is.1 says.1, same_policy _ _ _ is.0 says.0.0), pair_named origins rows first second says.0.1 says.0.2 found)
+asked_is (lint json unknown only except accepted dictionary) rows (Lint asked) origins says named is found = (
+  (same_policy _ _ _ is.0 says.0, same_value _ _ _ is.1 says.3, same_value _ _ _ is.2 says.4),
+  one_table_named origins rows (codes "D") dictionary (codes "accepted") (unwrap_or accepted (codes "@none")) says.1 says.2 found,
+)
+asked_is (examples layout unknown dictionary names) rows (Examples asked) origins says named is found = (
+  (same_policy _ _ _ is.0 says.0, same_flag _ _ _ is.1 says.2, same_names _ _ names says.4 is.2),
+  one_named origins rows (codes "D") dictionary says.1 found,
+)
 asked_is (breaking json sends unknown messages once meaning allowed explained accepted first second names) rows (Whole command.Show) origins says named is found = unlike (codes "breaking") (codes "show") refl named
 asked_is (make dictionary written) rows (Whole command.Show) origins says named is found = unlike (codes "make") (codes "show") refl named
 asked_is (answer unknown levels host realm dictionary message) rows (Whole command.Show) origins says named is found = unlike (codes "answer") (codes "show") refl named
 asked_is (follow json middle judged unknown levels dictionary connection) rows (Whole command.Show) origins says named is found = unlike (codes "follow") (codes "show") refl named
+asked_is (mask avps json dictionary messages) rows (Whole command.Show) origins says named is found = unlike (codes "mask") (codes "show") refl named
 asked_is (uses json dictionary avp avps) rows (Whole command.Show) origins says named is found = unlike (codes "uses") (codes "show") refl named
 asked_is (diff json sends unknown first second) rows (Whole command.Show) origins says named is found = unlike (codes "diff") (codes "show") refl named
+asked_is (lint json unknown only except accepted dictionary) rows (Whole command.Show) origins says named is found = unlike (codes "lint") (codes "show") refl named
+asked_is (examples layout unknown dictionary names) rows (Whole command.Show) origins says named is found = unlike (codes "examples") (codes "show") refl named
 asked_is form rows task origins says named is found = unlike (form_name form) (task_name task) refl named

@@ -139,6 +139,11 @@ module _ (origins : Origins) (rows : List Row) where
   message_named id dictionary input message says text found =
       (named _ id dictionary origins.first rows says found.0, found.1, found.2, named _ input message origins.message rows text found.3, found.4)
 
+  pub one_table_named : (id dictionary input table : Text) → first_of id rows ≡ Some dictionary → first_of input rows ≡ Some table
+      → AreFound (record (one_text id) { table = Some input }) origins rows → AreNamed (record (one_text dictionary) { table = Some table }) origins
+  one_table_named id dictionary input table says text found =
+      (named _ id dictionary origins.first rows says found.0, found.1, named _ input table origins.table rows text found.2, found.3, found.4)
+
   pub listing_named : (dictionary message values : Text) → first_of (codes "dict") rows ≡ Some dictionary → first_of (codes "MESSAGE") rows ≡ Some message → first_of (codes "values") rows ≡ Some values
       → AreFound (record (one_text (codes "dict")) { table = Some (codes "values"); message = Some (codes "MESSAGE") }) origins rows
       → AreNamed (record (one_text dictionary) { table = Some values; message = Some message }) origins

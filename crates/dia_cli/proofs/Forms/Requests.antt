@@ -1,16 +1,16 @@
 -- What is found of the words of a form is a subcommand with its arguments, and the request that is made of it is the form's.
-use Rattle.std.proofs.Common.{◌≡◌, ◌∙◌, Bool, true, List, [], ◌∷◌, ◌++◌, Some, None, refl, sym, ap, codes}
+use Rattle.std.proofs.Common.{◌≡◌, ◌∙◌, Bool, true, false, List, [], ◌∷◌, ◌++◌, Some, None, refl, sym, ap, codes}
 use Rattle.std.specs.Borrow.{Bor}
 use Rattle.std.specs.Prelude.{unwrap_or}
 use Rattle.clap.specs.Walk.{Row, Text, first_of, texts}
 use Rattle.dia_policy.specs.declared.Sends.TheVariants.{Any, Known, Listed}
 use Rattle.dia_policy.specs.declared.Unknown.TheVariants.{Kept, Refused}
-use Rattle.dia_cli.specs.Apart.{show_apart}
-use Rattle.dia_cli.specs.Asking.{IsApart, IsCheckWithBoth, IsRequestOf, is_asked, line_shape}
-use Rattle.dia_cli.specs.Forms.{Form, IsOfForm, Recording, alone, as_json, as_listing, as_text, check, form_inputs, form_json, form_name, form_row, has_lines, has_names, in_full, in_lines, in_stream, is_json, is_plain_form, is_text, show, values_given, words_of}
-use Rattle.dia_cli.specs.Words.{apart_in, flag_word, is_file, is_given, policy_word, sends_word}
+use Rattle.dia_cli.specs.Apart.{mask_apart, show_apart}
+use Rattle.dia_cli.specs.Asking.{IsApart, IsCheckWithBoth, IsRequestOf, IsWithBoth, is_asked, line_shape}
+use Rattle.dia_cli.specs.Forms.{Form, IsOfForm, Masked, Recording, alone, as_json, as_listing, as_text, check, examples, form_inputs, form_json, form_name, form_row, has_lines, has_names, in_columns, in_full, in_lines, in_objects, in_stream, in_texts, is_json, is_plain_form, is_text, keep_given, mask, mask_given, masked, masked_only, only_given, show, values_given, words_of}
+use Rattle.dia_cli.specs.Words.{apart_in, flag_word, is_file, is_given, masked_apart_in, policy_word, sends_word}
 use Rattle.dia_cli.specs.declared.apart.Apart.{Apart}
-use Rattle.dia_cli.specs.declared.apart.Apart.TheVariants.{LinesAndStream, AllAndLines, AllAndStream, AllAndJson, AsTextAndNames, AsTextAndValues, AsTextAndLines, AsTextAndJson}
+use Rattle.dia_cli.specs.declared.apart.Apart.TheVariants.{LinesAndStream, AllAndLines, AllAndStream, AllAndJson, AsTextAndNames, AsTextAndValues, AsTextAndLines, AsTextAndJson, OnlyAndKeep, OnlyAndMask, TextAndJson}
 use Rattle.dia_cli.specs.declared.request.Request.{Request}
 use Rattle.dia_cli.proofs.Forms.Commands.{Says, all_options, asked_is, form_fits, form_has, form_named, form_says}
 use Rattle.dia_cli.proofs.Forms.Ends.{Finds, row_taken}
@@ -88,6 +88,35 @@ module _ (rows : List Row) where
       let none = sym (shown_together recording says.1.2 says.1.3 says.1.4 says.1.5 says.2) ∙ bad.1 in absurd cc
   show_goes_together quiet form apart says bad = unlike (form_name form) (codes "show") refl bad.0
 
+-- what a form says of `mask` goes together
+module _ (rows : List Row) where
+  without_others : (only : Bool) → mask_apart false false only ≡ None
+  without_others true = refl
+  without_others false = refl
+
+  given_together : (avps : Masked) → mask_apart (is_file (Some (unwrap_or (keep_given avps) (codes "@none")))) (is_file (Some (unwrap_or (mask_given avps) (codes "@none"))))
+      (is_file (Some (unwrap_or (only_given avps) (codes "@none")))) ≡ None
+  given_together (masked keep more) = refl
+  given_together (masked_only only) = without_others (is_file (Some only))
+
+  masked_together : (avps : Masked) → first_of (codes "keep") rows ≡ Some (unwrap_or (keep_given avps) (codes "@none")) → first_of (codes "mask") rows ≡ Some (unwrap_or (mask_given avps) (codes "@none"))
+      → first_of (codes "only") rows ≡ Some (unwrap_or (only_given avps) (codes "@none")) → masked_apart_in rows ≡ None
+  masked_together avps keep more only =
+      let k = ap is_file keep in
+      let m = ap is_file more in
+      let o = ap is_file only in (λ i. mask_apart (k i) (m i) (o i)) ∙ given_together avps
+
+  mask_goes_together : (quiet : Bool) (form : Form) (apart : Apart) → Says quiet form rows → (form_name form ≡ codes "mask") × (masked_apart_in rows ≡ Some apart) → ⊥
+  mask_goes_together quiet (mask avps json dictionary messages) apart says bad =
+      let none = sym (masked_together avps says.1.2 says.1.3 says.1.4) ∙ bad.1 in absurd cc
+  mask_goes_together quiet form apart says bad = unlike (form_name form) (codes "mask") refl bad.0
+
+  examples_go_together : (quiet : Bool) (form : Form) → Says quiet form rows → IsWithBoth (codes "examples") (codes "text") (codes "json") (form_name form, rows) → ⊥
+  examples_go_together quiet (examples in_columns unknown dictionary names) says bad = let text = sym says.1.2 ∙ bad.1 in absurd cc
+  examples_go_together quiet (examples in_texts unknown dictionary names) says bad = let json = sym says.1.3 ∙ bad.2 in absurd cc
+  examples_go_together quiet (examples in_objects unknown dictionary names) says bad = let text = sym says.1.2 ∙ bad.1 in absurd cc
+  examples_go_together quiet form says bad = unlike (form_name form) (codes "examples") refl bad.0
+
 -- no form has two options that don't go together
 pub form_goes_together : (quiet : Bool) (form : Form) (rows : List Row) → Says quiet form rows → (apart : Apart) → IsApart apart (form_name form, rows) → ⊥
 form_goes_together quiet form rows says LinesAndStream bad = not_lines_and_stream quiet rows form says bad
@@ -98,6 +127,9 @@ form_goes_together quiet form rows says AsTextAndNames bad = show_goes_together 
 form_goes_together quiet form rows says AsTextAndValues bad = show_goes_together rows quiet form AsTextAndValues says bad
 form_goes_together quiet form rows says AsTextAndLines bad = show_goes_together rows quiet form AsTextAndLines says bad
 form_goes_together quiet form rows says AsTextAndJson bad = show_goes_together rows quiet form AsTextAndJson says bad
+form_goes_together quiet form rows says OnlyAndKeep bad = mask_goes_together rows quiet form OnlyAndKeep says bad
+form_goes_together quiet form rows says OnlyAndMask bad = mask_goes_together rows quiet form OnlyAndMask says bad
+form_goes_together quiet form rows says TextAndJson bad = examples_go_together rows quiet form says bad
 
 pub request_is : (quiet : Bool) (form : Form) (rows : List Row) (request : Request) → Says quiet form rows → IsRequestOf request (form_name form, rows)
     → IsOfForm form request × (request.quiet ≡ quiet) × (request.json ≡ form_json form)

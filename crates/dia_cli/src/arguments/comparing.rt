@@ -3,7 +3,7 @@
 ghost use Rattle.std.specs.Prelude.{◌≡◌, IfErr, IfOk, IfSome, None, codes, false};
 ghost use Rattle.clap.specs.Words.{found_of, rows_of};
 ghost use Rattle.dia_cli.specs.Asking.{IsAsked, IsWanting};
-ghost use Rattle.dia_cli.specs.Forms.{has_compared, has_refuted};
+ghost use Rattle.dia_cli.specs.FoundTasks.{has_compared, has_refuted};
 ghost use Rattle.dia_cli.specs.Words.{has_word};
 
 use crate::arguments::{Asked, Unasked, judged_of, pair_of, unknown_of};

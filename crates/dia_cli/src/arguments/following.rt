@@ -3,7 +3,7 @@
 ghost use Rattle.std.specs.Prelude.{◌≡◌, IfSome, None, codes, false};
 ghost use Rattle.clap.specs.Words.{found_of, rows_of};
 ghost use Rattle.dia_cli.specs.Asking.{IsAsked};
-ghost use Rattle.dia_cli.specs.Forms.{has_followed};
+ghost use Rattle.dia_cli.specs.FoundTasks.{has_followed};
 
 use crate::arguments::{Asked, judged_of};
 use crate::origin::Origins;

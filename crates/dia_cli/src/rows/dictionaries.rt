@@ -2,7 +2,7 @@
 
 ghost use Rattle.std.specs.Prelude.{◌≡◌};
 ghost use Rattle.dia_cli.specs.Lines.{command_of};
-ghost use Rattle.dia_cli.specs.Rows.{breaking_row, compare_row, diff_row};
+ghost use Rattle.dia_cli.specs.Rows.{breaking_row, compare_row, diff_row, examples_row, lint_row};
 ghost use Rattle.dia_cli.specs.Rows.{propose_row, refute_row, render_row, uses_row};
 
 use crate::origin::NO_TABLE;
@@ -145,6 +145,64 @@ const DIFF: CommandRow<'static> = CommandRow {
     inputs: &[A, B],
 };
 
+const LINT: CommandRow<'static> = CommandRow {
+    name: "lint",
+    about: "Prints what a dictionary says to no effect, and where it departs from RFC 6733",
+    options: &[
+        QUIET,
+        UNKNOWN,
+        OptionRow {
+            id: "only",
+            value: Value::Word {
+                name: "RULES",
+                default: "exact,guidelines",
+            },
+            help: "The rules that are applied, with commas: their names, and exact, guidelines, and more",
+        },
+        OptionRow {
+            id: "except",
+            value: Value::Word {
+                name: "RULES",
+                default: NO_TABLE,
+            },
+            help: "The rules of them that aren't applied",
+        },
+        OptionRow {
+            id: "accepted",
+            value: Value::Word {
+                name: "FILE",
+                default: NO_TABLE,
+            },
+            help: "Lines that are known, as this command prints them, which aren't printed: a file, @none, or - for standard input",
+        },
+        JSON,
+    ],
+    inputs: &[D],
+};
+
+const EXAMPLES: CommandRow<'static> = CommandRow {
+    name: "examples",
+    about: "Prints test vectors of a dictionary: valid messages and faulty ones, each with its verdict",
+    options: &[
+        QUIET,
+        UNKNOWN,
+        OptionRow {
+            id: "text",
+            value: Value::Nothing,
+            help: "Prints each message as a text that make reads",
+        },
+        JSON,
+    ],
+    inputs: &[
+        D,
+        InputRow {
+            id: "COMMAND",
+            count: Count::Any,
+            help: "The name of a command; without any, all of D",
+        },
+    ],
+};
+
 pub(crate) fn render_row<'a>() -> CommandRow<'a>
     ensures { command_of result ≡ render_row }
 {
@@ -185,4 +243,16 @@ pub(crate) fn diff_row<'a>() -> CommandRow<'a>
     ensures { command_of result ≡ diff_row }
 {
     DIFF
+}
+
+pub(crate) fn lint_row<'a>() -> CommandRow<'a>
+    ensures { command_of result ≡ lint_row }
+{
+    LINT
+}
+
+pub(crate) fn examples_row<'a>() -> CommandRow<'a>
+    ensures { command_of result ≡ examples_row }
+{
+    EXAMPLES
 }

@@ -2,7 +2,7 @@
 
 ghost use Rattle.std.specs.Prelude.{◌≡◌};
 ghost use Rattle.dia_cli.specs.Lines.{command_of};
-ghost use Rattle.dia_cli.specs.Rows.{answer_row, check_row, follow_row, make_row, show_row};
+ghost use Rattle.dia_cli.specs.Rows.{answer_row, check_row, follow_row, make_row, mask_row, show_row};
 
 use crate::origin::NO_TABLE;
 use crate::rows::options::{D, DICT, JSON, LEVELS, QUIET, UNKNOWN};
@@ -152,6 +152,47 @@ const FOLLOW: CommandRow<'static> = CommandRow {
     }],
 };
 
+const MASK: CommandRow<'static> = CommandRow {
+    name: "mask",
+    about: "Prints the message of each line with the data replaced that may identify subscribers or nodes",
+    options: &[
+        QUIET,
+        OptionRow {
+            id: "keep",
+            value: Value::Word {
+                name: "AVPS",
+                default: NO_TABLE,
+            },
+            help: "The names of AVPs whose data isn't replaced, with commas; AVP for those that aren't in the dictionary",
+        },
+        OptionRow {
+            id: "mask",
+            value: Value::Word {
+                name: "AVPS",
+                default: NO_TABLE,
+            },
+            help: "The names of AVPs whose data is replaced too",
+        },
+        OptionRow {
+            id: "only",
+            value: Value::Word {
+                name: "AVPS",
+                default: NO_TABLE,
+            },
+            help: "The names of the only AVPs whose data is replaced",
+        },
+        JSON,
+    ],
+    inputs: &[
+        D,
+        InputRow {
+            id: "MESSAGES",
+            count: Count::One,
+            help: "A file of messages, a line of hexadecimal text each; - for standard input",
+        },
+    ],
+};
+
 pub(crate) fn show_row<'a>() -> CommandRow<'a>
     ensures { command_of result ≡ show_row }
 {
@@ -180,4 +221,10 @@ pub(crate) fn follow_row<'a>() -> CommandRow<'a>
     ensures { command_of result ≡ follow_row }
 {
     FOLLOW
+}
+
+pub(crate) fn mask_row<'a>() -> CommandRow<'a>
+    ensures { command_of result ≡ mask_row }
+{
+    MASK
 }

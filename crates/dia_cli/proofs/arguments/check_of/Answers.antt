@@ -2,7 +2,7 @@ use Rattle.std.proofs.Common.{codes}
 use Rattle.std.specs.Prelude.{◌&&◌}
 use Rattle.clap.specs.Walk.{first_of}
 use Rattle.clap.specs.Words.{found_of, rows_of}
-use Rattle.dia_cli.specs.Forms.{has_judged}
+use Rattle.dia_cli.specs.FoundTasks.{has_judged}
 use Rattle.dia_cli.specs.Words.{has_word, is_flag}
 use Rattle.dia_cli.proofs.Words.{and_no}
 use Rattle.dia_cli.proofs.arguments.check_of.Goals as goal

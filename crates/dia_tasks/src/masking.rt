@@ -1,0 +1,91 @@
+//! `mask`: messages with the data replaced that may identify subscribers or nodes.
+
+ghost use Rattle.std.specs.Prelude.{IsTrue};
+ghost use Rattle.dia_cli.specs.Ending.{stream};
+ghost use Rattle.dia_tasks.specs.Captures.{Follows, messages_word};
+
+use crate::asking::{list_of, put_notes};
+use crate::captured::ending_of;
+use crate::manner::Manner;
+use dia_cli::{Ending, Masking, Opener, Origin, Origins, STANDARD_INPUT};
+use dia_io::{FromReader, Inputs, Sink, ToWriter};
+use dia_mask_text::{Options, mask};
+use dia_report::Reported;
+use std::io::{Read, Write};
+
+/// Writes the message of each line with data replaced, and a summary on standard error, unless it is to be quiet.
+pub fn masked<'a, R, O, W>(
+    rt: &R,
+    opener: &O,
+    asked: &Masking,
+    inputs: &Inputs,
+    origins: &Origins<'a>,
+    manner: Manner,
+    out: &mut ToWriter<W>,
+) -> Result<Reported, Ending<'a>>
+where
+    R: AllocGlobal + Eprint,
+    O: Opener,
+    W: Write,
+    requires { ¬ IsTrue (⟦<ToWriter<W> as Sink>⟧.has_failed out.old) }
+    ensures { Follows (messages_word origins.now.messages)
+        (stream (⟦<ToWriter<W> as Sink>⟧.written out.old) (⟦<ToWriter<W> as Sink>⟧.written out.new)
+        (⟦<ToWriter<W> as Sink>⟧.has_failed out.new)) result }
+{
+    match origins.messages {
+        Origin::File { path, .. } => match opener.open(path) {
+            Ok(file) => mask_reader(rt, asked, inputs, file, path, manner, out),
+            Err(error) => Err(Ending::Device {
+                name: path,
+                error: Some(error),
+            }),
+        },
+        _ => {
+            let reader = opener.standard_input();
+            mask_reader(rt, asked, inputs, reader, STANDARD_INPUT, manner, out)
+        }
+    }
+}
+
+/// The same of the lines that a reader gives. `name` is the word that names the reader.
+fn mask_reader<'a, R, D, W>(
+    rt: &R,
+    asked: &Masking,
+    inputs: &Inputs,
+    reader: D,
+    name: &'a str,
+    manner: Manner,
+    out: &mut ToWriter<W>,
+) -> Result<Reported, Ending<'a>>
+where
+    R: AllocGlobal + Eprint,
+    D: Read + Drop,
+    W: Write,
+    requires { ¬ IsTrue (⟦<ToWriter<W> as Sink>⟧.has_failed out.old) }
+    ensures { Follows name.entry.now
+        (stream (⟦<ToWriter<W> as Sink>⟧.written out.old) (⟦<ToWriter<W> as Sink>⟧.written out.new)
+        (⟦<ToWriter<W> as Sink>⟧.has_failed out.new)) result }
+{
+    let mut feed = FromReader::new(reader);
+    let options = Options {
+        keep: list_of(asked.keep.as_str()),
+        mask: list_of(asked.mask.as_str()),
+        only: list_of(asked.only.as_str()),
+        json: manner.json,
+    };
+    let mut notes = String::new(rt.alloc());
+    match mask(
+        rt.alloc(),
+        &options,
+        &inputs.first,
+        &mut notes,
+        &mut feed,
+        out,
+    ) {
+        Ok(reported) => {
+            put_notes(rt, &notes, manner);
+            Ok(reported)
+        }
+        Err(fault) => Err(ending_of(fault, name, out.failure(), feed.failure())),
+    }
+}
