@@ -204,10 +204,36 @@ typedef struct dia_verdict {
 dia_status dia_check(dia_dict *dict, uint32_t unknown, uint32_t levels, const uint8_t *message, size_t message_len,
                      dia_verdict *verdict);
 
+/* Checks the messages that follow one another in a buffer, as dia_check checks each: verdicts[i] is that on message i, of `end_count`
+ * messages. Message i begins where the one before it ends, the first at offset 0, and ends before offset ends[i]; so they are of any
+ * lengths, and bytes after the last one are not read. `verdict_count` is `end_count`.
+ * The verdicts are written on DIA_OK alone. DIA_BAD_ARGUMENT: `unknown` is neither of its two values, `verdict_count` is another
+ * number, an end is less than the one before it, or an end is more than `bytes_len`. It takes 32 bytes of memory for each message, and
+ * frees them. */
+dia_status dia_check_many(dia_dict *dict, uint32_t unknown, uint32_t levels, const uint8_t *bytes, size_t bytes_len, const size_t *ends,
+                          size_t end_count, dia_verdict *verdicts, size_t verdict_count);
+
 /* How many bytes the message has that begins with these, at least 20: its Message Length (RFC 6733 section 3).
  * DIA_REFUSED: no message begins so, and *verdict is what a check would say, or DIA_TRUNCATED of fewer than 20 bytes.
  * Takes no memory. */
 dia_status dia_message_length(const uint8_t *header, size_t header_len, uint32_t *length, dia_verdict *verdict);
+
+/* ---- words ---- */
+
+/* The word of a number: of a reason DIA_R_.., as lines of `diacmd check` have it; of a kind of problem, as answers in JSON have it
+ * (docs/JSON.md); and of a status. *count bytes are written, with no zero after them. DIA_NONE: no such number is known, and *count is
+ * not written. DIA_NO_ROOM: the word has *count bytes, at most DIA_MAX_WORD. Takes no memory. */
+#define DIA_MAX_WORD 24u
+dia_status dia_reason_word(uint32_t reason, uint8_t *out, size_t out_len, size_t *count);
+dia_status dia_kind_word(uint32_t kind, uint8_t *out, size_t out_len, size_t *count);
+dia_status dia_status_word(dia_status status, uint8_t *out, size_t out_len, size_t *count);
+
+/* The line that `diacmd check` writes of a message with this verdict, without its line feed: *count bytes, with no zero after them.
+ * The names are those of the dictionary. DIA_NO_ROOM: the line has *count bytes, at most DIA_MAX_LINE.
+ * DIA_BAD_ARGUMENT: no check with this dictionary has this verdict: a number of it has no meaning, or is not 0 where it is none of its
+ * outcome; or the dictionary has no such command. *count is written on DIA_OK and DIA_NO_ROOM alone. */
+#define DIA_MAX_LINE 192u
+dia_status dia_verdict_text(dia_dict *dict, const dia_verdict *verdict, uint8_t *out, size_t out_len, size_t *count);
 
 /* ---- messages that come in pieces ---- */
 
@@ -277,6 +303,31 @@ dia_status dia_text_length(dia_text *text, size_t *length);
 
 /* Closes the handle. Takes no memory. */
 void dia_text_close(dia_text *text);
+
+/* ---- answers to requests that have a fault ---- */
+
+/* By which definition an answer is made (docs/FORMATS.md). */
+enum {
+    DIA_FORM_OWN = 1,   /* the command's own answer, with E clear; for faults of 5xxx alone */
+    DIA_FORM_ERROR = 2, /* the error message of the dictionary for this command (a definition with ERR), with E set */
+    DIA_FORM_BASE = 3   /* the error message of the built-in dictionary, with E set */
+};
+
+/* Opens the closed handle `bytes` with the answer to a request that reports its first fault (RFC 6733 sections 6.2, 7.1.5, 7.2 and
+ * 7.5): the bytes of a message, which `diacmd answer` writes as hexadecimal digits. `host` and `realm` are the answer's Origin-Host
+ * and Origin-Realm; `unknown` and `levels` are those of dia_check. *form is DIA_FORM_..: the first in this order that makes a valid
+ * message. *verdict is what dia_check says of the message, also on DIA_NONE.
+ * The answer has the Command Code, the Application-ID, both identifiers and the P flag of the request. It is valid under the
+ * dictionary (of DIA_FORM_BASE under the built-in one), where Failed-AVP is read as OctetString.
+ * DIA_NONE: the message gets no answer. It has fewer than 20 bytes, is no request, has another length than its Message Length, or is
+ * valid; or no answer to it has room in a message.
+ * DIA_BAD_ARGUMENT: `unknown` is neither of its two values; or `host` or `realm` is no DiameterIdentity (section 4.3.1) of at most
+ * 255 bytes: 1 to 255 bytes, each from '!' to '~'.
+ * *form is written on DIA_OK alone, *verdict on DIA_OK and DIA_NONE. A request whose version or Message Length is at fault is
+ * answered, too; then close the connection, since the stream has lost its bounds. */
+dia_status dia_answer(dia_dict *dict, uint32_t unknown, uint32_t levels, const uint8_t *host, size_t host_len, const uint8_t *realm,
+                      size_t realm_len, const uint8_t *message, size_t message_len, dia_text *bytes, uint32_t *form,
+                      dia_verdict *verdict);
 
 /* ---- two dictionaries ---- */
 

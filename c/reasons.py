@@ -1,7 +1,7 @@
 #!/usr/bin/env python3
 """Writes the numbers of the reasons of `check` into dia.h, out of the definition that the contracts cite, and compares the other
 numbers of dia.h with their definitions: the version, the statuses, the kinds of a problem, and the states, the faults and the
-reasons of a connection.
+reasons of a connection, and the forms of answers.
 
     c/reasons.py [--check]
 
@@ -20,8 +20,8 @@ LIST = re.compile(r"(?<=/\* The reasons of docs/FAULTS\.md\. \*/\nenum \{\n)[^}]
 STATUSES = re.compile(r"typedef uint32_t dia_status;\nenum \{([^}]*)\};")
 KINDS = re.compile(r"/\* Why a text is no dictionary: the kind of its first fault\. \*/\nenum \{([^}]*)\};")
 PEERS = (("DIA_STATE_", "PeerSteps.antt", r"^state_number state\.(\w+) = (\d+)$"), ("DIA_WHY_", "PeerSteps.antt", r"^why_number why\.(\w+) = (\d+)$"),
-         ("DIA_BAD_", "Peers.antt", r"^fault_number fault\.(\w+) = (\d+)$"))
-"""The numbers of a connection: how their words begin, and the file and the lines of their definition."""
+         ("DIA_BAD_", "Peers.antt", r"^fault_number fault\.(\w+) = (\d+)$"), ("DIA_FORM_", "Replies.antt", r"^form_number form\.(\w+) = (\d+)$"))
+"""The numbers of a connection and of forms of answers: how their words begin, and the file and the lines of their definition."""
 OTHERWISE = {"LIMIT": "TOO_MANY_PARTS"}
 """Words of dia.h that aren't those of a definition."""
 

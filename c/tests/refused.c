@@ -54,6 +54,9 @@ static const char source[] = "%avp A 1 OctetString any\n%avp B 2 Grouped any\nB 
 
 static const char table[] = "avp Origin-Host = Origin-Host\n";
 
+/* A Device-Watchdog-Request without AVPs. */
+static const uint8_t unanswered[] = {1, 0, 0, 20, 0x80, 0, 1, 0x18, 0, 0, 0, 0, 0, 0, 0, 1, 0, 0, 0, 2};
+
 /* A name that is declared twice, and a rule that names nothing. */
 static const char wrong[] = "%avp A 1 Time any\n%avp A 2 Time any\nB ::= < AVP Header: 2 > { X }\n";
 
@@ -109,6 +112,24 @@ static dia_status tells(void) {
 static dia_status shows(void) {
     uint32_t whole;
     return dia_show(&dict, watchdog, sizeof watchdog, &line, &whole, &verdict);
+}
+
+static dia_status replies(void) {
+    uint32_t form;
+    const uint8_t *name = (const uint8_t *)"a.b";
+    return dia_answer(&dict, DIA_KEPT, DIA_ANY_LEVELS, name, 3, name, 3, unanswered, sizeof unanswered, &line, &form, &verdict);
+}
+
+static dia_status says(void) {
+    uint8_t said[DIA_MAX_LINE];
+    size_t count;
+    static const dia_verdict truncated = {DIA_TRUNCATED, 0, 0, 0, 0, 0, 0, 0};
+    return dia_verdict_text(&dict, &truncated, said, sizeof said, &count);
+}
+
+static dia_status checks_many(void) {
+    static const size_t ends[] = {sizeof watchdog};
+    return dia_check_many(&dict, DIA_KEPT, DIA_ANY_LEVELS, watchdog, sizeof watchdog, ends, 1, &verdict, 1);
 }
 
 /* A stream is spent once memory was refused, and a finish lets it go. */
@@ -213,6 +234,9 @@ static void take_no_memory(void) {
     long before = asked;
     EXPECT(dia_abi_version() == DIA_ABI_VERSION);
     EXPECT(dia_avp_name(&dict, 264, 0, name, sizeof name, &count) == DIA_OK);
+    EXPECT(dia_reason_word(DIA_R_DEPTH, name, sizeof name, &count) == DIA_OK);
+    EXPECT(dia_kind_word(DIA_LIMIT, name, sizeof name, &count) == DIA_OK);
+    EXPECT(dia_status_word(DIA_SPENT, name, sizeof name, &count) == DIA_OK);
     EXPECT(dia_command_name(&dict, verdict.command, name, sizeof name, &count) == DIA_OK);
     EXPECT(dia_message_length(watchdog, 20, &length, &verdict) == DIA_OK);
     EXPECT(dia_text_length(&text, &count) == DIA_OK);
@@ -242,11 +266,15 @@ int main(void) {
     refuse_each("open_base", opens_base, close_dict, 100);
     refuse_each("share", shares, close_nothing, 1);
     refuse_each("check", checks, close_nothing, 1);
+    refuse_each("check_many", checks_many, close_nothing, 1);
+    refuse_each("verdict_text", says, close_nothing, 1);
     refuse_each("compare", compares, close_line, 3);
     dia_text_close(&line);
     refuse_each("show", shows, close_line, 2);
     dia_text_close(&line);
     refuse_each("check_json", tells, close_line, 2);
+    dia_text_close(&line);
+    refuse_each("answer", replies, close_line, 10);
     dia_text_close(&line);
     EXPECT(open_text(source, &own, &problem) == DIA_OK);
     refuse_each("breaking", lists, close_line, 20);

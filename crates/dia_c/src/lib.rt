@@ -5,6 +5,7 @@
 ghost use Rattle.std.specs.Prelude.{◌≡◌};
 ghost use Rattle.dia_c_calls.specs.Statuses.{abi_version};
 
+mod batches;
 mod checks;
 mod comparisons;
 mod dictionaries;
@@ -12,10 +13,13 @@ mod fault_lists;
 mod layout;
 mod listings;
 mod peers;
+mod replies;
 mod streams;
 mod texts;
 mod upgrades;
+mod words;
 
+pub use batches::dia_check_many;
 pub use checks::{dia_check, dia_check_json, dia_message_length};
 pub use comparisons::{dia_compare, dia_table_place};
 pub use dictionaries::{
@@ -28,11 +32,13 @@ pub use peers::{
     dia_peer_close, dia_peer_common, dia_peer_event, dia_peer_open, dia_peer_open_as,
     dia_peer_output, dia_peer_serves, dia_peer_state,
 };
+pub use replies::dia_answer;
 pub use streams::{
     dia_stream_close, dia_stream_feed, dia_stream_finish, dia_stream_levels, dia_stream_open,
 };
 pub use texts::{dia_render, dia_text_close, dia_text_length, dia_text_read};
 pub use upgrades::dia_breaking;
+pub use words::{dia_kind_word, dia_reason_word, dia_status_word, dia_verdict_text};
 
 /// The version of this interface, which a program compares with `DIA_ABI_VERSION` of its header.
 const ABI_VERSION: u32 = 1;

@@ -1,12 +1,17 @@
 pub mod AllFound
 pub mod AsBox
+pub mod ManyMessages
 pub mod ComparedHandles
 pub mod FedStreams
+pub mod HeldDicts
 pub mod Next
 pub mod PeerCalls
 pub mod NoTables
+pub mod NodeNames
+pub mod Answered
 pub mod Places
 pub mod Recorded
 pub mod Unread
 pub mod WhatBreaks
+pub mod NoLines
 pub mod YesLines

@@ -1,4 +1,5 @@
 pub mod AllFaults
+pub mod Batches
 pub mod Comparisons
 pub mod Feedings
 pub mod Handles
@@ -9,8 +10,10 @@ pub mod Openings
 pub mod PeerSteps
 pub mod Peers
 pub mod PlainFaults
+pub mod Replies
 pub mod Statuses
 pub mod Streams
 pub mod Upgrades
 pub mod VerdictLines
 pub mod Verdicts
+pub mod Words

@@ -51,10 +51,13 @@ IsVerdict (Err refusal.Trailing) verdict = verdict ≡ said 3 0
 IsVerdict (Err refusal.NoMemory) verdict = ⊥
 IsVerdict (Err refusal.Spent) verdict = ⊥
 
--- the verdict is that of the answer of a check, with the policy and the limit of these numbers
+-- the verdict is that of the answer of a check
+abbrev pub IsVerdictOn : Dictionary → Unknown → Levels → List ℕ → Verdict → Type 0
+IsVerdictOn d u most bytes verdict = (answer : Result Selected Refusal) × IsAnswer d u most bytes answer × IsVerdict answer verdict
+
+-- the same, with the policy and the limit of these numbers
 abbrev pub Answers : Dictionary → ℕ → ℕ → List ℕ → Verdict → Type 0
-Answers d unknown levels bytes verdict = (answer : Result Selected Refusal)
-    × IsAnswer d (policy_of unknown) (limit_of levels) bytes answer × IsVerdict answer verdict
+Answers d unknown levels bytes verdict = IsVerdictOn d (policy_of unknown) (limit_of levels) bytes verdict
 
 -- no message begins with the bytes: there are fewer than a header has, the version is not 1, or no message has this Message Length
 pub data IsHeadVerdict (bytes : List ℕ) (verdict : Verdict) : Type 0 where

@@ -5,8 +5,8 @@ ghost use Rattle.dia_tables.specs.TableText.{plain_table};
 ghost use Rattle.dia_c_calls.specs.Comparisons.{HasCompared, IsCompared, IsComparedBy, IsNoTable, table_problem};
 ghost use Rattle.dia_c_calls.specs.Held.{MayBeText, text_in};
 
-use crate::answer::{AnswerText, answer_text};
 use crate::opening::{NOT_TEXT, Problem, Refused};
+use crate::outcomes::{AnswerText, answer_text};
 use dia_book::Book;
 use dia_check::Unknown;
 use dia_inclusion::check_table;

@@ -10,7 +10,7 @@ mod slot;
 mod stream;
 mod text;
 
-pub use dict::{DictHandle, check_in, owner_in};
+pub use dict::{DictHandle, check_all_in, check_in, owner_in};
 pub use end::{give_in, peer_in, report_in};
 pub use faults::{FaultsHandle, faults_in};
 pub use peer::PeerHandle;

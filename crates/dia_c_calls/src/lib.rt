@@ -2,7 +2,8 @@
 //! functions to C, with the same clauses.
 #![tactic(auto)]
 
-mod answer;
+mod batch;
+mod batches;
 mod checks;
 mod comparison;
 mod comparisons;
@@ -15,12 +16,16 @@ mod held;
 mod listing;
 mod listings;
 mod names;
+mod numbers;
 mod opening;
+mod outcomes;
 mod peer;
 mod peer_config;
 mod peer_numbers;
 mod peers;
 mod recorded_fault;
+mod replies;
+mod reply;
 mod sink;
 mod status;
 mod streams;
@@ -29,8 +34,11 @@ mod upgrade;
 mod upgrades;
 mod verdict;
 mod verdict_line;
+mod verdict_words;
 mod wanted;
+mod words;
 
+pub use batches::check_many;
 pub use checks::{check, check_json, message_length};
 pub use comparisons::{compare, table_place};
 pub use dictionaries::{avp_name, command_name, dict_close, dict_open, dict_open_base, dict_share};
@@ -44,6 +52,7 @@ pub use peers::{
     peer_state,
 };
 pub use recorded_fault::RecordedFault;
+pub use replies::answer;
 pub use status::{
     BAD_ARGUMENT, DONE, IS_CLOSED, IS_OPEN, NO_MEMORY, NO_ROOM, NONE, OUTPUTS_LEFT, REFUSED, SPENT,
     status_numbers,
@@ -52,6 +61,7 @@ pub use streams::{Fed, stream_close, stream_feed, stream_finish, stream_levels, 
 pub use texts::{render, text_close, text_length, text_read};
 pub use upgrades::breaking;
 pub use verdict::Verdict;
+pub use words::{kind_word, reason_word, status_word, verdict_text};
 
 fn sent<T: Send>(x: T) -> T {
     x

@@ -6,7 +6,7 @@ ghost use Rattle.dia_c_calls.specs.Held.{MayBeText, text_in};
 ghost use Rattle.dia_c_calls.specs.Listings.{HasShown};
 ghost use Rattle.dia_c_calls.specs.Verdicts.{IsNoMessage};
 
-use crate::answer::{AnswerText, answer_text};
+use crate::outcomes::{AnswerText, answer_text};
 use crate::verdict::{Verdict, no_message};
 use dia_book::Book;
 use dia_report::Refused;

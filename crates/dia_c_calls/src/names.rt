@@ -12,6 +12,7 @@ pub fn command_name<B: Book>(book: &B, command: u32) -> Option<&str>
     ensures some { IfSome result (λ name. IsCommandName (B.meaning book.now) command name.now) }
     ensures none { result ≡ None → (length (definitions (B.meaning book.now)) ≤ command)
         ⊎ (command < length (groups (B.meaning book.now))) }
+    ensures command { IfSome result (λ _. length (groups (B.meaning book.now)) ≤ command) }
 {
     let count = book.commands();
     if count == 0 {

@@ -14,8 +14,8 @@ ghost use Rattle.dia_c_calls.specs.Upgrades.{HasListed, IsLineOfUnknown, IsNotLi
 ghost use Rattle.dia_c_calls.specs.Upgrades.{line_number, list_problem};
 ghost use Rattle.dia_c_calls.specs.Openings.{problem};
 
-use crate::answer::{AnswerText, answer_bytes};
 use crate::opening::{Problem, Refused};
+use crate::outcomes::{AnswerText, answer_bytes};
 use crate::sink::TextSink;
 use crate::wanted::Wanted;
 use dia_book::Book;

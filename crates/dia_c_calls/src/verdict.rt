@@ -2,13 +2,15 @@
 
 ghost use Rattle.std.specs.Prelude.{◌≡◌, ◌↔◌, None, Err, IfOk, IfErr, IfSome, Result};
 ghost use Rattle.dia_check.specs.Faults.{HasLength, IsAnswer, simple};
-ghost use Rattle.dia_c_calls.specs.Verdicts.{IsHeadVerdict, IsUnknownPolicy, IsVerdict};
-ghost use Rattle.dia_c_calls.specs.Verdicts.{fault_verdict, limit_of, no_message, policy_of};
+ghost use Rattle.dia_c_calls.specs.Verdicts.{IsHeadVerdict, IsUnknownPolicy, IsVerdict, IsVerdictOn};
+ghost use Rattle.dia_c_calls.specs.Verdicts.{fault_verdict, limit_of, no_message, policy_of, said};
 
 use dia_book::Book;
-use dia_check::{Fault, Levels, Reason, Refusal, Room, Selected, Subject, Unknown, check_in};
+use dia_check::{
+    Fault, Levels, Reason, Refusal, Room, Selected, Subject, Unknown, check, check_in,
+};
 use dia_wire::{HeadFault, MessageFault, read_header};
-use std::alloc::AllocError;
+use std::alloc::{AllocError, Global};
 
 /// What is said of a message.
 #[repr(C)]
@@ -42,13 +44,13 @@ const ALL_ZERO: Verdict = Verdict {
 };
 
 /// There are fewer bytes than the header or than Message Length.
-const TRUNCATED: Verdict = Verdict {
+pub const TRUNCATED: Verdict = Verdict {
     outcome: 2,
     ..ALL_ZERO
 };
 
 /// There are more bytes than Message Length.
-const TRAILING: Verdict = Verdict {
+pub const TRAILING: Verdict = Verdict {
     outcome: 3,
     ..ALL_ZERO
 };
@@ -83,10 +85,26 @@ pub fn checked<B: Book>(
     levels: Levels,
     message: &[u8],
 ) -> Result<Verdict, AllocError>
-    ensures { IfOk result (λ verdict. (answer : Result Selected Refusal)
-        × IsAnswer (B.meaning book.now) unknown levels message.now answer × IsVerdict answer verdict) }
+    ensures { IfOk result (IsVerdictOn (B.meaning book.now) unknown levels message.now) }
 {
     match verdict_of(check_in(room, book, unknown, levels, message)) {
+        Ok(verdict) => Ok(verdict),
+        Err(Unrecorded::NoMemory) => Err(AllocError),
+        Err(Unrecorded::Spent) => unreachable!(),
+    }
+}
+
+/// The verdict on a message, without a handle's memory.
+pub fn verdict_on<B: Book>(
+    alloc: Global,
+    book: &B,
+    unknown: Unknown,
+    levels: Levels,
+    message: &[u8],
+) -> Result<Verdict, AllocError>
+    ensures { IfOk result (IsVerdictOn (B.meaning book.now) unknown levels message.now) }
+{
+    match verdict_of(check(alloc, book, unknown, levels, message)) {
         Ok(verdict) => Ok(verdict),
         Err(Unrecorded::NoMemory) => Err(AllocError),
         Err(Unrecorded::Spent) => unreachable!(),
@@ -108,15 +126,22 @@ pub fn verdict_of(answer: Result<Selected, Refusal>) -> Result<Verdict, Unrecord
     ensures spent { (result ≡ Err Unrecorded.Spent) ↔ (answer ≡ Err Refusal.Spent) }
 {
     match answer {
-        Ok(found) => Ok(Verdict {
-            command: found.def.index() as u32,
-            ..ALL_ZERO
-        }),
+        Ok(found) => Ok(valid(found.def.index() as u32)),
         Err(Refusal::Fault(fault)) => Ok(faulty(fault)),
         Err(Refusal::Truncated) => Ok(TRUNCATED),
         Err(Refusal::Trailing) => Ok(TRAILING),
         Err(Refusal::NoMemory) => Err(Unrecorded::NoMemory),
         Err(Refusal::Spent) => Err(Unrecorded::Spent),
+    }
+}
+
+/// The verdict of a valid message of this command.
+pub fn valid(command: u32) -> Verdict
+    ensures { result ≡ said 0 command }
+{
+    Verdict {
+        command,
+        ..ALL_ZERO
     }
 }
 
@@ -159,7 +184,7 @@ fn header_fault(place: u32, reason: Reason) -> Verdict
 }
 
 /// The verdict of a fault.
-fn faulty(fault: Fault) -> Verdict
+pub fn faulty(fault: Fault) -> Verdict
     ensures { result ≡ fault_verdict fault }
 {
     let reason = fault.reason.rank();

@@ -1,11 +1,13 @@
 //! A handle of a dictionary.
 
-ghost use Rattle.std.specs.Prelude.{◌≡◌, ◌↔◌, IfOk, IfSome, IsSome, IsTrue, None, Option, Result, Some};
+ghost use Rattle.std.specs.Prelude.{◌≡◌, ◌↔◌, IfOk, IfSome, IsSome, IsTrue, None, Option, Result, Some, length};
+ghost use Rattle.dia_c_calls.specs.Batches.{AreEnds, AreVerdicts};
 ghost use Rattle.dia_check.specs.Faults.{IsAnswer};
 ghost use Rattle.dia_c_calls.specs.Verdicts.{IsVerdict};
 ghost use Rattle.dia_c_calls.specs.declared.held.Held.{Held as AnyHeld};
 ghost use Rattle.dia_c_calls.specs.Held.{MayBeDict, dict_in};
 
+use crate::batch::checked_all;
 use crate::handle::slot::Slot;
 use crate::held::Held;
 use crate::verdict::{Verdict, checked};
@@ -79,6 +81,33 @@ pub fn check_in(
 {
     match held {
         Held::Dict(owner, room) => checked(room, &**owner, unknown, levels, message),
+        Held::Text(_) => unreachable!(),
+        Held::Faults(_) => unreachable!(),
+        Held::Peer(_) => unreachable!(),
+        Held::Stream(_) => unreachable!(),
+        Held::Nothing => unreachable!(),
+    }
+}
+
+/// What the dictionary in a handle says of each of the messages with these ends.
+pub fn check_all_in(
+    alloc: Global,
+    held: &mut Held,
+    unknown: Unknown,
+    levels: Levels,
+    bytes: &[u8],
+    ends: &[usize],
+) -> Result<Vec<Verdict>, AllocError>
+    requires dict { ∥ MayBeDict (Some held.old) ∥₁ }
+    requires ends { AreEnds (length bytes.now) ends.now }
+    ensures kept { held.new ≡ held.old }
+    ensures recorded { IfOk result (λ verdicts. IfSome (dict_in (Some held.old))
+        (λ d. AreVerdicts d unknown levels bytes.now ends.now verdicts.items)) }
+{
+    match held {
+        Held::Dict(owner, room) => {
+            checked_all(alloc, room, &**owner, unknown, levels, bytes, ends)
+        }
         Held::Text(_) => unreachable!(),
         Held::Faults(_) => unreachable!(),
         Held::Peer(_) => unreachable!(),

@@ -1,0 +1,155 @@
+/* Words, and checks of many messages. The words are those of docs/FAULTS.md, the rest is worked out by hand
+ * from RFC 6733. */
+#include "tests.h"
+
+static const dia_verdict untouched = {99, 99, 99, 99, 99, 99, 99, 99};
+
+/* ---- words ---- */
+
+static void has_word(dia_status (*call)(uint32_t, uint8_t *, size_t, size_t *), uint32_t number, const char *wanted) {
+    uint8_t word[DIA_MAX_WORD + 1];
+    size_t count = 99, len = strlen(wanted);
+    memset(word, FILLING, sizeof word);
+    EXPECT(len <= DIA_MAX_WORD && call(number, word, len, &count) == DIA_OK && count == len && memcmp(word, wanted, len) == 0);
+    EXPECT(is_left(word + len, sizeof word - len));
+    memset(word, FILLING, sizeof word);
+    count = 99;
+    EXPECT(call(number, word, len - 1, &count) == DIA_NO_ROOM && count == len && is_left(word, sizeof word));
+}
+
+static void has_no_word(dia_status (*call)(uint32_t, uint8_t *, size_t, size_t *), uint32_t number) {
+    uint8_t word[DIA_MAX_WORD];
+    size_t count = 99;
+    memset(word, FILLING, sizeof word);
+    EXPECT(call(number, word, sizeof word, &count) == DIA_NONE && count == 99 && is_left(word, sizeof word));
+}
+
+static void numbers_have_words(void) {
+    static const char *const reasons[] = {"version", "length", "bits", "command", "application", "proxiable", "avp-length", "unknown",
+                                          "m-bit", "missing", "not-allowed", "too-many", "leaf-length", "leaf-value", "depth"};
+    static const char *const statuses[] = {"ok", "refused", "none", "no memory", "no room", "is open", "is closed", "bad argument",
+                                           "outputs left", "spent"};
+    static const char *const first_kinds[] = {"not text", "syntax", "number", "limit"};
+    static const char *const kinds[] = {"limit", "duplicate-name", "no-group-format", "header-mismatch", "duplicate-key",
+                                        "duplicate-command", "undefined-name", "repeated-slot", "min-over-max", "required-min",
+                                        "optional-min"};
+    for (uint32_t i = 0; i < sizeof reasons / sizeof *reasons; i++) {
+        has_word(dia_reason_word, i, reasons[i]);
+    }
+    has_no_word(dia_reason_word, 15);
+    has_no_word(dia_reason_word, UINT32_MAX);
+    for (uint32_t i = 0; i < sizeof statuses / sizeof *statuses; i++) {
+        has_word(dia_status_word, i, statuses[i]);
+    }
+    has_no_word(dia_status_word, 10);
+    for (uint32_t i = 0; i < sizeof first_kinds / sizeof *first_kinds; i++) {
+        has_word(dia_kind_word, i, first_kinds[i]);
+    }
+    for (uint32_t i = 0; i < sizeof kinds / sizeof *kinds; i++) {
+        has_word(dia_kind_word, 10 + i, kinds[i]);
+    }
+    has_word(dia_kind_word, DIA_NO_COMMANDS, "no commands");
+    has_word(dia_kind_word, DIA_NO_COMMAND, "no command");
+    has_no_word(dia_kind_word, 4);
+    has_no_word(dia_kind_word, 21);
+    has_no_word(dia_kind_word, 32);
+}
+
+/* ---- lines of verdicts ---- */
+
+static void has_line(dia_dict *dict, const dia_verdict *verdict, const char *wanted) {
+    uint8_t line[DIA_MAX_LINE];
+    size_t count = 99, len = strlen(wanted);
+    memset(line, FILLING, sizeof line);
+    EXPECT(dia_verdict_text(dict, verdict, line, sizeof line, &count) == DIA_OK && count == len && memcmp(line, wanted, len) == 0);
+    EXPECT(is_left(line + len, sizeof line - len));
+    memset(line, FILLING, sizeof line);
+    count = 99;
+    EXPECT(dia_verdict_text(dict, verdict, line, len - 1, &count) == DIA_NO_ROOM && count == len && is_left(line, sizeof line));
+}
+
+static void has_no_line(dia_dict *dict, const dia_verdict *verdict) {
+    uint8_t line[DIA_MAX_LINE];
+    size_t count = 99;
+    memset(line, FILLING, sizeof line);
+    EXPECT(dia_verdict_text(dict, verdict, line, sizeof line, &count) == DIA_BAD_ARGUMENT && count == 99 && is_left(line, sizeof line));
+}
+
+static void verdicts_have_lines(void) {
+    static const dia_verdict truncated = {DIA_TRUNCATED, 0, 0, 0, 0, 0, 0, 0}, trailing = {DIA_TRAILING, 0, 0, 0, 0, 0, 0, 0};
+    static const dia_verdict about_nothing = {DIA_FAULT, 0, 5011, 0, DIA_R_VERSION, DIA_ABOUT_NOTHING, 0, 0};
+    static const dia_verdict known = {DIA_FAULT, 0, 5009, 80, DIA_R_TOO_MANY, DIA_ABOUT_AVP, 264, 0};
+    static const dia_verdict unknown = {DIA_FAULT, 0, 5001, 4294967295u, DIA_R_UNKNOWN, DIA_ABOUT_AVP, 9999, 10415};
+    static const dia_verdict wildcard = {DIA_FAULT, 0, 5005, 20, DIA_R_MISSING, DIA_ABOUT_WILDCARD, 0, 0};
+    static const dia_verdict no_reason = {DIA_FAULT, 0, 5005, 20, 15, DIA_ABOUT_WILDCARD, 0, 0};
+    static const dia_verdict no_subject = {DIA_FAULT, 0, 5005, 20, DIA_R_MISSING, 3, 0, 0};
+    static const dia_verdict no_command = {DIA_VALID, 4294967295u, 0, 0, 0, 0, 0, 0}, a_group = {DIA_VALID, 0, 0, 0, 0, 0, 0, 0};
+    dia_dict dict = DIA_DICT_INIT;
+    dia_verdict verdict = untouched;
+    uint8_t line[DIA_MAX_LINE];
+    size_t count = 99;
+    EXPECT(dia_verdict_text(&dict, &truncated, line, sizeof line, &count) == DIA_IS_CLOSED && count == 99);
+    EXPECT(dia_dict_open_base(&dict) == DIA_OK);
+    has_line(&dict, &truncated, "truncated");
+    has_line(&dict, &trailing, "trailing");
+    has_line(&dict, &about_nothing, "fault 5011 at 0 version -");
+    has_line(&dict, &known, "fault 5009 at 80 too-many Origin-Host");
+    has_line(&dict, &unknown, "fault 5001 at 4294967295 unknown 9999:10415");
+    has_line(&dict, &wildcard, "fault 5005 at 20 missing AVP");
+    EXPECT(dia_check(&dict, DIA_KEPT, DIA_ANY_LEVELS, watchdog, sizeof watchdog, &verdict) == DIA_OK);
+    has_line(&dict, &verdict, "valid DWR");
+    has_no_line(&dict, &untouched);
+    has_no_line(&dict, &no_reason);
+    has_no_line(&dict, &no_subject);
+    has_no_line(&dict, &no_command);
+    has_no_line(&dict, &a_group);
+    verdict.place = 1; /* a valid message has none */
+    has_no_line(&dict, &verdict);
+    dia_dict_close(&dict);
+}
+
+/* ---- many messages ---- */
+
+static void many_are_checked(void) {
+    uint8_t bytes[sizeof watchdog + sizeof grouped + 1];
+    size_t ends[4] = {sizeof watchdog, sizeof watchdog + sizeof grouped, sizeof watchdog + sizeof grouped, sizeof bytes};
+    dia_verdict verdicts[5], one, zeros[5];
+    dia_dict dict = DIA_DICT_INIT;
+    size_t from = 0;
+    memcpy(bytes, watchdog, sizeof watchdog);
+    memcpy(bytes + sizeof watchdog, grouped, sizeof grouped);
+    bytes[sizeof bytes - 1] = 1;
+    memset(verdicts, FILLING, sizeof verdicts);
+    memcpy(zeros, verdicts, sizeof zeros);
+    EXPECT(dia_check_many(&dict, DIA_KEPT, 0, bytes, sizeof bytes, ends, 4, verdicts, 4) == DIA_IS_CLOSED);
+    EXPECT(dia_dict_open_base(&dict) == DIA_OK);
+    EXPECT(dia_check_many(&dict, 2, 0, bytes, sizeof bytes, ends, 4, verdicts, 4) == DIA_BAD_ARGUMENT);
+    EXPECT(dia_check_many(&dict, DIA_KEPT, 0, bytes, sizeof bytes, ends, 4, verdicts, 5) == DIA_BAD_ARGUMENT);
+    EXPECT(dia_check_many(&dict, DIA_KEPT, 0, bytes, sizeof bytes, ends, 4, verdicts, 3) == DIA_BAD_ARGUMENT);
+    EXPECT(dia_check_many(&dict, DIA_KEPT, 0, bytes, sizeof bytes - 1, ends, 4, verdicts, 4) == DIA_BAD_ARGUMENT);
+    ends[1]--;
+    ends[2] -= 2;
+    EXPECT(dia_check_many(&dict, DIA_KEPT, 0, bytes, sizeof bytes, ends, 4, verdicts, 4) == DIA_BAD_ARGUMENT);
+    EXPECT(memcmp(verdicts, zeros, sizeof verdicts) == 0);
+    ends[1]++;
+    ends[2] += 2;
+    EXPECT(dia_check_many(&dict, DIA_KEPT, 0, bytes, sizeof bytes, ends, 0, verdicts, 0) == DIA_OK);
+    EXPECT(memcmp(verdicts, zeros, sizeof verdicts) == 0);
+    EXPECT(dia_check_many(&dict, DIA_KEPT, DIA_ANY_LEVELS, bytes, sizeof bytes, ends, 4, verdicts, 4) == DIA_OK);
+    for (size_t i = 0; i < 4; i++) {
+        EXPECT(dia_check(&dict, DIA_KEPT, DIA_ANY_LEVELS, bytes + from, ends[i] - from, &one) == DIA_OK);
+        EXPECT(memcmp(&one, &verdicts[i], sizeof one) == 0);
+        from = ends[i];
+    }
+    EXPECT(verdicts[0].outcome == DIA_VALID && verdicts[1].outcome == DIA_FAULT && verdicts[1].code == 5005);
+    EXPECT(verdicts[2].outcome == DIA_TRUNCATED && verdicts[3].outcome == DIA_TRUNCATED);
+    EXPECT(memcmp(&verdicts[4], &zeros[4], sizeof *zeros) == 0);
+    dia_dict_close(&dict);
+}
+
+int main(void) {
+    numbers_have_words();
+    verdicts_have_lines();
+    many_are_checked();
+    return tell_counts();
+}
