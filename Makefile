@@ -1,11 +1,11 @@
 # bin/build proves and builds the program; this also tests it, installs it with its man page, completions and dictionaries, and
-# makes packages of Debian.
+# makes packages of Debian, and a tarball.
 PREFIX = /usr/local
 BUILD = bin/build --release
 PROGRAM = crates/diacmd/out/diacmd-release
 ROOT = $(DESTDIR)$(PREFIX)
 SHARE = $(ROOT)/share
-.PHONY: all check install uninstall deb
+.PHONY: all check install uninstall deb dist
 all:
 	$(BUILD)
 check:
@@ -28,3 +28,7 @@ deb:
 	$(BUILD)
 	bin/build dia_c
 	integrations/deb/make-deb
+dist:
+	$(BUILD)
+	bin/build dia_c
+	integrations/dist/make-dist

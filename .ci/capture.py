@@ -59,5 +59,10 @@ def capture():
         one.client(88, THIRD),
     ]
     packets += two.open() + [two.client(0, FIFTH), two.client(44, SIXTH)]
+    return pcap(packets)
+
+
+def pcap(packets):
+    """The bytes of a capture of these packets, one a second."""
     head = struct.pack("<IHHiIII", 0xA1B2C3D4, 2, 4, 0, 0, 65535, ETHERNET)
     return head + b"".join(struct.pack("<IIII", BEGAN + at, 0, len(packet), len(packet)) + packet for at, packet in enumerate(packets))

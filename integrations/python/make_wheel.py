@@ -15,7 +15,7 @@ import sys
 import zipfile
 
 HERE = pathlib.Path(__file__).resolve().parent
-VERSION = re.search(r"^Version: (\S+)$", (HERE.parent.parent / "c/dia.pc.in").read_text(encoding="ascii"), re.M).group(1)
+(VERSION,) = re.findall(r"^Version: (\S+)$", (HERE.parent.parent / "c/dia.pc.in").read_text(encoding="ascii"), re.M)
 TAG = f"py3-none-manylinux_2_17_{platform.machine()}"
 OBJECTS = ("libdia.so.1", "libdia-breaking.so.1")
 METADATA = f"""Metadata-Version: 2.1
@@ -31,22 +31,25 @@ Tag: {TAG}
 """
 
 
-def contents(libraries):
-    """The files of the wheel, but its record."""
+def contents(libraries: pathlib.Path) -> "tuple[str, dict[str, bytes]]":
+    """The folder of what describes the wheel, and the files of the wheel, but its record."""
     found = {f"wittalen/{file.name}": file.read_bytes() for file in sorted((HERE / "wittalen").iterdir()) if file.is_file()}
     found.update({f"wittalen/{name}": (libraries / name).read_bytes() for name in OBJECTS})
     about = f"wittalen-{VERSION}.dist-info"
     return about, {**found, f"{about}/METADATA": METADATA.encode(), f"{about}/WHEEL": WHEEL.encode()}
 
 
-def record_of(files, name):
+def record_of(files: "dict[str, bytes]", name: str) -> bytes:
     """A line for each file with its digest and size, and one for the record itself."""
-    digest = lambda data: base64.urlsafe_b64encode(hashlib.sha256(data).digest()).rstrip(b"=").decode()
-    lines = [f"{file},sha256={digest(data)},{len(data)}\n" for file, data in files.items()]
+    lines = [f"{file},sha256={digest_of(data)},{len(data)}\n" for file, data in files.items()]
     return "".join((*lines, f"{name},,\n")).encode()
 
 
-def main():
+def digest_of(data: bytes) -> str:
+    return base64.urlsafe_b64encode(hashlib.sha256(data).digest()).rstrip(b"=").decode()
+
+
+def main() -> None:
     if {"-h", "--help"} & set(sys.argv):
         print(__doc__)
         return

@@ -12,6 +12,7 @@ import argparse
 import asyncio
 import random
 import signal
+from typing import Iterable, Optional, Union
 
 from wittalen import Application, Dictionary, Peer, Role, State, Why, message_length
 
@@ -25,12 +26,13 @@ CONNECTION_COMMANDS = (257, 280, 282)
 class Connection:
     """A connection: its peer, the streams of its socket, and its timer."""
 
-    def __init__(self, node, role, reader, writer):
+    def __init__(self, node: "Node", role: Role, reader: asyncio.StreamReader, writer: asyncio.StreamWriter):
         self.node, self.reader, self.writer = node, reader, writer
         self.peer = Peer(role, node.host, node.realm, node.applications, relays=node.relays, product="node.py")
-        self.state, self.timer, self.is_over = State.IDLE, None, False
+        self.state, self.is_over = State.IDLE, False
+        self.timer: Optional[asyncio.TimerHandle] = None
 
-    async def run(self):
+    async def run(self) -> None:
         """Until either side gives the connection up."""
         self.do(self.peer.start())
         try:
@@ -49,7 +51,7 @@ class Connection:
             self.stop_timer()
             self.writer.close()
 
-    async def next_message(self):
+    async def next_message(self) -> "tuple[bytes, bool]":
         """The next message; or only its header, and False, where that has a bad version or length."""
         header = await self.reader.readexactly(20)
         length = message_length(header)
@@ -57,7 +59,7 @@ class Connection:
             return header, False
         return header + await self.reader.readexactly(length - 20), True
 
-    def do(self, outputs):
+    def do(self, outputs: "Iterable[Union[bytes, Why]]") -> None:
         """Sends what the peer wants sent, and closes where it wants that."""
         for output in outputs:
             if isinstance(output, Why):
@@ -71,14 +73,14 @@ class Connection:
             self.node.say(f"{self.state.name} {' '.join(str(it.id) for it in self.peer.common)}".rstrip())
         self.set_timer()
 
-    def end(self):
+    def end(self) -> None:
         """Ends the connection after what was written."""
         self.is_over = True
         if self.writer.can_write_eof():
             self.writer.write_eof()
         self.reader.feed_eof()
 
-    def set_timer(self):
+    def set_timer(self) -> None:
         """Tw with its jitter of two seconds, less for a short one (RFC 3539 section 3.4.1); a fixed time for an answer."""
         self.stop_timer()
         if self.state not in (State.IDLE, State.CLOSED):
@@ -87,41 +89,41 @@ class Connection:
             seconds = watchdog if self.state is State.OPEN else ANSWER_SECONDS
             self.timer = asyncio.get_running_loop().call_later(seconds, lambda: self.do(self.peer.tick()))
 
-    def stop_timer(self):
+    def stop_timer(self) -> None:
         if self.timer:
             self.timer.cancel()
 
-    def note(self, way, message):
+    def note(self, way: str, message: bytes) -> None:
         self.node.say(f"{way} {len(message)} bytes: {self.node.dictionary.check(message)}")
 
 
 class Node:
     """What all connections of this node have in common."""
 
-    def __init__(self, words):
+    def __init__(self, words: argparse.Namespace):
         self.host, self.realm, self.relays, self.watchdog = words.host, words.realm, words.relays, words.watchdog
         self.applications = [Application(number) for number in words.application or [4]]
         self.dictionary = Dictionary.open(*words.dictionary) if words.dictionary else Dictionary()
-        self.connections = set()
+        self.connections: "set[Connection]" = set()
 
-    def say(self, line):
+    def say(self, line: str) -> None:
         print(f"{self.host}: {line}", flush=True)
 
-    async def serve(self, role, reader, writer):
+    async def serve(self, role: Role, reader: asyncio.StreamReader, writer: asyncio.StreamWriter) -> None:
         connection = Connection(self, role, reader, writer)
         self.connections.add(connection)
         await connection.run()
         self.connections.discard(connection)
 
-    def stop(self):
+    def stop(self) -> None:
         for connection in self.connections:
             connection.do(connection.peer.stop())
 
 
-async def run(words):
+async def run(words: argparse.Namespace) -> None:
     node, over = Node(words), asyncio.Event()
 
-    def stop():
+    def stop() -> None:
         node.stop()
         over.set()
 
@@ -141,7 +143,7 @@ async def run(words):
             await asyncio.sleep(0.05)
 
 
-def main():
+def main() -> None:
     parser = argparse.ArgumentParser(description=__doc__.splitlines()[0])
     parser.add_argument("--listen", type=int, metavar="PORT", help="accept connections on loopback; 0 takes any port")
     parser.add_argument("--connect", metavar="ADDRESS:PORT", help="open a connection")

@@ -57,6 +57,28 @@ class Checks(unittest.TestCase):
         with self.assertRaises(ValueError):
             book.check(report(1), levels=1 << 32)
 
+    def test_many(self):
+        book = Dictionary(USAGE)
+        messages = [report(1), report(1, 2, 3), b"", report(1)[:-1], report(2, 2)]
+        self.assertEqual(book.check_many(messages), [book.check(message) for message in messages])
+        self.assertEqual(book.check_many(iter(())), [])
+        with self.assertRaises(TypeError):
+            book.check_many(["a"])
+
+    def test_answered(self):
+        book = Dictionary()
+        answer = book.answer(BARE, "host.invalid", "invalid")
+        self.assertEqual(str(answer.verdict), "fault 5005 at 20 missing Origin-Host")
+        # the header with R clear, and Result-Code 5005 (RFC 6733 sections 6.2 and 7.1)
+        self.assertEqual((answer.form, answer.message[4:20]), (wittalen.Form.OWN, b"\0" + BARE[5:]))
+        self.assertIn(b"\0\0\x01\x0c\x40\0\0\x0c" + (5005).to_bytes(4, "big"), answer.message)
+        self.assertIn(b"\0\0\x01\x08\x40\0\0\x14host.invalid", answer.message)
+        self.assertIn(b"\0\0\x01\x28\x40\0\0\x0finvalid\0", answer.message)
+        self.assertIsNone(book.answer(answer.message, "a", "b"))
+        for host, realm in (("", "b"), ("a", "x" * 256), ("a b", "c"), ("a", "\u00e4")):
+            with self.assertRaises(ValueError):
+                book.answer(BARE, host, realm)
+
     def test_types(self):
         book = Dictionary(USAGE)
         self.assertTrue(book.check(bytearray(report(1))) and book.check(memoryview(report(1))))

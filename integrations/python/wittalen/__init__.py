@@ -8,12 +8,15 @@
 
 Several threads may use one object where Python has its global lock; of a Peer, one at a time."""
 
-from .dictionaries import Dictionary, DictionaryError, Fault, Outcome, Stream, Verdict, faults, message_length, render, split
+from .dictionaries import (
+    Answer, Dictionary, DictionaryError, Fault, Form, Outcome, Stream, Verdict, faults, message_length, render, split,
+)  # fmt: skip
 from .peers import RELAY, Application, Cause, Output, Peer, Role, State, Why
 from .upgrades import Comparison, InputError, Sends, Upgrade, breaking, compare
 
 __all__ = [
-    "RELAY", "Application", "Cause", "Comparison", "Dictionary", "DictionaryError", "Fault", "InputError", "Outcome", "Output",
+    "RELAY", "Answer", "Application", "Cause", "Comparison", "Dictionary", "DictionaryError", "Fault", "Form", "InputError",
+    "Outcome", "Output",
     "Peer", "Role", "Sends", "State", "Stream", "Upgrade", "Verdict", "Why", "breaking", "compare", "faults",
     "message_length", "render", "split",
 ]  # fmt: skip

@@ -70,7 +70,9 @@ CALLS: dict[str, tuple[Any, ...]] = {
     "avp_name": (H, U, U, B, S, SIZE),
     "check": (H, U, U, B, S, VERDICT),
     "check_json": (H, U, U, B, S, H),
+    "check_many": (H, U, U, B, S, SIZE, S, VERDICT, S),
     "message_length": (B, S, NUMBER, VERDICT),
+    "answer": (H, U, U, B, S, B, S, B, S, H, NUMBER, VERDICT),
     "stream_open": (H, U, U, H),
     "stream_feed": (H, B, S, c.POINTER(Fed)),
     "stream_finish": (H, VERDICT),
@@ -183,8 +185,11 @@ class Text(Owner):
     _closing = "dia_text_close"
 
     def read(self) -> str:
+        return self.read_bytes().decode()
+
+    def read_bytes(self) -> bytes:
         count = c.c_size_t()
         require(lib.dia_text_length(self._handle, count))
         room = c.create_string_buffer(count.value + 1)
         require(lib.dia_text_read(self._handle, 0, room, count.value, count))
-        return room.raw[: count.value].decode()
+        return room.raw[: count.value]

@@ -1,0 +1,3 @@
+module wittalen/dia
+
+go 1.19
