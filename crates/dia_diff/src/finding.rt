@@ -62,7 +62,7 @@ impl Wanted {
     }
 }
 
-/// Those of the lines that are wanted; all where none is.
+/// The lines that are wanted, or all where none is.
 fn narrowed(
     alloc: Global,
     lines: &[Line],

@@ -17,7 +17,7 @@ pub(crate) struct Parts<'d> {
     pub field: Option<&'static str>,
     /// The words of the first dictionary.
     pub first: Option<String>,
-    /// Those of the second.
+    /// The words of the second dictionary.
     pub second: Option<String>,
     /// Whether messages of the first side break.
     pub there: bool,

@@ -62,7 +62,7 @@ pub struct Line {
     pub what: What,
     /// Messages of the first side, which the second reads.
     pub there: bool,
-    /// Those of the second, which the first reads.
+    /// Messages of the second side, which the first reads.
     pub back: bool,
 }
 
