@@ -1,0 +1,172 @@
+//! The lines that were masked, and the one that is under way.
+
+use crate::spelling::{Unread, spell_line};
+use dia_dict::Book;
+use dia_io::Input;
+use dia_lines::{clear, extend, is_empty, split_line};
+use dia_mask::{Choice, Run, mask_message};
+use std::alloc::{AllocError, Global};
+
+/// How lines are masked.
+#[derive(Drop)]
+pub(crate) struct Manner<'a, B: Book> {
+    pub(crate) book: &'a B,
+    pub(crate) choice: Choice,
+}
+
+/// What is known after the lines that were masked.
+#[derive(Drop)]
+pub(crate) struct State {
+    pub(crate) run: Run,
+    /// How many lines spell no bytes, and the number of the first.
+    pub(crate) unread: u64,
+    pub(crate) first_unread: u64,
+    /// The bytes that replace those of a line.
+    masked: Vec<u8>,
+}
+
+/// The answers to the lines that were read.
+#[derive(Drop)]
+pub(crate) struct Answered {
+    /// The line that isn't at its end yet.
+    line: Input,
+    /// How many lines were answered, up to the greatest number.
+    pub(crate) count: u64,
+    /// Memory for the bytes of a line.
+    space: Vec<u8>,
+    /// The answers that weren't put yet.
+    pub(crate) text: String,
+}
+
+impl State {
+    pub(crate) fn new<B: Book>(
+        alloc: Global,
+        book: &B,
+        collects: bool,
+    ) -> Result<State, AllocError> {
+        Ok(State {
+            run: Run::new(alloc, book, collects)?,
+            unread: 0,
+            first_unread: 0,
+            masked: Vec::new(alloc),
+        })
+    }
+
+    /// Adds the answer to the line of this number.
+    fn answer<B: Book>(
+        &mut self,
+        alloc: Global,
+        manner: &Manner<'_, B>,
+        number: u64,
+        line: &Input,
+        space: &mut Vec<u8>,
+        text: &mut String,
+    ) -> Result<(), AllocError> {
+        let spelled = spell_line(alloc, line, space)?;
+        match spelled {
+            Ok(count) => self.mask(alloc, manner, &space[..count], text),
+            Err(unread) => self.refuse(number, unread, text),
+        }
+    }
+
+    fn mask<B: Book>(
+        &mut self,
+        alloc: Global,
+        manner: &Manner<'_, B>,
+        bytes: &[u8],
+        text: &mut String,
+    ) -> Result<(), AllocError> {
+        self.masked.clear();
+        mask_message(
+            alloc,
+            manner.book,
+            &manner.choice,
+            &mut self.run,
+            bytes,
+            &mut self.masked,
+        )?;
+        let digits = hex::encode(alloc, &self.masked)?;
+        text.push_str(digits.as_str())?;
+        text.push('\n')
+    }
+
+    fn refuse(&mut self, number: u64, unread: Unread, text: &mut String) -> Result<(), AllocError> {
+        if self.unread == 0 {
+            self.first_unread = number;
+        }
+        self.unread = self.unread.saturating_add(1);
+        text.push_str(unread.line())
+    }
+}
+
+impl Answered {
+    pub(crate) fn new(alloc: Global) -> Answered {
+        Answered {
+            line: Input::Bytes(Vec::new(alloc)),
+            count: 0,
+            space: Vec::new(alloc),
+            text: String::new(alloc),
+        }
+    }
+
+    /// Answers the lines that end in the next piece.
+    pub(crate) fn read<B: Book>(
+        &mut self,
+        alloc: Global,
+        manner: &Manner<'_, B>,
+        state: &mut State,
+        piece: &[u8],
+    ) -> Result<(), AllocError> {
+        let mut rest = piece;
+        while let Some((line, following)) = split_line(rest) {
+            self.read_line(alloc, manner, state, line)?;
+            rest = following;
+        }
+        extend(&mut self.line, rest)
+    }
+
+    /// Answers the line that is under way, if there is one.
+    pub(crate) fn end<B: Book>(
+        &mut self,
+        alloc: Global,
+        manner: &Manner<'_, B>,
+        state: &mut State,
+    ) -> Result<(), AllocError> {
+        if is_empty(&self.line) {
+            return Ok(());
+        }
+        self.answer(alloc, manner, state)
+    }
+
+    /// Answers the line that is under way with these bytes at its end.
+    fn read_line<B: Book>(
+        &mut self,
+        alloc: Global,
+        manner: &Manner<'_, B>,
+        state: &mut State,
+        bytes: &[u8],
+    ) -> Result<(), AllocError> {
+        extend(&mut self.line, bytes)?;
+        self.answer(alloc, manner, state)
+    }
+
+    /// Answers the line that is under way, and begins the next one.
+    fn answer<B: Book>(
+        &mut self,
+        alloc: Global,
+        manner: &Manner<'_, B>,
+        state: &mut State,
+    ) -> Result<(), AllocError> {
+        self.count = self.count.saturating_add(1);
+        state.answer(
+            alloc,
+            manner,
+            self.count,
+            &self.line,
+            &mut self.space,
+            &mut self.text,
+        )?;
+        clear(alloc, &mut self.line);
+        Ok(())
+    }
+}

@@ -1,0 +1,63 @@
+//! The bytes that the text of a line spells.
+
+ghost use Rattle.std.specs.Prelude.{◌≤◌, IfOk, length};
+
+use dia_io::Input;
+use dia_policy::MAX_MESSAGE_TEXT;
+use dia_report::Refused;
+use dia_run::read_message;
+use dia_streams::decode_digits;
+use dia_terms::is_white;
+use std::alloc::{AllocError, Global};
+
+/// Why a line spells no bytes.
+#[derive(Clone, Copy, PartialEq, Eq)]
+pub(crate) enum Unread {
+    TooLong,
+    NotHexadecimal,
+}
+
+impl Unread {
+    /// The line that `check` writes of it.
+    pub(crate) fn line(self) -> &'static str {
+        match self {
+            Unread::TooLong => "message: too long\n",
+            Unread::NotHexadecimal => "message: not hexadecimal\n",
+        }
+    }
+}
+
+/// Decodes the text of a line into the front of the space, and answers how many bytes it spells, or why it spells none.
+///
+/// Digits without white space between them are decoded where they lie.
+pub(crate) fn spell_line(
+    alloc: Global,
+    line: &Input,
+    space: &mut Vec<u8>,
+) -> Result<Result<usize, Unread>, AllocError>
+    ensures { IfOk result (λ spelled. IfOk spelled (λ count. count ≤ length space.new.items)) }
+{
+    let Some(text) = line.within(MAX_MESSAGE_TEXT) else {
+        return Ok(Err(Unread::TooLong));
+    };
+    if let Some(count) = decode_digits(alloc, without_white_end(text), space)? {
+        return Ok(Ok(count));
+    }
+    match read_message(alloc, line) {
+        Ok(bytes) => {
+            let count = bytes.len();
+            *space = bytes;
+            Ok(Ok(count))
+        }
+        Err(Refused::Bad(_bad)) => Ok(Err(Unread::NotHexadecimal)),
+        Err(Refused::NoMemory) => Err(AllocError),
+    }
+}
+
+fn without_white_end(text: &[u8]) -> &[u8] {
+    let mut length = text.len();
+    while length > 0 && is_white(text[length - 1]) {
+        length -= 1;
+    }
+    &text[..length]
+}
