@@ -1,0 +1,22 @@
+-- The AVPs of the base protocol that guidelines speak of (RFC 6733 section 4.5).
+use Rattle.std.specs.Prelude.{ℕ}
+use Rattle.dia_wire.specs.declared.Key.{Key}
+use Rattle.dia_lint.specs.declared.base_avps.BaseAvp.{BaseAvp}
+use Rattle.dia_lint.specs.declared.base_avps.BaseAvp.TheVariants as base
+
+abbrev pub base_code : BaseAvp → ℕ
+base_code base.AuthSessionState = 277
+base_code base.DestinationHost = 293
+base_code base.DestinationRealm = 283
+base_code base.ExperimentalResult = 297
+base_code base.FailedAvp = 279
+base_code base.OriginHost = 264
+base_code base.OriginRealm = 296
+base_code base.ProxyInfo = 284
+base_code base.ResultCode = 268
+base_code base.RouteRecord = 282
+base_code base.SessionId = 263
+
+-- they have no vendor
+abbrev pub base_key : BaseAvp → Key
+base_key avp = record { code = base_code avp; vendor = 0 }

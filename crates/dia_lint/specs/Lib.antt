@@ -1,0 +1,3 @@
+pub mod BaseAvps
+pub mod Costs
+pub mod Guidelines

@@ -1,0 +1,156 @@
+//! The words of a finding's detail.
+
+use crate::words::Names;
+use dia_book::{Book, Key, Pxy};
+use dia_lint::{BaseAvp, BaseRow, Detail};
+use std::alloc::AllocError;
+
+/// Adds what a finding says of its subject.
+pub(crate) fn push_detail<B: Book>(
+    out: &mut String,
+    names: &Names<'_, B>,
+    detail: Detail,
+) -> Result<(), AllocError> {
+    match detail {
+        Detail::Needs(key) => push_needed(out, names.key(key)),
+        Detail::ThereIsNo(key) => push_missing(out, names.key(key)),
+        Detail::As(def) => push_as(out, names.parts.name(def)),
+        Detail::HasSession(def) => push_session(out, names.parts.name(def)),
+        Detail::Proxiable { own, of, theirs } => { push_p(out, own, names.parts.name(of), theirs) }
+        _ => push_number(out, detail),
+    }
+}
+
+fn push_needed(out: &mut String, name: &str) -> Result<(), AllocError> {
+    write!(out, "it needs {name}, and there is none")
+}
+
+fn push_missing(out: &mut String, name: &str) -> Result<(), AllocError> {
+    write!(out, "there is no {name}")
+}
+
+fn push_as(out: &mut String, name: &str) -> Result<(), AllocError> {
+    write!(out, "as {name}")
+}
+
+fn push_session(out: &mut String, name: &str) -> Result<(), AllocError> {
+    write!(out, "{name} has Session-Id")
+}
+
+fn push_p(out: &mut String, own: Pxy, of: &str, theirs: Pxy) -> Result<(), AllocError> {
+    let own = p_word(own);
+    let theirs = p_word(theirs);
+    write!(out, "P {own}, that of {of} is {theirs}")
+}
+
+fn p_word(p: Pxy) -> &'static str {
+    match p {
+        Pxy::Clear => "clear",
+        Pxy::Set => "set",
+        Pxy::Either => "either",
+    }
+}
+
+/// Adds a detail that has numbers.
+fn push_number(out: &mut String, detail: Detail) -> Result<(), AllocError> {
+    match detail {
+        Detail::Number(number) => write!(out, "{number}"),
+        Detail::Selector { code, app } => push_selector(out, code, app),
+        Detail::Others { min, max } => write!(out, "it takes {min}..{max} other AVPs"),
+        Detail::ForExperiments(code) => write!(out, "code {code} is for experiments"),
+        _ => push_base(out, detail),
+    }
+}
+
+fn push_selector(out: &mut String, code: u32, app: Option<u32>) -> Result<(), AllocError> {
+    match app {
+        Some(app) => write!(out, "code {code}, application {app}"),
+        None => write!(out, "code {code}"),
+    }
+}
+
+/// Adds a detail that has names of the base protocol.
+fn push_base(out: &mut String, detail: Detail) -> Result<(), AllocError> {
+    match detail {
+        Detail::BaseNotRequired(avp) => push_not_required(out, avp),
+        Detail::NameOf(row) => push_name(out, row),
+        Detail::CodeOf(key, row) => push_code(out, key, row),
+        Detail::Format { own, base } => push_other(out, own.word(), base.word()),
+        Detail::M { own, base } => push_other(out, own.word(), base.word()),
+        _ => out.push_str(plain(detail)),
+    }
+}
+
+fn push_not_required(out: &mut String, avp: BaseAvp) -> Result<(), AllocError> {
+    let name = avp.name();
+    write!(out, "{name} isn't required")
+}
+
+fn push_name(out: &mut String, row: usize) -> Result<(), AllocError> {
+    match BaseRow::ALL.get(row) {
+        Some(row) => {
+            let code = row.code;
+            let name = row.name;
+            write!(out, "code {code} is {name}")
+        }
+        None => Ok(()),
+    }
+}
+
+fn push_code(out: &mut String, key: Key, row: usize) -> Result<(), AllocError> {
+    match BaseRow::ALL.get(row) {
+        Some(row) => {
+            let base = row.code;
+            push_own_code(out, key)?;
+            write!(out, ", not {base}")
+        }
+        None => Ok(()),
+    }
+}
+
+fn push_own_code(out: &mut String, key: Key) -> Result<(), AllocError> {
+    let code = key.code;
+    let vendor = key.vendor;
+    if vendor == 0 {
+        write!(out, "code {code}")
+    } else {
+        write!(out, "code {code}:{vendor}")
+    }
+}
+
+fn push_other(out: &mut String, own: &str, base: &str) -> Result<(), AllocError> {
+    write!(out, "{own}, not {base}")
+}
+
+/// A detail that is the same for all subjects.
+fn plain(detail: Detail) -> &'static str {
+    match detail {
+        Detail::NeedsItself => "it needs itself",
+        Detail::NeedsOthers => "no AVP is left for its wildcard",
+        Detail::TooLong => "it needs more bytes than a message has",
+        Detail::NoneLeft => "no AVP is left for it",
+        Detail::NoRoom => "no message has room for it",
+        Detail::NotHeld => "no valid message has it",
+        Detail::WildcardSaysIt => "the wildcard says it",
+        Detail::NothingLetsItIn => "nothing lets it in",
+        Detail::OnlyWildcards => "only wildcards let it in",
+        Detail::OfRelays => "application 4294967295 is that of relays",
+        _ => plain_guideline(detail),
+    }
+}
+
+fn plain_guideline(detail: Detail) -> &'static str {
+    match detail {
+        Detail::NoErrors => "no code, ERR",
+        Detail::NotRequired => "it isn't required",
+        Detail::NotProxiable => "the request isn't proxiable",
+        Detail::AnswerHasNone => "an answer has none",
+        Detail::NotAnyNumber => "not any number of it",
+        Detail::NoResult => "neither Result-Code nor Experimental-Result",
+        Detail::NoFailedAvp => "it takes no Failed-AVP",
+        Detail::NotFirst => "Session-Id isn't the first",
+        Detail::NoSession => "neither Session-Id nor Auth-Session-State",
+        Detail::NoOthers => "it takes no other AVPs",
+        _ => "",
+    }
+}
