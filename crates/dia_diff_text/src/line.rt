@@ -1,5 +1,4 @@
 //! A line, in the form that is asked for.
-ghost use Rattle.std.specs.Prelude.{◌<◌, OnOk, string_len};
 
 use crate::objects::push_object;
 use crate::parts::parts_of;
@@ -17,9 +16,7 @@ pub fn push<A: Book, B: Book>(
     a: &A,
     b: &B,
     line: &Line,
-) -> Result<(), AllocError>
-    ensures { OnOk result (0 < string_len out.new) }
-{
+) -> Result<(), AllocError> {
     let parts = parts_of(alloc, a, b, line)?;
     if json {
         push_object(out, &parts)
