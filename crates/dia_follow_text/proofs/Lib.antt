@@ -1,0 +1,8 @@
+-- Lemmas.
+pub mod ListedEntries
+pub mod Identities
+pub mod UnderWay
+pub mod Runs
+pub mod FirstNotes
+pub mod Judgements
+pub mod DictionaryRefused

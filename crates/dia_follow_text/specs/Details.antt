@@ -1,5 +1,5 @@
 -- What a departure or a note says of its message.
-use Rattle.std.specs.Prelude.{ℕ, ◌+◌, Bool, true, false, if◌then◌else◌, List, [], ◌++◌, Option, Some, None, codes, is_some, option_map, unwrap_or}
+use Rattle.std.specs.Prelude.{ℕ, ◌+◌, Bool, true, false, if◌then◌else◌, List, [], ◌++◌, length, Option, Some, None, codes, is_some, option_map, unwrap_or}
 use Rattle.std.specs.Option.{option_map_or}
 use Rattle.std.specs.Fmt.{decimal}
 use Rattle.dia_follow.specs.declared.Reason.{Reason}
@@ -12,6 +12,11 @@ use Rattle.dia_follow.specs.Moments.{PlainMoment}
 use Rattle.dia_follow.specs.Messages.{contents_of}
 use Rattle.dia_follow.specs.Waits.{dwr_line, since}
 use Rattle.dia_follow.specs.Kept.{stray_line}
+use Rattle.dia_follow_text.specs.declared.details.TheConstants.{MOST_WAITING}
+use Rattle.dia_follow.specs.Departures.{known_common}
+use Rattle.dia_follow.specs.Messages.{result_of}
+use Rattle.dia_follow_text.specs.Commons.{known_common_text}
+use Rattle.dia_follow_text.specs.Hosts.{hosts_text}
 use Rattle.dia_follow_text.specs.Times.{after, seconds}
 
 abbrev pub gap_text : Body → List ℕ
@@ -108,5 +113,51 @@ plain_text reason.AnswersBefore h = codes "no request that is known"
 plain_text reason.Again h = codes "T is set"
 plain_text reason.Kinds h = codes "auth of one end, acct of the other"
 plain_text reason.GoesOn h = codes "behind a CEA that refuses"
-plain_text reason.Forgotten h = codes "more than 65536 requests wait"
 plain_text r h = []
+
+abbrev pub forgotten_text : List ℕ
+forgotten_text = codes "more than " ++ decimal MOST_WAITING ++ codes " requests wait"
+
+abbrev pub unlike_text : Reason → PlainMoment → Option Request → List ℕ
+unlike_text r m None = []
+unlike_text reason.Proxiable m (Some q) = unlike_flag q.proxiable ++ decimal q.line
+unlike_text r m (Some q) = unlike_session (has_session m) ++ decimal q.line
+
+-- what a Result-Code doesn't go with
+abbrev pub with_flag : Bool → List ℕ
+with_flag true = codes " with E"
+with_flag false = codes " without E"
+
+abbrev pub result_text : Reason → PlainMoment → ℕ → List ℕ
+result_text reason.NoCommon m code = decimal code ++ codes ", and no application of the CER"
+result_text reason.CommonRefused m code = decimal code ++ codes ", and common " ++ known_common_text (known_common m)
+result_text r m code = decimal code ++ with_flag m.message.head.error
+
+abbrev pub on_result : Reason → PlainMoment → Option ℕ → List ℕ
+on_result r m None = []
+on_result r m (Some code) = result_text r m code
+
+-- the text of a departure or a note. `verdict` is what `check` reports
+abbrev pub detail_text : PlainMoment → List ℕ → Reason → List ℕ
+detail_text m verdict reason.Invalid = verdict
+detail_text m verdict reason.AvpLength = gap_text m.message.body
+detail_text m verdict reason.EndToEnd = field_text reason.EndToEnd m.message.head m.request
+detail_text m verdict reason.Command = field_text reason.Command m.message.head m.request
+detail_text m verdict reason.Application = field_text reason.Application m.message.head m.request
+detail_text m verdict reason.Proxiable = unlike_text reason.Proxiable m m.request
+detail_text m verdict reason.SessionId = unlike_text reason.SessionId m m.request
+detail_text m verdict reason.NoCommon = on_result reason.NoCommon m (result_of m.message.body)
+detail_text m verdict reason.CommonRefused = on_result reason.CommonRefused m (result_of m.message.body)
+detail_text m verdict reason.ErrorFlag = on_result reason.ErrorFlag m (result_of m.message.body)
+detail_text m verdict reason.OriginHost = hosts_text m
+detail_text m verdict reason.Truncated = sizes true (length m.line.bytes.now) m.message.length
+detail_text m verdict reason.Trailing = sizes false (length m.line.bytes.now) m.message.length
+detail_text m verdict reason.HopByHop = earlier_text reason.HopByHop m (other_line reason.HopByHop m)
+detail_text m verdict reason.WatchdogWaits = earlier_text reason.WatchdogWaits m (other_line reason.WatchdogWaits m)
+detail_text m verdict reason.Order = earlier_text reason.Order m (other_line reason.Order m)
+detail_text m verdict reason.WatchdogEarly = earlier_text reason.WatchdogEarly m (other_line reason.WatchdogEarly m)
+detail_text m verdict reason.NotAdvertised = number_text reason.NotAdvertised m.message.head
+detail_text m verdict reason.OwnApplication = number_text reason.OwnApplication m.message.head
+detail_text m verdict reason.AnswersNothing = number_text reason.AnswersNothing m.message.head
+detail_text m verdict reason.Forgotten = forgotten_text
+detail_text m verdict r = plain_text r m.message.head

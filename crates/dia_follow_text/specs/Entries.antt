@@ -1,11 +1,12 @@
 -- The lines of a connection: `END [TIME] HEX`, with blanks between and around the words.
-use Rattle.std.specs.Prelude.{ℕ, ◌==◌, ◌||◌, Bool, false, not, if◌then◌else◌, List, length, take, drop, position, Option, Some, None, Result, Ok, Err, codes, unwrap_or, slice_get}
+use Rattle.std.specs.Prelude.{ℕ, ◌==◌, ◌||◌, Bool, false, not, if◌then◌else◌, List, ◌++◌, length, take, drop, position, Option, Some, None, Result, Ok, Err, codes, unwrap_or, slice_get}
+use Rattle.std.specs.Fmt.{decimal}
 use Rattle.std.specs.Option.{option_map_or}
 use Rattle.std.specs.Str.{bytes_eq}
 use Rattle.dia_follow.specs.declared.End.{End}
 use Rattle.dia_follow.specs.declared.End.TheVariants.{Initiator, Responder}
 use Rattle.dia_follow_text.specs.declared.entry.BadLine.{BadLine}
-use Rattle.dia_follow_text.specs.declared.entry.BadLine.TheVariants.{Syntax, Time}
+use Rattle.dia_follow_text.specs.declared.entry.BadLine.TheVariants.{TooLong, Syntax, Time, NotHexadecimal}
 use Rattle.dia_follow_text.specs.Times.{time_of}
 
 -- what a line says of its message
@@ -58,3 +59,14 @@ is_comment line = option_map_or (λ byte. byte == 35) (slice_get line 0) false
 -- what a line says. None: nothing
 abbrev pub entry_of : List ℕ → Result (Option PlainEntry) BadLine
 entry_of line = if is_comment line then Ok None else words_of (next_word line)
+
+-- why a line is refused
+abbrev pub bad_word : BadLine → List ℕ
+bad_word TooLong = codes "too long"
+bad_word Syntax = codes "syntax"
+bad_word Time = codes "time"
+bad_word NotHexadecimal = codes "not hexadecimal"
+
+-- the line of a line that is refused, as text
+abbrev pub bad_line_text : ℕ → BadLine → List ℕ
+bad_line_text number bad = codes "connection: " ++ bad_word bad ++ codes " at line " ++ decimal number ++ codes "\n"

@@ -2,5 +2,16 @@ pub mod Names
 pub mod Times
 pub mod Entries
 pub mod Reasons
+pub mod Commons
+pub mod Hosts
 pub mod Details
+pub mod Unread
 pub mod Said
+pub mod Objects
+pub mod Answers
+pub mod Judging
+pub mod Notes
+pub mod Outcome
+pub mod FollowOutcome
+pub mod UnderWay
+pub mod Runs

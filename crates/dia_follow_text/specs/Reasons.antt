@@ -1,5 +1,5 @@
 -- The words and the sections of departures and notes.
-use Rattle.std.specs.Prelude.{ℕ, ◌/◌, ◌==◌, if◌then◌else◌, List, Option, Some, None, codes}
+use Rattle.std.specs.Prelude.{ℕ, ◌/◌, ◌==◌, Bool, true, if◌then◌else◌, List, Option, Some, None, codes, is_some}
 use Rattle.dia_follow.specs.declared.Reason.{Reason}
 use Rattle.dia_follow.specs.declared.Reason.TheVariants as reason
 
@@ -77,3 +77,11 @@ section reason.CommonRefused code = Some (codes "7.1.5")
 section reason.ErrorFlag code = Some (error_flag_section code)
 section reason.OriginHost code = Some (codes "4.3.1")
 section r code = answer_section r
+
+-- what `check` finds, and what departs from a section; else it is a note
+abbrev pub is_departure : Reason → Bool
+is_departure reason.Invalid = true
+is_departure r = is_some (section r None)
+
+abbrev pub kind : Reason → List ℕ
+kind r = if is_departure r then codes "departure" else codes "note"

@@ -1,5 +1,15 @@
 //! The lines that were answered, and the one that is under way.
 
+ghost use Rattle.std.specs.Prelude.{◌≡◌, List, ℕ, Ok, Some, IfOk, OnOk, if◌then◌else◌, string_bytes};
+ghost use Rattle.hex.specs.Hex.{decode_of};
+ghost use Rattle.dia_policy.specs.Limits.{max_message_text};
+ghost use Rattle.dia_io.specs.declared.Input.{Input as AnyInput};
+ghost use Rattle.dia_io.specs.Inputs.{Holds};
+ghost use Rattle.dia_follow.specs.Connections.{new_connection, the_middle};
+ghost use Rattle.dia_follow_text.specs.Entries.{entry_of};
+ghost use Rattle.dia_follow_text.specs.Outcome.{Captured, IsCaptured, IsLineOf, PlainLine, answered_line, captured};
+ghost use Rattle.dia_follow_text.specs.UnderWay.{Reaches, progress_of};
+
 use crate::counts::Counts;
 use crate::entry::{BadLine, Entry, read_line};
 use crate::judging::judge;
@@ -44,14 +54,19 @@ pub(crate) struct Answered {
 }
 
 impl Answered {
-    pub(crate) fn new(alloc: Global, options: &Options) -> Answered {
-        let connection = if options.middle {
-            Connection::middle(alloc)
-        } else {
-            Connection::new(alloc)
-        };
+    ghost use Rattle.std.specs.Prelude.{◌≡◌, ◌++◌, ◌∷◌, [], IfOk, OnOk, if◌then◌else◌, string_bytes};
+    ghost use Rattle.dia_follow.specs.Connections.{new_connection, the_middle};
+    ghost use Rattle.dia_lines.specs.Lines.{IsLine, IsLineInput, line_feed};
+    ghost use Rattle.dia_follow_text.specs.Outcome.{IsLineOf, PlainLine, begun, next_line};
+    ghost use Rattle.dia_follow_text.specs.UnderWay.{Ends, ReachesNow, Reads, ReadsLast, progress_at};
+
+    pub(crate) fn new(alloc: Global, options: &Options) -> Answered
+        ensures line { IsLineInput result.line [] }
+        ensures progress { progress_at result ≡ begun options.now.middle }
+        ensures text { string_bytes result.text ≡ [] }
+    {
         let state = State {
-            connection,
+            connection: first_connection(alloc, options.middle),
             counts: Counts::new(alloc),
             departs: false,
         };
@@ -70,12 +85,14 @@ impl Answered {
         alloc: Global,
         manner: &Manner<'_, B>,
         piece: &[u8],
-    ) -> Result<Option<BadLine>, AllocError> {
+    ) -> Result<Option<BadLine>, AllocError>
+        ensures { IfOk result (Reads (B.meaning manner.now.book.now) manner.now.options self.old self.new piece.now) }
+    {
         let mut rest = piece;
         while let Some((line, following)) = split_line(rest) {
-            extend(&mut self.line, line)?;
-            if let Some(bad) = self.answer(alloc, manner)? {
-                return Ok(Some(bad));
+            let bad = self.read_line(alloc, manner, line)?;
+            if bad.is_some() {
+                return Ok(bad);
             }
             rest = following;
         }
@@ -88,14 +105,44 @@ impl Answered {
         &mut self,
         alloc: Global,
         manner: &Manner<'_, B>,
-    ) -> Result<Option<BadLine>, AllocError> {
-        if !is_empty(&self.line) {
-            if let Some(bad) = self.answer(alloc, manner)? {
-                return Ok(Some(bad));
-            }
+    ) -> Result<Option<BadLine>, AllocError>
+        ensures { IfOk result (Ends (B.meaning manner.now.book.now) manner.now.options self.old self.new) }
+    {
+        let bad = self.end_line(alloc, manner)?;
+        if bad.is_some() {
+            return Ok(bad);
         }
         push_all_unanswered(alloc, &mut self.text, manner, &mut self.state)?;
         Ok(None)
+    }
+
+    /// Answers the line that is under way, if there is one.
+    fn end_line<B: Book>(
+        &mut self,
+        alloc: Global,
+        manner: &Manner<'_, B>,
+    ) -> Result<Option<BadLine>, AllocError>
+        ensures { IfOk result (ReadsLast (B.meaning manner.now.book.now) manner.now.options self.old self.new) }
+    {
+        if is_empty(&self.line) {
+            return Ok(None);
+        }
+        self.answer(alloc, manner)
+    }
+
+    /// Answers the line that is under way with these bytes at its end.
+    fn read_line<B: Book>(
+        &mut self,
+        alloc: Global,
+        manner: &Manner<'_, B>,
+        bytes: &[u8],
+    ) -> Result<Option<BadLine>, AllocError>
+        requires { IsLine bytes.now }
+        ensures { IfOk result (Reads (B.meaning manner.now.book.now) manner.now.options self.old self.new
+            (bytes.now ++ line_feed ∷ [])) }
+    {
+        extend(&mut self.line, bytes)?;
+        self.answer(alloc, manner)
     }
 
     /// Answers the line that is under way, and begins the next one.
@@ -103,7 +150,13 @@ impl Answered {
         &mut self,
         alloc: Global,
         manner: &Manner<'_, B>,
-    ) -> Result<Option<BadLine>, AllocError> {
+    ) -> Result<Option<BadLine>, AllocError>
+        ensures { IfOk result (λ bad. (line : PlainLine)
+            × IsLineOf (B.meaning manner.now.book.now) manner.now.options.check self.old.line line
+            × ReachesNow manner.now.options.json (next_line (B.meaning manner.now.book.now) manner.now.options.json
+            (progress_at self.old) line) self.new bad
+            × IsLineInput self.new.line []) }
+    {
         self.number = self.number.saturating_add(1);
         let bad = answer_line(
             alloc,
@@ -119,6 +172,16 @@ impl Answered {
     }
 }
 
+fn first_connection(alloc: Global, middle: bool) -> Connection
+    ensures { result ≡ (if middle then the_middle new_connection else new_connection) }
+{
+    if middle {
+        Connection::middle(alloc)
+    } else {
+        Connection::new(alloc)
+    }
+}
+
 /// Adds the answer to a line.
 fn answer_line<B: Book>(
     alloc: Global,
@@ -128,16 +191,57 @@ fn answer_line<B: Book>(
     number: u64,
     line: &Input,
     space: &mut Vec<u8>,
-) -> Result<Option<BadLine>, AllocError> {
-    let Some(line) = line.within(MAX_MESSAGE_TEXT) else {
+) -> Result<Option<BadLine>, AllocError>
+    ensures { IfOk result (λ bad. (is : PlainLine)
+        × IsLineOf (B.meaning manner.now.book.now) manner.now.options.check line.now is
+        × Reaches manner.now.options.json (answered_line (B.meaning manner.now.book.now) manner.now.options.json number
+        (progress_of number state.old (string_bytes text.old)) is) number state.new (string_bytes text.new) bad) }
+{
+    let Some(words) = line.within(MAX_MESSAGE_TEXT) else {
         return Ok(Some(BadLine::TooLong));
     };
-    let entry = match read_line(line) {
-        Ok(Some(entry)) => entry,
-        Ok(None) => return Ok(None),
-        Err(bad) => return Ok(Some(bad)),
-    };
-    match decode_digits(alloc, entry.digits, space)? {
+    answer_words(alloc, text, manner, state, number, words, space)
+}
+
+/// Adds the answer to a line that isn't too long.
+fn answer_words<B: Book>(
+    alloc: Global,
+    text: &mut String,
+    manner: &Manner<'_, B>,
+    state: &mut State,
+    number: u64,
+    words: &[u8],
+    space: &mut Vec<u8>,
+) -> Result<Option<BadLine>, AllocError>
+    ensures { IfOk result (λ bad. (is : PlainLine) × ((input : AnyInput) → Holds input max_message_text words.now
+        → IsLineOf (B.meaning manner.now.book.now) manner.now.options.check input is)
+        × Reaches manner.now.options.json (answered_line (B.meaning manner.now.book.now) manner.now.options.json number
+        (progress_of number state.old (string_bytes text.old)) is) number state.new (string_bytes text.new) bad) }
+{
+    match read_line(words) {
+        Ok(Some(entry)) => answer_entry(alloc, text, manner, state, number, &entry, space),
+        Ok(None) => Ok(None),
+        Err(bad) => Ok(Some(bad)),
+    }
+}
+
+/// Adds the answer to the entry of a line.
+fn answer_entry<B: Book>(
+    alloc: Global,
+    text: &mut String,
+    manner: &Manner<'_, B>,
+    state: &mut State,
+    number: u64,
+    entry: &Entry<'_>,
+    space: &mut Vec<u8>,
+) -> Result<Option<BadLine>, AllocError>
+    ensures { IfOk result (λ bad. (is : PlainLine) × ((input : AnyInput) (words : List ℕ) → Holds input max_message_text words
+        → entry_of words ≡ Ok (Some entry.now) → IsLineOf (B.meaning manner.now.book.now) manner.now.options.check input is)
+        × Reaches manner.now.options.json (answered_line (B.meaning manner.now.book.now) manner.now.options.json number
+        (progress_of number state.old (string_bytes text.old)) is) number state.new (string_bytes text.new) bad) }
+{
+    let spelled = decode_digits(alloc, entry.digits, space)?;
+    match spelled {
         Some(count) => {
             answer_message(alloc, text, manner, state, number, entry, &space[..count])?;
             Ok(None)
@@ -153,9 +257,16 @@ fn answer_message<B: Book>(
     manner: &Manner<'_, B>,
     state: &mut State,
     number: u64,
-    entry: Entry<'_>,
+    entry: &Entry<'_>,
     bytes: &[u8],
-) -> Result<(), AllocError> {
+) -> Result<(), AllocError>
+    ensures { OnOk result ((m : Captured) × ((words : List ℕ) → entry_of words ≡ Ok (Some entry.now)
+        → decode_of entry.now.digits ≡ Ok bytes.now
+        → IsCaptured (B.meaning manner.now.book.now) manner.now.options.check words m)
+        × (progress_of number state.new (string_bytes text.new)
+        ≡ answered_line (B.meaning manner.now.book.now) manner.now.options.json number
+        (progress_of number state.old (string_bytes text.old)) (captured m))) }
+{
     let seen = read(alloc, bytes)?;
     let said = judge(alloc, manner, bytes, &seen)?;
     let line = Line {
@@ -165,14 +276,7 @@ fn answer_message<B: Book>(
         seen,
         judged: said.judged,
     };
-    push_answer(
-        alloc,
-        text,
-        manner,
-        state,
-        entry.end,
-        &line,
-        said.text.as_str(),
-    )?;
+    let verdict = said.text.as_str();
+    push_answer(alloc, text, manner, state, entry.end, &line, verdict)?;
     state.connection.advance(alloc, entry.end, &line)
 }

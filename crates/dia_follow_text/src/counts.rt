@@ -159,7 +159,7 @@ impl Counts {
             return Ok(());
         }
         let mut common = String::new(alloc);
-        crate::details::push_known_common(alloc, &mut common, moment)?;
+        crate::commons::push_known_common(alloc, &mut common, moment)?;
         self.common = Some(common);
         Ok(())
     }

@@ -1,16 +1,20 @@
 //! What a departure or a note says of its message.
 
-ghost use Rattle.std.specs.Prelude.{◌≡◌, ◌++◌, OnOk, codes, if◌then◌else◌, length, option_map, string_bytes};
+ghost use Rattle.std.specs.Prelude.{◌≡◌, ◌++◌, OnOk, codes, if◌then◌else◌, length, string_bytes};
 ghost use Rattle.std.specs.Fmt.{decimal};
-ghost use Rattle.dia_follow_text.specs.Details.{earlier_at, earlier_text, field_pair, field_text, gap_text, has_session};
-ghost use Rattle.dia_follow_text.specs.Details.{interval_text, order_text, since_text};
-ghost use Rattle.dia_follow_text.specs.Details.{interval, number_text, other_line, plain_text, request_line, sizes};
-ghost use Rattle.dia_follow_text.specs.Details.{unlike_flag, unlike_session};
+ghost use Rattle.dia_follow.specs.Messages.{result_of};
+ghost use Rattle.dia_follow_text.specs.Details.{detail_text, field_pair, field_text, forgotten_text, gap_text, has_session};
+ghost use Rattle.dia_follow_text.specs.Details.{number_text, on_result, plain_text, result_text, sizes};
+ghost use Rattle.dia_follow_text.specs.Details.{unlike_flag, unlike_session, unlike_text, with_flag};
 
-use crate::times::{after, push_seconds};
-use dia_data::{Format, push_value};
-use dia_follow::{Body, Common, Head, Line, Listed, Message, Moment, Reason, Request};
+use crate::commons::push_known_common;
+use crate::earlier::push_earlier;
+use crate::hosts::push_hosts;
+use dia_follow::{Body, Head, Line, Message, Moment, Reason, Request};
 use std::alloc::{AllocError, Global};
+
+/// How many requests of an end wait at most.
+const MOST_WAITING: u32 = 65_536;
 
 /// Adds the text of a departure or a note. `verdict` is what `check` says.
 pub(crate) fn push_detail(
@@ -19,7 +23,10 @@ pub(crate) fn push_detail(
     moment: &Moment<'_>,
     verdict: &str,
     reason: Reason,
-) -> Result<(), AllocError> {
+) -> Result<(), AllocError>
+    ensures { OnOk result (string_bytes text.new
+        ≡ string_bytes text.old ++ detail_text moment.now verdict.now reason) }
+{
     match reason {
         Reason::Invalid => text.push_str(verdict),
         Reason::AvpLength => push_gap(text, moment.message()),
@@ -39,6 +46,7 @@ pub(crate) fn push_detail(
         Reason::NotAdvertised | Reason::OwnApplication | Reason::AnswersNothing => {
             push_number(text, &moment.message().head, reason)
         }
+        Reason::Forgotten => push_forgotten(text),
         _ => text.push_str(plain(&moment.message().head, reason)),
     }
 }
@@ -70,9 +78,14 @@ fn plain(head: &Head, reason: Reason) -> &'static str
         Reason::Again => "T is set",
         Reason::Kinds => "auth of one end, acct of the other",
         Reason::GoesOn => "behind a CEA that refuses",
-        Reason::Forgotten => "more than 65536 requests wait",
         _ => "",
     }
+}
+
+fn push_forgotten(text: &mut String) -> Result<(), AllocError>
+    ensures { OnOk result (string_bytes text.new ≡ string_bytes text.old ++ forgotten_text) }
+{
+    write!(text, "more than {MOST_WAITING} requests wait")
 }
 
 fn push_gap(text: &mut String, message: &Message<'_>) -> Result<(), AllocError>
@@ -148,18 +161,23 @@ fn unlike_session(has_session: bool) -> &'static str
     }
 }
 
-fn push_line(text: &mut String, lead: &str, line: u64) -> Result<(), AllocError>
+pub(crate) fn push_line(text: &mut String, lead: &str, line: u64) -> Result<(), AllocError>
     ensures { OnOk result (string_bytes text.new ≡ string_bytes text.old ++ lead.now ++ decimal line) }
 {
     write!(text, "{lead}{line}")
 }
 
 /// Adds what of an answer isn't as in its request.
-fn push_unlike(text: &mut String, moment: &Moment<'_>, reason: Reason) -> Result<(), AllocError> {
-    match (moment.request(), reason) {
-        (Some(request), Reason::Proxiable) => push_flags(text, request),
-        (Some(request), _) => push_sessions(text, moment, request),
-        (None, _) => Ok(()),
+fn push_unlike(text: &mut String, moment: &Moment<'_>, reason: Reason) -> Result<(), AllocError>
+    ensures { OnOk result (string_bytes text.new
+        ≡ string_bytes text.old ++ unlike_text reason moment.now moment.now.request) }
+{
+    let Some(request) = moment.request() else {
+        return Ok(());
+    };
+    match reason {
+        Reason::Proxiable => push_flags(text, request),
+        _ => push_sessions(text, moment, request),
     }
 }
 
@@ -178,73 +196,53 @@ fn push_result(
     text: &mut String,
     moment: &Moment<'_>,
     reason: Reason,
-) -> Result<(), AllocError> {
-    let Some(code) = moment.message().body.result() else {
-        return Ok(());
-    };
-    match reason {
-        Reason::NoCommon => write!(text, "{code}, and no application of the CER"),
-        Reason::CommonRefused => {
-            write!(text, "{code}, and common ")?;
-            push_known_common(alloc, text, moment)
-        }
-        _ if moment.message().head.error => write!(text, "{code} with E"),
-        _ => write!(text, "{code} without E"),
+) -> Result<(), AllocError>
+    ensures { OnOk result (string_bytes text.new ≡ string_bytes text.old
+        ++ on_result reason moment.now (result_of moment.now.message.body)) }
+{
+    match moment.message().body.result() {
+        Some(code) => push_code(alloc, text, moment, reason, code),
+        None => Ok(()),
     }
 }
 
-/// Adds what the applications of a CEA have in common with those of its CER.
-pub(crate) fn push_known_common(
+fn push_code(
     alloc: Global,
     text: &mut String,
     moment: &Moment<'_>,
-) -> Result<(), AllocError> {
-    match moment.common(alloc)? {
-        Some(common) => push_common(text, &common),
-        None => Ok(()),
+    reason: Reason,
+    code: u32,
+) -> Result<(), AllocError>
+    ensures { OnOk result (string_bytes text.new
+        ≡ string_bytes text.old ++ result_text reason moment.now code) }
+{
+    match reason {
+        Reason::NoCommon => write!(text, "{code}, and no application of the CER"),
+        Reason::CommonRefused => push_refused(alloc, text, moment, code),
+        _ => push_with_flag(text, code, moment.message().head.error),
     }
 }
 
-pub(crate) fn push_common(text: &mut String, common: &Common) -> Result<(), AllocError> {
-    match common {
-        Common::All => text.push_str("all"),
-        Common::These(_) if common.is_empty() => text.push_str("none"),
-        Common::These(listed) => push_listed(text, listed),
-    }
+/// Adds a Result-Code, and the applications in common.
+fn push_refused(
+    alloc: Global,
+    text: &mut String,
+    moment: &Moment<'_>,
+    code: u32,
+) -> Result<(), AllocError>
+    ensures { OnOk result (string_bytes text.new ≡ string_bytes text.old ++ result_text Reason.CommonRefused moment.now code) }
+{
+    write!(text, "{code}, and common ")?;
+    push_known_common(alloc, text, moment)
 }
 
-fn push_listed(text: &mut String, listed: &Listed) -> Result<(), AllocError> {
-    let mut comma = "";
-    for number in &listed.auth {
-        write!(text, "{comma}auth {number}")?;
-        comma = ", ";
-    }
-    for number in &listed.acct {
-        write!(text, "{comma}acct {number}")?;
-        comma = ", ";
-    }
-    Ok(())
-}
-
-/// Adds the Origin-Host of a message, and the one before.
-fn push_hosts(text: &mut String, moment: &Moment<'_>) -> Result<(), AllocError> {
-    push_host(text, host_of(moment))?;
-    text.push_str(", ")?;
-    push_host(text, moment.host())?;
-    text.push_str(" before")
-}
-
-fn host_of<'a>(moment: &'a Moment<'_>) -> Option<&'a [u8]> {
-    match moment.contents() {
-        Some(contents) => contents.host,
-        None => None,
-    }
-}
-
-fn push_host(text: &mut String, host: Option<&[u8]>) -> Result<(), AllocError> {
-    match host {
-        Some(host) => push_value(text, &Format::DiameterIdentity, host),
-        None => Ok(()),
+fn push_with_flag(text: &mut String, code: u32, error: bool) -> Result<(), AllocError>
+    ensures { OnOk result (string_bytes text.new ≡ string_bytes text.old ++ decimal code ++ with_flag error) }
+{
+    if error {
+        write!(text, "{code} with E")
+    } else {
+        write!(text, "{code} without E")
     }
 }
 
@@ -264,98 +262,6 @@ fn push_sizes(
         write!(text, "{count} of {length} bytes")
     } else {
         write!(text, "{count} bytes for {length}")
-    }
-}
-
-/// The line that a departure or a note speaks of.
-pub(crate) fn other_line(moment: &Moment<'_>, reason: Reason) -> Option<u64>
-    ensures { result ≡ other_line reason moment.now }
-{
-    match reason {
-        Reason::HopByHop => moment.since(),
-        Reason::WatchdogWaits => moment.waiting_dwr(),
-        Reason::Order => moment.answer_line(),
-        Reason::WatchdogEarly => last_line(moment),
-        Reason::EndToEnd | Reason::Command | Reason::Application => request_line(moment),
-        Reason::Proxiable | Reason::SessionId => request_line(moment),
-        _ => None,
-    }
-}
-
-fn last_line(moment: &Moment<'_>) -> Option<u64>
-    ensures { result ≡ option_map (λ dwr. dwr.line) moment.now.own.dwr }
-{
-    match moment.last_dwr() {
-        Some(last) => Some(last.line),
-        None => None,
-    }
-}
-
-fn request_line(moment: &Moment<'_>) -> Option<u64>
-    ensures { result ≡ request_line moment.now.request }
-{
-    match moment.request() {
-        Some(request) => Some(request.line),
-        None => None,
-    }
-}
-
-/// Adds an earlier line.
-fn push_earlier(text: &mut String, moment: &Moment<'_>, reason: Reason) -> Result<(), AllocError>
-    ensures { OnOk result (string_bytes text.new
-        ≡ string_bytes text.old ++ earlier_text reason moment.now (other_line reason moment.now)) }
-{
-    match other_line(moment, reason) {
-        Some(line) => push_earlier_at(text, moment, reason, line),
-        None => Ok(()),
-    }
-}
-
-fn push_earlier_at(
-    text: &mut String,
-    moment: &Moment<'_>,
-    reason: Reason,
-    line: u64,
-) -> Result<(), AllocError>
-    ensures { OnOk result (string_bytes text.new
-        ≡ string_bytes text.old ++ earlier_at reason moment.now line) }
-{
-    match reason {
-        Reason::HopByHop => push_since(text, &moment.message().head, line),
-        Reason::WatchdogWaits => write!(text, "the DWR of line {line} waits"),
-        Reason::Order => push_order(text, line),
-        _ => push_interval(text, interval(moment), line),
-    }
-}
-
-fn push_since(text: &mut String, head: &Head, line: u64) -> Result<(), AllocError>
-    ensures { OnOk result (string_bytes text.new ≡ string_bytes text.old ++ since_text head.now.hop line) }
-{
-    let hop = head.hop;
-    write!(text, "{hop}")?;
-    push_line(text, " waits since line ", line)
-}
-
-fn push_order(text: &mut String, line: u64) -> Result<(), AllocError>
-    ensures { OnOk result (string_bytes text.new ≡ string_bytes text.old ++ order_text line) }
-{
-    write!(text, "line {line} answers this one")
-}
-
-fn push_interval(text: &mut String, nanoseconds: u64, line: u64) -> Result<(), AllocError>
-    ensures { OnOk result (string_bytes text.new ≡ string_bytes text.old ++ interval_text nanoseconds line) }
-{
-    push_seconds(text, nanoseconds)?;
-    write!(text, " behind line {line}")
-}
-
-/// How long the message comes after the last DWR of its end.
-fn interval(moment: &Moment<'_>) -> u64
-    ensures { result ≡ interval moment.now }
-{
-    match moment.last_dwr() {
-        Some(last) => after(last.time, moment.line().time).unwrap_or(0),
-        None => 0,
     }
 }
 

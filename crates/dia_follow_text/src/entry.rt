@@ -40,7 +40,12 @@ pub enum BadLine {
 }
 
 impl BadLine {
-    pub fn word(self) -> &'static str {
+    ghost use Rattle.std.specs.Prelude.{◌≡◌};
+    ghost use Rattle.dia_follow_text.specs.Entries.{bad_word};
+
+    pub fn word(self) -> &'static str
+        ensures { result.now ≡ bad_word self }
+    {
         match self {
             BadLine::TooLong => "too long",
             BadLine::Syntax => "syntax",

@@ -10,14 +10,17 @@
 #![tactic(auto)]
 
 mod answering;
+mod commons;
 mod counts;
 mod details;
+mod earlier;
 mod entry;
 mod forms;
-mod json;
+mod hosts;
 mod judging;
 mod messages;
 mod names;
+mod objects;
 mod options;
 mod reasons;
 #[cfg(test)]

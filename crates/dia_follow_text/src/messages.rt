@@ -1,8 +1,15 @@
 //! The answer to a message: its line, its departures, and the notes on it.
 
+ghost use Rattle.std.specs.Prelude.{◌≡◌, ◌++◌, ◌||◌, OnOk, string_bytes};
+ghost use Rattle.std.specs.List.{list_any};
+ghost use Rattle.dia_follow.specs.Connections.{findings_of};
+ghost use Rattle.dia_follow_text.specs.Answers.{answer_by, answer_text, departs, message_answer, unread_answer};
+ghost use Rattle.dia_follow_text.specs.Reasons.{is_departure};
+
 use crate::answering::{Manner, State};
 use crate::counts::Counts;
 use crate::forms::{push_finding, push_message, push_unread, push_unread_finding};
+use crate::reasons::is_departure;
 use dia_dict::Book;
 use dia_follow::{Connection, End, Line, Moment, Reason, Seen};
 use std::alloc::{AllocError, Global};
@@ -16,22 +23,35 @@ pub(crate) fn push_answer<B: Book>(
     end: End,
     line: &Line<'_>,
     verdict: &str,
-) -> Result<(), AllocError> {
+) -> Result<(), AllocError>
+    ensures text { OnOk result (string_bytes text.new ≡ string_bytes text.old
+        ++ answer_text manner.now.options.json (B.meaning manner.now.book.now)
+        state.old.connection end line.now verdict.now) }
+    ensures departs { OnOk result (state.new.departs
+        ≡ state.old.departs || departs (findings_of state.old.connection end line.now)) }
+    ensures connection { OnOk result (state.new.connection ≡ state.old.connection) }
+{
     let found = state.connection.findings(alloc, end, line)?;
-    state.counts.last(end, line.number, line.time);
     push_seen(
         alloc,
         text,
         manner,
         &state.connection,
-        &mut state.counts,
         end,
         line,
         &found,
         verdict,
     )?;
-    let departs = count_reasons(&mut state.counts, end, line.number, &found)?;
-    state.departs = state.departs || departs;
+    count_seen(
+        alloc,
+        manner,
+        &state.connection,
+        &mut state.counts,
+        end,
+        line,
+    )?;
+    count_reasons(&mut state.counts, end, line.number, &found)?;
+    state.departs = state.departs || departs(&found);
     Ok(())
 }
 
@@ -41,52 +61,47 @@ fn push_seen<B: Book>(
     text: &mut String,
     manner: &Manner<'_, B>,
     connection: &Connection,
-    counts: &mut Counts,
     end: End,
     line: &Line<'_>,
     found: &[Reason],
     verdict: &str,
-) -> Result<(), AllocError> {
+) -> Result<(), AllocError>
+    ensures { OnOk result (string_bytes text.new ≡ string_bytes text.old
+        ++ answer_by manner.now.options.json (B.meaning manner.now.book.now) connection.now end line.now
+        verdict.now found.now line.now.seen) }
+{
     match &line.seen {
-        Seen::Unread(_) => {
-            counts.unread();
-            push_unread_answer(alloc, text, manner, end, line, found, verdict)
-        }
+        Seen::Unread(_) => push_unread_answer(
+            alloc,
+            text,
+            manner.options.json,
+            end,
+            line,
+            found,
+            verdict,
+        ),
         Seen::Message(message) => {
             let moment = connection.moment(end, line, message);
-            push_message_answer(alloc, text, manner, end, &moment, found, verdict)?;
-            counts.message(alloc, manner.book, end, &moment)
+            push_message_answer(alloc, text, manner, end, &moment, found, verdict)
         }
     }
 }
 
-/// Counts departures and notes. Answers whether there is a departure.
-fn count_reasons(
-    counts: &mut Counts,
-    end: End,
-    number: u64,
-    found: &[Reason],
-) -> Result<bool, AllocError> {
-    let mut departs = false;
-    for reason in found {
-        departs = departs || reason.is_departure();
-        counts.reason(end, number, *reason)?;
-    }
-    Ok(departs)
-}
-
-fn push_unread_answer<B: Book>(
+fn push_unread_answer(
     alloc: Global,
     text: &mut String,
-    manner: &Manner<'_, B>,
+    json: bool,
     end: End,
     line: &Line<'_>,
     found: &[Reason],
     verdict: &str,
-) -> Result<(), AllocError> {
-    push_unread(text, manner, end, line)?;
+) -> Result<(), AllocError>
+    ensures { OnOk result (string_bytes text.new ≡ string_bytes text.old
+        ++ unread_answer json line.now.number end line.now.bytes.now verdict.now found.now) }
+{
+    push_unread(text, json, end, line)?;
     for reason in found {
-        push_unread_finding(alloc, text, manner, end, line, verdict, *reason)?;
+        push_unread_finding(alloc, text, json, end, line, verdict, *reason)?;
     }
     Ok(())
 }
@@ -99,10 +114,63 @@ fn push_message_answer<B: Book>(
     moment: &Moment<'_>,
     found: &[Reason],
     verdict: &str,
-) -> Result<(), AllocError> {
+) -> Result<(), AllocError>
+    ensures { OnOk result (string_bytes text.new ≡ string_bytes text.old
+        ++ message_answer manner.now.options.json (B.meaning manner.now.book.now) end moment.now
+        verdict.now found.now) }
+{
     push_message(alloc, text, manner, end, moment)?;
     for reason in found {
-        push_finding(alloc, text, manner, end, moment, verdict, *reason)?;
+        push_finding(
+            alloc,
+            text,
+            manner.options.json,
+            end,
+            moment,
+            verdict,
+            *reason,
+        )?;
+    }
+    Ok(())
+}
+
+fn departs(found: &[Reason]) -> bool
+    ensures { result ≡ list_any is_departure found.now }
+{
+    found.iter().any(|reason| is_departure(*reason))
+}
+
+/// Counts a message.
+fn count_seen<B: Book>(
+    alloc: Global,
+    manner: &Manner<'_, B>,
+    connection: &Connection,
+    counts: &mut Counts,
+    end: End,
+    line: &Line<'_>,
+) -> Result<(), AllocError> {
+    counts.last(end, line.number, line.time);
+    match &line.seen {
+        Seen::Unread(_) => {
+            counts.unread();
+            Ok(())
+        }
+        Seen::Message(message) => {
+            let moment = connection.moment(end, line, message);
+            counts.message(alloc, manner.book, end, &moment)
+        }
+    }
+}
+
+/// Counts departures and notes.
+fn count_reasons(
+    counts: &mut Counts,
+    end: End,
+    number: u64,
+    found: &[Reason],
+) -> Result<(), AllocError> {
+    for reason in found {
+        counts.reason(end, number, *reason)?;
     }
     Ok(())
 }

@@ -1,8 +1,8 @@
 //! The words and sections of departures and notes.
 
-ghost use Rattle.std.specs.Prelude.{◌≡◌};
+ghost use Rattle.std.specs.Prelude.{◌≡◌, None, is_some};
 ghost use Rattle.std.specs.Option.{option_copied};
-ghost use Rattle.dia_follow_text.specs.Reasons.{answer_section, error_flag_section, section, word};
+ghost use Rattle.dia_follow_text.specs.Reasons.{answer_section, error_flag_section, is_departure, kind, section, word};
 
 use dia_follow::Reason;
 
@@ -46,6 +46,27 @@ pub(crate) fn word(reason: Reason) -> &'static str
         Reason::GoesOn => "goes-on",
         Reason::WatchdogEarly => "watchdog-early",
         Reason::Forgotten => "forgotten",
+    }
+}
+
+/// Whether it is a departure, and not a note: what `check` finds, and what departs from a section of RFC 6733.
+pub(crate) fn is_departure(reason: Reason) -> bool
+    ensures { result ≡ is_departure reason }
+{
+    match reason {
+        Reason::Invalid => true,
+        _ => section(reason, None).is_some(),
+    }
+}
+
+/// Whether it is a departure or a note, as a word.
+pub(crate) fn kind(reason: Reason) -> &'static str
+    ensures { result.now ≡ kind reason }
+{
+    if is_departure(reason) {
+        "departure"
+    } else {
+        "note"
     }
 }
 

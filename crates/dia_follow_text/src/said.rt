@@ -1,17 +1,31 @@
 //! The lines of the answer, as text.
 
-ghost use Rattle.std.specs.Prelude.{◌≡◌, ◌++◌, OnOk, Some, string_bytes};
-ghost use Rattle.dia_follow_text.specs.Said.{after_text, code_text, fields_text, front_text, head_text, kind_word};
-ghost use Rattle.dia_follow_text.specs.Said.{section_text, unanswered_line, unread_line};
+ghost use Rattle.std.specs.Prelude.{◌≡◌, ◌++◌, OnOk, Some, length, option_map, string_bytes};
+ghost use Rattle.std.specs.Option.{option_copied};
+ghost use Rattle.dia_follow.specs.Messages.{contents_of};
+ghost use Rattle.dia_follow_text.specs.Entries.{bad_line_text};
+ghost use Rattle.dia_follow_text.specs.Said.{after_text, answer_rest, answered_text, cause_text, code_text, contents_code, error_text};
+ghost use Rattle.dia_follow_text.specs.Said.{fields_text, finding_line, front_text, head_text, kind_word, message_line, opening_text};
+ghost use Rattle.dia_follow_text.specs.Said.{reason_front, rest_text, section_text, unanswered_line, unread_finding_line, unread_line};
 
-use crate::details::{push_detail, push_known_common};
+use crate::commons::push_known_common;
+use crate::details::push_detail;
+use crate::entry::BadLine;
 use crate::names::{mark, push_name};
-use crate::reasons::{section, word};
+use crate::reasons::{kind, section, word};
 use crate::times::{after, push_seconds};
 use crate::unread::push_unread_detail;
 use dia_dict::Book;
 use dia_follow::{End, Head, Moment, Reason, Request};
 use std::alloc::{AllocError, Global};
+
+/// Adds the line of a line that is refused.
+pub(crate) fn push_bad_line(text: &mut String, number: u64, bad: BadLine) -> Result<(), AllocError>
+    ensures { OnOk result (string_bytes text.new ≡ string_bytes text.old ++ bad_line_text number bad) }
+{
+    let word = bad.word();
+    writeln!(text, "connection: {word} at line {number}")
+}
 
 /// Adds the line of bytes whose header can't be read.
 pub(crate) fn push_unread(
@@ -33,17 +47,38 @@ pub(crate) fn push_message<B: Book>(
     book: &B,
     end: End,
     moment: &Moment<'_>,
-) -> Result<(), AllocError> {
-    let head = moment.message().head;
-    push_head(text, book, moment.line().number, end, &head)?;
-    if head.request {
-        push_cause(text, moment)?;
+) -> Result<(), AllocError>
+    ensures { OnOk result (string_bytes text.new
+        ≡ string_bytes text.old ++ message_line (B.meaning book.now) end moment.now) }
+{
+    push_head(
+        text,
+        book,
+        moment.line().number,
+        end,
+        &moment.message().head,
+    )?;
+    push_rest(alloc, text, moment)?;
+    text.push_str("\n")
+}
+
+/// Adds what a request or an answer says beside its header.
+fn push_rest(alloc: Global, text: &mut String, moment: &Moment<'_>) -> Result<(), AllocError>
+    ensures { OnOk result (string_bytes text.new ≡ string_bytes text.old ++ rest_text moment.now) }
+{
+    if moment.message().head.request {
+        push_cause(text, moment)
     } else {
-        push_code(text, moment)?;
-        push_request(text, moment)?;
-        push_opening(alloc, text, moment)?;
+        push_answer(alloc, text, moment)
     }
-    text.push('\n')
+}
+
+fn push_answer(alloc: Global, text: &mut String, moment: &Moment<'_>) -> Result<(), AllocError>
+    ensures { OnOk result (string_bytes text.new ≡ string_bytes text.old ++ answer_rest moment.now) }
+{
+    push_code(text, moment)?;
+    push_request(text, moment)?;
+    push_opening(alloc, text, moment)
 }
 
 /// Adds the command of a message and the fields of its header.
@@ -70,7 +105,7 @@ fn push_front(text: &mut String, number: u64, end: End, request: bool) -> Result
     write!(text, "{number} {mark} {kind} ")
 }
 
-fn kind_word(request: bool) -> &'static str
+pub(crate) fn kind_word(request: bool) -> &'static str
     ensures { result.now ≡ kind_word request }
 {
     if request { "request" } else { "answer" }
@@ -86,7 +121,10 @@ fn push_fields(text: &mut String, head: &Head) -> Result<(), AllocError>
     write!(text, " app {app} hop {hop} end {e2e}")
 }
 
-fn push_cause(text: &mut String, moment: &Moment<'_>) -> Result<(), AllocError> {
+fn push_cause(text: &mut String, moment: &Moment<'_>) -> Result<(), AllocError>
+    ensures { OnOk result (string_bytes text.new
+        ≡ string_bytes text.old ++ cause_text (contents_of moment.now.message.body)) }
+{
     let Some(contents) = moment.contents() else {
         return Ok(());
     };
@@ -97,15 +135,28 @@ fn push_cause(text: &mut String, moment: &Moment<'_>) -> Result<(), AllocError> 
 }
 
 /// Adds the Result-Code or the Experimental-Result of an answer, and whether E is set.
-fn push_code(text: &mut String, moment: &Moment<'_>) -> Result<(), AllocError> {
-    if let Some(contents) = moment.contents() {
-        push_result(text, contents.result, contents.experimental)?;
+fn push_code(text: &mut String, moment: &Moment<'_>) -> Result<(), AllocError>
+    ensures { OnOk result (string_bytes text.new ≡ string_bytes text.old
+        ++ contents_code (contents_of moment.now.message.body) ++ error_text moment.now.message.head.error) }
+{
+    push_contents_code(text, moment)?;
+    text.push_str(error_text(moment.message().head.error))
+}
+
+fn push_contents_code(text: &mut String, moment: &Moment<'_>) -> Result<(), AllocError>
+    ensures { OnOk result (string_bytes text.new
+        ≡ string_bytes text.old ++ contents_code (contents_of moment.now.message.body)) }
+{
+    match moment.contents() {
+        Some(contents) => push_result(text, contents.result, contents.experimental),
+        None => Ok(()),
     }
-    if moment.message().head.error {
-        text.push_str(" E")
-    } else {
-        Ok(())
-    }
+}
+
+fn error_text(error: bool) -> &'static str
+    ensures { result.now ≡ error_text error }
+{
+    if error { " E" } else { "" }
 }
 
 fn push_result(
@@ -126,7 +177,10 @@ fn push_result(
 }
 
 /// Adds the line of the request of an answer, and how long after it the answer comes.
-fn push_request(text: &mut String, moment: &Moment<'_>) -> Result<(), AllocError> {
+fn push_request(text: &mut String, moment: &Moment<'_>) -> Result<(), AllocError>
+    ensures { OnOk result (string_bytes text.new
+        ≡ string_bytes text.old ++ answered_text moment.now.line.time moment.now.request) }
+{
     let Some(request) = moment.request() else {
         return Ok(());
     };
@@ -147,7 +201,9 @@ fn push_after(text: &mut String, nanoseconds: Option<u64>) -> Result<(), AllocEr
 }
 
 /// Adds the common applications of a CEA of success.
-fn push_opening(alloc: Global, text: &mut String, moment: &Moment<'_>) -> Result<(), AllocError> {
+fn push_opening(alloc: Global, text: &mut String, moment: &Moment<'_>) -> Result<(), AllocError>
+    ensures { OnOk result (string_bytes text.new ≡ string_bytes text.old ++ opening_text moment.now) }
+{
     if !moment.is_opening() || !moment.knows_common() {
         return Ok(());
     }
@@ -163,7 +219,10 @@ pub(crate) fn push_unread_finding(
     bytes: &[u8],
     verdict: &str,
     reason: Reason,
-) -> Result<(), AllocError> {
+) -> Result<(), AllocError>
+    ensures { OnOk result (string_bytes text.new
+        ≡ string_bytes text.old ++ unread_finding_line number end bytes.now verdict.now reason) }
+{
     push_reason(text, number, end, reason)?;
     push_unread_detail(text, bytes, verdict, reason)?;
     push_section(text, section(reason, None))
@@ -177,32 +236,31 @@ pub(crate) fn push_finding(
     moment: &Moment<'_>,
     verdict: &str,
     reason: Reason,
-) -> Result<(), AllocError> {
+) -> Result<(), AllocError>
+    ensures { OnOk result (string_bytes text.new
+        ≡ string_bytes text.old ++ finding_line end moment.now verdict.now reason) }
+{
     push_reason(text, moment.line().number, end, reason)?;
     push_detail(alloc, text, moment, verdict, reason)?;
     push_section(text, section(reason, moment.message().body.result()))
 }
 
-fn push_reason(text: &mut String, number: u64, end: End, reason: Reason) -> Result<(), AllocError> {
+fn push_reason(text: &mut String, number: u64, end: End, reason: Reason) -> Result<(), AllocError>
+    ensures { OnOk result (string_bytes text.new ≡ string_bytes text.old ++ reason_front number end reason) }
+{
     let mark = mark(end);
     let kind = kind(reason);
     let word = word(reason);
     write!(text, "{number} {mark} {kind} {word}: ")
 }
 
-/// Whether it is a departure or a note, as a word.
-pub(crate) fn kind(reason: Reason) -> &'static str {
-    if reason.is_departure() {
-        "departure"
-    } else {
-        "note"
-    }
-}
-
-fn push_section(text: &mut String, section: Option<&str>) -> Result<(), AllocError> {
+fn push_section(text: &mut String, section: Option<&'static str>) -> Result<(), AllocError>
+    ensures { OnOk result (string_bytes text.new
+        ≡ string_bytes text.old ++ section_text (option_copied section.entry)) }
+{
     match section {
         Some(section) => push_number_of_section(text, section),
-        None => text.push('\n'),
+        None => text.push_str("\n"),
     }
 }
 

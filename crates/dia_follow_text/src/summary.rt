@@ -2,7 +2,7 @@
 
 use crate::counts::{Command, Counts, Disconnect, Last, Recorded};
 use crate::names::mark;
-use crate::reasons::word;
+use crate::reasons::{is_departure, word};
 use crate::times::push_seconds;
 use dia_follow::{End, Reason};
 use std::alloc::{AllocError, Global};
@@ -112,7 +112,7 @@ fn push_reasons(alloc: Global, text: &mut String, counts: &Counts) -> Result<(),
 
 fn is_note(recorded: &Recorded) -> bool {
     match recorded.reason {
-        Some(reason) => !reason.is_departure(),
+        Some(reason) => !is_departure(reason),
         None => true,
     }
 }
