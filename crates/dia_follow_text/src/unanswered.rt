@@ -25,9 +25,9 @@ pub(crate) fn push_all_unanswered<B: Book>(
         ++ notes (B.meaning manner.now.book.now) manner.now.options.json state.old.connection) }
     ensures departs { state.new.departs ≡ state.old.departs }
 {
-    let ours = state.connection.unanswered(End::Initiator);
-    let theirs = state.connection.unanswered(End::Responder);
-    push_notes(alloc, text, manner, &mut state.counts, ours, theirs)
+    let ours = state.connection.unanswered(alloc, End::Initiator)?;
+    let theirs = state.connection.unanswered(alloc, End::Responder)?;
+    push_notes(alloc, text, manner, &mut state.counts, &ours, &theirs)
 }
 
 /// Adds the notes on requests of both ends, by line.
