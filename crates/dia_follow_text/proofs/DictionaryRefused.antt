@@ -18,7 +18,7 @@ use Rattle.dia_run.specs.Report.{RecordsRefusal}
 use Rattle.dia_run.specs.Texts.{IsDictionaryText}
 use Rattle.dia_follow_text.specs.declared.options.Options.{Options}
 use Rattle.dia_follow_text.specs.FollowOutcome.{IsDictionaryRefused, RefusesDictionary}
-use Rattle.dia_follow_text.specs.Runs.{AreEnded, AreFollowed, FrontFollowed, IsFollowBegun, IsRefusalBegun, IsRefusalPut}
+use Rattle.dia_follow_text.specs.Runs.{AreEnded, AreFollowed, FrontFollowed, IsAnswerPut, IsFollowBegun, IsRefusalBegun, IsRefusalPut}
 
 -- as text
 pub refused_text : (input : Input) (r : Refused) (a : Answered) → RecordsOf (RefusesDictionary input) r → RecordsRefusal r a → IsDictionaryRefused false input (string_bytes a.text) a.exit
@@ -40,12 +40,20 @@ module _ (options : Options) (input : Input) (fed put_old put : Option (List ℕ
   all_refused (Ok f) (text, is, is_put) = record { bytes = []; text = text; consumed = Consumes-nil fed; outcome = inr is; is_put = is_put }
   all_refused (Err e) is = tt
 
+  pub refusal_put : (r : Result Followed LinesFault) → IfOk r (λ f. IsRefusalPut options input put_old put f.reported.exit)
+      → IfOk r (λ f. IsAnswerPut options input fed put_old put f.reported.exit)
+  refusal_put (Ok f) (text, is, is_put) = λ bytes is_bytes. (text, inr is, is_put)
+  refusal_put (Err e) is = tt
+
   pub refusal_begun : IsRefusalBegun options input put_old put → IsFollowBegun options input fed fed put_old put
   refusal_begun is = inr (Consumes-nil fed, is)
 
 module _ (options : Options) (input : Input) (d : Dictionary) (is_d : IsDictionaryText input d) (fed_old fed put_old put : Option (List ℕ)) where
   pub all_followed : (exit : Exit) → AreEnded d options fed_old fed put_old put exit → AreFollowed options input fed_old fed put_old put exit
   all_followed exit a = record { bytes = a.bytes; text = a.text; consumed = a.consumed; outcome = inl (d, is_d, a.outcome); is_put = a.is_put }
+
+  pub answer_put : (exit : Exit) → AreEnded d options fed_old fed put_old put exit → IsAnswerPut options input fed_old put_old put exit
+  answer_put exit a = λ bytes is_bytes. (a.text, inl (d, is_d, a.whole bytes is_bytes), a.is_put)
 
   pub front_begun : FrontFollowed d options fed_old fed put_old put → IsFollowBegun options input fed_old fed put_old put
   front_begun a = inl (d, is_d, a)

@@ -6,3 +6,4 @@ pub mod Runs
 pub mod FirstNotes
 pub mod Judgements
 pub mod DictionaryRefused
+pub mod FrontLines

@@ -1,6 +1,6 @@
 -- `follow` from a feed into a sink.
 use Rattle.std.proofs.Common.{◌≡◌, ◌≢◌, ℕ, Bool, true, false, List, [], ◌∷◌, ◌++◌, Option, None, Some, Result, Ok, length, refl, sym, ap, subst, ◌∙◌, append_assoc, inl, inr}
-use Rattle.std.specs.Prelude.{if◌then◌else◌, Err, IfOk, IsOk, IsTrue, string_bytes}
+use Rattle.std.specs.Prelude.{if◌then◌else◌, Err, IfOk, IsOk, IsTrue, string_bytes, unwrap_or}
 use Rattle.std.specs.Io.KnownBytes.{Appends, Consumes, Keeps, IsAtEnd}
 use Rattle.std.proofs.KnownBytes.{Appends-nil, Appends-trans, Consumes-nil, Consumes-trans, Consumes-kept}
 use Rattle.std.proofs.lemmas.List.{append-nil}
@@ -17,7 +17,7 @@ use Rattle.dia_follow_text.specs.declared.answering.State.{State}
 use Rattle.dia_follow_text.specs.declared.entry.BadLine.{BadLine}
 use Rattle.dia_follow_text.specs.declared.options.Options.{Options}
 use Rattle.dia_follow_text.specs.Answers.{bad_line}
-use Rattle.dia_follow_text.specs.Outcome.{AreLines, Progress, begun, exit_of, followed, notes, whole_text}
+use Rattle.dia_follow_text.specs.Outcome.{AreLines, IsFollowed, Progress, begun, exit_of, followed, notes, whole_text}
 use Rattle.dia_follow_text.specs.UnderWay.{Ends, IsBroken, IsUnderWay, Reads, progress_at, progress_of, with_put}
 use Rattle.dia_follow_text.specs.declared.running.Followed.{Followed}
 use Rattle.dia_follow_text.specs.declared.running.Progress.{Progress as AnyProgress}
@@ -57,6 +57,23 @@ is_true b is = is
 
 pub same_departs : (s r : State) → s ≡ r → s.departs ≡ r.departs
 same_departs s r is = ap (λ (t : State). t.departs) is
+
+-- ---- what a feed has
+
+the_bytes : (xs all : List ℕ) → Some xs ≡ Some all → xs ≡ all
+the_bytes xs all is = ap (λ (o : Option (List ℕ)). unwrap_or o xs) is
+
+-- what was read is the front of it
+front_of_feed : (fed fed' : Option (List ℕ)) (bytes all : List ℕ) → Consumes fed fed' bytes → fed ≡ Some all → (left : List ℕ) × (all ≡ bytes ++ left) × (IsAtEnd fed' → left ≡ [])
+front_of_feed None fed' bytes all h is = absurd (let z : None ≡ Some all = is in cc)
+front_of_feed (Some xs) None bytes all h is = absurd h
+front_of_feed (Some xs) (Some ys) bytes all h is = (ys, sym (the_bytes xs all is) ∙ h, λ e. e)
+
+-- at the end it is all
+all_of_feed : (fed fed' : Option (List ℕ)) (bytes all : List ℕ) → Consumes fed fed' bytes → IsAtEnd fed' → fed ≡ Some all → all ≡ bytes
+all_of_feed fed fed' bytes all h at_end is =
+    let (left, parts, none) = front_of_feed fed fed' bytes all h is in
+    parts ∙ ap (λ (l : List ℕ). bytes ++ l) (none at_end) ∙ append-nil bytes
 
 -- ---- what a piece comes to
 
@@ -226,19 +243,23 @@ module _ (d : Dictionary) (options : Options) where
     pub all_ended : (departs : Bool) → Ends d options old now None → Appends p p' (string_bytes now.text) → departs ≡ now.state.departs
         → AreEnded d options fed f' put p' (exit_by departs)
     all_ended departs ends is_put same =
-        let (lines, answered, sound, is, whole) = ends a.written a.read a.under_way in record {
+        let (lines, answered, sound, is, whole) = ends a.written a.read a.under_way in
+        let outcome : IsFollowed d options a.read (a.written ++ string_bytes now.text) (exit_by departs) = record {
+          front = a.read;
+          rest = [];
+          lines = lines;
+          parts = sym (append-nil a.read);
+          are_lines = inr (answered, refl);
+          is_text = sym whole;
+          is_exit = sym (sound_exit (followed d options lines) departs sound (is ∙ sym same));
+        } in
+        record {
           bytes = a.read;
           text = a.written ++ string_bytes now.text;
           consumed = all_consumed;
-          outcome = record {
-            front = a.read;
-            rest = [];
-            lines = lines;
-            parts = sym (append-nil a.read);
-            are_lines = inr (answered, refl);
-            is_text = sym whole;
-            is_exit = sym (sound_exit (followed d options lines) departs sound (is ∙ sym same));
-          };
+          outcome = outcome;
+          whole = λ all is_all. subst (λ (b : List ℕ). IsFollowed d options b (a.written ++ string_bytes now.text) (exit_by departs))
+              (sym (all_of_feed fed f' a.read all all_consumed at_end is_all)) outcome;
           is_put = Appends-trans put p p' a.written (string_bytes now.text) a.is_put is_put;
         }
 
@@ -288,20 +309,37 @@ module _ (d : Dictionary) (options : Options) where
     the_lines : AreLines d options a.front a.rest a.lines
     the_lines = elim a.are_lines [ inl h ↦ inl (h, is_true last.refused a.refused) | inr h ↦ inr (h.2, h.1) ]
 
+    abbrev answer : List ℕ
+    answer = a.written ++ bad_line options.json number bad
+
+    outcome_of : (bytes rest : List ℕ) → bytes ≡ a.front ++ rest → AreLines d options a.front rest a.lines → IsFollowed d options bytes answer exits.Bad
+    outcome_of bytes rest parts are_lines = record {
+      front = a.front;
+      rest = rest;
+      lines = a.lines;
+      parts = parts;
+      are_lines = are_lines;
+      is_text = sym (refused_text d options.json last a.refused ∙ a.is_text);
+      is_exit = sym (refused_exit last a.refused);
+    }
+
+    -- all that the feed has
+    outcome_of_all : (all : List ℕ) → fed ≡ Some all → IsFollowed d options all answer exits.Bad
+    outcome_of_all all is =
+        let (left, parts, none) = front_of_feed fed f' (a.front ++ a.rest) all a.consumed is in
+        outcome_of all (a.rest ++ left) (parts ∙ append_assoc a.front a.rest left)
+        (elim a.are_lines [
+          | inl h ↦ inl (h, is_true last.refused a.refused)
+          | inr h ↦ inr (h.2, ap (λ (r : List ℕ). r ++ left) h.1 ∙ none h.0)
+        ])
+
     pub line_refused : Appends p p' (bad_line options.json number bad) → AreEnded d options fed f' put p' exits.Bad
     line_refused is_put = record {
       bytes = a.front ++ a.rest;
-      text = a.written ++ bad_line options.json number bad;
+      text = answer;
       consumed = a.consumed;
-      outcome = record {
-        front = a.front;
-        rest = a.rest;
-        lines = a.lines;
-        parts = refl;
-        are_lines = the_lines;
-        is_text = sym (refused_text d options.json last a.refused ∙ a.is_text);
-        is_exit = sym (refused_exit last a.refused);
-      };
+      outcome = outcome_of (a.front ++ a.rest) a.rest refl the_lines;
+      whole = outcome_of_all;
       is_put = Appends-trans put p p' a.written (bad_line options.json number bad) a.is_put is_put;
     }
 

@@ -27,6 +27,11 @@ pub record AreFollowed (options : Options) (dictionary : Input) (fed_old fed put
   pub outcome : IsFollowOutcome options dictionary bytes text exit
   pub is_put : Appends put_old put text
 
+-- the answer to all bytes that a feed has was put, however they come
+abbrev pub IsAnswerPut : Options → Input → (fed_old put_old put : Option (List ℕ)) → Exit → Type 0
+IsAnswerPut options dictionary fed_old put_old put exit = (bytes : List ℕ) → fed_old ≡ Some bytes
+    → (text : List ℕ) × IsFollowOutcome options dictionary bytes text exit × Appends put_old put text
+
 -- the text for lines at the front of what was read, or, at the end of the feed, for all lines
 abbrev pub IsTextOf : Dictionary → Options → Option (List ℕ) → (front rest : List ℕ) → List PlainLine → List ℕ → Type 0
 IsTextOf d options fed front rest lines text =
@@ -94,10 +99,11 @@ pub record AreRefused (d : Dictionary) (options : Options) (fed_old fed put_old 
 abbrev pub exit_by : Bool → Exit
 exit_by departs = if departs then No else Yes
 
--- all was put
+-- all was put. What the feed has behind a line that is refused makes no difference
 pub record AreEnded (d : Dictionary) (options : Options) (fed_old fed put_old put : Option (List ℕ)) (exit : Exit) : Type 0 where
   pub bytes : List ℕ
   pub text : List ℕ
   pub consumed : Consumes fed_old fed bytes
   pub outcome : IsFollowed d options bytes text exit
+  pub whole : (all : List ℕ) → fed_old ≡ Some all → IsFollowed d options all text exit
   pub is_put : Appends put_old put text

@@ -9,7 +9,7 @@ ghost use Rattle.dia_follow_text.specs.Answers.{bad_line};
 ghost use Rattle.dia_report.specs.Refusals.{RecordsOf};
 ghost use Rattle.dia_run.specs.Report.{HasFinding};
 ghost use Rattle.dia_follow_text.specs.FollowOutcome.{IsDictionaryRefused, RefusesDictionary};
-ghost use Rattle.dia_follow_text.specs.Runs.{AreEnded, AreFollowed, AreRead, AreRefused, FrontFollowed, IsFollowBegun};
+ghost use Rattle.dia_follow_text.specs.Runs.{AreEnded, AreFollowed, AreRead, AreRefused, FrontFollowed, IsAnswerPut, IsFollowBegun};
 ghost use Rattle.dia_follow_text.specs.Runs.{IsRefusalBegun, IsRefusalPut, after_end, after_piece, exit_by};
 
 use crate::answering::{Answered, Manner};
@@ -53,6 +53,8 @@ pub fn follow<F: Feed, S: Sink>(
     requires sound_sink { ¬ IsTrue (S.has_failed sink.old) }
     ensures exact { IfOk result (λ followed. AreFollowed options.now dictionary.now (F.remaining feed.old)
         (F.remaining feed.new) (S.written sink.old) (S.written sink.new) followed.reported.exit) }
+    ensures pieces { IfOk result (λ followed. IsAnswerPut options.now dictionary.now (F.remaining feed.old)
+        (S.written sink.old) (S.written sink.new) followed.reported.exit) }
     ensures all { IfOk result
         (λ followed. followed.reported.exit ≢ Exit.Bad → IsAtEnd (F.remaining feed.new)) }
     ensures front { IsErr result → IsFollowBegun options.now dictionary.now (F.remaining feed.old)
