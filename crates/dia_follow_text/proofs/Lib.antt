@@ -7,3 +7,6 @@ pub mod FirstNotes
 pub mod Judgements
 pub mod DictionaryRefused
 pub mod FrontLines
+pub mod OneReading
+pub mod OneLine
+pub mod OneAnswer

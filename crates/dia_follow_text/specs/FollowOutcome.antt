@@ -22,3 +22,8 @@ IsDictionaryRefused false input text exit = (recorded : List ℕ) × RefusesDict
 abbrev pub IsFollowOutcome : Options → Input → List ℕ → List ℕ → Exit → Type 0
 IsFollowOutcome options dictionary bytes text exit = ((d : Dictionary) × IsDictionaryText dictionary d × IsFollowed d options bytes text exit)
     ⊎ IsDictionaryRefused options.json dictionary text exit
+
+-- under a dictionary that is read the text of a connection has one answer and one exit
+abbrev pub ConnectionHasOneAnswer : Type 0
+ConnectionHasOneAnswer = (options : Options) (dictionary : Input) (d : Dictionary) (bytes t u : List ℕ) (x y : Exit) → IsDictionaryText dictionary d
+    → IsFollowOutcome options dictionary bytes t x → IsFollowOutcome options dictionary bytes u y → (t ≡ u) × (x ≡ y)
