@@ -12,7 +12,7 @@ use crate::words::command_in;
 use indexmap::IndexMap;
 use std::alloc::{AllocError, Global};
 
-/// Those of the entries that are about a command of these names; all, where there is no name.
+/// The entries about a command of these names, or all entries if there is no name.
 pub fn about(alloc: Global, list: &[Entry], names: &[String]) -> Result<Vec<Entry>, AllocError>
     ensures { IfOk result (λ entries. map plain_entry entries.items
         ≡ filter (is_about (map (λ name. string_bytes name) names.now)) (map plain_entry list.now)) }

@@ -21,7 +21,7 @@ pub struct Stock<'a, B: Book> {
     others: Vec<Key>,
     /// The keys of which there are AVPs, in the dictionary's order.
     known: Vec<Key>,
-    /// Those of them whose M flag may be clear.
+    /// The known keys whose M flag may be clear.
     optional: Vec<Key>,
     /// What the plain level of each entry is made of, if it is a group.
     levels: Vec<Vec<Run>>,

@@ -148,7 +148,7 @@ fn push_body<B: Book>(
     }
 }
 
-/// Adds that the P flag is none that the command may have.
+/// Adds a fault if the command may not have this P flag.
 fn push_proxiable(found: &mut Collector, head: DefHead, header: &Header) -> Result<(), AllocError>
     ensures { OnOk result ((command : PlainDefinition) → command.head ≡ head
         → (fs : List Found) × HasProxiable command header.now fs × Adds found.old found.new (map fault_of fs)) }

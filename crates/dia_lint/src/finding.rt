@@ -42,11 +42,11 @@ pub enum Subject {
 /// The AVPs of one name.
 #[derive(Clone, Copy)]
 pub enum Named {
-    /// Those of a key that the dictionary knows.
+    /// AVPs of a key that the dictionary knows.
     Key(Key),
-    /// Those that no rule lists.
+    /// AVPs that no rule lists.
     Others,
-    /// Those of the base protocol.
+    /// AVPs of the base protocol.
     Base(BaseAvp),
 }
 
