@@ -2,7 +2,7 @@
 
 ghost use Rattle.std.specs.Prelude.{◌≡◌, ◌<◌, IfSome, length};
 ghost use Rattle.dia_book.specs.Dictionary.{definitions, group_place};
-ghost use Rattle.dia_owners.specs.Owners.{command_place, definition_of};
+ghost use Rattle.dia_owners.specs.Owners.{command_place, definition_of, rules_of};
 
 use dia_book::{Book, DRule, DefId};
 
@@ -37,7 +37,9 @@ impl Owner {
     }
 
     /// The rules of the definition: none where there is no definition.
-    pub fn rules<B: Book>(self, book: &B) -> &[DRule] {
+    pub fn rules<B: Book>(self, book: &B) -> &[DRule]
+        ensures { result.now ≡ rules_of (B.meaning book.now) self }
+    {
         match self.definition(book) {
             Some(def) => &book.def(def).rules,
             None => &[],
