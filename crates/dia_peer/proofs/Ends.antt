@@ -1,4 +1,4 @@
-use Rattle.std.proofs.Common.{◌≡◌, ℕ, zero, suc, ◌<◌, Bool, true, false, cond, ◌&&◌, List, [], ◌∷◌, ◌++◌, length, map, Option, Some, None, inl, inr, ⊎_elim, refl, sym, ap, subst, ◌∙◌}
+use Rattle.std.proofs.Common.{◌⊎◌, ◌≡◌, ℕ, zero, suc, ◌<◌, Bool, true, false, cond, ◌&&◌, List, [], ◌∷◌, ◌++◌, length, map, Option, Some, None, inl, inr, ⊎_elim, refl, sym, ap, subst, ◌∙◌}
 use Rattle.std.specs.Prelude.{◌↔◌, nat_eq, slice_get}
 use Rattle.std.specs.List.{AllByRecursion, starts_with}
 use Rattle.std.proofs.lemmas.Option.{same_Some, none-some}
@@ -12,8 +12,8 @@ use Rattle.dia_peer.specs.declared.event.State.{State}
 use Rattle.dia_peer.specs.declared.event.State.TheVariants.{Open}
 use Rattle.dia_peer.specs.Core.{PlainConfig, IsConfig, PlainCore, PlainTaken, Pair, pair_of, common_by, common_of, relays}
 use Rattle.dia_peer.specs.Messages.{Received, Cer, Cea, cea, IsGood, IsReceived}
-use Rattle.dia_peer.specs.Table.{Happening, Starts, Gets, Ticks, Stops, Breaks, Deed, Sends, Closes, Outcome, nothing, same_bytes, repeated, only_responder, happens_in, happens}
-use Rattle.dia_peer.specs.World.{End, World, Event, Start, Tick, Stop, Lose, Deliver, AreBytes, AreSpelled, Goes, HappensAt, Happens, Run, start, AreShared, IsCommon, HoldsShared, HoldSame, IsPastOpen, RepeatsAnswer, Agrees}
+use Rattle.dia_peer.specs.Table.{Happening, Starts, Gets, Ticks, Stops, Breaks, Deed, Sends, Closes, Outcome, nothing, same_bytes, repeated, only_responder, happens_in, happens, without_next}
+use Rattle.dia_peer.specs.World.{End, World, Event, Start, Tick, Stop, Lose, TakeIds, Deliver, AreBytes, AreSpelled, Goes, HappensAt, Happens, Run, start, AreShared, IsCommon, HoldsShared, HoldSame, IsPastOpen, RepeatsAnswer, Agrees}
 use Rattle.dia_peer.proofs.Sets.{IsIn, to_in, of_in, in_cases, in_left, in_right, eq_self}
 use Rattle.dia_peer.proofs.Commons.{relays_same, common_is, common_turns}
 use Rattle.dia_peer.proofs.SpelledMessages.{one_writing}
@@ -94,21 +94,29 @@ record Went (old other new : End) : Type 0 where
   spelled : AreSpelled (happens old.core h).deeds messages
   is : new ≡ record { core = (happens old.core h).core; sent = old.sent ++ messages }
 
+abbrev taken_from : End → End
+taken_from old = record { core = without_next old.core; sent = old.sent }
+
 by_itself : (old other new : End) (h : Happening) → what_of h ≡ None → Goes old h new → Went old other new
 by_itself old other new h none g = record { h = h; messages = g.0; from = λ what e. absurd (none-some what (sym none ∙ ap what_of e)); spelled = g.1; is = g.2 }
 
-went : (old other : End) (e : Event) (new : End) → HappensAt old other e new → Went old other new
-went old other Start new g = by_itself old other new Starts refl g
-went old other Tick new g = by_itself old other new Ticks refl g
-went old other (Stop cause) new g = by_itself old other new (Stops cause) refl g
-went old other Lose new g = by_itself old other new Breaks refl g
-went old other (Deliver k) new (bytes, what, at, received, g) = record {
+delivered : (old other new : End) (k : ℕ) (bytes : List ℕ) (what : Received) → slice_get other.sent k ≡ Some bytes → IsReceived bytes what → Goes old (Gets what) new → Went old other new
+delivered old other new k bytes what at received g = record {
   h = Gets what;
   messages = g.0;
   from = λ w e. (bytes, at_in other.sent k bytes at, subst (IsReceived bytes) (same_Some what w (ap what_of e)) received);
   spelled = g.1;
   is = g.2;
 }
+
+-- an event at an end, or identifiers of it are taken
+went : (old other : End) (e : Event) (new : End) → HappensAt old other e new → Went old other new ⊎ (new ≡ taken_from old)
+went old other Start new g = inl (by_itself old other new Starts refl g)
+went old other Tick new g = inl (by_itself old other new Ticks refl g)
+went old other (Stop cause) new g = inl (by_itself old other new (Stops cause) refl g)
+went old other Lose new g = inl (by_itself old other new Breaks refl g)
+went old other TakeIds new e = inr e
+went old other (Deliver k) new (bytes, what, at, received, g) = inl (delivered old other new k bytes what at received g)
 
 -- ---- both ends
 
@@ -232,15 +240,53 @@ module _ (a : PlainConfig) (m : Manner) (b : PlainConfig) (n : Manner) (an : Num
     r_open = λ e. responder_opens w h messages hold from spelled ((moved Responder b n w.responder h hold.r).opened e);
   }
 
+  -- whose identifiers are taken has sent the same, in the same state
+  end_taken : (role : Role) (c : PlainConfig) (manner : Manner) (e : End) → IsEnd role c manner e → IsEnd role c manner (taken_from e)
+  end_taken role c manner e h = record { config = h.config; role_is = h.role_is; manner_is = h.manner_is; suits = h.suits; sent = h.sent }
+
+  took_taken : (e : End) → Took b e → Took b (taken_from e)
+  took_taken e t = record {
+    taken = t.taken;
+    is_taken = t.is_taken;
+    answer = t.answer;
+    sent = t.sent;
+    are_bytes = t.are_bytes;
+    message = t.message;
+    ids = t.ids;
+    avps = t.avps;
+    good = t.good;
+  }
+
+  initiator_taken : (w : World) → Holds a m b n w → Holds a m b n (record { initiator = taken_from w.initiator; responder = w.responder })
+  initiator_taken w hold = record { i = end_taken Initiator a m w.initiator hold.i; r = hold.r; i_open = hold.i_open; r_open = hold.r_open }
+
+  responder_taken : (w : World) → Holds a m b n w → Holds a m b n (record { initiator = w.initiator; responder = taken_from w.responder })
+  responder_taken w hold = record {
+    i = hold.i;
+    r = end_taken Responder b n w.responder hold.r;
+    i_open = hold.i_open;
+    r_open = λ e. (let o = hold.r_open e in (o.0, o.1, took_taken w.responder o.2));
+  }
+
+  initiator_at : (w : World) (new : End) → Holds a m b n w → Went w.initiator w.responder new ⊎ (new ≡ taken_from w.initiator)
+      → Holds a m b n (record { initiator = new; responder = w.responder })
+  initiator_at w new hold (inl g) =
+      subst (λ (x : End). Holds a m b n (record { initiator = x; responder = w.responder })) (sym g.is) (initiator_goes w g.h g.messages hold g.from g.spelled)
+  initiator_at w new hold (inr is) = subst (λ (x : End). Holds a m b n (record { initiator = x; responder = w.responder })) (sym is) (initiator_taken w hold)
+
+  responder_at : (w : World) (new : End) → Holds a m b n w → Went w.responder w.initiator new ⊎ (new ≡ taken_from w.responder)
+      → Holds a m b n (record { initiator = w.initiator; responder = new })
+  responder_at w new hold (inl g) =
+      subst (λ (x : End). Holds a m b n (record { initiator = w.initiator; responder = x })) (sym g.is) (responder_goes w g.h g.messages hold g.from g.spelled)
+  responder_at w new hold (inr is) = subst (λ (x : End). Holds a m b n (record { initiator = w.initiator; responder = x })) (sym is) (responder_taken w hold)
+
   goes : (w : World) (role : Role) (e : Event) (v : World) → Holds a m b n w → Happens w role e v → Holds a m b n v
   goes w Initiator e v hold (at, same) =
-      let g = went w.initiator w.responder e v.initiator at in
-      let new = initiator_goes w g.h g.messages hold g.from g.spelled in
-      subst (λ (x : World). Holds a m b n x) (λ i. record { initiator = sym g.is i; responder = sym same i }) new
+      subst (λ (x : World). Holds a m b n x) (λ i. record { initiator = v.initiator; responder = sym same i })
+      (initiator_at w v.initiator hold (went w.initiator w.responder e v.initiator at))
   goes w Responder e v hold (at, same) =
-      let g = went w.responder w.initiator e v.responder at in
-      let new = responder_goes w g.h g.messages hold g.from g.spelled in
-      subst (λ (x : World). Holds a m b n x) (λ i. record { initiator = sym same i; responder = sym g.is i }) new
+      subst (λ (x : World). Holds a m b n x) (λ i. record { initiator = sym same i; responder = v.responder })
+      (responder_at w v.responder hold (went w.responder w.initiator e v.responder at))
 
   runs : (w : World) (events : List (Role × Event)) (v : World) → Holds a m b n w → Run w events v → Holds a m b n v
   runs w [] v hold run = subst (Holds a m b n) (sym run) hold

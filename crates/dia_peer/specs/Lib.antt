@@ -6,3 +6,4 @@ pub mod Machine
 pub mod Drafts
 pub mod Incoming
 pub mod Outputs
+pub mod Timers

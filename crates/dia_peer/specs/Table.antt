@@ -118,3 +118,9 @@ happens_in state c h = nothing c
 
 abbrev pub happens : PlainCore → Happening → Outcome
 happens c h = happens_in c.state c h
+
+-- ---- beside the table
+
+-- its next identifiers are for a request of the caller's
+abbrev pub without_next : PlainCore → PlainCore
+without_next c = record c { next = after c.next }

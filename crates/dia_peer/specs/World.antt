@@ -12,7 +12,7 @@ use Rattle.dia_peer.specs.declared.config.Kind.TheVariants.{Auth}
 use Rattle.dia_peer.specs.declared.config.Manner.{Manner}
 use Rattle.dia_peer.specs.Core.{PlainConfig, PlainCore, PlainTaken, Pair, pair, pair_of, relays}
 use Rattle.dia_peer.specs.Messages.{Received, IsReceived}
-use Rattle.dia_peer.specs.Table.{Happening, Starts, Gets, Ticks, Stops, Breaks, Deed, Sends, Closes, happens}
+use Rattle.dia_peer.specs.Table.{Happening, Starts, Gets, Ticks, Stops, Breaks, Deed, Sends, Closes, happens, without_next}
 
 -- the core of a configuration before its first event
 abbrev pub idle : PlainConfig → Role → Manner → PlainCore
@@ -46,6 +46,7 @@ pub data Event : Type 0 where
   Tick : Event
   Stop : (cause : Cause) → Event
   Lose : Event
+  TakeIds : Event
   Deliver : (k : ℕ) → Event
 
 -- each is a byte
@@ -67,6 +68,7 @@ HappensAt old other Start new = Goes old Starts new
 HappensAt old other Tick new = Goes old Ticks new
 HappensAt old other (Stop cause) new = Goes old (Stops cause) new
 HappensAt old other Lose new = Goes old Breaks new
+HappensAt old other TakeIds new = new ≡ record { core = without_next old.core; sent = old.sent }
 HappensAt old other (Deliver k) new = (bytes : List ℕ) × (what : Received) × (slice_get other.sent k ≡ Some bytes) × IsReceived bytes what × Goes old (Gets what) new
 
 abbrev pub Happens : World → Role → Event → World → Type 0

@@ -2,6 +2,7 @@ ghost use Rattle.std.specs.Prelude.{◌≡◌, ◌==◌, ◌||◌, ◌↔◌, If
 ghost use Rattle.dia_peer.specs.Core.{IsAccepted, Serves, plain, plain_config, pairs_of};
 ghost use Rattle.std.specs.List.{list_any};
 ghost use Rattle.dia_peer.specs.Messages.{after};
+ghost use Rattle.dia_peer.specs.Table.{without_next};
 ghost use Rattle.dia_peer.specs.World.{idle};
 
 mod on_message;
@@ -130,6 +131,17 @@ impl Core {
         ensures { IsTrue result ↔ Serves self.now.common id }
     {
         id == 0 || is_among(id, &self.common)
+    }
+
+    /// The next Hop-by-Hop and End-to-End Identifiers of this end, for a request of the caller's own (RFC 6733 section 3): the
+    /// core uses them for none of its requests. Each call answers the next ones, and 0 follows 4294967295. Allocates nothing.
+    pub fn take_ids(&mut self) -> (u32, u32)
+        ensures ids { (result.0 ≡ self.old.next.hop) × (result.1 ≡ self.old.next.e2e) }
+        ensures next { self.new ≡ without_next self.old }
+    {
+        let ids = self.next;
+        self.next = after(ids);
+        (ids.hop, ids.e2e)
     }
 
     /// What is to be done at an event, in order. On an error, which is an allocation failure, nothing has changed.

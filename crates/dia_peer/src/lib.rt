@@ -9,7 +9,7 @@
 //! let mut responder = Core::new(alloc, theirs, Role::Responder)?;
 //!
 //! // Capabilities are exchanged.
-//! told(alloc, &mut responder, Event::Start)?;
+//! recorded(alloc, &mut responder, Event::Start)?;
 //! exchanged(alloc, &mut initiator, Event::Start, &mut responder)?;
 //! assert_eq!(rt; initiator.state(), State::Open);
 //! assert_eq!(rt; responder.state(), State::Open);
@@ -43,8 +43,10 @@ mod messages;
 mod named_apps;
 mod node;
 mod receiving;
+mod timing;
 
 pub use config::{App, Config, ConfigFault, Ip, Kind, Manner, Role};
 pub use connection::Core;
 pub use event::{Cause, Event, Output, State, Why};
 pub use laws::{agreement, one_step, our_messages_are_valid, without_relays};
+pub use timing::{TimerAction, quiet_ms, timer};

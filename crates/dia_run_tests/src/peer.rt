@@ -12,6 +12,7 @@ mod names;
 mod relays;
 mod schedules;
 mod steps;
+mod timing;
 
 const fn auth(id: u32) -> App {
     App {
