@@ -495,6 +495,25 @@ dia_status dia_peer_common(dia_peer *peer, size_t index, dia_app *app);
  * that both ends have in common, and for all between two relays. Takes no memory. */
 dia_status dia_peer_serves(dia_peer *peer, uint32_t id, uint32_t *serves);
 
+/* Takes the next Hop-by-Hop and End-to-End Identifiers of this end, for a request of your own: the end uses them for none of its
+ * requests. Takes no memory. */
+dia_status dia_peer_identifiers(dia_peer *peer, uint32_t *hop, uint32_t *e2e);
+
+enum {
+    DIA_TIMER_OFF = 0,   /* no DIA_TICK is due */
+    DIA_TIMER_QUIET = 1, /* begin anew, with the time of dia_peer_quiet_ms */
+    DIA_TIMER_REPLY = 2, /* begin anew, with the time in which the other end is to answer: 10 to 30 seconds */
+    DIA_TIMER_KEEP = 3   /* run on */
+};
+
+/* Delivers what the timer of a connection does after an event, by the states before and after it. DIA_BAD_ARGUMENT: there is no
+ * such event, or no such state. Takes no memory. */
+dia_status dia_peer_timer(uint32_t before, uint32_t event, uint32_t after, uint32_t *timer);
+
+/* How long a connection may be quiet before a watchdog, in milliseconds: `tw` milliseconds, of which 6,000 are the least, and a
+ * jitter of two seconds to either side (RFC 3539 section 3.4.1). `drawn` is a random number. */
+uint64_t dia_peer_quiet_ms(uint32_t tw, uint32_t drawn);
+
 /* Closes the handle, and sends nothing to the other end. Takes no memory. */
 void dia_peer_close(dia_peer *peer);
 

@@ -20,6 +20,7 @@ LIST = re.compile(r"(?<=/\* The reasons of docs/FAULTS\.md\. \*/\nenum \{\n)[^}]
 STATUSES = re.compile(r"typedef uint32_t dia_status;\nenum \{([^}]*)\};")
 KINDS = re.compile(r"/\* Why a text is no dictionary: the kind of its first fault\. \*/\nenum \{([^}]*)\};")
 PEERS = (("DIA_STATE_", "PeerSteps.antt", r"^state_number state\.(\w+) = (\d+)$"), ("DIA_WHY_", "PeerSteps.antt", r"^why_number why\.(\w+) = (\d+)$"),
+         ("DIA_TIMER_", "PeerTimers.antt", r"^timer_number timer\.(\w+) = (\d+)$"),
          ("DIA_BAD_", "Peers.antt", r"^fault_number fault\.(\w+) = (\d+)$"), ("DIA_FORM_", "Replies.antt", r"^form_number form\.(\w+) = (\d+)$"))
 """The numbers of a connection and of forms of answers: how their words begin, and the file and the lines of their definition."""
 OTHERWISE = {"LIMIT": "TOO_MANY_PARTS"}

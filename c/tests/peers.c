@@ -162,6 +162,25 @@ static void a_watchdog_without_an_answer_closes(void) {
     dia_peer_close(&b);
 }
 
+/* Identifiers that the caller takes are never those of the end, and the timer goes by the states around an event. */
+static void timers_and_identifiers(void) {
+    dia_peer a = DIA_PEER_INIT;
+    uint32_t hop = 99, e2e = 99, timer = 99;
+    EXPECT(dia_peer_identifiers(&a, &hop, &e2e) == DIA_IS_CLOSED && hop == 99 && e2e == 99);
+    EXPECT(open_initiator(&a) == DIA_OK && dia_peer_event(&a, DIA_START, out, 0, 0) == DIA_OK && sends(&a, cer, LENGTH(cer)));
+    EXPECT(dia_peer_identifiers(&a, &hop, &e2e) == DIA_OK && hop == 2 && e2e == 2 && rests(&a, DIA_STATE_WAIT_CEA));
+    EXPECT(dia_peer_identifiers(&a, &hop, &e2e) == DIA_OK && hop == 3 && e2e == 3);
+    dia_peer_close(&a);
+    EXPECT(dia_peer_timer(DIA_STATE_IDLE, DIA_START, DIA_STATE_WAIT_CER, &timer) == DIA_OK && timer == DIA_TIMER_REPLY);
+    EXPECT(dia_peer_timer(DIA_STATE_WAIT_CER, DIA_BYTES, DIA_STATE_OPEN, &timer) == DIA_OK && timer == DIA_TIMER_QUIET);
+    EXPECT(dia_peer_timer(DIA_STATE_OPEN, DIA_START, DIA_STATE_OPEN, &timer) == DIA_OK && timer == DIA_TIMER_KEEP);
+    EXPECT(dia_peer_timer(DIA_STATE_OPEN, DIA_LOST, DIA_STATE_CLOSED, &timer) == DIA_OK && timer == DIA_TIMER_OFF);
+    EXPECT(dia_peer_timer(6, DIA_LOST, DIA_STATE_CLOSED, &timer) == DIA_BAD_ARGUMENT && timer == DIA_TIMER_OFF);
+    EXPECT(dia_peer_timer(DIA_STATE_OPEN, 5, DIA_STATE_CLOSED, &timer) == DIA_BAD_ARGUMENT);
+    EXPECT(dia_peer_timer(DIA_STATE_OPEN, DIA_LOST, 6, &timer) == DIA_BAD_ARGUMENT);
+    EXPECT(dia_peer_quiet_ms(30000, 0) == 28000 && dia_peer_quiet_ms(30000, 4000) == 32000 && dia_peer_quiet_ms(0, 4001) == 4000);
+}
+
 /* Outputs are taken one by one, and none is lost. What is no part of one isn't written. */
 static void outputs_are_taken_in_order(void) {
     dia_peer a = DIA_PEER_INIT;
@@ -242,6 +261,7 @@ int main(void) {
     two_ends_open_watch_and_close();
     a_relay_has_what_the_other_names();
     a_watchdog_without_an_answer_closes();
+    timers_and_identifiers();
     outputs_are_taken_in_order();
     configurations_are_refused();
     a_configuration_is_told();

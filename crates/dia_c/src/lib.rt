@@ -12,6 +12,7 @@ mod dictionaries;
 mod fault_lists;
 mod layout;
 mod listings;
+mod peer_timers;
 mod peers;
 mod replies;
 mod streams;
@@ -28,6 +29,7 @@ pub use dictionaries::{
 };
 pub use fault_lists::{dia_faults_close, dia_faults_get, dia_faults_open, dia_line_column};
 pub use listings::dia_show;
+pub use peer_timers::{dia_peer_identifiers, dia_peer_quiet_ms, dia_peer_timer};
 pub use peers::{
     dia_peer_close, dia_peer_common, dia_peer_event, dia_peer_open, dia_peer_open_as,
     dia_peer_output, dia_peer_serves, dia_peer_state,

@@ -8,6 +8,7 @@ pub mod Listings
 pub mod Names
 pub mod Openings
 pub mod PeerSteps
+pub mod PeerTimers
 pub mod Peers
 pub mod PlainFaults
 pub mod Replies

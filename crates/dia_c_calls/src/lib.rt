@@ -22,6 +22,7 @@ mod outcomes;
 mod peer;
 mod peer_config;
 mod peer_numbers;
+mod peer_timers;
 mod peers;
 mod recorded_fault;
 mod replies;
@@ -47,6 +48,7 @@ pub use handle::{DictHandle, FaultsHandle, PeerHandle, StreamHandle, TextHandle}
 pub use listings::show;
 pub use opening::Problem;
 pub use peer_config::{PeerAddress, PeerApp, PeerNumbers};
+pub use peer_timers::{peer_identifiers, peer_quiet_ms, peer_timer};
 pub use peers::{
     peer_close, peer_common, peer_event, peer_open, peer_open_as, peer_output, peer_serves,
     peer_state,

@@ -117,7 +117,7 @@ Captures lines u most json inputs known word out ended =
 abbrev pub Lists : Bool → Bool → Inputs → Option (List ℕ) → List ℕ → Stream → Result Reported Ending → Type 0
 Lists json names inputs known word out ended = Ends (AreShown json names inputs) (IsShownBegun json names inputs) known word out ended
 
--- `follow` and `mask`: where one fails, a device did, or memory was refused. What they write is tested, and not stated here
-abbrev pub Follows : List ℕ → Stream → Result Reported Ending → Type 0
-Follows word out (Ok reported) = ¬ IsTrue out.failed
-Follows word out (Err made) = IsFailure word out.failed made
+-- `mask`: where it fails, a device did, or memory was refused. What it writes is tested, and not stated here
+abbrev pub Masks : List ℕ → Stream → Result Reported Ending → Type 0
+Masks word out (Ok reported) = ¬ IsTrue out.failed
+Masks word out (Err made) = IsFailure word out.failed made

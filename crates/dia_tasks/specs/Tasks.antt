@@ -11,7 +11,8 @@ use Rattle.dia_cli.specs.declared.origin.Origins.{Origins}
 use Rattle.dia_cli.specs.declared.task.Task.{Task}
 use Rattle.dia_cli.specs.declared.task.Task.TheVariants as task
 use Rattle.dia_tasks.specs.Answers.{IsAllFaults, IsAnswer, IsAnyText, IsNamed, IsReplied}
-use Rattle.dia_tasks.specs.Captures.{Captures, Follows, Lists, known_of, messages_word}
+use Rattle.dia_tasks.specs.Captures.{Captures, Lists, Masks, known_of, messages_word}
+use Rattle.dia_tasks.specs.Connections.{Follows}
 use Rattle.dia_tasks.specs.Samples.{Samples, form_of}
 use Rattle.dia_diff.specs.Outcome.{IsDiffOutcome}
 use Rattle.dia_uses.specs.Outcome.{IsUsesOutcome}
@@ -49,8 +50,9 @@ TaskRuns (task.CheckStream u most) json w origins inputs out ended =
     Captures Placed u most json inputs (messages_of w origins) (messages_word origins.messages) out ended
 TaskRuns (task.CheckAll u most) json w origins inputs out ended = Runs (IsAllFaults u most inputs) out ended
 TaskRuns (task.Answer asked) json w origins inputs out ended = Runs (IsReplied asked inputs) out ended
-TaskRuns (task.Follow asked) json w origins inputs out ended = Follows (messages_word origins.messages) out ended
-TaskRuns (task.Mask asked) json w origins inputs out ended = Follows (messages_word origins.messages) out ended
+TaskRuns (task.Follow asked) json w origins inputs out ended =
+    Follows asked json inputs (messages_of w origins) (messages_word origins.messages) out ended
+TaskRuns (task.Mask asked) json w origins inputs out ended = Masks (messages_word origins.messages) out ended
 TaskRuns (task.Uses avps) json w origins inputs out ended = Runs (IsUsesOutcome json (map string_bytes avps.items) inputs) out ended
 TaskRuns (task.Diff sends unknown) json w origins inputs out ended = Runs (IsDiffOutcome sends unknown json inputs) out ended
 TaskRuns (task.Lint asked) json w origins inputs out ended = Runs IsAnyText out ended

@@ -1,8 +1,9 @@
 //! `follow`: where the ends of a captured connection depart from RFC 6733.
 
-ghost use Rattle.std.specs.Prelude.{IsTrue};
+ghost use Rattle.std.specs.Prelude.{◌≡◌, IsTrue};
 ghost use Rattle.dia_cli.specs.Ending.{stream};
-ghost use Rattle.dia_tasks.specs.Captures.{Follows, messages_word};
+ghost use Rattle.dia_tasks.specs.Captures.{known_of, messages_word};
+ghost use Rattle.dia_tasks.specs.Connections.{Follows, options_of};
 
 use crate::captured::ending_of;
 use crate::manner::Manner;
@@ -27,7 +28,8 @@ where
     O: Opener,
     W: Write,
     requires { ¬ IsTrue (⟦<ToWriter<W> as Sink>⟧.has_failed out.old) }
-    ensures { Follows (messages_word origins.now.messages)
+    ensures { Follows asked manner.json inputs.now
+        (known_of (O.content opener.now) (O.input opener.now) origins.now.messages) (messages_word origins.now.messages)
         (stream (⟦<ToWriter<W> as Sink>⟧.written out.old) (⟦<ToWriter<W> as Sink>⟧.written out.new)
         (⟦<ToWriter<W> as Sink>⟧.has_failed out.new)) result }
 {
@@ -61,7 +63,7 @@ where
     D: Read + Drop,
     W: Write,
     requires { ¬ IsTrue (⟦<ToWriter<W> as Sink>⟧.has_failed out.old) }
-    ensures { Follows name.entry.now
+    ensures { Follows asked manner.json inputs.now (D.remaining reader) name.entry.now
         (stream (⟦<ToWriter<W> as Sink>⟧.written out.old) (⟦<ToWriter<W> as Sink>⟧.written out.new)
         (⟦<ToWriter<W> as Sink>⟧.has_failed out.new)) result }
 {
@@ -79,7 +81,9 @@ where
 }
 
 /// How the connection is read.
-fn options_of(asked: Following, json: bool) -> Options {
+fn options_of(asked: Following, json: bool) -> Options
+    ensures { result ≡ options_of asked json }
+{
     let Following {
         middle,
         check,

@@ -2,7 +2,7 @@
 
 ghost use Rattle.std.specs.Prelude.{IsTrue};
 ghost use Rattle.dia_cli.specs.Ending.{stream};
-ghost use Rattle.dia_tasks.specs.Captures.{Follows, messages_word};
+ghost use Rattle.dia_tasks.specs.Captures.{Masks, messages_word};
 
 use crate::asking::{list_of, put_notes};
 use crate::captured::ending_of;
@@ -28,7 +28,7 @@ where
     O: Opener,
     W: Write,
     requires { ¬ IsTrue (⟦<ToWriter<W> as Sink>⟧.has_failed out.old) }
-    ensures { Follows (messages_word origins.now.messages)
+    ensures { Masks (messages_word origins.now.messages)
         (stream (⟦<ToWriter<W> as Sink>⟧.written out.old) (⟦<ToWriter<W> as Sink>⟧.written out.new)
         (⟦<ToWriter<W> as Sink>⟧.has_failed out.new)) result }
 {
@@ -62,7 +62,7 @@ where
     D: Read + Drop,
     W: Write,
     requires { ¬ IsTrue (⟦<ToWriter<W> as Sink>⟧.has_failed out.old) }
-    ensures { Follows name.entry.now
+    ensures { Masks name.entry.now
         (stream (⟦<ToWriter<W> as Sink>⟧.written out.old) (⟦<ToWriter<W> as Sink>⟧.written out.new)
         (⟦<ToWriter<W> as Sink>⟧.has_failed out.new)) result }
 {

@@ -5,6 +5,7 @@ ghost use Rattle.dia_peer.specs.declared.event.Why.{Why as AnyWhy};
 ghost use Rattle.dia_peer.specs.Outputs.{SentBytes, ClosedFor};
 ghost use Rattle.dia_c_calls.specs.Held.{MayBePeer, Takes, peer_in};
 ghost use Rattle.dia_c_calls.specs.PeerSteps.{HasStepped, LeavesRest, WantsRoom, plain_end};
+ghost use Rattle.dia_c_calls.specs.PeerTimers.{TakesIds};
 
 use crate::held::Held;
 use crate::peer::{Given, Peer};
@@ -68,6 +69,25 @@ pub fn give_in(held: &mut Held, out: &mut [u8]) -> Given
 {
     match held {
         Held::Peer(peer) => peer.give(out),
+        Held::Dict(..) => unreachable!(),
+        Held::Text(_) => unreachable!(),
+        Held::Faults(_) => unreachable!(),
+        Held::Stream(_) => unreachable!(),
+        Held::Nothing => unreachable!(),
+    }
+}
+
+/// Takes the next identifiers of the end in a handle.
+pub fn take_ids_in(held: &mut Held) -> (u32, u32)
+    requires { ∥ MayBePeer (Some held.old) ∥₁ }
+    ensures taken { IfSome (peer_in (Some held.old))
+        (λ old. IfSome (peer_in (Some held.new)) (TakesIds result.0 result.1 old)) }
+    ensures was_peer { IsSome (peer_in (Some held.old)) }
+    ensures is_peer { IsSome (peer_in (Some held.new)) }
+    ensures only { ∥ MayBePeer (Some held.new) ∥₁ }
+{
+    match held {
+        Held::Peer(peer) => peer.core.take_ids(),
         Held::Dict(..) => unreachable!(),
         Held::Text(_) => unreachable!(),
         Held::Faults(_) => unreachable!(),
