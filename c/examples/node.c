@@ -28,7 +28,6 @@
 #define ANSWER_SECONDS 10 /* how long an answer to a CER or a DPR may take */
 #define LINGER_SECONDS 2  /* how long the other end may take to close */
 #define LEAST_TW 6
-#define JITTER_MS 2000
 
 typedef enum { FREE, CONNECTING, RUNNING, CLOSING } phase;
 
@@ -84,7 +83,7 @@ static int watch(int action, int fd, uint32_t events, uint32_t number) {
 /* Tw with its jitter, or the time that an answer, a connection or the other end's close may take. */
 static void set_timer(const connection *c) {
     long ms = c->phase == CLOSING ? LINGER_SECONDS * 1000
-        : c->state == DIA_STATE_OPEN ? tw * 1000 - JITTER_MS + rand() % (2 * JITTER_MS + 1) : ANSWER_SECONDS * 1000;
+        : c->state == DIA_STATE_OPEN ? (long)dia_peer_quiet_ms((uint32_t)tw * 1000, (uint32_t)rand()) : ANSWER_SECONDS * 1000;
     struct itimerspec when = {{0, 0}, {ms / 1000, ms % 1000 * 1000000}};
     timerfd_settime(c->timer, 0, &when, NULL);
 }

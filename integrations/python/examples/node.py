@@ -14,7 +14,7 @@ import random
 import signal
 from typing import Iterable, Optional, Union
 
-from wittalen import Application, Dictionary, Peer, Role, State, Why, message_length
+from wittalen import Application, Dictionary, Peer, Role, State, Timer, Why, message_length
 
 LONGEST = 1 << 20
 """The most bytes of a message that is read."""
@@ -44,7 +44,7 @@ class Connection:
                 if is_for_peer or not is_whole or self.state is not State.OPEN:
                     self.do(self.peer.receive(message))
                 else:
-                    self.set_timer()
+                    self.set_timer(Timer.QUIET)
         except (asyncio.IncompleteReadError, ConnectionError, asyncio.CancelledError):
             self.do(self.peer.lost())
         finally:
@@ -71,7 +71,7 @@ class Connection:
         if self.peer.state is not self.state:
             self.state = self.peer.state
             self.node.say(f"{self.state.name} {' '.join(str(it.id) for it in self.peer.common)}".rstrip())
-        self.set_timer()
+        self.set_timer(self.peer.timer)
 
     def end(self) -> None:
         """Ends the connection after what was written."""
@@ -80,13 +80,14 @@ class Connection:
             self.writer.write_eof()
         self.reader.feed_eof()
 
-    def set_timer(self) -> None:
+    def set_timer(self, action: Timer) -> None:
         """Tw with its jitter of two seconds, less for a short one (RFC 3539 section 3.4.1); a fixed time for an answer."""
-        self.stop_timer()
-        if self.state not in (State.IDLE, State.CLOSED):
+        if action is not Timer.KEEP:
+            self.stop_timer()
+        if action in (Timer.QUIET, Timer.REPLY):
             jitter = min(2, self.node.watchdog / 3)
             watchdog = self.node.watchdog + random.uniform(-jitter, jitter)
-            seconds = watchdog if self.state is State.OPEN else ANSWER_SECONDS
+            seconds = watchdog if action is Timer.QUIET else ANSWER_SECONDS
             self.timer = asyncio.get_running_loop().call_later(seconds, lambda: self.do(self.peer.tick()))
 
     def stop_timer(self) -> None:

@@ -10,7 +10,7 @@ import threading
 import unittest
 
 import wittalen
-from wittalen import Application, Dictionary, Outcome, Peer, Role, Sends, State, Why, dictionaries
+from wittalen import Application, Dictionary, Outcome, Peer, Role, Sends, State, Timer, Why, dictionaries
 
 # a request of the command 280 without its AVPs, of which Origin-Host is the first (RFC 6733 section 5.5.1)
 BARE = bytes.fromhex("0100001480000118000000000000000100000002")
@@ -221,7 +221,9 @@ class Peers(unittest.TestCase):
         self.assertEqual((first.state, second.state), (State.OPEN, State.OPEN))
         self.assertEqual((first.common, second.common), ([Application(4)], [Application(4)]))
         self.assertTrue(first.serves(4) and not first.serves(1))
+        self.assertEqual(first.take_identifiers(), (8, 10))
         (dwr,) = first.tick()
+        self.assertEqual((dwr[12:16], dwr[16:20]), (bytes([0, 0, 0, 9]), bytes([0, 0, 0, 11])))
         (dwa,) = second.receive(dwr)
         self.assertTrue(Dictionary().check(dwa))
         self.assertEqual(first.receive(dwa), [])
@@ -229,6 +231,22 @@ class Peers(unittest.TestCase):
         dpa, why = second.receive(dpr)
         self.assertIs(why, Why.PEER_STOPPED)
         self.assertEqual(first.receive(dpa), [Why.STOPPED])
+
+    def test_timers(self):
+        first, second = self.ends()
+        self.assertEqual(first.timer, Timer.OFF)
+        second.start()
+        (cer,) = first.start()
+        self.assertEqual((first.timer, second.timer), (Timer.REPLY, Timer.REPLY))
+        (cea,) = second.receive(cer)
+        first.receive(cea)
+        self.assertEqual((first.timer, second.timer), (Timer.QUIET, Timer.QUIET))
+        first.start()
+        self.assertEqual(first.timer, Timer.KEEP)
+        first.stop()
+        self.assertEqual(first.timer, Timer.REPLY)
+        first.lost()
+        self.assertEqual(first.timer, Timer.OFF)
 
     def test_relays(self):
         relay = Peer(Role.INITIATOR, "a.example.com", "example.com", [Application(wittalen.RELAY)], relays=True)
@@ -275,6 +293,7 @@ class Numbers(unittest.TestCase):
     def test_enums(self):
         firsts = {
             Outcome: "DIA_VALID", Sends: "DIA_SENDS_ANY", Role: "DIA_INITIATOR", State: "DIA_STATE_IDLE", Why: "DIA_WHY_INVALID",
+            Timer: "DIA_TIMER_OFF",
         }  # fmt: skip
         for enum, first in firsts.items():
             self.assertEqual({member.name: member.value for member in enum}, self.numbers(first))

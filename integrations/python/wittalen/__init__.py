@@ -11,12 +11,12 @@ Several threads may use one object where Python has its global lock; of a Peer, 
 from .dictionaries import (
     Answer, Dictionary, DictionaryError, Fault, Form, Outcome, Stream, Verdict, faults, message_length, render, split,
 )  # fmt: skip
-from .peers import RELAY, Application, Cause, Output, Peer, Role, State, Why
+from .peers import RELAY, Application, Cause, Output, Peer, Role, State, Timer, Why
 from .upgrades import Comparison, InputError, Sends, Upgrade, breaking, compare
 
 __all__ = [
     "RELAY", "Answer", "Application", "Cause", "Comparison", "Dictionary", "DictionaryError", "Fault", "Form", "InputError",
     "Outcome", "Output",
-    "Peer", "Role", "Sends", "State", "Stream", "Upgrade", "Verdict", "Why", "breaking", "compare", "faults",
+    "Peer", "Role", "Sends", "State", "Stream", "Timer", "Upgrade", "Verdict", "Why", "breaking", "compare", "faults",
     "message_length", "render", "split",
 ]  # fmt: skip

@@ -89,6 +89,8 @@ CALLS: dict[str, tuple[Any, ...]] = {
     "peer_state": (H, NUMBER),
     "peer_common": (H, S, c.POINTER(App)),
     "peer_serves": (H, U, NUMBER),
+    "peer_identifiers": (H, NUMBER, NUMBER),
+    "peer_timer": (U, U, U, NUMBER),
     "peer_close": (H,),
 }
 CALLS_OF_BREAKING: dict[str, tuple[Any, ...]] = {"breaking": (H, H, U, U, U, B, S, B, S, H, NUMBER, PROBLEM)}

@@ -41,6 +41,13 @@ class Why(IntEnum):
     INVALID, NO_COMMON, REFUSED, WATCHDOG, TIMEOUT, PEER_STOPPED, STOPPED = range(7)
 
 
+class Timer(IntEnum):
+    """What the timer of a connection does after an event: OFF: no `tick` is due; QUIET: it begins anew, for the watchdog (RFC 3539
+    section 3.4.1); REPLY: it begins anew, for an answer; KEEP: it runs on."""
+
+    OFF, QUIET, REPLY, KEEP = range(4)
+
+
 @dataclass(frozen=True)
 class Application:
     """An application that is advertised: of an Acct-Application-Id or an Auth-Application-Id, alone or with its vendor's number in
@@ -79,6 +86,7 @@ class Peer(Owner):
     ):
         super().__init__()
         self._waiting: list[Output] = []
+        self._timer = Timer.OFF
         words = [word.encode() for word in (host, realm, product)]
         ips, apps = [_ip(address) for address in addresses], [_app(application) for application in applications]
         hop, e2e = identifiers or _identifiers()
@@ -136,11 +144,25 @@ class Peer(Owner):
         require(lib.dia_peer_serves(self._handle, u32(application, "application"), serves))
         return bool(serves.value)
 
+    @property
+    def timer(self) -> Timer:
+        """What the timer of the connection does after the last event."""
+        return self._timer
+
+    def take_identifiers(self) -> tuple[int, int]:
+        """The next Hop-by-Hop and End-to-End Identifiers, for a request of the caller's own. The peer doesn't use them."""
+        hop, e2e = c.c_uint32(), c.c_uint32()
+        require(lib.dia_peer_identifiers(self._handle, hop, e2e))
+        return hop.value, e2e.value
+
     def _event(self, event: int, message: bytes = b"", cause: int = 0) -> list[Output]:
         data = octets(message)
         # what an event left whose call was interrupted
         self._take_outputs()
+        before, timer = self.state, c.c_uint32()
         require(lib.dia_peer_event(self._handle, event, data, len(data), cause))
+        require(lib.dia_peer_timer(before, event, self.state, timer))
+        self._timer = Timer(timer.value)
         self._take_outputs()
         done, self._waiting = self._waiting, []
         return done
