@@ -12,12 +12,7 @@ use dia_peer::{Cause, Event, State, TimerAction, quiet_ms, timer};
 use std::alloc::Global;
 
 /// Takes the next identifiers of the end, for a request of the caller's own.
-pub fn peer_identifiers(
-    alloc: Global,
-    handle: &mut PeerHandle,
-    hop: &mut u32,
-    e2e: &mut u32,
-) -> u32
+pub fn peer_identifiers(alloc: Global, handle: &mut PeerHandle, hop: &mut u32, e2e: &mut u32) -> u32
     ensures ends { (result ≡ DONE) ⊎ (result ≡ IS_CLOSED) }
     ensures done { result ≡ DONE → IfSome (peer_in handle.old.slot.seal.held)
         (λ old. IfSome (peer_in handle.new.slot.seal.held) (TakesIds hop.new e2e.new old)) }
@@ -89,7 +84,7 @@ fn state_of(state: u32) -> Option<State>
 
 /// An event of a number. A timer depends neither on the bytes nor on the cause.
 fn event_of(event: u32) -> Option<Event<'static>>
-    ensures some { IfSome result (λ found. (event ≡ event_number found.entry) × (event < 5)) }
+    ensures some { IfSome result (λ found. (event ≡ event_number found) × (event < 5)) }
     ensures none { result ≡ None → ¬ (event < 5) }
 {
     match event {
