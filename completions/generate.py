@@ -21,27 +21,27 @@ DICTIONARY = re.compile(r'@base')
 
 
 class Option:
-    def __init__(self, words, told):
+    def __init__(self, words, text):
         self.short, self.long, self.value = OPTION.fullmatch(words).groups()
-        values = POSSIBLE.search(told)
+        values = POSSIBLE.search(text)
         self.values = values[1].split(', ') if values else []
         self.words = words
-        self.told = told
+        self.text = text
         # what stands in brackets is in the man page alone
-        self.brief = re.sub(r' \[[^\]]*\]', '', told)
+        self.brief = re.sub(r' \[[^\]]*\]', '', text)
 
 
 class Argument:
-    def __init__(self, words, told):
+    def __init__(self, words, text):
         self.words = words
         self.name = re.sub(r'[^A-Z]', '', words)
         self.is_many = words.endswith('...')
-        self.told = told
+        self.text = text
         self.is_command = self.name == 'COMMAND'
-        self.is_dictionary = bool(DICTIONARY.search(told))
+        self.is_dictionary = bool(DICTIONARY.search(text))
 
 
-def told_by(program, *words):
+def printed_by(program, *words):
     """What the program prints under the name `diacmd`, whatever its file is called."""
     return subprocess.run(['diacmd', *words], executable=program, capture_output=True, encoding='utf-8', check=True).stdout
 
@@ -50,7 +50,7 @@ class Help:
     """A text of help: its sections, with the rows of each."""
 
     def __init__(self, program, *words):
-        text = told_by(program, *words, '--help')
+        text = printed_by(program, *words, '--help')
         self.about, *rest = text.rstrip('\n').split('\n')
         self.usage, self.rows = '', {}
         rows = []
@@ -69,7 +69,7 @@ class Help:
 class Program:
     def __init__(self, program):
         # without the commit and the kit
-        self.version = ' '.join(told_by(program, '--version').split()[:2])
+        self.version = ' '.join(printed_by(program, '--version').split()[:2])
         self.help = Help(program)
         self.briefs = dict(self.help.rows['Commands'])
         self.commands = {name: Help(program, name) for name in self.briefs if name != 'help'}
@@ -89,8 +89,8 @@ def bold(words):
 
 
 def man_rows(rows):
-    for words, told in rows:
-        yield from ('.TP', bold(words), roff(told))
+    for words, text in rows:
+        yield from ('.TP', bold(words), roff(text))
 
 
 def man_page(program):
@@ -104,8 +104,8 @@ def man_page(program):
     yield from ('\\fBdiacmd\\fR \\fB\\-\\-help\\fR | \\fB\\-\\-version\\fR | \\fBhelp\\fR \\fICOMMAND\\fR', '.SH COMMANDS')
     for name, command in program.commands.items():
         yield from (f'.SS {name}', roff(command.about) + '.')
-        yield from man_rows([(argument.words, argument.told) for argument in command.arguments])
-        yield from man_rows([(option.words, option.told) for option in command.options])
+        yield from man_rows([(argument.words, argument.text) for argument in command.arguments])
+        yield from man_rows([(option.words, option.text) for option in command.options])
     yield '.SH EXIT STATUS'
     yield from man_rows(program.help.rows['Status'])
     yield from ('.SH FILES', '.TP', '\\fIPREFIX\\fR/share/diacmd', 'Dictionaries of RFCs and of 3GPP, in parts and put together.')

@@ -3,7 +3,7 @@
 use crate::runs::{Run, runs};
 use std::alloc::{AllocError, Global};
 
-/// Two valid requests, one without its Origin-Realm, one that is cut, an empty line, one with a byte behind it, a text that isn't
+/// Two valid requests, one without its Origin-Realm, one that is cut, an empty line, one with a byte after it, a text that isn't
 /// hexadecimal, and one with an AVP that isn't known.
 const LINES: &str = "\
 0100002c80000118000000000000000100000002000001084000000b612e6200000001284000000962000000
@@ -82,7 +82,7 @@ struct Many {
     summary: String,
 }
 
-/// 103 reasons, each once, and then the first one again: the first 100 are told by themselves.
+/// 103 reasons, each once, and then the first one again: the first 100 have a line of their own.
 fn unknown_avps(alloc: Global) -> Result<Many, AllocError> {
     let mut text = String::new(alloc);
     let mut put = String::new(alloc);

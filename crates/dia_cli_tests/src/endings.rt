@@ -1,4 +1,4 @@
-//! How the program ends where there was no run, and what is told then.
+//! How the program ends where there was no run, and what is then reported.
 
 use super::printed::{ends_with, fails, fails_with};
 use dia_cli::{Ending, finish, parse_words};
@@ -42,7 +42,7 @@ fn a_stream_that_fails_is_a_failed_device(rt: HostRuntime) -> Result<(), Fail> {
     assert!(rt; fails(alloc, Ending::ReadTwice));
     assert!(rt; fails(alloc, device("-", None)));
     assert!(rt; fails(alloc, Ending::NoMemory));
-    // Where standard error doesn't fail, it is told there.
+    // Where standard error doesn't fail, it is reported there.
     let recorded = "device failed\nstandard output: broken pipe\n";
     assert!(rt; fails_with(alloc, ending_of(alloc, &["diacmd", "--help"])?, recorded));
     Ok(())

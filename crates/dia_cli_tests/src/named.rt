@@ -40,7 +40,7 @@ fn a_message_is_shown_with_words_and_names(rt: HostRuntime) -> Result<(), Fail> 
     Ok(())
 }
 
-/// The request, half a byte, and the request again without a line feed behind it.
+/// The request, half a byte, and the request again without a line feed after it.
 const MESSAGES: &str = "\
 010000208000011a000000000000000100000002000001114000000c00000000
 0

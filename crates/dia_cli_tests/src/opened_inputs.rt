@@ -59,7 +59,7 @@ fn fails<R: AllocGlobal + Files + Input + Abort>(rt: &R, inputs: &Origins<'_>, w
 fn an_input_that_cannot_be_read_is_a_failed_device(rt: HostRuntime) {
     let empty = Origin::of_message("/dev/null");
     let missing = "/no/such/file";
-    // the base dictionary's word is the name of a file where a message stands
+    // the base dictionary's word is the name of a file in the place of a message
     for name in [missing, "/", "@base"].iter() {
         fails(&rt, &origins(Origin::Base, Origin::of_message(name)), name);
     }

@@ -1,4 +1,4 @@
-//! Calls that are refused memory: what stands after it, and the same call again. Run with one allocation refused, by
+//! Calls that are refused memory: what is there after it, and the same call again. Run with one allocation refused, by
 //! `rt try --test --fail-alloc N`, these pass for each N; with ample memory each call gives its answer at once.
 
 ghost use Rattle.std.specs.Prelude.{All};
@@ -10,7 +10,7 @@ use std::process::Abort;
 
 const FRONT: [u8; 3] = [7, 8, 9];
 
-/// A request with one AVP, as it stands behind the three bytes.
+/// A request with one AVP, as it follows the three bytes.
 const WANTED: [u8; 35] = [
     7, 8, 9, 1, 0, 0, 32, 0x80, 0, 1, 0x18, 0, 0, 0, 0, 0, 0, 0, 1, 0, 0, 0, 2, 0, 0, 1, 8, 0x40,
     0, 0, 11, b'a', b'.', b'b', 0,

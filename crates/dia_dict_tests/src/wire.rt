@@ -9,9 +9,9 @@
 //! put FLAGS CODE VENDOR | DATA => the bytes of an AVP, or `disagrees`. VENDOR is `-` where there is none
 //! ```
 //!
-//! BYTES are in hexadecimal, and the words of a call are decimal. An AVP is told as CODE:VENDOR FLAGS LENGTH DATA, with `M`
-//! behind the flags if it is mandatory, and a semicolon. The fields of a header are FLAGS CODE APPLICATION HOP END, with the
-//! letters of its flags behind them.
+//! BYTES are in hexadecimal, and the words of a call are decimal. An AVP is written as CODE:VENDOR FLAGS LENGTH DATA, with `M`
+//! after the flags if it is mandatory, and a semicolon. The fields of a header are FLAGS CODE APPLICATION HOP END, with the
+//! letters of its flags after them.
 
 mod reading;
 mod rows;

@@ -80,7 +80,7 @@ fn words_of(alloc: Global, text: &str) -> Result<Vec<String>, AllocError> {
     Ok(words)
 }
 
-/// Runs these words, behind the program's own name.
+/// Runs these words, after the program's own name.
 pub fn ran<R: AllocGlobal + Eprint>(
     rt: &R,
     shelf: &Shelf<'_>,
@@ -94,7 +94,7 @@ pub fn ran<R: AllocGlobal + Eprint>(
     Ok(Outcome { status, out, err })
 }
 
-/// Runs these words where standard output fails in this way. The status, and what was told on standard error.
+/// Runs these words where standard output fails in this way. The status, and the text on standard error.
 pub fn ran_on_broken<R: AllocGlobal + Eprint>(
     rt: &R,
     shelf: &Shelf<'_>,

@@ -93,7 +93,7 @@ fn proposed<A: Book, B: Book>(rt: &(impl AllocGlobal + Abort), a: &A, b: &B, cal
     format!(in rt.alloc(); "0{blank}{text}").expect(rt, "memory")
 }
 
-/// The names of commands behind the policy.
+/// The names of commands after the policy.
 fn names_of(alloc: Global, call: &str) -> Result<Vec<String>, AllocError> {
     let mut list = Vec::new(alloc);
     for name in call.split_ascii_whitespace().skip(2) {

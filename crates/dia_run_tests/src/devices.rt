@@ -206,7 +206,7 @@ fn is_interrupted(failure: Option<io::Error>) -> bool {
     matches!(failure, Some(error) if error.kind() == io::ErrorKind::Interrupted)
 }
 
-/// Checks what a call tells.
+/// Checks what a call answers.
 fn records(rt: &impl Abort, recorded: Result<usize, Failed>, wanted: Result<usize, Failed>) {
     assert!(rt; recorded == wanted);
 }

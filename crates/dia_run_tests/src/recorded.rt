@@ -1,4 +1,4 @@
-//! What people are told of the faults of dia_check and dia_compat.
+//! The texts of the faults of dia_check and dia_compat.
 
 use crate::words::same;
 use dia_check::{Fault, Reason, Refusal, StreamFault, Subject};
@@ -6,7 +6,7 @@ use dia_compat::{ProposeFault, TableFault};
 use std::fmt::Display;
 use std::process::Abort;
 
-/// Checks what people are told of a fault.
+/// Checks the text of a fault.
 fn says<E: Display>(rt: &(impl AllocGlobal + Abort), fault: &E, words: &str) {
     let text = fault.to_string(rt.alloc()).expect(rt, words);
     same(rt, text.as_bytes(), words.as_bytes(), words);

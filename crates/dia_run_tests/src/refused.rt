@@ -1,5 +1,5 @@
 //! A check that is refused memory, and the same call again. Run with one allocation refused, by `rt try --test --fail-alloc N`,
-//! this passes for each N. What a stream answers once it is refused memory is told by `check::memory`.
+//! this passes for each N. What a stream answers once it is refused memory is tested in `check::memory`.
 
 use dia_check::{Levels, Refusal, Unknown, check};
 use dia_dict::{Book, base_book};

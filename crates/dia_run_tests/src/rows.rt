@@ -12,7 +12,7 @@
 //!
 //! `fronts` calls for the first bytes of the message, for each count of them from FROM on and below TO. The answer of these
 //! calls is the status and the text of the program: `.ci/cases` runs their rows against it. A row with status 2 is the
-//! program's alone. `take` feeds a stream pieces of so many bytes, of which it takes so many; `done` stands in place of
+//! program's alone. `take` feeds a stream pieces of so many bytes, of which it takes so many; `done` is in place of
 //! `more` where it then is done. `open` is answered by COUNT/LEVELS..: how many levels are open after so many bytes.
 
 use crate::books::{Books, Task, is_verdict};

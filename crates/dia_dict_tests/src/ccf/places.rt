@@ -1,4 +1,4 @@
-//! Each place of the grammar, with a token that cannot stand there.
+//! Each place of the grammar, with a token that is refused there.
 
 pub(super) const ROWS: &str = r"
 # A definition's name and head: eight tokens.

@@ -42,7 +42,7 @@ fn records_names(rt: HostRuntime) {
     assert!(rt; is_name("3GPP-IMSI") && !is_name(long.as_str()) && !is_name("AVP"));
 }
 
-/// What people are told of faults.
+/// The texts of faults.
 const RECORDED: [(CcfFault, &str); 5] = [
     (
         CcfFault::Syntax { token: 3, line: 2 },

@@ -35,7 +35,7 @@ fn adds_numbers_and_values(rt: HostRuntime) {
     assert!(rt; line.as_str() == "0 9 10 99 100 999 1000 65536 18446744073709551615 256x");
 }
 
-/// Adds numbers of each count of digits that is printed in its own way, each with a space behind it; then a value, and data that
+/// Adds numbers of each count of digits that is printed in its own way, each with a space after it; then a value, and data that
 /// the format doesn't accept.
 fn add(line: &mut String) -> Result<(), AllocError> {
     for number in [0, 9, 10, 99, 100, 999, 1000, 65_536, u64::MAX] {

@@ -18,7 +18,7 @@ fn lists(rt: &impl Abort, format: &Format, number: u32, listed: bool) {
 
 const WRITTEN: [(u32, u32); 5] = [(7, 9), (3, 2), (0, 3), (4, 4), (8, 12)];
 
-/// A list is told as it was written. Of the first numbers it holds those up to 4, and from 7 to 12.
+/// A list is printed as it was written. Of the first numbers it holds those up to 4, and from 7 to 12.
 #[test]
 fn keeps_the_list_as_written(rt: HostRuntime) {
     assert!(rt; Values::any().list().is_none());

@@ -14,7 +14,7 @@ fn fnv1a(text: &str) -> u64 {
 }
 
 /// The profile's text has these bytes, lines and hash, as counted on a copy of it outside this repository. Proofs tie the
-/// text only to `base_source`, which stands in this repository too.
+/// text only to `base_source`, which is in this repository too.
 #[test]
 fn text_is_that_of_the_profile(rt: HostRuntime) {
     let text = base_text();

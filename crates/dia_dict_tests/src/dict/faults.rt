@@ -1,4 +1,4 @@
-//! Sources that name no dictionary, each by its first fault: its kind, and the names that are told.
+//! Sources that name no dictionary, each by its first fault: its kind, and the names that are reported.
 
 use super::read;
 use crate::words::same;
@@ -52,7 +52,7 @@ fn records(rt: &(impl AllocGlobal + Abort), names: &Names, row: &Row<'_>) {
     same(rt, found.as_bytes(), row.wanted.as_bytes(), row.line);
 }
 
-/// The kind of a fault, and the names that are told.
+/// The kind of a fault, and the names that are reported.
 fn fault_words(alloc: Global, fault: &DictFault) -> Result<String, AllocError> {
     match fault {
         DictFault::Occurs { kind, name, slot } => {

@@ -6,7 +6,7 @@ use dia_dict::{Finding, Part, PartKind, faults};
 use std::alloc::{AllocError, Global};
 use std::process::Abort;
 
-/// The second A is told for its name, and not compared with B.
+/// The second A is reported for its name, and not compared with B.
 const TEXT: &str = "
 %avp A 1 Time any
 %avp A 2 Time any

@@ -14,7 +14,7 @@ use std::process::Abort;
 /// How many groups lie in one another.
 const DEPTH: u32 = 100_000;
 
-/// A message of a command with so many groups of a code in one another, AVPs before, in the innermost and behind them.
+/// A message of a command with so many groups of a code in one another, AVPs before, in the innermost and after them.
 fn groups(
     alloc: Global,
     heads: (u32, u32),
@@ -39,7 +39,7 @@ fn groups(
 }
 
 /// A watchdog request with so many Failed-AVPs in one another, an unknown AVP in the innermost, and an Origin-Host and an
-/// Origin-Realm before or behind them.
+/// Origin-Realm before or after them.
 pub(super) fn nested(
     alloc: Global,
     depth: u32,
@@ -56,7 +56,7 @@ pub(super) fn nested(
     )
 }
 
-/// Each limit, and the verdict with the place of the group that it refuses: the innermost of 100,000 stands at 44 + 8 * 99999.
+/// Each limit, and the verdict with the place of the group that it refuses: the innermost of 100,000 is at 44 + 8 * 99999.
 const LIMITS: [(Levels, &str); 6] = [
     (Levels::Any, WATCHDOG),
     (Levels::AtMost(100_000), WATCHDOG),
@@ -186,7 +186,7 @@ fn counts<B: Book>(
     is_verdict(rt, book, stream.finish(), wanted);
 }
 
-/// How many levels are open after so many bytes of a message that goes on behind them.
+/// How many levels are open after so many bytes of a message that goes on after them.
 fn open_after(count: usize, groups: (usize, usize)) -> usize {
     let (first, end) = groups;
     if count < 20 {

@@ -8,7 +8,7 @@ use dia_check::{Levels, Refusal, Room, Selected, Stream, Unknown, check, check_i
 use dia_dict::Book;
 use std::process::Abort;
 
-/// The bytes that a message has, as far as a stream takes them: none behind it.
+/// The bytes that a message has, as far as a stream takes them: none after it.
 fn message_length(bytes: &[u8]) -> usize {
     match bytes {
         [1, high, middle, low, ..] if bytes.len() >= 20 => {

@@ -1,6 +1,6 @@
 //! Texts and the tables that they are.
 //!
-//! A row is a text, and what `parse_table` answers: its pairs, each behind its word and with a semicolon behind it, or
+//! A row is a text, and what `parse_table` answers: its pairs, each after its word and with a semicolon after it, or
 //! `syntax LINE` or `limit LINE`; or `renders TEXT`, where the table is written as that, and read from it again.
 
 use crate::words::same;
@@ -116,7 +116,7 @@ fn read(alloc: Global, text: &str) -> Result<String, AllocError> {
     Ok(pairs)
 }
 
-/// Pushes pairs of names as text, each behind a word.
+/// Pushes pairs of names as text, each after a word.
 fn push_pairs(text: &mut String, word: &str, pairs: &[(String, String)]) -> Result<(), AllocError> {
     for (a, b) in pairs {
         write!(text, "{word}{a} = {b};")?;

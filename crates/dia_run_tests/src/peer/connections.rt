@@ -151,7 +151,7 @@ pub(super) fn common(alloc: Global, core: &Core) -> Result<String, AllocError> {
     Ok(text)
 }
 
-/// The state that an end is in behind an event, and what it did, as text.
+/// The state of an end after an event, and what it did, as text.
 fn recorded(alloc: Global, core: &Core, outputs: &[Output]) -> Result<String, AllocError> {
     let state = core.state();
     let mut text = format!(in alloc; "{state:?}")?;

@@ -15,7 +15,7 @@ fn recorded(rt: &(impl AllocGlobal + Abort), core: &mut Core, event: Event<'_>) 
     sent
 }
 
-/// One end is told of an event, and the messages of both ends are delivered until none is left.
+/// One end gets an event, and the messages of both ends are delivered until none is left.
 fn exchanged(rt: &(impl AllocGlobal + Abort), core: &mut Core, event: Event<'_>, other: &mut Core) {
     for request in recorded(rt, core, event) {
         for answer in recorded(rt, other, Event::Bytes(&request)) {

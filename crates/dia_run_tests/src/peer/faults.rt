@@ -4,7 +4,7 @@
 //! HOST | REALM | PRODUCT | ADDRESSES | APPLICATIONS => good, or the fault
 //! ```
 //!
-//! ADDRESSES is how many there are. In place of applications `FROM..TO` stands for those for authentication with these
+//! ADDRESSES is how many there are. In place of applications `FROM..TO` are those for authentication with these
 //! numbers.
 
 use super::auth;
@@ -101,7 +101,7 @@ fn apps(rt: &(impl AllocGlobal + Abort), text: &str) -> Vec<App> {
     apps
 }
 
-/// What people are told of each fault.
+/// The text of each fault.
 const RECORDED: [(ConfigFault, &str); 6] = [
     (
         ConfigFault::Host,

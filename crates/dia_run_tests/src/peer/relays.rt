@@ -4,7 +4,7 @@
 //! [relays] APPLICATIONS | [relays] APPLICATIONS => STATE APPLICATIONS | STATE APPLICATIONS
 //! ```
 //!
-//! The initiator is on the left. The answer has the state of each end behind the exchange of capabilities, and the
+//! The initiator is on the left. The answer has the state of each end after the exchange of capabilities, and the
 //! applications that it then has in common with the other.
 
 use super::connections::{apps_of, common};

@@ -1,4 +1,4 @@
-//! What worked connections do: a row is what happens at an end, or new ends. `connections` tells what the words mean.
+//! What worked connections do: a row is what happens at an end, or new ends. `connections` has the meaning of the words.
 
 /// The steps.
 pub(super) const STEPS: &str = r"

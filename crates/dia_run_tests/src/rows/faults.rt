@@ -1,5 +1,5 @@
 //! The rows of each reason of a fault, in the order of the reasons: alone, and with other faults before and after it. At one AVP
-//! the order of the reasons says which fault is told, else the place.
+//! the order of the reasons says which fault is reported, else the offset.
 
 pub const ROWS: &str = r"
 # A Session-Id `a`, an empty Failed-AVP, and the Result-Code of an error answer.

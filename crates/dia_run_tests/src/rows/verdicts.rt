@@ -1,4 +1,4 @@
-//! Verdicts on messages that are valid, or no whole ones. Those with a fault stand in `faults`.
+//! Verdicts on messages that are valid, or no whole ones. Those with a fault are in `faults`.
 
 pub const ROWS: &str = r"
 # The Result-Code of an error answer.
