@@ -366,9 +366,10 @@ enum {
 };
 
 /* Lists all that can break where the side of `a` sends and the side of `b` reads, and opens the closed handle `text` with what
- * `diacmd breaking` writes. *safe is 1 where nothing breaks, or nothing but what the list accepts, and the text says which: then
- * each message that the side of `a` sends is valid under `b`, but for what is accepted. With DIA_MEANING
- * no AVP is then read as another format, either. Else *safe is 0, and the text has a line for each way in which messages break.
+ * `diacmd breaking` writes. *safe is 1 where nothing breaks (with DIA_MEANING: nor is read as another format), or nothing but
+ * what the list accepts, and the text says which: then each message that the side of `a` sends is valid under `b`, but for what
+ * is accepted.
+ * Else *safe is 0, and the text has a line for each way in which messages break.
  * `unknown` is that of dia_check, for the side of `b`. `commands` has a line with the name of each command that is asked for;
  * where it has no line, all are. `accepted` is the text of a list of accepted lines (docs/FORMATS.md), or empty.
  * One dictionary takes two handles (dia_dict_share). The time grows with what is listed, and so does the memory.
