@@ -17,8 +17,8 @@
  *
  * WHAT HOLDS OF ALL FUNCTIONS
  *  - No pointer that is passed is used after the call. Lengths and offsets are in bytes.
- *  - A function that may fail answers a status, DIA_OK or another. On any other than DIA_OK it has changed nothing that its
- *    comment does not name.
+ *  - A function that may fail answers a status, DIA_OK or another. On any other than DIA_OK it has changed only what its comment
+ *    names.
  *  - A function may answer DIA_NO_MEMORY, where malloc or realloc refused, unless its comment says "takes no memory".
  *  - No function waits, prints, calls back, reads a clock or a file, or has state outside its handles.
  *  - An open handle holds a pointer to what the library owns, and is closed once; closing a closed handle does nothing.
@@ -89,18 +89,20 @@ enum {
 
 typedef struct dia_problem {
     uint32_t kind;
-    uint32_t line;  /* from 1, of DIA_SYNTAX, DIA_NUMBER, DIA_LIMIT and DIA_NO_COMMAND; else 0 */
+    uint32_t line;  /* from 1, of DIA_SYNTAX and DIA_NUMBER; of DIA_LIMIT and DIA_NO_COMMAND, or 0 for the whole text; else 0 */
     uint32_t token; /* from 1, of DIA_SYNTAX; else 0 */
 } dia_problem;
 
-/* Opens a closed handle with the dictionary of a text (docs/FORMATS.md).
+/* Opens a closed handle with the dictionary of a text (docs/FORMATS.md), which may be the texts of several files after each
+ * other.
  * DIA_REFUSED: *problem says why; it is written on no other status. */
 dia_status dia_dict_open(const uint8_t *text, size_t text_len, dia_dict *dict, dia_problem *problem);
 
 /* Opens a closed handle with the built-in dictionary of RFC 6733. */
 dia_status dia_dict_open_base(dia_dict *dict);
 
-/* Opens the closed handle `other` with the dictionary of `dict`. It lives until the last of its handles is closed.
+/* Opens the closed handle `other` with the dictionary of `dict`; this is a call on both handles. It lives until the last of its
+ * handles is closed.
  * The time and the memory of a share do not grow with the dictionary. */
 dia_status dia_dict_share(dia_dict *dict, dia_dict *other);
 
@@ -116,7 +118,7 @@ typedef struct dia_faults {
 #define DIA_FAULTS_INIT { NULL, 0 }
 
 typedef struct dia_fault {
-    size_t at;          /* its place in bytes from the first of the text; 0 where has_place is 0 */
+    size_t at;          /* its offset in the text; 0 where has_place is 0 */
     size_t name_count;  /* how many bytes `name` has, 0 where there is none; no zero follows them */
     size_t slot_count;  /* and `slot` */
     uint32_t kind;      /* a kind of dia_problem */
@@ -152,13 +154,14 @@ dia_status dia_avp_name(dia_dict *dict, uint32_t code, uint32_t vendor, uint8_t 
 
 /* What becomes of AVPs that the dictionary does not know. */
 enum {
-    DIA_KEPT = 0,           /* they are accepted where their M bit is clear */
-    DIA_UNKNOWN_REFUSED = 1 /* they are a fault */
+    DIA_KEPT = 0,           /* one is accepted if its M flag is clear, else a fault */
+    DIA_UNKNOWN_REFUSED = 1 /* each is a fault */
 };
 
-/* How many grouped AVPs may be open in one another: a number, or this. */
+/* How many grouped AVPs may be nested: a number, above which one has the fault DIA_R_DEPTH; or this, for no limit. */
 #define DIA_ANY_LEVELS UINT32_MAX
 
+/* DIA_TRUNCATED: fewer bytes than a header, or than the Message Length. DIA_TRAILING: more than the Message Length. */
 enum { DIA_VALID = 0, DIA_FAULT = 1, DIA_TRUNCATED = 2, DIA_TRAILING = 3 };
 
 /* The reasons of docs/FAULTS.md. */
@@ -191,7 +194,7 @@ typedef struct dia_verdict {
     uint32_t outcome;
     uint32_t command;    /* of DIA_VALID: for dia_command_name */
     uint32_t code;       /* of DIA_FAULT: the Result-Code (RFC 6733 section 7.1) */
-    uint32_t place;      /* of DIA_FAULT: in bytes from the first of the message */
+    uint32_t place;      /* of DIA_FAULT: its offset in the message */
     uint32_t reason;     /* of DIA_FAULT: DIA_R_.. */
     uint32_t subject;    /* of DIA_FAULT: DIA_ABOUT_.. */
     uint32_t avp_code;   /* of DIA_ABOUT_AVP */
@@ -199,17 +202,17 @@ typedef struct dia_verdict {
 } dia_verdict;
 
 /* Checks the bytes of one message. DIA_OK: *verdict is what `diacmd check` says; it is written on no other status.
- * DIA_BAD_ARGUMENT: `unknown` is neither of its two values. The handle holds the memory that the check took for open levels, 80 KB
- * at most, until it is closed; so most checks take none. */
+ * DIA_BAD_ARGUMENT: `unknown` is neither of its two values. The handle holds the memory that the check took for open levels, 80
+ * KB at most, until it is closed; so most checks take none. */
 dia_status dia_check(dia_dict *dict, uint32_t unknown, uint32_t levels, const uint8_t *message, size_t message_len,
                      dia_verdict *verdict);
 
-/* Checks the messages that follow one another in a buffer, as dia_check checks each: verdicts[i] is that on message i, of `end_count`
- * messages. Message i begins where the one before it ends, the first at offset 0, and ends before offset ends[i]; so they are of any
- * lengths, and bytes after the last one are not read. `verdict_count` is `end_count`.
+/* Checks the messages that follow one another in a buffer, as dia_check checks each: verdicts[i] is that on message i, of
+ * `end_count` messages. Message i begins where the one before it ends, the first at offset 0, and ends before offset ends[i]; so
+ * they are of any lengths, and bytes after the last one are not read. `verdict_count` is `end_count`.
  * The verdicts are written on DIA_OK alone. DIA_BAD_ARGUMENT: `unknown` is neither of its two values, `verdict_count` is another
- * number, an end is less than the one before it, or an end is more than `bytes_len`. It takes 32 bytes of memory for each message, and
- * frees them. */
+ * number, an end is less than the one before it, or an end is more than `bytes_len`. It takes 32 bytes of memory for each
+ * message, and frees them. */
 dia_status dia_check_many(dia_dict *dict, uint32_t unknown, uint32_t levels, const uint8_t *bytes, size_t bytes_len, const size_t *ends,
                           size_t end_count, dia_verdict *verdicts, size_t verdict_count);
 
@@ -220,25 +223,26 @@ dia_status dia_message_length(const uint8_t *header, size_t header_len, uint32_t
 
 /* ---- words ---- */
 
-/* The word of a number: of a reason DIA_R_.., as lines of `diacmd check` have it; of a kind of problem, as answers in JSON have it
- * (docs/JSON.md); and of a status. *count bytes are written, with no zero after them. DIA_NONE: no such number is known, and *count is
- * not written. DIA_NO_ROOM: the word has *count bytes, at most DIA_MAX_WORD. Takes no memory. */
+/* The word of a number: of a reason DIA_R_.., as lines of `diacmd check` have it; of a kind of problem, as answers in JSON have
+ * it (docs/JSON.md); and of a status. *count bytes are written, with no zero after them. DIA_NONE: no such number is known, and
+ * *count is not written. DIA_NO_ROOM: the word has *count bytes, at most DIA_MAX_WORD. Takes no memory. */
 #define DIA_MAX_WORD 24u
 dia_status dia_reason_word(uint32_t reason, uint8_t *out, size_t out_len, size_t *count);
 dia_status dia_kind_word(uint32_t kind, uint8_t *out, size_t out_len, size_t *count);
 dia_status dia_status_word(dia_status status, uint8_t *out, size_t out_len, size_t *count);
 
-/* The line that `diacmd check` writes of a message with this verdict, without its line feed: *count bytes, with no zero after them.
+/* The line that `diacmd check` writes of a message with this verdict, without its line feed: *count bytes, with no zero after
+ * them.
  * The names are those of the dictionary. DIA_NO_ROOM: the line has *count bytes, at most DIA_MAX_LINE.
- * DIA_BAD_ARGUMENT: no check with this dictionary has this verdict: a number of it has no meaning, or is not 0 where it is none of its
- * outcome; or the dictionary has no such command. *count is written on DIA_OK and DIA_NO_ROOM alone. */
+ * DIA_BAD_ARGUMENT: no check with this dictionary has this verdict: a field has an unknown value, or is set though this outcome
+ * does not use it; or the dictionary has no such command. *count is written on DIA_OK and DIA_NO_ROOM alone. */
 #define DIA_MAX_LINE 192u
 dia_status dia_verdict_text(dia_dict *dict, const dia_verdict *verdict, uint8_t *out, size_t out_len, size_t *count);
 
 /* ---- messages that come in pieces ---- */
 
-/* A message that comes in pieces, and is checked while it comes. It holds its dictionary, at most 20 bytes of the message,
- * and the levels of grouped AVPs that are open. */
+/* A message that comes in pieces, and is checked while it comes. It holds its dictionary, whose handle may be closed, at most 20
+ * bytes of the message, and the levels of grouped AVPs that are open. dia_answer needs the message in a buffer of your own. */
 typedef struct dia_stream {
     void *dia_private;
     uint32_t dia_state;
@@ -250,13 +254,14 @@ typedef struct dia_fed {
     uint32_t done; /* 1 where the message takes no more, else 0 */
 } dia_fed;
 
-/* Opens a closed handle with a message of which nothing came yet. `unknown` and `levels` are those of dia_check.
+/* Opens a closed handle with a message of which no byte was taken yet. `unknown` and `levels` are those of dia_check.
  * DIA_BAD_ARGUMENT: `unknown` is neither of its two values. */
 dia_status dia_stream_open(dia_dict *dict, uint32_t unknown, uint32_t levels, dia_stream *stream);
 
-/* Takes the next piece of the message, as far as it belongs to it: until Message Length bytes were taken, also after a fault, or
- * until 20 were where the version or the Message Length is at fault. The bytes that follow begin the next message.
- * DIA_NO_MEMORY: the stream is spent. DIA_SPENT: it was before. *fed is written on DIA_OK alone. */
+/* Takes the next piece of the message, as far as it belongs to it. It takes the whole message even after a fault; if the version
+ * or the Message Length is wrong, only the 20 bytes of the header. The bytes that follow begin the next message.
+ * DIA_NO_MEMORY: the stream is spent: close it; its message can be checked again only from its start. DIA_SPENT: it was before.
+ * *fed is written on DIA_OK alone. */
 dia_status dia_stream_feed(dia_stream *stream, const uint8_t *piece, size_t piece_len, dia_fed *fed);
 
 /* How many levels are open: those that began at or before the last byte taken, and end after it. None are once the message takes
@@ -282,10 +287,10 @@ typedef struct dia_text {
  * DIA_REFUSED: *problem says why; it is written on no other status. */
 dia_status dia_render(const uint8_t *source, size_t source_len, dia_text *text, dia_problem *problem);
 
-/* Opens the closed handle `text` with the lines that `diacmd show` writes of a message, with the names of the dictionary. *whole is
- * 1 where they are all, and 0 where an AVP Length that no AVP can have ends them.
- * DIA_REFUSED: the bytes are no message. *verdict says why, and is written on no other status: DIA_TRUNCATED, DIA_TRAILING, or the
- * fault of the version or of the Message Length. */
+/* Opens the closed handle `text` with the lines that `diacmd show` writes of a message, with the names of the dictionary. *whole
+ * is 1 where they are all, and 0 where an AVP Length that no AVP can have ends them.
+ * DIA_REFUSED: the bytes are no message. *verdict says why, and is written on no other status: DIA_TRUNCATED, DIA_TRAILING, or
+ * the fault of the version or of the Message Length. */
 dia_status dia_show(dia_dict *dict, const uint8_t *message, size_t message_len, dia_text *text, uint32_t *whole,
                     dia_verdict *verdict);
 
@@ -294,7 +299,7 @@ dia_status dia_show(dia_dict *dict, const uint8_t *message, size_t message_len, 
 dia_status dia_check_json(dia_dict *dict, uint32_t unknown, uint32_t levels, const uint8_t *message, size_t message_len,
                           dia_text *line);
 
-/* Copies the text's bytes from place `from` on, as many as there is room for: *count of them, 0 at the end.
+/* Copies the text's bytes from offset `from` on, as many as there is room for: *count of them, 0 at the end.
  * Takes no memory. */
 dia_status dia_text_read(dia_text *text, size_t from, uint8_t *out, size_t out_len, size_t *count);
 
@@ -313,16 +318,16 @@ enum {
     DIA_FORM_BASE = 3   /* the error message of the built-in dictionary, with E set */
 };
 
-/* Opens the closed handle `bytes` with the answer to a request that reports its first fault (RFC 6733 sections 6.2, 7.1.5, 7.2 and
- * 7.5): the bytes of a message, which `diacmd answer` writes as hexadecimal digits. `host` and `realm` are the answer's Origin-Host
- * and Origin-Realm; `unknown` and `levels` are those of dia_check. *form is DIA_FORM_..: the first in this order that makes a valid
- * message. *verdict is what dia_check says of the message, also on DIA_NONE.
+/* Opens the closed handle `bytes` with the answer to a request that reports its first fault (RFC 6733 sections 6.2, 7.1.5, 7.2
+ * and 7.5): the bytes of a message, which `diacmd answer` writes as hexadecimal digits. `host` and `realm` are the answer's
+ * Origin-Host and Origin-Realm; `unknown` and `levels` are those of dia_check. *form is DIA_FORM_..: the first in this order that
+ * makes a valid message. *verdict is what dia_check says of the message, also on DIA_NONE.
  * The answer has the Command Code, the Application-ID, both identifiers and the P flag of the request. It is valid under the
  * dictionary (of DIA_FORM_BASE under the built-in one), where Failed-AVP is read as OctetString.
- * DIA_NONE: the message gets no answer. It has fewer than 20 bytes, is no request, has another length than its Message Length, or is
- * valid; or no answer to it has room in a message.
- * DIA_BAD_ARGUMENT: `unknown` is neither of its two values; or `host` or `realm` is no DiameterIdentity (section 4.3.1) of at most
- * 255 bytes: 1 to 255 bytes, each from '!' to '~'.
+ * DIA_NONE: the message gets no answer. It has fewer than 20 bytes, is no request, has another length than its Message Length, or
+ * is valid; or no answer to it has room in a message.
+ * DIA_BAD_ARGUMENT: `unknown` is neither of its two values; or `host` or `realm` is no DiameterIdentity (section 4.3.1) of at
+ * most 255 bytes: 1 to 255 bytes, each from '!' to '~'.
  * *form is written on DIA_OK alone, *verdict on DIA_OK and DIA_NONE. A request whose version or Message Length is at fault is
  * answered, too; then close the connection, since the stream has lost its bounds. */
 dia_status dia_answer(dia_dict *dict, uint32_t unknown, uint32_t levels, const uint8_t *host, size_t host_len, const uint8_t *realm,
@@ -361,9 +366,10 @@ enum {
 };
 
 /* Lists all that can break where the side of `a` sends and the side of `b` reads, and opens the closed handle `text` with what
- * `diacmd breaking` writes. *safe is 1 where nothing breaks, or nothing but what the list accepts, and the text says which: then
- * each message that the side of `a` sends is valid under `b`, but for what is accepted. Else *safe is 0, and the text has a line
- * for each way in which messages break.
+ * `diacmd breaking` writes. *safe is 1 where nothing breaks (with DIA_MEANING: nor is read as another format), or nothing but
+ * what the list accepts, and the text says which: then each message that the side of `a` sends is valid under `b`, but for what
+ * is accepted.
+ * Else *safe is 0, and the text has a line for each way in which messages break.
  * `unknown` is that of dia_check, for the side of `b`. `commands` has a line with the name of each command that is asked for;
  * where it has no line, all are. `accepted` is the text of a list of accepted lines (docs/FORMATS.md), or empty.
  * One dictionary takes two handles (dia_dict_share). The time grows with what is listed, and so does the memory.
@@ -378,7 +384,8 @@ dia_status dia_breaking(dia_dict *a, dia_dict *b, uint32_t sends, uint32_t unkno
 
 /* ---- one end of a connection (RFC 6733 section 5; docs/CONNECTION.md) ---- */
 
-/* An end has no socket and no clock. The program delivers events, and does what the end then asks for. */
+/* An end has no socket and no clock. The program delivers events, and does what the end then asks for. It is of one transport
+ * connection: after a reconnection open another. */
 typedef struct dia_peer {
     void *dia_private;
     uint32_t dia_state;
@@ -426,12 +433,12 @@ dia_status dia_peer_open(uint32_t role, const uint8_t *host, size_t host_len, co
                          const uint8_t *product, size_t product_len, const dia_ip *addresses, size_t address_count,
                          const dia_app *apps, size_t app_count, const dia_numbers *numbers, dia_peer *peer, uint32_t *fault);
 
-/* What an end does beyond a connection of two nodes that aren't agents. */
+/* The mode of an end. */
 enum {
-    DIA_MANNER_RELAYS = 1 /* 4294967295 means all applications (RFC 6733 section 2.4) */
+    DIA_MANNER_RELAYS = 1 /* relay mode: 4294967295 means all applications (RFC 6733 section 2.4) */
 };
 
-/* The same for an end of a manner, 0 or DIA_MANNER_RELAYS. DIA_BAD_ARGUMENT: `role` or `manner` is none. */
+/* The same with a mode, `manner`: 0 or DIA_MANNER_RELAYS. DIA_BAD_ARGUMENT: `role` or `manner` is none of its values. */
 dia_status dia_peer_open_as(uint32_t role, uint32_t manner, const uint8_t *host, size_t host_len, const uint8_t *realm,
                             size_t realm_len, const uint8_t *product, size_t product_len, const dia_ip *addresses,
                             size_t address_count, const dia_app *apps, size_t app_count, const dia_numbers *numbers,
@@ -439,8 +446,8 @@ dia_status dia_peer_open_as(uint32_t role, uint32_t manner, const uint8_t *host,
 
 enum {
     DIA_START = 0, /* the transport connection is there */
-    DIA_BYTES = 1, /* one whole message came */
-    DIA_TICK = 2,  /* a time has passed without an answer, or without any message */
+    DIA_BYTES = 1, /* one whole message of command code 257, 280 or 282 came; an end ignores those of other codes */
+    DIA_TICK = 2,  /* the connection's timer expired (dia_peer_timer) */
     DIA_STOP = 3,  /* the connection is to be given up */
     DIA_LOST = 4   /* the transport connection is gone */
 };
@@ -470,7 +477,8 @@ enum {
 };
 
 /* Takes the next thing that is to be done, in order. DIA_SEND: *count bytes are written, and *why is 0. DIA_CLOSE: *why is
- * DIA_WHY_.., and *count is 0. DIA_NONE: nothing is left. DIA_NO_ROOM: the message has *count bytes, and is still the next.
+ * DIA_WHY_.., and *count is 0. DIA_NONE: nothing is left. DIA_NO_ROOM: the message has *count bytes, at most 35,408, and is still
+ * the next.
  * Takes no memory. */
 dia_status dia_peer_output(dia_peer *peer, uint32_t *output, uint8_t *out, size_t out_len, size_t *count, uint32_t *why);
 
@@ -487,8 +495,8 @@ enum {
 dia_status dia_peer_state(dia_peer *peer, uint32_t *state);
 
 /* Delivers an application that both ends have in common by its index, from 0, the Auth ones first and then by number: *app with
- * has_vendor 0. Between two relays it is one, of the number 4294967295. There is none before the connection is open, and they stay from then on. DIA_NONE: there are no more.
- * Takes no memory. */
+ * has_vendor 0. Between two relays it is one, of the number 4294967295. There is none before the connection is open, and they
+ * stay from then on. DIA_NONE: there are no more. Takes no memory. */
 dia_status dia_peer_common(dia_peer *peer, size_t index, dia_app *app);
 
 /* Delivers whether messages of an application are for this connection: *serves is 1 or 0. It is 1 for application 0, for those
@@ -501,17 +509,18 @@ dia_status dia_peer_identifiers(dia_peer *peer, uint32_t *hop, uint32_t *e2e);
 
 enum {
     DIA_TIMER_OFF = 0,   /* no DIA_TICK is due */
-    DIA_TIMER_QUIET = 1, /* begin anew, with the time of dia_peer_quiet_ms */
-    DIA_TIMER_REPLY = 2, /* begin anew, with the time in which the other end is to answer: 10 to 30 seconds */
+    DIA_TIMER_QUIET = 1, /* restart, with the time of dia_peer_quiet_ms */
+    DIA_TIMER_REPLY = 2, /* restart, with the time in which the other end is to answer: 10 to 30 seconds */
     DIA_TIMER_KEEP = 3   /* run on */
 };
 
-/* Delivers what the timer of a connection does after an event, by the states before and after it. DIA_BAD_ARGUMENT: there is no
+/* Delivers what the timer of a connection does after an event, by the states before and after it. After a message of another
+ * code, which the end does not get, restart it yourself in DIA_STATE_OPEN, as with DIA_TIMER_QUIET. DIA_BAD_ARGUMENT: there is no
  * such event, or no such state. Takes no memory. */
 dia_status dia_peer_timer(uint32_t before, uint32_t event, uint32_t after, uint32_t *timer);
 
-/* How long a connection may be quiet before a watchdog, in milliseconds: `tw` milliseconds, of which 6,000 are the least, and a
- * jitter of two seconds to either side (RFC 3539 section 3.4.1). `drawn` is a random number. */
+/* How long a connection may be quiet before a watchdog, in milliseconds: `tw`, raised to 6,000 if lower, plus or minus up to
+ * 2,000 at random (RFC 3539 section 3.4.1). `drawn` is a random number. */
 uint64_t dia_peer_quiet_ms(uint32_t tw, uint32_t drawn);
 
 /* Closes the handle, and sends nothing to the other end. Takes no memory. */
