@@ -1,4 +1,8 @@
 mod Fronts
-mod Tellings
+mod Recordings
 mod Numbered
 mod Sets
+pub mod OneReading
+mod SameCommons
+mod Opened
+mod WorkedOpenings

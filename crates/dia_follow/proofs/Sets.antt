@@ -1,6 +1,6 @@
 -- The sets of numbers by which requests are found.
-use Rattle.std.proofs.Common.{◌≡◌, ℕ, suc, ◌+◌, ◌<◌, ◌≤◌, ◌==◌, ◌&&◌, ◌↔◌, Bool, true, false, cond, List, [], ◌∷◌, ◌++◌, length, Option, Some, None, IsSome, option_map, slice_get, nat_cmp, is_gt, Ordering, Less, Equal, Greater, refl, sym, ap, subst, ◌∙◌, arith, le_of_suc-le-suc}
-use Rattle.std.proofs.lemmas.Bool.{cases_Bool, both_ways, eqb-true, false≢true}
+use Rattle.std.proofs.Common.{◌≡◌, ℕ, ◌<◌, ◌≤◌, ◌==◌, ◌&&◌, ◌↔◌, Bool, true, false, cond, List, [], ◌∷◌, ◌++◌, length, Option, Some, None, IsSome, option_map, slice_get, nat_cmp, is_gt, Ordering, Less, Equal, Greater, refl, sym, ap, subst, ◌∙◌, arith, le_of_suc-le-suc}
+use Rattle.std.proofs.lemmas.Bool.{both_ways, eqb-true, false≢true}
 use Rattle.std.proofs.lemmas.Bool.Decides.{nat_tests}
 use Rattle.std.proofs.lemmas.List.Elements.{All-nil}
 use Rattle.std.proofs.lemmas.Map.Keys.{le_from_not_gt}

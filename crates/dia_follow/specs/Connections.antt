@@ -72,7 +72,7 @@ abbrev pub findings_by : PlainConnection → End → Line → Seen → List Reas
 findings_by c from line (Unread f) = unread_findings line.judged f
 findings_by c from line (Message m) = findings (moment c from line m)
 
--- what is told of a message of an end
+-- what is reported of a message of an end
 abbrev pub findings_of : PlainConnection → End → Line → List Reason
 findings_of c from line = findings_by c from line line.seen
 
@@ -111,7 +111,7 @@ abbrev pub answered_cer : PlainConnection → End → End → AnyMessage → Opt
 answered_cer c asker from m None = the_middle c
 answered_cer c asker from m (Some code) = with_apps (record { phase = phase_after (is_success (Some code)) asker; initiator = unnoted c.initiator; responder = unnoted c.responder }) from (apps_of m.body)
 
--- a message behind a CEA that refuses
+-- a message after a CEA that refuses
 abbrev pub goes_on : PlainConnection → End → Head → PlainConnection
 goes_on c from h = if h.request && not (is_cer h) then noted_end c from else c
 
@@ -225,6 +225,6 @@ abbrev pub after_by : PlainConnection → End → Line → Seen → PlainConnect
 after_by c from line (Unread f) = emptied_all c
 after_by c from line (Message m) = taken c from line.number line.time m
 
--- what is known behind a message of an end
+-- what is known after a message of an end
 abbrev pub after : PlainConnection → End → Line → PlainConnection
 after c from line = after_by c from line line.seen

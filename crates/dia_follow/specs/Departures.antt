@@ -1,5 +1,5 @@
 -- The departures from RFC 6733, and the notes: each is a test of what is there as a message comes. Sections are those of RFC 6733.
-use Rattle.std.specs.Prelude.{ℕ, ◌+◌, ◌-◌, ◌/◌, ◌==◌, ◌&&◌, ◌||◌, Bool, true, false, not, nat_lt, nat_le, if◌then◌else◌, List, [], ◌∷◌, ◌++◌, length, map, filter, Option, Some, None, is_some, option_map}
+use Rattle.std.specs.Prelude.{ℕ, ◌-◌, ◌/◌, ◌==◌, ◌&&◌, ◌||◌, Bool, true, false, not, nat_lt, nat_le, if◌then◌else◌, List, [], ◌∷◌, ◌++◌, length, map, filter, Option, Some, None, is_some, option_map}
 use Rattle.std.specs.Option.{option_map_or}
 use Rattle.dia_wire.specs.declared.header.HeadFault.{HeadFault}
 use Rattle.dia_wire.specs.declared.header.HeadFault.TheVariants as fault
@@ -248,7 +248,7 @@ kinds m = is_cea m && is_success (result_of m.message.body) && if_both m (λ a b
 abbrev pub goes_on : PlainMoment → Bool
 goes_on m = is_refused m.phase && m.message.head.request && not (is_cer m.message.head) && not m.own.noted
 
--- less than the least interval behind the last one
+-- less than the least interval after the last one
 abbrev pub is_soon : Option ℕ → Option ℕ → Bool
 is_soon None now = false
 is_soon (Some last) None = false
@@ -291,11 +291,11 @@ notes_of_frame m = (reason.Truncated, truncated m) ∷ (reason.Trailing, trailin
 abbrev pub notes_of_state : PlainMoment → List Row
 notes_of_state m = (reason.OwnApplication, own_application m) ∷ (reason.Kinds, kinds m) ∷ (reason.GoesOn, goes_on m) ∷ (reason.WatchdogEarly, watchdog_early m) ∷ (reason.Forgotten, forgotten m) ∷ []
 
--- what is told of a message
+-- what is reported of a message
 abbrev pub findings : PlainMoment → List Reason
 findings m = recorded (of_frame m) ++ recorded (of_opening m) ++ recorded (of_requests m) ++ recorded (of_answers m) ++ recorded (of_results m) ++ recorded (notes_of_frame m) ++ recorded (notes_of_state m)
 
--- what is told of bytes whose header can't be read
+-- what is reported of bytes whose header can't be read
 abbrev pub is_version : HeadFault → Bool
 is_version fault.Version = true
 is_version fault.Short = false

@@ -4,7 +4,7 @@ use Rattle.std.specs.List.{find}
 use Rattle.dia_wire.specs.Number.{number}
 use Rattle.dia_wire.specs.Wire.{PlainAvp, SpellsAll, BeginsWithNone}
 
--- the level begins with these AVPs, and behind them no AVP begins. The level is all AVPs where nothing is left.
+-- the level begins with these AVPs, and after them no AVP begins. The level is all AVPs where nothing is left.
 pub record IsFront (avps : List PlainAvp) (level left : List ℕ) : Type 0 where
   pub front : List ℕ
   pub spells : SpellsAll avps front

@@ -14,3 +14,4 @@ pub mod Numbered
 pub mod Moments
 pub mod Departures
 pub mod Connections
+pub mod Opened

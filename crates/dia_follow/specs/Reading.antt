@@ -48,3 +48,7 @@ IsSeen bytes (Unread fault.Short) = length bytes < header_length
 IsSeen bytes (Unread fault.Version) = (header_length ≤ length bytes) × (slice_index bytes 0 ≢ 1)
 IsSeen bytes (Unread fault.Length) = (header_length ≤ length bytes) × (slice_index bytes 0 ≡ 1) × ¬ IsMessageLength (number (take 3 (drop 1 bytes)))
 IsSeen bytes (Message m) = IsRead bytes m
+
+-- bytes are one thing
+abbrev pub BytesHaveOneReading : Type 0
+BytesHaveOneReading = (bytes : List ℕ) (a b : Seen) → IsSeen bytes a → IsSeen bytes b → a ≡ b

@@ -123,7 +123,7 @@ impl Connection {
     }
 }
 
-/// What is told of bytes whose header can't be read.
+/// What is reported of bytes whose header can't be read.
 fn unread_findings(
     alloc: Global,
     judged: Judged,

@@ -7,7 +7,7 @@ ghost use Rattle.dia_follow.specs.Fronts.{IsFront, first_data, first_number, is_
 
 use dia_wire::{Avp, AvpFault, Avps, key, next_avp, number32};
 
-/// What is left of a level behind its AVPs: nothing, or where no AVP begins.
+/// What is left of a level after its AVPs: nothing, or where no AVP begins.
 pub(crate) fn after_avps(level: &[u8]) -> &[u8]
     ensures { (avps : List PlainAvp) × IsFront avps level.entry.now result.now }
 {

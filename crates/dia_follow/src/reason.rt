@@ -1,6 +1,6 @@
 //! The departures and the notes, in their order.
 
-/// What is told of a message: first 25 departures from RFC 6733, then notes.
+/// What is reported of a message: first 25 departures from RFC 6733, then notes.
 #[derive(Clone, Copy, Debug, PartialEq, Eq)]
 pub enum Reason {
     /// The version isn't 1.
@@ -21,9 +21,9 @@ pub enum Reason {
     CerAgain,
     /// A message before the CEA.
     BeforeCea,
-    /// A request behind the end's own DPR.
+    /// A request after the end's own DPR.
     AfterDpr,
-    /// A request behind the end's own DPA.
+    /// A request after the end's own DPA.
     AfterDpa,
     /// A request of the end waits that has the same Hop-by-Hop Identifier.
     HopByHop,
@@ -67,9 +67,9 @@ pub enum Reason {
     OwnApplication,
     /// Note: applications in common by their number, and not by their kind.
     Kinds,
-    /// Note: a request behind a CEA that refuses.
+    /// Note: a request after a CEA that refuses.
     GoesOn,
-    /// Note: a DWR less than 4 seconds behind the one before.
+    /// Note: a DWR less than 4 seconds after the one before.
     WatchdogEarly,
     /// Note: more requests wait than are remembered.
     Forgotten,

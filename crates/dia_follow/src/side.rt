@@ -22,7 +22,7 @@ pub(crate) struct Side {
     pub(crate) dpa: bool,
     /// Requests of it may be missing.
     pub(crate) gap: bool,
-    /// It was noted that it sends too early, or behind a CEA that refuses.
+    /// It was noted that it sends too early, or after a CEA that refuses.
     pub(crate) noted: bool,
     /// It was noted that a request of it was forgotten.
     pub(crate) forgot: bool,

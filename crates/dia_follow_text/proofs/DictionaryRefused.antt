@@ -1,7 +1,6 @@
 -- A dictionary that is refused.
-use Rattle.std.proofs.Common.{◌≡◌, ℕ, List, [], Bool, false, Option, Result, Ok, Err, inl, inr, refl, sym, subst}
-use Rattle.std.specs.Prelude.{IfOk, IsErr, string_bytes}
-use Rattle.std.specs.Io.KnownBytes.{Appends}
+use Rattle.std.proofs.Common.{◌≡◌, ℕ, List, [], false, Option, Result, Ok, Err, inl, inr}
+use Rattle.std.specs.Prelude.{IfOk, string_bytes}
 use Rattle.std.proofs.KnownBytes.{Consumes-nil}
 use Rattle.dia_io.specs.declared.Input.{Input}
 use Rattle.dia_io.specs.declared.Exit.{Exit}

@@ -1,8 +1,8 @@
 -- The first of the requests of both ends, by line.
-use Rattle.std.proofs.Common.{◌≡◌, ◌<◌, ◌≤◌, ℕ, Bool, true, false, List, [], ◌∷◌, ◌++◌, Option, None, Some, map, length, refl, sym, ap, subst, ◌∙◌, append_assoc, arith}
+use Rattle.std.proofs.Common.{◌≡◌, ◌<◌, ℕ, Bool, true, false, List, [], ◌∷◌, ◌++◌, Option, None, Some, map, length, refl, sym, ap, subst, ◌∙◌, append_assoc, arith}
 use Rattle.std.specs.List.{flat_map}
 use Rattle.std.proofs.lemmas.List.{append-nil, flat_map_more}
-use Rattle.std.specs.Prelude.{if◌then◌else◌, drop, nat_lt, slice_get, unwrap_or}
+use Rattle.std.specs.Prelude.{if◌then◌else◌, nat_lt, slice_get, unwrap_or}
 use Rattle.dia_follow.specs.declared.End.TheVariants.{Initiator, Responder}
 use Rattle.dia_follow.specs.declared.Request.{Request}
 use Rattle.dia_follow_text.specs.Notes.{IsNext, Note, before, from, in_order, of_responder, ours_after, theirs_after}

@@ -8,3 +8,5 @@ pub mod FirstNotes
 pub mod Judgements
 pub mod DictionaryRefused
 pub mod FrontLines
+pub mod OneLine
+pub mod OneAnswer

@@ -1,11 +1,10 @@
 -- `follow` from a feed into a sink.
-use Rattle.std.proofs.Common.{◌≡◌, ◌≢◌, ℕ, Bool, true, false, List, [], ◌∷◌, ◌++◌, Option, None, Some, Result, Ok, length, refl, sym, ap, subst, ◌∙◌, append_assoc, inl, inr}
+use Rattle.std.proofs.Common.{◌≡◌, ◌≢◌, ℕ, Bool, true, false, List, [], ◌++◌, Option, None, Some, Result, Ok, refl, sym, ap, subst, ◌∙◌, append_assoc, inl, inr}
 use Rattle.std.specs.Prelude.{if◌then◌else◌, Err, IfOk, IsOk, IsTrue, string_bytes, unwrap_or}
 use Rattle.std.specs.Io.KnownBytes.{Appends, Consumes, Keeps, IsAtEnd}
 use Rattle.std.proofs.KnownBytes.{Appends-nil, Appends-trans, Consumes-nil, Consumes-trans, Consumes-kept}
 use Rattle.std.proofs.lemmas.List.{append-nil}
 use Rattle.std.proofs.lemmas.List.Elements.{All-nil}
-use Rattle.dia_io.specs.declared.Exit.{Exit}
 use Rattle.dia_io.specs.declared.Exit.TheVariants as exits
 use Rattle.dia_io.specs.declared.Input.{Input}
 use Rattle.dia_io.specs.Writing.{AppendsFront}
@@ -18,7 +17,7 @@ use Rattle.dia_follow_text.specs.declared.entry.BadLine.{BadLine}
 use Rattle.dia_follow_text.specs.declared.options.Options.{Options}
 use Rattle.dia_follow_text.specs.Answers.{bad_line}
 use Rattle.dia_follow_text.specs.Outcome.{AreLines, IsFollowed, Progress, begun, exit_of, followed, notes, whole_text}
-use Rattle.dia_follow_text.specs.UnderWay.{Ends, IsBroken, IsUnderWay, Reads, progress_at, progress_of, with_put}
+use Rattle.dia_follow_text.specs.UnderWay.{Ends, IsUnderWay, Reads, progress_at, progress_of, with_put}
 use Rattle.dia_follow_text.specs.declared.running.Followed.{Followed}
 use Rattle.dia_follow_text.specs.declared.running.Progress.{Progress as AnyProgress}
 use Rattle.dia_follow_text.specs.declared.running.Progress.TheVariants as comes

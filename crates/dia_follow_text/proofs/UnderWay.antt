@@ -1,7 +1,6 @@
 -- Lines of a connection that are answered as they are read.
 use Rattle.std.proofs.Common.{◌≡◌, ◌≢◌, ℕ, ◌+◌, ◌<◌, Bool, true, false, List, [], ◌∷◌, ◌++◌, Option, None, Some, length, refl, sym, ap, subst, ◌∙◌, append_assoc, inl, inr, arith}
 use Rattle.std.specs.Prelude.{is_some, string_bytes}
-use Rattle.std.specs.List.{fold}
 use Rattle.std.specs.Prelude.{◌||◌}
 use Rattle.std.proofs.lemmas.List.{append-nil}
 use Rattle.std.proofs.lemmas.List.Elements.{All-append, All-nil}
@@ -17,7 +16,7 @@ use Rattle.dia_follow_text.specs.declared.entry.BadLine.{BadLine}
 use Rattle.dia_follow_text.specs.declared.options.Options.{Options}
 use Rattle.dia_follow_text.specs.Answers.{answer_text, bad_line, departs}
 use Rattle.dia_follow_text.specs.Outcome.{Captured, IsLineOf, PlainLine, nothing, refused, captured, Progress, answered_line, followed, line_at, next_line, notes, whole_text}
-use Rattle.dia_follow_text.specs.UnderWay.{Ends, HasRead, IsBroken, IsRefused, IsUnderWay, Reaches, ReachesNow, Reads, ReadsLast, progress_at, progress_of, with_put}
+use Rattle.dia_follow_text.specs.UnderWay.{Ends, HasRead, IsRefused, IsUnderWay, Reaches, ReachesNow, Reads, ReadsLast, progress_at, progress_of, with_put}
 
 -- what was put before makes no difference
 answered_put : (d : Dictionary) (json : Bool) (number : ℕ) (put : List ℕ) (p : Progress) (line : PlainLine)

@@ -1,5 +1,5 @@
 -- What a departure or a note says of its message.
-use Rattle.std.specs.Prelude.{ℕ, ◌+◌, Bool, true, false, if◌then◌else◌, List, [], ◌++◌, length, Option, Some, None, codes, is_some, option_map, unwrap_or}
+use Rattle.std.specs.Prelude.{ℕ, Bool, true, false, if◌then◌else◌, List, [], ◌++◌, length, Option, Some, None, codes, is_some, option_map, unwrap_or}
 use Rattle.std.specs.Option.{option_map_or}
 use Rattle.std.specs.Fmt.{decimal}
 use Rattle.dia_follow.specs.declared.Reason.{Reason}
@@ -54,7 +54,7 @@ other_line reason.Proxiable m = request_line m.request
 other_line reason.SessionId m = request_line m.request
 other_line r m = None
 
--- of a message that is cut, and of one that has bytes behind it
+-- of a message that is cut, and of one that has bytes after it
 abbrev pub sizes : Bool → ℕ → ℕ → List ℕ
 sizes true count len = decimal count ++ codes " of " ++ decimal len ++ codes " bytes"
 sizes false count len = decimal count ++ codes " bytes for " ++ decimal len

@@ -19,11 +19,11 @@ pub record PlainEntry : Type 0 where
 abbrev pub is_blank : ℕ → Bool
 is_blank byte = (byte == 32) || (byte == 9) || (byte == 13)
 
--- a text that begins with a word: the word, and what is behind it
+-- a text that begins with a word: the word, and what follows it
 abbrev pub cut_word : List ℕ → List ℕ × List ℕ
 cut_word text = (take (unwrap_or (position is_blank text) (length text)) text, drop (unwrap_or (position is_blank text) (length text)) text)
 
--- the first word of a text, and what is behind it
+-- the first word of a text, and what follows it
 abbrev pub next_word : List ℕ → Option (List ℕ × List ℕ)
 next_word text = elim (position (λ byte. not (is_blank byte)) text) [ None ↦ None | Some from ↦ Some (cut_word (drop from text)) ]
 

@@ -22,3 +22,8 @@ IsDictionaryRefused false input text exit = (recorded : List ℕ) × RefusesDict
 abbrev pub IsFollowOutcome : Options → Input → List ℕ → List ℕ → Exit → Type 0
 IsFollowOutcome options dictionary bytes text exit = ((d : Dictionary) × IsDictionaryText dictionary d × IsFollowed d options bytes text exit)
     ⊎ IsDictionaryRefused options.json dictionary text exit
+
+-- these bytes have one answer and one exit
+abbrev pub HasOneAnswer : Options → Input → List ℕ → Type 0
+HasOneAnswer options dictionary bytes = (text other : List ℕ) (exit ending : Exit) → IsFollowOutcome options dictionary bytes text exit
+    → IsFollowOutcome options dictionary bytes other ending → (text ≡ other) × (exit ≡ ending)

@@ -1,5 +1,5 @@
 -- What `follow` writes for the lines of a connection, and how it ends.
-use Rattle.std.specs.Prelude.{◌≡◌, ℕ, ◌+◌, ◌⊎◌, ◌||◌, IsTrue, Bool, true, false, if◌then◌else◌, List, [], ◌∷◌, ◌++◌, map, Option, None, Some, Ok, Err, IsOk}
+use Rattle.std.specs.Prelude.{◌≡◌, ℕ, ◌+◌, ◌⊎◌, ◌||◌, IsTrue, Bool, true, false, if◌then◌else◌, List, [], ◌++◌, Option, None, Some, Ok, Err, IsOk}
 use Rattle.std.specs.List.{flat_map, fold}
 use Rattle.hex.specs.Hex.{decode_of}
 use Rattle.dia_policy.specs.Limits.{max_message_text}
@@ -10,9 +10,7 @@ use Rattle.dia_io.specs.Inputs.{Holds, IsOver}
 use Rattle.dia_lines.specs.Lines.{AreAnswered, IsAnswered, line_number}
 use Rattle.dia_dict.specs.Dictionary.{Dictionary}
 use Rattle.dia_follow.specs.declared.End.{End}
-use Rattle.dia_follow.specs.declared.End.TheVariants.{Initiator, Responder}
 use Rattle.dia_follow.specs.declared.Line.{Line}
-use Rattle.dia_follow.specs.declared.Request.{Request}
 use Rattle.dia_follow.specs.Connections.{PlainConnection, after, findings_of, new_connection, the_middle}
 use Rattle.dia_follow.specs.Reading.{IsSeen}
 use Rattle.dia_follow_text.specs.declared.entry.BadLine.{BadLine}

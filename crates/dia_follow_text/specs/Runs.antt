@@ -1,5 +1,5 @@
 -- `follow` from a feed into a sink: what was put of the answers.
-use Rattle.std.specs.Prelude.{◌≡◌, ℕ, ◌⊎◌, IsTrue, Bool, true, false, if◌then◌else◌, List, [], ◌++◌, Option, None, Some, string_bytes}
+use Rattle.std.specs.Prelude.{◌≡◌, ℕ, ◌⊎◌, Bool, true, if◌then◌else◌, List, [], ◌++◌, Option, None, Some, string_bytes}
 use Rattle.std.specs.Io.KnownBytes.{Appends, Consumes, IsAtEnd}
 use Rattle.dia_io.specs.declared.Exit.{Exit}
 use Rattle.dia_io.specs.declared.Exit.TheVariants.{Yes, No}
@@ -99,7 +99,7 @@ pub record AreRefused (d : Dictionary) (options : Options) (fed_old fed put_old 
 abbrev pub exit_by : Bool → Exit
 exit_by departs = if departs then No else Yes
 
--- all was put. What the feed has behind a line that is refused makes no difference
+-- all was put. What the feed has after a line that is refused makes no difference
 pub record AreEnded (d : Dictionary) (options : Options) (fed_old fed put_old put : Option (List ℕ)) (exit : Exit) : Type 0 where
   pub bytes : List ℕ
   pub text : List ℕ

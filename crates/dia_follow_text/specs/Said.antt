@@ -1,5 +1,5 @@
 -- The lines of the answer, as text.
-use Rattle.std.specs.Prelude.{ℕ, ◌&&◌, Bool, true, false, if◌then◌else◌, List, [], ◌++◌, length, Option, Some, None, codes, is_some}
+use Rattle.std.specs.Prelude.{ℕ, ◌&&◌, Bool, true, false, if◌then◌else◌, List, [], ◌++◌, Option, Some, None, codes, is_some}
 use Rattle.std.specs.Fmt.{decimal}
 use Rattle.dia_dict.specs.Dictionary.{Dictionary}
 use Rattle.dia_follow.specs.declared.End.{End}

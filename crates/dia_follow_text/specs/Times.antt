@@ -49,7 +49,7 @@ abbrev pub whole_time : Option ℕ → Option ℕ
 whole_time None = None
 whole_time (Some whole) = Some (whole * 1000000000)
 
--- the nanoseconds of a time: 1 to 10 digits, or 1 to 10 with a point and 1 to 9 behind them
+-- the nanoseconds of a time: 1 to 10 digits, or 1 to 10 with a point and 1 to 9 after them
 abbrev pub time_at : List ℕ → Option ℕ → Option ℕ
 time_at word None = whole_time (digits_of 10 word)
 time_at word (Some point) = with_decimals (digits_of 10 (take point word)) (digits_of 9 (drop (point + 1) word)) (length (drop (point + 1) word))

@@ -7,7 +7,7 @@ use Rattle.dia_follow_text.specs.declared.answering.State.{State}
 use Rattle.dia_follow_text.specs.declared.entry.BadLine.{BadLine}
 use Rattle.dia_follow_text.specs.declared.options.Options.{Options}
 use Rattle.dia_follow_text.specs.Answers.{bad_line}
-use Rattle.dia_follow_text.specs.Outcome.{AreLines, IsLineOf, PlainLine, Progress, followed, whole_text}
+use Rattle.dia_follow_text.specs.Outcome.{IsLineOf, PlainLine, Progress, followed, whole_text}
 
 abbrev pub progress_of : ℕ → State → List ℕ → Progress
 progress_of number s text = record { number = number; connection = s.connection; departs = s.departs; text = text; refused = false }

@@ -31,12 +31,12 @@ pub(crate) struct Manner<'a, B: Book> {
     pub(crate) options: Options,
 }
 
-/// What is known behind the lines that were answered.
+/// What is known after the lines that were answered.
 #[derive(Drop)]
 pub(crate) struct State {
     pub(crate) connection: Connection,
     pub(crate) counts: Counts,
-    /// A departure was told.
+    /// A departure was reported.
     pub(crate) departs: bool,
 }
 

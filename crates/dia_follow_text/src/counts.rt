@@ -25,7 +25,7 @@ pub(crate) struct Command {
     pub(crate) most: u64,
 }
 
-/// How often one reason was told of an end.
+/// How often one reason was reported of an end.
 #[derive(Clone, Copy)]
 pub(crate) struct Recorded {
     /// `None` for a request without answer.

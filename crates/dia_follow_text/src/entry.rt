@@ -33,7 +33,7 @@ pub enum BadLine {
     TooLong,
     /// It hasn't two or three words, of which the first is `>` or `<`.
     Syntax,
-    /// TIME isn't 1 to 10 digits, with a point and 1 to 9 digits behind them or without.
+    /// TIME isn't 1 to 10 digits, with a point and 1 to 9 digits after them or without.
     Time,
     /// HEX isn't pairs of hexadecimal digits.
     NotHexadecimal,
@@ -80,7 +80,7 @@ fn is_comment(line: &[u8]) -> bool
     }
 }
 
-/// The words behind END.
+/// The words after END.
 fn after_end(end: End, text: &[u8]) -> Result<Option<Entry<'_>>, BadLine>
     ensures { result ≡ after_end end (next_word text.entry.now) }
 {
@@ -90,7 +90,7 @@ fn after_end(end: End, text: &[u8]) -> Result<Option<Entry<'_>>, BadLine>
     }
 }
 
-/// The words behind the second.
+/// The words after the second.
 fn after_second<'a>(
     end: End,
     second: &'a [u8],
@@ -108,7 +108,7 @@ fn after_second<'a>(
     }
 }
 
-/// Three words, and what is behind them.
+/// Three words, and what follows them.
 fn with_time<'a>(
     end: End,
     time: &[u8],
@@ -142,7 +142,7 @@ fn end_of(word: &[u8]) -> Result<End, BadLine>
     }
 }
 
-/// The first word of a text, and what is behind it.
+/// The first word of a text, and what follows it.
 fn next_word(text: &[u8]) -> Option<(&[u8], &[u8])>
     ensures { option_map (λ parts. (parts.0.now, parts.1.now)) result ≡ next_word text.entry.now }
 {
@@ -155,7 +155,7 @@ fn next_word(text: &[u8]) -> Option<(&[u8], &[u8])>
     }
 }
 
-/// The word that a text begins with, and what is behind it.
+/// The word that a text begins with, and what follows it.
 fn cut_word(text: &[u8]) -> (&[u8], &[u8])
     ensures { (result.0.now, result.1.now) ≡ cut_word text.entry.now }
 {

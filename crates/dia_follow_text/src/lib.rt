@@ -18,6 +18,7 @@ mod entry;
 mod forms;
 mod hosts;
 mod judging;
+mod laws;
 mod messages;
 mod names;
 mod objects;
@@ -33,5 +34,6 @@ mod unanswered;
 mod unread;
 
 pub use entry::{BadLine, Entry, read_line};
+pub use laws::connection_has_one_answer;
 pub use options::{Check, Options};
 pub use running::{Followed, follow};

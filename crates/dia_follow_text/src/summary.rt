@@ -100,7 +100,7 @@ fn push_common(text: &mut String, counts: &Counts) -> Result<(), AllocError> {
     }
 }
 
-/// Adds how often each departure and each note was told of an end: departures first, the most frequent first.
+/// Adds how often each departure and each note was reported of an end: departures first, the most frequent first.
 fn push_reasons(alloc: Global, text: &mut String, counts: &Counts) -> Result<(), AllocError> {
     let mut sorted = Vec::from_slice(alloc, counts.recorded.as_slice())?;
     sorted.sort_by_key(|recorded| (is_note(recorded), u64::MAX - recorded.count, recorded.first))?;

@@ -9,7 +9,7 @@ use std::alloc::AllocError;
 
 const SECOND: u64 = 1_000_000_000;
 
-/// The nanoseconds of a time: 1 to 10 digits of seconds, with a point and 1 to 9 digits behind them or without.
+/// The nanoseconds of a time: 1 to 10 digits of seconds, with a point and 1 to 9 digits after them or without.
 pub(crate) fn read_time(word: &[u8]) -> Option<u64>
     ensures { result ≡ time_of word.now }
 {

@@ -5,7 +5,7 @@ ghost use Rattle.std.specs.Fmt.{decimal};
 ghost use Rattle.dia_follow_text.specs.Unread.{first_byte, header_text, message_length, unread_text};
 
 use dia_follow::Reason;
-use dia_wire::HEADER_LENGTH;
+use dia_wire::{HEADER_LENGTH, number32};
 use std::alloc::AllocError;
 
 /// Adds the text of a departure or a note on bytes whose header can't be read.
@@ -58,9 +58,7 @@ fn message_length(bytes: &[u8]) -> u32
     ensures { result ≡ message_length bytes.now }
 {
     match bytes {
-        [_, high, middle, low, ..] => {
-            u32::from(*high) * 65_536 + u32::from(*middle) * 256 + u32::from(*low)
-        }
+        [_, high, middle, low, ..] => number32(&[0, *high, *middle, *low]).unwrap_or(0),
         _ => 0,
     }
 }

@@ -36,7 +36,7 @@ impl Connection {
         self.responder.empty(alloc);
     }
 
-    /// The phase behind a message.
+    /// The phase after a message.
     pub(super) fn open(
         &mut self,
         alloc: Global,
@@ -74,7 +74,7 @@ impl Connection {
         }
     }
 
-    /// A message behind the CER.
+    /// A message after the CER.
     fn open_asked(
         &mut self,
         alloc: Global,
@@ -119,7 +119,7 @@ impl Connection {
         self.advertise(from, &message.body)
     }
 
-    /// A message behind a CEA that refuses.
+    /// A message after a CEA that refuses.
     fn go_on(&mut self, from: End, head: &Head)
         ensures { self.new ≡ goes_on self.old from head.now }
     {

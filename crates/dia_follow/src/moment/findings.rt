@@ -1,4 +1,4 @@
-//! What is told of a message.
+//! What is reported of a message.
 
 ghost use Rattle.std.specs.Prelude.{◌≡◌, ◌++◌, OnOk};
 ghost use Rattle.dia_follow.specs.Departures.{recorded};

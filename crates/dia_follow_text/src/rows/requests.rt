@@ -46,7 +46,7 @@ pub(super) const ROWS: &str = r#"== not advertised, 0; options -; status 1
 4 > departure hop-by-hop: 2 waits since line 3 (RFC 6733 3)
 5 < answer 272 app 4 hop 2 end 3 code 2001 answers 4
 6 < answer 272 app 4 hop 2 end 2 code 2001 answers 3
-== again, behind its answer, of both ends, other order; options -; status 0
+== again, after its answer, of both ends, other order; options -; status 0
 > 0100002080000101000000000000000100000001000001024000000c00000004
 < 0100002c000001010000000000000001000000010000010c4000000c000007d1000001024000000c00000004
 > 01000014c0000110000000040000000200000002
@@ -200,7 +200,7 @@ pub(super) const ROWS: &str = r#"== not advertised, 0; options -; status 1
 6 > request DWR app 0 hop 3 end 3
 6 > note watchdog-early: 3.500000 behind line 4
 7 < answer DWA app 0 hop 3 end 3 code 2001 answers 6 after 0.100000
-== behind its DPR, crossing; options -; status 1
+== after its DPR, crossing; options -; status 1
 > 0100002080000101000000000000000100000001000001024000000c00000004
 < 0100002c000001010000000000000001000000010000010c4000000c000007d1000001024000000c00000004
 < 010000208000011a000000000000000100000001000001114000000c00000001
@@ -219,7 +219,7 @@ pub(super) const ROWS: &str = r#"== not advertised, 0; options -; status 1
 6 > answer DPA app 0 hop 1 end 1 code 2001 answers 3
 7 > answer 272 app 4 hop 3 end 3 code 2001 answers 5
 8 < answer 272 app 4 hop 2 end 2 code 2001 answers 4
-== behind its DPA; options -; status 1
+== after its DPA; options -; status 1
 > 0100002080000101000000000000000100000001000001024000000c00000004
 < 0100002c000001010000000000000001000000010000010c4000000c000007d1000001024000000c00000004
 < 010000208000011a000000000000000100000001000001114000000c00000002

@@ -1,6 +1,6 @@
 use Rattle.std.proofs.lemmas.Result.{on_ok_weaker}
 use Rattle.dia_wire.specs.Wire.{plain_avp}
-use Rattle.dia_follow.proofs.Tellings.{records_inside, records_itself}
+use Rattle.dia_follow.proofs.Recordings.{records_inside, records_itself}
 use Rattle.dia_follow.proofs.contents.add_recorded.Goals as goal
 
 pub returns-then-is_avp : goal.returns-then-is_avp

@@ -2,7 +2,7 @@ use Rattle.dia_wire.specs.Level.{level_left}
 use Rattle.dia_wire.specs.Wire.{plain_avp, BeginsWithNone}
 use Rattle.dia_follow.specs.Applications.{no_apps}
 use Rattle.dia_follow.proofs.Fronts.{goes_on, ends, ends_at_fault}
-use Rattle.dia_follow.proofs.Tellings.{report_on, report_end}
+use Rattle.dia_follow.proofs.Recordings.{report_on, report_end}
 use Rattle.dia_follow.proofs.contents.apps_in.Goals.{in-None, in-Some+in_default}
 use Rattle.dia_follow.proofs.contents.apps_in.Goals as goal
 

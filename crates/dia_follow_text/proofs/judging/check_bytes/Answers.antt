@@ -1,4 +1,4 @@
-use Rattle.std.proofs.Common.{ap, subst, sym, ◌∙◌}
+use Rattle.std.proofs.Common.{◌∙◌}
 use Rattle.dia_follow_text.proofs.Judgements.{without_end}
 use Rattle.dia_follow_text.proofs.judging.check_bytes.Goals as goal
 

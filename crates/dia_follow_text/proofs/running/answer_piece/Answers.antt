@@ -1,5 +1,4 @@
-use Rattle.std.proofs.Common.{◌<◌, ◌∙◌, take, length, subst, sym, arith}
-use Rattle.std.proofs.lemmas.List.{length-take}
+use Rattle.std.proofs.Common.{◌∙◌, take, subst, sym, arith}
 use Rattle.std.specs.Io.KnownBytes.{Consumes}
 use Rattle.dia_follow_text.specs.UnderWay.{Ends, Reads}
 use Rattle.dia_follow_text.proofs.Runs.{all_ended, end_refused, ended_bad, ended_done, ended_more, feed_failed, lines_before, ok_same, piece_bad, piece_done, piece_more}

@@ -1,4 +1,4 @@
-use Rattle.std.proofs.Common.{[], ◌∷◌, ◌++◌, List, ℕ, refl, sym}
+use Rattle.std.proofs.Common.{[], ◌∷◌, ◌++◌, refl, sym}
 use Rattle.std.specs.Prelude.{string_bytes}
 use Rattle.dia_follow_text.specs.Answers.{unanswered}
 use Rattle.dia_follow_text.specs.Notes.{Note}

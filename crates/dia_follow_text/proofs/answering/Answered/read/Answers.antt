@@ -2,7 +2,6 @@ use Rattle.std.proofs.Common.{List, ℕ, ◌++◌, ◌∷◌, ◌∙◌, [], ref
 use Rattle.dia_lines.specs.Lines.{line_feed}
 use Rattle.dia_lines.proofs.LinesUnderWay.{next_line}
 use Rattle.dia_follow_text.proofs.UnderWay.{line_read, line_refused, Reads-nothing, rest_read}
-use Rattle.std.proofs.lemmas.Result.{IfOk-weaker}
 use Rattle.dia_follow_text.proofs.answering.Answered.read.Goals as goal
 
 pub loop-line-init : goal.loop-line-init
