@@ -1,0 +1,5 @@
+pub mod Same
+pub mod Headers
+pub mod Matching
+pub mod Slots
+pub mod Partners

@@ -1,7 +1,10 @@
 //! The lines: what differs.
+ghost use Rattle.std.specs.Prelude.{OnOk, IsTrue};
+ghost use Rattle.dia_differences.specs.Matching.{AddsUnless};
 
 use crate::sides::Side;
 use dia_owners::Owner;
+use std::alloc::AllocError;
 
 /// A field of an AVP.
 #[derive(Clone, Copy, PartialEq, Eq)]
@@ -75,4 +78,14 @@ impl Line {
             back: false,
         }
     }
+}
+
+/// Adds a line, unless what it is about is the same.
+pub(crate) fn push_unless(lines: &mut Vec<Line>, same: bool, what: What) -> Result<(), AllocError>
+    ensures { OnOk result (AddsUnless lines.old.items lines.new.items (IsTrue same)) }
+{
+    if !same {
+        lines.push(Line::new(what))?;
+    }
+    Ok(())
 }

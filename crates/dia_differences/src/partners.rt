@@ -1,8 +1,10 @@
 //! Which AVPs and commands of two dictionaries correspond.
 
-ghost use Rattle.std.specs.Prelude.{◌<◌, length};
+ghost use Rattle.std.specs.Prelude.{◌≡◌, ◌<◌, IfOk, length};
+ghost use Rattle.dia_differences.specs.Partners.{AreAvpsThere, AreBothWays, AreCommandsThere, AreNone, ArePartners};
+ghost use Rattle.dia_differences.specs.Partners.{FindsCommands, IsAvpThere, IsCommandThere, linked};
 
-use crate::headers::{Selector, selector_of};
+use crate::headers::{Messages, messages_of};
 use dia_book::{Book, Entry};
 use std::alloc::{AllocError, Global};
 use std::collections::HashMap;
@@ -22,34 +24,85 @@ pub struct Partners {
 }
 
 impl Partners {
-    pub fn new<A: Book, B: Book>(alloc: Global, a: &A, b: &B) -> Result<Self, AllocError> {
-        let avps = both_ways(alloc, avps_there(alloc, a, b)?, b.entries())?;
-        let commands = both_ways(alloc, commands_there(alloc, a, b)?, b.commands())?;
+    pub fn new<A: Book, B: Book>(alloc: Global, a: &A, b: &B) -> Result<Self, AllocError>
+        ensures { IfOk result (ArePartners (A.meaning a.now) (B.meaning b.now)) }
+    {
+        let avps = avp_pairs(alloc, a, b)?;
+        let commands = command_pairs(alloc, a, b)?;
         Ok(Partners { avps, commands })
     }
 }
 
+fn avp_pairs<A: Book, B: Book>(alloc: Global, a: &A, b: &B) -> Result<Pairs, AllocError>
+    ensures there { IfOk result (λ pairs. AreAvpsThere (A.meaning a.now) (B.meaning b.now) pairs.there.items) }
+    ensures back { IfOk result
+        (λ pairs. AreBothWays pairs.there.items pairs.back.items (length (B.meaning b.now).entries)) }
+{
+    let there = avps_there(alloc, a, b)?;
+    both_ways(alloc, there, b.entries())
+}
+
+fn command_pairs<A: Book, B: Book>(alloc: Global, a: &A, b: &B) -> Result<Pairs, AllocError>
+    ensures there { IfOk result (λ pairs. AreCommandsThere (A.meaning a.now) (B.meaning b.now) pairs.there.items) }
+    ensures back { IfOk result
+        (λ pairs. AreBothWays pairs.there.items pairs.back.items (length (B.meaning b.now).commands)) }
+{
+    let there = commands_there(alloc, a, b)?;
+    both_ways(alloc, there, b.commands())
+}
+
 /// The same pairs both ways.
-fn both_ways(alloc: Global, there: Vec<Option<usize>>, count: usize) -> Result<Pairs, AllocError> {
-    let mut back = Vec::with_capacity(alloc, count)?;
-    for _ in 0..count {
-        back.push(None)?;
+fn both_ways(alloc: Global, there: Vec<Option<usize>>, count: usize) -> Result<Pairs, AllocError>
+    ensures there { IfOk result (λ pairs. pairs.there.items ≡ there.items) }
+    ensures back { IfOk result (λ pairs. AreBothWays pairs.there.items pairs.back.items count) }
+{
+    let back = back_of(alloc, &there, count)?;
+    Ok(Pairs { there, back })
+}
+
+/// The pairs the other way.
+fn back_of(
+    alloc: Global,
+    there: &[Option<usize>],
+    count: usize,
+) -> Result<Vec<Option<usize>>, AllocError>
+    ensures { IfOk result (λ back. AreBothWays there.now back.items count) }
+{
+    let mut back = nones(alloc, count)?;
+    for (index, partner) in there.iter().enumerate() {
+        link(&mut back, index, *partner);
     }
-    for index in 0..there.len() {
-        if let Some(partner) = there[index] {
-            if partner < back.len() {
-                back[partner] = Some(index);
-            }
+    Ok(back)
+}
+
+fn nones(alloc: Global, count: usize) -> Result<Vec<Option<usize>>, AllocError>
+    ensures { IfOk result (λ made. AreNone made.items count) }
+{
+    let mut made = Vec::with_capacity(alloc, count)?;
+    for place in 0..count {
+        made.push(None)?;
+    }
+    Ok(made)
+}
+
+/// Notes at a place, if there is one, by which place it is named.
+fn link(back: &mut Vec<Option<usize>>, index: usize, partner: Option<usize>)
+    ensures { back.new.items ≡ linked back.old.items index partner }
+{
+    if let Some(place) = partner {
+        if place < back.len() {
+            back[place] = Some(index);
         }
     }
-    Ok(Pairs { there, back })
 }
 
 fn avps_there<A: Book, B: Book>(
     alloc: Global,
     a: &A,
     b: &B,
-) -> Result<Vec<Option<usize>>, AllocError> {
+) -> Result<Vec<Option<usize>>, AllocError>
+    ensures { IfOk result (λ there. AreAvpsThere (A.meaning a.now) (B.meaning b.now) there.items) }
+{
     let names = avp_names(alloc, b)?;
     let mut there = Vec::with_capacity(alloc, a.entries())?;
     for index in 0..a.entries() {
@@ -67,10 +120,23 @@ fn avp_there<A: Book, B: Book>(
     names: &HashMap<&str, usize>,
 ) -> Option<usize>
     requires { entry < length (A.meaning a.now).entries }
+    ensures { IsAvpThere (A.meaning a.now) (B.meaning b.now) entry result }
 {
-    if let Some(other) = b.avp(a.entry_key(entry)) {
-        return Some(other.index());
+    match b.avp(a.entry_key(entry)) {
+        Some(other) => Some(other.index()),
+        None => avp_by_name(a, entry, b, names),
     }
+}
+
+/// The AVP of B with the name of one of A, if A doesn't know its key.
+fn avp_by_name<A: Book, B: Book>(
+    a: &A,
+    entry: Entry,
+    b: &B,
+    names: &HashMap<&str, usize>,
+) -> Option<usize>
+    requires { entry < length (A.meaning a.now).entries }
+{
     let place = names.get(&a.entry_name(entry)).copied()?;
     if place >= b.entries() {
         return None;
@@ -93,9 +159,11 @@ fn commands_there<A: Book, B: Book>(
     alloc: Global,
     a: &A,
     b: &B,
-) -> Result<Vec<Option<usize>>, AllocError> {
-    let own = selectors(alloc, a)?;
-    let others = selectors(alloc, b)?;
+) -> Result<Vec<Option<usize>>, AllocError>
+    ensures { IfOk result (λ there. AreCommandsThere (A.meaning a.now) (B.meaning b.now) there.items) }
+{
+    let own = all_messages(alloc, a)?;
+    let others = all_messages(alloc, b)?;
     let names = command_names(alloc, b)?;
     let mut there = Vec::with_capacity(alloc, a.commands())?;
     for index in 0..a.commands() {
@@ -104,35 +172,51 @@ fn commands_there<A: Book, B: Book>(
     Ok(there)
 }
 
-/// The same of commands, by their selectors.
+/// The same of commands, by the messages that they are for.
 fn command_there<A: Book, B: Book>(
     a: &A,
     index: usize,
     b: &B,
-    own: &HashMap<Selector, usize>,
-    others: &HashMap<Selector, usize>,
+    own: &HashMap<Messages, usize>,
+    others: &HashMap<Messages, usize>,
     names: &HashMap<&str, usize>,
 ) -> Option<usize>
-    requires { index < length (A.meaning a.now).commands }
+    requires within { index < length (A.meaning a.now).commands }
+    requires others { FindsCommands (B.meaning b.now) others.now }
+    ensures { IsCommandThere (A.meaning a.now) (B.meaning b.now) index result }
 {
     let command = a.def(a.command_at(index));
-    if let Some(place) = others.get(&selector_of(command.head)) {
-        return Some(*place);
+    match others.get(&messages_of(command.head)) {
+        Some(place) => Some(*place),
+        None => command_by_name(command.name.as_str(), b, own, names),
     }
-    let place = names.get(&command.name.as_str()).copied()?;
+}
+
+/// The command of B with a name, if A has none for its messages.
+fn command_by_name<B: Book>(
+    name: &str,
+    b: &B,
+    own: &HashMap<Messages, usize>,
+    names: &HashMap<&str, usize>,
+) -> Option<usize> {
+    let place = names.get(&name).copied()?;
     if place >= b.commands() {
         return None;
     }
-    match own.get(&selector_of(b.def(b.command_at(place)).head)) {
+    match own.get(&messages_of(b.def(b.command_at(place)).head)) {
         Some(_) => None,
         None => Some(place),
     }
 }
 
-fn selectors<B: Book>(alloc: Global, book: &B) -> Result<HashMap<Selector, usize>, AllocError> {
+/// The place of each command, by the messages that it is for.
+fn all_messages<B: Book>(alloc: Global, book: &B) -> Result<HashMap<Messages, usize>, AllocError>
+    ensures { IfOk result (FindsCommands (B.meaning book.now)) }
+{
     let mut found = HashMap::new(alloc);
     for index in 0..book.commands() {
-        found.insert(selector_of(book.def(book.command_at(index)).head), index)?;
+        let messages = messages_of(book.def(book.command_at(index)).head);
+        found.insert(messages, index)?;
     }
     Ok(found)
 }

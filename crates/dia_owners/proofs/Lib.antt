@@ -1,2 +1,2 @@
 mod Groups
-mod Owned
+pub mod Owned

@@ -1,0 +1,13 @@
+pub mod Chains
+pub mod Paired
+pub mod CorrespondingRules
+pub mod SameParts
+pub mod SameMeaning
+pub mod NoLines
+pub mod PartLines
+pub mod Fields
+pub mod RulePlaces
+pub mod RuleLines
+pub mod Linked
+pub mod FoundCommands
+pub mod SameFields
