@@ -1,6 +1,6 @@
 //! The command, from its inputs to what is written.
 
-ghost use Rattle.std.specs.Prelude.{◌≡◌, ◌↔◌, ℕ, List, Err, IfOk, IsTrue, string_bytes};
+ghost use Rattle.std.specs.Prelude.{◌≡◌, ◌↔◌, ◌<◌, ℕ, List, Err, IfOk, IsTrue, length, string_bytes, string_len};
 ghost use Rattle.std.specs.Io.KnownBytes.{Appends};
 ghost use Rattle.dia_io.specs.declared.Exit.{Exit as AnyExit};
 ghost use Rattle.dia_io.specs.Writing.{AppendsFront};
@@ -120,7 +120,8 @@ fn differences<A: Book, B: Book>(
     b: &B,
     notes: &mut String,
 ) -> Result<Answered, AllocError>
-    ensures { IfOk result (λ a. IsDiffText asked.json a.exit (string_bytes a.text)) }
+    ensures { IfOk result (λ x. IsDiffText
+        (A.meaning a.now) (B.meaning b.now) asked.json x.exit (string_bytes x.text)) }
 {
     let partners = Partners::new(alloc, a, b)?;
     let mut lines = lines_of(alloc, a, b, &partners)?;
@@ -141,7 +142,7 @@ fn mark_both<A: Book, B: Book>(
     a: &A,
     b: &B,
     partners: &Partners,
-    lines: &mut Vec<Line>,
+    lines: &mut [Line],
 ) -> Result<(), AllocError> {
     let subjects = Subjects::new(alloc, lines)?;
     let Asked { sends, unknown, .. } = asked;
@@ -173,33 +174,38 @@ fn written<A: Book, B: Book>(
     b: &B,
     lines: &[Line],
 ) -> Result<Answered, AllocError>
-    ensures { IfOk result (λ a. IsDiffText json a.exit (string_bytes a.text)) }
+    requires { 0 < length lines.now }
+    ensures exit { IfOk result (λ x. x.exit ≡ Exit.No) }
+    ensures text { IfOk result (λ x. 0 < string_len x.text) }
+{
+    let text = text_of(alloc, json, a, b, lines)?;
+    Ok(Answered {
+        text,
+        exit: Exit::No,
+        report: Report::Done,
+    })
+}
+
+fn text_of<A: Book, B: Book>(
+    alloc: Global,
+    json: bool,
+    a: &A,
+    b: &B,
+    lines: &[Line],
+) -> Result<String, AllocError>
+    ensures { IfOk result (λ text. 0 < length lines.now → 0 < string_len text) }
 {
     let mut text = String::new(alloc);
     for line in lines {
         push(alloc, &mut text, json, a, b, line)?;
     }
-    ended(alloc, json, text)
-}
-
-/// The answer of a text: where it is empty, nothing differs.
-fn ended(alloc: Global, json: bool, text: String) -> Result<Answered, AllocError>
-    ensures { IfOk result (λ a. IsDiffText json a.exit (string_bytes a.text)) }
-{
-    if text.as_str().len() > 0 {
-        Ok(Answered {
-            text,
-            exit: Exit::No,
-            report: Report::Done,
-        })
-    } else {
-        same(alloc, json)
-    }
+    Ok(text)
 }
 
 /// The answer where nothing differs.
 fn same(alloc: Global, json: bool) -> Result<Answered, AllocError>
-    ensures { IfOk result (λ a. IsDiffText json a.exit (string_bytes a.text)) }
+    ensures exit { IfOk result (λ x. x.exit ≡ Exit.Yes) }
+    ensures text { IfOk result (λ x. string_bytes x.text ≡ same_text json) }
 {
     let text = String::from_str(alloc, same_line(json))?;
     Ok(Answered {

@@ -41,7 +41,7 @@ impl<A: Book, B: Book> Drop for Traffic<'_, A, B> {
 /// Marks the lines from which it comes that messages break.
 pub(crate) fn mark<A: Book, B: Book>(
     alloc: Global,
-    lines: &mut Vec<Line>,
+    lines: &mut [Line],
     subjects: &Subjects,
     traffic: &Traffic<'_, A, B>,
 ) -> Result<(), AllocError> {
@@ -75,7 +75,7 @@ fn breaks_of<A: Book, B: Book>(
 /// Marks the lines from which what breaks a command comes.
 fn mark_breaks<A: Book, B: Book>(
     alloc: Global,
-    lines: &mut Vec<Line>,
+    lines: &mut [Line],
     subjects: &Subjects,
     traffic: &Traffic<'_, A, B>,
     index: usize,
@@ -90,7 +90,7 @@ fn mark_breaks<A: Book, B: Book>(
 }
 
 /// Marks these lines; where there is none, all.
-fn mark_all(lines: &mut Vec<Line>, side: Side, places: &[usize]) {
+fn mark_all(lines: &mut [Line], side: Side, places: &[usize]) {
     if places.is_empty() {
         for line in lines.iter_mut() {
             mark_one(line, side);

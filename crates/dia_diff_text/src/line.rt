@@ -1,4 +1,5 @@
 //! A line, in the form that is asked for.
+ghost use Rattle.std.specs.Prelude.{◌<◌, OnOk, string_len};
 
 use crate::objects::push_object;
 use crate::parts::parts_of;
@@ -16,7 +17,9 @@ pub fn push<A: Book, B: Book>(
     a: &A,
     b: &B,
     line: &Line,
-) -> Result<(), AllocError> {
+) -> Result<(), AllocError>
+    ensures { OnOk result (0 < string_len out.new) }
+{
     let parts = parts_of(alloc, a, b, line)?;
     if json {
         push_object(out, &parts)

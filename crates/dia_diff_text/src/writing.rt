@@ -1,15 +1,18 @@
 //! Lines in words.
+ghost use Rattle.std.specs.Prelude.{◌<◌, OnOk, string_len};
 
 use crate::parts::{Parts, RULE};
 use std::alloc::AllocError;
 
 /// Adds a line, as `~ AVP Vendor-Specific-Application-Id: { Vendor-Id } 1..* -> { Vendor-Id } 1; breaks A to B`.
-pub(crate) fn push_line(out: &mut String, parts: &Parts<'_>) -> Result<(), AllocError> {
+pub(crate) fn push_line(out: &mut String, parts: &Parts<'_>) -> Result<(), AllocError>
+    ensures { OnOk result (0 < string_len out.new) }
+{
     push_subject(out, parts)?;
     push_field(out, parts.field)?;
     push_values(out, parts)?;
     out.push_str(ending(parts.there, parts.back))?;
-    out.push('\n')
+    out.push_str("\n")
 }
 
 fn push_subject(out: &mut String, parts: &Parts<'_>) -> Result<(), AllocError> {
