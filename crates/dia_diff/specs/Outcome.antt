@@ -1,5 +1,5 @@
 -- What is written of the differences of two dictionaries, and how the command ends.
-use Rattle.std.specs.Prelude.{◌≡◌, ◌<◌, ℕ, Bool, true, false, List, length, codes}
+use Rattle.std.specs.Prelude.{◌≡◌, ℕ, Bool, true, false, List, codes}
 use Rattle.dia_io.specs.declared.Exit.{Exit}
 use Rattle.dia_io.specs.declared.Exit.TheVariants as exits
 use Rattle.dia_io.specs.declared.Input.{Input}
@@ -12,7 +12,11 @@ use Rattle.dia_report.specs.Refusals.{bad_input_text}
 use Rattle.dia_run.specs.RefusedDictionaries.{RefusesFirst, RefusesSecond}
 use Rattle.dia_run.specs.Texts.{line, IsDictionaryText}
 use Rattle.dia_refused_json.specs.Refusals.{bad_input_json}
+use Rattle.dia_differences.specs.declared.lines.Line.{Line}
 use Rattle.dia_differences.specs.Same.{IsSameDictionary}
+use Rattle.dia_differences.specs.Lines.{AreDifferences}
+use Rattle.dia_diff_text.specs.Lines.{AreTexts}
+use Rattle.dia_diff.specs.Marks.{whats}
 
 -- the line where nothing differs
 abbrev pub same_text : Bool → List ℕ
@@ -24,10 +28,14 @@ abbrev pub refused_text : Bool → Input → BadInput → List ℕ
 refused_text true input bad = bad_input_json input bad
 refused_text false input bad = line (bad_input_text bad)
 
+-- a line for each difference, in their order
+abbrev pub AreLines : Dictionary → Dictionary → Bool → List ℕ → Type 0
+AreLines a b json text = (lines : List Line) × AreDifferences a b (whats lines) × AreTexts json a b lines text
+
 -- the line where both dictionaries mean the same, and otherwise lines
 abbrev pub IsDiffText : Dictionary → Dictionary → Bool → Exit → List ℕ → Type 0
 IsDiffText a b json exits.Yes text = IsSameDictionary a b × (text ≡ same_text json)
-IsDiffText a b json exits.No text = (¬ IsSameDictionary a b) × (0 < length text)
+IsDiffText a b json exits.No text = (¬ IsSameDictionary a b) × AreLines a b json text
 IsDiffText a b json exits.Bad text = ⊥
 
 -- the dictionaries are read and answered, or one is refused

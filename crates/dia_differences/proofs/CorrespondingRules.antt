@@ -1,6 +1,6 @@
 -- Rules for AVPs that correspond by their keys.
-use Rattle.std.proofs.Common.{◌≡◌, ℕ, Bool, true, false, List, [], length, Option, Some, None, refl, sym, ap, subst, ◌∙◌}
-use Rattle.std.specs.Prelude.{IsSome, not, is_some, option_and_then, slice_get, position, Contains}
+use Rattle.std.proofs.Common.{◌≡◌, ℕ, true, false, List, [], length, Option, Some, None, refl, sym, ap, subst, ◌∙◌}
+use Rattle.std.specs.Prelude.{IsSome, not, is_some, option_and_then, slice_get, position}
 use Rattle.std.specs.Option.{option_map_or}
 use Rattle.std.proofs.lemmas.Option.{none-some, same_Some}
 use Rattle.dia_wire.specs.declared.Key.{Key}
@@ -15,9 +15,10 @@ use Rattle.dia_valid.proofs.Members.{IsIn, all_of, contains_in, in_at, in_filter
 use Rattle.dia_owners.specs.declared.owner.Owner.{Owner}
 use Rattle.dia_owners.specs.declared.owner.Owner.TheVariants.{Avp, Command}
 use Rattle.dia_owners.specs.Owners.{owned, rules_of}
-use Rattle.dia_differences.specs.declared.partners.Partners.{Partners}
+use Rattle.dia_differences.specs.Partners.{Matches}
 use Rattle.dia_differences.specs.Same.{AreSameRules, HasRules}
-use Rattle.dia_differences.specs.Matching.{HaveSameRules, IsSameAt, other_key, partner_of, place_by, rule_place}
+use Rattle.dia_differences.specs.Matching.{other_key, partner_of, place_by, rule_place}
+use Rattle.dia_differences.proofs.SameThings.{HaveSameRules}
 use Rattle.dia_differences.proofs.Paired.{position_one, some_is}
 
 -- a place of a, with the entry of b of the same key as its partner
@@ -129,20 +130,20 @@ rule_same r s kind key min max =
     let m : Option ℕ → DRule = λ n. record { kind = s.kind; key = s.key; min = s.min; max = n } in
     ap f kind ∙ ap g key ∙ ap h min ∙ ap m max
 
-module _ (a b : Dictionary) (partners : Partners) (own other : Owner) (sound_a : IsDictionary a) (sound_b : IsDictionary b)
-    (there : Aligned a b partners.avps.there.items) (back : Aligned b a partners.avps.back.items) where
+module _ (a b : Dictionary) (partners : Matches) (own other : Owner) (sound_a : IsDictionary a) (sound_b : IsDictionary b)
+    (there : Aligned a b partners.avps) (back : Aligned b a partners.avps_back) where
   pub rules_there : HaveSameRules a b partners own other → HasRules (rules_of a own) (rules_of b other)
   rules_there h i r at =
       let (j, is, same) = h.rules i r at in
-      let found = place_key a b partners.avps.there.items (rules_of b other) r.key j there is in
+      let found = place_key a b partners.avps (rules_of b other) r.key j there is in
       let one : same.other ≡ found.rule = same_Some same.other found.rule (sym same.at ∙ found.at) in
       let key : r.key ≡ same.other.key = sym (ap (λ (s : DRule). s.key) one ∙ found.same) in
       (j, same.at ∙ ap (λ (s : DRule). Some s) (sym (rule_same r same.other same.kind key same.min same.max)), same.fixed)
 
   pub rules_back : HaveSameRules a b partners own other → HasRules (rules_of b other) (rules_of a own)
   rules_back h j r at =
-      let (q, is) = some_of (rule_place b a partners.avps.back.items own r) (h.others j r at) in
-      let found = place_key b a partners.avps.back.items (rules_of a own) r.key q back is in
+      let (q, is) = some_of (rule_place b a partners.avps_back own r) (h.others j r at) in
+      let found = place_key b a partners.avps_back (rules_of a own) r.key q back is in
       let s = found.rule in
       let (k, k_at, fixed) = rules_there h q s found.at in
       let place : k ≡ j = rules_apart b other k j s r sound_b k_at at found.same in
@@ -156,11 +157,11 @@ module _ (a b : Dictionary) (partners : Partners) (own other : Owner) (sound_a :
   have_rules h = record {
     rules = λ i r at.
         let (j, j_at, fixed) = h.0 i r at in
-        let place = place_found a b partners.avps.there.items (rules_of b other) r.key j r there (λ k e. rule_known a own i r k sound_a at e)
+        let place = place_found a b partners.avps (rules_of b other) r.key j r there (λ k e. rule_known a own i r k sound_a at e)
         (λ n s here same. rules_apart b other n j s r sound_b here j_at same) j_at refl in
         (j, place, record { other = r; at = j_at; kind = refl; min = refl; max = refl; fixed = fixed });
     others = λ j r at.
         let (q, q_at, fixed) = h.1 j r at in
-        some_is (rule_place b a partners.avps.back.items own r) q (place_found b a partners.avps.back.items (rules_of a own) r.key q r back (λ k e. rule_known b other j r k sound_b at e)
+        some_is (rule_place b a partners.avps_back own r) q (place_found b a partners.avps_back (rules_of a own) r.key q r back (λ k e. rule_known b other j r k sound_b at e)
         (λ n s here same. rules_apart a own n q s r sound_a here q_at same) q_at refl);
   }

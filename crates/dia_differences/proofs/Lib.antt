@@ -1,13 +1,19 @@
-pub mod Chains
-pub mod Paired
-pub mod CorrespondingRules
-pub mod SameParts
-pub mod SameMeaning
-pub mod NoLines
-pub mod PartLines
-pub mod Fields
-pub mod RulePlaces
-pub mod RuleLines
-pub mod Linked
-pub mod FoundCommands
-pub mod SameFields
+mod Chains
+mod Paired
+mod CommandMessages
+mod FoundKeys
+mod Linked
+mod SameThings
+mod Pairing
+mod PartnerPlaces
+mod CorrespondingRules
+mod SameParts
+mod SameMeaning
+mod EmptyLists
+mod NoLines
+mod OneList
+mod PartLines
+mod Fields
+mod RulePlaces
+mod RuleLines
+mod SameFields

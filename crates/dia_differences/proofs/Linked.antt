@@ -1,10 +1,9 @@
 -- The pairs the other way, place by place.
-use Rattle.std.proofs.Common.{◌≡◌, ◌≢◌, ℕ, zero, suc, ◌+◌, ◌<◌, ◌≤◌, Bool, true, false, cond, ltb, List, [], ◌∷◌, ◌++◌, length, set, get_or, Option, Some, None, refl, sym, ap, subst, ◌∙◌, arith, inl, inr, get_or-set_same, get_or-set_other, length-set, length-append}
+use Rattle.std.proofs.Common.{◌≡◌, ◌≢◌, ℕ, zero, suc, ◌+◌, ◌<◌, ◌≤◌, Bool, true, false, cond, ltb, List, [], ◌∷◌, ◌++◌, length, set, Option, Some, None, refl, sym, ap, subst, ◌∙◌, arith, inl, inr, get_or-set_same, get_or-set_other, length-set, length-append}
 use Rattle.std.specs.Prelude.{◌⊎◌, slice_get}
 use Rattle.std.proofs.lemmas.Bool.{cases_eq, cases_lt, ltb-false, ltb-true}
 use Rattle.std.proofs.lemmas.Option.{none-some, same_Some, slice_get-get_or, slice_get_past, slice_get_within}
 use Rattle.dia_book.proofs.Members.{at_append}
-use Rattle.dia_valid.proofs.Members.{there_is}
 use Rattle.dia_differences.specs.Partners.{AreBothWays, AreNone, linked}
 
 set_same : {X : Type 0} (xs : List X) (i : ℕ) (v : X) → i < length xs → slice_get (set xs i v) i ≡ Some v
@@ -29,6 +28,7 @@ linked_none there back count h = record { many = h.many; back_of = λ i j at. ab
 
 pub linked_all : (there back : List (Option ℕ)) (count n : ℕ) → length there ≤ n → IsLinked there back count n → AreBothWays there back count
 linked_all there back count n all h = record {
+  many = h.many;
   back_of = h.back_of;
   there_of = λ i j at within. h.there_of i j (let inside : i < length there = slice_get_within there i (Some j) at in omega arith) at within;
 }

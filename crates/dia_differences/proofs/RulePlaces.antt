@@ -1,20 +1,20 @@
 -- The place of a rule, by the look-ups of a dictionary.
-use Rattle.std.proofs.Common.{◌≡◌, ℕ, ◌<◌, Bool, true, false, cond, List, [], length, Option, Some, None, refl, sym, ap, subst, ◌∙◌}
+use Rattle.std.proofs.Common.{◌≡◌, ℕ, ◌<◌, Bool, true, false, cond, List, [], length, Option, Some, None, refl, sym, ap, ◌∙◌}
 use Rattle.std.specs.Prelude.{IfSome, not, is_some, option_and_then, slice_get, position}
 use Rattle.std.specs.Option.{option_map_or}
-use Rattle.std.proofs.lemmas.Option.{none-some, same_Some}
+use Rattle.std.proofs.lemmas.Option.{same_Some}
 use Rattle.dia_wire.specs.declared.Key.{Key}
 use Rattle.dia_book.specs.declared.definition.DRule.{DRule}
 use Rattle.dia_book.specs.declared.definition.Slot.{Slot}
 use Rattle.dia_book.specs.declared.definition.Slot.TheVariants as slot
 use Rattle.dia_book.specs.Rules.{is_fixed}
-use Rattle.dia_book.specs.Dictionary.{Dictionary, PlainDefinition, definitions, entry_of, lists_key, slot_at, slot_of}
+use Rattle.dia_book.specs.Dictionary.{Dictionary, PlainDefinition, definitions, lists_key, slot_at, slot_of}
 use Rattle.dia_valid.proofs.Entries.{at_position}
 use Rattle.dia_valid.proofs.Members.{at_some, there_is, when_some}
 use Rattle.dia_owners.specs.declared.owner.Owner.{Owner}
-use Rattle.dia_owners.specs.Owners.{definition_of, rules_of}
+use Rattle.dia_owners.specs.Owners.{definition_of}
 use Rattle.dia_owners.proofs.Owned.{rules_none, rules_some}
-use Rattle.dia_differences.specs.Matching.{other_key, partner_of, place_by, rule_place}
+use Rattle.dia_differences.specs.Matching.{other_key, place_by, rule_place}
 use Rattle.dia_differences.specs.Slots.{slot_place}
 
 -- the place of a key's slot is that of its rule

@@ -1,6 +1,6 @@
 -- Whether the entries at two places have the same field.
-use Rattle.std.proofs.Common.{◌≡◌, ℕ, ◌<◌, Bool, List, length, Option, Some, sym, ap, subst, ◌∙◌}
-use Rattle.std.specs.Prelude.{◌↔◌, IfSome, IsTrue, slice_get}
+use Rattle.std.proofs.Common.{◌≡◌, ℕ, ◌<◌, List, length, sym, subst}
+use Rattle.std.specs.Prelude.{◌↔◌, IfSome, slice_get}
 use Rattle.dia_valid.proofs.Members.{at_some, there_is}
 use Rattle.dia_differences.specs.Matching.{At}
 use Rattle.dia_differences.proofs.Paired.{at_both, both_at}

@@ -1,5 +1,5 @@
 -- AVPs and commands that have the same fields and rules are the same.
-use Rattle.std.proofs.Common.{◌≡◌, ℕ, List, [], length, Option, Some, None, refl, sym, ap, subst, ◌∙◌, inl, inr}
+use Rattle.std.proofs.Common.{◌≡◌, ℕ, List, [], Option, Some, None, refl, sym, ap, subst, ◌∙◌, inl, inr}
 use Rattle.dia_data.specs.Below.{ValuesBelow}
 use Rattle.std.specs.Prelude.{option_and_then, slice_get}
 use Rattle.std.specs.Option.{option_map_or}
@@ -18,7 +18,8 @@ use Rattle.dia_differences.specs.declared.lines.AvpField.TheVariants as avps
 use Rattle.dia_differences.specs.declared.lines.HeadField.TheVariants as heads
 use Rattle.dia_differences.specs.Headers.{pxy_of, selector}
 use Rattle.dia_differences.specs.Same.{AreSameRules, IsSameAvp, IsSameCommand, IsSameFormat, avp_rules}
-use Rattle.dia_differences.specs.Matching.{HaveSameFields, HaveSameHeads, IsSameField, IsSameHeadField}
+use Rattle.dia_differences.specs.Matching.{IsSameField, IsSameHeadField}
+use Rattle.dia_differences.proofs.SameThings.{HaveSameFields, HaveSameHeads}
 use Rattle.dia_differences.proofs.Paired.{at_both, both_at}
 
 key_same : (k l : Key) → k.code ≡ l.code → k.vendor ≡ l.vendor → k ≡ l

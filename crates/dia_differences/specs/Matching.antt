@@ -1,19 +1,15 @@
--- What of two dictionaries corresponds, and where that is the same.
-use Rattle.std.specs.Prelude.{◌≡◌, ◌+◌, ◌≤◌, ◌<◌, ℕ, nat_lt, if◌then◌else◌, not, true, is_some, IfSome, IsSome, List, length, Option, Some, None, option_and_then, slice_get, position}
-use Rattle.std.specs.Option.{option_map_or}
+-- What of two definitions corresponds, and where that is the same.
+use Rattle.std.specs.Prelude.{◌≡◌, ℕ, nat_lt, if◌then◌else◌, not, true, is_some, IfSome, List, length, Option, Some, None, option_and_then, slice_get, position}
 use Rattle.dia_wire.specs.declared.Key.{Key}
 use Rattle.dia_book.specs.declared.definition.DRule.{DRule}
 use Rattle.dia_book.specs.Dictionary.{Dictionary, DictEntry, PlainDefinition, entry_of, lists_key}
 use Rattle.dia_book.specs.Rules.{is_fixed}
 use Rattle.dia_owners.specs.declared.owner.Owner.{Owner}
-use Rattle.dia_owners.specs.declared.owner.Owner.TheVariants.{Avp, Command}
 use Rattle.dia_owners.specs.Owners.{rules_of}
 use Rattle.dia_differences.specs.declared.lines.AvpField.{AvpField}
 use Rattle.dia_differences.specs.declared.lines.AvpField.TheVariants as avps
 use Rattle.dia_differences.specs.declared.lines.HeadField.{HeadField}
 use Rattle.dia_differences.specs.declared.lines.HeadField.TheVariants as heads
-use Rattle.dia_differences.specs.declared.lines.Line.{Line}
-use Rattle.dia_differences.specs.declared.partners.Partners.{Partners}
 use Rattle.dia_differences.specs.Headers.{pxy_of, selector}
 use Rattle.dia_differences.specs.Same.{IsSameFormat}
 
@@ -25,14 +21,6 @@ below count other = if nat_lt other count then Some other else None
 
 abbrev pub partner_of : List (Option ℕ) → ℕ → ℕ → Option ℕ
 partner_of pairs i count = option_and_then (λ o. option_and_then (below count) o) (slice_get pairs i)
-
--- ---- lines
-
--- no line is added if and only if this holds
-pub record AddsUnless (old new : List Line) (P : Type 0) : Type 0 where
-  pub kept : length old ≤ length new
-  pub none : length new ≡ length old → P
-  pub same : P → length new ≡ length old
 
 -- ---- fields
 
@@ -53,20 +41,6 @@ IsSameHeadField heads.Proxiable x y = pxy_of x.head ≡ pxy_of y.head
 -- the two at these places are in a relation
 abbrev pub At : {X : Type 0} → (X → X → Type 0) → List X → List X → ℕ → ℕ → Type 0
 At R xs ys i j = IfSome (slice_get xs i) (λ x. IfSome (slice_get ys j) (R x))
-
-pub record HaveSameFields (a b : Dictionary) (i j : ℕ) : Type 0 where
-  pub name : At (IsSameField avps.Name) a.entries b.entries i j
-  pub code : At (IsSameField avps.Code) a.entries b.entries i j
-  pub vendor : At (IsSameField avps.Vendor) a.entries b.entries i j
-  pub format : At (IsSameField avps.Format) a.entries b.entries i j
-  pub m_rule : At (IsSameField avps.MRule) a.entries b.entries i j
-
-pub record HaveSameHeads (a b : Dictionary) (i j : ℕ) : Type 0 where
-  pub name : At (IsSameHeadField heads.Name) a.commands b.commands i j
-  pub code : At (IsSameHeadField heads.Code) a.commands b.commands i j
-  pub class : At (IsSameHeadField heads.Class) a.commands b.commands i j
-  pub app : At (IsSameHeadField heads.Application) a.commands b.commands i j
-  pub p : At (IsSameHeadField heads.Proxiable) a.commands b.commands i j
 
 -- ---- rules
 
@@ -91,24 +65,3 @@ pub record IsSameAt (rule : DRule) (place : ℕ) (others : List DRule) (other_pl
   pub min : rule.min ≡ other.min
   pub max : rule.max ≡ other.max
   pub fixed : is_fixed rule ≡ true → place ≡ other_place
-
-abbrev pub HasSameRule : Dictionary → Dictionary → List (Option ℕ) → Owner → ℕ → DRule → Type 0
-HasSameRule a b pairs of i r = (j : ℕ) × (rule_place a b pairs of r ≡ Some j) × IsSameAt r i (rules_of b of) j
-
-pub record HaveSameRules (a b : Dictionary) (partners : Partners) (own other : Owner) : Type 0 where
-  pub rules : (i : ℕ) (r : DRule) → slice_get (rules_of a own) i ≡ Some r → HasSameRule a b partners.avps.there.items other i r
-  pub others : (j : ℕ) (r : DRule) → slice_get (rules_of b other) j ≡ Some r → IsSome (rule_place b a partners.avps.back.items own r)
-
--- ---- AVPs and commands
-
-pub record HasSameAvp (a b : Dictionary) (partners : Partners) (i : ℕ) : Type 0 where
-  pub place : ℕ
-  pub is : partner_of partners.avps.there.items i (length b.entries) ≡ Some place
-  pub fields : HaveSameFields a b i place
-  pub rules : HaveSameRules a b partners (Avp i) (Avp place)
-
-pub record HasSameCommand (a b : Dictionary) (partners : Partners) (i : ℕ) : Type 0 where
-  pub place : ℕ
-  pub is : partner_of partners.commands.there.items i (length b.commands) ≡ Some place
-  pub fields : HaveSameHeads a b i place
-  pub rules : HaveSameRules a b partners (Command i) (Command place)

@@ -1,11 +1,13 @@
 //! The lines of AVPs and their rules.
 
-ghost use Rattle.std.specs.Prelude.{◌≡◌, ◌<◌, ◌↔◌, ℕ, IsSome, IsTrue, OnOk, length};
+ghost use Rattle.std.specs.Prelude.{◌≡◌, ◌<◌, ◌↔◌, IsTrue, OnOk, length};
 ghost use Rattle.dia_data.specs.Plain.{plain_format};
 ghost use Rattle.dia_differences.specs.Same.{IsSameFormat};
-ghost use Rattle.dia_differences.specs.Matching.{AddsUnless, At, HasSameAvp, HaveSameFields, IsSameField, partner_of};
+ghost use Rattle.dia_differences.specs.Matching.{At, IsSameField, partner_of};
+ghost use Rattle.dia_differences.specs.Lines.{AddedAvp, Adds, AloneAvp, AvpLines, AvpsAdded, AvpsOfFirst, FieldLine, FieldLines};
+ghost use Rattle.dia_differences.specs.Partners.{paired};
 
-use crate::lines::{AvpField, Line, What, push_unless};
+use crate::lines::{AvpField, Line, What, push_line, push_unless};
 use crate::partners::Partners;
 use crate::rules::{push_all_rules, push_rules};
 use crate::sides::Side;
@@ -21,8 +23,8 @@ pub fn push_avps<A: Book, B: Book>(
     b: &B,
     partners: &Partners,
 ) -> Result<(), AllocError>
-    ensures { OnOk result (AddsUnless lines.old.items lines.new.items
-        ((i : ℕ) → i < length (A.meaning a.now).entries → HasSameAvp (A.meaning a.now) (B.meaning b.now) partners.now i)) }
+    ensures { OnOk result (Adds lines.old.items lines.new.items
+        (AvpsOfFirst (A.meaning a.now) (B.meaning b.now) (paired partners.now))) }
 {
     for first in 0..a.entries() {
         push_avp(lines, a, first, b, partners)?;
@@ -39,8 +41,9 @@ fn push_avp<A: Book, B: Book>(
     partners: &Partners,
 ) -> Result<(), AllocError>
     requires { first < length (A.meaning a.now).entries }
-    ensures { OnOk result (AddsUnless lines.old.items lines.new.items
-        (HasSameAvp (A.meaning a.now) (B.meaning b.now) partners.now first)) }
+    ensures { OnOk result (Adds lines.old.items lines.new.items
+        (AvpLines (A.meaning a.now) (B.meaning b.now) (paired partners.now) first
+        (partner_of partners.now.avps.there.items first (length (B.meaning b.now).entries)))) }
 {
     match partner(&partners.avps.there, first, b.entries()) {
         Some(second) => {
@@ -58,8 +61,8 @@ pub fn push_added_avps<B: Book>(
     partners: &Partners,
     count: usize,
 ) -> Result<(), AllocError>
-    ensures { OnOk result (AddsUnless lines.old.items lines.new.items
-        ((j : ℕ) → j < length (B.meaning b.now).entries → IsSome (partner_of partners.now.avps.back.items j count))) }
+    ensures { OnOk result (Adds lines.old.items lines.new.items
+        (AvpsAdded (B.meaning b.now) count partners.now.avps.back.items)) }
 {
     for second in 0..b.entries() {
         push_added_avp(
@@ -79,7 +82,7 @@ fn push_added_avp<B: Book>(
     second: usize,
     partner: Option<usize>,
 ) -> Result<(), AllocError>
-    ensures { OnOk result (AddsUnless lines.old.items lines.new.items (IsSome partner)) }
+    ensures { OnOk result (Adds lines.old.items lines.new.items (AddedAvp (B.meaning b.now) second partner)) }
 {
     match partner {
         Some(_) => Ok(()),
@@ -102,9 +105,9 @@ fn push_alone<D: Book>(
     book: &D,
     index: usize,
 ) -> Result<(), AllocError>
-    ensures { OnOk result (AddsUnless lines.old.items lines.new.items ⊥) }
+    ensures { OnOk result (Adds lines.old.items lines.new.items (AloneAvp side (D.meaning book.now) index)) }
 {
-    push_unless(lines, false, What::Avp(side, index))?;
+    push_line(lines, What::Avp(side, index))?;
     push_all_rules(lines, side, book, Owner::Avp(index))
 }
 
@@ -118,8 +121,8 @@ fn push_fields<A: Book, B: Book>(
 ) -> Result<(), AllocError>
     requires first { first < length (A.meaning a.now).entries }
     requires second { second < length (B.meaning b.now).entries }
-    ensures { OnOk result (AddsUnless lines.old.items lines.new.items
-        (HaveSameFields (A.meaning a.now) (B.meaning b.now) first second)) }
+    ensures { OnOk result (Adds lines.old.items lines.new.items
+        (FieldLines (A.meaning a.now) (B.meaning b.now) first second)) }
 {
     push_field(lines, a, first, b, second, AvpField::Name)?;
     push_field(lines, a, first, b, second, AvpField::Code)?;
@@ -139,8 +142,8 @@ fn push_field<A: Book, B: Book>(
 ) -> Result<(), AllocError>
     requires first { first < length (A.meaning a.now).entries }
     requires second { second < length (B.meaning b.now).entries }
-    ensures { OnOk result (AddsUnless lines.old.items lines.new.items
-        (At (IsSameField field) (A.meaning a.now).entries (B.meaning b.now).entries first second)) }
+    ensures { OnOk result (Adds lines.old.items lines.new.items
+        (FieldLine (A.meaning a.now) (B.meaning b.now) first second field)) }
 {
     let same = is_same(a, a.entry_at(first), b, b.entry_at(second), field);
     push_unless(

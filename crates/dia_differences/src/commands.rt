@@ -1,13 +1,15 @@
 //! The lines of commands and their rules.
 
-ghost use Rattle.std.specs.Prelude.{◌<◌, ◌↔◌, ℕ, IsSome, IsTrue, OnOk, length};
+ghost use Rattle.std.specs.Prelude.{◌<◌, ◌↔◌, IsTrue, OnOk, length};
 ghost use Rattle.dia_book.specs.Dictionary.{plain_definition};
-ghost use Rattle.dia_differences.specs.Matching.{AddsUnless, At, HasSameCommand, HaveSameHeads};
 ghost use Rattle.dia_differences.specs.Matching.{IsSameHeadField, partner_of};
+ghost use Rattle.dia_differences.specs.Lines.{AddedCommand, Adds, AloneCommand, CommandLines, CommandsAdded, CommandsOfFirst};
+ghost use Rattle.dia_differences.specs.Lines.{HeadLine, HeadLines};
+ghost use Rattle.dia_differences.specs.Partners.{paired};
 
 use crate::avps::partner;
 use crate::headers::{pxy_of, selector_of};
-use crate::lines::{HeadField, Line, What, push_unless};
+use crate::lines::{HeadField, Line, What, push_line, push_unless};
 use crate::partners::Partners;
 use crate::rules::{push_all_rules, push_rules};
 use crate::sides::Side;
@@ -22,8 +24,8 @@ pub fn push_commands<A: Book, B: Book>(
     b: &B,
     partners: &Partners,
 ) -> Result<(), AllocError>
-    ensures { OnOk result (AddsUnless lines.old.items lines.new.items
-        ((i : ℕ) → i < length (A.meaning a.now).commands → HasSameCommand (A.meaning a.now) (B.meaning b.now) partners.now i)) }
+    ensures { OnOk result (Adds lines.old.items lines.new.items
+        (CommandsOfFirst (A.meaning a.now) (B.meaning b.now) (paired partners.now))) }
 {
     for first in 0..a.commands() {
         push_command(lines, a, first, b, partners)?;
@@ -40,8 +42,9 @@ fn push_command<A: Book, B: Book>(
     partners: &Partners,
 ) -> Result<(), AllocError>
     requires { first < length (A.meaning a.now).commands }
-    ensures { OnOk result (AddsUnless lines.old.items lines.new.items
-        (HasSameCommand (A.meaning a.now) (B.meaning b.now) partners.now first)) }
+    ensures { OnOk result (Adds lines.old.items lines.new.items
+        (CommandLines (A.meaning a.now) (B.meaning b.now) (paired partners.now) first
+        (partner_of partners.now.commands.there.items first (length (B.meaning b.now).commands)))) }
 {
     match partner(&partners.commands.there, first, b.commands()) {
         Some(second) => {
@@ -66,8 +69,8 @@ pub fn push_added_commands<B: Book>(
     partners: &Partners,
     count: usize,
 ) -> Result<(), AllocError>
-    ensures { OnOk result (AddsUnless lines.old.items lines.new.items
-        ((j : ℕ) → j < length (B.meaning b.now).commands → IsSome (partner_of partners.now.commands.back.items j count))) }
+    ensures { OnOk result (Adds lines.old.items lines.new.items
+        (CommandsAdded (B.meaning b.now) count partners.now.commands.back.items)) }
 {
     for second in 0..b.commands() {
         push_added_command(
@@ -87,7 +90,7 @@ fn push_added_command<B: Book>(
     second: usize,
     partner: Option<usize>,
 ) -> Result<(), AllocError>
-    ensures { OnOk result (AddsUnless lines.old.items lines.new.items (IsSome partner)) }
+    ensures { OnOk result (Adds lines.old.items lines.new.items (AddedCommand (B.meaning b.now) second partner)) }
 {
     match partner {
         Some(_) => Ok(()),
@@ -102,9 +105,9 @@ fn push_alone<D: Book>(
     book: &D,
     index: usize,
 ) -> Result<(), AllocError>
-    ensures { OnOk result (AddsUnless lines.old.items lines.new.items ⊥) }
+    ensures { OnOk result (Adds lines.old.items lines.new.items (AloneCommand side (D.meaning book.now) index)) }
 {
-    push_unless(lines, false, What::Command(side, index))?;
+    push_line(lines, What::Command(side, index))?;
     push_all_rules(lines, side, book, Owner::Command(index))
 }
 
@@ -118,8 +121,8 @@ fn push_fields<A: Book, B: Book>(
 ) -> Result<(), AllocError>
     requires first { first < length (A.meaning a.now).commands }
     requires second { second < length (B.meaning b.now).commands }
-    ensures { OnOk result (AddsUnless lines.old.items lines.new.items
-        (HaveSameHeads (A.meaning a.now) (B.meaning b.now) first second)) }
+    ensures { OnOk result (Adds lines.old.items lines.new.items
+        (HeadLines (A.meaning a.now) (B.meaning b.now) first second)) }
 {
     push_field(lines, a, first, b, second, HeadField::Name)?;
     push_field(lines, a, first, b, second, HeadField::Code)?;
@@ -139,8 +142,8 @@ fn push_field<A: Book, B: Book>(
 ) -> Result<(), AllocError>
     requires first { first < length (A.meaning a.now).commands }
     requires second { second < length (B.meaning b.now).commands }
-    ensures { OnOk result (AddsUnless lines.old.items lines.new.items
-        (At (IsSameHeadField field) (A.meaning a.now).commands (B.meaning b.now).commands first second)) }
+    ensures { OnOk result (Adds lines.old.items lines.new.items
+        (HeadLine (A.meaning a.now) (B.meaning b.now) first second field)) }
 {
     let own = a.def(a.command_at(first));
     let other = b.def(b.command_at(second));

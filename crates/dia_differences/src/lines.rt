@@ -1,6 +1,6 @@
 //! The lines: what differs.
-ghost use Rattle.std.specs.Prelude.{OnOk, IsTrue};
-ghost use Rattle.dia_differences.specs.Matching.{AddsUnless};
+ghost use Rattle.std.specs.Prelude.{◌≡◌, ◌∷◌, ◌++◌, OnOk, [], if◌then◌else◌};
+ghost use Rattle.dia_differences.specs.Lines.{unmarked};
 
 use crate::sides::Side;
 use dia_owners::Owner;
@@ -71,7 +71,9 @@ pub struct Line {
 
 impl Line {
     /// A line that breaks nothing so far.
-    pub fn new(what: What) -> Line {
+    pub fn new(what: What) -> Line
+        ensures { result ≡ unmarked what }
+    {
         Line {
             what,
             there: false,
@@ -82,10 +84,16 @@ impl Line {
 
 /// Adds a line, unless what it is about is the same.
 pub(crate) fn push_unless(lines: &mut Vec<Line>, same: bool, what: What) -> Result<(), AllocError>
-    ensures { OnOk result (AddsUnless lines.old.items lines.new.items (IsTrue same)) }
+    ensures { OnOk result (lines.new.items
+        ≡ if same then lines.old.items else lines.old.items ++ unmarked what ∷ []) }
 {
-    if !same {
-        lines.push(Line::new(what))?;
-    }
+    if same { Ok(()) } else { push_line(lines, what) }
+}
+
+/// Adds a line.
+pub(crate) fn push_line(lines: &mut Vec<Line>, what: What) -> Result<(), AllocError>
+    ensures { OnOk result (lines.new.items ≡ lines.old.items ++ unmarked what ∷ []) }
+{
+    lines.push(Line::new(what))?;
     Ok(())
 }

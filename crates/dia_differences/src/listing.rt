@@ -1,6 +1,7 @@
 //! All lines, in their order.
-ghost use Rattle.std.specs.Prelude.{◌≡◌, ◌↔◌, IfOk, length};
-ghost use Rattle.dia_differences.specs.Partners.{ArePartners};
+ghost use Rattle.std.specs.Prelude.{◌≡◌, ◌↔◌, IfOk, [], length};
+ghost use Rattle.dia_differences.specs.Lines.{Adds, AreDifferences};
+ghost use Rattle.dia_differences.specs.Partners.{matches_of, paired};
 ghost use Rattle.dia_differences.specs.Same.{IsSameDictionary};
 
 use crate::avps::{push_added_avps, push_avps};
@@ -19,8 +20,10 @@ pub fn lines_of<A: Book, B: Book>(
     b: &B,
     partners: &Partners,
 ) -> Result<Vec<Line>, AllocError>
-    requires { ArePartners (A.meaning a.now) (B.meaning b.now) partners.now }
-    ensures { IfOk result
+    requires { paired partners.now ≡ matches_of (A.meaning a.now) (B.meaning b.now) }
+    ensures differences { IfOk result
+        (λ lines. Adds [] lines.items (AreDifferences (A.meaning a.now) (B.meaning b.now))) }
+    ensures none { IfOk result
         (λ lines. (length lines.items ≡ 0) ↔ IsSameDictionary (A.meaning a.now) (B.meaning b.now)) }
 {
     let mut lines = Vec::new(alloc);

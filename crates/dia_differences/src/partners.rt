@@ -1,8 +1,12 @@
 //! Which AVPs and commands of two dictionaries correspond.
 
-ghost use Rattle.std.specs.Prelude.{◌≡◌, ◌<◌, IfOk, length};
-ghost use Rattle.dia_differences.specs.Partners.{AreAvpsThere, AreBothWays, AreCommandsThere, AreNone, ArePartners};
-ghost use Rattle.dia_differences.specs.Partners.{FindsCommands, IsAvpThere, IsCommandThere, linked};
+ghost use Rattle.std.specs.Prelude.{◌≡◌, ◌<◌, IfOk, IfSome, length, map, option_and_then, position, slice_get};
+ghost use Rattle.std.specs.HashMap.{get};
+ghost use Rattle.std.specs.Str.{bytes_eq};
+ghost use Rattle.dia_differences.specs.Headers.{messages};
+ghost use Rattle.dia_differences.specs.Partners.{AreBothWays, AreNone, FindsAvps, FindsCommands, FindsNames};
+ghost use Rattle.dia_differences.specs.Partners.{avp_partner, command_partner, has_key, linked, matches_of, paired};
+ghost use Rattle.dia_differences.specs.Partners.{same_messages, unless_in, unless_known};
 
 use crate::headers::{Messages, messages_of};
 use dia_book::{Book, Entry};
@@ -25,7 +29,7 @@ pub struct Partners {
 
 impl Partners {
     pub fn new<A: Book, B: Book>(alloc: Global, a: &A, b: &B) -> Result<Self, AllocError>
-        ensures { IfOk result (ArePartners (A.meaning a.now) (B.meaning b.now)) }
+        ensures { IfOk result (λ partners. paired partners ≡ matches_of (A.meaning a.now) (B.meaning b.now)) }
     {
         let avps = avp_pairs(alloc, a, b)?;
         let commands = command_pairs(alloc, a, b)?;
@@ -34,18 +38,20 @@ impl Partners {
 }
 
 fn avp_pairs<A: Book, B: Book>(alloc: Global, a: &A, b: &B) -> Result<Pairs, AllocError>
-    ensures there { IfOk result (λ pairs. AreAvpsThere (A.meaning a.now) (B.meaning b.now) pairs.there.items) }
+    ensures there { IfOk result
+        (λ pairs. pairs.there.items ≡ map (avp_partner (A.meaning a.now) (B.meaning b.now)) (A.meaning a.now).entries) }
     ensures back { IfOk result
-        (λ pairs. AreBothWays pairs.there.items pairs.back.items (length (B.meaning b.now).entries)) }
+        (λ pairs. pairs.back.items ≡ map (avp_partner (B.meaning b.now) (A.meaning a.now)) (B.meaning b.now).entries) }
 {
     let there = avps_there(alloc, a, b)?;
     both_ways(alloc, there, b.entries())
 }
 
 fn command_pairs<A: Book, B: Book>(alloc: Global, a: &A, b: &B) -> Result<Pairs, AllocError>
-    ensures there { IfOk result (λ pairs. AreCommandsThere (A.meaning a.now) (B.meaning b.now) pairs.there.items) }
+    ensures there { IfOk result
+        (λ pairs. pairs.there.items ≡ map (command_partner (A.meaning a.now) (B.meaning b.now)) (A.meaning a.now).commands) }
     ensures back { IfOk result
-        (λ pairs. AreBothWays pairs.there.items pairs.back.items (length (B.meaning b.now).commands)) }
+        (λ pairs. pairs.back.items ≡ map (command_partner (B.meaning b.now) (A.meaning a.now)) (B.meaning b.now).commands) }
 {
     let there = commands_there(alloc, a, b)?;
     both_ways(alloc, there, b.commands())
@@ -101,7 +107,8 @@ fn avps_there<A: Book, B: Book>(
     a: &A,
     b: &B,
 ) -> Result<Vec<Option<usize>>, AllocError>
-    ensures { IfOk result (λ there. AreAvpsThere (A.meaning a.now) (B.meaning b.now) there.items) }
+    ensures { IfOk result
+        (λ there. there.items ≡ map (avp_partner (A.meaning a.now) (B.meaning b.now)) (A.meaning a.now).entries) }
 {
     let names = avp_names(alloc, b)?;
     let mut there = Vec::with_capacity(alloc, a.entries())?;
@@ -119,35 +126,51 @@ fn avp_there<A: Book, B: Book>(
     b: &B,
     names: &HashMap<&str, usize>,
 ) -> Option<usize>
-    requires { entry < length (A.meaning a.now).entries }
-    ensures { IsAvpThere (A.meaning a.now) (B.meaning b.now) entry result }
+    requires within { entry < length (A.meaning a.now).entries }
+    requires names { FindsAvps (B.meaning b.now) names.now }
+    ensures { IfSome (slice_get (A.meaning a.now).entries entry)
+        (λ x. result ≡ avp_partner (A.meaning a.now) (B.meaning b.now) x) }
 {
     match b.avp(a.entry_key(entry)) {
         Some(other) => Some(other.index()),
-        None => avp_by_name(a, entry, b, names),
+        None => avp_by_name(a, a.entry_name(entry), b, names),
     }
 }
 
-/// The AVP of B with the name of one of A, if A doesn't know its key.
+/// The AVP of B with a name, if A doesn't know its key.
 fn avp_by_name<A: Book, B: Book>(
     a: &A,
-    entry: Entry,
+    name: &str,
     b: &B,
     names: &HashMap<&str, usize>,
 ) -> Option<usize>
-    requires { entry < length (A.meaning a.now).entries }
+    requires { FindsAvps (B.meaning b.now) names.now }
+    ensures { result ≡ option_and_then
+        (unless_known has_key (A.meaning a.now).entries (B.meaning b.now).entries)
+        (position (λ e. bytes_eq name.now e.name) (B.meaning b.now).entries) }
 {
-    let place = names.get(&a.entry_name(entry)).copied()?;
-    if place >= b.entries() {
-        return None;
+    match names.get(&name) {
+        Some(place) => unless_key_known(a, b, *place),
+        None => None,
     }
+}
+
+/// The AVP of B at a place, if A doesn't know its key.
+fn unless_key_known<A: Book, B: Book>(a: &A, b: &B, place: usize) -> Option<usize>
+    requires { place < length (B.meaning b.now).entries }
+    ensures { result
+        ≡ unless_known has_key (A.meaning a.now).entries (B.meaning b.now).entries place }
+{
     match a.avp(b.entry_key(b.entry_at(place))) {
         Some(_) => None,
         None => Some(place),
     }
 }
 
-fn avp_names<B: Book>(alloc: Global, book: &B) -> Result<HashMap<&str, usize>, AllocError> {
+/// The place of each AVP, by its name.
+fn avp_names<B: Book>(alloc: Global, book: &B) -> Result<HashMap<&str, usize>, AllocError>
+    ensures { IfOk result (FindsAvps (B.meaning book.now)) }
+{
     let mut names = HashMap::new(alloc);
     for index in 0..book.entries() {
         names.insert(book.entry_name(book.entry_at(index)), index)?;
@@ -160,7 +183,8 @@ fn commands_there<A: Book, B: Book>(
     a: &A,
     b: &B,
 ) -> Result<Vec<Option<usize>>, AllocError>
-    ensures { IfOk result (λ there. AreCommandsThere (A.meaning a.now) (B.meaning b.now) there.items) }
+    ensures { IfOk result
+        (λ there. there.items ≡ map (command_partner (A.meaning a.now) (B.meaning b.now)) (A.meaning a.now).commands) }
 {
     let own = all_messages(alloc, a)?;
     let others = all_messages(alloc, b)?;
@@ -182,8 +206,11 @@ fn command_there<A: Book, B: Book>(
     names: &HashMap<&str, usize>,
 ) -> Option<usize>
     requires within { index < length (A.meaning a.now).commands }
+    requires own { FindsCommands (A.meaning a.now) own.now }
     requires others { FindsCommands (B.meaning b.now) others.now }
-    ensures { IsCommandThere (A.meaning a.now) (B.meaning b.now) index result }
+    requires names { FindsNames (B.meaning b.now) names.now }
+    ensures { IfSome (slice_get (A.meaning a.now).commands index)
+        (λ x. result ≡ command_partner (A.meaning a.now) (B.meaning b.now) x) }
 {
     let command = a.def(a.command_at(index));
     match others.get(&messages_of(command.head)) {
@@ -198,11 +225,28 @@ fn command_by_name<B: Book>(
     b: &B,
     own: &HashMap<Messages, usize>,
     names: &HashMap<&str, usize>,
-) -> Option<usize> {
-    let place = names.get(&name).copied()?;
-    if place >= b.commands() {
-        return None;
+) -> Option<usize>
+    requires { FindsNames (B.meaning b.now) names.now }
+    ensures { result ≡ option_and_then
+        (unless_in (λ y. get same_messages own.now (messages y.head)) (B.meaning b.now).commands)
+        (position (λ c. bytes_eq name.now c.name) (B.meaning b.now).commands) }
+{
+    match names.get(&name) {
+        Some(place) => unless_messages_known(b, own, *place),
+        None => None,
     }
+}
+
+/// The command of B at a place, if A has none for its messages.
+fn unless_messages_known<B: Book>(
+    b: &B,
+    own: &HashMap<Messages, usize>,
+    place: usize,
+) -> Option<usize>
+    requires { place < length (B.meaning b.now).commands }
+    ensures { result
+        ≡ unless_in (λ y. get same_messages own.now (messages y.head)) (B.meaning b.now).commands place }
+{
     match own.get(&messages_of(b.def(b.command_at(place)).head)) {
         Some(_) => None,
         None => Some(place),
@@ -221,7 +265,10 @@ fn all_messages<B: Book>(alloc: Global, book: &B) -> Result<HashMap<Messages, us
     Ok(found)
 }
 
-fn command_names<B: Book>(alloc: Global, book: &B) -> Result<HashMap<&str, usize>, AllocError> {
+/// The place of each command, by its name.
+fn command_names<B: Book>(alloc: Global, book: &B) -> Result<HashMap<&str, usize>, AllocError>
+    ensures { IfOk result (FindsNames (B.meaning book.now)) }
+{
     let mut names = HashMap::new(alloc);
     for index in 0..book.commands() {
         names.insert(book.def(book.command_at(index)).name.as_str(), index)?;

@@ -1,17 +1,17 @@
 //! The lines of rules.
 
-ghost use Rattle.std.specs.Prelude.{◌≡◌, ◌≤◌, ◌<◌, ◌↔◌, ℕ, IfSome, IsSome, IsTrue, OnOk, Some, is_some, length, not};
-ghost use Rattle.std.specs.Prelude.{option_and_then, position, slice_get, true};
+ghost use Rattle.std.specs.Prelude.{◌≡◌, ◌<◌, ◌↔◌, IfSome, IsTrue, OnOk, is_some, length, not};
+ghost use Rattle.std.specs.Prelude.{◌∷◌, ◌++◌, [], if◌then◌else◌, option_and_then, position, slice_get, true};
 ghost use Rattle.dia_book.specs.Dictionary.{definitions, lists_key};
 ghost use Rattle.dia_book.specs.Rules.{is_fixed};
-ghost use Rattle.dia_book.specs.declared.DRule.{DRule as AnyRule};
 ghost use Rattle.dia_owners.specs.Owners.{rules_of};
-ghost use Rattle.dia_differences.specs.Matching.{AddsUnless, HasSameRule, HaveSameRules, IsSameAt};
-ghost use Rattle.dia_differences.specs.Matching.{other_key, place_by, rule_place};
+ghost use Rattle.dia_differences.specs.Lines.{Adds, AllRules, OtherRules, OwnRules, RuleLine, RuleLines, unmarked};
+ghost use Rattle.dia_differences.specs.Matching.{IsSameAt, other_key, place_by, rule_place};
+ghost use Rattle.dia_differences.specs.Partners.{paired};
 ghost use Rattle.dia_differences.specs.Slots.{slot_place};
 
 use crate::avps::partner;
-use crate::lines::{Line, RulePlace, What, push_unless};
+use crate::lines::{Line, RulePlace, What, push_line, push_unless};
 use crate::partners::Partners;
 use crate::sides::Side;
 use dia_book::{Book, DRule, DefId, Definition, Key, RuleKind, Slot};
@@ -25,10 +25,12 @@ pub fn push_all_rules<D: Book>(
     book: &D,
     of: Owner,
 ) -> Result<(), AllocError>
-    ensures { OnOk result (length lines.old.items ≤ length lines.new.items) }
+    ensures { OnOk result (Adds lines.old.items lines.new.items
+        (AllRules side of (length (rules_of (D.meaning book.now) of)))) }
 {
-    for rule in 0..of.rules(book).len() {
-        lines.push(Line::new(What::Rule(side, RulePlace { of, rule })))?;
+    let rules = of.rules(book);
+    for rule in 0..rules.len() {
+        push_line(lines, What::Rule(side, RulePlace { of, rule }))?;
     }
     Ok(())
 }
@@ -42,8 +44,8 @@ pub fn push_rules<A: Book, B: Book>(
     other: Owner,
     partners: &Partners,
 ) -> Result<(), AllocError>
-    ensures { OnOk result (AddsUnless lines.old.items lines.new.items
-        (HaveSameRules (A.meaning a.now) (B.meaning b.now) partners.now own other)) }
+    ensures { OnOk result (Adds lines.old.items lines.new.items
+        (RuleLines (A.meaning a.now) (B.meaning b.now) (paired partners.now) own other)) }
 {
     push_own_rules(lines, a, own, b, other, &partners.avps.there)?;
     push_other_rules(lines, b, other, a, own, &partners.avps.back)
@@ -58,9 +60,8 @@ fn push_own_rules<A: Book, B: Book>(
     other: Owner,
     pairs: &[Option<usize>],
 ) -> Result<(), AllocError>
-    ensures { OnOk result (AddsUnless lines.old.items lines.new.items
-        ((i : ℕ) (r : AnyRule) → slice_get (rules_of (A.meaning a.now) own) i ≡ Some r
-        → HasSameRule (A.meaning a.now) (B.meaning b.now) pairs.now other i r)) }
+    ensures { OnOk result (Adds lines.old.items lines.new.items
+        (OwnRules (A.meaning a.now) (B.meaning b.now) pairs.now own other)) }
 {
     let rules = own.rules(a);
     for place in 0..rules.len() {
@@ -83,11 +84,12 @@ fn push_own_rule<A: Book, B: Book>(
     other: Owner,
     pairs: &[Option<usize>],
 ) -> Result<(), AllocError>
-    ensures { OnOk result (AddsUnless lines.old.items lines.new.items
-        (HasSameRule (A.meaning a.now) (B.meaning b.now) pairs.now other first.rule rule)) }
+    ensures { OnOk result (Adds lines.old.items lines.new.items
+        (RuleLine first.of other first.rule rule (rules_of (B.meaning b.now) other)
+        (rule_place (A.meaning a.now) (B.meaning b.now) pairs.now other rule))) }
 {
     match rule_for(a, rule, b, other, pairs) {
-        None => push_unless(lines, false, What::Rule(Side::First, first)),
+        None => push_line(lines, What::Rule(Side::First, first)),
         Some(place) => {
             let second = RulePlace {
                 of: other,
@@ -108,9 +110,8 @@ fn push_other_rules<A: Book, B: Book>(
     own: Owner,
     pairs: &[Option<usize>],
 ) -> Result<(), AllocError>
-    ensures { OnOk result (AddsUnless lines.old.items lines.new.items
-        ((j : ℕ) (r : AnyRule) → slice_get (rules_of (B.meaning b.now) other) j ≡ Some r
-        → IsSome (rule_place (B.meaning b.now) (A.meaning a.now) pairs.now own r))) }
+    ensures { OnOk result (Adds lines.old.items lines.new.items
+        (OtherRules (A.meaning a.now) (B.meaning b.now) pairs.now own other)) }
 {
     let rules = other.rules(b);
     for rule in 0..rules.len() {
@@ -126,7 +127,8 @@ fn push_other_rule(
     place: Option<usize>,
     second: RulePlace,
 ) -> Result<(), AllocError>
-    ensures { OnOk result (AddsUnless lines.old.items lines.new.items (IsSome place)) }
+    ensures { OnOk result (lines.new.items
+        ≡ if is_some place then lines.old.items else lines.old.items ++ unmarked (What.Rule Side.Second second) ∷ []) }
 {
     push_unless(lines, place.is_some(), What::Rule(Side::Second, second))
 }

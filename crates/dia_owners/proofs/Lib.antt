@@ -1,2 +1,3 @@
 mod Groups
 pub mod Owned
+mod Names

@@ -1,4 +1,3 @@
-use Rattle.std.proofs.Common.{◌≡◌, ℕ, List}
 use Rattle.std.specs.Prelude.{IsTrue}
 use Rattle.dia_data.specs.Plain.{PlainFormat, plain_format}
 use Rattle.dia_differences.specs.Same.{IsSameFormat}

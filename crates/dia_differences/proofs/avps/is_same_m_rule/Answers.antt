@@ -1,4 +1,4 @@
-use Rattle.std.proofs.Common.{◌≡◌, ℕ, List}
+use Rattle.std.proofs.Common.{◌≡◌}
 use Rattle.std.specs.Prelude.{IsTrue}
 use Rattle.dia_terms.specs.declared.MRule.{MRule}
 use Rattle.dia_book.specs.Dictionary.{DictEntry}

@@ -1,9 +1,5 @@
-use Rattle.std.proofs.Common.{ℕ}
-use Rattle.std.specs.Prelude.{IsSome}
-use Rattle.dia_differences.specs.Matching.{partner_of}
-use Rattle.dia_differences.specs.Matching.{AddsUnless}
-use Rattle.dia_differences.proofs.Chains.{Before}
+use Rattle.dia_differences.specs.Lines.{AddedAvpAt, Adds, Each}
 use Rattle.dia_differences.proofs.avps.push_added_avps.Given as goal
 
 abbrev pub invariant-loop-second : goal.invariant-loop-second
-invariant-loop-second g l = AddsUnless l.initial.lines.items l.lines.items (Before (λ (i : ℕ). IsSome (partner_of l.partners.avps.back.items i l.count)) l.second)
+invariant-loop-second g l = Adds l.initial.lines.items l.lines.items (Each l.second (AddedAvpAt (g.B.Book.meaning l.b) l.count l.partners.avps.back.items))
