@@ -1,5 +1,5 @@
 -- What is written of the differences of two dictionaries, and how the command ends.
-use Rattle.std.specs.Prelude.{◌≡◌, ℕ, ◌<◌, Bool, true, false, List, length, codes}
+use Rattle.std.specs.Prelude.{◌≡◌, ℕ, Bool, true, false, List, codes}
 use Rattle.dia_io.specs.declared.Exit.{Exit}
 use Rattle.dia_io.specs.declared.Exit.TheVariants as exits
 use Rattle.dia_io.specs.declared.Input.{Input}
@@ -12,6 +12,11 @@ use Rattle.dia_report.specs.Refusals.{bad_input_text}
 use Rattle.dia_run.specs.RefusedDictionaries.{RefusesFirst, RefusesSecond}
 use Rattle.dia_run.specs.Texts.{line, IsDictionaryText}
 use Rattle.dia_refused_json.specs.Refusals.{bad_input_json}
+use Rattle.dia_differences.specs.declared.lines.Line.{Line}
+use Rattle.dia_differences.specs.Same.{IsSameDictionary}
+use Rattle.dia_differences.specs.Lines.{AreDifferences}
+use Rattle.dia_diff_text.specs.Lines.{AreTexts}
+use Rattle.dia_diff.specs.Marks.{whats}
 
 -- the line where nothing differs
 abbrev pub same_text : Bool → List ℕ
@@ -23,15 +28,19 @@ abbrev pub refused_text : Bool → Input → BadInput → List ℕ
 refused_text true input bad = bad_input_json input bad
 refused_text false input bad = line (bad_input_text bad)
 
--- the line where nothing differs, or lines
-abbrev pub IsDiffText : Bool → Exit → List ℕ → Type 0
-IsDiffText json exits.Yes text = text ≡ same_text json
-IsDiffText json exits.No text = 0 < length text
-IsDiffText json exits.Bad text = ⊥
+-- a line for each difference, in their order
+abbrev pub AreLines : Dictionary → Dictionary → Bool → List ℕ → Type 0
+AreLines a b json text = (lines : List Line) × AreDifferences a b (whats lines) × AreTexts json a b lines text
+
+-- the line where both dictionaries mean the same, and otherwise lines
+abbrev pub IsDiffText : Dictionary → Dictionary → Bool → Exit → List ℕ → Type 0
+IsDiffText a b json exits.Yes text = IsSameDictionary a b × (text ≡ same_text json)
+IsDiffText a b json exits.No text = (¬ IsSameDictionary a b) × AreLines a b json text
+IsDiffText a b json exits.Bad text = ⊥
 
 -- the dictionaries are read and answered, or one is refused
 pub data IsDiffOutcome (sends : Sends) (unknown : Unknown) (json : Bool) (inputs : Inputs) (text : List ℕ) (exit : Exit) : Type 0 where
-  answered : (a b : Dictionary) → IsDictionaryText inputs.first a → IsDictionaryText inputs.second b → IsDiffText json exit text
+  answered : (a b : Dictionary) → IsDictionaryText inputs.first a → IsDictionaryText inputs.second b → IsDiffText a b json exit text
       → IsDiffOutcome sends unknown json inputs text exit
   no_first : (bad : BadInput) → RefusesFirst inputs (bad_input_text bad) → text ≡ refused_text json inputs.first bad → exit ≡ exits.Bad
       → IsDiffOutcome sends unknown json inputs text exit

@@ -1,13 +1,15 @@
 //! The command, from its inputs to what is written.
 
-ghost use Rattle.std.specs.Prelude.{◌≡◌, ◌↔◌, ℕ, List, Err, IfOk, IsTrue, string_bytes};
+ghost use Rattle.std.specs.Prelude.{◌≡◌, ◌↔◌, ℕ, List, [], Err, IfOk, IsTrue, string_bytes};
 ghost use Rattle.std.specs.Io.KnownBytes.{Appends};
 ghost use Rattle.dia_io.specs.declared.Exit.{Exit as AnyExit};
 ghost use Rattle.dia_io.specs.Writing.{AppendsFront};
 ghost use Rattle.dia_run.specs.Texts.{IsDictionaryText};
-ghost use Rattle.dia_diff.specs.Outcome.{IsDiffOutcome, IsDiffText, refused_text, same_text};
+ghost use Rattle.dia_differences.specs.Lines.{Adds, AreDifferences};
+ghost use Rattle.dia_diff_text.specs.Lines.{AreTexts};
+ghost use Rattle.dia_diff.specs.Outcome.{AreLines, IsDiffOutcome, IsDiffText, refused_text, same_text};
 
-use crate::marking::{Traffic, mark};
+use crate::marking::{Mark, Traffic, mark_lines, marked, no_marks};
 use crate::notes::counts_of;
 use crate::subjects::Subjects;
 use dia_book::Book;
@@ -31,8 +33,8 @@ pub struct Asked {
     pub json: bool,
 }
 
-/// Writes a line for each difference in meaning between the first dictionary, A, and the second, B; `same` where there is none,
-/// and ends with `Yes`. Each line ends with whether it breaks messages from A's side to B's, or the other way.
+/// Writes a line for each difference in meaning between the first dictionary, A, and the second, B, in their order; `same` where
+/// there is none, and ends with `Yes`. Each line ends with whether it breaks messages from A's side to B's, or the other way.
 ///
 /// What is written is made first, and then written in whatever pieces the sink takes. `notes` gets what standard error is to say:
 /// nothing if memory is refused for it.
@@ -120,29 +122,54 @@ fn differences<A: Book, B: Book>(
     b: &B,
     notes: &mut String,
 ) -> Result<Answered, AllocError>
-    ensures { IfOk result (λ a. IsDiffText asked.json a.exit (string_bytes a.text)) }
+    ensures { IfOk result (λ x. IsDiffText
+        (A.meaning a.now) (B.meaning b.now) asked.json x.exit (string_bytes x.text)) }
 {
     let partners = Partners::new(alloc, a, b)?;
-    let mut lines = lines_of(alloc, a, b, &partners)?;
+    let lines = lines_of(alloc, a, b, &partners)?;
     if lines.is_empty() {
         return same(alloc, asked.json);
     }
-    mark_both(alloc, asked, a, b, &partners, &mut lines)?;
-    if let Ok(said) = counts_of(alloc, &lines) {
-        *notes = said;
-    }
-    written(alloc, asked.json, a, b, &lines)
+    let marks = marks_of(alloc, asked, a, b, &partners, &lines)?;
+    answered(alloc, asked.json, a, b, &lines, &marks, notes)
 }
 
-/// Marks the lines that break messages of either side.
-fn mark_both<A: Book, B: Book>(
+/// The answer of these lines with their marks.
+fn answered<A: Book, B: Book>(
+    alloc: Global,
+    json: bool,
+    a: &A,
+    b: &B,
+    lines: &[Line],
+    marks: &[Mark],
+    notes: &mut String,
+) -> Result<Answered, AllocError>
+    requires { Adds [] lines.now (AreDifferences (A.meaning a.now) (B.meaning b.now)) }
+    ensures exit { IfOk result (λ x. x.exit ≡ Exit.No) }
+    ensures text { IfOk result (λ x. AreLines (A.meaning a.now) (B.meaning b.now) json (string_bytes x.text)) }
+{
+    let lines = marked(alloc, lines, marks)?;
+    note_counts(alloc, &lines, notes);
+    written(alloc, json, a, b, &lines)
+}
+
+/// Notes how many lines there are: nothing if memory is refused for it.
+fn note_counts(alloc: Global, lines: &[Line], notes: &mut String) {
+    if let Ok(said) = counts_of(alloc, lines) {
+        *notes = said;
+    }
+}
+
+/// Which messages of either side the lines break.
+fn marks_of<A: Book, B: Book>(
     alloc: Global,
     asked: Asked,
     a: &A,
     b: &B,
     partners: &Partners,
-    lines: &mut Vec<Line>,
-) -> Result<(), AllocError> {
+    lines: &[Line],
+) -> Result<Vec<Mark>, AllocError> {
+    let mut marks = no_marks(alloc, lines.len())?;
     let subjects = Subjects::new(alloc, lines)?;
     let Asked { sends, unknown, .. } = asked;
     let there = Traffic {
@@ -153,7 +180,7 @@ fn mark_both<A: Book, B: Book>(
         sends,
         unknown,
     };
-    mark(alloc, lines, &subjects, &there)?;
+    mark_lines(alloc, lines, &mut marks, &subjects, &there)?;
     let back = Traffic {
         sender: b,
         receiver: a,
@@ -162,7 +189,8 @@ fn mark_both<A: Book, B: Book>(
         sends,
         unknown,
     };
-    mark(alloc, lines, &subjects, &back)
+    mark_lines(alloc, lines, &mut marks, &subjects, &back)?;
+    Ok(marks)
 }
 
 /// The answer of these lines.
@@ -173,33 +201,39 @@ fn written<A: Book, B: Book>(
     b: &B,
     lines: &[Line],
 ) -> Result<Answered, AllocError>
-    ensures { IfOk result (λ a. IsDiffText json a.exit (string_bytes a.text)) }
+    ensures exit { IfOk result (λ x. x.exit ≡ Exit.No) }
+    ensures text { IfOk result
+        (λ x. AreTexts json (A.meaning a.now) (B.meaning b.now) lines.now (string_bytes x.text)) }
+{
+    let text = text_of(alloc, json, a, b, lines)?;
+    Ok(Answered {
+        text,
+        exit: Exit::No,
+        report: Report::Done,
+    })
+}
+
+fn text_of<A: Book, B: Book>(
+    alloc: Global,
+    json: bool,
+    a: &A,
+    b: &B,
+    lines: &[Line],
+) -> Result<String, AllocError>
+    ensures { IfOk result
+        (λ text. AreTexts json (A.meaning a.now) (B.meaning b.now) lines.now (string_bytes text)) }
 {
     let mut text = String::new(alloc);
     for line in lines {
         push(alloc, &mut text, json, a, b, line)?;
     }
-    ended(alloc, json, text)
-}
-
-/// The answer of a text: where it is empty, nothing differs.
-fn ended(alloc: Global, json: bool, text: String) -> Result<Answered, AllocError>
-    ensures { IfOk result (λ a. IsDiffText json a.exit (string_bytes a.text)) }
-{
-    if text.as_str().len() > 0 {
-        Ok(Answered {
-            text,
-            exit: Exit::No,
-            report: Report::Done,
-        })
-    } else {
-        same(alloc, json)
-    }
+    Ok(text)
 }
 
 /// The answer where nothing differs.
 fn same(alloc: Global, json: bool) -> Result<Answered, AllocError>
-    ensures { IfOk result (λ a. IsDiffText json a.exit (string_bytes a.text)) }
+    ensures exit { IfOk result (λ x. x.exit ≡ Exit.Yes) }
+    ensures text { IfOk result (λ x. string_bytes x.text ≡ same_text json) }
 {
     let text = String::from_str(alloc, same_line(json))?;
     Ok(Answered {

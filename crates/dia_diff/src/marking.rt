@@ -1,14 +1,15 @@
 //! Which lines break messages: each line of `breaking` comes from the differences that it is about.
 
-ghost use Rattle.std.specs.Prelude.{◌<◌, length};
+ghost use Rattle.std.specs.Prelude.{◌≡◌, ◌<◌, IfOk, length};
 ghost use Rattle.dia_breaking.specs.Upgrades.{sides_of};
+ghost use Rattle.dia_diff.specs.Marks.{whats};
 
 use crate::finding::places_of;
 use crate::origins::origin_of;
 use crate::subjects::Subjects;
 use dia_book::Book;
 use dia_breaking::{Breaks, Upgrade};
-use dia_differences::{Line, Side};
+use dia_differences::{Line, Side, What};
 use dia_policy::{Sends, Unknown};
 use std::alloc::{AllocError, Global};
 
@@ -38,10 +39,20 @@ impl<A: Book, B: Book> Drop for Traffic<'_, A, B> {
     }
 }
 
+/// Which messages a line breaks.
+#[derive(Clone, Copy)]
+pub(crate) struct Mark {
+    /// Those of the first side.
+    pub there: bool,
+    /// Those of the second.
+    pub back: bool,
+}
+
 /// Marks the lines from which it comes that messages break.
-pub(crate) fn mark<A: Book, B: Book>(
+pub(crate) fn mark_lines<A: Book, B: Book>(
     alloc: Global,
-    lines: &mut Vec<Line>,
+    lines: &[Line],
+    marks: &mut [Mark],
     subjects: &Subjects,
     traffic: &Traffic<'_, A, B>,
 ) -> Result<(), AllocError> {
@@ -54,7 +65,7 @@ pub(crate) fn mark<A: Book, B: Book>(
     )?;
     for index in 0..upgrade.sender().commands() {
         let breaks = breaks_of(alloc, &upgrade, index)?;
-        mark_breaks(alloc, lines, subjects, traffic, index, &breaks)?;
+        mark_breaks(alloc, lines, marks, subjects, traffic, index, &breaks)?;
     }
     Ok(())
 }
@@ -75,7 +86,8 @@ fn breaks_of<A: Book, B: Book>(
 /// Marks the lines from which what breaks a command comes.
 fn mark_breaks<A: Book, B: Book>(
     alloc: Global,
-    lines: &mut Vec<Line>,
+    lines: &[Line],
+    marks: &mut [Mark],
     subjects: &Subjects,
     traffic: &Traffic<'_, A, B>,
     index: usize,
@@ -84,28 +96,60 @@ fn mark_breaks<A: Book, B: Book>(
     for line in &breaks.lines {
         let origin = origin_of(traffic, index, breaks, line);
         let places = places_of(alloc, lines, subjects, traffic, &origin)?;
-        mark_all(lines, traffic.side, &places);
+        mark_all(marks, traffic.side, &places);
     }
     Ok(())
 }
 
-/// Marks these lines; where there is none, all.
-fn mark_all(lines: &mut Vec<Line>, side: Side, places: &[usize]) {
+/// Marks the lines at these places; where there is none, all.
+fn mark_all(marks: &mut [Mark], side: Side, places: &[usize]) {
     if places.is_empty() {
-        for line in lines.iter_mut() {
-            mark_one(line, side);
+        for mark in marks.iter_mut() {
+            mark_one(mark, side);
         }
     }
     for place in places {
-        if let Some(line) = lines.get_mut(*place) {
-            mark_one(line, side);
+        if let Some(mark) = marks.get_mut(*place) {
+            mark_one(mark, side);
         }
     }
 }
 
-fn mark_one(line: &mut Line, side: Side) {
+fn mark_one(mark: &mut Mark, side: Side) {
     match side {
-        Side::First => line.there = true,
-        Side::Second => line.back = true,
+        Side::First => mark.there = true,
+        Side::Second => mark.back = true,
+    }
+}
+
+/// The marks of so many lines that break nothing.
+pub(crate) fn no_marks(alloc: Global, count: usize) -> Result<Vec<Mark>, AllocError> {
+    let mut marks = Vec::with_capacity(alloc, count)?;
+    for place in 0..count {
+        marks.push(Mark {
+            there: false,
+            back: false,
+        })?;
+    }
+    Ok(marks)
+}
+
+/// The lines with their marks.
+pub(crate) fn marked(alloc: Global, lines: &[Line], marks: &[Mark]) -> Result<Vec<Line>, AllocError>
+    ensures { IfOk result (λ found. whats found.items ≡ whats lines.now) }
+{
+    let mut found = Vec::with_capacity(alloc, lines.len())?;
+    for index in 0..lines.len() {
+        found.push(with_mark(lines[index].what, marks.get(index).copied()))?;
+    }
+    Ok(found)
+}
+
+fn with_mark(what: What, mark: Option<Mark>) -> Line
+    ensures { result.what ≡ what }
+{
+    match mark {
+        Some(Mark { there, back }) => Line { what, there, back },
+        None => Line::new(what),
     }
 }

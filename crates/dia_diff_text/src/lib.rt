@@ -4,6 +4,8 @@
 mod line;
 mod objects;
 mod parts;
+mod rules;
+mod sides;
 mod words;
 mod writing;
 

@@ -1,7 +1,11 @@
 //! A line, in the form that is asked for.
+ghost use Rattle.std.specs.Prelude.{◌≡◌, ◌++◌, OnOk, string_bytes};
+ghost use Rattle.dia_diff_text.specs.Lines.{IsLineText, written};
+ghost use Rattle.dia_diff_text.specs.Plain.{plain_parts};
+ghost use Rattle.dia_diff_text.specs.Words.{AddsText};
 
 use crate::objects::push_object;
-use crate::parts::parts_of;
+use crate::parts::{Parts, parts_of};
 use crate::writing::push_line;
 use dia_book::Book;
 use dia_differences::Line;
@@ -16,11 +20,20 @@ pub fn push<A: Book, B: Book>(
     a: &A,
     b: &B,
     line: &Line,
-) -> Result<(), AllocError> {
+) -> Result<(), AllocError>
+    ensures { OnOk result (AddsText out.old out.new (IsLineText json (A.meaning a.now) (B.meaning b.now) line.now)) }
+{
     let parts = parts_of(alloc, a, b, line)?;
+    push_parts(out, json, &parts)
+}
+
+fn push_parts(out: &mut String, json: bool, parts: &Parts<'_>) -> Result<(), AllocError>
+    ensures { OnOk result (string_bytes out.new
+        ≡ string_bytes out.old ++ written json (plain_parts parts.now)) }
+{
     if json {
-        push_object(out, &parts)
+        push_object(out, parts)
     } else {
-        push_line(out, &parts)
+        push_line(out, parts)
     }
 }

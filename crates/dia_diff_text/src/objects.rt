@@ -1,37 +1,82 @@
 //! Lines as JSON objects (RFC 8259). Names and words are of ASCII without quotes and backslashes, and need no escapes.
+ghost use Rattle.std.specs.Prelude.{◌≡◌, ◌++◌, OnOk, Some, codes, string_bytes};
+ghost use Rattle.std.specs.Option.{option_map};
+ghost use Rattle.dia_diff_text.specs.Lines.{json_breaks, json_kind, json_line, json_start, member_words};
+ghost use Rattle.dia_diff_text.specs.Plain.{plain_parts};
 
 use crate::parts::Parts;
 use crate::writing::sign;
 use std::alloc::AllocError;
 
 /// Adds the object of a line.
-pub(crate) fn push_object(out: &mut String, parts: &Parts<'_>) -> Result<(), AllocError> {
-    let sign = sign(parts);
-    let kind = if parts.is_command { "command" } else { "avp" };
-    let name = parts.name;
-    write!(
-        out,
-        "{{\"sign\":\"{sign}\",\"kind\":\"{kind}\",\"name\":\"{name}\""
-    )?;
-    if let Some(field) = parts.field {
-        write!(out, ",\"field\":\"{field}\"")?;
-    }
+pub(crate) fn push_object(out: &mut String, parts: &Parts<'_>) -> Result<(), AllocError>
+    ensures { OnOk result (string_bytes out.new ≡ string_bytes out.old ++ json_line (plain_parts parts.now)) }
+{
+    push_start(out, parts)?;
+    push_field(out, parts.field)?;
     push_words(out, "first", &parts.first)?;
     push_words(out, "second", &parts.second)?;
-    out.push_str(breaks(parts.there, parts.back))
+    push_breaks(out, parts.there, parts.back)
 }
 
-fn push_words(out: &mut String, member: &str, words: &Option<String>) -> Result<(), AllocError> {
-    match words {
-        Some(words) => {
-            let words = words.as_str();
-            write!(out, ",\"{member}\":\"{words}\"")
-        }
+fn push_start(out: &mut String, parts: &Parts<'_>) -> Result<(), AllocError>
+    ensures { OnOk result (string_bytes out.new ≡ string_bytes out.old ++ json_start (plain_parts parts.now)) }
+{
+    out.push_str("{\"sign\":\"")?;
+    out.push_str(sign(parts))?;
+    out.push_str("\",\"kind\":\"")?;
+    out.push_str(kind(parts.is_command))?;
+    out.push_str("\",\"name\":\"")?;
+    out.push_str(parts.name)?;
+    out.push_str("\"")
+}
+
+fn kind(is_command: bool) -> &'static str
+    ensures { result.now ≡ json_kind is_command }
+{
+    if is_command { "command" } else { "avp" }
+}
+
+fn push_field(out: &mut String, field: Option<&'static str>) -> Result<(), AllocError>
+    ensures { OnOk result (string_bytes out.new
+        ≡ string_bytes out.old ++ member_words (codes "field") (option_map (λ w. w.now) field.entry)) }
+{
+    match field {
+        Some(field) => push_member(out, "field", field),
         None => Ok(()),
     }
 }
 
-fn breaks(there: bool, back: bool) -> &'static str {
+fn push_words(out: &mut String, member: &str, words: &Option<String>) -> Result<(), AllocError>
+    ensures { OnOk result (string_bytes out.new
+        ≡ string_bytes out.old ++ member_words member.now (option_map string_bytes words.now)) }
+{
+    match words {
+        Some(words) => push_member(out, member, words.as_str()),
+        None => Ok(()),
+    }
+}
+
+fn push_member(out: &mut String, member: &str, value: &str) -> Result<(), AllocError>
+    ensures { OnOk result (string_bytes out.new
+        ≡ string_bytes out.old ++ member_words member.now (Some value.now)) }
+{
+    out.push_str(",\"")?;
+    out.push_str(member)?;
+    out.push_str("\":\"")?;
+    out.push_str(value)?;
+    out.push_str("\"")
+}
+
+fn push_breaks(out: &mut String, there: bool, back: bool) -> Result<(), AllocError>
+    ensures { OnOk result (string_bytes out.new ≡ string_bytes out.old ++ json_breaks there back) }
+{
+    out.push_str(breaks(there, back))
+}
+
+fn breaks(there: bool, back: bool) -> &'static str
+    ensures { result.now ≡ json_breaks there back }
+{
     match (there, back) {
         (true, true) => ",\"breaks\":[\"A to B\",\"B to A\"]}\n",
         (true, false) => ",\"breaks\":[\"A to B\"]}\n",

@@ -1,6 +1,12 @@
 //! What a line says, in its parts.
 
-use crate::words::{push_avp_field, push_declaration, push_head_field, push_header, push_rule};
+ghost use Rattle.std.specs.Prelude.{◌≡◌, IfOk};
+ghost use Rattle.std.specs.Option.{option_map};
+ghost use Rattle.dia_diff_text.specs.Lines.{IsLineParts};
+ghost use Rattle.dia_diff_text.specs.Plain.{plain_parts};
+ghost use Rattle.dia_diff_text.specs.Parts.{avp_word, field_of, head_word, is_command, name_in, subject_of};
+
+use crate::sides::words_in;
 use dia_book::Book;
 use dia_differences::{AvpField, HeadField, Line, Side, What};
 use dia_owners::Owner;
@@ -34,26 +40,28 @@ pub(crate) fn parts_of<'d, A: Book, B: Book>(
     a: &'d A,
     b: &'d B,
     line: &Line,
-) -> Result<Parts<'d>, AllocError> {
+) -> Result<Parts<'d>, AllocError>
+    ensures { IfOk result (λ parts. IsLineParts (A.meaning a.now) (B.meaning b.now) line.now (plain_parts parts)) }
+{
     let Line { what, there, back } = *line;
-    let (side, of) = subject_of(what);
-    let name = match side {
-        Side::First => of.name(a),
-        Side::Second => of.name(b),
-    };
+    let subject = subject_of(what);
+    let first = words_in(alloc, a, Side::First, what)?;
+    let second = words_in(alloc, b, Side::Second, what)?;
     Ok(Parts {
-        is_command: is_command(of),
-        name,
+        is_command: is_command(subject.1),
+        name: name_in(a, b, subject),
         field: field_of(what),
-        first: words_in(alloc, a, Side::First, what)?,
-        second: words_in(alloc, b, Side::Second, what)?,
+        first,
+        second,
         there,
         back,
     })
 }
 
 /// The AVP or command that a line is about: that of the first dictionary, if it has it.
-fn subject_of(what: What) -> (Side, Owner) {
+fn subject_of(what: What) -> (Side, Owner)
+    ensures { result ≡ subject_of what }
+{
     match what {
         What::Avp(side, index) => (side, Owner::Avp(index)),
         What::AvpField { first, .. } => (Side::First, Owner::Avp(first)),
@@ -64,14 +72,28 @@ fn subject_of(what: What) -> (Side, Owner) {
     }
 }
 
-fn is_command(of: Owner) -> bool {
+fn is_command(of: Owner) -> bool
+    ensures { result ≡ is_command of }
+{
     match of {
         Owner::Avp(_) => false,
         Owner::Command(_) => true,
     }
 }
 
-fn field_of(what: What) -> Option<&'static str> {
+fn name_in<'d, A: Book, B: Book>(a: &'d A, b: &'d B, subject: (Side, Owner)) -> &'d str
+    ensures { result.now ≡ name_in (A.meaning a.now) (B.meaning b.now) subject }
+{
+    let (side, of) = subject;
+    match side {
+        Side::First => of.name(a),
+        Side::Second => of.name(b),
+    }
+}
+
+fn field_of(what: What) -> Option<&'static str>
+    ensures { option_map (λ w. w.now) result ≡ field_of what }
+{
     match what {
         What::Avp(..) | What::Command(..) => None,
         What::AvpField { field, .. } => Some(avp_word(field)),
@@ -80,7 +102,9 @@ fn field_of(what: What) -> Option<&'static str> {
     }
 }
 
-fn avp_word(field: AvpField) -> &'static str {
+fn avp_word(field: AvpField) -> &'static str
+    ensures { result.now ≡ avp_word field }
+{
     match field {
         AvpField::Name => "name",
         AvpField::Code => "code",
@@ -90,103 +114,14 @@ fn avp_word(field: AvpField) -> &'static str {
     }
 }
 
-fn head_word(field: HeadField) -> &'static str {
+fn head_word(field: HeadField) -> &'static str
+    ensures { result.now ≡ head_word field }
+{
     match field {
         HeadField::Name => "name",
         HeadField::Code => "code",
         HeadField::Class => "class",
         HeadField::Application => "application",
         HeadField::Proxiable => "P",
-    }
-}
-
-/// The words of a line in the dictionary of a side, if it has what differs.
-fn words_in<D: Book>(
-    alloc: Global,
-    book: &D,
-    side: Side,
-    what: What,
-) -> Result<Option<String>, AllocError> {
-    if is_without(what, side) {
-        return Ok(None);
-    }
-    let mut words = String::new(alloc);
-    push_words(&mut words, book, side, what)?;
-    Ok(Some(words))
-}
-
-/// Whether the side's dictionary lacks what differs.
-fn is_without(what: What, side: Side) -> bool {
-    match what {
-        What::Avp(own, _) | What::Command(own, _) | What::Rule(own, _) => own != side,
-        What::AvpField { .. } | What::HeadField { .. } | What::RuleChange { .. } => false,
-    }
-}
-
-fn push_words<D: Book>(
-    out: &mut String,
-    book: &D,
-    side: Side,
-    what: What,
-) -> Result<(), AllocError> {
-    match what {
-        What::Avp(_, index) => push_avp(out, book, index, None),
-        What::AvpField {
-            first,
-            second,
-            field,
-        } => push_avp(out, book, pick(side, first, second), Some(field)),
-        What::Command(_, index) => push_command(out, book, index, None),
-        What::HeadField {
-            first,
-            second,
-            field,
-        } => push_command(out, book, pick(side, first, second), Some(field)),
-        What::Rule(_, place) => push_rule(out, book, place),
-        What::RuleChange { first, second } => match side {
-            Side::First => push_rule(out, book, first),
-            Side::Second => push_rule(out, book, second),
-        },
-    }
-}
-
-fn pick(side: Side, first: usize, second: usize) -> usize {
-    match side {
-        Side::First => first,
-        Side::Second => second,
-    }
-}
-
-/// Adds the words of an AVP, or of a field of it.
-fn push_avp<D: Book>(
-    out: &mut String,
-    book: &D,
-    index: usize,
-    field: Option<AvpField>,
-) -> Result<(), AllocError> {
-    if index >= book.entries() {
-        return Ok(());
-    }
-    let entry = book.entry_at(index);
-    match field {
-        Some(field) => push_avp_field(out, book, entry, field),
-        None => push_declaration(out, book, entry),
-    }
-}
-
-/// Adds the words of a command's header, or of a field of it.
-fn push_command<D: Book>(
-    out: &mut String,
-    book: &D,
-    index: usize,
-    field: Option<HeadField>,
-) -> Result<(), AllocError> {
-    if index >= book.commands() {
-        return Ok(());
-    }
-    let def = book.command_at(index);
-    match field {
-        Some(field) => push_head_field(out, book, def, field),
-        None => push_header(out, book.def(def).head),
     }
 }

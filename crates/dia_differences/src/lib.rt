@@ -4,6 +4,7 @@
 mod avps;
 mod commands;
 mod headers;
+mod laws;
 mod lines;
 mod listing;
 mod partners;
@@ -11,6 +12,7 @@ mod rules;
 mod sides;
 
 pub use headers::{Selector, pxy_of, selector_of};
+pub use laws::one_list;
 pub use lines::{AvpField, HeadField, Line, RulePlace, What};
 pub use listing::lines_of;
 pub use partners::{Pairs, Partners};

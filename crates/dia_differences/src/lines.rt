@@ -1,7 +1,10 @@
 //! The lines: what differs.
+ghost use Rattle.std.specs.Prelude.{◌≡◌, ◌∷◌, ◌++◌, OnOk, [], if◌then◌else◌};
+ghost use Rattle.dia_differences.specs.Lines.{unmarked};
 
 use crate::sides::Side;
 use dia_owners::Owner;
+use std::alloc::AllocError;
 
 /// A field of an AVP.
 #[derive(Clone, Copy, PartialEq, Eq)]
@@ -68,11 +71,29 @@ pub struct Line {
 
 impl Line {
     /// A line that breaks nothing so far.
-    pub fn new(what: What) -> Line {
+    pub fn new(what: What) -> Line
+        ensures { result ≡ unmarked what }
+    {
         Line {
             what,
             there: false,
             back: false,
         }
     }
+}
+
+/// Adds a line, unless what it is about is the same.
+pub(crate) fn push_unless(lines: &mut Vec<Line>, same: bool, what: What) -> Result<(), AllocError>
+    ensures { OnOk result (lines.new.items
+        ≡ if same then lines.old.items else lines.old.items ++ unmarked what ∷ []) }
+{
+    if same { Ok(()) } else { push_line(lines, what) }
+}
+
+/// Adds a line.
+pub(crate) fn push_line(lines: &mut Vec<Line>, what: What) -> Result<(), AllocError>
+    ensures { OnOk result (lines.new.items ≡ lines.old.items ++ unmarked what ∷ []) }
+{
+    lines.push(Line::new(what))?;
+    Ok(())
 }

@@ -1,2 +1,3 @@
 mod Groups
-mod Owned
+pub mod Owned
+mod Names

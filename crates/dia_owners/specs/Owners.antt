@@ -23,3 +23,8 @@ owned d (Command i) = slice_get d.commands i
 -- its rules: none where there is no definition
 abbrev pub rules_of : Dictionary → Owner → List DRule
 rules_of d of = option_map_or (λ def. def.rules) (owned d of) []
+
+-- the name of an AVP or a command, empty where the dictionary doesn't have it
+abbrev pub name_of : Dictionary → Owner → List ℕ
+name_of d (Avp i) = option_map_or (λ e. e.name) (slice_get d.entries i) []
+name_of d (Command i) = option_map_or (λ c. c.name) (slice_get d.commands i) []

@@ -1,8 +1,9 @@
 //! What a definition is of.
 
-ghost use Rattle.std.specs.Prelude.{◌≡◌, ◌<◌, IfSome, length};
+ghost use Rattle.std.specs.Prelude.{◌≡◌, ◌<◌, IfSome, [], length, slice_get};
+ghost use Rattle.std.specs.Option.{option_map_or};
 ghost use Rattle.dia_book.specs.Dictionary.{definitions, group_place};
-ghost use Rattle.dia_owners.specs.Owners.{command_place, definition_of, rules_of};
+ghost use Rattle.dia_owners.specs.Owners.{command_place, definition_of, name_of, rules_of};
 
 use dia_book::{Book, DRule, DefId};
 
@@ -26,13 +27,12 @@ impl Owner {
     }
 
     /// The name of the AVP or the command, empty where the dictionary doesn't have it.
-    pub fn name<B: Book>(self, book: &B) -> &str {
+    pub fn name<B: Book>(self, book: &B) -> &str
+        ensures { result.now ≡ name_of (B.meaning book.now) self }
+    {
         match self {
-            Owner::Avp(index) if index < book.entries() => { book.entry_name(book.entry_at(index)) }
-            Owner::Command(index) if index < book.commands() => {
-                book.def(book.command_at(index)).name.as_str()
-            }
-            _ => "",
+            Owner::Avp(index) => avp_name(book, index),
+            Owner::Command(index) => command_name(book, index),
         }
     }
 
@@ -69,4 +69,24 @@ fn command_at<B: Book>(book: &B, index: usize) -> Option<DefId>
         return None;
     }
     Some(book.command_at(index))
+}
+
+#[tactic(auto, using(crate::proofs::Names::no_avp))]
+fn avp_name<B: Book>(book: &B, index: usize) -> &str
+    ensures { result.now ≡ option_map_or (λ e. e.name) (slice_get (B.meaning book.now).entries index) [] }
+{
+    if index >= book.entries() {
+        return "";
+    }
+    book.entry_name(book.entry_at(index))
+}
+
+#[tactic(auto, using(crate::proofs::Names::no_command))]
+fn command_name<B: Book>(book: &B, index: usize) -> &str
+    ensures { result.now ≡ option_map_or (λ c. c.name) (slice_get (B.meaning book.now).commands index) [] }
+{
+    if index >= book.commands() {
+        return "";
+    }
+    book.def(book.command_at(index)).name.as_str()
 }

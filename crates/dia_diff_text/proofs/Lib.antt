@@ -1,0 +1,3 @@
+mod AddedTexts
+mod Places
+mod SameParts
