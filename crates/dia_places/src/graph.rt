@@ -25,7 +25,8 @@ pub struct Reached {
 /// path. Those with the shortest path come first, and of one length those that come first in the dictionary: groups in the order of
 /// their AVPs, and then commands. Of several shortest paths it is the one whose last group is in the first definition in this order.
 pub fn all_reached<B: Book>(alloc: Global, book: &B) -> Result<Vec<Reached>, AllocError>
-    ensures { IfOk result (λ reached. ArePaths (B.meaning book.now) (paths_of reached.items)) }
+    ensures paths { IfOk result (λ reached. ArePaths (B.meaning book.now) (paths_of reached.items)) }
+    ensures within { IfOk result (λ reached. All (λ r. r.def < length (definitions (B.meaning book.now))) reached.items) }
 {
     let nodes = nodes_of(alloc, book)?;
     let start = start_of(alloc, book)?;
