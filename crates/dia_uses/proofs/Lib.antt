@@ -1,1 +1,3 @@
 mod Answers
+mod FoundPlaces
+mod LineLoops

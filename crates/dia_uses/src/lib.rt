@@ -6,6 +6,7 @@ mod notes;
 mod objects;
 #[cfg(test)]
 mod rows;
+mod words;
 mod writing;
 
 pub use command::write_uses;
