@@ -9,3 +9,4 @@ mod Loops
 mod Slots
 mod NamedPaths
 mod AskedWords
+mod OneList

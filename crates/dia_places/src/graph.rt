@@ -21,12 +21,14 @@ pub struct Reached {
     pub outer: usize,
 }
 
-/// The definitions that a command reaches by rules whose greatest count isn't 0, each with the definition before it on a shortest
-/// path. Those with the shortest path come first, and of one length those that come first in the dictionary: groups in the order of
-/// their AVPs, and then commands. Of several shortest paths it is the one whose last group is in the first definition in this order.
+/// The definitions that a command reaches by rules whose greatest count isn't 0, each with the definition before it on a
+/// shortest path. Those with the shortest path come first, and of one length those that come first in the dictionary: groups in
+/// the order of their AVPs, and then commands. Of several shortest paths it is the one whose last group is in the first
+/// definition in this order.
 pub fn all_reached<B: Book>(alloc: Global, book: &B) -> Result<Vec<Reached>, AllocError>
     ensures paths { IfOk result (λ reached. ArePaths (B.meaning book.now) (paths_of reached.items)) }
-    ensures within { IfOk result (λ reached. All (λ r. r.def < length (definitions (B.meaning book.now))) reached.items) }
+    ensures within { IfOk result (λ reached.
+        All (λ r. r.def < length (definitions (B.meaning book.now))) reached.items) }
 {
     let nodes = nodes_of(alloc, book)?;
     let start = start_of(alloc, book)?;
