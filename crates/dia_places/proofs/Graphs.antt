@@ -21,7 +21,8 @@ level_in : (d : Dictionary) (level : PlainLevel) (o : Option PlainDefinition) �
 level_in d level None e = absurd (none-some level e)
 level_in d level (Some def) e = (def, refl, sym (same_Some (level_by d def.rules) level e))
 
-pub level_there : (d : Dictionary) (n : ℕ) (level : PlainLevel) → level_of (graph_in d) n ≡ Some level → (def : PlainDefinition) × (slice_get (definitions d) n ≡ Some def) × (level ≡ level_by d def.rules)
+pub level_there : (d : Dictionary) (n : ℕ) (level : PlainLevel) → level_of (graph_in d) n ≡ Some level
+    → (def : PlainDefinition) × (slice_get (definitions d) n ≡ Some def) × (level ≡ level_by d def.rules)
 level_there d n level e =
     level_in d level (slice_get (definitions d) n) (ap (option_and_then (λ (node : PlainNode). node.level)) (sym (slice_get-map (node_by d) (definitions d) n)) ∙ e)
 
@@ -54,7 +55,8 @@ pub command_there : (first n p inner : ℕ) → Contains (commands_from first n)
 command_there first zero p inner c = absurd (omega (arith, c.1))
 command_there first (suc n) p inner c = by (command_there first n p inner) (Contains-push_cases (commands_from first n) (one_step (first + n)) (p, inner) c)
   where
-    by : (Contains (commands_from first n) (p, inner) → (i : ℕ) × (i < n) × (p ≡ first + i) × (inner ≡ 1)) → Contains (commands_from first n) (p, inner) ⊎ (one_step (first + n) ≡ (p, inner)) → (i : ℕ) × (i < suc n) × (p ≡ first + i) × (inner ≡ 1)
+    by : (Contains (commands_from first n) (p, inner) → (i : ℕ) × (i < n) × (p ≡ first + i) × (inner ≡ 1)) → Contains (commands_from first n) (p, inner) ⊎ (one_step (first + n) ≡ (p, inner))
+        → (i : ℕ) × (i < suc n) × (p ≡ first + i) × (inner ≡ 1)
     by earlier (inl before) = let r = earlier before in (r.0, (let lt : r.0 < n = r.1 in omega arith), r.2, r.3)
     by earlier (inr last) = (n, omega arith, sym (ap (λ (x : ℕ × ℕ). x.0) last), sym (ap (λ (x : ℕ × ℕ). x.1) last))
 

@@ -33,13 +33,15 @@ more_groups d i within =
     ∙ ap (λ (o : Option ℕ). groups_in (take i d.entries) + cond (is_some o) 1 0) (sym is)
 
 -- a count of them, one step on
-pub more_counted : (d : Dictionary) (i count next : ℕ) (b : Bool) (o : Option ℕ) → i < length d.entries → count ≡ groups_in (take i d.entries) → o ≡ group_place d i → is_some o ≡ b → next ≡ count + cond b 1 0
+pub more_counted : (d : Dictionary) (i count next : ℕ) (b : Bool) (o : Option ℕ) → i < length d.entries → count ≡ groups_in (take i d.entries) → o ≡ group_place d i → is_some o ≡ b
+    → next ≡ count + cond b 1 0
     → next ≡ groups_in (take (i + 1) d.entries)
 more_counted d i count next b o within is place some step =
     step ∙ ap (λ (k : ℕ). k + cond b 1 0) is ∙ ap (λ (t : Bool). groups_in (take i d.entries) + cond t 1 0) (sym some ∙ ap is_some place) ∙ sym (more_groups d i within)
 
 -- the groups that one more rule allows
-pub more_listed : (d : Dictionary) (rules : List DRule) (i : ℕ) (x : DRule) → slice_get rules i ≡ Some x → listed_by d (take (i + 1) rules) ≡ listed_by d (take i rules) ++ cons_option (option_map one_step (group_by d x)) []
+pub more_listed : (d : Dictionary) (rules : List DRule) (i : ℕ) (x : DRule) → slice_get rules i ≡ Some x
+    → listed_by d (take (i + 1) rules) ≡ listed_by d (take i rules) ++ cons_option (option_map one_step (group_by d x)) []
 more_listed d rules i x at = ap (listed_by d) (taken rules i x at) ∙ filter_map-append (λ (rule : DRule). option_map one_step (group_by d rule)) (take i rules) (x ∷ [])
 
 pub more_pushed : (d : Dictionary) (rules : List DRule) (i : ℕ) (x : DRule) (o : Option ℕ) (listed next : List (ℕ × ℕ)) → i < length rules → o ≡ group_by d (get_or rules i x)

@@ -39,19 +39,23 @@ more_names d rs to counter number r names next name before at pushed is =
     ∙ ap (λ (xs : List ℕ). now names ++ map (name_at d) xs) (sym (ap (λ (n : ℕ). around_from rs n number) left ∙ around_next rs (to - (counter + 1)) number r at))
 
 -- no more
-pub all_names : (d : Dictionary) (rs : List Reached) (most number : ℕ) (names : List (Bor (List ℕ))) → around_from rs most number ≡ [] → now names ≡ now names ++ map (name_at d) (around_from rs most number)
+pub all_names : (d : Dictionary) (rs : List Reached) (most number : ℕ) (names : List (Bor (List ℕ))) → around_from rs most number ≡ []
+    → now names ≡ now names ++ map (name_at d) (around_from rs most number)
 all_names d rs most number names none = sym (append-nil (now names)) ∙ ap (λ (xs : List ℕ). now names ++ map (name_at d) xs) (sym none)
 
-pub names_stop : (d : Dictionary) (rs : List Reached) (most number : ℕ) (names : List (Bor (List ℕ))) → reached_at rs number ≡ None → now names ≡ now names ++ map (name_at d) (around_from rs most number)
+pub names_stop : (d : Dictionary) (rs : List Reached) (most number : ℕ) (names : List (Bor (List ℕ))) → reached_at rs number ≡ None
+    → now names ≡ now names ++ map (name_at d) (around_from rs most number)
 names_stop d rs most number names at = all_names d rs most number names (around_stops rs most number at)
 
-pub names_end : (d : Dictionary) (rs : List Reached) (to counter number : ℕ) (names : List (Bor (List ℕ))) → to ≤ counter → now names ≡ now names ++ map (name_at d) (around_from rs (to - counter) number)
+pub names_end : (d : Dictionary) (rs : List Reached) (to counter number : ℕ) (names : List (Bor (List ℕ))) → to ≤ counter
+    → now names ≡ now names ++ map (name_at d) (around_from rs (to - counter) number)
 names_end d rs to counter number names past =
     let none : to - counter ≡ 0 = omega arith in
     all_names d rs (to - counter) number names (ap (λ (n : ℕ). around_from rs n number) none)
 
 -- the names of the whole path
-pub path_names : (d : Dictionary) (rs : List Reached) (last : Reached) (none one all reversed : List (Bor (List ℕ))) (name : Bor (List ℕ)) → none ≡ [] → one ≡ none ++ name ∷ [] → name.now ≡ name_at d last.def
+pub path_names : (d : Dictionary) (rs : List Reached) (last : Reached) (none one all reversed : List (Bor (List ℕ))) (name : Bor (List ℕ)) → none ≡ [] → one ≡ none ++ name ∷ []
+    → name.now ≡ name_at d last.def
     → now all ≡ now one ++ map (name_at d) (around_from rs (length rs) last.outer) → reversed ≡ reverse all → now reversed ≡ names_of d (path_of rs last)
 path_names d rs last none one all reversed name empty pushed is around turned =
     let rest = map (name_at d) (around_from rs (length rs) last.outer) in

@@ -20,7 +20,8 @@ key_within d o n e =
     option_and_then_some (λ key. option_and_then (group_place d) (entry_of d key)) o n e (λ key some at.
     option_and_then_some (group_place d) (entry_of d key) n at (λ i here is. at_some (λ (m : ℕ). m < length (definitions d)) (group_place d i) n (group_within d i) is))
 
-rule_within : (d : Dictionary) (rule : DRule) (n : ℕ) (b : Bool) → cond b (option_and_then (λ key. option_and_then (group_place d) (entry_of d key)) rule.key) None ≡ Some n → n < length (definitions d)
+rule_within : (d : Dictionary) (rule : DRule) (n : ℕ) (b : Bool) → cond b (option_and_then (λ key. option_and_then (group_place d) (entry_of d key)) rule.key) None ≡ Some n
+    → n < length (definitions d)
 rule_within d rule n true e = key_within d rule.key n e
 rule_within d rule n false e = absurd (none-some n e)
 

@@ -146,7 +146,7 @@ same_at d P Q ps qs (suc n) i p q short at to = by (λ j x y less here there. sa
         let long : length p.around ≡ suc (length xs) = ap length is in
         let less : length xs < n = omega arith in
         let outer : record { def = x; around = xs } ≡ record { def = y; around = ys } =
-            ih own.0 (record { def = x; around = xs }) (record { def = y; around = ys }) less own.1 (ap (slice_get Q) (sym even) ∙ other.1) in
+        ih own.0 (record { def = x; around = xs }) (record { def = y; around = ys }) less own.1 (ap (slice_get Q) (sym even) ∙ other.1) in
         same_paths p q (sym alike.1) (is ∙ ap (λ (path : Path). path.def ∷ path.around) outer ∙ sym is')
 
 same_items : (d : Dictionary) (P Q : List Path) → ArePaths d P → ArePaths d Q → (i : ℕ) (o o' : Option Path) → slice_get P i ≡ o → slice_get Q i ≡ o' → o ≡ o'

@@ -41,7 +41,8 @@ by_listed rules key i is =
     ∙ sym (ap (λ (o : Option DRule). option_map_or (if_allows by.Rule) o (option_and_then (if_allows by.Wildcard) (find is_wildcard rules))) at)
 
 -- by the wildcard's place
-pub wildcard_some : (rules : List DRule) (i : ℕ) → position is_wildcard rules ≡ Some i → option_and_then (if_allows by.Wildcard) (slice_get rules i) ≡ option_and_then (if_allows by.Wildcard) (find is_wildcard rules)
+pub wildcard_some : (rules : List DRule) (i : ℕ) → position is_wildcard rules ≡ Some i
+    → option_and_then (if_allows by.Wildcard) (slice_get rules i) ≡ option_and_then (if_allows by.Wildcard) (find is_wildcard rules)
 wildcard_some rules i at = ap (option_and_then (if_allows by.Wildcard)) (sym (find-place is_wildcard rules ∙ ap (option_and_then (slice_get rules)) at))
 
 pub wildcard_none : (rules : List DRule) → position is_wildcard rules ≡ None → None ≡ option_and_then (if_allows by.Wildcard) (find is_wildcard rules)
@@ -55,15 +56,18 @@ by_unlisted rules key is =
     sym (ap (λ (o : Option DRule). option_map_or (if_allows by.Rule) o (option_and_then (if_allows by.Wildcard) (find is_wildcard rules))) at)
 
 -- the same of the definition with a number, by its slot
-same_slot : (d : Dictionary) (n : ℕ) (x : PlainDefinition) (slot : Slot) (key : Key) → slice_get (definitions d) n ≡ Some x → IfSome (slice_get (definitions d) n) (λ y. slot ≡ slot_of y.rules key) → slot ≡ slot_of x.rules key
+same_slot : (d : Dictionary) (n : ℕ) (x : PlainDefinition) (slot : Slot) (key : Key) → slice_get (definitions d) n ≡ Some x
+    → IfSome (slice_get (definitions d) n) (λ y. slot ≡ slot_of y.rules key) → slot ≡ slot_of x.rules key
 same_slot d n x slot key at is = at_some (λ (y : PlainDefinition). slot ≡ slot_of y.rules key) (slice_get (definitions d) n) x is at
 
-pub by_rule_of : (d : Dictionary) (n i : ℕ) (x : PlainDefinition) (slot : Slot) (key : Key) (r : Option By) → slice_get (definitions d) n ≡ Some x → IfSome (slice_get (definitions d) n) (λ y. slot ≡ slot_of y.rules key)
+pub by_rule_of : (d : Dictionary) (n i : ℕ) (x : PlainDefinition) (slot : Slot) (key : Key) (r : Option By) → slice_get (definitions d) n ≡ Some x
+    → IfSome (slice_get (definitions d) n) (λ y. slot ≡ slot_of y.rules key)
     → Some i ≡ place_of slot → r ≡ option_and_then (if_allows by.Rule) (slice_get x.rules i) → r ≡ by_of (rules_at d n) key
 by_rule_of d n i x slot key r at is place made =
     made ∙ by_listed x.rules key i (ap place_of (sym (same_slot d n x slot key at is)) ∙ sym place) ∙ ap (λ (rules : List DRule). by_of rules key) (sym (rules_here d n x at))
 
-pub by_wildcard_of : (d : Dictionary) (n : ℕ) (x : PlainDefinition) (slot : Slot) (key : Key) (r : Option By) → slice_get (definitions d) n ≡ Some x → IfSome (slice_get (definitions d) n) (λ y. slot ≡ slot_of y.rules key)
+pub by_wildcard_of : (d : Dictionary) (n : ℕ) (x : PlainDefinition) (slot : Slot) (key : Key) (r : Option By) → slice_get (definitions d) n ≡ Some x
+    → IfSome (slice_get (definitions d) n) (λ y. slot ≡ slot_of y.rules key)
     → None ≡ place_of slot → r ≡ option_and_then (if_allows by.Wildcard) (find is_wildcard x.rules) → r ≡ by_of (rules_at d n) key
 by_wildcard_of d n x slot key r at is place made =
     made ∙ by_unlisted x.rules key (ap place_of (sym (same_slot d n x slot key at is)) ∙ sym place) ∙ ap (λ (rules : List DRule). by_of rules key) (sym (rules_here d n x at))

@@ -34,7 +34,8 @@ stage_from d p way stage (Some level) e =
     let same : record { way = way; exits = level.exits } ≡ stage = same_Some (record { way = way; exits = level.exits }) stage e in
     (level, refl, sym (ap (λ (x : Stage). x.way) same), sym (ap (λ (x : Stage). x.exits) same))
 
-stage_of_step : (d : Dictionary) (S : List Step) (k : ℕ) (stage : Stage) (o : Option Step) → slice_get S k ≡ o → option_and_then (λ (step : Step). stage_of (graph_in d) step.place step.way) o ≡ Some stage
+stage_of_step : (d : Dictionary) (S : List Step) (k : ℕ) (stage : Stage) (o : Option Step) → slice_get S k ≡ o
+    → option_and_then (λ (step : Step). stage_of (graph_in d) step.place step.way) o ≡ Some stage
     → (t : Step) × (slice_get S k ≡ Some t) × (stage.way ≡ t.way) × (stage.exits ≡ exits_to (listed_by d (rules_at d t.place)))
 stage_of_step d S k stage None at e = absurd (none-some stage e)
 stage_of_step d S k stage (Some t) at e =
@@ -76,7 +77,8 @@ command_reached d S n c = record {
 }
 
 -- a group is reached from a step whose rules allow it
-pub group_reached : (d : Dictionary) (S : List Step) (k n : ℕ) (t : Step) (def : PlainDefinition) → slice_get S k ≡ Some t → slice_get (definitions d) t.place ≡ Some def → LeadsTo d t.place n → t.way + 1 ≤ max_parts
+pub group_reached : (d : Dictionary) (S : List Step) (k n : ℕ) (t : Step) (def : PlainDefinition) → slice_get S k ≡ Some t → slice_get (definitions d) t.place ≡ Some def → LeadsTo d t.place n
+    → t.way + 1 ≤ max_parts
     → IsReached (graph_in d) S n (suc k) (t.way + 1)
 group_reached d S k n t def at here leads room = record {
   stage = record { way = t.way; exits = exits_to (listed_by d def.rules) };
@@ -231,7 +233,8 @@ module _ (d : Dictionary) (S : List Step) (R : List (Option Reach)) (w : IsWalk 
     where
       by : (max_parts < t.way + 1) ⊎ (t.way + 1 ≤ max_parts) → (s.way < t.way + 1) ⊎ ((s.way ≡ t.way + 1) × (s.outer ≤ suc k))
       by (inl over) = let room : s.way ≤ max_parts = has_room i s here in inl (omega arith)
-      by (inr fits) = let def = is_within k t at in is_least i s here (suc k) (t.way + 1) (subst (λ (q : ℕ). IsReached (graph_in d) S q (suc k) (t.way + 1)) (sym same) (group_reached d S k n t def.0 at def.1 leads fits))
+      by (inr fits) =
+          let def = is_within k t at in is_least i s here (suc k) (t.way + 1) (subst (λ (q : ℕ). IsReached (graph_in d) S q (suc k) (t.way + 1)) (sym same) (group_reached d S k n t def.0 at def.1 leads fits))
 
   pub command_way : (n : ℕ) → IsCommand d n → (i : ℕ) (s : Step) → slice_get S i ≡ Some s → s.place ≡ n → s.way ≤ 1
   command_way n c i s here same = by (is_least i s here 0 1 (subst (λ (q : ℕ). IsReached (graph_in d) S q 0 1) (sym same) (command_reached d S n c)))

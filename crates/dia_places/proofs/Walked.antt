@@ -42,7 +42,8 @@ around_enough rs first zero b (suc i) le ge = absurd (omega arith)
 around_enough rs first (suc a) zero (suc i) le ge = absurd (omega arith)
 around_enough rs first (suc a) (suc b) (suc i) le ge = by (λ number less more. around_enough rs first a b number less more) (slice_get rs i) refl
   where
-    by : ((number : ℕ) → number ≤ a → number ≤ b → around_from rs a number ≡ around_from rs b number) → (o : Option Reached) → slice_get rs i ≡ o → around_from rs (suc a) (suc i) ≡ around_from rs (suc b) (suc i)
+    by : ((number : ℕ) → number ≤ a → number ≤ b → around_from rs a number ≡ around_from rs b number) → (o : Option Reached) → slice_get rs i ≡ o
+        → around_from rs (suc a) (suc i) ≡ around_from rs (suc b) (suc i)
     by inner None at =
         ap (λ (o : Option Reached). option_map_or (λ (x : Reached). x.def ∷ around_from rs a x.outer) o []) at
         ∙ sym (ap (λ (o : Option Reached). option_map_or (λ (x : Reached). x.def ∷ around_from rs b x.outer) o []) at)

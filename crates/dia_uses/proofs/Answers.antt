@@ -33,7 +33,8 @@ by_dictionary json avps inputs d (Err e) is text = tt
 
 -- ---- by the words
 
-listed_text : (json : Bool) (d : Dictionary) (avps : List (List ℕ)) (keys : List Key) (exit : Exit) (text : List ℕ) → AreKeysOf d avps keys → IsListed json d keys exit text → IsUsesText json d avps exit text
+listed_text : (json : Bool) (d : Dictionary) (avps : List (List ℕ)) (keys : List Key) (exit : Exit) (text : List ℕ)
+    → AreKeysOf d avps keys → IsListed json d keys exit text → IsUsesText json d avps exit text
 listed_text json d avps keys exits.Yes text are h = (keys, are, h.0, h.1)
 listed_text json d avps keys exits.No text are h = (keys, are, h.0, h.1)
 listed_text json d avps keys exits.Bad text are h = absurd h

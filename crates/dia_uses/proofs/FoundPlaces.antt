@@ -47,7 +47,8 @@ place_of_line json d is_kind key path None some = absurd (omega arith)
 place_of_line json d is_kind key path (Some by) some = (by, refl)
 
 -- what lets in an AVP has a line of its kind
-line_of_place : (json : Bool) (d : Dictionary) (is_kind : By → Bool) (key : Key) (path : Path) (by : By) → by_of (rules_at d path.def) key ≡ Some by → is_kind by ≡ true → line_at json d is_kind key path ≡ [] → ⊥
+line_of_place : (json : Bool) (d : Dictionary) (is_kind : By → Bool) (key : Key) (path : Path) (by : By)
+    → by_of (rules_at d path.def) key ≡ Some by → is_kind by ≡ true → line_at json d is_kind key path ≡ [] → ⊥
 line_of_place json d is_kind key path by is kind e =
     line_some json (names_of d path) (avp_of json d key) by
     (sym (ap (λ (o : Option By). option_map_or (λ (b : By). if is_kind b then line_of json (names_of d path) (avp_of json d key) b else []) o []) is
@@ -90,5 +91,7 @@ no_place json d paths keys are none key path among is = by (by_of (rules_at d pa
 
     by : (o : Option By) → by_of (rules_at d path.def) key ≡ o → o ≡ None
     by None e = refl
-    by (Some (Rule rule)) e = absurd (line_of_place json d is_rule key found.1 (Rule rule) (same ∙ e) refl (flat_map-none_at (line_at json d is_rule key) paths both.0 found.0 found.1 found.2))
-    by (Some (Wildcard rule)) e = absurd (line_of_place json d is_wildcard key found.1 (Wildcard rule) (same ∙ e) refl (flat_map-none_at (line_at json d is_wildcard key) paths both.1 found.0 found.1 found.2))
+    by (Some (Rule rule)) e =
+        absurd (line_of_place json d is_rule key found.1 (Rule rule) (same ∙ e) refl (flat_map-none_at (line_at json d is_rule key) paths both.0 found.0 found.1 found.2))
+    by (Some (Wildcard rule)) e =
+        absurd (line_of_place json d is_wildcard key found.1 (Wildcard rule) (same ∙ e) refl (flat_map-none_at (line_at json d is_wildcard key) paths both.1 found.0 found.1 found.2))

@@ -2,6 +2,7 @@
 #![tactic(auto)]
 
 mod command;
+mod laws;
 mod notes;
 mod objects;
 #[cfg(test)]
@@ -10,3 +11,4 @@ mod words;
 mod writing;
 
 pub use command::write_uses;
+pub use laws::answers_are_one;
