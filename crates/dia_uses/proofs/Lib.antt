@@ -1,1 +1,4 @@
 mod Answers
+mod FoundPlaces
+mod LineLoops
+mod OneText

@@ -1,1 +1,4 @@
+pub mod Lines
+pub mod Kinds
 pub mod Outcome
+pub mod Ended

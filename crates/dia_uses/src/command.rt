@@ -5,13 +5,17 @@ ghost use Rattle.std.specs.Io.KnownBytes.{Appends};
 ghost use Rattle.dia_io.specs.declared.Exit.{Exit as AnyExit};
 ghost use Rattle.dia_io.specs.Writing.{AppendsFront};
 ghost use Rattle.dia_run.specs.Texts.{IsDictionaryText};
-ghost use Rattle.dia_uses.specs.Outcome.{IsUsesOutcome, IsUsesText, nowhere_text, refused_text, unknown_text};
+ghost use Rattle.dia_places.specs.Records.{paths_of};
+ghost use Rattle.dia_uses.specs.Ended.{IsEnded, IsListed};
+ghost use Rattle.dia_uses.specs.Kinds.{AreWithin};
+ghost use Rattle.dia_uses.specs.Outcome.{IsUsesOutcome, IsUsesText, all_lines};
+ghost use Rattle.dia_uses.specs.Outcome.{nowhere_text, refused_text, unknown_text};
 
 use crate::notes::{Tally, notes_of};
 use crate::writing::push_lines;
 use dia_book::Book;
 use dia_io::{Exit, Input, Inputs, RunFault, Sink, put_all};
-use dia_places::{all_reached, asked};
+use dia_places::{Reached, all_reached, asked};
 use dia_refused_json::{bad_input_line, quoted};
 use dia_report::{Answered, BadInput, Refused, Report, Reported};
 use dia_run::read_dictionary;
@@ -90,7 +94,8 @@ fn answer<B: Book>(
     avps: &[String],
     notes: &mut String,
 ) -> Result<Answered, AllocError>
-    ensures { IfOk result (λ a. IsUsesText json a.exit (string_bytes a.text)) }
+    ensures { IfOk result (λ a. IsUsesText json (B.meaning book.now)
+        (map (λ avp. string_bytes avp) avps.now) a.exit (string_bytes a.text)) }
 {
     match asked(alloc, book, avps)? {
         Ok(keys) => uses(alloc, book, json, &keys, notes),
@@ -106,24 +111,41 @@ fn uses<B: Book>(
     keys: &[Key],
     notes: &mut String,
 ) -> Result<Answered, AllocError>
-    ensures { IfOk result (λ a. IsUsesText json a.exit (string_bytes a.text)) }
+    ensures { IfOk result (λ a. IsListed json (B.meaning book.now) keys.now a.exit (string_bytes a.text)) }
 {
     let reached = all_reached(alloc, book)?;
-    let mut text = String::new(alloc);
     let mut tallies = Vec::new(alloc);
-    for key in keys {
-        let counts = push_lines(alloc, &mut text, json, book, &reached, *key)?;
-        tallies.push(Tally { key: *key, counts })?;
-    }
+    let text = lines(alloc, book, json, keys, &reached, &mut tallies)?;
     if let Ok(said) = notes_of(alloc, book, &tallies) {
         *notes = said;
     }
     ended(alloc, json, text)
 }
 
+/// The lines, with how many there are of each AVP.
+fn lines<B: Book>(
+    alloc: Global,
+    book: &B,
+    json: bool,
+    keys: &[Key],
+    reached: &[Reached],
+    tallies: &mut Vec<Tally>,
+) -> Result<String, AllocError>
+    requires { AreWithin (B.meaning book.now) reached.now }
+    ensures { IfOk result (λ text. string_bytes text
+        ≡ all_lines json (B.meaning book.now) (paths_of reached.now) keys.now) }
+{
+    let mut text = String::new(alloc);
+    for key in keys {
+        let counts = push_lines(alloc, &mut text, json, book, reached, *key)?;
+        tallies.push(Tally { key: *key, counts })?;
+    }
+    Ok(text)
+}
+
 /// The answer of these lines.
 fn ended(alloc: Global, json: bool, lines: String) -> Result<Answered, AllocError>
-    ensures { IfOk result (λ a. IsUsesText json a.exit (string_bytes a.text)) }
+    ensures { IfOk result (λ a. IsEnded json (string_bytes lines) a.exit (string_bytes a.text)) }
 {
     if lines.as_str().len() > 0 {
         Ok(Answered {
@@ -138,7 +160,8 @@ fn ended(alloc: Global, json: bool, lines: String) -> Result<Answered, AllocErro
 
 /// The answer where there is no line.
 fn nowhere(alloc: Global, json: bool) -> Result<Answered, AllocError>
-    ensures { IfOk result (λ a. IsUsesText json a.exit (string_bytes a.text)) }
+    ensures text { IfOk result (λ a. string_bytes a.text ≡ nowhere_text json) }
+    ensures exit { IfOk result (λ a. a.exit ≡ Exit.No) }
 {
     let text = String::from_str(alloc, nowhere_line(json))?;
     Ok(Answered {
@@ -160,7 +183,8 @@ fn nowhere_line(json: bool) -> &'static str
 
 /// The answer where a word names no AVP.
 fn unknown(alloc: Global, json: bool, word: &str) -> Result<Answered, AllocError>
-    ensures { IfOk result (λ a. IsUsesText json a.exit (string_bytes a.text)) }
+    ensures text { IfOk result (λ a. string_bytes a.text ≡ unknown_text json word.now) }
+    ensures exit { IfOk result (λ a. a.exit ≡ Exit.Bad) }
 {
     let text = unknown_line(alloc, json, word)?;
     Ok(Answered {

@@ -2,10 +2,13 @@
 #![tactic(auto)]
 
 mod command;
+mod laws;
 mod notes;
 mod objects;
 #[cfg(test)]
 mod rows;
+mod words;
 mod writing;
 
 pub use command::write_uses;
+pub use laws::answers_are_one;

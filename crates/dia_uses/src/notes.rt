@@ -1,6 +1,6 @@
 //! What standard error says of an answer.
 
-use crate::writing::{Counts, name_of, push_avp};
+use crate::writing::{Counts, avp_words};
 use dia_book::Book;
 use dia_wire::Key;
 use std::alloc::{AllocError, Global};
@@ -20,7 +20,8 @@ pub(crate) fn notes_of<B: Book>(
 ) -> Result<String, AllocError> {
     let mut notes = String::new(alloc);
     for tally in tallies {
-        push_avp(&mut notes, tally.key, name_of(book, tally.key))?;
+        let avp = avp_words(alloc, book, tally.key)?;
+        notes.push_str(avp.as_str())?;
         push_counts(&mut notes, tally.counts)?;
     }
     Ok(notes)

@@ -1,8 +1,16 @@
 //! The lines of an AVP.
+ghost use Rattle.std.specs.Prelude.{◌≡◌, ◌<◌, ◌++◌, [], codes, if◌then◌else◌, IfOk, OnOk, length, map, string_bytes};
+ghost use Rattle.std.specs.Fmt.{decimal};
+ghost use Rattle.std.specs.Option.{option_map};
+ghost use Rattle.dia_book.specs.Dictionary.{definitions};
+ghost use Rattle.dia_places.specs.Names.{names_of};
+ghost use Rattle.dia_places.specs.Records.{path_of, paths_of};
+ghost use Rattle.dia_uses.specs.Lines.{avp_of, avp_text, line_at, line_of, lines_of, name_of};
+ghost use Rattle.dia_uses.specs.Kinds.{AreWithin, is_kind, lines_by};
 
-use crate::objects::push_object;
-use dia_book::{Book, RuleKind};
-use dia_owners::push_counts;
+use crate::objects::{avp_object, push_object};
+use crate::words::push_words;
+use dia_book::Book;
 use dia_places::{By, Reached, by_of, path_to};
 use dia_wire::Key;
 use std::alloc::{AllocError, Global};
@@ -21,15 +29,14 @@ enum Kind {
     Wildcards,
 }
 
-/// A line: where AVPs of a key may occur.
-#[derive(Clone, Copy)]
-pub(crate) struct Place<'p> {
+/// The AVP whose lines are written.
+#[derive(Drop)]
+pub(crate) struct Asked<'a, B: Book> {
+    pub json: bool,
+    pub book: &'a B,
     pub key: Key,
-    /// The AVP's name, if the dictionary knows it.
-    pub name: Option<&'p str>,
-    /// The names of the command and of the groups that lead to the level.
-    pub path: &'p [&'p str],
-    pub by: By,
+    /// Its name or numbers, or its object.
+    pub avp: &'a str,
 }
 
 /// Adds the lines of an AVP: those by rules, and then those by wildcards.
@@ -40,9 +47,20 @@ pub(crate) fn push_lines<B: Book>(
     book: &B,
     reached: &[Reached],
     key: Key,
-) -> Result<Counts, AllocError> {
-    let rules = push_kind(alloc, out, json, book, reached, key, Kind::Rules)?;
-    let wildcards = push_kind(alloc, out, json, book, reached, key, Kind::Wildcards)?;
+) -> Result<Counts, AllocError>
+    requires { AreWithin (B.meaning book.now) reached.now }
+    ensures { OnOk result (string_bytes out.new
+        ≡ string_bytes out.old ++ lines_of json (B.meaning book.now) (paths_of reached.now) key) }
+{
+    let avp = avp_of(alloc, json, book, key)?;
+    let asked = Asked {
+        json,
+        book,
+        key,
+        avp: avp.as_str(),
+    };
+    let rules = push_kind(alloc, out, &asked, reached, Kind::Rules)?;
+    let wildcards = push_kind(alloc, out, &asked, reached, Kind::Wildcards)?;
     Ok(Counts { rules, wildcards })
 }
 
@@ -50,36 +68,73 @@ pub(crate) fn push_lines<B: Book>(
 fn push_kind<B: Book>(
     alloc: Global,
     out: &mut String,
-    json: bool,
-    book: &B,
+    asked: &Asked<'_, B>,
     reached: &[Reached],
-    key: Key,
     kind: Kind,
-) -> Result<usize, AllocError> {
+) -> Result<usize, AllocError>
+    requires within { AreWithin (B.meaning asked.now.book.now) reached.now }
+    requires avp { asked.now.avp.now ≡ avp_of asked.now.json (B.meaning asked.now.book.now) asked.now.key }
+    ensures { OnOk result (string_bytes out.new ≡ string_bytes out.old
+        ++ lines_by asked.now.json (B.meaning asked.now.book.now) kind asked.now.key (paths_of reached.now)) }
+{
     let mut count = 0usize;
     for place in 0..reached.len() {
-        if let Some(by) = by_of(book, reached[place].of, key) {
-            if is_of(by, kind) {
-                let path = path_to(alloc, book, reached, place)?;
-                let name = name_of(book, key);
-                push_line(
-                    out,
-                    json,
-                    &Place {
-                        key,
-                        name,
-                        path: &path,
-                        by,
-                    },
-                )?;
-                count = count.saturating_add(1);
-            }
+        if push_place(alloc, out, asked, reached, reached[place], kind)? {
+            count = count.saturating_add(1);
         }
     }
     Ok(count)
 }
 
-fn is_of(by: By, kind: Kind) -> bool {
+/// Adds the line of a definition, if it has one of this kind. Says whether it has.
+fn push_place<B: Book>(
+    alloc: Global,
+    out: &mut String,
+    asked: &Asked<'_, B>,
+    reached: &[Reached],
+    last: Reached,
+    kind: Kind,
+) -> Result<bool, AllocError>
+    requires within { AreWithin (B.meaning asked.now.book.now) reached.now }
+    requires last { last.def < length (definitions (B.meaning asked.now.book.now)) }
+    requires avp { asked.now.avp.now ≡ avp_of asked.now.json (B.meaning asked.now.book.now) asked.now.key }
+    ensures { OnOk result (string_bytes out.new ≡ string_bytes out.old
+        ++ line_at asked.now.json (B.meaning asked.now.book.now) (is_kind kind) asked.now.key
+        (path_of reached.now last)) }
+{
+    match by_of(asked.book, last.def, asked.key) {
+        Some(by) => push_by(alloc, out, asked, reached, last, kind, by),
+        None => Ok(false),
+    }
+}
+
+/// Adds the line if it is of this kind.
+fn push_by<B: Book>(
+    alloc: Global,
+    out: &mut String,
+    asked: &Asked<'_, B>,
+    reached: &[Reached],
+    last: Reached,
+    kind: Kind,
+    by: By,
+) -> Result<bool, AllocError>
+    requires within { AreWithin (B.meaning asked.now.book.now) reached.now }
+    requires last { last.def < length (definitions (B.meaning asked.now.book.now)) }
+    ensures { OnOk result (string_bytes out.new ≡ string_bytes out.old
+        ++ (if is_kind kind by then line_of asked.now.json
+        (names_of (B.meaning asked.now.book.now) (path_of reached.now last)) asked.now.avp.now by else [])) }
+{
+    if !is_of(by, kind) {
+        return Ok(false);
+    }
+    let path = path_to(alloc, asked.book, reached, last)?;
+    push_line(out, asked.json, &path, asked.avp, by)?;
+    Ok(true)
+}
+
+fn is_of(by: By, kind: Kind) -> bool
+    ensures { result ≡ is_kind kind by }
+{
     match by {
         By::Rule(_) => kind == Kind::Rules,
         By::Wildcard(_) => kind == Kind::Wildcards,
@@ -87,59 +142,56 @@ fn is_of(by: By, kind: Kind) -> bool {
 }
 
 /// The name of an AVP, if the dictionary knows it.
-pub(crate) fn name_of<B: Book>(book: &B, key: Key) -> Option<&str> {
+pub(crate) fn name_of<B: Book>(book: &B, key: Key) -> Option<&str>
+    ensures { option_map (λ name. name.now) result ≡ name_of (B.meaning book.now) key }
+{
     let entry = book.avp(key)?;
     Some(book.entry_name(entry))
 }
 
-fn push_line(out: &mut String, json: bool, place: &Place<'_>) -> Result<(), AllocError> {
+/// An AVP in words, or as an object.
+fn avp_of<B: Book>(alloc: Global, json: bool, book: &B, key: Key) -> Result<String, AllocError>
+    ensures { IfOk result (λ avp. string_bytes avp ≡ avp_of json (B.meaning book.now) key) }
+{
     if json {
-        push_object(out, place)?;
+        avp_object(alloc, book, key)
     } else {
-        push_words(out, place)?;
-    }
-    out.push('\n')
-}
-
-/// Adds a line in words, as `CCR/Subscription-Id: Subscription-Id-Data 1` or `CCR: User-Name by [ AVP ]`.
-fn push_words(out: &mut String, place: &Place<'_>) -> Result<(), AllocError> {
-    push_path(out, place.path)?;
-    out.push_str(": ")?;
-    push_avp(out, place.key, place.name)?;
-    match place.by {
-        By::Rule(rule) => {
-            out.push(' ')?;
-            push_counts(out, rule)
-        }
-        By::Wildcard(rule) => out.push_str(wildcard_words(rule.kind)),
+        avp_words(alloc, book, key)
     }
 }
 
-fn push_path(out: &mut String, path: &[&str]) -> Result<(), AllocError> {
-    for index in 0..path.len() {
-        if index > 0 {
-            out.push('/')?;
-        }
-        out.push_str(path[index])?;
-    }
-    Ok(())
-}
-
-/// Adds the name of an AVP, or `CODE:VENDOR` where the dictionary doesn't know it.
-pub(crate) fn push_avp(out: &mut String, key: Key, name: Option<&str>) -> Result<(), AllocError> {
-    match name {
-        Some(name) => out.push_str(name),
-        None => {
-            let Key { code, vendor } = key;
-            write!(out, "{code}:{vendor}")
-        }
+/// The name of an AVP, or `CODE:VENDOR` where the dictionary doesn't know it.
+pub(crate) fn avp_words<B: Book>(alloc: Global, book: &B, key: Key) -> Result<String, AllocError>
+    ensures { IfOk result (λ avp. string_bytes avp ≡ avp_text (B.meaning book.now) key) }
+{
+    match name_of(book, key) {
+        Some(name) => String::from_str(alloc, name),
+        None => numbers(alloc, key),
     }
 }
 
-fn wildcard_words(kind: RuleKind) -> &'static str {
-    match kind {
-        RuleKind::Fixed => " by < AVP >",
-        RuleKind::Required => " by { AVP }",
-        RuleKind::Optional => " by [ AVP ]",
+fn numbers(alloc: Global, key: Key) -> Result<String, AllocError>
+    ensures { IfOk result (λ text. string_bytes text ≡ decimal key.code ++ codes ":" ++ decimal key.vendor) }
+{
+    let Key { code, vendor } = key;
+    let mut text = String::new(alloc);
+    write!(text, "{code}:{vendor}")?;
+    Ok(text)
+}
+
+fn push_line(
+    out: &mut String,
+    json: bool,
+    path: &[&str],
+    avp: &str,
+    by: By,
+) -> Result<(), AllocError>
+    ensures { OnOk result (string_bytes out.new ≡ string_bytes out.old
+        ++ line_of json (map (λ name. name.now) path.now) avp.now by) }
+{
+    if json {
+        push_object(out, path, avp, by)
+    } else {
+        push_words(out, path, avp, by)
     }
 }

@@ -1,0 +1,12 @@
+mod Few
+mod Numbers
+mod Graphs
+mod Steps
+mod Walked
+mod WalkOfBook
+mod Words
+mod Loops
+mod Slots
+mod NamedPaths
+mod AskedWords
+mod OneList
