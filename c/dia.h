@@ -45,7 +45,7 @@ enum {
     DIA_REFUSED = 1,     /* the input is not what the function reads, and the function says why */
     DIA_NONE = 2,        /* there is none */
     DIA_NO_MEMORY = 3,   /* memory was refused */
-    DIA_NO_ROOM = 4,     /* there is less room than *count bytes */
+    DIA_NO_ROOM = 4,     /* there is less room than for *count bytes, or AVPs */
     DIA_IS_OPEN = 5,     /* the handle to be opened is open already */
     DIA_IS_CLOSED = 6,   /* the handle to be used is closed */
     DIA_BAD_ARGUMENT = 7, /* a number among the arguments has no meaning */
@@ -234,6 +234,56 @@ dia_status dia_status_word(dia_status status, uint8_t *out, size_t out_len, size
  * outcome; or the dictionary has no such command. *count is written on DIA_OK and DIA_NO_ROOM alone. */
 #define DIA_MAX_LINE 192u
 dia_status dia_verdict_text(dia_dict *dict, const dia_verdict *verdict, uint8_t *out, size_t out_len, size_t *count);
+
+/* ---- the AVPs of a message ---- */
+
+/* The data formats of docs/FORMATS.md, by the number that an AVP has. */
+enum {
+    DIA_F_UNKNOWN = 0, /* the dictionary does not have the AVP */
+    DIA_F_OCTET_STRING = 1,
+    DIA_F_INTEGER32 = 2,
+    DIA_F_INTEGER64 = 3,
+    DIA_F_UNSIGNED32 = 4,
+    DIA_F_UNSIGNED64 = 5,
+    DIA_F_FLOAT32 = 6,
+    DIA_F_FLOAT64 = 7,
+    DIA_F_GROUPED = 8,
+    DIA_F_ADDRESS = 9,
+    DIA_F_TIME = 10,
+    DIA_F_UTF8STRING = 11,
+    DIA_F_DIAMETER_IDENTITY = 12,
+    DIA_F_DIAMETER_URI = 13,
+    DIA_F_ENUMERATED = 14,
+    DIA_F_IP_FILTER_RULE = 15,
+    DIA_F_QOS_FILTER_RULE = 16
+};
+
+/* An AVP (RFC 6733 section 4.1). Offsets are in bytes from the first of the message. */
+typedef struct dia_avp {
+    size_t place;       /* where it begins */
+    size_t depth;       /* how many groups are around it; 0: it is in the body */
+    size_t length;      /* AVP Length: without the padding */
+    size_t data_place;  /* where its data begins */
+    size_t data_length; /* and how many bytes this has */
+    size_t name_count;  /* how many bytes `name` has; 0 where the dictionary does not have the AVP */
+    uint32_t code;
+    uint32_t vendor;    /* Vendor-ID; 0 without one */
+    uint32_t flags;     /* AVP Flags, 8 bits */
+    uint32_t format;    /* DIA_F_.. */
+    uint8_t name[DIA_MAX_NAME]; /* the dictionary's name, and zeros after it */
+} dia_avp;
+
+/* Delivers the AVPs of a message in the order of their bytes, each group that the dictionary has followed by its members, as
+ * `diacmd show` lists them. *count is the number of all. The first of them, as many as there is room for, are in `avps`; the rest of
+ * `avps` is as before. *end is `message_len`; or less, where an AVP Length that no AVP can have begins an AVP at this offset, and
+ * ends the list. The message need not be valid.
+ * DIA_NO_ROOM: there are more than `avp_room`, and `avps` has the first of them. With `avp_room` 0 the AVPs are counted.
+ * DIA_REFUSED: the bytes are no message. *verdict says why, and is written on no other status: DIA_TRUNCATED, DIA_TRAILING, or the
+ * fault of the version or of the Message Length.
+ * *count and *end are written on DIA_OK and DIA_NO_ROOM alone. On DIA_NO_MEMORY `avps` may have some of the AVPs. The call takes
+ * memory for the groups that are open at once, and frees it. */
+dia_status dia_avps(dia_dict *dict, const uint8_t *message, size_t message_len, dia_avp *avps, size_t avp_room, size_t *count,
+                    size_t *end, dia_verdict *verdict);
 
 /* ---- messages that come in pieces ---- */
 

@@ -127,6 +127,12 @@ static dia_status says(void) {
     return dia_verdict_text(&dict, &truncated, said, sizeof said, &count);
 }
 
+static dia_status delivers(void) {
+    dia_avp avps[3];
+    size_t count, end;
+    return dia_avps(&dict, grouped, sizeof grouped, avps, 3, &count, &end, &verdict);
+}
+
 static dia_status checks_many(void) {
     static const size_t ends[] = {sizeof watchdog};
     return dia_check_many(&dict, DIA_KEPT, DIA_ANY_LEVELS, watchdog, sizeof watchdog, ends, 1, &verdict, 1);
@@ -268,6 +274,7 @@ int main(void) {
     refuse_each("check", checks, close_nothing, 1);
     refuse_each("check_many", checks_many, close_nothing, 1);
     refuse_each("verdict_text", says, close_nothing, 1);
+    refuse_each("avps", delivers, close_nothing, 1);
     refuse_each("compare", compares, close_line, 3);
     dia_text_close(&line);
     refuse_each("show", shows, close_line, 2);

@@ -5,6 +5,7 @@
 ghost use Rattle.std.specs.Prelude.{◌≡◌};
 ghost use Rattle.dia_c_calls.specs.Statuses.{abi_version};
 
+mod avp_calls;
 mod batches;
 mod checks;
 mod comparisons;
@@ -19,6 +20,7 @@ mod texts;
 mod upgrades;
 mod words;
 
+pub use avp_calls::dia_avps;
 pub use batches::dia_check_many;
 pub use checks::{dia_check, dia_check_json, dia_message_length};
 pub use comparisons::{dia_compare, dia_table_place};

@@ -1,4 +1,5 @@
 pub mod AllFaults
+pub mod Avps
 pub mod Batches
 pub mod Comparisons
 pub mod Feedings

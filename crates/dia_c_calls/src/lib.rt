@@ -2,6 +2,9 @@
 //! functions to C, with the same clauses.
 #![tactic(auto)]
 
+mod avp_calls;
+mod avp_list;
+mod avp_records;
 mod batch;
 mod batches;
 mod checks;
@@ -38,6 +41,8 @@ mod verdict_words;
 mod wanted;
 mod words;
 
+pub use avp_calls::avps;
+pub use avp_records::MessageAvp;
 pub use batches::check_many;
 pub use checks::{check, check_json, message_length};
 pub use comparisons::{compare, table_place};
