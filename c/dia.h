@@ -218,6 +218,20 @@ dia_status dia_check_many(dia_dict *dict, uint32_t unknown, uint32_t levels, con
  * Takes no memory. */
 dia_status dia_message_length(const uint8_t *header, size_t header_len, uint32_t *length, dia_verdict *verdict);
 
+/* The fields of a header (RFC 6733 section 3). Its version is 1. */
+typedef struct dia_head {
+    uint32_t length; /* Message Length */
+    uint32_t flags;  /* Command Flags, 8 bits */
+    uint32_t code;   /* Command Code */
+    uint32_t app;    /* Application-ID */
+    uint32_t hop;    /* Hop-by-Hop Identifier */
+    uint32_t e2e;    /* End-to-End Identifier */
+} dia_head;
+
+/* The header with which these bytes begin, at least 20; the bytes after it are not read. DIA_REFUSED: as of dia_message_length.
+ * Takes no memory. */
+dia_status dia_header(const uint8_t *bytes, size_t bytes_len, dia_head *head, dia_verdict *verdict);
+
 /* ---- words ---- */
 
 /* The word of a number: of a reason DIA_R_.., as lines of `diacmd check` have it; of a kind of problem, as answers in JSON have it

@@ -81,3 +81,11 @@ AT(dia_avp, vendor, 52);
 AT(dia_avp, flags, 56);
 AT(dia_avp, format, 60);
 AT(dia_avp, name, 64);
+
+_Static_assert(sizeof(dia_head) == 24, "dia_head");
+AT(dia_head, length, 0);
+AT(dia_head, flags, 4);
+AT(dia_head, code, 8);
+AT(dia_head, app, 12);
+AT(dia_head, hop, 16);
+AT(dia_head, e2e, 20);

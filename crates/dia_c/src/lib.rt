@@ -11,6 +11,7 @@ mod checks;
 mod comparisons;
 mod dictionaries;
 mod fault_lists;
+mod heads;
 mod layout;
 mod listings;
 mod peers;
@@ -29,6 +30,7 @@ pub use dictionaries::{
     dia_dict_share,
 };
 pub use fault_lists::{dia_faults_close, dia_faults_get, dia_faults_open, dia_line_column};
+pub use heads::dia_header;
 pub use listings::dia_show;
 pub use peers::{
     dia_peer_close, dia_peer_common, dia_peer_event, dia_peer_open, dia_peer_open_as,

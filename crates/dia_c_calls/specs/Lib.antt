@@ -4,6 +4,7 @@ pub mod Batches
 pub mod Comparisons
 pub mod Feedings
 pub mod Handles
+pub mod Heads
 pub mod Held
 pub mod Listings
 pub mod Names
