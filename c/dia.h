@@ -16,7 +16,8 @@
  *  5. Nothing leaves a call by longjmp or by unwinding.
  *
  * WHAT HOLDS OF ALL FUNCTIONS
- *  - No pointer that is passed is used after the call. Lengths and offsets are in bytes.
+ *  - No pointer that is passed is used after the call. Lengths and offsets are in bytes. What a function delivers is copied into the
+ *    program's memory; the one pointer into the library's is that of dia_text_view.
  *  - A function that may fail answers a status, DIA_OK or another. On any other than DIA_OK it has changed nothing that its
  *    comment does not name.
  *  - A function may answer DIA_NO_MEMORY, where malloc or realloc refused, unless its comment says "takes no memory".
@@ -364,6 +365,11 @@ dia_status dia_text_read(dia_text *text, size_t from, uint8_t *out, size_t out_l
 
 /* How many bytes the text has. Takes no memory. */
 dia_status dia_text_length(dia_text *text, size_t *length);
+
+/* Delivers the text's bytes where they are, without a copy: *count of them from *bytes on, with no zero after them. The library owns
+ * them: a program only reads them, and no longer than until dia_text_close. Of no bytes *bytes is no address to read from. Takes no
+ * memory. */
+dia_status dia_text_view(dia_text *text, const uint8_t **bytes, size_t *count);
 
 /* Closes the handle. Takes no memory. */
 void dia_text_close(dia_text *text);

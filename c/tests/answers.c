@@ -274,11 +274,14 @@ static void texts_are_read_in_pieces(void) {
     dia_text text = DIA_TEXT_INIT;
     dia_problem problem;
     uint8_t piece[7], all[64];
+    const uint8_t *bytes = NULL, *again = NULL;
     size_t count = 0, from = 0;
     EXPECT(dia_render((const uint8_t *)"x", 1, &text, &problem) == DIA_REFUSED && problem.kind == DIA_SYNTAX);
     EXPECT(dia_render((const uint8_t *)untidy, strlen(untidy), &text, &problem) == DIA_OK);
     EXPECT(dia_render((const uint8_t *)untidy, strlen(untidy), &text, &problem) == DIA_IS_OPEN);
     EXPECT(dia_text_length(&text, &count) == DIA_OK && count == strlen(canonical));
+    count = 99;
+    EXPECT(dia_text_view(&text, &bytes, &count) == DIA_OK && count == strlen(canonical) && memcmp(bytes, canonical, count) == 0);
     memset(piece, FILLING, sizeof piece);
     while (dia_text_read(&text, from, piece, sizeof piece, &count) == DIA_OK && count > 0) {
         EXPECT(count == 7 || count == strlen(canonical) % 7);
@@ -290,7 +293,11 @@ static void texts_are_read_in_pieces(void) {
     EXPECT(is_name(all, from, canonical));
     EXPECT(dia_text_read(&text, SIZE_MAX, piece, sizeof piece, &count) == DIA_OK && count == 0 && is_left(piece, sizeof piece));
     EXPECT(dia_text_read(&text, 0, piece, 0, &count) == DIA_OK && count == 0 && is_left(piece, sizeof piece));
+    EXPECT(dia_text_view(&text, &again, &count) == DIA_OK && again == bytes && memcmp(bytes, canonical, count) == 0);
     dia_text_close(&text);
+    again = NULL;
+    count = 99;
+    EXPECT(dia_text_view(&text, &again, &count) == DIA_IS_CLOSED && again == NULL && count == 99);
     EXPECT(dia_text_read(&text, 0, piece, sizeof piece, &count) == DIA_IS_CLOSED && is_left(piece, sizeof piece));
 }
 

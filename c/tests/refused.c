@@ -235,6 +235,7 @@ static void take_no_memory(void) {
     size_t count;
     size_t column;
     uint32_t length, state, output, why;
+    const uint8_t *bytes = NULL;
     dia_head head;
     dia_fault fault;
     dia_verdict told;
@@ -248,6 +249,7 @@ static void take_no_memory(void) {
     EXPECT(dia_message_length(watchdog, 20, &length, &verdict) == DIA_OK);
     EXPECT(dia_header(watchdog, 20, &head, &verdict) == DIA_OK && head.code == 280);
     EXPECT(dia_text_length(&text, &count) == DIA_OK);
+    EXPECT(dia_text_view(&text, &bytes, &count) == DIA_OK && bytes != NULL);
     EXPECT(dia_text_read(&text, 0, name, sizeof name, &count) == DIA_OK);
     EXPECT(dia_stream_levels(&stream, &count) == DIA_OK && count == 0);
     EXPECT(dia_stream_finish(&stream, &told) == DIA_OK && told.outcome == DIA_TRUNCATED);

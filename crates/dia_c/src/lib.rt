@@ -17,6 +17,7 @@ mod listings;
 mod peers;
 mod replies;
 mod streams;
+mod text_views;
 mod texts;
 mod upgrades;
 mod words;
@@ -40,6 +41,7 @@ pub use replies::dia_answer;
 pub use streams::{
     dia_stream_close, dia_stream_feed, dia_stream_finish, dia_stream_levels, dia_stream_open,
 };
+pub use text_views::dia_text_view;
 pub use texts::{dia_render, dia_text_close, dia_text_length, dia_text_read};
 pub use upgrades::dia_breaking;
 pub use words::{dia_kind_word, dia_reason_word, dia_status_word, dia_verdict_text};

@@ -33,6 +33,7 @@ mod reply;
 mod sink;
 mod status;
 mod streams;
+mod text_views;
 mod texts;
 mod upgrade;
 mod upgrades;
@@ -65,6 +66,7 @@ pub use status::{
     status_numbers,
 };
 pub use streams::{Fed, stream_close, stream_feed, stream_finish, stream_levels, stream_open};
+pub use text_views::text_view;
 pub use texts::{render, text_close, text_length, text_read};
 pub use upgrades::breaking;
 pub use verdict::Verdict;
