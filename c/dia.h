@@ -4,8 +4,9 @@
  * in words, the clauses of crates/dia_c/src say it exactly.
  *
  * WHAT A PROGRAM OWES
- *  1. No pointer is NULL, not even where its length is 0, and each is aligned for its type. Nothing writes the memory of a
- *     const pointer during the call. Nothing else touches the memory of another pointer during the call, and it overlaps
+ *  1. A pointer is NULL only where its length is 0: that each function then reads no bytes and writes none is tested
+ *     (c/tests/reading.c), and the proofs do not speak of NULL. Each pointer is aligned for its type. Nothing writes the memory
+ *     of a const pointer during the call. Nothing else touches the memory of another pointer during the call, and it overlaps
  *     no other argument.
  *  2. A handle is all zero bytes before its first call (DIA_.._INIT), and only the library changes it. It may be moved as bytes,
  *     and then only one of the copies is used.

@@ -1,5 +1,5 @@
-/* Words, the AVPs of a message, and checks of many messages. The words are those of docs/FAULTS.md, the rest is worked out
- * by hand from RFC 6733. */
+/* Words, the AVPs of a message, checks of many messages, and NULL where a length is 0. The words are those of docs/FAULTS.md,
+ * the rest is worked out by hand from RFC 6733. */
 #include "tests.h"
 
 static const dia_verdict untouched = {99, 99, 99, 99, 99, 99, 99, 99};
@@ -149,8 +149,8 @@ static void avps_are_delivered(void) {
     EXPECT(is_avp(&avps[2], 40, 1, 12, 258, DIA_F_UNSIGNED32, "Auth-Application-Id") && are_left(avps + 3, 1));
     EXPECT(dia_avps(&dict, vendors, sizeof vendors, avps, 4, &count, &end, &verdict) == DIA_OK && count == 1 && end == 36);
     EXPECT(avps[0].place == 20 && avps[0].length == 15 && avps[0].data_place == 32 && avps[0].data_length == 3);
-    EXPECT(avps[0].code == 9999 && avps[0].vendor == 10415 && avps[0].flags == 0x80 && avps[0].format == DIA_F_UNKNOWN && avps[0].depth == 0);
-    EXPECT(avps[0].name_count == 0 && avps[0].name[0] == 0);
+    EXPECT(avps[0].code == 9999 && avps[0].vendor == 10415 && avps[0].flags == 0x80 && avps[0].depth == 0);
+    EXPECT(avps[0].format == DIA_F_UNKNOWN && avps[0].name_count == 0 && avps[0].name[0] == 0);
     EXPECT(dia_avps(&dict, watchdog, 20, avps, 4, &count, &end, &verdict) == DIA_REFUSED && verdict.outcome == DIA_TRUNCATED);
     dia_dict_close(&dict);
 }
@@ -235,6 +235,69 @@ static void many_are_checked(void) {
     dia_dict_close(&dict);
 }
 
+/* ---- pointers whose length is 0 ---- */
+
+static void nulls_are_no_bytes(void) {
+    dia_dict dict = DIA_DICT_INIT, empty = DIA_DICT_INIT;
+    dia_text text = DIA_TEXT_INIT;
+    dia_faults faults = DIA_FAULTS_INIT;
+    dia_problem problem;
+    dia_verdict verdict = untouched;
+    dia_head head;
+    size_t count = 99, end = 99;
+    uint32_t number = 99;
+    EXPECT(dia_dict_open_base(&dict) == DIA_OK && dia_dict_open(NULL, 0, &empty, &problem) == DIA_OK);
+    EXPECT(dia_faults_open(NULL, 0, &faults, &count) == DIA_OK && count == 0);
+    EXPECT(dia_avp_name(&dict, 264, 0, NULL, 0, &count) == DIA_NO_ROOM && count == 11);
+    EXPECT(dia_status_word(DIA_SPENT, NULL, 0, &count) == DIA_NO_ROOM && count == 5);
+    EXPECT(dia_check(&dict, DIA_KEPT, 0, NULL, 0, &verdict) == DIA_OK && verdict.outcome == DIA_TRUNCATED);
+    EXPECT(dia_check_many(&dict, DIA_KEPT, 0, NULL, 0, NULL, 0, NULL, 0) == DIA_OK);
+    EXPECT(dia_message_length(NULL, 0, &number, &verdict) == DIA_REFUSED && number == 99);
+    EXPECT(dia_header(NULL, 0, &head, &verdict) == DIA_REFUSED && verdict.outcome == DIA_TRUNCATED);
+    EXPECT(dia_avps(&dict, grouped, sizeof grouped, NULL, 0, &count, &end, &verdict) == DIA_NO_ROOM && count == 3 && end == 52);
+    EXPECT(dia_avps(&dict, NULL, 0, NULL, 0, &count, &end, &verdict) == DIA_REFUSED && verdict.outcome == DIA_TRUNCATED);
+    EXPECT(dia_show(&dict, NULL, 0, &text, &number, &verdict) == DIA_REFUSED && verdict.outcome == DIA_TRUNCATED);
+    EXPECT(dia_render(NULL, 0, &text, &problem) == DIA_OK && dia_text_read(&text, 0, NULL, 0, &count) == DIA_OK && count == 0);
+    dia_text_close(&text);
+    /* a table without pairs */
+    EXPECT(dia_compare(&dict, &empty, DIA_KEPT, NULL, 0, &text, &number, &problem) == DIA_OK && number == 1);
+    EXPECT(dia_table_place(NULL, 0, DIA_NOT_TEXT, 0) == 0);
+    dia_text_close(&text);
+    EXPECT(dia_breaking(&empty, &dict, DIA_SENDS_ANY, DIA_KEPT, 0, NULL, 0, NULL, 0, &text, &number, &problem) == DIA_REFUSED);
+    EXPECT(problem.kind == DIA_NO_COMMANDS);
+    dia_faults_close(&faults);
+    dia_dict_close(&dict);
+    dia_dict_close(&empty);
+}
+
+static void nulls_are_no_messages(void) {
+    static const uint8_t name[1] = {'a'};
+    static const dia_ip loopback = {0, {127, 0, 0, 1}};
+    static const dia_app app = {0, 4, 0, 0};
+    static const dia_numbers numbers = {0, 0, 0, 1, 1};
+    dia_dict dict = DIA_DICT_INIT;
+    dia_text text = DIA_TEXT_INIT;
+    dia_stream stream = DIA_STREAM_INIT;
+    dia_peer peer = DIA_PEER_INIT;
+    dia_verdict verdict = untouched;
+    dia_fed fed;
+    size_t count = 99;
+    uint32_t number = 99, why;
+    EXPECT(dia_dict_open_base(&dict) == DIA_OK);
+    EXPECT(dia_answer(&dict, DIA_KEPT, 0, NULL, 0, name, 1, watchdog, 64, &text, &number, &verdict) == DIA_BAD_ARGUMENT);
+    EXPECT(dia_answer(&dict, DIA_KEPT, 0, name, 1, name, 1, NULL, 0, &text, &number, &verdict) == DIA_NONE);
+    EXPECT(dia_stream_open(&dict, DIA_KEPT, 0, &stream) == DIA_OK);
+    EXPECT(dia_stream_feed(&stream, NULL, 0, &fed) == DIA_OK && fed.taken == 0 && fed.done == 0);
+    EXPECT(dia_stream_finish(&stream, &verdict) == DIA_OK && verdict.outcome == DIA_TRUNCATED);
+    EXPECT(dia_peer_open(DIA_INITIATOR, NULL, 0, NULL, 0, NULL, 0, NULL, 0, NULL, 0, &numbers, &peer, &number) == DIA_REFUSED);
+    EXPECT(number == DIA_BAD_HOST);
+    EXPECT(dia_peer_open(DIA_INITIATOR, name, 1, name, 1, NULL, 0, &loopback, 1, &app, 1, &numbers, &peer, &number) == DIA_OK);
+    EXPECT(dia_peer_event(&peer, DIA_START, NULL, 0, 0) == DIA_OK);
+    EXPECT(dia_peer_output(&peer, &number, NULL, 0, &count, &why) == DIA_NO_ROOM && count > 20);
+    dia_peer_close(&peer);
+    dia_dict_close(&dict);
+}
+
 int main(void) {
     numbers_have_words();
     verdicts_have_lines();
@@ -242,5 +305,7 @@ int main(void) {
     avps_follow_groups();
     unknown_groups_are_data();
     many_are_checked();
+    nulls_are_no_bytes();
+    nulls_are_no_messages();
     return tell_counts();
 }
