@@ -4,8 +4,9 @@
  * in words, the clauses of crates/dia_c/src say it exactly.
  *
  * WHAT A PROGRAM OWES
- *  1. No pointer is NULL, not even where its length is 0, and each is aligned for its type. Nothing writes the memory of a
- *     const pointer during the call. Nothing else touches the memory of another pointer during the call, and it overlaps
+ *  1. A pointer is NULL only where its length is 0: that each function then reads no bytes and writes none is tested
+ *     (c/tests/reading.c), and the proofs do not speak of NULL. Each pointer is aligned for its type. Nothing writes the memory
+ *     of a const pointer during the call. Nothing else touches the memory of another pointer during the call, and it overlaps
  *     no other argument.
  *  2. A handle is all zero bytes before its first call (DIA_.._INIT), and only the library changes it. It may be moved as bytes,
  *     and then only one of the copies is used.
@@ -16,7 +17,8 @@
  *  5. Nothing leaves a call by longjmp or by unwinding.
  *
  * WHAT HOLDS OF ALL FUNCTIONS
- *  - No pointer that is passed is used after the call. Lengths and offsets are in bytes.
+ *  - No pointer that is passed is used after the call. Lengths and offsets are in bytes. What a function delivers is copied into the
+ *    program's memory; the one pointer into the library's is that of dia_text_view.
  *  - A function that may fail answers a status, DIA_OK or another. On any other than DIA_OK it has changed only what its comment
  *    names.
  *  - A function may answer DIA_NO_MEMORY, where malloc or realloc refused, unless its comment says "takes no memory".
@@ -45,7 +47,7 @@ enum {
     DIA_REFUSED = 1,     /* the input is not what the function reads, and the function says why */
     DIA_NONE = 2,        /* there is none */
     DIA_NO_MEMORY = 3,   /* memory was refused */
-    DIA_NO_ROOM = 4,     /* there is less room than *count bytes */
+    DIA_NO_ROOM = 4,     /* there is less room than for *count bytes, or AVPs */
     DIA_IS_OPEN = 5,     /* the handle to be opened is open already */
     DIA_IS_CLOSED = 6,   /* the handle to be used is closed */
     DIA_BAD_ARGUMENT = 7, /* a number among the arguments has no meaning */
@@ -221,6 +223,20 @@ dia_status dia_check_many(dia_dict *dict, uint32_t unknown, uint32_t levels, con
  * Takes no memory. */
 dia_status dia_message_length(const uint8_t *header, size_t header_len, uint32_t *length, dia_verdict *verdict);
 
+/* The fields of a header (RFC 6733 section 3). Its version is 1. */
+typedef struct dia_head {
+    uint32_t length; /* Message Length */
+    uint32_t flags;  /* Command Flags, 8 bits */
+    uint32_t code;   /* Command Code */
+    uint32_t app;    /* Application-ID */
+    uint32_t hop;    /* Hop-by-Hop Identifier */
+    uint32_t e2e;    /* End-to-End Identifier */
+} dia_head;
+
+/* The header with which these bytes begin, at least 20; the bytes after it are not read. DIA_REFUSED: as of dia_message_length.
+ * Takes no memory. */
+dia_status dia_header(const uint8_t *bytes, size_t bytes_len, dia_head *head, dia_verdict *verdict);
+
 /* ---- words ---- */
 
 /* The word of a number: of a reason DIA_R_.., as lines of `diacmd check` have it; of a kind of problem, as answers in JSON have
@@ -238,6 +254,56 @@ dia_status dia_status_word(dia_status status, uint8_t *out, size_t out_len, size
  * does not use it; or the dictionary has no such command. *count is written on DIA_OK and DIA_NO_ROOM alone. */
 #define DIA_MAX_LINE 192u
 dia_status dia_verdict_text(dia_dict *dict, const dia_verdict *verdict, uint8_t *out, size_t out_len, size_t *count);
+
+/* ---- the AVPs of a message ---- */
+
+/* The data formats of docs/FORMATS.md, by the number that an AVP has. */
+enum {
+    DIA_F_UNKNOWN = 0, /* the dictionary does not have the AVP */
+    DIA_F_OCTET_STRING = 1,
+    DIA_F_INTEGER32 = 2,
+    DIA_F_INTEGER64 = 3,
+    DIA_F_UNSIGNED32 = 4,
+    DIA_F_UNSIGNED64 = 5,
+    DIA_F_FLOAT32 = 6,
+    DIA_F_FLOAT64 = 7,
+    DIA_F_GROUPED = 8,
+    DIA_F_ADDRESS = 9,
+    DIA_F_TIME = 10,
+    DIA_F_UTF8STRING = 11,
+    DIA_F_DIAMETER_IDENTITY = 12,
+    DIA_F_DIAMETER_URI = 13,
+    DIA_F_ENUMERATED = 14,
+    DIA_F_IP_FILTER_RULE = 15,
+    DIA_F_QOS_FILTER_RULE = 16
+};
+
+/* An AVP (RFC 6733 section 4.1). Offsets are in bytes from the first of the message. */
+typedef struct dia_avp {
+    size_t place;       /* where it begins */
+    size_t depth;       /* how many groups are around it; 0: it is in the body */
+    size_t length;      /* AVP Length: without the padding */
+    size_t data_place;  /* where its data begins */
+    size_t data_length; /* and how many bytes this has */
+    size_t name_count;  /* how many bytes `name` has; 0 where the dictionary does not have the AVP */
+    uint32_t code;
+    uint32_t vendor;    /* Vendor-ID; 0 without one */
+    uint32_t flags;     /* AVP Flags, 8 bits */
+    uint32_t format;    /* DIA_F_.. */
+    uint8_t name[DIA_MAX_NAME]; /* the dictionary's name, and zeros after it */
+} dia_avp;
+
+/* Delivers the AVPs of a message in the order of their bytes, each group that the dictionary has followed by its members, as
+ * `diacmd show` lists them. *count is the number of all. The first of them, as many as there is room for, are in `avps`; the rest of
+ * `avps` is as before. *end is `message_len`; or less, where an AVP Length that no AVP can have begins an AVP at this offset, and
+ * ends the list. The message need not be valid.
+ * DIA_NO_ROOM: there are more than `avp_room`, and `avps` has the first of them. With `avp_room` 0 the AVPs are counted.
+ * DIA_REFUSED: the bytes are no message. *verdict says why, and is written on no other status: DIA_TRUNCATED, DIA_TRAILING, or the
+ * fault of the version or of the Message Length.
+ * *count and *end are written on DIA_OK and DIA_NO_ROOM alone. On DIA_NO_MEMORY `avps` may have some of the AVPs. The call takes
+ * memory for the groups that are open at once, and frees it. */
+dia_status dia_avps(dia_dict *dict, const uint8_t *message, size_t message_len, dia_avp *avps, size_t avp_room, size_t *count,
+                    size_t *end, dia_verdict *verdict);
 
 /* ---- messages that come in pieces ---- */
 
@@ -305,6 +371,11 @@ dia_status dia_text_read(dia_text *text, size_t from, uint8_t *out, size_t out_l
 
 /* How many bytes the text has. Takes no memory. */
 dia_status dia_text_length(dia_text *text, size_t *length);
+
+/* Delivers the text's bytes where they are, without a copy: *count of them from *bytes on, with no zero after them. The library owns
+ * them: a program only reads them, and no longer than until dia_text_close. Of no bytes *bytes is no address to read from. Takes no
+ * memory. */
+dia_status dia_text_view(dia_text *text, const uint8_t **bytes, size_t *count);
 
 /* Closes the handle. Takes no memory. */
 void dia_text_close(dia_text *text);

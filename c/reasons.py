@@ -1,7 +1,7 @@
 #!/usr/bin/env python3
 """Writes the numbers of the reasons of `check` into dia.h, out of the definition that the contracts cite, and compares the other
 numbers of dia.h with their definitions: the version, the statuses, the kinds of a problem, and the states, the faults and the
-reasons of a connection, and the forms of answers.
+reasons of a connection, the forms of answers and the formats.
 
     c/reasons.py [--check]
 
@@ -21,8 +21,12 @@ STATUSES = re.compile(r"typedef uint32_t dia_status;\nenum \{([^}]*)\};")
 KINDS = re.compile(r"/\* Why a text is no dictionary: the kind of its first fault\. \*/\nenum \{([^}]*)\};")
 PEERS = (("DIA_STATE_", "PeerSteps.antt", r"^state_number state\.(\w+) = (\d+)$"), ("DIA_WHY_", "PeerSteps.antt", r"^why_number why\.(\w+) = (\d+)$"),
          ("DIA_TIMER_", "PeerTimers.antt", r"^timer_number timer\.(\w+) = (\d+)$"),
-         ("DIA_BAD_", "Peers.antt", r"^fault_number fault\.(\w+) = (\d+)$"), ("DIA_FORM_", "Replies.antt", r"^form_number form\.(\w+) = (\d+)$"))
-"""The numbers of a connection and of forms of answers: how their words begin, and the file and the lines of their definition."""
+         ("DIA_BAD_", "Peers.antt", r"^fault_number fault\.(\w+) = (\d+)$"), ("DIA_FORM_", "Replies.antt", r"^form_number form\.(\w+) = (\d+)$"),
+         ("DIA_F_", "Avps.antt", r"^format_number name\.(\w+) = (\d+)$"))
+"""The numbers of a connection, of forms of answers and of formats: how their words begin, and the file and the lines of their
+definition."""
+OTHERS = ("ARGUMENT", "UNKNOWN")
+"""What is none of these numbers: a status, and the number of no format."""
 OTHERWISE = {"LIMIT": "TOO_MANY_PARTS"}
 """Words of dia.h that aren't those of a definition."""
 
@@ -69,7 +73,7 @@ def compare_numbers(text):
     texts = rows_of("Openings.antt", r"^  (not_text) : .* problem (\d+) 0 0 ", r"^problem_of \(ccf\.(\w+) .*\) = problem (\d+) ")
     breaking = rows_of("Upgrades.antt", r"^  (no_commands?) : .* problem (\d+) ")
     for front, name, lines in PEERS:
-        found = [row for row in re.findall(rf"^    {front}(\w+) = (\d+)", text, re.M) if row[0] != "ARGUMENT"]
+        found = [row for row in re.findall(rf"^    {front}(\w+) = (\d+)", text, re.M) if row[0] not in OTHERS]
         compare(f"numbers of {front}..", found, [row for row in rows_of(name, lines) if row[0] != "NO_MEMORY"])
     compare("kinds", constants(text, KINDS), [(OTHERWISE.get(word, word), number) for word, number in wrong] + texts + breaking)
 

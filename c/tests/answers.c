@@ -247,16 +247,41 @@ static void lengths_are_told(void) {
     EXPECT(length == 99);
 }
 
+static void headers_are_delivered(void) {
+    static const dia_head untouched = {99, 99, 99, 99, 99, 99};
+    /* version 1, length 24, flags P and E, code 0x010203, and the numbers 4 to 15 */
+    static const uint8_t bytes[21] = {1, 0, 0, 24, 0x60, 1, 2, 3, 4, 5, 6, 7, 8, 9, 10, 11, 12, 13, 14, 15, 255};
+    dia_head head = untouched;
+    dia_verdict v = {99, 99, 99, 99, 99, 99, 99, 99};
+    uint8_t m[20];
+    EXPECT(dia_header(bytes, 19, &head, &v) == DIA_REFUSED && v.outcome == DIA_TRUNCATED);
+    EXPECT(memcmp(&head, &untouched, sizeof head) == 0);
+    v.outcome = 99;
+    EXPECT(dia_header(bytes, 21, &head, &v) == DIA_OK && head.length == 24 && head.flags == 0x60 && head.code == 0x010203);
+    EXPECT(head.app == 0x04050607 && head.hop == 0x08090a0b && head.e2e == 0x0c0d0e0f && v.outcome == 99);
+    EXPECT(dia_header(bytes, 20, &head, &v) == DIA_OK && head.length == 24);
+    head = untouched;
+    memcpy(m, bytes, sizeof m);
+    m[3] = 22; /* no multiple of four */
+    EXPECT(dia_header(m, 20, &head, &v) == DIA_REFUSED && is_fault(&v, 5015, 1, DIA_R_LENGTH, DIA_ABOUT_NOTHING, 0));
+    m[0] = 2;
+    EXPECT(dia_header(m, 20, &head, &v) == DIA_REFUSED && is_fault(&v, 5011, 0, DIA_R_VERSION, DIA_ABOUT_NOTHING, 0));
+    EXPECT(memcmp(&head, &untouched, sizeof head) == 0);
+}
+
 static void texts_are_read_in_pieces(void) {
     static const char untidy[] = "%avp   A 1\tOctetString  any ; a comment", canonical[] = "%avp A 1 OctetString any\n";
     dia_text text = DIA_TEXT_INIT;
     dia_problem problem;
     uint8_t piece[7], all[64];
+    const uint8_t *bytes = NULL, *again = NULL;
     size_t count = 0, from = 0;
     EXPECT(dia_render((const uint8_t *)"x", 1, &text, &problem) == DIA_REFUSED && problem.kind == DIA_SYNTAX);
     EXPECT(dia_render((const uint8_t *)untidy, strlen(untidy), &text, &problem) == DIA_OK);
     EXPECT(dia_render((const uint8_t *)untidy, strlen(untidy), &text, &problem) == DIA_IS_OPEN);
     EXPECT(dia_text_length(&text, &count) == DIA_OK && count == strlen(canonical));
+    count = 99;
+    EXPECT(dia_text_view(&text, &bytes, &count) == DIA_OK && count == strlen(canonical) && memcmp(bytes, canonical, count) == 0);
     memset(piece, FILLING, sizeof piece);
     while (dia_text_read(&text, from, piece, sizeof piece, &count) == DIA_OK && count > 0) {
         EXPECT(count == 7 || count == strlen(canonical) % 7);
@@ -268,7 +293,11 @@ static void texts_are_read_in_pieces(void) {
     EXPECT(is_name(all, from, canonical));
     EXPECT(dia_text_read(&text, SIZE_MAX, piece, sizeof piece, &count) == DIA_OK && count == 0 && is_left(piece, sizeof piece));
     EXPECT(dia_text_read(&text, 0, piece, 0, &count) == DIA_OK && count == 0 && is_left(piece, sizeof piece));
+    EXPECT(dia_text_view(&text, &again, &count) == DIA_OK && again == bytes && memcmp(bytes, canonical, count) == 0);
     dia_text_close(&text);
+    again = NULL;
+    count = 99;
+    EXPECT(dia_text_view(&text, &again, &count) == DIA_IS_CLOSED && again == NULL && count == 99);
     EXPECT(dia_text_read(&text, 0, piece, sizeof piece, &count) == DIA_IS_CLOSED && is_left(piece, sizeof piece));
 }
 
@@ -283,6 +312,7 @@ int main(void) {
     faults_are_told();
     names_are_told();
     lengths_are_told();
+    headers_are_delivered();
     texts_are_read_in_pieces();
     return tell_counts();
 }

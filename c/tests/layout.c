@@ -68,3 +68,24 @@ AT(dia_stream, dia_state, 8);
 _Static_assert(sizeof(dia_fed) == 16, "dia_fed");
 AT(dia_fed, taken, 0);
 AT(dia_fed, done, 8);
+
+_Static_assert(sizeof(dia_avp) == 192, "dia_avp");
+AT(dia_avp, place, 0);
+AT(dia_avp, depth, 8);
+AT(dia_avp, length, 16);
+AT(dia_avp, data_place, 24);
+AT(dia_avp, data_length, 32);
+AT(dia_avp, name_count, 40);
+AT(dia_avp, code, 48);
+AT(dia_avp, vendor, 52);
+AT(dia_avp, flags, 56);
+AT(dia_avp, format, 60);
+AT(dia_avp, name, 64);
+
+_Static_assert(sizeof(dia_head) == 24, "dia_head");
+AT(dia_head, length, 0);
+AT(dia_head, flags, 4);
+AT(dia_head, code, 8);
+AT(dia_head, app, 12);
+AT(dia_head, hop, 16);
+AT(dia_head, e2e, 20);

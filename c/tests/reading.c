@@ -1,5 +1,5 @@
-/* Words, and checks of many messages. The words are those of docs/FAULTS.md, the rest is worked out by hand
- * from RFC 6733. */
+/* Words, the AVPs of a message, checks of many messages, and NULL where a length is 0. The words are those of docs/FAULTS.md,
+ * the rest is worked out by hand from RFC 6733. */
 #include "tests.h"
 
 static const dia_verdict untouched = {99, 99, 99, 99, 99, 99, 99, 99};
@@ -108,6 +108,94 @@ static void verdicts_have_lines(void) {
     dia_dict_close(&dict);
 }
 
+/* ---- AVPs ---- */
+
+/* An AVP of the base dictionary without a Vendor-ID, with the M flag alone. */
+static int is_avp(const dia_avp *avp, size_t place, size_t depth, size_t length, uint32_t code, uint32_t format,
+                  const char *name) {
+    static const uint8_t zeros[DIA_MAX_NAME];
+    size_t len = strlen(name);
+    return avp->place == place && avp->depth == depth && avp->length == length && avp->data_place == place + 8
+        && avp->data_length == length - 8 && avp->code == code && avp->vendor == 0 && avp->flags == 0x40 && avp->format == format
+        && avp->name_count == len && memcmp(avp->name, name, len) == 0 && memcmp(avp->name + len, zeros, sizeof zeros - len) == 0;
+}
+
+static int are_left(const dia_avp *avps, size_t count) {
+    return is_left((const uint8_t *)avps, count * sizeof *avps);
+}
+
+static void avps_are_delivered(void) {
+    /* an AVP of a vendor, without the M flag and with three bytes of data, and its padding */
+    static const uint8_t vendors[36] = {1, 0, 0, 36, 0x80, 0, 1, 0x18, 0, 0, 0, 4, 0, 0, 0, 7, 0, 0, 0, 9,
+                                        0, 0, 0x27, 0x0f, 0x80, 0, 0, 15, 0, 0, 0x28, 0xaf, 'a', 'b', 'c', 0};
+    dia_dict dict = DIA_DICT_INIT;
+    dia_avp avps[4];
+    dia_verdict verdict = untouched;
+    size_t count = 99, end = 99;
+    memset(avps, FILLING, sizeof avps);
+    EXPECT(dia_avps(&dict, grouped, sizeof grouped, avps, 4, &count, &end, &verdict) == DIA_IS_CLOSED);
+    EXPECT(dia_dict_open_base(&dict) == DIA_OK);
+    EXPECT(dia_avps(&dict, grouped, sizeof grouped - 1, avps, 4, &count, &end, &verdict) == DIA_REFUSED);
+    EXPECT(verdict.outcome == DIA_TRUNCATED && count == 99 && end == 99);
+    verdict = untouched;
+    EXPECT(dia_avps(&dict, grouped, sizeof grouped, avps, 0, &count, &end, &verdict) == DIA_NO_ROOM && count == 3 && end == 52);
+    EXPECT(are_left(avps, 4));
+    count = end = 99;
+    EXPECT(dia_avps(&dict, grouped, sizeof grouped, avps, 2, &count, &end, &verdict) == DIA_NO_ROOM && count == 3 && end == 52);
+    EXPECT(is_avp(&avps[0], 20, 0, 32, 260, DIA_F_GROUPED, "Vendor-Specific-Application-Id"));
+    EXPECT(is_avp(&avps[1], 28, 1, 12, 266, DIA_F_UNSIGNED32, "Vendor-Id") && are_left(avps + 2, 2));
+    count = end = 99;
+    EXPECT(dia_avps(&dict, grouped, sizeof grouped, avps, 3, &count, &end, &verdict) == DIA_OK && count == 3 && end == 52);
+    EXPECT(is_avp(&avps[2], 40, 1, 12, 258, DIA_F_UNSIGNED32, "Auth-Application-Id") && are_left(avps + 3, 1));
+    EXPECT(dia_avps(&dict, vendors, sizeof vendors, avps, 4, &count, &end, &verdict) == DIA_OK && count == 1 && end == 36);
+    EXPECT(avps[0].place == 20 && avps[0].length == 15 && avps[0].data_place == 32 && avps[0].data_length == 3);
+    EXPECT(avps[0].code == 9999 && avps[0].vendor == 10415 && avps[0].flags == 0x80 && avps[0].depth == 0);
+    EXPECT(avps[0].format == DIA_F_UNKNOWN && avps[0].name_count == 0 && avps[0].name[0] == 0);
+    EXPECT(dia_avps(&dict, watchdog, 20, avps, 4, &count, &end, &verdict) == DIA_REFUSED && verdict.outcome == DIA_TRUNCATED);
+    dia_dict_close(&dict);
+}
+
+/* An AVP that follows a group is delivered after the members of the group, and a bad AVP Length ends the list. */
+static void avps_follow_groups(void) {
+    uint8_t bytes[sizeof grouped + 24];
+    dia_dict dict = DIA_DICT_INIT;
+    dia_avp avps[4];
+    dia_verdict verdict = untouched;
+    size_t count = 99, end = 99;
+    memcpy(bytes, grouped, sizeof grouped);
+    memcpy(bytes + sizeof grouped, watchdog + 20, 24); /* Origin-Host */
+    bytes[3] = sizeof bytes;
+    EXPECT(dia_dict_open_base(&dict) == DIA_OK);
+    EXPECT(dia_avps(&dict, bytes, sizeof bytes, avps, 4, &count, &end, &verdict) == DIA_OK && count == 4 && end == 76);
+    EXPECT(is_avp(&avps[2], 40, 1, 12, 258, DIA_F_UNSIGNED32, "Auth-Application-Id"));
+    EXPECT(is_avp(&avps[3], 52, 0, 24, 264, DIA_F_DIAMETER_IDENTITY, "Origin-Host"));
+    bytes[47] = 7; /* the second member: an AVP has at least 8 bytes */
+    EXPECT(dia_avps(&dict, bytes, sizeof bytes, avps, 4, &count, &end, &verdict) == DIA_OK && count == 2 && end == 40);
+    bytes[47] = 16; /* and it ends with its group */
+    EXPECT(dia_avps(&dict, bytes, sizeof bytes, avps, 4, &count, &end, &verdict) == DIA_OK && count == 2 && end == 40);
+    bytes[47] = 12;
+    bytes[59] = 25; /* Origin-Host would end after the message */
+    EXPECT(dia_avps(&dict, bytes, sizeof bytes, avps, 4, &count, &end, &verdict) == DIA_OK && count == 3 && end == 52);
+    bytes[59] = 24;
+    bytes[27] = 31; /* the group's data has 23 bytes, of which its second member would take 24 */
+    EXPECT(dia_avps(&dict, bytes, sizeof bytes, avps, 4, &count, &end, &verdict) == DIA_OK && count == 2 && end == 40);
+    EXPECT(memcmp(&verdict, &untouched, sizeof verdict) == 0);
+    dia_dict_close(&dict);
+}
+
+/* Without an entry for the group its members are data. */
+static void unknown_groups_are_data(void) {
+    dia_dict dict = DIA_DICT_INIT;
+    dia_problem problem;
+    dia_avp avp;
+    dia_verdict verdict = untouched;
+    size_t count = 99, end = 99;
+    EXPECT(open_text(one_avp, &dict, &problem) == DIA_OK);
+    EXPECT(dia_avps(&dict, grouped, sizeof grouped, &avp, 1, &count, &end, &verdict) == DIA_OK && count == 1 && end == 52);
+    EXPECT(avp.code == 260 && avp.data_place == 28 && avp.data_length == 24 && avp.format == DIA_F_UNKNOWN);
+    dia_dict_close(&dict);
+}
+
 /* ---- many messages ---- */
 
 static void many_are_checked(void) {
@@ -147,9 +235,77 @@ static void many_are_checked(void) {
     dia_dict_close(&dict);
 }
 
+/* ---- pointers whose length is 0 ---- */
+
+static void nulls_are_no_bytes(void) {
+    dia_dict dict = DIA_DICT_INIT, empty = DIA_DICT_INIT;
+    dia_text text = DIA_TEXT_INIT;
+    dia_faults faults = DIA_FAULTS_INIT;
+    dia_problem problem;
+    dia_verdict verdict = untouched;
+    dia_head head;
+    size_t count = 99, end = 99;
+    uint32_t number = 99;
+    EXPECT(dia_dict_open_base(&dict) == DIA_OK && dia_dict_open(NULL, 0, &empty, &problem) == DIA_OK);
+    EXPECT(dia_faults_open(NULL, 0, &faults, &count) == DIA_OK && count == 0);
+    EXPECT(dia_avp_name(&dict, 264, 0, NULL, 0, &count) == DIA_NO_ROOM && count == 11);
+    EXPECT(dia_status_word(DIA_SPENT, NULL, 0, &count) == DIA_NO_ROOM && count == 5);
+    EXPECT(dia_check(&dict, DIA_KEPT, 0, NULL, 0, &verdict) == DIA_OK && verdict.outcome == DIA_TRUNCATED);
+    EXPECT(dia_check_many(&dict, DIA_KEPT, 0, NULL, 0, NULL, 0, NULL, 0) == DIA_OK);
+    EXPECT(dia_message_length(NULL, 0, &number, &verdict) == DIA_REFUSED && number == 99);
+    EXPECT(dia_header(NULL, 0, &head, &verdict) == DIA_REFUSED && verdict.outcome == DIA_TRUNCATED);
+    EXPECT(dia_avps(&dict, grouped, sizeof grouped, NULL, 0, &count, &end, &verdict) == DIA_NO_ROOM && count == 3 && end == 52);
+    EXPECT(dia_avps(&dict, NULL, 0, NULL, 0, &count, &end, &verdict) == DIA_REFUSED && verdict.outcome == DIA_TRUNCATED);
+    EXPECT(dia_show(&dict, NULL, 0, &text, &number, &verdict) == DIA_REFUSED && verdict.outcome == DIA_TRUNCATED);
+    EXPECT(dia_render(NULL, 0, &text, &problem) == DIA_OK && dia_text_read(&text, 0, NULL, 0, &count) == DIA_OK && count == 0);
+    dia_text_close(&text);
+    /* a table without pairs */
+    EXPECT(dia_compare(&dict, &empty, DIA_KEPT, NULL, 0, &text, &number, &problem) == DIA_OK && number == 1);
+    EXPECT(dia_table_place(NULL, 0, DIA_NOT_TEXT, 0) == 0);
+    dia_text_close(&text);
+    EXPECT(dia_breaking(&empty, &dict, DIA_SENDS_ANY, DIA_KEPT, 0, NULL, 0, NULL, 0, &text, &number, &problem) == DIA_REFUSED);
+    EXPECT(problem.kind == DIA_NO_COMMANDS);
+    dia_faults_close(&faults);
+    dia_dict_close(&dict);
+    dia_dict_close(&empty);
+}
+
+static void nulls_are_no_messages(void) {
+    static const uint8_t name[1] = {'a'};
+    static const dia_ip loopback = {0, {127, 0, 0, 1}};
+    static const dia_app app = {0, 4, 0, 0};
+    static const dia_numbers numbers = {0, 0, 0, 1, 1};
+    dia_dict dict = DIA_DICT_INIT;
+    dia_text text = DIA_TEXT_INIT;
+    dia_stream stream = DIA_STREAM_INIT;
+    dia_peer peer = DIA_PEER_INIT;
+    dia_verdict verdict = untouched;
+    dia_fed fed;
+    size_t count = 99;
+    uint32_t number = 99, why;
+    EXPECT(dia_dict_open_base(&dict) == DIA_OK);
+    EXPECT(dia_answer(&dict, DIA_KEPT, 0, NULL, 0, name, 1, watchdog, 64, &text, &number, &verdict) == DIA_BAD_ARGUMENT);
+    EXPECT(dia_answer(&dict, DIA_KEPT, 0, name, 1, name, 1, NULL, 0, &text, &number, &verdict) == DIA_NONE);
+    EXPECT(dia_stream_open(&dict, DIA_KEPT, 0, &stream) == DIA_OK);
+    EXPECT(dia_stream_feed(&stream, NULL, 0, &fed) == DIA_OK && fed.taken == 0 && fed.done == 0);
+    EXPECT(dia_stream_finish(&stream, &verdict) == DIA_OK && verdict.outcome == DIA_TRUNCATED);
+    EXPECT(dia_peer_open(DIA_INITIATOR, NULL, 0, NULL, 0, NULL, 0, NULL, 0, NULL, 0, &numbers, &peer, &number) == DIA_REFUSED);
+    EXPECT(number == DIA_BAD_HOST);
+    EXPECT(dia_peer_open(DIA_INITIATOR, name, 1, name, 1, NULL, 0, &loopback, 1, &app, 1, &numbers, &peer, &number) == DIA_OK);
+    EXPECT(dia_peer_event(&peer, DIA_START, NULL, 0, 0) == DIA_OK);
+    EXPECT(dia_peer_output(&peer, &number, NULL, 0, &count, &why) == DIA_NO_ROOM && count > 20);
+    dia_peer_close(&peer);
+    dia_dict_close(&dict);
+}
+
 int main(void) {
     numbers_have_words();
     verdicts_have_lines();
+    avps_are_delivered();
+    avps_follow_groups();
+    unknown_groups_are_data();
     many_are_checked();
+    nulls_are_no_bytes();
+    nulls_are_no_messages();
     return tell_counts();
 }

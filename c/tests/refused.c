@@ -127,6 +127,12 @@ static dia_status says(void) {
     return dia_verdict_text(&dict, &truncated, said, sizeof said, &count);
 }
 
+static dia_status delivers(void) {
+    dia_avp avps[3];
+    size_t count, end;
+    return dia_avps(&dict, grouped, sizeof grouped, avps, 3, &count, &end, &verdict);
+}
+
 static dia_status checks_many(void) {
     static const size_t ends[] = {sizeof watchdog};
     return dia_check_many(&dict, DIA_KEPT, DIA_ANY_LEVELS, watchdog, sizeof watchdog, ends, 1, &verdict, 1);
@@ -229,6 +235,8 @@ static void take_no_memory(void) {
     size_t count;
     size_t column;
     uint32_t length, state, output, why;
+    const uint8_t *bytes = NULL;
+    dia_head head;
     dia_fault fault;
     dia_verdict told;
     long before = asked;
@@ -239,7 +247,9 @@ static void take_no_memory(void) {
     EXPECT(dia_status_word(DIA_SPENT, name, sizeof name, &count) == DIA_OK);
     EXPECT(dia_command_name(&dict, verdict.command, name, sizeof name, &count) == DIA_OK);
     EXPECT(dia_message_length(watchdog, 20, &length, &verdict) == DIA_OK);
+    EXPECT(dia_header(watchdog, 20, &head, &verdict) == DIA_OK && head.code == 280);
     EXPECT(dia_text_length(&text, &count) == DIA_OK);
+    EXPECT(dia_text_view(&text, &bytes, &count) == DIA_OK && bytes != NULL);
     EXPECT(dia_text_read(&text, 0, name, sizeof name, &count) == DIA_OK);
     EXPECT(dia_stream_levels(&stream, &count) == DIA_OK && count == 0);
     EXPECT(dia_stream_finish(&stream, &told) == DIA_OK && told.outcome == DIA_TRUNCATED);
@@ -268,6 +278,7 @@ int main(void) {
     refuse_each("check", checks, close_nothing, 1);
     refuse_each("check_many", checks_many, close_nothing, 1);
     refuse_each("verdict_text", says, close_nothing, 1);
+    refuse_each("avps", delivers, close_nothing, 1);
     refuse_each("compare", compares, close_line, 3);
     dia_text_close(&line);
     refuse_each("show", shows, close_line, 2);

@@ -1,8 +1,8 @@
 //! The sizes that `c/tests/layout.c` has, too.
 
 use dia_c_calls::{
-    DictHandle, FaultsHandle, Fed, PeerAddress, PeerApp, PeerHandle, PeerNumbers, Problem,
-    RecordedFault, StreamHandle, TextHandle, Verdict,
+    DictHandle, FaultsHandle, Fed, MessageAvp, MessageHead, PeerAddress, PeerApp, PeerHandle,
+    PeerNumbers, Problem, RecordedFault, StreamHandle, TextHandle, Verdict,
 };
 
 const _: () = prove!(size_of::<DictHandle>() == 16);
@@ -28,3 +28,7 @@ const _: () = prove!(size_of::<PeerApp>() == 16);
 const _: () = prove!(size_of::<PeerNumbers>() == 20);
 
 const _: () = prove!(size_of::<Fed>() == 16);
+
+const _: () = prove!(size_of::<MessageAvp>() == 192);
+
+const _: () = prove!(size_of::<MessageHead>() == 24);

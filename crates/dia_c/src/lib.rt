@@ -5,21 +5,25 @@
 ghost use Rattle.std.specs.Prelude.{◌≡◌};
 ghost use Rattle.dia_c_calls.specs.Statuses.{abi_version};
 
+mod avp_calls;
 mod batches;
 mod checks;
 mod comparisons;
 mod dictionaries;
 mod fault_lists;
+mod heads;
 mod layout;
 mod listings;
 mod peer_timers;
 mod peers;
 mod replies;
 mod streams;
+mod text_views;
 mod texts;
 mod upgrades;
 mod words;
 
+pub use avp_calls::dia_avps;
 pub use batches::dia_check_many;
 pub use checks::{dia_check, dia_check_json, dia_message_length};
 pub use comparisons::{dia_compare, dia_table_place};
@@ -28,6 +32,7 @@ pub use dictionaries::{
     dia_dict_share,
 };
 pub use fault_lists::{dia_faults_close, dia_faults_get, dia_faults_open, dia_line_column};
+pub use heads::dia_header;
 pub use listings::dia_show;
 pub use peer_timers::{dia_peer_identifiers, dia_peer_quiet_ms, dia_peer_timer};
 pub use peers::{
@@ -38,6 +43,7 @@ pub use replies::dia_answer;
 pub use streams::{
     dia_stream_close, dia_stream_feed, dia_stream_finish, dia_stream_levels, dia_stream_open,
 };
+pub use text_views::dia_text_view;
 pub use texts::{dia_render, dia_text_close, dia_text_length, dia_text_read};
 pub use upgrades::dia_breaking;
 pub use words::{dia_kind_word, dia_reason_word, dia_status_word, dia_verdict_text};

@@ -4,8 +4,10 @@ pub mod ManyMessages
 pub mod ComparedHandles
 pub mod FedStreams
 pub mod HeldDicts
+pub mod ListedAvps
 pub mod Next
 pub mod PeerCalls
+pub mod NamesInArrays
 pub mod NoTables
 pub mod NodeNames
 pub mod Answered

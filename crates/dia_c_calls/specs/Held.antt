@@ -1,5 +1,7 @@
 -- What handles hold.
 use Rattle.std.specs.Prelude.{◌≡◌, ℕ, List, Option, None, Some, ⊤, map}
+use denote.RawPtr.{Ptr}
+use Rattle.std_alloc.specs.Vec.{vec_ptr}
 use Rattle.dia_book.specs.Dictionary.{Dictionary}
 use Rattle.dia_policy.specs.declared.Unknown.{Unknown}
 use Rattle.dia_policy.specs.declared.Levels.{Levels}
@@ -80,6 +82,16 @@ text_in (Some (Faults faults)) = None
 text_in (Some (Peer peer)) = None
 text_in (Some (Stream feeding)) = None
 text_in (Some Nothing) = None
+
+-- the bytes of the text that is held are at this address
+abbrev pub IsTextAt : Option Held → Ptr → Type 0
+IsTextAt None at = ⊥
+IsTextAt (Some (Dict owner room)) at = ⊥
+IsTextAt (Some (Text text)) at = at ≡ vec_ptr text
+IsTextAt (Some (Faults faults)) at = ⊥
+IsTextAt (Some (Peer peer)) at = ⊥
+IsTextAt (Some (Stream feeding)) at = ⊥
+IsTextAt (Some Nothing) at = ⊥
 
 -- the faults that are held
 abbrev pub faults_in : Option Held → Option (List PlainFault)

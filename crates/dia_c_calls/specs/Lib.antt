@@ -1,8 +1,10 @@
 pub mod AllFaults
+pub mod Avps
 pub mod Batches
 pub mod Comparisons
 pub mod Feedings
 pub mod Handles
+pub mod Heads
 pub mod Held
 pub mod Listings
 pub mod Names

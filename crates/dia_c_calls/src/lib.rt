@@ -2,6 +2,9 @@
 //! functions to C, with the same clauses.
 #![tactic(auto)]
 
+mod avp_calls;
+mod avp_list;
+mod avp_records;
 mod batch;
 mod batches;
 mod checks;
@@ -12,6 +15,7 @@ mod fault_lists;
 mod feeding;
 mod findings;
 mod handle;
+mod heads;
 mod held;
 mod listing;
 mod listings;
@@ -30,6 +34,7 @@ mod reply;
 mod sink;
 mod status;
 mod streams;
+mod text_views;
 mod texts;
 mod upgrade;
 mod upgrades;
@@ -39,12 +44,15 @@ mod verdict_words;
 mod wanted;
 mod words;
 
+pub use avp_calls::avps;
+pub use avp_records::MessageAvp;
 pub use batches::check_many;
 pub use checks::{check, check_json, message_length};
 pub use comparisons::{compare, table_place};
 pub use dictionaries::{avp_name, command_name, dict_close, dict_open, dict_open_base, dict_share};
 pub use fault_lists::{faults_close, faults_get, faults_open, line_column};
 pub use handle::{DictHandle, FaultsHandle, PeerHandle, StreamHandle, TextHandle};
+pub use heads::{MessageHead, header};
 pub use listings::show;
 pub use opening::Problem;
 pub use peer_config::{PeerAddress, PeerApp, PeerNumbers};
@@ -60,6 +68,7 @@ pub use status::{
     status_numbers,
 };
 pub use streams::{Fed, stream_close, stream_feed, stream_finish, stream_levels, stream_open};
+pub use text_views::text_view;
 pub use texts::{render, text_close, text_length, text_read};
 pub use upgrades::breaking;
 pub use verdict::Verdict;

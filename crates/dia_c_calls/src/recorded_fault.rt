@@ -1,9 +1,11 @@
 //! A fault as C has it.
 
 ghost use Rattle.std.specs.Prelude.{◌≡◌, ◌≤◌, ◌<◌, None, IsSome, IfSome, length, map, slice_get};
+ghost use Rattle.dia_c_calls.specs.Avps.{in_array};
 ghost use Rattle.dia_c_calls.specs.PlainFaults.{IsRecordedFault, IsRecordedName, IsRecordedPlace, plain_fault};
 
 use crate::findings::TextFault;
+use crate::names::copied_from;
 use dia_terms::MAX_NAME;
 
 /// A fault of a dictionary's text.
@@ -65,12 +67,12 @@ fn recorded_place(at: Option<usize>) -> (u32, usize)
     }
 }
 
-/// The front of a name, as much as there is room for, and how many bytes these are.
-fn cut_name(name: &str) -> (usize, [u8; MAX_NAME])
-    ensures { IsRecordedName name.now result.0 result.1 }
+/// The front of a name, as much as there is room for, with zeros after it, and how many bytes these are.
+pub fn cut_name(name: &str) -> (usize, [u8; MAX_NAME])
+    ensures recorded { IsRecordedName name.now result.0 result.1 }
+    ensures bytes { result.1 ≡ in_array name.now }
 {
     let mut room = [0; MAX_NAME];
-    let count = name.len().min(MAX_NAME);
-    room[..count].copy_from_slice(&name.as_bytes()[..count]);
+    let count = copied_from(name.as_bytes(), 0, &mut room);
     (count, room)
 }

@@ -1,7 +1,8 @@
 //! What is said of a message.
 
-ghost use Rattle.std.specs.Prelude.{◌≡◌, ◌↔◌, None, Err, IfOk, IfErr, IfSome, Result};
+ghost use Rattle.std.specs.Prelude.{◌≡◌, ◌↔◌, None, Err, IfOk, IfErr, IfSome, Result, take};
 ghost use Rattle.dia_check.specs.Faults.{HasLength, IsAnswer, simple};
+ghost use Rattle.dia_wire.specs.Wire.{IsHead, IsMessageLength};
 ghost use Rattle.dia_c_calls.specs.Verdicts.{IsHeadVerdict, IsUnknownPolicy, IsVerdict, IsVerdictOn};
 ghost use Rattle.dia_c_calls.specs.Verdicts.{fault_verdict, limit_of, no_message, policy_of, said};
 
@@ -9,7 +10,7 @@ use dia_book::Book;
 use dia_check::{
     Fault, Levels, Reason, Refusal, Room, Selected, Subject, Unknown, check, check_in,
 };
-use dia_wire::{HeadFault, MessageFault, read_header};
+use dia_wire::{HeadFault, Header, MessageFault, read_header};
 use std::alloc::{AllocError, Global};
 
 /// What is said of a message.
@@ -150,8 +151,20 @@ pub fn message_length(bytes: &[u8]) -> Result<u32, Verdict>
     ensures length { IfOk result (HasLength bytes.now) }
     ensures fault { IfErr result (IsHeadVerdict bytes.now) }
 {
-    match read_header(bytes) {
+    match header_of(bytes) {
         Ok((_, length)) => Ok(length),
+        Err(verdict) => Err(verdict),
+    }
+}
+
+/// The header with which the bytes begin and its Message Length, or what is wrong with it.
+pub fn header_of(bytes: &[u8]) -> Result<(Header, u32), Verdict>
+    ensures head { IfOk result (λ found. IsHead found.0 found.1 (take 20 bytes.now)) }
+    ensures sound { IfOk result (λ found. IsMessageLength found.1) }
+    ensures fault { IfErr result (IsHeadVerdict bytes.now) }
+{
+    match read_header(bytes) {
+        Ok(found) => Ok(found),
         Err(HeadFault::Short) => Err(TRUNCATED),
         Err(HeadFault::Version) => Err(header_fault(0, Reason::Version)),
         Err(HeadFault::Length) => Err(header_fault(1, Reason::Length)),

@@ -71,13 +71,24 @@ class Checks(unittest.TestCase):
         self.assertEqual(str(answer.verdict), "fault 5005 at 20 missing Origin-Host")
         # the header with R clear, and Result-Code 5005 (RFC 6733 sections 6.2 and 7.1)
         self.assertEqual((answer.form, answer.message[4:20]), (wittalen.Form.OWN, b"\0" + BARE[5:]))
-        self.assertIn(b"\0\0\x01\x0c\x40\0\0\x0c" + (5005).to_bytes(4, "big"), answer.message)
-        self.assertIn(b"\0\0\x01\x08\x40\0\0\x14host.invalid", answer.message)
-        self.assertIn(b"\0\0\x01\x28\x40\0\0\x0finvalid\0", answer.message)
+        avps = {(avp.name, avp.depth): avp.data for avp in book.avps(answer.message)}
+        self.assertEqual(avps["Result-Code", 0], (5005).to_bytes(4, "big"))
+        self.assertEqual((avps["Origin-Host", 0], avps["Origin-Realm", 0]), (b"host.invalid", b"invalid"))
+        # in Failed-AVP, with the least data (docs/FORMATS.md)
+        self.assertEqual(avps["Origin-Host", 1], b"a")
         self.assertIsNone(book.answer(answer.message, "a", "b"))
         for host, realm in (("", "b"), ("a", "x" * 256), ("a b", "c"), ("a", "\u00e4")):
             with self.assertRaises(ValueError):
                 book.answer(BARE, host, realm)
+
+    def test_avps(self):
+        book = Dictionary(USAGE)
+        found = book.avps(report(*range(100)))
+        self.assertEqual((len(found), found[1]), (100, wittalen.Avp(32, 0, 12, 9002, 0, 0, "Usage", "Unsigned32", b"\0\0\0\1")))
+        self.assertEqual([(avp.name, avp.format) for avp in Dictionary().avps(report(1))], [(None, None)])
+        self.assertEqual(book.avps(report()), [])
+        with self.assertRaises(ValueError):
+            book.avps(report(1)[:-1])
 
     def test_types(self):
         book = Dictionary(USAGE)
@@ -289,6 +300,7 @@ class Numbers(unittest.TestCase):
         self.assertEqual(reasons, self.numbers("DIA_R_VERSION"))
         kinds = {word.upper().replace(" ", "_"): number for number, word in dictionaries.KINDS.items()}
         self.assertEqual(kinds, self.numbers("DIA_NOT_TEXT"))
+        self.assertEqual(list(range(len(dictionaries.FORMATS) + 1)), list(self.numbers("DIA_F_UNKNOWN").values()))
 
     def test_enums(self):
         firsts = {

@@ -54,6 +54,14 @@ class Numbers(c.Structure):
     _fields_ = [(name, c.c_uint32) for name in ("vendor", "has_state_id", "state_id", "hop", "e2e")]
 
 
+class RawAvp(c.Structure):
+    _fields_ = (
+        [(name, c.c_size_t) for name in ("place", "depth", "length", "data_place", "data_length", "name_count")]
+        + [(name, c.c_uint32) for name in ("code", "vendor", "flags", "format")]
+        + [("name", c.c_uint8 * MAX_NAME)]
+    )
+
+
 H, U, S, B = c.POINTER(Handle), c.c_uint32, c.c_size_t, c.c_char_p
 NUMBER, SIZE, PROBLEM, VERDICT = c.POINTER(U), c.POINTER(S), c.POINTER(Problem), c.POINTER(RawVerdict)
 CALLS: dict[str, tuple[Any, ...]] = {
@@ -73,6 +81,7 @@ CALLS: dict[str, tuple[Any, ...]] = {
     "check_many": (H, U, U, B, S, SIZE, S, VERDICT, S),
     "message_length": (B, S, NUMBER, VERDICT),
     "answer": (H, U, U, B, S, B, S, B, S, H, NUMBER, VERDICT),
+    "avps": (H, B, S, c.POINTER(RawAvp), S, SIZE, SIZE, VERDICT),
     "stream_open": (H, U, U, H),
     "stream_feed": (H, B, S, c.POINTER(Fed)),
     "stream_finish": (H, VERDICT),

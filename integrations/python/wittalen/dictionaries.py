@@ -24,6 +24,11 @@ KINDS = {
     18: "min over max", 19: "required min", 20: "optional min", 30: "no commands", 31: "no command",
 }  # fmt: skip
 """The kinds of problems, by their numbers in dia.h. A later library may have more of both."""
+FORMATS = (
+    "OctetString", "Integer32", "Integer64", "Unsigned32", "Unsigned64", "Float32", "Float64", "Grouped", "Address", "Time",
+    "UTF8String", "DiameterIdentity", "DiameterURI", "Enumerated", "IPFilterRule", "QoSFilterRule",
+)  # fmt: skip
+"""The data formats of docs/FORMATS.md, from number 1 of dia.h on."""
 
 
 class Outcome(IntEnum):
@@ -69,6 +74,23 @@ class Answer:
     message: bytes
     form: Form
     verdict: Verdict
+
+
+@dataclass(frozen=True)
+class Avp:
+    """An AVP of a message (RFC 6733 section 4.1). `offset` is in bytes from the message's first, `depth` is how many groups are
+    around it, and `length` is AVP Length. Without a Vendor-ID `vendor` is 0. `name` and `format` (docs/FORMATS.md) are None where
+    the dictionary doesn't have the AVP."""
+
+    offset: int
+    depth: int
+    length: int
+    code: int
+    vendor: int
+    flags: int
+    name: Optional[str]
+    format: Optional[str]
+    data: bytes
 
 
 @dataclass(frozen=True)
@@ -173,6 +195,22 @@ class Dictionary(Owner):
             raise ValueError(f"no names of a node: {host!r}, {realm!r}")
         require(status)
         return Answer(text.read_bytes(), Form(form.value), self._verdict(raw))
+
+    def avps(self, message: bytes) -> list[Avp]:
+        """The AVPs of a message, each group that the dictionary has followed by its members. An AVP Length that no AVP can have
+        ends them. Raises ValueError where the bytes have no message's header and length."""
+        count, end, raw, data = c.c_size_t(), c.c_size_t(), RawVerdict(), octets(message)
+        room = 64
+        while True:
+            found = (_lib.RawAvp * room)()
+            status = lib.dia_avps(self._handle, data, len(data), found, room, count, end, raw)
+            if status != _lib.NO_ROOM:
+                break
+            room = count.value
+        if status == _lib.REFUSED:
+            raise ValueError(str(self._verdict(raw)))
+        require(status)
+        return [avp_of(avp, data) for avp in found[: count.value]]
 
     def show(self, message: bytes) -> str:
         """The lines that `diacmd show` writes, with the dictionary's names. Raises ValueError where the bytes have no message's
@@ -281,6 +319,13 @@ def split(data: bytes) -> Iterator[bytes]:
 
 class _Faults(Owner):
     _closing = "dia_faults_close"
+
+
+def avp_of(raw: _lib.RawAvp, data: bytes) -> Avp:
+    name = bytes(raw.name[: raw.name_count]).decode() if raw.format else None
+    format_of = FORMATS[raw.format - 1] if raw.format else None
+    octets_of = data[raw.data_place : raw.data_place + raw.data_length]
+    return Avp(raw.place, raw.depth, raw.length, raw.code, raw.vendor, raw.flags, name, format_of, octets_of)
 
 
 def kind_of(number: int) -> str:

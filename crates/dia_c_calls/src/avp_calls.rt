@@ -1,0 +1,59 @@
+//! The AVPs of a message.
+
+ghost use Rattle.std.specs.Prelude.{◌⊎◌, ◌≡◌, ◌≢◌, ◌≤◌, ◌<◌, IfSome, IsSome, None, length};
+ghost use Rattle.dia_c_calls.specs.Avps.{AreListed};
+ghost use Rattle.dia_c_calls.specs.Held.{dict_in};
+ghost use Rattle.dia_c_calls.specs.Verdicts.{IsNoMessage};
+
+use crate::avp_list::list_avps;
+use crate::avp_records::MessageAvp;
+use crate::handle::{DictHandle, owner_in};
+use crate::listing::Unshown;
+use crate::status::{DONE, IS_CLOSED, NO_MEMORY, NO_ROOM, REFUSED};
+use crate::verdict::Verdict;
+use std::alloc::Global;
+
+/// The AVPs of a message, with what the dictionary has of them.
+pub fn avps(
+    alloc: Global,
+    handle: &mut DictHandle,
+    message: &[u8],
+    avps: &mut [MessageAvp],
+    count: &mut usize,
+    end: &mut usize,
+    verdict: &mut Verdict,
+) -> u32
+    ensures ends { (result ≡ DONE) ⊎ (result ≡ REFUSED) ⊎ (result ≡ NO_MEMORY) ⊎ (result ≡ NO_ROOM) ⊎ (result ≡ IS_CLOSED) }
+    ensures kept { handle.new.slot.seal.held ≡ handle.old.slot.seal.held }
+    ensures listed { (result ≡ DONE) ⊎ (result ≡ NO_ROOM) → IfSome (dict_in handle.old.slot.seal.held)
+        (λ d. AreListed d message.now avps.old avps.new count.new end.new) }
+    ensures refused { result ≡ REFUSED → IsNoMessage message.now verdict.new }
+    ensures fits { result ≡ DONE → count.new ≤ length avps.old }
+    ensures room { result ≡ NO_ROOM → length avps.old < count.new }
+    ensures untouched { (result ≡ REFUSED) ⊎ (result ≡ IS_CLOSED) → avps.new ≡ avps.old }
+    ensures only_count { result ≢ DONE → result ≢ NO_ROOM → (count.new ≡ count.old) × (end.new ≡ end.old) }
+    ensures only { result ≢ REFUSED → verdict.new ≡ verdict.old }
+    ensures closed { result ≡ IS_CLOSED → handle.old.slot.seal.held ≡ None }
+    ensures dict_is_open { result ≢ IS_CLOSED → IsSome (dict_in handle.old.slot.seal.held) }
+{
+    let Some(held) = handle.take(alloc) else {
+        return IS_CLOSED;
+    };
+    let room = avps.len();
+    let answer = list_avps(alloc, &**owner_in(&held), message, avps);
+    handle.put(held);
+    match answer {
+        Ok(found) => {
+            *count = found.count;
+            *end = found.end;
+            if found.count > room { NO_ROOM } else { DONE }
+        }
+        Err(unlisted) => match unlisted {
+            Unshown::NoMessage(recorded) => {
+                *verdict = recorded;
+                REFUSED
+            }
+            Unshown::NoMemory => NO_MEMORY,
+        },
+    }
+}
