@@ -1,5 +1,5 @@
 -- What is answered, from its parts.
-use Rattle.std.proofs.Common.{◌≡◌, ℕ, ◌<◌, ◌≤◌, List, [], length, Result, Ok, Err, Bool, refl, sym, ap, subst, ◌∙◌, arith}
+use Rattle.std.proofs.Common.{◌≡◌, ℕ, ◌<◌, ◌≤◌, List, length, Result, Ok, Err, Bool, sym, subst, ◌∙◌, arith}
 use Rattle.std.specs.Prelude.{IfOk, string_bytes}
 use Rattle.std.proofs.lemmas.List.{nil_from_length}
 use Rattle.dia_io.specs.declared.Exit.{Exit}

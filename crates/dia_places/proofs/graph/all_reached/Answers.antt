@@ -1,4 +1,4 @@
-use Rattle.std.proofs.Common.{◌<◌, ◌^◌, map, ap, sym, ◌∙◌, arith, subst, List}
+use Rattle.std.proofs.Common.{◌<◌, ◌^◌, map, ap, sym, ◌∙◌, subst}
 use Rattle.std.specs.Prelude.{All}
 use Rattle.std.proofs.lemmas.Option.{none-some}
 use Rattle.dia_valid.proofs.Members.{some_of}
