@@ -1,5 +1,5 @@
 -- The levels of a dictionary's graph, and where they lead.
-use Rattle.std.proofs.Common.{◌≡◌, ℕ, zero, suc, ◌+◌, ◌<◌, ◌≤◌, List, [], ◌∷◌, ◌++◌, length, map, Option, Some, None, refl, sym, ap, subst, ◌∙◌, arith, inl, inr}
+use Rattle.std.proofs.Common.{◌≡◌, ℕ, zero, suc, ◌+◌, ◌<◌, ◌≤◌, List, [], ◌∷◌, length, Option, Some, None, refl, sym, ap, subst, ◌∙◌, arith, inl, inr}
 use Rattle.std.specs.Prelude.{◌⊎◌, slice_get, Contains, option_and_then}
 use Rattle.std.specs.Option.{option_map, option_map_or}
 use Rattle.std.proofs.lemmas.List.Elements.{Contains-append_left, Contains-push, Contains-push_cases}
@@ -9,9 +9,9 @@ use Rattle.dia_book.specs.Dictionary.{Dictionary, PlainDefinition, definitions, 
 use Rattle.dia_book.specs.Limits.{max_parts}
 use Rattle.dia_book.proofs.Members.{at_Contains, at_filter_map}
 use Rattle.dia_valid.proofs.Members.{contains_in, in_at, in_contains, in_filter_map}
-use Rattle.dia_breaking_ways.specs.Walks.{Graph, HasExits, Leads, PlainExits, PlainLevel, PlainNode, level_of}
+use Rattle.dia_breaking_ways.specs.Walks.{HasExits, Leads, PlainExits, PlainLevel, PlainNode, level_of}
 use Rattle.dia_breaking_ways.specs.Walks.Leads.{By_rule, By_wildcard}
-use Rattle.dia_places.specs.Paths.{IsCommand, LeadsTo, group_by, rules_at}
+use Rattle.dia_places.specs.Paths.{group_by, rules_at}
 use Rattle.dia_places.specs.Graph.{commands_from, exits_to, graph_in, level_by, listed_by, node_by, one_step}
 
 -- ---- levels

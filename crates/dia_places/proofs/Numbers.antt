@@ -1,16 +1,16 @@
 -- The numbers of definitions.
-use Rattle.std.proofs.Common.{◌≡◌, ℕ, ◌+◌, ◌<◌, ◌≤◌, Bool, true, false, cond, length, Option, Some, None, sym, ap, subst, ◌∙◌, arith}
-use Rattle.std.specs.Prelude.{IfSome, option_and_then}
+use Rattle.std.proofs.Common.{◌≡◌, ℕ, ◌<◌, ◌≤◌, Bool, true, false, cond, length, Option, Some, None, arith}
+use Rattle.std.specs.Prelude.{option_and_then}
 use Rattle.std.proofs.lemmas.List.{length-append}
-use Rattle.std.proofs.lemmas.Option.{none-some, option_and_then_some, cond_some}
+use Rattle.std.proofs.lemmas.Option.{none-some, option_and_then_some}
 use Rattle.dia_wire.specs.declared.Key.{Key}
 use Rattle.dia_book.specs.declared.definition.DRule.{DRule}
 use Rattle.dia_book.specs.Limits.{max_parts}
-use Rattle.dia_book.specs.Dictionary.{Dictionary, DictEntry, IsDictionary, PlainDefinition, definitions, entry_of, group_place, groups}
+use Rattle.dia_book.specs.Dictionary.{Dictionary, DictEntry, IsDictionary, definitions, entry_of, group_place, groups}
 use Rattle.dia_book.proofs.Lists.{length-filter_map}
 use Rattle.dia_valid.proofs.GroupNumbers.{group_within}
 use Rattle.dia_valid.proofs.Members.{at_some}
-use Rattle.dia_places.specs.Paths.{IsCommand, LeadsTo, allows, group_by}
+use Rattle.dia_places.specs.Paths.{IsCommand, LeadsTo, allows}
 
 pub command_within : (d : Dictionary) (n : ℕ) → IsCommand d n → n < length (definitions d)
 command_within d n c = omega (arith, c.1, c.2, length-append (groups d) d.commands)

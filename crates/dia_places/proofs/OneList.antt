@@ -1,12 +1,12 @@
 -- A dictionary has one list of paths.
-use Rattle.std.proofs.Common.{◌≡◌, ℕ, zero, suc, ◌+◌, ◌<◌, ◌≤◌, List, [], ◌∷◌, length, Option, Some, None, refl, sym, ap, subst, ◌∙◌, arith, inl, inr}
+use Rattle.std.proofs.Common.{◌≡◌, ℕ, zero, suc, ◌<◌, ◌≤◌, List, [], ◌∷◌, length, Option, Some, None, refl, sym, ap, subst, ◌∙◌, arith, inl, inr}
 use Rattle.std.specs.Prelude.{◌⊎◌, slice_get}
 use Rattle.std.proofs.lemmas.Bool.{cases_lt}
 use Rattle.std.proofs.lemmas.Option.{none-some, same_Some, slice_get_within}
 use Rattle.dia_book.specs.Dictionary.{Dictionary}
 use Rattle.dia_valid.proofs.Members.{there_is}
 use Rattle.dia_breaking_ways.proofs.OneWalk.{same_lists}
-use Rattle.dia_places.specs.Paths.{ArePaths, IsBefore, IsPath, LeadInto, LeadsTo, Path}
+use Rattle.dia_places.specs.Paths.{ArePaths, IsBefore, LeadInto, LeadsTo, Path}
 
 -- paths of one length to one definition
 abbrev IsAlike : Path → Path → Type 0

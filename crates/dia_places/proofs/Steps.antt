@@ -1,5 +1,5 @@
 -- The steps of a walk through a dictionary's definitions.
-use Rattle.std.proofs.Common.{◌≡◌, ℕ, zero, suc, ◌+◌, ◌-◌, ◌<◌, ◌≤◌, List, [], ◌∷◌, length, map, get_or, Option, Some, None, refl, sym, ap, subst, ◌∙◌, arith, inl, inr, lit≤}
+use Rattle.std.proofs.Common.{◌≡◌, ℕ, zero, suc, ◌+◌, ◌-◌, ◌<◌, ◌≤◌, List, ◌∷◌, length, map, get_or, Option, Some, None, refl, sym, ap, subst, ◌∙◌, arith, inl, inr, lit≤}
 use Rattle.std.specs.Prelude.{◌⊎◌, slice_get, Contains, option_and_then}
 use Rattle.std.specs.Option.{option_map}
 use Rattle.std.proofs.lemmas.Bool.{cases_lt}
@@ -11,9 +11,9 @@ use Rattle.dia_book.proofs.Members.{at_Contains, at_map}
 use Rattle.dia_valid.proofs.Members.{there_is}
 use Rattle.dia_breaking_ways.specs.declared.graph.Step.{Step}
 use Rattle.dia_breaking_ways.specs.declared.graph.Reach.{Reach}
-use Rattle.dia_breaking_ways.specs.Walks.{Graph, IsBefore, IsNoLater, IsReached, IsShortest, IsStep, IsWalk, Leads, PlainExits, PlainLevel, PlainNode, Stage, level_of, stage_at, stage_of, step_to}
+use Rattle.dia_breaking_ways.specs.Walks.{IsBefore, IsNoLater, IsReached, IsStep, IsWalk, Leads, PlainExits, PlainLevel, Stage, level_of, stage_of, step_to}
 use Rattle.dia_breaking_ways.specs.Walks.Leads.{By_rule}
-use Rattle.dia_places.specs.Paths.{IsCommand, LeadsTo, group_by, rules_at}
+use Rattle.dia_places.specs.Paths.{IsCommand, LeadsTo, rules_at}
 use Rattle.dia_places.specs.Graph.{commands_from, exits_to, graph_in, level_by, listed_by, node_by}
 use Rattle.dia_places.proofs.Few.{few}
 use Rattle.dia_places.proofs.Graphs.{command_here, command_there, leads_listed, level_here, level_there, listed_here, listed_there, rules_here}

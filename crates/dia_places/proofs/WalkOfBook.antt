@@ -1,6 +1,6 @@
 -- What a walk through a dictionary's definitions shows.
-use Rattle.std.proofs.Common.{◌≡◌, ℕ, ◌<◌, ◌≤◌, ◌^◌, List, length, map, Option, Some, Result, Ok, Err, sym, ap, subst, ◌∙◌, arith}
-use Rattle.std.specs.Prelude.{All, IfOk, slice_get}
+use Rattle.std.proofs.Common.{◌≡◌, ◌<◌, ◌≤◌, ◌^◌, List, length, map, Option, sym, ap, subst, ◌∙◌, arith}
+use Rattle.std.specs.Prelude.{All}
 use Rattle.std.proofs.lemmas.List.Elements.{All-map, All-same}
 use Rattle.std.proofs.lemmas.Option.{slice_get_within}
 use Rattle.dia_book.specs.Dictionary.{Dictionary, IsDictionary, definitions}
@@ -48,8 +48,3 @@ module _ (d : Dictionary) (sound : IsDictionary d) (nodes : List Node) (start : 
         All-same (λ (r : Reached). r.def < length (definitions d)) reached (map reached_by steps) is
         (All-map (λ (r : Reached). r.def < length (definitions d)) reached_by steps (All-from_places (λ (step : Step). step.place < length (definitions d)) steps (λ i s at.
         let def = is_within d steps ways own i s at in slice_get_within (definitions d) s.place def.0 def.1)))
-
--- what holds of a vector that was made
-pub if_ok : {X E : Type 0} (r : Result X E) (P Q : X → Type 0) → IfOk r P → ((x : X) → P x → Q x) → IfOk r Q
-if_ok (Ok x) P Q h f = f x h
-if_ok (Err e) P Q h f = tt

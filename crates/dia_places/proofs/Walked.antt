@@ -1,20 +1,19 @@
 -- The paths that the steps of a walk record are the shortest ones.
 use Rattle.std.proofs.Common.{◌≡◌, ℕ, zero, suc, ◌+◌, ◌<◌, ◌≤◌, List, [], ◌∷◌, length, map, Option, Some, None, refl, sym, ap, subst, ◌∙◌, arith, inl, inr}
 use Rattle.std.specs.Prelude.{◌⊎◌, slice_get}
-use Rattle.std.specs.Option.{option_map, option_map_or}
+use Rattle.std.specs.Option.{option_map_or}
 use Rattle.std.proofs.lemmas.Bool.{cases_lt}
 use Rattle.std.proofs.lemmas.List.{length-map}
-use Rattle.std.proofs.lemmas.Option.{none-some, same_Some, slice_get_within, slice_get_past, slice_get-map}
-use Rattle.dia_book.specs.Dictionary.{Dictionary, PlainDefinition, definitions, entry_of, group_place, groups}
+use Rattle.std.proofs.lemmas.Option.{slice_get_within}
+use Rattle.dia_book.specs.Dictionary.{Dictionary, definitions}
 use Rattle.dia_book.specs.Limits.{max_parts}
 use Rattle.dia_book.proofs.Members.{at_map, into_map}
-use Rattle.dia_valid.proofs.Members.{there_is}
 use Rattle.dia_breaking_ways.specs.declared.graph.Step.{Step}
 use Rattle.dia_breaking_ways.specs.declared.graph.Reach.{Reach}
 use Rattle.dia_breaking_ways.specs.Walks.{IsWalk}
 use Rattle.dia_breaking_ways.specs.Walks as walks
 use Rattle.dia_places.specs.declared.graph.Reached.{Reached}
-use Rattle.dia_places.specs.Paths.{ArePaths, IsBefore, IsCommand, IsPath, IsShortest, LeadInto, LeadsTo, Path}
+use Rattle.dia_places.specs.Paths.{ArePaths, IsBefore, IsPath, IsShortest, LeadInto, LeadsTo, Path}
 use Rattle.dia_places.specs.Graph.{graph_in}
 use Rattle.dia_places.specs.Records.{around_from, path_of, paths_of, reached_by}
 use Rattle.dia_places.proofs.Numbers.{command_within, leads_within}

@@ -1,5 +1,5 @@
 -- The definitions of a dictionary as the nodes of a walk.
-use Rattle.std.specs.Prelude.{ℕ, zero, suc, ◌+◌, List, [], ◌∷◌, ◌++◌, length, map, Option, Some, filter_map, option_map}
+use Rattle.std.specs.Prelude.{ℕ, zero, suc, ◌+◌, List, [], ◌∷◌, ◌++◌, length, map, Some, filter_map, option_map}
 use Rattle.dia_book.specs.declared.definition.DRule.{DRule}
 use Rattle.dia_book.specs.Limits.{max_parts}
 use Rattle.dia_book.specs.Dictionary.{Dictionary, PlainDefinition, definitions, groups}

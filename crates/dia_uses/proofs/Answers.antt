@@ -1,5 +1,5 @@
 -- What is answered, from its parts.
-use Rattle.std.proofs.Common.{◌≡◌, ℕ, ◌<◌, ◌≤◌, List, [], length, Result, Ok, Err, Bool, refl, sym, ap, subst, ◌∙◌, arith}
+use Rattle.std.proofs.Common.{◌≡◌, ℕ, ◌<◌, ◌≤◌, List, length, Result, Ok, Err, Bool, sym, subst, ◌∙◌, arith}
 use Rattle.std.specs.Prelude.{IfOk, string_bytes}
 use Rattle.std.proofs.lemmas.List.{nil_from_length}
 use Rattle.dia_io.specs.declared.Exit.{Exit}
@@ -67,8 +67,3 @@ pub of_nowhere : {E : Type 0} (json : Bool) (lines : List ℕ) (r : Result Answe
     → IfOk r (λ a. string_bytes a.text ≡ nowhere_text json) → IfOk r (λ a. a.exit ≡ exits.No) → IfOk r (λ a. IsEnded json lines a.exit (string_bytes a.text))
 of_nowhere json lines (Ok a) none text exit = subst (λ (x : Exit). IsEnded json lines x (string_bytes a.text)) (sym exit) (text, nil_from_length lines (omega arith))
 of_nowhere json lines (Err e) none text exit = tt
-
--- what holds of a value that was made
-pub if_ok : {X E : Type 0} (r : Result X E) (P Q : X → Type 0) → IfOk r P → ((x : X) → P x → Q x) → IfOk r Q
-if_ok (Ok x) P Q h f = f x h
-if_ok (Err e) P Q h f = tt

@@ -1,10 +1,9 @@
 -- Which places lines show.
-use Rattle.std.proofs.Common.{◌≡◌, ℕ, zero, suc, ◌+◌, ◌<◌, ◌≤◌, Bool, true, false, cond, List, [], ◌∷◌, ◌++◌, length, take, Option, Some, None, refl, sym, ap, subst, ◌∙◌, arith, inl, inr}
-use Rattle.std.specs.Prelude.{◌⊎◌, Contains, codes, flat_map, slice_get, if◌then◌else◌}
+use Rattle.std.proofs.Common.{◌≡◌, ℕ, suc, ◌+◌, ◌<◌, ◌≤◌, Bool, true, false, List, [], ◌∷◌, ◌++◌, length, take, Option, Some, None, refl, sym, ap, ◌∙◌, arith, inl, inr}
+use Rattle.std.specs.Prelude.{◌⊎◌, codes, flat_map, slice_get, if◌then◌else◌}
 use Rattle.std.specs.Option.{option_map_or}
 use Rattle.std.proofs.lemmas.Bool.{cases_lt}
 use Rattle.std.proofs.lemmas.List.{flat_map_more, length-append}
-use Rattle.std.proofs.lemmas.Option.{none-some, slice_get_within}
 use Rattle.dia_wire.specs.declared.Key.{Key}
 use Rattle.dia_book.specs.Dictionary.{Dictionary}
 use Rattle.dia_book.proofs.Members.{IsAt, append-none, at_Contains, flat_map-none_at}
@@ -12,7 +11,7 @@ use Rattle.dia_valid.proofs.Members.{contains_in, in_at, taken}
 use Rattle.dia_places.specs.declared.places.By.{By}
 use Rattle.dia_places.specs.declared.places.By.TheVariants.{Rule, Wildcard}
 use Rattle.dia_places.specs.Names.{names_of}
-use Rattle.dia_places.specs.Paths.{ArePaths, IsPath, Path, rules_at}
+use Rattle.dia_places.specs.Paths.{ArePaths, Path, rules_at}
 use Rattle.dia_places.specs.Places.{by_of}
 use Rattle.dia_uses.specs.Lines.{avp_of, by_object, by_text, is_rule, is_wildcard, line_at, line_of, lines_of, path_object, path_text}
 use Rattle.dia_uses.specs.Outcome.{HaveNoPlace, HaveSomePlace, all_lines}

@@ -1,10 +1,9 @@
 -- One more of what loops write.
-use Rattle.std.proofs.Common.{◌≡◌, ℕ, ◌+◌, ◌<◌, Bor, List, [], ◌∷◌, ◌++◌, length, get_or, map, take, Some, refl, sym, ap, ◌∙◌}
+use Rattle.std.proofs.Common.{◌≡◌, ℕ, ◌+◌, ◌<◌, Bor, List, ◌++◌, length, get_or, map, take, Some, refl, sym, ap, ◌∙◌}
 use Rattle.std.specs.Prelude.{flat_map, slice_get}
-use Rattle.std.proofs.lemmas.List.{append_assoc, flat_map_more, map_push, take-map}
+use Rattle.std.proofs.lemmas.List.{append_assoc, take-map}
 use Rattle.std.proofs.lemmas.Option.{slice_get_read}
 use Rattle.dia_book.proofs.Members.{into_map}
-use Rattle.dia_valid.proofs.Members.{taken}
 use Rattle.dia_places.specs.declared.graph.Reached.{Reached}
 use Rattle.dia_places.specs.Paths.{Path}
 use Rattle.dia_places.specs.Records.{path_of, paths_of}

@@ -1,5 +1,5 @@
 -- The lines of AVPs.
-use Rattle.std.specs.Prelude.{ℕ, nat_eq, Bool, true, false, ◌==◌, if◌then◌else◌, List, [], ◌∷◌, ◌++◌, Option, Some, None, codes, flat_map, slice_get, option_and_then}
+use Rattle.std.specs.Prelude.{ℕ, Bool, true, false, ◌==◌, if◌then◌else◌, List, [], ◌∷◌, ◌++◌, Option, codes, flat_map, slice_get, option_and_then}
 use Rattle.std.specs.Fmt.{decimal}
 use Rattle.std.specs.Option.{option_map, option_map_or}
 use Rattle.dia_wire.specs.declared.Key.{Key}

@@ -1,4 +1,4 @@
-use Rattle.std.proofs.Common.{◌≡◌, ℕ, List, None, Some, ap, sym, ◌∙◌, arith}
+use Rattle.std.proofs.Common.{ℕ, List, Some, ap, sym, ◌∙◌, arith}
 use Rattle.dia_book.specs.Dictionary.{Dictionary}
 use Rattle.dia_places.specs.Asked.{key_of}
 use Rattle.dia_places.proofs.AskedWords.{known_before, word_at}

@@ -1,4 +1,4 @@
-use Rattle.std.proofs.Common.{◌≡◌, map, take, string_bytes, String}
+use Rattle.std.proofs.Common.{map, take, string_bytes, String}
 use Rattle.std.specs.Global.{Global}
 use Rattle.dia_places.specs.Asked.{AreKeysOf}
 use Rattle.dia_places.proofs.asking.asked.Given as goal

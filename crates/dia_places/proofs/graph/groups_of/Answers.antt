@@ -1,4 +1,4 @@
-use Rattle.std.proofs.Common.{◌≡◌, ℕ, ◌+◌, ◌<◌, length, true, false, ap, sym, ◌∙◌, arith}
+use Rattle.std.proofs.Common.{◌≡◌, ◌+◌, ◌<◌, length, true, false, ap, sym, ◌∙◌, arith}
 use Rattle.dia_book.specs.Dictionary.{group_place}
 use Rattle.dia_places.proofs.Loops.{more_counted}
 use Rattle.dia_places.proofs.graph.groups_of.Goals as goal

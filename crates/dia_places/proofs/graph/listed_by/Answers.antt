@@ -1,4 +1,4 @@
-use Rattle.std.proofs.Common.{◌≡◌, ℕ, List, [], ◌∷◌, ◌++◌, Some, None, ap, sym, ◌∙◌, arith, Vec}
+use Rattle.std.proofs.Common.{ℕ, [], ◌∷◌, ◌++◌, Some, None, ap, sym, ◌∙◌, Vec}
 use Rattle.std.specs.Global.{Global}
 use Rattle.std.proofs.lemmas.List.{append-nil}
 use Rattle.dia_places.proofs.Loops.{more_pushed}

@@ -1,4 +1,4 @@
-use Rattle.std.proofs.Common.{ℕ, map, ap, sym, ◌∙◌, arith}
+use Rattle.std.proofs.Common.{ℕ, map, ap, ◌∙◌, arith}
 use Rattle.dia_breaking_ways.specs.Walks.{plain_node}
 use Rattle.dia_places.specs.Graph.{node_with}
 use Rattle.dia_places.specs.Paths.{rules_at}

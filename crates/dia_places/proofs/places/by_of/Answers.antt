@@ -1,9 +1,9 @@
-use Rattle.std.proofs.Common.{List, ap, sym, ◌∙◌}
+use Rattle.std.proofs.Common.{List, ap, ◌∙◌}
 use Rattle.std.specs.Prelude.{option_and_then, slice_get}
 use Rattle.dia_book.specs.declared.definition.DRule.{DRule}
 use Rattle.dia_book.specs.Dictionary.{plain_definition}
 use Rattle.dia_places.specs.declared.places.By.TheVariants.{Rule}
-use Rattle.dia_places.specs.Places.{if_allows, place_of}
+use Rattle.dia_places.specs.Places.{if_allows}
 use Rattle.dia_places.proofs.Slots.{by_rule_of, by_wildcard_of}
 use Rattle.dia_places.proofs.places.by_of.Goals as goal
 
