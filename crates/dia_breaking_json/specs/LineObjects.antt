@@ -82,13 +82,14 @@ detail_fields parts = sent_fields parts.sent ++ text_if (codes "behind") parts.f
 abbrev pub matter_fields : (first second : List ℕ → Option Key) → PlainParts → List Field
 matter_fields first second parts = reason_field parts.reason ++ subject_field first second parts.subject ++ detail_fields parts ++ header_field parts.reason
 
--- a line in this place, with the hexadecimal digits of its message, if it has one
-abbrev pub fields_at : List Field → (first second : List ℕ → Option Key) → PlainParts → Option (List ℕ) → List Field
-fields_at place first second parts message = undecided_field parts.standing ++ place ++ matter_fields first second parts ++ text_if (codes "message") message
+-- a line in this place, with its words, and with the hexadecimal digits of its message, if it has one
+abbrev pub fields_at : List Field → (first second : List ℕ → Option Key) → PlainParts → (words : List ℕ) → Option (List ℕ) → List Field
+fields_at place first second parts words message =
+    undecided_field parts.standing ++ place ++ matter_fields first second parts ++ text_if (codes "message") message ++ text_field (codes "text") words
 
-unfoldable pub line_object : (first second : List ℕ → Option Key) → PlainParts → Option (List ℕ) → List ℕ
-line_object first second parts message = compact_text (object_of (fields_at (path_fields parts.path) first second parts message))
+unfoldable pub line_object : (first second : List ℕ → Option Key) → PlainParts → (words : List ℕ) → Option (List ℕ) → List ℕ
+line_object first second parts words message = compact_text (object_of (fields_at (path_fields parts.path) first second parts words message))
 
 -- the cause of a line, which so many commands have
-unfoldable pub cause_object : (first second : List ℕ → Option Key) → ℕ → PlainParts → Option (List ℕ) → List ℕ
-cause_object first second commands parts message = compact_text (object_of (fields_at (first_fields commands parts.path) first second parts message))
+unfoldable pub cause_object : (first second : List ℕ → Option Key) → ℕ → PlainParts → (words : List ℕ) → Option (List ℕ) → List ℕ
+cause_object first second commands parts words message = compact_text (object_of (fields_at (first_fields commands parts.path) first second parts words message))

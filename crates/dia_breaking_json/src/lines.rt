@@ -42,10 +42,11 @@ fn push_fields(
     ensures { OnOk result (Adds out.old out.new
         (cause_fields (key_in names.now.first) (key_in names.now.second) words.now message.now)) }
 {
-    push_parts(alloc, out, names, parts_of(words), message)
+    push_parts(alloc, out, names, parts_of(words), message)?;
+    push_text(alloc, out, "text", words)
 }
 
-/// Adds the members of a line with these parts.
+/// Adds the members of a line with these parts, but for its words.
 fn push_parts(
     alloc: Global,
     out: &mut String,

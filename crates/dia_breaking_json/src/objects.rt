@@ -18,35 +18,37 @@ use crate::subjects::push_avp;
 use dia_breaking::{LineParts, LineReason, Standing, Subject};
 use std::alloc::{AllocError, Global};
 
-/// The object of a line. `message` is its message in hexadecimal digits, if it has one. The error comes only where memory was
-/// refused.
+/// The object of a line, which has these words. `message` is its message in hexadecimal digits, if it has one. The error comes
+/// only where memory was refused.
 pub fn line_object(
     alloc: Global,
     names: &Names,
     parts: &LineParts<'_>,
+    words: &str,
     message: Option<&str>,
 ) -> Result<String, AllocError>
     ensures { IfOk result (λ text. string_bytes text ≡ line_object (key_in names.now.first) (key_in names.now.second)
-        (plain_parts parts.now) (option_map (λ digits. digits.now) message.entry)) }
+        (plain_parts parts.now) words.now (option_map (λ digits. digits.now) message.entry)) }
 {
     let place = path_members(alloc, &parts.path)?;
-    object_at(alloc, place.as_str(), names, parts, message)
+    object_at(alloc, place.as_str(), names, parts, words, message)
 }
 
-/// The object of a cause, by the first line that has it, and by how many commands have it. The error comes only where memory was
-/// refused.
+/// The object of a cause, by the first line that has it, and by how many commands have it. Its line has these words. The error
+/// comes only where memory was refused.
 pub fn cause_object(
     alloc: Global,
     names: &Names,
     commands: u64,
     parts: &LineParts<'_>,
+    words: &str,
     message: Option<&str>,
 ) -> Result<String, AllocError>
     ensures { IfOk result (λ text. string_bytes text ≡ cause_object (key_in names.now.first) (key_in names.now.second) commands
-        (plain_parts parts.now) (option_map (λ digits. digits.now) message.entry)) }
+        (plain_parts parts.now) words.now (option_map (λ digits. digits.now) message.entry)) }
 {
     let place = first_members(alloc, commands, &parts.path)?;
-    object_at(alloc, place.as_str(), names, parts, message)
+    object_at(alloc, place.as_str(), names, parts, words, message)
 }
 
 /// The object of a line in a place with these members.
@@ -55,17 +57,19 @@ fn object_at(
     place: &str,
     names: &Names,
     parts: &LineParts<'_>,
+    words: &str,
     message: Option<&str>,
 ) -> Result<String, AllocError>
     ensures { IfOk result (λ text. (members : List Field) → place.now ≡ fields_text members → string_bytes text
         ≡ compact_text (object_of (fields_at members (key_in names.now.first) (key_in names.now.second)
-        (plain_parts parts.now) (option_map (λ digits. digits.now) message.entry)))) }
+        (plain_parts parts.now) words.now (option_map (λ digits. digits.now) message.entry)))) }
 {
     let mut fields = String::new(alloc);
     push_undecided(alloc, &mut fields, parts.standing)?;
     fields.push_str(place)?;
     push_matter(alloc, &mut fields, names, parts)?;
     push_if(alloc, &mut fields, "message", message)?;
+    push_text(alloc, &mut fields, "text", words)?;
     object_text(alloc, fields.as_str())
 }
 

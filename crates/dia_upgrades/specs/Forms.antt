@@ -12,7 +12,7 @@ use Rattle.dia_upgrades.specs.Rows.{Row, digits_line}
 
 -- what is written of a line
 abbrev pub object_in : Names → Row → List ℕ
-object_in names row = line (line_object (key_in names.first) (key_in names.second) row.parts row.digits)
+object_in names row = line (line_object (key_in names.first) (key_in names.second) row.parts row.words row.digits)
 
 abbrev pub line_in : Form → Row → List ℕ
 line_in Text row = line row.words ++ digits_line row.digits

@@ -48,7 +48,7 @@ as_json asked names = record {
 
 -- the object of a line over two dictionaries
 abbrev pub object_over : Dictionary → Dictionary → Row → List ℕ
-object_over a b row = line (line_object (key_named a) (key_named b) row.parts row.digits)
+object_over a b row = line (line_object (key_named a) (key_named b) row.parts row.words row.digits)
 
 -- that of a cause
 abbrev pub cause_over : Dictionary → Dictionary → PlainRecorded → List ℕ

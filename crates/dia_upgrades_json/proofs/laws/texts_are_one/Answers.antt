@@ -12,8 +12,8 @@ returns-clause-all c = λ asked a b names are rows i.
     let first = λ (n : List ℕ). are.first_are n i in
     let second = λ (n : List ℕ). are.second_are n i in
     cond asked.once (flat_map (λ (t : PlainRecorded). line (cause_json first second t.words t.message)) (once_of rows))
-    (flat_map (λ (row : Row). line (line_object first second row.parts row.digits)) rows)
+    (flat_map (λ (row : Row). line (line_object first second row.parts row.words row.digits)) rows)
 
 pub returns-clause-first : goal.returns-clause-first
 returns-clause-first c = λ asked a b names are rows i.
-    flat_map (λ (row : Row). line (line_object (λ (n : List ℕ). are.first_are n i) (λ (n : List ℕ). are.second_are n i) row.parts row.digits)) rows
+    flat_map (λ (row : Row). line (line_object (λ (n : List ℕ). are.first_are n i) (λ (n : List ℕ). are.second_are n i) row.parts row.words row.digits)) rows
