@@ -3,3 +3,5 @@ pub mod Keys
 pub mod LineObjects
 pub mod Lines
 pub mod Parts
+pub mod SpotTexts
+pub mod Spots

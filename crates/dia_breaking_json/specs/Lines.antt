@@ -136,7 +136,7 @@ message_field message = if length message == 0 then [] else text_field (codes "m
 -- a line with these words, followed by this message; the look-ups by name are those of the two dictionaries
 abbrev pub cause_fields : (first second : List ℕ → Option Key) → (words message : List ℕ) → List Field
 cause_fields first second words message = undecided_field (is_undecided words) ++ once_fields (detail_of words)
-    ++ matter_fields first second (reason_of words) (subject_of words) (detail_of words) ++ message_field message
+    ++ matter_fields first second (reason_of words) (subject_of words) (detail_of words) ++ message_field message ++ text_field (codes "text") words
 
 unfoldable pub cause_json : (first second : List ℕ → Option Key) → (words message : List ℕ) → List ℕ
 cause_json first second words message = compact_text (object_of (cause_fields first second words message))

@@ -20,7 +20,7 @@ use std::alloc::{AllocError, Global};
 /// hexadecimal digits and a line feed.
 pub fn cause_json(
     alloc: Global,
-    names: &Names,
+    names: &Names<'_>,
     words: &str,
     message: &str,
 ) -> Result<String, AllocError>
@@ -35,21 +35,22 @@ pub fn cause_json(
 fn push_fields(
     alloc: Global,
     out: &mut String,
-    names: &Names,
+    names: &Names<'_>,
     words: &str,
     message: &str,
 ) -> Result<(), AllocError>
     ensures { OnOk result (Adds out.old out.new
         (cause_fields (key_in names.now.first) (key_in names.now.second) words.now message.now)) }
 {
-    push_parts(alloc, out, names, parts_of(words), message)
+    push_parts(alloc, out, names, parts_of(words), message)?;
+    push_text(alloc, out, "text", words)
 }
 
-/// Adds the members of a line with these parts.
+/// Adds the members of a line with these parts, but for its words.
 fn push_parts(
     alloc: Global,
     out: &mut String,
-    names: &Names,
+    names: &Names<'_>,
     parts: Parts<'_>,
     message: &str,
 ) -> Result<(), AllocError>
@@ -78,7 +79,7 @@ fn push_undecided(alloc: Global, out: &mut String, is_undecided: bool) -> Result
 fn push_matter(
     alloc: Global,
     out: &mut String,
-    names: &Names,
+    names: &Names<'_>,
     reason: &str,
     subject: &str,
     detail: &str,
@@ -94,7 +95,7 @@ fn push_matter(
 fn push_about(
     alloc: Global,
     out: &mut String,
-    names: &Names,
+    names: &Names<'_>,
     reason: &str,
     subject: &str,
 ) -> Result<(), AllocError>

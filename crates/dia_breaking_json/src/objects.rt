@@ -6,6 +6,7 @@ ghost use Rattle.serde_json.specs.Written.{compact_text};
 ghost use Rattle.dia_breaking.specs.LineParts.{plain_parts, plain_subject};
 ghost use Rattle.dia_breaking_json.specs.Fields.{Adds, Field, fields_text, object_of};
 ghost use Rattle.dia_breaking_json.specs.Keys.{key_in};
+ghost use Rattle.dia_breaking_json.specs.SpotTexts.{both_in};
 ghost use Rattle.dia_breaking_json.specs.LineObjects.{cause_object, fields_at, header_field, is_of_header};
 ghost use Rattle.dia_breaking_json.specs.LineObjects.{line_object, matter_fields, reason_field, subject_field};
 ghost use Rattle.dia_breaking_json.specs.LineObjects.{text_if, undecided_field};
@@ -14,58 +15,64 @@ use crate::amounts::push_detail;
 use crate::fields::{object_text, push_bool, push_text, push_u32};
 use crate::keys::Names;
 use crate::paths::{first_members, path_members};
+use crate::spots::push_spots;
 use crate::subjects::push_avp;
 use dia_breaking::{LineParts, LineReason, Standing, Subject};
 use std::alloc::{AllocError, Global};
 
-/// The object of a line. `message` is its message in hexadecimal digits, if it has one. The error comes only where memory was
-/// refused.
+/// The object of a line, which has these words. `message` is its message in hexadecimal digits, if it has one. The error comes
+/// only where memory was refused.
 pub fn line_object(
     alloc: Global,
-    names: &Names,
+    names: &Names<'_>,
     parts: &LineParts<'_>,
+    words: &str,
     message: Option<&str>,
 ) -> Result<String, AllocError>
-    ensures { IfOk result (λ text. string_bytes text ≡ line_object (key_in names.now.first) (key_in names.now.second)
-        (plain_parts parts.now) (option_map (λ digits. digits.now) message.entry)) }
+    ensures { IfOk result (λ text. string_bytes text ≡ line_object (key_in names.now.first) (key_in names.now.second) (both_in names.now.texts.value)
+        (plain_parts parts.now) words.now (option_map (λ digits. digits.now) message.entry)) }
 {
     let place = path_members(alloc, &parts.path)?;
-    object_at(alloc, place.as_str(), names, parts, message)
+    object_at(alloc, place.as_str(), names, parts, words, message)
 }
 
-/// The object of a cause, by the first line that has it, and by how many commands have it. The error comes only where memory was
-/// refused.
+/// The object of a cause, by the first line that has it, and by how many commands have it. Its line has these words. The error
+/// comes only where memory was refused.
 pub fn cause_object(
     alloc: Global,
-    names: &Names,
+    names: &Names<'_>,
     commands: u64,
     parts: &LineParts<'_>,
+    words: &str,
     message: Option<&str>,
 ) -> Result<String, AllocError>
-    ensures { IfOk result (λ text. string_bytes text ≡ cause_object (key_in names.now.first) (key_in names.now.second) commands
-        (plain_parts parts.now) (option_map (λ digits. digits.now) message.entry)) }
+    ensures { IfOk result (λ text. string_bytes text ≡ cause_object (key_in names.now.first) (key_in names.now.second) (both_in names.now.texts.value) commands
+        (plain_parts parts.now) words.now (option_map (λ digits. digits.now) message.entry)) }
 {
     let place = first_members(alloc, commands, &parts.path)?;
-    object_at(alloc, place.as_str(), names, parts, message)
+    object_at(alloc, place.as_str(), names, parts, words, message)
 }
 
 /// The object of a line in a place with these members.
 fn object_at(
     alloc: Global,
     place: &str,
-    names: &Names,
+    names: &Names<'_>,
     parts: &LineParts<'_>,
+    words: &str,
     message: Option<&str>,
 ) -> Result<String, AllocError>
     ensures { IfOk result (λ text. (members : List Field) → place.now ≡ fields_text members → string_bytes text
-        ≡ compact_text (object_of (fields_at members (key_in names.now.first) (key_in names.now.second)
-        (plain_parts parts.now) (option_map (λ digits. digits.now) message.entry)))) }
+        ≡ compact_text (object_of (fields_at members (key_in names.now.first) (key_in names.now.second) (both_in names.now.texts.value)
+        (plain_parts parts.now) words.now (option_map (λ digits. digits.now) message.entry)))) }
 {
     let mut fields = String::new(alloc);
     push_undecided(alloc, &mut fields, parts.standing)?;
     fields.push_str(place)?;
     push_matter(alloc, &mut fields, names, parts)?;
     push_if(alloc, &mut fields, "message", message)?;
+    push_spots(alloc, &mut fields, &names.texts, parts)?;
+    push_text(alloc, &mut fields, "text", words)?;
     object_text(alloc, fields.as_str())
 }
 
@@ -97,7 +104,7 @@ pub(crate) fn push_if(
 fn push_matter(
     alloc: Global,
     out: &mut String,
-    names: &Names,
+    names: &Names<'_>,
     parts: &LineParts<'_>,
 ) -> Result<(), AllocError>
     ensures { OnOk result (Adds out.old out.new
@@ -125,7 +132,7 @@ fn push_reason(
 fn push_subject(
     alloc: Global,
     out: &mut String,
-    names: &Names,
+    names: &Names<'_>,
     subject: Subject<'_>,
 ) -> Result<(), AllocError>
     ensures { OnOk result (Adds out.old out.new

@@ -81,9 +81,9 @@ fn in_form<A: Book, B: Book>(
         Form::Text => Ok(Shown { words, digits }),
         Form::Json(names) => {
             let parts = upgrade.parts(alloc, breaks, line)?;
-            let words = line_object(alloc, names, &parts, digits_in(&digits))?;
+            let object = line_object(alloc, names, &parts, words.as_str(), digits_in(&digits))?;
             Ok(Shown {
-                words,
+                words: object,
                 digits: None,
             })
         }

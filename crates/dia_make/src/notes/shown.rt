@@ -3,10 +3,18 @@
 /// The columns before the name of an AVP: offset, depth, code, vendor, flags and length.
 const COLUMNS: usize = 6;
 
-/// Whether a line is one of `show`: `header flags ..`, or `OFFSET DEPTH CODE VENDOR FLAGS LENGTH NAME ..`, where VENDOR may be a
-/// dash.
+/// Whether a line is one of `show`, also with blanks before it: `header flags ..`, or `OFFSET DEPTH CODE VENDOR FLAGS LENGTH NAME ..`,
+/// where VENDOR may be a dash; or `line N` of `show --lines`.
 pub fn is_shown(line: &[u8]) -> bool {
-    line.starts_with(b"header flags ") || has_columns(line)
+    let line = line.trim_ascii();
+    line.starts_with(b"header flags ") || has_columns(line) || is_line_number(line)
+}
+
+fn is_line_number(line: &[u8]) -> bool {
+    match line.strip_prefix(b"line ".as_slice()) {
+        Some(number) => !number.is_empty() && is_number(number),
+        None => false,
+    }
 }
 
 fn has_columns(line: &[u8]) -> bool {
