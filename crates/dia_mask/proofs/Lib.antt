@@ -1,5 +1,6 @@
 pub mod Alike
 pub mod Bytes
+pub mod Choosing
 pub mod Faults
 pub mod Judged
 pub mod Levels

@@ -8,7 +8,8 @@ use Rattle.dia_data.specs.Plain.{PlainFormat}
 use Rattle.dia_book.specs.Dictionary.{Dictionary, DictEntry, PlainDefinition, entry_of, group_place}
 use Rattle.dia_valid.specs.Valid.{group_at}
 use Rattle.dia_mask.specs.declared.choice.Choice.{Choice}
-use Rattle.dia_mask.specs.Masked.{Adds, IsLeafMasked, IsMasked, IsMessageMasked, IsNoAvpMasked, IsReplaced, bad_header, body_of, head, is_masked, masks, message, no_header, short, zeros}
+use Rattle.dia_mask.specs.Choosing.{masks}
+use Rattle.dia_mask.specs.Masked.{Adds, IsLeafMasked, IsMasked, IsMessageMasked, IsNoAvpMasked, IsReplaced, bad_header, body_of, head, is_masked, message, no_header, short, zeros}
 
 -- ---- which AVPs are groups
 

@@ -1,6 +1,6 @@
 -- A message with the data of some AVPs replaced (RFC 6733 sections 3, 4.1 and 4.4; which and by what is our profile).
 use Rattle.std.specs.Prelude.{◌≡◌, ◌≢◌, ℕ, ◌-◌, ◌<◌, ◌≤◌, ◌⊎◌, min, Bool, true, false, List, ◌++◌, length, take, drop, replicate}
-use Rattle.std.specs.Prelude.{Option, Some, None, ◌↔◌, slice_get, slice_index, unwrap_or}
+use Rattle.std.specs.Prelude.{Option, Some, None, ◌↔◌, slice_index}
 use Rattle.std.specs.Option.{option_map}
 use Rattle.dia_wire.specs.Number.{number}
 use Rattle.dia_wire.specs.Wire.{PlainAvp, key_of, head_length, BeginsMessage, BeginsWith, BeginsWithNone, IsMessageLength}
@@ -10,14 +10,9 @@ use Rattle.dia_data.specs.declared.accept.Leaf.{Leaf}
 use Rattle.dia_book.specs.Dictionary.{Dictionary, PlainDefinition, entry_of}
 use Rattle.dia_valid.specs.Valid.{group_at, known}
 use Rattle.dia_mask.specs.declared.choice.Choice.{Choice}
+use Rattle.dia_mask.specs.Choosing.{masks}
 
--- ---- which AVPs are masked
-
--- those of an entry, or those that the dictionary doesn't know
-abbrev pub masks : Choice → Option ℕ → Bool
-masks choice None = choice.unknown
-masks choice (Some entry) = unwrap_or (slice_get choice.masked.items entry) false
-
+-- an AVP is masked
 abbrev pub is_masked : Choice → Dictionary → PlainAvp → Bool
 is_masked choice d v = masks choice (entry_of d (key_of v))
 
