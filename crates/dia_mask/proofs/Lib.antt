@@ -1,8 +1,14 @@
 pub mod Alike
+pub mod Backwards
 pub mod Bytes
+pub mod Characters
 pub mod Choosing
 pub mod Faults
+pub mod Followed
 pub mod Judged
 pub mod Levels
+pub mod Maps
 pub mod Messages
+pub mod Numbers
+pub mod Replacing
 pub mod Spelled

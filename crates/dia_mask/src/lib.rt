@@ -18,11 +18,14 @@ mod kinds;
 mod message;
 #[cfg(test)]
 mod rows;
+mod same_words;
 mod texts;
 mod verdicts;
+mod ways;
 mod words;
 
 pub use choice::{Choice, can_be_masked};
 pub use counts::{AvpCount, Counts};
 pub use message::{Run, mask_message};
+pub use same_words::equal_words;
 pub use verdicts::same_verdict;
