@@ -1,5 +1,5 @@
 -- Words that are written from their last character on.
-use Rattle.std.proofs.Common.{◌≡◌, ℕ, ◌+◌, ◌*◌, ◌/◌, ◌%◌, ◌<◌, ◌↔◌, List, [], ◌∷◌, ◌++◌, reverse, get_or, drop, refl, sym, ap, ◌∙◌, append_assoc, append-nil, arith, encode_utf8, encode_utf8_all, div-lt_iff_lt-mul, div-add-mod', mod-lt, mul_comm}
+use Rattle.std.proofs.Common.{◌≡◌, ℕ, ◌+◌, ◌*◌, ◌/◌, ◌%◌, ◌<◌, List, [], ◌∷◌, ◌++◌, reverse, get_or, drop, sym, ap, ◌∙◌, append_assoc, append-nil, arith, encode_utf8, encode_utf8_all, div-lt_iff_lt-mul, div-add-mod', mod-lt}
 use Rattle.std.proofs.lemmas.List.{reverse-append, reverse-reverse}
 use Rattle.dia_mask.specs.declared.kinds.Kind.{Kind}
 use Rattle.dia_mask.specs.declared.kinds.Kind.TheVariants.{Digit, Small, Capital, Two, Three, Four}
@@ -36,7 +36,7 @@ same_place Two i j small small' is = omega (arith, is)
 same_place Three i j small small' is = grind (arith, is, small, small')
 same_place Four i j small small' is = omega (arith, is)
 
-some_size : (k : Kind) → 0 < size_of k
+pub some_size : (k : Kind) → 0 < size_of k
 some_size Digit = omega arith
 some_size Small = omega arith
 some_size Capital = omega arith

@@ -1,5 +1,5 @@
 -- A text that is masked character by character.
-use Rattle.std.proofs.Common.{◌≡◌, ℕ, ◌+◌, ◌%◌, Bool, List, [], ◌∷◌, ◌++◌, length, map, filter_map, Option, Some, None, is_some, if◌then◌else◌, refl, sym, ap, subst, ◌∙◌, append_assoc, append-nil, arith, encode_utf8, encode_utf8_all, string_bytes, chars, unwrap_or}
+use Rattle.std.proofs.Common.{◌≡◌, ℕ, ◌+◌, ◌%◌, List, [], ◌∷◌, ◌++◌, length, map, Option, Some, None, is_some, if◌then◌else◌, refl, sym, ap, subst, ◌∙◌, append_assoc, append-nil, arith, encode_utf8, encode_utf8_all, string_bytes, chars, unwrap_or}
 use Rattle.std.specs.List.{cons_option}
 use Rattle.std.proofs.lemmas.List.{length-append, map-append}
 use Rattle.std.proofs.lemmas.List.Elements.{filter_map-append}
@@ -7,7 +7,7 @@ use Rattle.std.proofs.lemmas.Str.{encodes-append}
 use Rattle.dia_mask.specs.declared.kinds.Kind.{Kind}
 use Rattle.dia_mask.specs.declared.kinds.Kind.TheVariants.{Digit, Small, Capital, Two, Three, Four}
 use Rattle.dia_mask.specs.declared.texts.Masking.{Masking}
-use Rattle.dia_mask.specs.Kinds.{character_at, kind_of, size_of, word_at}
+use Rattle.dia_mask.specs.Kinds.{character_at, kind_of, size_of}
 use Rattle.dia_mask.specs.Replaced.{Numbering, kinds_of, new_text, new_utf8, new_word}
 use Rattle.dia_mask.specs.declared.words.Words.{Words}
 use Rattle.dia_mask.specs.Texts.{Agrees, Continues, EndsWord, GoesOn, IsWord, first_word, numbers_of}
@@ -21,7 +21,7 @@ encodes_more word c = encodes-append word (c ∷ []) ∙ ap (λ (t : List ℕ). 
 one_kind : (c : ℕ) (k : Kind) → kind_of c ≡ Some k → kinds_of (c ∷ []) ≡ k ∷ []
 one_kind c k is = ap (λ (o : Option Kind). cons_option o []) is
 
-kinds_more : (word : List ℕ) (c : ℕ) (k : Kind) → kind_of c ≡ Some k → kinds_of (word ++ c ∷ []) ≡ kinds_of word ++ k ∷ []
+pub kinds_more : (word : List ℕ) (c : ℕ) (k : Kind) → kind_of c ≡ Some k → kinds_of (word ++ c ∷ []) ≡ kinds_of word ++ k ∷ []
 kinds_more word c k is = filter_map-append kind_of word (c ∷ []) ∙ ap (λ (ks : List Kind). kinds_of word ++ ks) (one_kind c k is)
 
 first_place : (k : Kind) → 0 % size_of k ≡ 0
@@ -75,7 +75,7 @@ same_word old new word text pattern kinds w = record {
   whole = w.whole;
 }
 
-after_other : (numbers : Numbering) (word rest : List ℕ) (c : ℕ) → kind_of c ≡ None → new_text numbers word (c ∷ rest) ≡ new_word numbers word ++ c ∷ new_text numbers [] rest
+pub after_other : (numbers : Numbering) (word rest : List ℕ) (c : ℕ) → kind_of c ≡ None → new_text numbers word (c ∷ rest) ≡ new_word numbers word ++ c ∷ new_text numbers [] rest
 after_other numbers word rest c is = ap (λ (o : Option Kind). if is_some o then new_text numbers (word ++ c ∷ []) rest else new_word numbers word ++ c ∷ new_text numbers [] rest) is
 
 -- a character that is no part of a word

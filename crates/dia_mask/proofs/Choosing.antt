@@ -1,10 +1,10 @@
 -- Choices of AVPs, entry by entry.
-use Rattle.std.proofs.Common.{◌≡◌, ◌<◌, ◌≤◌, ℕ, ◌+◌, Bool, false, List, [], ◌∷◌, ◌++◌, map, length, take, suc, zero, add-one, Option, Some, None, refl, sym, ap, subst, ◌∙◌, arith, IfSome, slice_get, unwrap_or}
+use Rattle.std.proofs.Common.{◌≡◌, ◌<◌, ℕ, ◌+◌, Bool, false, List, [], ◌∷◌, ◌++◌, map, length, take, suc, zero, add-one, Option, Some, None, refl, sym, ap, ◌∙◌, arith, IfSome, slice_get, unwrap_or}
 use Rattle.std.proofs.lemmas.Option.{slice_get-map}
 use Rattle.std.specs.Option.{option_map, option_map_or}
 use Rattle.dia_book.specs.Dictionary.{Dictionary, DictEntry}
 use Rattle.dia_mask.specs.declared.choice.Choice.{Choice}
-use Rattle.dia_mask.specs.Choosing.{IsChosen, chosen, masks}
+use Rattle.dia_mask.specs.Choosing.{IsChosen}
 
 unwrapped : (f : DictEntry → Bool) (o : Option DictEntry) → unwrap_or (option_map f o) false ≡ option_map_or f o false
 unwrapped f None = refl

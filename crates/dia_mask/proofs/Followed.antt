@@ -1,12 +1,12 @@
 -- Words that are replaced by the same word.
-use Rattle.std.proofs.Common.{◌≡◌, ℕ, ◌<◌, List, Option, Some, map, reverse, sym, ap, ◌∙◌, encode_utf8_all}
+use Rattle.std.proofs.Common.{◌≡◌, ℕ, List, Option, Some, map, sym, ap, ◌∙◌, encode_utf8_all}
 use Rattle.std.proofs.lemmas.Option.{option_and_then_some}
 use Rattle.dia_mask.specs.declared.kinds.Kind.{Kind}
 use Rattle.dia_mask.specs.declared.words.Numbered.{Numbered}
 use Rattle.dia_mask.specs.declared.words.Words.{Words}
-use Rattle.dia_mask.specs.Kinds.{capacity, character_at, word_at}
+use Rattle.dia_mask.specs.Kinds.{character_at, word_at}
 use Rattle.dia_mask.specs.Numbers.{number_in}
-use Rattle.dia_mask.specs.Replaced.{Numbering, kinds_of, new_word}
+use Rattle.dia_mask.specs.Replaced.{Numbering, kinds_of}
 use Rattle.dia_mask.specs.Texts.{Agrees, first_word}
 use Rattle.dia_mask.specs.Words.{AreAllNumbers, number_at, texts_at}
 use Rattle.dia_mask.specs.Followed.{AreFollowed, HasNumber}

@@ -11,4 +11,6 @@ pub mod Maps
 pub mod Messages
 pub mod Numbers
 pub mod Replacing
+pub mod SaidAgain
+pub mod SameLengths
 pub mod Spelled

@@ -1,6 +1,5 @@
 -- What a map has at bytes after a change at one key, whose keys are read as bytes.
-use Rattle.std.proofs.Common.{◌≡◌, ℕ, Bool, true, false, cond, List, Option, Some, None, HashMap, refl, sym, ap, subst, ◌∙◌, ⊎_elim, bytes_eq}
-use Rattle.std.specs.Cmp.{nat_eq_equiv}
+use Rattle.std.proofs.Common.{◌≡◌, ℕ, Bool, true, false, cond, List, Option, Some, None, HashMap, sym, ap, subst, ◌∙◌, ⊎_elim, bytes_eq}
 use Rattle.std.specs.Cmp.Lexicographic.{bytes_decides}
 use Rattle.std.specs.HashMap.{Updates, get, get_by}
 use Rattle.std.specs.Map.{lookup, update, KeepsOthers, IsKeyTest, AreApart}

@@ -1,5 +1,5 @@
 -- Words of one pattern, one after the other.
-use Rattle.std.proofs.Common.{◌≡◌, ℕ, ◌+◌, ◌<◌, ◌⊎◌, Bool, true, false, cond, List, Option, Some, None, length, refl, sym, ap, subst, ◌∙◌, inl, inr, ⊎_elim, arith, bytes_eq, nat_eq, is_some, if◌then◌else◌, option_and_then, string_bytes, string_eq}
+use Rattle.std.proofs.Common.{◌≡◌, ℕ, ◌<◌, ◌⊎◌, Bool, true, false, List, Option, Some, None, length, refl, sym, ap, subst, ◌∙◌, inl, inr, ⊎_elim, arith, bytes_eq, nat_eq, string_bytes, string_eq}
 use Rattle.std.specs.HashMap.{Updates, UpdatesBy, get, get_by_text}
 use Rattle.std.specs.Cmp.Lexicographic.{bytes_decides}
 use Rattle.std.specs.Map.{update}

@@ -1,6 +1,5 @@
 -- Data that are replaced by their format.
-use Rattle.std.proofs.Common.{◌≡◌, ◌≢◌, ℕ, ◌+◌, ◌-◌, ◌<◌, List, [], ◌∷◌, ◌++◌, length, take, drop, All, Option, Some, None, refl, sym, ap, subst, ◌∙◌, append_assoc, append-nil, inl, inr, ⊎_elim, arith, min, replicate, slice_index_or, Bool, false, IsTrue, true≢false, ◌↔◌, IsUtf8, IsAscii}
-use Rattle.std.specs.Str.Lossy.{utf8_valid_len}
+use Rattle.std.proofs.Common.{◌≡◌, ◌≢◌, ℕ, ◌-◌, List, [], ◌∷◌, ◌++◌, length, take, drop, All, Option, Some, None, refl, sym, ap, subst, ◌∙◌, append_assoc, append-nil, inl, inr, ⊎_elim, arith, min, slice_index_or, Bool, false, IsTrue, true≢false, ◌↔◌, IsUtf8, IsAscii}
 use Rattle.std.proofs.lemmas.List.{take_all, drop_all, length-drop, get_or_past}
 use Rattle.std.proofs.lemmas.Bool.{cases_lt}
 use Rattle.std.proofs.lemmas.List.Elements.{All-drop}
@@ -94,7 +93,7 @@ rule_goes_on numbers before old mid now bytes rest front following b text last s
       goes_on = λ more h. subst (IsRule numbers bytes)
           (sym (append_assoc so_far.added (f ++ 255 ∷ []) more ∙ ap (λ (t : List ℕ). so_far.added ++ t) (append_assoc f (255 ∷ []) more)))
           (so_far.goes_on (f ++ 255 ∷ more)
-          (broken (utf8_valid_len rest) more b.broken refl (subst (λ (t : List ℕ). IsRule numbers t more) b.rest h) (ap (λ (t : List ℕ). new_utf8 numbers t ++ 255 ∷ more) b.front)));
+          (broken b.at more b.valid (subst (λ (t : List ℕ). IsRule numbers t more) b.rest h) (ap (λ (t : List ℕ). new_utf8 numbers t ++ 255 ∷ more) b.front)));
     }
 
 pub rule_ends : (numbers : Numbering) (before old now bytes rest : List ℕ) → IsUtf8 rest → now ≡ old ++ new_utf8 numbers rest → IsRuleSoFar numbers before old bytes rest

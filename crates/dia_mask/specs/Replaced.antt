@@ -1,8 +1,8 @@
 -- The data that takes the place of an AVP's, by the numbers of its words (our profile).
-use Rattle.std.specs.Prelude.{◌≡◌, ◌⊎◌, ◌↔◌, ℕ, ◌+◌, ◌-◌, ◌==◌, ◌<◌, nat_lt, if◌then◌else◌, min, List, [], ◌∷◌, ◌++◌, length, take, drop, replicate, slice_get, unwrap_or, Option, Some, None, is_some, chars, encode_utf8_all, IsUtf8}
+use Rattle.std.specs.Prelude.{◌≡◌, ◌⊎◌, ◌↔◌, ℕ, ◌+◌, ◌-◌, ◌==◌, nat_lt, if◌then◌else◌, min, List, [], ◌∷◌, ◌++◌, length, take, drop, replicate, slice_get, unwrap_or, Option, Some, None, is_some, chars, encode_utf8_all, IsUtf8, ⊤}
 use Rattle.std.specs.List.{filter_map}
 use Rattle.std.specs.Int.{to_be_bytes, w64}
-use Rattle.std.specs.Str.Lossy.{utf8_valid_len}
+use Rattle.std.specs.Str.{IsValidUpTo}
 use Rattle.dia_data.specs.Leaf.{IsLeaf, IsLeafAnswer}
 use Rattle.dia_data.specs.declared.accept.Leaf.{Leaf}
 use Rattle.dia_data.specs.Plain.{PlainFormat, AnyBytes, FourBytes, EightBytes, Grouped, Address, Utf8String, DiameterIdentity, DiameterUri, Enumerated, OctetString, IpFilterRule, QosFilterRule}
@@ -83,7 +83,7 @@ IsText numbers format refused bytes new = (IsLeaf format bytes × (new ≡ take 
 -- the text of a rule, in which a byte with which no character begins becomes ff
 pub data IsRule (numbers : Numbering) : List ℕ → List ℕ → Type 0 where
   whole : {bytes new : List ℕ} → IsUtf8 bytes → new ≡ new_utf8 numbers bytes → IsRule numbers bytes new
-  broken : {bytes new : List ℕ} (at : ℕ) (more : List ℕ) → ¬ IsUtf8 bytes → at ≡ utf8_valid_len bytes → IsRule numbers (drop (at + 1) bytes) more
+  broken : {bytes new : List ℕ} (at : ℕ) (more : List ℕ) → IsValidUpTo bytes at → IsRule numbers (drop (at + 1) bytes) more
       → new ≡ new_utf8 numbers (take at bytes) ++ 255 ∷ more → IsRule numbers bytes new
 
 abbrev pub IsByWay : Numbering → PlainFormat → Way → (bytes new : List ℕ) → Type 0
@@ -110,10 +110,16 @@ abbrev pub IsReplaced : Numbering → Option PlainFormat → (bytes other : List
 IsReplaced numbers format bytes other = (new : List ℕ) × IsNewData numbers format bytes new
     × ((IsSameSaid format bytes new × (other ≡ new)) ⊎ ((¬ IsSameSaid format bytes new) × (other ≡ bytes)))
 
--- a text that its format accepts, behind what stays of it
+-- data of this format are replaced as text
 abbrev pub IsTextWay : PlainFormat → Type 0
 IsTextWay format = (refused : ℕ) × (way format ≡ ways.Text refused)
 
+-- no format whose data are replaced as text
+abbrev pub NeverText : Option PlainFormat → Type 0
+NeverText None = ⊤
+NeverText (Some format) = ¬ IsTextWay format
+
+-- a text that its format accepts, behind what stays of it
 pub record IsAccepted (format : PlainFormat) (bytes before after : List ℕ) : Type 0 where
   pub leaf : IsLeaf format bytes
   pub front : before ≡ take (text_start format bytes) bytes
@@ -121,7 +127,7 @@ pub record IsAccepted (format : PlainFormat) (bytes before after : List ℕ) : T
 
 -- a text that isn't UTF-8: what precedes the first byte with which no character begins, and what follows it
 pub record IsBroken (bytes before after : List ℕ) : Type 0 where
-  pub broken : ¬ IsUtf8 bytes
-  pub front : before ≡ take (utf8_valid_len bytes) bytes
-  pub rest : after ≡ drop (utf8_valid_len bytes + 1) bytes
-  pub shorter : length after < length bytes
+  pub at : ℕ
+  pub valid : IsValidUpTo bytes at
+  pub front : before ≡ take at bytes
+  pub rest : after ≡ drop (at + 1) bytes

@@ -4,7 +4,6 @@ ghost use Rattle.std.specs.Prelude.{◌≡◌, ◌↔◌, ◌<◌, ◌≤◌, �
 ghost use Rattle.std.specs.Prelude.{IsUtf8, OnOk, Some, length, take, drop};
 ghost use Rattle.std.specs.Option.{option_map};
 ghost use Rattle.std.specs.Str.{IsValidUpTo};
-ghost use Rattle.std.specs.Str.Lossy.{utf8_valid_len};
 ghost use Rattle.dia_data.specs.Leaf.{IsLeaf, IsLeafAnswer};
 ghost use Rattle.dia_data.specs.declared.accept.Leaf.{Leaf as AnyLeaf};
 ghost use Rattle.dia_data.specs.Plain.{plain_format};
@@ -206,6 +205,7 @@ fn after_slashes(bytes: &[u8]) -> usize
 /// The characters before the first byte with which none begins, and what follows that byte. `None` where all are characters.
 fn split_at_no_character(bytes: &[u8]) -> Option<(&str, &[u8])>
     ensures some { IfSome result (λ parts. IsBroken bytes.entry.now parts.0.now parts.1.now) }
+    ensures shorter { IfSome result (λ parts. length parts.1.now < length bytes.entry.now) }
     ensures none { IsNone result → IsUtf8 bytes.entry.now }
 {
     match str::from_utf8(bytes) {
@@ -215,10 +215,9 @@ fn split_at_no_character(bytes: &[u8]) -> Option<(&str, &[u8])>
 }
 
 fn split_at(bytes: &[u8], at: usize) -> Option<(&str, &[u8])>
-    requires broken { ¬ IsUtf8 bytes.now }
-    requires place { at ≡ utf8_valid_len bytes.now }
-    requires valid { IsValidUpTo bytes.now at }
+    requires { IsValidUpTo bytes.now at }
     ensures some { IfSome result (λ parts. IsBroken bytes.entry.now parts.0.now parts.1.now) }
+    ensures shorter { IfSome result (λ parts. length parts.1.now < length bytes.entry.now) }
     ensures always { IsSome result }
 {
     match str::from_utf8(&bytes[..at]) {

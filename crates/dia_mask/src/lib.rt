@@ -15,10 +15,10 @@ mod choice;
 mod counts;
 mod data;
 mod kinds;
+mod laws;
 mod message;
 #[cfg(test)]
 mod rows;
-mod same_words;
 mod texts;
 mod verdicts;
 mod ways;
@@ -26,6 +26,6 @@ mod words;
 
 pub use choice::{Choice, can_be_masked};
 pub use counts::{AvpCount, Counts};
+pub use laws::{equal_words, never_left};
 pub use message::{Run, mask_message};
-pub use same_words::equal_words;
 pub use verdicts::same_verdict;

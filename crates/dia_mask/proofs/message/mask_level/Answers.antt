@@ -2,7 +2,6 @@ use Rattle.std.proofs.Common.{List, ℕ, sym, ◌∙◌, subst, rules}
 use Rattle.dia_wire.specs.Wire.{plain_avp}
 use Rattle.dia_valid.specs.Valid.{group_at}
 use Rattle.dia_mask.specs.declared.texts.Masking.{Masking}
-use Rattle.dia_mask.specs.Replaced.{Numbering}
 use Rattle.dia_mask.specs.Masked.{Adds, IsLeafMasked, format_at, is_masked}
 use Rattle.dia_mask.specs.Texts.{Agrees}
 use Rattle.dia_mask.specs.Words.{Grows}

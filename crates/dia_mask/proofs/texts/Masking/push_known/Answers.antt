@@ -1,4 +1,4 @@
-use Rattle.std.proofs.Common.{sym, ◌∙◌, refl}
+use Rattle.std.proofs.Common.{sym, ◌∙◌}
 use Rattle.std.proofs.lemmas.Result.{on_ok_weaker}
 use Rattle.dia_data.specs.Plain.{plain_format}
 use Rattle.dia_mask.specs.declared.ways.Way.TheVariants as ways

@@ -1,4 +1,4 @@
-use Rattle.std.proofs.Common.{◌++◌, ◌∷◌, [], List, ℕ, refl, sym, ap, subst, ◌∙◌, IsUtf8}
+use Rattle.std.proofs.Common.{◌++◌, List, ℕ, ap, ◌∙◌}
 use Rattle.dia_mask.specs.Replaced.{new_utf8}
 use Rattle.dia_mask.proofs.Characters.{agrees_before, grows_on, no_more}
 use Rattle.dia_mask.proofs.Replacing.{rule_begun, rule_ends, rule_goes_on}

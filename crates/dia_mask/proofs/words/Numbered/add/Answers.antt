@@ -1,4 +1,4 @@
-use Rattle.std.proofs.Common.{◌≡◌, ℕ, ◌+◌, Option, ap, ◌∙◌, is_some, if◌then◌else◌}
+use Rattle.std.proofs.Common.{ℕ, ◌+◌, Option, ap, ◌∙◌, is_some, if◌then◌else◌}
 use Rattle.std.specs.Box.{boxed_slice_items}
 use Rattle.dia_mask.specs.Numbers.{count_of}
 use Rattle.dia_mask.proofs.Maps.{numbers_put, was_absent}
