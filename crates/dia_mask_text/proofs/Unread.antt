@@ -1,5 +1,5 @@
 -- Lines that spell a message, and lines that spell none.
-use Rattle.std.proofs.Common.{◌≡◌, ◌<◌, ◌≤◌, ℕ, List, ◌++◌, length, take, Option, Some, None, Result, Ok, Err, sym, ap, ◌∙◌, arith, codes, refl}
+use Rattle.std.proofs.Common.{◌≡◌, ℕ, List, ◌++◌, length, take, Option, Some, None, Result, Ok, Err, sym, ap, ◌∙◌, arith, codes, refl}
 use Rattle.std.specs.Prelude.{IfOk, IfSome}
 use Rattle.hex.specs.Hex.{decode_of, encode_lower}
 use Rattle.dia_io.specs.declared.Input.{Input}
