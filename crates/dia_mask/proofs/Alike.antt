@@ -13,7 +13,8 @@ use Rattle.dia_data.specs.Leaf.{IsLeafAnswer}
 use Rattle.dia_book.specs.Dictionary.{Dictionary, DictEntry, PlainDefinition}
 use Rattle.dia_valid.specs.Valid.{group_at, known}
 use Rattle.dia_mask.specs.declared.choice.Choice.{Choice}
-use Rattle.dia_mask.specs.Masked.{IsAround, IsLeafMasked, IsMasked, IsNoAvpMasked, IsReplaced, format_at, group, head, is_masked, leaf, no_avp, short, zeros}
+use Rattle.dia_mask.specs.Replaced.{IsReplaced, IsSameSaid, Numbering}
+use Rattle.dia_mask.specs.Masked.{IsAround, IsLeafMasked, IsMasked, IsNoAvpMasked, format_at, group, head, is_masked, leaf, no_avp, short, zeros}
 
 -- the AVP with other data
 abbrev pub with_data : PlainAvp → List ℕ → PlainAvp
@@ -149,12 +150,20 @@ replaced_begins v level rest lead padding other pad more new (front, s, parts) a
 
 -- ---- masked levels
 
-replaced_size : (format : Option PlainFormat) (bytes other : List ℕ) → IsReplaced format bytes other → length other ≡ length bytes
-replaced_size None bytes other size = size
-replaced_size (Some format) bytes other h = h.0
+same_said : (format : Option PlainFormat) (bytes : List ℕ) → IsSameSaid format bytes bytes
+same_said None bytes = refl
+same_said (Some format) bytes = (refl, λ says. (λ x. x, λ x. x))
 
-replaced_says : (d : Dictionary) (v : PlainAvp) (other : List ℕ) → IsReplaced (format_at d v) v.bytes other → SaysAlike d v other
-replaced_says d v other h e says is = (subst (λ (o : Option DictEntry). IsReplaced (option_map (λ (x : DictEntry). x.format) o) v.bytes other) is h).1 says
+replaced_said : (numbers : Numbering) (format : Option PlainFormat) (bytes other : List ℕ) → IsReplaced numbers format bytes other → IsSameSaid format bytes other
+replaced_said numbers format bytes other (new, is_new, inl (same, is)) = subst (IsSameSaid format bytes) (sym is) same
+replaced_said numbers format bytes other (new, is_new, inr (differs, is)) = subst (IsSameSaid format bytes) (sym is) (same_said format bytes)
+
+said_size : (format : Option PlainFormat) (bytes other : List ℕ) → IsSameSaid format bytes other → length other ≡ length bytes
+said_size None bytes other size = size
+said_size (Some format) bytes other h = h.0
+
+said_alike : (d : Dictionary) (v : PlainAvp) (other : List ℕ) → IsSameSaid (format_at d v) v.bytes other → SaysAlike d v other
+said_alike d v other h e says is = (subst (λ (o : Option DictEntry). IsSameSaid (option_map (λ (x : DictEntry). x.format) o) v.bytes other) is h).1 says
 
 -- what stands in the place of the data and the padding of a leaf
 record IsLeafAlike (d : Dictionary) (v : PlainAvp) (padding new : List ℕ) : Type 0 where
@@ -165,27 +174,27 @@ record IsLeafAlike (d : Dictionary) (v : PlainAvp) (padding new : List ℕ) : Ty
   pad_size : length pad ≡ length padding
   says : SaysAlike d v other
 
-leaf_alike : (d : Dictionary) (v : PlainAvp) (padding new : List ℕ) (masked : Bool) → IsLeafMasked masked (format_at d v) v.bytes padding new → IsLeafAlike d v padding new
-leaf_alike d v padding new false is = record { other = v.bytes; pad = padding; parts = is; size = refl; pad_size = refl; says = λ e says h. (λ x. x, λ x. x) }
-leaf_alike d v padding new true (other, replaced, is) = record {
+leaf_alike : (numbers : Numbering) (d : Dictionary) (v : PlainAvp) (padding new : List ℕ) (masked : Bool) → IsLeafMasked numbers masked (format_at d v) v.bytes padding new → IsLeafAlike d v padding new
+leaf_alike numbers d v padding new false is = record { other = v.bytes; pad = padding; parts = is; size = refl; pad_size = refl; says = λ e says h. (λ x. x, λ x. x) }
+leaf_alike numbers d v padding new true (other, replaced, is) = record {
   other = other;
   pad = zeros (length padding);
   parts = is;
-  size = replaced_size (format_at d v) v.bytes other replaced;
+  size = said_size (format_at d v) v.bytes other (replaced_said numbers (format_at d v) v.bytes other replaced);
   pad_size = length-replicate {A = ℕ} (length padding) 0;
-  says = replaced_says d v other replaced;
+  says = said_alike d v other (replaced_said numbers (format_at d v) v.bytes other replaced);
 }
 
-pub masked_alike : (choice : Choice) (d : Dictionary) (level new : List ℕ) → IsMasked choice d level new → AreAlike d level new
-masked_alike choice d level new (no_avp none masked) = none_masked d level new (no_more level none) masked
-masked_alike choice d level new (leaf v rest lead padding both more begins around is_leaf masked next is) =
-    let l = leaf_alike d v padding both (is_masked choice d v) masked in
+pub masked_alike : (choice : Choice) (numbers : Numbering) (d : Dictionary) (level new : List ℕ) → IsMasked choice numbers d level new → AreAlike d level new
+masked_alike choice numbers d level new (no_avp none masked) = none_masked d level new (no_more level none) masked
+masked_alike choice numbers d level new (leaf v rest lead padding both more begins around is_leaf masked next is) =
+    let l = leaf_alike numbers d v padding both (is_masked choice d v) masked in
     leaves v l.other rest more begins
     (replaced_begins v level rest lead padding l.other l.pad more new begins around l.size l.pad_size (is ∙ ap (λ (t : List ℕ). lead ++ (t ++ more)) l.parts))
-    (sym l.size) is_leaf l.says (masked_alike choice d rest more next)
-masked_alike choice d level new (group v rest lead padding members more g begins around is_group inner next is) =
-    let alike = masked_alike choice d v.bytes members inner in
+    (sym l.size) is_leaf l.says (masked_alike choice numbers d rest more next)
+masked_alike choice numbers d level new (group v rest lead padding members more g begins around is_group inner next is) =
+    let alike = masked_alike choice numbers d v.bytes members inner in
     let size = alike_size d v.bytes members alike in
     groups v members rest more g begins
     (replaced_begins v level rest lead padding members padding more new begins around (sym size) refl (is ∙ ap (λ (t : List ℕ). lead ++ t) (sym (append_assoc members padding more))))
-    size is_group alike (masked_alike choice d rest more next)
+    size is_group alike (masked_alike choice numbers d rest more next)

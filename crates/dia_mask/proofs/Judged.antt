@@ -18,6 +18,7 @@ use Rattle.dia_check.proofs.FaultlessMessages.{valid_command, valid_good, valid_
 use Rattle.dia_check.proofs.OneAnswer.{valid_length}
 use Rattle.dia_check.proofs.ValidMeansFaultless.{none_valid}
 use Rattle.dia_mask.specs.declared.choice.Choice.{Choice}
+use Rattle.dia_mask.specs.Replaced.{Numbering}
 use Rattle.dia_mask.specs.Masked.{Adds, IsMessageMasked, bad_header, body_of, message, no_header, zeros}
 use Rattle.dia_mask.specs.Verdict.{IsJudgedAlike}
 use Rattle.dia_mask.proofs.Alike.{AreAlike, alike_size, flip, masked_alike}
@@ -102,13 +103,13 @@ module _ (d : Dictionary) (sound : IsDictionary d) (u : Unknown) (most : Levels)
 twenty : (bytes : List ℕ) → 20 ≤ length bytes → length (take 20 bytes) ≡ 20
 twenty bytes long = omega (arith, long, length-take 20 bytes)
 
-masked_similar : (choice : Choice) (d : Dictionary) (bytes new : List ℕ) → IsMessageMasked choice d bytes new → AreSimilar d bytes new
-masked_similar choice d bytes new (message n body (h, is_head, sound) masked is) =
+masked_similar : (choice : Choice) (numbers : Numbering) (d : Dictionary) (bytes new : List ℕ) → IsMessageMasked choice numbers d bytes new → AreSimilar d bytes new
+masked_similar choice numbers d bytes new (message n body (h, is_head, sound) masked is) =
     let says = head_says h n bytes is_head in
     let wide = twenty bytes says.0 in
     let least = sound.no_less in
     let k = length bytes - min (length bytes) n in
-    let together = masked_alike choice d (body_of bytes n) body masked in
+    let together = masked_alike choice numbers d (body_of bytes n) body masked in
     let size = alike_size d (body_of bytes n) body together in
     let cut = length-take (min (length bytes) n - 20) (drop 20 bytes) in
     let left = length-drop 20 bytes in
@@ -124,7 +125,7 @@ masked_similar choice d bytes new (message n body (h, is_head, sound) masked is)
           let here : body_of bytes n ≡ drop 20 bytes = take_all (min (length bytes) n - 20) (drop 20 bytes) (omega (arith, left, all)) in
           subst (λ (t : List ℕ). AreAlike d t (drop 20 new)) here (subst (AreAlike d (body_of bytes n)) (sym there) together);
     }
-masked_similar choice d bytes new (bad_header long bad is) =
+masked_similar choice numbers d bytes new (bad_header long bad is) =
     let wide = twenty bytes long in
     let size : length new ≡ length bytes = ap length is ∙ length-append (take 20 bytes) (zeros (length bytes - 20)) ∙ omega (arith, wide, long, length-replicate {A = ℕ} (length bytes - 20) 0) in
     record {
@@ -132,16 +133,16 @@ masked_similar choice d bytes new (bad_header long bad is) =
       front = sym (ap (take 20) is ∙ take_at (take 20 bytes) (zeros (length bytes - 20)) 20 wide);
       body = λ w. absurd (⊎_elim (λ other. other w.version) (λ other. other (subst IsMessageLength w.is_length w.sound)) bad);
     }
-masked_similar choice d bytes new (no_header few is) =
+masked_similar choice numbers d bytes new (no_header few is) =
     subst (AreSimilar d bytes) (sym is) (record { long = refl; front = refl; body = λ w. let l = w.long in absurd (omega (arith, l, few)) })
 
 -- a message and what replaces it have the same answers
-pub judged_alike : (choice : Choice) (d : Dictionary) (bytes new : List ℕ) → IsDictionary d → IsMessageMasked choice d bytes new → IsJudgedAlike d bytes new
-judged_alike choice d bytes new sound masked u most a =
-    let same = masked_similar choice d bytes new masked in
+pub judged_alike : (choice : Choice) (numbers : Numbering) (d : Dictionary) (bytes new : List ℕ) → IsDictionary d → IsMessageMasked choice numbers d bytes new → IsJudgedAlike d bytes new
+judged_alike choice numbers d bytes new sound masked u most a =
+    let same = masked_similar choice numbers d bytes new masked in
     (answer_too d sound u most bytes new same a, answer_too d sound u most new bytes (flip_similar d bytes new same) a)
 
-pub judged_added : {T E : Type 0} (r : Result T E) (choice : Choice) (d : Dictionary) (bytes old new : List ℕ) → IsDictionary d
-    → OnOk r (Adds (IsMessageMasked choice d bytes) old new) → OnOk r (Adds (IsJudgedAlike d bytes) old new)
-judged_added (Ok u) choice d bytes old new sound (added, masked, is) = (added, judged_alike choice d bytes added sound masked, is)
-judged_added (Err e) choice d bytes old new sound h = tt
+pub judged_added : {T E : Type 0} (r : Result T E) (choice : Choice) (numbers : Numbering) (d : Dictionary) (bytes old new : List ℕ) → IsDictionary d
+    → OnOk r (Adds (IsMessageMasked choice numbers d bytes) old new) → OnOk r (Adds (IsJudgedAlike d bytes) old new)
+judged_added (Ok u) choice numbers d bytes old new sound (added, masked, is) = (added, judged_alike choice numbers d bytes added sound masked, is)
+judged_added (Err e) choice numbers d bytes old new sound h = tt

@@ -9,6 +9,7 @@ use Rattle.dia_book.specs.Dictionary.{Dictionary, PlainDefinition}
 use Rattle.dia_valid.specs.Valid.{group_at}
 use Rattle.dia_mask.specs.declared.choice.Choice.{Choice}
 use Rattle.dia_mask.specs.declared.message.Waiting.{Waiting}
+use Rattle.dia_mask.specs.Replaced.{Numbering}
 use Rattle.dia_mask.specs.Masked.{Adds, IsAround, IsLeafMasked, IsMasked, IsNoAvpMasked, format_at, group, is_masked, leaf, no_avp}
 
 -- ---- lengths
@@ -78,14 +79,14 @@ around v level rest (front, s, parts) =
 
 -- ---- the walk
 
-module _ (choice : Choice) (d : Dictionary) where
+module _ (choice : Choice) (numbers : Numbering) (d : Dictionary) where
   -- the bytes that replace a level, and then what is left of the levels around it
   abbrev pub Owes : List Waiting → List ℕ → List ℕ → Type 0
-  Owes [] level new = IsMasked choice d level new
-  Owes (w ∷ ws) level new = (inner : List ℕ) × (more : List ℕ) × Owes ws level inner × IsMasked choice d w.rest.now more × (new ≡ inner ++ (w.padding.now ++ more))
+  Owes [] level new = IsMasked choice numbers d level new
+  Owes (w ∷ ws) level new = (inner : List ℕ) × (more : List ℕ) × Owes ws level inner × IsMasked choice numbers d w.rest.now more × (new ≡ inner ++ (w.padding.now ++ more))
 
   -- what precedes the bytes of a level precedes all
-  Owes-front : (ws : List Waiting) (level next front new : List ℕ) → ((t : List ℕ) → IsMasked choice d next t → IsMasked choice d level (front ++ t))
+  Owes-front : (ws : List Waiting) (level next front new : List ℕ) → ((t : List ℕ) → IsMasked choice numbers d next t → IsMasked choice numbers d level (front ++ t))
       → Owes ws next new → Owes ws level (front ++ new)
   Owes-front [] level next front new f h = f new h
   Owes-front (w ∷ ws) level next front new f (inner, more, h, rest, parts) = (
@@ -110,7 +111,7 @@ module _ (choice : Choice) (d : Dictionary) where
   )
 
   -- the end of a level: what is left of the one around it comes next
-  Owes-end : (ws : List Waiting) (w : Waiting) (level last new : List ℕ) → IsMasked choice d level last → Owes ws w.rest.now new
+  Owes-end : (ws : List Waiting) (w : Waiting) (level last new : List ℕ) → IsMasked choice numbers d level last → Owes ws w.rest.now new
       → Owes (ws ++ w ∷ []) level (last ++ (w.padding.now ++ new))
   Owes-end [] w level last new ended h = (last, new, ended, h, refl)
   Owes-end (q ∷ ws) w level last new ended (inner, more, h, rest, parts) =
@@ -125,21 +126,25 @@ module _ (choice : Choice) (d : Dictionary) where
   pub record IsUnderWay (whole before now : List ℕ) (ws : List Waiting) (level : List ℕ) : Type 0 where
     pub added : List ℕ
     pub are : now ≡ before ++ added
-    pub goes_on : (new : List ℕ) → Owes ws level new → IsMasked choice d whole (added ++ new)
+    pub goes_on : (new : List ℕ) → Owes ws level new → IsMasked choice numbers d whole (added ++ new)
 
-  pub started : (whole before : List ℕ) → IsUnderWay whole before before [] whole
-  started whole before = record { added = []; are = sym (append-nil before); goes_on = λ new h. h }
+  pub started : (whole before : List ℕ) (ws : List Waiting) → ws ≡ [] → IsUnderWay whole before before ws whole
+  started whole before ws none = record {
+    added = [];
+    are = sym (append-nil before);
+    goes_on = λ new h. subst (λ (qs : List Waiting). Owes qs whole new) none h;
+  }
 
   longer : (before added more now : List ℕ) → now ≡ before ++ added → now ++ more ≡ before ++ (added ++ more)
   longer before added more now are = ap (λ (t : List ℕ). t ++ more) are ∙ append_assoc before added more
 
   pub leaf_added : (whole before now after : List ℕ) (ws : List Waiting) (level rest head padding : List ℕ) (v : PlainAvp) → IsUnderWay whole before now ws level
       → BeginsWith v level rest → IsAround v level rest head padding → group_at d v ≡ None
-      → Adds (IsLeafMasked (is_masked choice d v) (format_at d v) v.bytes padding) (now ++ head) after → IsUnderWay whole before after ws rest
+      → Adds (IsLeafMasked numbers (is_masked choice d v) (format_at d v) v.bytes padding) (now ++ head) after → IsUnderWay whole before after ws rest
   leaf_added whole before now after ws level rest head padding v u begins is_around no_group (middle, masked, is) = record {
     added = u.added ++ (head ++ middle);
     are = is ∙ append_assoc now head middle ∙ longer before u.added (head ++ middle) now u.are;
-    goes_on = λ new h. subst (IsMasked choice d whole) (sym (append_assoc u.added (head ++ middle) new))
+    goes_on = λ new h. subst (IsMasked choice numbers d whole) (sym (append_assoc u.added (head ++ middle) new))
         (u.goes_on ((head ++ middle) ++ new) (Owes-front ws level rest (head ++ middle) new
         (λ t k. leaf v rest head padding middle t begins is_around no_group masked k (append_assoc head middle t)) h));
   }
@@ -150,7 +155,7 @@ module _ (choice : Choice) (d : Dictionary) where
   group_entered whole before now after ws all w level head v g u begins is_around grouped is is_all = record {
     added = u.added ++ head;
     are = is ∙ longer before u.added head now u.are;
-    goes_on = λ new h. subst (IsMasked choice d whole) (sym (append_assoc u.added head new))
+    goes_on = λ new h. subst (IsMasked choice numbers d whole) (sym (append_assoc u.added head new))
         (u.goes_on (head ++ new) (Owes-group ws w level head new v g begins is_around grouped (subst (λ (qs : List Waiting). Owes qs v.bytes new) is_all h)));
   }
 
@@ -160,14 +165,14 @@ module _ (choice : Choice) (d : Dictionary) where
   level_ended whole before now middle after all ws w level u none (last, masked, is) is_after is_all = record {
     added = u.added ++ (last ++ w.padding.now);
     are = is_after ∙ ap (λ (t : List ℕ). t ++ w.padding.now) is ∙ append_assoc now last w.padding.now ∙ longer before u.added (last ++ w.padding.now) now u.are;
-    goes_on = λ new h. subst (IsMasked choice d whole)
+    goes_on = λ new h. subst (IsMasked choice numbers d whole)
         (ap (λ (t : List ℕ). u.added ++ t) (sym (append_assoc last w.padding.now new)) ∙ sym (append_assoc u.added (last ++ w.padding.now) new))
         (u.goes_on (last ++ (w.padding.now ++ new)) (subst (λ (qs : List Waiting). Owes qs level (last ++ (w.padding.now ++ new))) (sym is_all)
         (Owes-end ws w level last new (no_avp none masked) h)));
   }
 
   pub all_ended : (whole before now after : List ℕ) (ws : List Waiting) (level : List ℕ) → IsUnderWay whole before now ws level → length ws ≡ 0
-      → (length level ≡ 0) ⊎ BeginsWithNone level → Adds (IsNoAvpMasked level) now after → Adds (IsMasked choice d whole) before after
+      → (length level ≡ 0) ⊎ BeginsWithNone level → Adds (IsNoAvpMasked level) now after → Adds (IsMasked choice numbers d whole) before after
   all_ended whole before now after (w ∷ ws) level u no_more none added = absurd (omega arith)
   all_ended whole before now after [] level u no_more none (last, masked, is) =
       (u.added ++ last, u.goes_on last (no_avp none masked), is ∙ longer before u.added last now u.are)

@@ -1,7 +1,16 @@
 pub mod Alike
+pub mod Backwards
 pub mod Bytes
+pub mod Characters
+pub mod Choosing
 pub mod Faults
+pub mod Followed
 pub mod Judged
 pub mod Levels
+pub mod Maps
 pub mod Messages
+pub mod Numbers
+pub mod Replacing
+pub mod SaidAgain
+pub mod SameLengths
 pub mod Spelled

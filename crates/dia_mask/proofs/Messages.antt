@@ -8,7 +8,9 @@ use Rattle.dia_data.specs.Plain.{PlainFormat}
 use Rattle.dia_book.specs.Dictionary.{Dictionary, DictEntry, PlainDefinition, entry_of, group_place}
 use Rattle.dia_valid.specs.Valid.{group_at}
 use Rattle.dia_mask.specs.declared.choice.Choice.{Choice}
-use Rattle.dia_mask.specs.Masked.{Adds, IsLeafMasked, IsMasked, IsMessageMasked, IsNoAvpMasked, IsReplaced, bad_header, body_of, head, is_masked, masks, message, no_header, short, zeros}
+use Rattle.dia_mask.specs.Replaced.{IsReplaced, Numbering}
+use Rattle.dia_mask.specs.Choosing.{masks}
+use Rattle.dia_mask.specs.Masked.{Adds, IsLeafMasked, IsMasked, IsMessageMasked, IsNoAvpMasked, bad_header, body_of, head, is_masked, message, no_header, short, zeros}
 
 -- ---- which AVPs are groups
 
@@ -48,28 +50,18 @@ pub masked_as : (choice : Choice) (d : Dictionary) (v : PlainAvp) (key : Key) (e
     → b ≡ t → is_masked choice d v ≡ t
 masked_as choice d v key entry b t is known same answer = sym (is ∙ ap (masks choice) (known ∙ ap (entry_of d) same)) ∙ answer
 
-pub leaf_replaced : (masked : Bool) (format : Option PlainFormat) (bytes padding old other new : List ℕ) → masked ≡ true → IsReplaced format bytes other
-    → new ≡ (old ++ other) ++ zeros (length padding) → Adds (IsLeafMasked masked format bytes padding) old new
-leaf_replaced masked format bytes padding old other new is replaced added = (
+pub leaf_put : (numbers : Numbering) (masked : Bool) (format : Option PlainFormat) (bytes padding old new : List ℕ) → masked ≡ true
+    → (other : List ℕ) × IsReplaced numbers format bytes other × (new ≡ (old ++ other) ++ zeros (length padding)) → Adds (IsLeafMasked numbers masked format bytes padding) old new
+leaf_put numbers masked format bytes padding old new is (other, replaced, added) = (
   other ++ zeros (length padding),
-  subst (λ (b : Bool). IsLeafMasked b format bytes padding (other ++ zeros (length padding))) (sym is) (other, replaced, refl),
+  subst (λ (b : Bool). IsLeafMasked numbers b format bytes padding (other ++ zeros (length padding))) (sym is) (other, replaced, refl),
   added ∙ append_assoc old other (zeros (length padding)),
 )
 
-pub leaf_left : (masked : Bool) (format : Option PlainFormat) (bytes padding old new : List ℕ) → masked ≡ false → new ≡ (old ++ bytes) ++ padding
-    → Adds (IsLeafMasked masked format bytes padding) old new
-leaf_left masked format bytes padding old new is added =
-    (bytes ++ padding, subst (λ (b : Bool). IsLeafMasked b format bytes padding (bytes ++ padding)) (sym is) refl, added ∙ append_assoc old bytes padding)
-
-pub leaf_put : {T E : Type 0} (r : Result T E) (masked : Bool) (format : Option PlainFormat) (bytes padding old new : List ℕ) → masked ≡ true
-    → OnOk r ((other : List ℕ) × IsReplaced format bytes other × (new ≡ (old ++ other) ++ zeros (length padding))) → OnOk r (Adds (IsLeafMasked masked format bytes padding) old new)
-leaf_put (Ok u) masked format bytes padding old new is (other, replaced, added) = leaf_replaced masked format bytes padding old other new is replaced added
-leaf_put (Err e) masked format bytes padding old new is h = tt
-
-pub leaf_stays : {T E : Type 0} (r : Result T E) (masked : Bool) (format : Option PlainFormat) (bytes padding old new : List ℕ) → masked ≡ false
-    → OnOk r (new ≡ (old ++ bytes) ++ padding) → OnOk r (Adds (IsLeafMasked masked format bytes padding) old new)
-leaf_stays (Ok u) masked format bytes padding old new is added = leaf_left masked format bytes padding old new is added
-leaf_stays (Err e) masked format bytes padding old new is h = tt
+pub leaf_stays : (numbers : Numbering) (masked : Bool) (format : Option PlainFormat) (bytes padding old new : List ℕ) → masked ≡ false → new ≡ (old ++ bytes) ++ padding
+    → Adds (IsLeafMasked numbers masked format bytes padding) old new
+leaf_stays numbers masked format bytes padding old new is added =
+    (bytes ++ padding, subst (λ (b : Bool). IsLeafMasked numbers b format bytes padding (bytes ++ padding)) (sym is) refl, added ∙ append_assoc old bytes padding)
 
 pub no_head : (level old new : List ℕ) → length level < 8 → new ≡ old ++ zeros (length level) → Adds (IsNoAvpMasked level) old new
 no_head level old new few added = (zeros (length level), short few refl, added)
@@ -77,10 +69,10 @@ no_head level old new few added = (zeros (length level), short few refl, added)
 pub head_left : (level old new : List ℕ) → 8 ≤ length level → new ≡ (old ++ take 8 level) ++ zeros (length level - 8) → Adds (IsNoAvpMasked level) old new
 head_left level old new many added = (take 8 level ++ zeros (length level - 8), head many refl, added ∙ append_assoc old (take 8 level) (zeros (length level - 8)))
 
-module _ (choice : Choice) (d : Dictionary) (bytes : List ℕ) where
+module _ (choice : Choice) (numbers : Numbering) (d : Dictionary) (bytes : List ℕ) where
   pub message_masked : (n : ℕ) (old with_head with_body new : List ℕ) → BeginsMessage bytes n → with_head ≡ old ++ take 20 bytes
-      → Adds (IsMasked choice d (body_of bytes n)) with_head with_body → new ≡ with_body ++ zeros (length bytes - min (length bytes) n)
-      → Adds (IsMessageMasked choice d bytes) old new
+      → Adds (IsMasked choice numbers d (body_of bytes n)) with_head with_body → new ≡ with_body ++ zeros (length bytes - min (length bytes) n)
+      → Adds (IsMessageMasked choice numbers d bytes) old new
   message_masked n old with_head with_body new begins is_head (body, masked, is_body) is =
       let rest = zeros (length bytes - min (length bytes) n) in (
         take 20 bytes ++ (body ++ rest),
@@ -92,9 +84,9 @@ module _ (choice : Choice) (d : Dictionary) (bytes : List ℕ) where
       )
 
   pub header_left : (old new : List ℕ) → 20 ≤ length bytes → (slice_index bytes 0 ≢ 1) ⊎ (¬ IsMessageLength (number (take 3 (drop 1 bytes))))
-      → new ≡ (old ++ take 20 bytes) ++ zeros (length bytes - 20) → Adds (IsMessageMasked choice d bytes) old new
+      → new ≡ (old ++ take 20 bytes) ++ zeros (length bytes - 20) → Adds (IsMessageMasked choice numbers d bytes) old new
   header_left old new long bad is =
       (take 20 bytes ++ zeros (length bytes - 20), bad_header long bad refl, is ∙ append_assoc old (take 20 bytes) (zeros (length bytes - 20)))
 
-  pub all_left : (old new : List ℕ) → length bytes < 20 → new ≡ old ++ bytes → Adds (IsMessageMasked choice d bytes) old new
+  pub all_left : (old new : List ℕ) → length bytes < 20 → new ≡ old ++ bytes → Adds (IsMessageMasked choice numbers d bytes) old new
   all_left old new few is = (bytes, no_header few refl, is)

@@ -1,2 +1,10 @@
+pub mod Choosing
+pub mod Followed
+pub mod Kinds
 pub mod Masked
+pub mod Numbers
+pub mod Replaced
+pub mod Runs
+pub mod Texts
 pub mod Verdict
+pub mod Words

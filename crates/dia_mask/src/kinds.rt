@@ -1,6 +1,7 @@
 //! The kinds of characters that words of a text are made of.
 
-ghost use Rattle.std.specs.Prelude.{◌<◌, ◌≤◌};
+ghost use Rattle.std.specs.Prelude.{◌≡◌, ◌<◌, ◌≤◌, ◌+◌, ◌%◌, nat_lt, if◌then◌else◌};
+ghost use Rattle.std.specs.Char.{InScalarRange};
 
 /// A kind of characters. Each has an order, in which its characters are counted from 0.
 #[derive(Clone, Copy, PartialEq, Eq, Hash)]
@@ -16,14 +17,16 @@ pub(crate) enum Kind {
     Four,
 }
 
-/// How many surrogates precede U+E000, which are no characters.
-const SURROGATES: u32 = 0x800;
-
-const FIRST_SURROGATE: u32 = 0xd800;
+/// How many characters of three bytes precede the surrogates.
+const BEFORE_SURROGATES: u32 = 0xd000;
 
 impl Kind {
+    ghost use Rattle.dia_mask.specs.Kinds.{character_at, kind_of, size_of};
+
     /// The kind of a character, or none where it is no part of a word.
-    pub(crate) fn of(character: char) -> Option<Kind> {
+    pub(crate) fn of(character: char) -> Option<Kind>
+        ensures { result ≡ kind_of character }
+    {
         match character {
             '0'..='9' => Some(Kind::Digit),
             'a'..='z' => Some(Kind::Small),
@@ -37,6 +40,7 @@ impl Kind {
 
     /// How many characters are of this kind.
     pub(crate) fn count(self) -> u64
+        ensures size { result ≡ size_of self }
         ensures some { 0 < result }
         ensures few { result ≤ 1048576 }
     {
@@ -50,25 +54,39 @@ impl Kind {
     }
 
     /// The character at a place, where the first one follows the last.
-    pub(crate) fn character(self, place: u64) -> char {
+    pub(crate) fn character(self, place: u64) -> char
+        ensures { result ≡ character_at self (place % size_of self) }
+    {
         let place = (place % self.count()) as u32;
-        let code = match self {
+        let code = self.code(place);
+        char::from_u32(code).unwrap_or('0')
+    }
+
+    /// The code of the character at a place.
+    fn code(self, place: u32) -> u32
+        requires { place < size_of self }
+        ensures code { result ≡ character_at self place }
+        ensures scalar { InScalarRange result }
+    {
+        match self {
             Kind::Digit => 0x30 + place,
             Kind::Small => 0x61 + place,
             Kind::Capital => 0x41 + place,
             Kind::Two => 0x80 + place,
             Kind::Three => of_three_bytes(place),
             Kind::Four => 0x1_0000 + place,
-        };
-        char::from_u32(code).unwrap_or('0')
+        }
     }
 }
 
-fn of_three_bytes(place: u32) -> u32 {
-    let code = place.saturating_add(0x800);
-    if code < FIRST_SURROGATE {
-        code
+fn of_three_bytes(place: u32) -> u32
+    requires { place < 61440 }
+    ensures code { result ≡ (if nat_lt place 53248 then 2048 + place else 4096 + place) }
+    ensures scalar { InScalarRange result }
+{
+    if place < BEFORE_SURROGATES {
+        0x800 + place
     } else {
-        code.saturating_add(SURROGATES)
+        0x1000 + place
     }
 }

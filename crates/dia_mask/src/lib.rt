@@ -15,14 +15,17 @@ mod choice;
 mod counts;
 mod data;
 mod kinds;
+mod laws;
 mod message;
 #[cfg(test)]
 mod rows;
 mod texts;
 mod verdicts;
+mod ways;
 mod words;
 
 pub use choice::{Choice, can_be_masked};
 pub use counts::{AvpCount, Counts};
+pub use laws::{equal_words, never_left};
 pub use message::{Run, mask_message};
 pub use verdicts::same_verdict;

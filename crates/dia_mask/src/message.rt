@@ -4,7 +4,10 @@ ghost use Rattle.std.specs.Prelude.{◌≡◌, ◌++◌, ◌⊎◌, ℕ, List, I
 ghost use Rattle.dia_wire.specs.Wire.{BeginsWith, BeginsWithNone, plain_avp};
 ghost use Rattle.dia_valid.specs.Valid.{group_at};
 ghost use Rattle.dia_mask.specs.Masked.{Adds, IsAround, IsLeafMasked, IsMasked, IsMessageMasked, IsNoAvpMasked};
-ghost use Rattle.dia_mask.specs.Masked.{IsReplaced, format_at, is_masked, zeros};
+ghost use Rattle.dia_mask.specs.Masked.{format_at, is_masked, zeros};
+ghost use Rattle.dia_mask.specs.Replaced.{IsReplaced, Numbering};
+ghost use Rattle.dia_mask.specs.Texts.{Agrees};
+ghost use Rattle.dia_mask.specs.Words.{AreAllNumbers, Grows};
 ghost use Rattle.dia_mask.specs.Verdict.{IsJudgedAlike};
 ghost use Rattle.std.specs.Option.{option_map};
 ghost use Rattle.dia_data.specs.Plain.{plain_format};
@@ -27,7 +30,9 @@ pub struct Run {
 
 impl Run {
     /// No message was masked. With `collects` the counts have how many different values each AVP had, which takes memory for each.
-    pub fn new<B: Book>(alloc: Global, book: &B, collects: bool) -> Result<Run, AllocError> {
+    pub fn new<B: Book>(alloc: Global, book: &B, collects: bool) -> Result<Run, AllocError>
+        ensures { IfOk result (λ run. AreAllNumbers run.masking.words) }
+    {
         Ok(Run {
             masking: Masking::new(alloc),
             counts: Counts::new(alloc, book, collects)?,
@@ -64,8 +69,11 @@ pub fn mask_message<B: Book>(
     bytes: &[u8],
     out: &mut Vec<u8>,
 ) -> Result<(), AllocError>
-    ensures masked { OnOk result
-        (Adds (IsMessageMasked choice.now (B.meaning book.now) bytes.now) out.old.items out.new.items) }
+    // No word loses its number, and two words of one pattern have different ones.
+    ensures grows { OnOk result (Grows run.old.masking.words run.new.masking.words) }
+    // The data of exactly the masked AVPs are replaced, by the numbers of their words.
+    ensures masked { OnOk result ((numbers : Numbering) → Agrees run.new.masking.words numbers
+        → Adds (IsMessageMasked choice.now numbers (B.meaning book.now) bytes.now) out.old.items out.new.items) }
     // A check answers the same of both.
     ensures verdict { OnOk result
         (Adds (IsJudgedAlike (B.meaning book.now) bytes.now) out.old.items out.new.items) }
@@ -81,8 +89,9 @@ fn mask_bytes<B: Book>(
     bytes: &[u8],
     out: &mut Vec<u8>,
 ) -> Result<(), AllocError>
-    ensures { OnOk result
-        (Adds (IsMessageMasked choice.now (B.meaning book.now) bytes.now) out.old.items out.new.items) }
+    ensures grows { OnOk result (Grows run.old.masking.words run.new.masking.words) }
+    ensures masked { OnOk result ((numbers : Numbering) → Agrees run.new.masking.words numbers
+        → Adds (IsMessageMasked choice.now numbers (B.meaning book.now) bytes.now) out.old.items out.new.items) }
 {
     match read_header(bytes) {
         Ok((_, length)) => {
@@ -113,7 +122,9 @@ fn mask_level<B: Book>(
     level: &[u8],
     out: &mut Vec<u8>,
 ) -> Result<(), AllocError>
-    ensures { OnOk result (Adds (IsMasked choice.now (B.meaning book.now) level.now) out.old.items out.new.items) }
+    ensures grows { OnOk result (Grows run.old.masking.words run.new.masking.words) }
+    ensures masked { OnOk result ((numbers : Numbering) → Agrees run.new.masking.words numbers
+        → Adds (IsMasked choice.now numbers (B.meaning book.now) level.now) out.old.items out.new.items) }
 {
     let mut outer = Vec::new(alloc);
     let mut rest = level;
@@ -191,8 +202,9 @@ fn mask_leaf<B: Book>(
     padding: &[u8],
     out: &mut Vec<u8>,
 ) -> Result<(), AllocError>
-    ensures { OnOk result (Adds
-        (IsLeafMasked (is_masked choice.now (B.meaning book.now) (plain_avp avp.now))
+    ensures grows { OnOk result (Grows run.old.masking.words run.new.masking.words) }
+    ensures masked { OnOk result ((numbers : Numbering) → Agrees run.new.masking.words numbers
+        → Adds (IsLeafMasked numbers (is_masked choice.now (B.meaning book.now) (plain_avp avp.now))
         (format_at (B.meaning book.now) (plain_avp avp.now)) avp.now.bytes.now padding.now)
         out.old.items out.new.items) }
 {
@@ -214,8 +226,9 @@ fn push_replaced<B: Book>(
     padding: usize,
     out: &mut Vec<u8>,
 ) -> Result<(), AllocError>
-    ensures { OnOk result ((other : List ℕ)
-        × IsReplaced (format_at (B.meaning book.now) (plain_avp avp.now)) avp.now.bytes.now other
+    ensures grows { OnOk result (Grows run.old.masking.words run.new.masking.words) }
+    ensures put { OnOk result ((numbers : Numbering) → Agrees run.new.masking.words numbers → (other : List ℕ)
+        × IsReplaced numbers (format_at (B.meaning book.now) (plain_avp avp.now)) avp.now.bytes.now other
         × (out.new.items ≡ (out.old.items ++ other) ++ zeros padding)) }
 {
     run.masking.replace(alloc, format_of(book, avp), avp.bytes)?;
@@ -244,7 +257,8 @@ fn format_of<'b, B: Book>(book: &'b B, avp: &Avp<'_>) -> Option<&'b Format>
 
 /// Adds what is left of a level where no AVP begins: 8 bytes of a head, and then zeros. Fewer bytes are no head.
 fn push_no_avp(run: &mut Run, rest: &[u8], out: &mut Vec<u8>) -> Result<(), AllocError>
-    ensures { OnOk result (Adds (IsNoAvpMasked rest.now) out.old.items out.new.items) }
+    ensures added { OnOk result (Adds (IsNoAvpMasked rest.now) out.old.items out.new.items) }
+    ensures masking { run.new.masking ≡ run.old.masking }
 {
     if rest.len() < AVP_HEAD_LENGTH {
         return push_zeros(run, out, rest.len());
@@ -255,7 +269,8 @@ fn push_no_avp(run: &mut Run, rest: &[u8], out: &mut Vec<u8>) -> Result<(), Allo
 
 /// Adds zeros in place of so many bytes, and counts them.
 fn push_zeros(run: &mut Run, out: &mut Vec<u8>, count: usize) -> Result<(), AllocError>
-    ensures { OnOk result (out.new.items ≡ out.old.items ++ zeros count) }
+    ensures added { OnOk result (out.new.items ≡ out.old.items ++ zeros count) }
+    ensures masking { run.new.masking ≡ run.old.masking }
 {
     run.counts.zero(count);
     push_many(out, 0, count)

@@ -1,5 +1,15 @@
 //! The lines that were masked, and the one that is under way.
 
+ghost use Rattle.std.specs.Prelude.{◌≡◌, ◌++◌, ℕ, List, [], OnOk, codes, string_bytes};
+ghost use Rattle.hex.specs.Hex.{encode_lower};
+ghost use Rattle.dia_lines.specs.Lines.{IsLineInput};
+ghost use Rattle.dia_mask.specs.Masked.{Adds, IsMessageMasked};
+ghost use Rattle.dia_mask.specs.Replaced.{Numbering};
+ghost use Rattle.dia_mask.specs.Runs.{words_of};
+ghost use Rattle.dia_mask.specs.Texts.{Agrees};
+ghost use Rattle.dia_mask.specs.Words.{Grows};
+ghost use Rattle.dia_mask_text.specs.Lines.{IsLineMasked, why};
+
 use crate::spelling::{Unread, spell_line};
 use dia_dict::Book;
 use dia_io::Input;
@@ -61,7 +71,12 @@ impl State {
         line: &Input,
         space: &mut Vec<u8>,
         text: &mut String,
-    ) -> Result<(), AllocError> {
+    ) -> Result<(), AllocError>
+        ensures grows { OnOk result (Grows (words_of self.old.run) (words_of self.new.run)) }
+        ensures line { OnOk result ((numbers : Numbering) → Agrees (words_of self.new.run) numbers
+            → Adds (IsLineMasked manner.now.choice numbers (B.meaning manner.now.book.now) line.now)
+            (string_bytes text.old) (string_bytes text.new)) }
+    {
         let spelled = spell_line(alloc, line, space)?;
         match spelled {
             Ok(count) => self.mask(alloc, manner, &space[..count], text),
@@ -75,7 +90,12 @@ impl State {
         manner: &Manner<'_, B>,
         bytes: &[u8],
         text: &mut String,
-    ) -> Result<(), AllocError> {
+    ) -> Result<(), AllocError>
+        ensures grows { OnOk result (Grows (words_of self.old.run) (words_of self.new.run)) }
+        ensures message { OnOk result ((numbers : Numbering) → Agrees (words_of self.new.run) numbers
+            → (new : List ℕ) × IsMessageMasked manner.now.choice numbers (B.meaning manner.now.book.now) bytes.now new
+            × (string_bytes text.new ≡ string_bytes text.old ++ (encode_lower new ++ codes "\n"))) }
+    {
         self.masked.clear();
         mask_message(
             alloc,
@@ -87,10 +107,14 @@ impl State {
         )?;
         let digits = hex::encode(alloc, &self.masked)?;
         text.push_str(digits.as_str())?;
-        text.push('\n')
+        text.push('\n')?;
+        Ok(())
     }
 
-    fn refuse(&mut self, number: u64, unread: Unread, text: &mut String) -> Result<(), AllocError> {
+    fn refuse(&mut self, number: u64, unread: Unread, text: &mut String) -> Result<(), AllocError>
+        ensures run { self.new.run ≡ self.old.run }
+        ensures line { OnOk result (string_bytes text.new ≡ string_bytes text.old ++ (why unread ++ codes "\n")) }
+    {
         if self.unread == 0 {
             self.first_unread = number;
         }
@@ -156,7 +180,13 @@ impl Answered {
         alloc: Global,
         manner: &Manner<'_, B>,
         state: &mut State,
-    ) -> Result<(), AllocError> {
+    ) -> Result<(), AllocError>
+        ensures grows { OnOk result (Grows (words_of state.old.run) (words_of state.new.run)) }
+        ensures line { OnOk result ((numbers : Numbering) → Agrees (words_of state.new.run) numbers
+            → Adds (IsLineMasked manner.now.choice numbers (B.meaning manner.now.book.now) self.old.line)
+            (string_bytes self.old.text) (string_bytes self.new.text)) }
+        ensures begun { OnOk result (IsLineInput self.new.line []) }
+    {
         self.count = self.count.saturating_add(1);
         state.answer(
             alloc,
