@@ -9,7 +9,7 @@ COUNTED = ("missing", "too-many", "not-allowed")
 ORDERS = [
     [
         "undecided", "command", "application", "path", "commands", "first", "reason", "refused_application", "avp", "sent", "sent_min",
-        "sent_max", "behind", "accepted", "accepted_min", "accepted_max", "read", "in_header", "message",
+        "sent_max", "behind", "accepted", "accepted_min", "accepted_max", "read", "in_header", "message", "text",
     ],
     ["command", "application", "path"], ["name", "code", "vendor", "second"], ["code", "vendor"], ["lines", "causes", "accepted", "stale"],
     ["stale", "line"],
@@ -69,6 +69,8 @@ def line_of(answer):
 def wrong_in(answer, first, second):
     """What an object says besides its line that isn't so, by the AVPs of the two dictionaries."""
     reason = answer.get("reason")
+    if answer["text"] != line_of(answer)[0]:
+        return f"text, wanted {line_of(answer)[0]}"
     if answer["in_header"] != (reason in HEADERS):
         return "in_header"
     for way in ("sent", "accepted"):
