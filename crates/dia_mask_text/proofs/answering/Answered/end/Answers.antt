@@ -1,4 +1,4 @@
-use Rattle.std.proofs.Common.{List, ℕ, [], ◌∷◌}
+use Rattle.std.proofs.Common.{ℕ, [], ◌∷◌}
 use Rattle.std.specs.Prelude.{⊤}
 use Rattle.dia_lines.proofs.LinesUnderWay.{Ends-line, Ends-nothing, is_some}
 use Rattle.dia_mask_text.specs.Lines.{IsLineMasked, lines_of}

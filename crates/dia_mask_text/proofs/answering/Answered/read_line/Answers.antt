@@ -1,4 +1,4 @@
-use Rattle.std.proofs.Common.{List, ℕ, [], ◌∷◌, refl}
+use Rattle.std.proofs.Common.{ℕ, [], ◌∷◌, refl}
 use Rattle.std.specs.Prelude.{⊤}
 use Rattle.dia_lines.proofs.LinesUnderWay.{Reads-line}
 use Rattle.dia_mask_text.specs.declared.answering.Answered.{Answered}
