@@ -1,14 +1,14 @@
 //! The lines that were masked, and the one that is under way.
 
-ghost use Rattle.std.specs.Prelude.{◌≡◌, ◌++◌, ℕ, List, [], OnOk, codes, string_bytes};
+ghost use Rattle.std.specs.Prelude.{◌≡◌, ◌++◌, ◌+◌, ◌∷◌, ℕ, List, [], OnOk, codes, string_bytes};
 ghost use Rattle.hex.specs.Hex.{encode_lower};
-ghost use Rattle.dia_lines.specs.Lines.{IsLineInput};
+ghost use Rattle.dia_lines.specs.Lines.{IsLine, IsLineInput, line_feed, line_number};
 ghost use Rattle.dia_mask.specs.Masked.{Adds, IsMessageMasked};
 ghost use Rattle.dia_mask.specs.Replaced.{Numbering};
 ghost use Rattle.dia_mask.specs.Runs.{words_of};
 ghost use Rattle.dia_mask.specs.Texts.{Agrees};
 ghost use Rattle.dia_mask.specs.Words.{Grows};
-ghost use Rattle.dia_mask_text.specs.Lines.{IsLineMasked, why};
+ghost use Rattle.dia_mask_text.specs.Lines.{EndsMasked, IsLineMasked, ReadsMasked, why};
 
 use crate::spelling::{Unread, spell_line};
 use dia_dict::Book;
@@ -140,13 +140,19 @@ impl Answered {
         manner: &Manner<'_, B>,
         state: &mut State,
         piece: &[u8],
-    ) -> Result<(), AllocError> {
+    ) -> Result<(), AllocError>
+        ensures grows { OnOk result (Grows (words_of state.old.run) (words_of state.new.run)) }
+        ensures lines { OnOk result ((numbers : Numbering) → Agrees (words_of state.new.run) numbers
+            → (texts : List (List ℕ)) × ReadsMasked manner.now.choice numbers (B.meaning manner.now.book.now)
+            self.old self.new piece.now texts) }
+    {
         let mut rest = piece;
         while let Some((line, following)) = split_line(rest) {
             self.read_line(alloc, manner, state, line)?;
             rest = following;
         }
-        extend(&mut self.line, rest)
+        extend(&mut self.line, rest)?;
+        Ok(())
     }
 
     /// Answers the line that is under way, if there is one.
@@ -155,11 +161,17 @@ impl Answered {
         alloc: Global,
         manner: &Manner<'_, B>,
         state: &mut State,
-    ) -> Result<(), AllocError> {
+    ) -> Result<(), AllocError>
+        ensures grows { OnOk result (Grows (words_of state.old.run) (words_of state.new.run)) }
+        ensures lines { OnOk result ((numbers : Numbering) → Agrees (words_of state.new.run) numbers
+            → (texts : List (List ℕ)) × EndsMasked manner.now.choice numbers (B.meaning manner.now.book.now)
+            self.old self.new texts) }
+    {
         if is_empty(&self.line) {
             return Ok(());
         }
-        self.answer(alloc, manner, state)
+        self.answer(alloc, manner, state)?;
+        Ok(())
     }
 
     /// Answers the line that is under way with these bytes at its end.
@@ -169,9 +181,16 @@ impl Answered {
         manner: &Manner<'_, B>,
         state: &mut State,
         bytes: &[u8],
-    ) -> Result<(), AllocError> {
+    ) -> Result<(), AllocError>
+        requires { IsLine bytes.now }
+        ensures grows { OnOk result (Grows (words_of state.old.run) (words_of state.new.run)) }
+        ensures lines { OnOk result ((numbers : Numbering) → Agrees (words_of state.new.run) numbers
+            → (texts : List (List ℕ)) × ReadsMasked manner.now.choice numbers (B.meaning manner.now.book.now)
+            self.old self.new (bytes.now ++ line_feed ∷ []) texts) }
+    {
         extend(&mut self.line, bytes)?;
-        self.answer(alloc, manner, state)
+        self.answer(alloc, manner, state)?;
+        Ok(())
     }
 
     /// Answers the line that is under way, and begins the next one.
@@ -186,6 +205,7 @@ impl Answered {
             → Adds (IsLineMasked manner.now.choice numbers (B.meaning manner.now.book.now) self.old.line)
             (string_bytes self.old.text) (string_bytes self.new.text)) }
         ensures begun { OnOk result (IsLineInput self.new.line []) }
+        ensures count { OnOk result (self.new.count ≡ line_number (self.old.count + 1)) }
     {
         self.count = self.count.saturating_add(1);
         state.answer(

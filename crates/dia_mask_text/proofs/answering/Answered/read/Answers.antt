@@ -1,0 +1,55 @@
+use Rattle.std.proofs.Common.{List, ℕ, [], ◌∷◌, ◌++◌, refl, sym, subst}
+use Rattle.std.specs.Prelude.{⊤}
+use Rattle.dia_lines.specs.Lines.{line_feed}
+use Rattle.dia_lines.specs.UnderWay.{Reads}
+use Rattle.dia_lines.proofs.LinesUnderWay.{Reads-both, Reads-nothing, Reads-rest, next_line}
+use Rattle.dia_mask.specs.Runs.{words_of}
+use Rattle.dia_mask.proofs.Characters.{agrees_before, grows_on, no_more}
+use Rattle.dia_mask_text.specs.declared.answering.Answered.{Answered}
+use Rattle.dia_mask_text.specs.Lines.{IsLineMasked, lines_of}
+use Rattle.dia_mask_text.proofs.answering.Answered.read.Goals as goal
+
+pub loop-line-init : goal.loop-line-init
+loop-line-init g c = (
+  no_more (words_of c.args.state.now.run),
+  (
+    [],
+    refl,
+    λ numbers agrees. (
+      [],
+      Reads-nothing (IsLineMasked c.args.manner.now.choice numbers (g.B.Book.meaning c.args.manner.now.book.now)) (λ n text. text) (λ (w : ℕ) given. ⊤) (lines_of c.args.self.now) 0,
+    ),
+  ),
+)
+
+pub loop-line-preserved : goal.loop-line-preserved
+loop-line-preserved g c =
+    let (grown, (done, parts, reads)) = c.loop-line.invariant in
+    let e = c.in_ok-read_line.ensures in
+    let old = words_of c.loop-line.state.run in
+    let new = words_of c.read_line.new.state.run in
+    let line : List ℕ = c.in-Some.line.now ++ line_feed ∷ [] in (
+      grows_on (words_of c.args.state.now.run) old new grown e.grows,
+      (
+        done ++ line,
+        next_line c.args.piece.now done c.loop-line.rest.now c.in-Some.line.now c.in-Some.following.now parts c.in-Some.ensures.some,
+        λ numbers agrees.
+            let (texts, before) = reads numbers (agrees_before old new numbers e.grows agrees) in
+            let (more, after) = e.lines numbers agrees in (
+              texts ++ more,
+              Reads-both (IsLineMasked c.args.manner.now.choice numbers (g.B.Book.meaning c.args.manner.now.book.now)) (λ n text. text) (λ (w : ℕ) given. ⊤) (lines_of c.args.self.now)
+                  (lines_of c.loop-line.self) (lines_of c.read_line.new.self) 0 0 0 done line texts more before after,
+            ),
+      ),
+    )
+
+pub returns-clause-lines : goal.returns-clause-lines
+returns-clause-lines g c =
+    let (grown, (done, parts, reads)) = c.loop-line.invariant in
+    let now : Answered = record { line = c.extend.new.line; count = c.loop-line.self.count; space = c.loop-line.self.space; text = c.loop-line.self.text } in
+    λ numbers agrees.
+    let P = IsLineMasked c.args.manner.now.choice numbers (g.B.Book.meaning c.args.manner.now.book.now) in
+    let (texts, before) = reads numbers agrees in
+    let after = Reads-rest P (λ n text. text) (λ (w : ℕ) given. ⊤) (lines_of c.loop-line.self) (lines_of now) 0 c.loop-line.rest.now (c.in_default.ensures.none refl) c.in_ok-extend.ensures refl refl in
+    let both = Reads-both P (λ n text. text) (λ (w : ℕ) given. ⊤) (lines_of c.args.self.now) (lines_of c.loop-line.self) (lines_of now) 0 0 0 done c.loop-line.rest.now texts [] before after in
+    (texts ++ [], subst (λ (bytes : List ℕ). Reads P (λ n text. text) (λ (w : ℕ) given. ⊤) (lines_of c.args.self.now) (lines_of now) 0 0 bytes (texts ++ [])) (sym parts) both)
