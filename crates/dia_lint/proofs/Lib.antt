@@ -7,4 +7,5 @@ pub mod InRange
 pub mod MadeAvps
 pub mod MadeLevels
 pub mod Messages
+pub mod Places
 pub mod Reported

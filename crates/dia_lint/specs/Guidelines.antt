@@ -115,9 +115,12 @@ no_proxy_info def head rules =
 
 -- ---- results
 
--- an application of a vendor: from 2 ^ 24 on (RFC 3588 section 11.3)
+-- the first Application-ID of vendors (RFC 3588 section 11.3)
+abbrev pub first_of_vendors : ℕ
+first_of_vendors = 16777216
+
 abbrev pub is_of_vendor : Head → Bool
-is_of_vendor head = option_map_or (λ app. nat_le 16777216 app) head.app false
+is_of_vendor head = option_map_or (λ app. nat_le first_of_vendors app) head.app false
 
 -- an answer has Result-Code; in a vendor's application it may have Experimental-Result (RFC 6733 sections 7.1 and 7.6)
 abbrev pub no_result : ℕ → Head → List DRule → Option Finding
@@ -146,14 +149,23 @@ no_session def head rules =
 
 -- ---- numbers
 
--- Command Codes for experiments (RFC 6733 section 3)
+-- the Command Codes for experiments (RFC 6733 section 3)
+abbrev pub first_experimental : ℕ
+first_experimental = 16777214
+
+abbrev pub last_experimental : ℕ
+last_experimental = 16777215
+
 abbrev pub reserved_code : ℕ → Head → Option Finding
 reserved_code def head =
-    option_and_then (λ code. only_if (nat_eq code 16777214 || nat_eq code 16777215) (at_head def rule.Reserved (detail.ForExperiments code))) head.code
+    option_and_then (λ code. only_if (nat_eq code first_experimental || nat_eq code last_experimental) (at_head def rule.Reserved (detail.ForExperiments code))) head.code
 
 -- the Application-ID of relays (RFC 6733 section 2.4)
+abbrev pub app_of_relays : ℕ
+app_of_relays = 4294967295
+
 abbrev pub reserved_app : ℕ → Head → Option Finding
-reserved_app def head = only_if (option_eq nat_eq head.app (Some 4294967295)) (at_head def rule.Reserved detail.OfRelays)
+reserved_app def head = only_if (option_eq nat_eq head.app (Some app_of_relays)) (at_head def rule.Reserved detail.OfRelays)
 
 -- ---- extensions (RFC 7423 section 5.2)
 

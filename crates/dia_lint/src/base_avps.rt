@@ -20,7 +20,7 @@ pub enum BaseAvp {
 
 impl BaseAvp {
     ghost use Rattle.std.specs.Prelude.{◌≡◌};
-    ghost use Rattle.dia_lint.specs.BaseAvps.{base_code, base_key};
+    ghost use Rattle.dia_lint.specs.BaseAvps.{base_code, base_key, base_name};
 
     /// The AVP's code (RFC 6733 section 4.5).
     pub fn code(self) -> u32
@@ -42,7 +42,9 @@ impl BaseAvp {
     }
 
     /// The AVP's name (RFC 6733 section 4.5).
-    pub fn name(self) -> &'static str {
+    pub fn name(self) -> &'static str
+        ensures { result.now ≡ base_name self }
+    {
         match self {
             BaseAvp::AuthSessionState => "Auth-Session-State",
             BaseAvp::DestinationHost => "Destination-Host",

@@ -1,4 +1,6 @@
 //! The AVPs of the base protocol (RFC 6733 section 4.5).
+ghost use Rattle.std.specs.Prelude.{◌≡◌, map};
+ghost use Rattle.dia_lint.specs.BaseTable.{base_rows, plain_row};
 
 use dia_terms::{FormatName, MRule};
 
@@ -12,6 +14,10 @@ pub struct BaseRow {
 }
 
 impl BaseRow {
+    ghost use Rattle.std.specs.Prelude.{◌≡◌, slice_get};
+    ghost use Rattle.std.specs.Option.{option_map};
+    ghost use Rattle.dia_lint.specs.BaseTable.{base_rows, plain_row};
+
     /// How many AVPs there are.
     pub const COUNT: usize = 49;
 
@@ -312,4 +318,23 @@ impl BaseRow {
             m: MRule::Must,
         },
     ];
+
+    /// The AVP at a place of the table, from 0.
+    pub fn at(place: usize) -> Option<&'static BaseRow>
+        ensures { option_map (λ row. plain_row row.now) result ≡ slice_get base_rows place }
+    {
+        match base_rows().get(place) {
+            Some(row) => Some(row),
+            None => None,
+        }
+    }
+}
+
+static BASE_ROWS: [BaseRow; 49] = BaseRow::ALL;
+
+/// The AVPs, by their codes.
+fn base_rows() -> &'static [BaseRow]
+    ensures { map plain_row result.now ≡ base_rows }
+{
+    BASE_ROWS.as_slice()
 }

@@ -29,6 +29,6 @@ pub use exact::exact_findings;
 pub use finding::{Finding, Named, Place, Subject};
 pub use guidelines::{command_guidelines, group_guidelines, guideline_findings};
 pub use own_rules::rule_findings;
-pub use rule::{RULE_COUNT, RULES, Rule, RuleSet};
+pub use rule::{RULE_COUNT, Rule, RuleSet, all_rules};
 pub use same_commands::command_findings;
 pub use twice::range_findings;

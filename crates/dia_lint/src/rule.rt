@@ -1,5 +1,8 @@
 //! The rules of `lint`, by their words, sets and sections.
 
+ghost use Rattle.std.specs.Prelude.{◌≡◌};
+ghost use Rattle.dia_lint.specs.Words.{rules};
+
 /// A rule of `lint`, in the order in which findings of one place are reported.
 #[derive(Clone, Copy)]
 pub enum Rule {
@@ -47,7 +50,7 @@ pub enum RuleSet {
 pub const RULE_COUNT: usize = 27;
 
 /// All rules, in their order.
-pub const RULES: [Rule; RULE_COUNT] = [
+static RULES: [Rule; RULE_COUNT] = [
     Rule::NoMessage,
     Rule::NoLevel,
     Rule::NeverStands,
@@ -77,9 +80,24 @@ pub const RULES: [Rule; RULE_COUNT] = [
     Rule::ClosedGroup,
 ];
 
+/// All rules, in their order.
+pub fn all_rules() -> &'static [Rule]
+    ensures { result.now ≡ rules }
+{
+    RULES.as_slice()
+}
+
 impl RuleSet {
+    ghost use Rattle.std.specs.Prelude.{◌≡◌};
+    ghost use Rattle.dia_terms.specs.Names.{same_bytes};
+    ghost use Rattle.dia_lint.specs.Words.{set_named, set_word};
+
+    const ALL: [RuleSet; 3] = [RuleSet::Exact, RuleSet::Guidelines, RuleSet::More];
+
     /// The word of the set.
-    pub fn word(self) -> &'static str {
+    pub fn word(self) -> &'static str
+        ensures { result.now ≡ set_word self }
+    {
         match self {
             RuleSet::Exact => "exact",
             RuleSet::Guidelines => "guidelines",
@@ -88,19 +106,28 @@ impl RuleSet {
     }
 
     /// The set of a word.
-    pub fn named(word: &str) -> Option<RuleSet> {
-        match word {
-            "exact" => Some(RuleSet::Exact),
-            "guidelines" => Some(RuleSet::Guidelines),
-            "more" => Some(RuleSet::More),
-            _ => None,
-        }
+    pub fn named(word: &str) -> Option<RuleSet>
+        ensures { result ≡ set_named word.now }
+    {
+        RuleSet::ALL.iter().copied().find(|set| set.is_named(word))
+    }
+
+    fn is_named(self, word: &str) -> bool
+        ensures { result ≡ same_bytes word.now (set_word self) }
+    {
+        word == self.word()
     }
 }
 
 impl Rule {
+    ghost use Rattle.std.specs.Prelude.{◌≡◌};
+    ghost use Rattle.std.specs.Option.{option_map};
+    ghost use Rattle.dia_lint.specs.Words.{names_rule, rule_named, rule_number, rule_word, section_of, set_of};
+
     /// The word of the rule.
-    pub fn word(self) -> &'static str {
+    pub fn word(self) -> &'static str
+        ensures { result.now ≡ rule_word self }
+    {
         match self {
             Rule::NoMessage => "no-message",
             Rule::NoLevel => "no-level",
@@ -133,12 +160,16 @@ impl Rule {
     }
 
     /// The place of the rule among all, from 0.
-    pub fn number(self) -> u8 {
+    pub fn number(self) -> u8
+        ensures { result ≡ rule_number self }
+    {
         self as u8
     }
 
     /// The set that the rule is in.
-    pub fn set(self) -> RuleSet {
+    pub fn set(self) -> RuleSet
+        ensures { result ≡ set_of self }
+    {
         match self {
             Rule::NoMessage
             | Rule::NoLevel
@@ -152,7 +183,9 @@ impl Rule {
     }
 
     /// Where a guideline comes from.
-    pub fn section(self) -> Option<&'static str> {
+    pub fn section(self) -> Option<&'static str>
+        ensures { option_map (λ text. text.now) result ≡ section_of self }
+    {
         match self {
             Rule::NoAnswer | Rule::NoRequest => Some("RFC 6733 3.1"),
             Rule::PDiffers => Some("RFC 6733 6.2, 7.2"),
@@ -207,12 +240,15 @@ impl Rule {
     }
 
     /// The rule of a word.
-    pub fn named(word: &str) -> Option<Rule> {
-        for rule in RULES {
-            if rule.word() == word {
-                return Some(rule);
-            }
-        }
-        None
+    pub fn named(word: &str) -> Option<Rule>
+        ensures { result ≡ rule_named word.now }
+    {
+        all_rules().iter().copied().find(|rule| rule.is_named(word))
+    }
+
+    fn is_named(self, word: &str) -> bool
+        ensures { result ≡ names_rule word.now self }
+    {
+        word == self.word()
     }
 }

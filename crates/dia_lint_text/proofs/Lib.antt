@@ -1,1 +1,12 @@
-pub mod InRange
+pub mod Chosen
+pub mod Colons
+pub mod Commas
+pub mod Counts
+pub mod Cursors
+pub mod Entries
+pub mod Joined
+pub mod Left
+pub mod Orders
+pub mod Outcomes
+pub mod RowsMore
+pub mod Searches

@@ -1,0 +1,9 @@
+pub mod Asking
+pub mod Cursors
+pub mod Forms
+pub mod Lines
+pub mod Listed
+pub mod Lists
+pub mod Names
+pub mod Outcome
+pub mod Rows

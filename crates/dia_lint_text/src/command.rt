@@ -1,28 +1,39 @@
 //! The command, from its inputs to what is written.
 
-ghost use Rattle.std.specs.Prelude.{◌≡◌, ◌↔◌, ℕ, List, Err, IfOk, IsTrue};
+ghost use Rattle.std.specs.Prelude.{◌≡◌, ◌↔◌, ℕ, List, Err, IfOk, IsTrue, None, Some, map, string_bytes};
 ghost use Rattle.std.specs.Io.KnownBytes.{Appends};
+ghost use Rattle.std.specs.Str.{IsUtf8};
+ghost use Rattle.dia_accepted.specs.Accepted.{plain_entry};
+ghost use Rattle.dia_ccf.specs.Plain.{plain_source};
+ghost use Rattle.dia_io.specs.declared.Exit.{Exit as AnyExit};
 ghost use Rattle.dia_io.specs.Writing.{AppendsFront};
+ghost use Rattle.dia_lint.specs.Words.{rules};
+ghost use Rattle.dia_lint.specs.declared.finding.Finding.{Finding as AnyFinding};
+ghost use Rattle.dia_lint_text.specs.Asking.{is_asked, question, stranger};
+ghost use Rattle.dia_lint_text.specs.Lines.{exit_of};
+ghost use Rattle.dia_lint_text.specs.Outcome.{AreFindings, IsLintOutcome, IsListing, bad_text, no_dictionary_text, no_list_text};
+ghost use Rattle.dia_lint_text.specs.Outcome.{no_rule_text};
+ghost use Rattle.dia_refused_json.specs.Refusals.{text_of};
+ghost use Rattle.dia_run.specs.Texts.{IsDictionaryText, IsSourceText};
 
 use crate::accepted::{BadList, read_accepted};
 use crate::asked::Asked;
 use crate::choice::Choice;
-use crate::json::{bad_list_line, no_rule_line};
 use crate::listing::{Listing, list_findings};
 use crate::notes::{explain, explain_list, explain_words};
+use crate::objects::{bad_list_line, no_rule_line};
 use crate::parts::Parts;
 use crate::sorting::rows;
-use crate::words::Names;
 use dia_accepted::Entry;
 use dia_book::Book;
-use dia_explain_places::place_of;
+use dia_dict::IndexedBook;
 use dia_io::{Exit, Input, Inputs, RunFault, Sink, put_all};
 use dia_lint::{
     Finding, command_findings, exact_findings, guideline_findings, range_findings, rule_findings,
 };
 use dia_policy::Unknown;
-use dia_refused_json::{refuse, text_of};
-use dia_report::{Answered, ReadBook, Refused, Report, Reported};
+use dia_refused_json::{bad_input_line, text_of};
+use dia_report::{Answered, BadInput, ReadBook, Refused, Report, Reported};
 use dia_run::read_dictionary;
 use std::alloc::{AllocError, Global};
 
@@ -39,10 +50,13 @@ pub fn write_lint<S: Sink>(
     sink: &mut S,
 ) -> Result<Reported, RunFault>
     requires { ¬ IsTrue (S.has_failed sink.old) }
-    ensures text { IfOk result (λ reported. (text : List ℕ) × Appends (S.written sink.old) (S.written sink.new) text) }
+    ensures text { IfOk result (λ reported. (text : List ℕ)
+        × IsLintOutcome (question asked.now) inputs.now text reported.exit
+        × Appends (S.written sink.old) (S.written sink.new) text) }
     ensures device { (result ≡ Err RunFault.Device) ↔ IsTrue (S.has_failed sink.new) }
     ensures front { result ≡ Err RunFault.Device
-        → (text : List ℕ) × AppendsFront (S.written sink.old) (S.written sink.new) text }
+        → (text : List ℕ) × (exit : AnyExit) × IsLintOutcome (question asked.now) inputs.now text exit
+        × AppendsFront (S.written sink.old) (S.written sink.new) text }
     ensures no_memory { result ≡ Err RunFault.NoMemory → S.written sink.new ≡ S.written sink.old }
 {
     let Answered { text, exit, report } = answer(alloc, asked, inputs, notes)?;
@@ -56,14 +70,31 @@ fn answer(
     asked: &Asked<'_>,
     inputs: &Inputs,
     notes: &mut String,
-) -> Result<Answered, AllocError> {
-    let choice = match Choice::of(asked) {
-        Ok(choice) => choice,
-        Err(word) => return no_rule(alloc, asked, notes, word),
-    };
+) -> Result<Answered, AllocError>
+    ensures { IfOk result (λ a. IsLintOutcome (question asked.now) inputs.now (string_bytes a.text) a.exit) }
+{
+    match Choice::of(alloc, asked)? {
+        Ok(choice) => by_choice(alloc, asked, inputs, notes, &choice),
+        Err(word) => no_rule(alloc, asked, inputs, notes, word),
+    }
+}
+
+/// The answer where each word names a rule.
+fn by_choice(
+    alloc: Global,
+    asked: &Asked<'_>,
+    inputs: &Inputs,
+    notes: &mut String,
+    choice: &Choice,
+) -> Result<Answered, AllocError>
+    requires chosen { choice.now.chosen.items ≡ map (is_asked (question asked.now)) rules }
+    requires known { stranger (question asked.now) ≡ None }
+    ensures { IfOk result (λ a. IsLintOutcome (question asked.now) inputs.now (string_bytes a.text) a.exit) }
+{
     match read_dictionary(alloc, 1, &inputs.first) {
-        Ok(read) => over_book(alloc, asked, inputs, notes, &choice, &read),
-        Err(refused) => refuse_dictionary(alloc, asked, &inputs.first, refused),
+        Ok(read) => over_book(alloc, asked, inputs, notes, choice, &read),
+        Err(Refused::Bad(bad)) => no_dictionary(alloc, asked.json, &inputs.first, bad),
+        Err(Refused::NoMemory) => Err(AllocError),
     }
 }
 
@@ -75,7 +106,13 @@ fn over_book(
     notes: &mut String,
     choice: &Choice,
     read: &ReadBook,
-) -> Result<Answered, AllocError> {
+) -> Result<Answered, AllocError>
+    requires chosen { choice.now.chosen.items ≡ map (is_asked (question asked.now)) rules }
+    requires known { stranger (question asked.now) ≡ None }
+    requires source { IsSourceText inputs.now.first (plain_source read.now.source) }
+    requires book { IsDictionaryText inputs.now.first (⟦<IndexedBook as Book>⟧.meaning read.now.book) }
+    ensures { IfOk result (λ a. IsLintOutcome (question asked.now) inputs.now (string_bytes a.text) a.exit) }
+{
     match read_accepted(alloc, &inputs.table, choice)? {
         Ok(list) => {
             let listing = listing_of(alloc, asked, inputs, choice, read, &list)?;
@@ -87,13 +124,16 @@ fn over_book(
 }
 
 /// The text of an input that was read.
-fn spelt(input: &Input) -> &str {
+fn spelt(input: &Input) -> &str
+    ensures { IsUtf8 (text_of input.now) → result.now ≡ text_of input.now }
+{
     match str::from_utf8(text_of(input)) {
         Ok(text) => text,
         Err(_) => "",
     }
 }
 
+/// The listing of a dictionary.
 fn listing_of(
     alloc: Global,
     asked: &Asked<'_>,
@@ -101,32 +141,45 @@ fn listing_of(
     choice: &Choice,
     read: &ReadBook,
     list: &[Entry],
-) -> Result<Listing, AllocError> {
+) -> Result<Listing, AllocError>
+    requires chosen { choice.now.chosen.items ≡ map (is_asked (question asked.now)) rules }
+    requires text { IsUtf8 (text_of inputs.now.first) }
+    ensures { IfOk result (λ listing. (found : List AnyFinding)
+        × AreFindings (⟦<IndexedBook as Book>⟧.meaning read.now.book) asked.now.unknown found
+        × IsListing (question asked.now) (⟦<IndexedBook as Book>⟧.meaning read.now.book) read.now.source (text_of inputs.now.first) found
+        (map plain_entry list.now) (string_bytes listing.text)
+        (exit_of (map (λ s. s.rule) listing.shown.items) (map plain_entry listing.stale.items))) }
+{
     let text = spelt(&inputs.first);
-    let names = Names {
-        book: &read.book,
-        parts: Parts::of(alloc, &read.source, &read.book)?,
-    };
+    let parts = Parts::of(alloc, &read.source, &read.book)?;
     let findings = findings(alloc, &read.book, asked.unknown)?;
-    let rows = rows(alloc, &names, text, &findings, choice)?;
-    list_findings(alloc, asked, &names, text, &findings, &rows, list)
+    let rows = rows(alloc, &parts, text, &findings, choice)?;
+    list_findings(alloc, asked, &parts, text, &findings, &rows, list)
 }
 
 /// All findings of a dictionary.
-fn findings<B: Book>(
-    alloc: Global,
-    book: &B,
-    unknown: Unknown,
-) -> Result<Vec<Finding>, AllocError> {
+fn findings<B: Book>(alloc: Global, book: &B, unknown: Unknown) -> Result<Vec<Finding>, AllocError>
+    ensures { IfOk result (λ found. AreFindings (B.meaning book.now) unknown found.items) }
+{
     let mut all = exact_findings(alloc, book, unknown)?;
-    all.extend_from_slice(&command_findings(alloc, book)?)?;
+    let others = others(alloc, book)?;
+    all.extend_from_slice(&others)?;
+    Ok(all)
+}
+
+/// Those that don't follow from what messages have.
+fn others<B: Book>(alloc: Global, book: &B) -> Result<Vec<Finding>, AllocError> {
+    let mut all = command_findings(alloc, book)?;
     all.extend_from_slice(&range_findings(alloc, book)?)?;
     all.extend_from_slice(&rule_findings(alloc, book)?)?;
     all.extend_from_slice(&guideline_findings(alloc, book)?)?;
     Ok(all)
 }
 
-fn listed(listing: Listing) -> Answered {
+fn listed(listing: Listing) -> Answered
+    ensures text { result.text ≡ listing.text }
+    ensures exit { result.exit ≡ exit_of (map (λ s. s.rule) listing.shown.items) (map plain_entry listing.stale.items) }
+{
     let exit = if listing.is_empty() {
         Exit::Yes
     } else {
@@ -143,16 +196,26 @@ fn listed(listing: Listing) -> Answered {
 fn no_rule(
     alloc: Global,
     asked: &Asked<'_>,
+    inputs: &Inputs,
     notes: &mut String,
     word: &str,
-) -> Result<Answered, AllocError> {
-    let text = if asked.json {
-        no_rule_line(alloc, word)?
-    } else {
-        format!(in alloc; "lint: no rule {word}\n")?
-    };
+) -> Result<Answered, AllocError>
+    requires { stranger (question asked.now) ≡ Some word.now }
+    ensures { IfOk result (λ a. IsLintOutcome (question asked.now) inputs.now (string_bytes a.text) a.exit) }
+{
+    let text = no_rule_text(alloc, asked.json, word)?;
     explain_words(alloc, notes);
     Ok(bad(text, Report::Done))
+}
+
+fn no_rule_text(alloc: Global, json: bool, word: &str) -> Result<String, AllocError>
+    ensures { IfOk result (λ text. string_bytes text ≡ no_rule_text json word.now) }
+{
+    if json {
+        no_rule_line(alloc, word)
+    } else {
+        format!(in alloc; "lint: no rule {word}\n")
+    }
 }
 
 /// The line of a list that is refused.
@@ -162,38 +225,48 @@ fn no_list(
     inputs: &Inputs,
     notes: &mut String,
     why: BadList,
-) -> Result<Answered, AllocError> {
+) -> Result<Answered, AllocError>
+    ensures text { IfOk result (λ a. string_bytes a.text ≡ no_list_text asked.now.json inputs.now.table why) }
+    ensures exit { IfOk result (λ a. a.exit ≡ Exit.Bad) }
+{
     let list = text_of(&inputs.table);
-    let text = if asked.json {
-        let place = why.offset().map(|at| place_of(list, at));
-        bad_list_line(alloc, why, place)?
-    } else {
-        format!(in alloc; "accepted: {why}\n")?
-    };
+    let text = no_list_text(alloc, asked.json, list, why)?;
     explain_list(alloc, notes, list, why);
     Ok(bad(text, Report::Done))
 }
 
-/// The line of a dictionary that is refused.
-fn refuse_dictionary(
-    alloc: Global,
-    asked: &Asked<'_>,
-    input: &Input,
-    refused: Refused,
-) -> Result<Answered, AllocError> {
-    if asked.json {
-        return refuse(alloc, input, refused);
-    }
-    match refused {
-        Refused::Bad(why) => {
-            let text = format!(in alloc; "{why}\n")?;
-            Ok(bad(text, Report::Refused(why)))
-        }
-        Refused::NoMemory => Err(AllocError),
+fn no_list_text(alloc: Global, json: bool, list: &[u8], why: BadList) -> Result<String, AllocError>
+    ensures { IfOk result (λ text. string_bytes text ≡ bad_text json list.now why) }
+{
+    if json {
+        bad_list_line(alloc, list, why)
+    } else {
+        format!(in alloc; "accepted: {why}\n")
     }
 }
 
-fn bad(text: String, report: Report) -> Answered {
+/// The line of a dictionary that is refused.
+fn no_dictionary(
+    alloc: Global,
+    json: bool,
+    input: &Input,
+    why: BadInput,
+) -> Result<Answered, AllocError>
+    ensures text { IfOk result (λ a. string_bytes a.text ≡ no_dictionary_text json input.now why) }
+    ensures exit { IfOk result (λ a. a.exit ≡ Exit.Bad) }
+{
+    let text = if json {
+        bad_input_line(alloc, input, &why)?
+    } else {
+        format!(in alloc; "{why}\n")?
+    };
+    Ok(bad(text, Report::Refused(why)))
+}
+
+fn bad(text: String, report: Report) -> Answered
+    ensures text { result.text ≡ text }
+    ensures exit { result.exit ≡ Exit.Bad }
+{
     Answered {
         text,
         exit: Exit::Bad,

@@ -1,4 +1,13 @@
 //! The form of an accepted line: `RULE SUBJECT: DETAIL`.
+ghost use Rattle.std.specs.Prelude.{◌≡◌, ◌==◌, IfErr, IfOk, None, Some, unwrap_or};
+ghost use Rattle.std.specs.Char.{is_ascii_digit};
+ghost use Rattle.std.specs.List.{after_first, list_all};
+ghost use Rattle.std.specs.Option.{option_map};
+ghost use Rattle.dia_accepted.specs.Words.{before_hash, ends_blank, entry_text};
+ghost use Rattle.dia_lint_text.specs.Forms.{plain_form};
+ghost use Rattle.dia_lint_text.specs.Lists.{after_first_place, after_place, after_space, faulty_rest, form_of, is_number};
+ghost use Rattle.dia_lint_text.specs.Lists.{is_of_subject, is_subject, rule_and_rest, split_at, subject_and_detail};
+ghost use Rattle.dia_lint_text.specs.Lists.{after_column, without_place};
 
 use dia_lint::Rule;
 
@@ -13,34 +22,45 @@ pub(crate) struct Form<'a> {
 
 /// The entry of a line, without a comment, which begins with the first `#` if white space or nothing precedes it, and without white
 /// space at its end.
-pub(crate) fn entry_text(line: &str) -> &str {
-    let before = match line.split_once('#') {
-        Some((before, _)) => before,
-        None => line,
-    };
-    let entry = before.trim_end();
-    if entry.len() < before.len() || entry.is_empty() {
-        entry
+pub(crate) fn entry_text(line: &str) -> &str
+    ensures { result.now ≡ entry_text line.now }
+{
+    let before = before_hash(line);
+    if ends_blank(before) {
+        before.trim_end()
     } else {
         line.trim_end()
     }
 }
 
-/// The parts of an entry; or its rest from the fault on.
-pub(crate) fn form_of(entry: &str) -> Result<Form<'_>, &str> {
-    let words = without_place(entry);
-    let Some((word, rest)) = words.split_once(' ') else {
-        return Err(words);
-    };
-    let Some(rule) = Rule::named(word) else {
-        return Err(words);
-    };
-    let Some((subject, detail)) = rest.split_once(": ") else {
-        return Err(rest);
-    };
-    if !is_subject(subject) {
-        return Err(rest);
+fn before_hash(line: &str) -> &str
+    ensures { result.now ≡ before_hash line.now }
+{
+    match line.split_once('#') {
+        Some((before, _)) => before,
+        None => line,
     }
+}
+
+fn ends_blank(text: &str) -> bool
+    ensures { result ≡ ends_blank text.now }
+{
+    text.trim_end().len() < text.len() || text.len() == 0
+}
+
+/// The parts of an entry; or its rest from the fault on.
+pub(crate) fn form_of(entry: &str) -> Result<Form<'_>, &str>
+    ensures form { IfOk result (λ form. form_of entry.now ≡ Some (plain_form form)) }
+    ensures none { IfErr result (λ rest. form_of entry.now ≡ None) }
+    ensures rest { IfErr result (λ rest. rest.now ≡ faulty_rest entry.now) }
+{
+    let words = without_place(entry);
+    let Some((rule, rest)) = rule_and_rest(words) else {
+        return Err(words);
+    };
+    let Some((subject, detail)) = subject_and_detail(rest) else {
+        return Err(rest);
+    };
     if detail.is_empty() {
         return Err(detail);
     }
@@ -51,40 +71,107 @@ pub(crate) fn form_of(entry: &str) -> Result<Form<'_>, &str> {
     })
 }
 
+fn rule_and_rest(words: &str) -> Option<(Rule, &str)>
+    ensures { option_map (λ found. (found.0, found.1.now)) result ≡ rule_and_rest words.now }
+{
+    let (word, rest) = split_at_space(words)?;
+    let rule = Rule::named(word)?;
+    Some((rule, rest))
+}
+
+fn subject_and_detail(rest: &str) -> Option<(&str, &str)>
+    ensures { option_map (λ parts. (parts.0.now, parts.1.now)) result ≡ subject_and_detail rest.now }
+{
+    let (subject, following) = split_at_colon(rest)?;
+    if !is_subject(subject) {
+        return None;
+    }
+    let detail = after_space(following)?;
+    Some((subject, detail))
+}
+
+fn split_at_space(text: &str) -> Option<(&str, &str)>
+    ensures { option_map (λ parts. (parts.0.now, parts.1.now)) result ≡ split_at 32 text.now }
+{
+    text.split_once(' ')
+}
+
+fn split_at_colon(text: &str) -> Option<(&str, &str)>
+    ensures { option_map (λ parts. (parts.0.now, parts.1.now)) result ≡ split_at 58 text.now }
+{
+    text.split_once(':')
+}
+
+fn after_space(text: &str) -> Option<&str>
+    ensures { option_map (λ rest. rest.now) result ≡ after_space text.now }
+{
+    let (before, rest) = split_at_space(text)?;
+    if before.is_empty() { Some(rest) } else { None }
+}
+
 /// What follows the first `:NUMBER:NUMBER: `.
-fn without_place(entry: &str) -> &str {
+fn without_place(entry: &str) -> &str
+    ensures { result.now ≡ without_place entry.now }
+{
     let mut rest = entry;
     for _ in 0..entry.len() {
-        let Some((_, following)) = rest.split_once(':') else {
-            return entry;
-        };
-        if let Some(words) = after_place(following) {
+        rest = after_colon(rest);
+        if let Some(words) = after_place(rest) {
             return words;
         }
-        rest = following;
     }
     entry
 }
 
+/// What follows the first colon; nothing where there is none.
+fn after_colon(text: &str) -> &str
+    ensures { result.now ≡ after_first (λ b. b == 58) text.now }
+{
+    match text.split_once(':') {
+        Some((_, rest)) => rest,
+        None => "",
+    }
+}
+
 /// What follows `NUMBER:NUMBER: `.
-fn after_place(text: &str) -> Option<&str> {
-    let (line, rest) = text.split_once(':')?;
-    let (column, words) = rest.split_once(':')?;
+fn after_place(text: &str) -> Option<&str>
+    ensures { option_map (λ rest. rest.now) result ≡ after_place text.now }
+{
+    let (line, rest) = split_at_colon(text)?;
+    let (column, words) = split_at_colon(rest)?;
     if is_number(line) && is_number(column) {
-        words.strip_prefix(' ')
+        after_space(words)
     } else {
         None
     }
 }
 
-fn is_number(text: &str) -> bool {
-    !text.is_empty() && text.as_bytes().iter().all(|byte| byte.is_ascii_digit())
+fn is_number(text: &str) -> bool
+    ensures { result ≡ is_number text.now }
+{
+    text.len() > 0 && all_digits(text.as_bytes())
 }
 
-fn is_subject(text: &str) -> bool {
-    text == "*" || (!text.is_empty() && text.as_bytes().iter().all(|byte| is_of_subject(*byte)))
+fn all_digits(text: &[u8]) -> bool
+    ensures { result ≡ list_all is_ascii_digit text.now }
+{
+    text.iter().all(|byte| byte.is_ascii_digit())
 }
 
-fn is_of_subject(byte: u8) -> bool {
+fn is_subject(text: &str) -> bool
+    ensures { result ≡ is_subject text.now }
+{
+    text == "*" || (text.len() > 0 && all_of_subject(text.as_bytes()))
+}
+
+fn all_of_subject(text: &[u8]) -> bool
+    ensures { result ≡ list_all is_of_subject text.now }
+{
+    text.iter().all(|byte| is_of_subject(*byte))
+}
+
+fn is_of_subject(byte: u8) -> bool
+    ensures { result ≡ is_of_subject byte }
+{
     byte.is_ascii_alphanumeric() || byte == b'-' || byte == b'/'
 }

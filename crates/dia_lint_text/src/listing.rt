@@ -1,22 +1,40 @@
 //! The lines of an answer.
+ghost use Rattle.std.specs.Prelude.{◌≡◌, ◌++◌, ◌∷◌, [], Bool, List, ℕ, IfOk, OnOk, codes, count_by, filter, flat_map, if◌then◌else◌, map, nat_eq, not, slice_get, string_bytes};
+ghost use Rattle.std.specs.List.{list_any};
+ghost use Rattle.std.specs.Option.{option_copied, option_map_or};
+ghost use Rattle.std.specs.Fmt.{decimal};
+ghost use Rattle.json.specs.Print.{quoted};
+ghost use Rattle.dia_accepted.specs.Accepted.{PlainEntry, PlainRecorded, accepts, plain_entry};
+ghost use Rattle.dia_accepted.specs.Seen.{HasSeen};
+ghost use Rattle.dia_explain_places.specs.Places.{column_at, line_at};
+ghost use Rattle.dia_lint.specs.declared.finding.Finding.{Finding as AnyFinding};
+ghost use Rattle.dia_lint.specs.Words.{rule_number, rule_word};
+ghost use Rattle.dia_lint_text.specs.Asking.{question};
+ghost use Rattle.dia_lint_text.specs.Cursors.{IsCursor};
+ghost use Rattle.dia_lint_text.specs.Lines.{counts_json, ending, exit_of, is_accepted, left_of, line_by, line_of};
+ghost use Rattle.dia_lint_text.specs.Lines.{nothing_text, recorded_of, recorded_by, rules_among};
+ghost use Rattle.dia_lint_text.specs.Lines.{stale_line, stale_of, strings, another, words_by};
+ghost use Rattle.dia_lint_text.specs.Listed.{IsListed};
+ghost use Rattle.dia_lint_text.specs.Rows.{plain_row};
 
 use crate::accepted::counted;
 use crate::asked::Asked;
 use crate::cursor::Cursor;
-use crate::json::push_object;
+use crate::objects::push_object;
+use crate::parts::Parts;
 use crate::sorting::Row;
-use crate::words::Names;
 use dia_accepted::{Accepting, Entry};
 use dia_book::Book;
 use dia_explain_places::Place;
-use dia_lint::{Finding, RULE_COUNT, Rule};
+use dia_lint::{Finding, Rule, all_rules};
 use dia_refused_json::quoted;
 use std::alloc::{AllocError, Global};
 
 /// A line that is written, by the place of its text.
 #[derive(Clone, Copy)]
 pub(crate) struct Shown {
-    pub rule: Rule,
+    /// The number of its rule.
+    pub rule: u8,
     /// The offset of its place in the dictionary's text.
     pub at: usize,
 }
@@ -34,121 +52,260 @@ pub(crate) struct Listing {
 }
 
 impl Listing {
-    /// How many rules the lines have.
-    pub fn rules(&self) -> usize {
-        let mut seen = [false; RULE_COUNT];
-        for shown in &self.shown {
-            if let Some(slot) = seen.get_mut(usize::from(shown.rule.number())) {
-                *slot = true;
-            }
-        }
-        seen.iter().filter(|seen| **seen).count()
-    }
+    ghost use Rattle.std.specs.Prelude.{◌≡◌, map};
+    ghost use Rattle.dia_accepted.specs.Accepted.{plain_entry};
+    ghost use Rattle.dia_lint_text.specs.Lines.{has_nothing};
 
     /// Whether there is nothing to report.
-    pub fn is_empty(&self) -> bool {
+    pub fn is_empty(&self) -> bool
+        ensures { result ≡ has_nothing (map (λ s. s.rule) self.now.shown.items) (map plain_entry self.now.stale.items) }
+    {
         self.shown.is_empty() && self.stale.is_empty()
     }
+}
+
+/// The rows that a list doesn't accept.
+#[derive(Drop)]
+pub(crate) struct Left {
+    pub text: String,
+    pub shown: Vec<Shown>,
 }
 
 /// The lines of the findings that the list doesn't accept, and then those of its stale entries.
 pub(crate) fn list_findings<B: Book>(
     alloc: Global,
     asked: &Asked<'_>,
-    names: &Names<'_, B>,
+    parts: &Parts<'_, B>,
     text: &str,
     findings: &[Finding],
     rows: &[Row],
     list: &[Entry],
-) -> Result<Listing, AllocError> {
+) -> Result<Listing, AllocError>
+    ensures { IfOk result (IsListed (question asked.now) (B.meaning parts.now.book.now) text.now findings.now
+        (map plain_entry list.now) (map plain_row rows.now)) }
+{
     let mut accepting = Accepting::new(alloc, list)?;
-    let mut cursor = Cursor::new(text);
-    let mut out = String::new(alloc);
-    let mut shown = Vec::new(alloc);
-    let mut accepted: usize = 0;
-    for row in rows {
-        let Some(finding) = findings.get(row.finding) else {
-            continue;
-        };
-        if is_accepted(alloc, &mut accepting, finding.rule, &row.words)? {
-            accepted = accepted.saturating_add(1);
-        } else {
-            let place = cursor.move_to(row.at);
-            push_line(alloc, &mut out, asked, names, place, finding, &row.words)?;
-            shown.push(Shown {
-                rule: finding.rule,
-                at: row.at,
-            })?;
-        }
-    }
+    let left = left_of(alloc, asked, parts, text, findings, rows, &mut accepting)?;
     let stale = accepting.unused(alloc)?;
-    let mut listing = Listing {
-        text: out,
-        shown,
-        accepted,
-        stale,
-    };
-    end(alloc, asked, &mut listing)?;
-    Ok(listing)
+    let accepted = rows.len().saturating_sub(left.shown.len());
+    ended(alloc, asked.json, left, accepted, stale)
 }
 
-/// Whether the list accepts the line of a finding with these words.
+/// What the list leaves of the rows.
+fn left_of<B: Book>(
+    alloc: Global,
+    asked: &Asked<'_>,
+    parts: &Parts<'_, B>,
+    text: &str,
+    findings: &[Finding],
+    rows: &[Row],
+    accepting: &mut Accepting<'_>,
+) -> Result<Left, AllocError>
+    ensures text { IfOk result (λ left. (list : List PlainEntry) → HasSeen accepting.old list []
+        → string_bytes left.text ≡ flat_map (line_of (question asked.now) (B.meaning parts.now.book.now) text.now findings.now)
+        (left_of list findings.now (map plain_row rows.now))) }
+    ensures shown { IfOk result (λ left. (list : List PlainEntry) → HasSeen accepting.old list []
+        → map (λ s. s.rule) left.shown.items ≡ map (λ row. row.rule) (left_of list findings.now (map plain_row rows.now))) }
+    ensures seen { IfOk result (λ left. (list : List PlainEntry) → HasSeen accepting.old list []
+        → HasSeen accepting.new list (map (recorded_of findings.now) (map plain_row rows.now))) }
+{
+    let mut cursor = Cursor::new(text.as_bytes());
+    let mut left = Left {
+        text: String::new(alloc),
+        shown: Vec::new(alloc),
+    };
+    for row in rows {
+        let finding = finding_at(findings, row.finding);
+        take_row(
+            alloc,
+            asked,
+            parts,
+            finding,
+            row,
+            accepting,
+            &mut cursor,
+            &mut left,
+        )?;
+    }
+    Ok(left)
+}
+
+fn finding_at(findings: &[Finding], place: usize) -> Option<&Finding>
+    ensures { option_copied result ≡ slice_get findings.now place }
+{
+    match findings.get(place) {
+        Some(finding) => Some(finding),
+        None => None,
+    }
+}
+
+/// Adds a row, unless the list accepts it.
+fn take_row<B: Book>(
+    alloc: Global,
+    asked: &Asked<'_>,
+    parts: &Parts<'_, B>,
+    finding: Option<&Finding>,
+    row: &Row,
+    accepting: &mut Accepting<'_>,
+    cursor: &mut Cursor<'_>,
+    left: &mut Left,
+) -> Result<(), AllocError>
+    requires { IsCursor cursor.old }
+    ensures cursor { OnOk result (IsCursor cursor.new) }
+    ensures place { OnOk result (cursor.new.text.now ≡ cursor.old.text.now) }
+    ensures text { OnOk result ((list : List PlainEntry) (recorded : List PlainRecorded) → HasSeen accepting.old list recorded
+        → string_bytes left.new.text ≡ string_bytes left.old.text
+        ++ (if list_any (accepts (words_by (option_copied finding.entry) (plain_row row.now))) list then [] else
+        option_map_or (line_by (question asked.now) (B.meaning parts.now.book.now) cursor.old.text.now (plain_row row.now))
+        (option_copied finding.entry) [])) }
+    ensures shown { OnOk result ((list : List PlainEntry) (recorded : List PlainRecorded) → HasSeen accepting.old list recorded
+        → map (λ s. s.rule) left.new.shown.items ≡ map (λ s. s.rule) left.old.shown.items
+        ++ (if list_any (accepts (words_by (option_copied finding.entry) (plain_row row.now))) list then [] else row.now.rule ∷ [])) }
+    ensures seen { OnOk result ((list : List PlainEntry) (recorded : List PlainRecorded) → HasSeen accepting.old list recorded
+        → HasSeen accepting.new list (recorded ++ recorded_by (option_copied finding.entry) (plain_row row.now) ∷ [])) }
+{
+    if is_accepted(alloc, accepting, finding, row)? {
+        return Ok(());
+    }
+    let place = cursor.move_to(row.at);
+    push_row(alloc, asked, parts, place, finding, row, left)
+}
+
+/// Whether the list accepts the line of a row.
 fn is_accepted(
     alloc: Global,
     accepting: &mut Accepting<'_>,
-    rule: Rule,
-    words: &str,
-) -> Result<bool, AllocError> {
-    let (subject, detail) = split(words);
-    let counted = counted(alloc, rule, subject, detail)?;
-    accepting.accepts(alloc, &counted)
+    finding: Option<&Finding>,
+    row: &Row,
+) -> Result<bool, AllocError>
+    ensures accepted { IfOk result (λ known. (list : List PlainEntry) (recorded : List PlainRecorded) → HasSeen accepting.old list recorded
+        → known ≡ list_any (accepts (words_by (option_copied finding.entry) (plain_row row.now))) list) }
+    ensures come { OnOk result ((list : List PlainEntry) (recorded : List PlainRecorded) → HasSeen accepting.old list recorded
+        → HasSeen accepting.new list (recorded ++ recorded_by (option_copied finding.entry) (plain_row row.now) ∷ [])) }
+{
+    let words = words_of(alloc, finding, row)?;
+    accepting.accepts(alloc, &words)
 }
 
-/// The subject and the detail of a line.
-fn split(words: &str) -> (&str, &str) {
-    match words.split_once(": ") {
-        Some(parts) => parts,
-        None => (words, ""),
+/// What counts of a row.
+fn words_of(alloc: Global, finding: Option<&Finding>, row: &Row) -> Result<String, AllocError>
+    ensures { IfOk result (λ made. string_bytes made ≡ words_by (option_copied finding.entry) (plain_row row.now)) }
+{
+    match finding {
+        Some(finding) => counted(alloc, finding.rule, &row.subject, &row.detail),
+        None => Ok(String::new(alloc)),
     }
+}
+
+/// Adds a row that the list leaves.
+fn push_row<B: Book>(
+    alloc: Global,
+    asked: &Asked<'_>,
+    parts: &Parts<'_, B>,
+    place: Place,
+    finding: Option<&Finding>,
+    row: &Row,
+    left: &mut Left,
+) -> Result<(), AllocError>
+    ensures text { OnOk result ((text : List ℕ) → place.line ≡ line_at text row.now.at → place.column ≡ column_at text row.now.at
+        → string_bytes left.new.text ≡ string_bytes left.old.text
+        ++ option_map_or (line_by (question asked.now) (B.meaning parts.now.book.now) text (plain_row row.now)) (option_copied finding.entry) []) }
+    ensures shown { OnOk result (map (λ s. s.rule) left.new.shown.items ≡ map (λ s. s.rule) left.old.shown.items ++ row.now.rule ∷ []) }
+{
+    if let Some(finding) = finding {
+        push_line(alloc, &mut left.text, asked, parts, place, finding, row)?;
+    }
+    left.shown.push(Shown {
+        rule: row.rule,
+        at: row.at,
+    })?;
+    Ok(())
 }
 
 fn push_line<B: Book>(
     alloc: Global,
     out: &mut String,
     asked: &Asked<'_>,
-    names: &Names<'_, B>,
+    parts: &Parts<'_, B>,
     place: Place,
     finding: &Finding,
-    words: &str,
-) -> Result<(), AllocError> {
+    row: &Row,
+) -> Result<(), AllocError>
+    ensures { OnOk result ((text : List ℕ) → place.line ≡ line_at text row.now.at → place.column ≡ column_at text row.now.at
+        → string_bytes out.new ≡ string_bytes out.old
+        ++ line_by (question asked.now) (B.meaning parts.now.book.now) text (plain_row row.now) finding.now) }
+{
     if asked.json {
-        let (_, detail) = split(words);
-        return push_object(alloc, out, names, asked.file, place, finding, detail);
+        push_object(alloc, out, parts, asked.file, place, finding, &row.detail)
+    } else {
+        push_place(out, asked.file, place)?;
+        push_words(out, finding.rule.word(), &row.subject, &row.detail)
     }
-    let file = asked.file;
-    let line = place.line;
-    let column = place.column;
-    let rule = finding.rule.word();
-    write!(out, "{file}:{line}:{column}: {rule} {words}\n")
 }
 
-/// Adds what follows the lines.
-fn end(alloc: Global, asked: &Asked<'_>, listing: &mut Listing) -> Result<(), AllocError> {
-    if asked.json {
-        return push_counts(alloc, listing);
+fn push_place(out: &mut String, file: &str, place: Place) -> Result<(), AllocError>
+    ensures { OnOk result (string_bytes out.new ≡ string_bytes out.old
+        ++ (file.now ++ codes ":" ++ decimal place.line ++ codes ":" ++ decimal place.column ++ codes ": ")) }
+{
+    let line = place.line;
+    let column = place.column;
+    write!(out, "{file}:{line}:{column}: ")
+}
+
+fn push_words(out: &mut String, rule: &str, subject: &str, detail: &str) -> Result<(), AllocError>
+    ensures { OnOk result (string_bytes out.new ≡ string_bytes out.old
+        ++ (rule.now ++ codes " " ++ subject.now ++ codes ": " ++ detail.now ++ codes "\n")) }
+{
+    write!(out, "{rule} {subject}: {detail}\n")
+}
+
+/// The lines, and what follows them.
+fn ended(
+    alloc: Global,
+    json: bool,
+    left: Left,
+    accepted: usize,
+    stale: Vec<Entry>,
+) -> Result<Listing, AllocError>
+    ensures text { IfOk result (λ listing. string_bytes listing.text ≡ string_bytes left.text
+        ++ ending json (map (λ s. s.rule) left.shown.items) accepted (map plain_entry stale.items)) }
+    ensures shown { IfOk result (λ listing. listing.shown ≡ left.shown) }
+    ensures stale { IfOk result (λ listing. listing.stale ≡ stale) }
+{
+    let Left { mut text, shown } = left;
+    push_ending(alloc, &mut text, json, &shown, accepted, &stale)?;
+    Ok(Listing {
+        text,
+        shown,
+        accepted,
+        stale,
+    })
+}
+
+fn push_ending(
+    alloc: Global,
+    out: &mut String,
+    json: bool,
+    shown: &[Shown],
+    accepted: usize,
+    stale: &[Entry],
+) -> Result<(), AllocError>
+    ensures { OnOk result (string_bytes out.new ≡ string_bytes out.old
+        ++ ending json (map (λ s. s.rule) shown.now) accepted (map plain_entry stale.now)) }
+{
+    if json {
+        push_counts(alloc, out, shown, accepted, stale)
+    } else if shown.is_empty() && stale.is_empty() {
+        out.push_str(nothing(accepted))
+    } else {
+        push_stale(out, stale)
     }
-    if listing.is_empty() {
-        return listing.text.push_str(nothing(listing.accepted));
-    }
-    for entry in &listing.stale {
-        let words = entry.words.as_str();
-        write!(&mut listing.text, "stale: {words}\n")?;
-    }
-    Ok(())
 }
 
 /// The line where no other is written.
-fn nothing(accepted: usize) -> &'static str {
+fn nothing(accepted: usize) -> &'static str
+    ensures { result.now ≡ nothing_text accepted }
+{
     if accepted == 0 {
         "nothing found\n"
     } else {
@@ -156,26 +313,93 @@ fn nothing(accepted: usize) -> &'static str {
     }
 }
 
+fn push_stale(out: &mut String, stale: &[Entry]) -> Result<(), AllocError>
+    ensures { OnOk result (string_bytes out.new ≡ string_bytes out.old ++ flat_map stale_line (map plain_entry stale.now)) }
+{
+    for entry in stale {
+        push_stale_line(out, entry.words.as_str())?;
+    }
+    Ok(())
+}
+
+fn push_stale_line(out: &mut String, words: &str) -> Result<(), AllocError>
+    ensures { OnOk result (string_bytes out.new ≡ string_bytes out.old ++ (codes "stale: " ++ words.now ++ codes "\n")) }
+{
+    write!(out, "stale: {words}\n")
+}
+
 /// Adds the object that counts.
-fn push_counts(alloc: Global, listing: &mut Listing) -> Result<(), AllocError> {
-    let lines = listing.shown.len();
-    let rules = listing.rules();
-    let accepted = listing.accepted;
-    let stale = array(alloc, &listing.stale)?;
+fn push_counts(
+    alloc: Global,
+    out: &mut String,
+    shown: &[Shown],
+    accepted: usize,
+    stale: &[Entry],
+) -> Result<(), AllocError>
+    ensures { OnOk result (string_bytes out.new ≡ string_bytes out.old
+        ++ counts_json (map (λ s. s.rule) shown.now) accepted (map plain_entry stale.now)) }
+{
+    push_numbers(out, shown.len(), rules_among(shown), accepted)?;
+    push_array(alloc, out, stale)?;
+    out.push_str("]}\n")
+}
+
+fn push_numbers(
+    out: &mut String,
+    lines: usize,
+    rules: usize,
+    accepted: usize,
+) -> Result<(), AllocError>
+    ensures { OnOk result (string_bytes out.new ≡ string_bytes out.old ++ (codes "{\"lines\":" ++ decimal lines
+        ++ codes ",\"rules\":" ++ decimal rules ++ codes ",\"accepted\":" ++ decimal accepted ++ codes ",\"stale\":[")) }
+{
     write!(
-        &mut listing.text,
-        "{{\"lines\":{lines},\"rules\":{rules},\"accepted\":{accepted},\"stale\":[{stale}]}}\n"
+        out,
+        "{{\"lines\":{lines},\"rules\":{rules},\"accepted\":{accepted},\"stale\":["
     )
 }
 
-/// The words of entries as strings, with commas between them.
-fn array(alloc: Global, entries: &[Entry]) -> Result<String, AllocError> {
-    let mut out = String::new(alloc);
-    for entry in entries {
-        if !out.is_empty() {
-            out.push(',')?;
+/// How many rules the lines have.
+pub(crate) fn rules_among(shown: &[Shown]) -> usize
+    ensures { result ≡ rules_among (map (λ s. s.rule) shown.now) }
+{
+    all_rules()
+        .iter()
+        .filter(|rule| has_rule(shown, **rule))
+        .count()
+}
+
+fn has_rule(shown: &[Shown], rule: Rule) -> bool
+    ensures { result ≡ list_any (nat_eq (rule_number rule)) (map (λ s. s.rule) shown.now) }
+{
+    let number = rule.number();
+    shown.iter().any(|line| number == line.rule)
+}
+
+/// Adds the words of entries as strings, with commas between them.
+fn push_array(alloc: Global, out: &mut String, entries: &[Entry]) -> Result<(), AllocError>
+    ensures { OnOk result (string_bytes out.new ≡ string_bytes out.old ++ strings (map (λ e. e.words) (map plain_entry entries.now))) }
+{
+    match entries {
+        [] => Ok(()),
+        [first, others @ ..] => {
+            out.push_str(&quoted(alloc, &first.words)?)?;
+            push_others(alloc, out, others)
         }
-        out.push_str(&quoted(alloc, &entry.words)?)?;
     }
-    Ok(out)
+}
+
+fn push_others(alloc: Global, out: &mut String, entries: &[Entry]) -> Result<(), AllocError>
+    ensures { OnOk result (string_bytes out.new ≡ string_bytes out.old ++ flat_map another (map (λ e. e.words) (map plain_entry entries.now))) }
+{
+    for entry in entries {
+        push_other(out, &quoted(alloc, &entry.words)?)?;
+    }
+    Ok(())
+}
+
+fn push_other(out: &mut String, string: &str) -> Result<(), AllocError>
+    ensures { OnOk result (string_bytes out.new ≡ string_bytes out.old ++ (codes "," ++ string.now)) }
+{
+    write!(out, ",{string}")
 }

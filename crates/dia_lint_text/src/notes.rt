@@ -1,9 +1,9 @@
 //! The text of standard error.
 
 use crate::accepted::BadList;
-use crate::listing::{Listing, Shown};
+use crate::listing::{Listing, Shown, rules_among};
 use dia_explain_places::Note;
-use dia_lint::{RULE_COUNT, RULES, Rule};
+use dia_lint::{RULE_COUNT, Rule, all_rules};
 use std::alloc::Global;
 
 /// How many lines are shown with the text at their places.
@@ -25,19 +25,21 @@ pub(crate) fn explain(
     let mut seen = [false; RULE_COUNT];
     let mut number: usize = 0;
     for shown in &listing.shown {
-        if number < MOST_SHOWN {
-            put_place(&mut note, file, text, shown);
+        if let Some(rule) = all_rules().get(usize::from(shown.rule)) {
+            if number < MOST_SHOWN {
+                put_place(&mut note, file, text, shown, *rule);
+            }
+            put_first(&mut note, &mut seen, *rule);
         }
-        put_first(&mut note, &mut seen, shown.rule);
         number = number.saturating_add(1);
     }
     put_counts(&mut note, listing);
     add(notes, note);
 }
 
-fn put_place(note: &mut Note, file: &str, text: &str, shown: &Shown) {
+fn put_place(note: &mut Note, file: &str, text: &str, shown: &Shown, rule: Rule) {
     note.put_place(file, text.as_bytes(), shown.at);
-    note.put_all(&[shown.rule.word(), "\n"]);
+    note.put_all(&[rule.word(), "\n"]);
     note.put_excerpt(text.as_bytes(), shown.at);
 }
 
@@ -60,7 +62,7 @@ fn put_first(note: &mut Note, seen: &mut [bool; RULE_COUNT], rule: Rule) {
 fn put_counts(note: &mut Note, listing: &Listing) {
     put_count(note, listing.shown.len(), "line");
     note.put(" of ");
-    put_count(note, listing.rules(), "rule");
+    put_count(note, rules_among(&listing.shown), "rule");
     if listing.accepted > 0 {
         note.put(", ");
         put_count(note, listing.accepted, "accepted line");
@@ -98,7 +100,7 @@ pub(crate) fn explain_list(alloc: Global, notes: &mut String, text: &[u8], bad: 
 pub(crate) fn explain_words(alloc: Global, notes: &mut String) {
     let mut note = Note::new(alloc);
     note.put("hint: sets are exact, guidelines and more; rules are");
-    for rule in RULES {
+    for rule in all_rules() {
         note.put_all(&[" ", rule.word()]);
     }
     note.put("\n");

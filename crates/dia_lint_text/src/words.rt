@@ -1,64 +1,39 @@
-//! The words of a finding: `SUBJECT: DETAIL`.
+//! The words of a finding's subject.
+ghost use Rattle.std.specs.Prelude.{◌≡◌, ◌++◌, OnOk, codes, string_bytes};
+ghost use Rattle.dia_lint_text.specs.Names.{named_text, subject_text};
 
-use crate::details::push_detail;
-use crate::parts::{Parts, entry_of};
-use dia_book::{Book, Key};
-use dia_lint::{Finding, Named, Subject};
-use std::alloc::{AllocError, Global};
+use crate::parts::Parts;
+use dia_book::Book;
+use dia_lint::{Named, Subject};
+use std::alloc::AllocError;
 
-/// The dictionary of findings, by which they are written.
-#[derive(Drop)]
-pub(crate) struct Names<'a, B: Book> {
-    pub book: &'a B,
-    pub parts: Parts<'a>,
-}
-
-impl<'a, B: Book> Names<'a, B> {
-    /// The name of a key that the dictionary knows.
-    pub fn key(&self, key: Key) -> &'a str {
-        match entry_of(self.book, key) {
-            Some(entry) => self.book.entry_name(entry),
-            None => "",
-        }
-    }
-}
-
-/// The words of a finding.
-pub(crate) fn words<B: Book>(
-    alloc: Global,
-    names: &Names<'_, B>,
-    finding: &Finding,
-) -> Result<String, AllocError> {
-    let mut out = String::new(alloc);
-    push_subject(&mut out, names, finding.subject)?;
-    out.push_str(": ")?;
-    push_detail(&mut out, names, finding.detail)?;
-    Ok(out)
-}
-
-fn push_subject<B: Book>(
+/// Adds what a finding is about.
+pub(crate) fn push_subject<B: Book>(
     out: &mut String,
-    names: &Names<'_, B>,
+    parts: &Parts<'_, B>,
     subject: Subject,
-) -> Result<(), AllocError> {
+) -> Result<(), AllocError>
+    ensures { OnOk result (string_bytes out.new ≡ string_bytes out.old ++ subject_text (B.meaning parts.now.book.now) subject) }
+{
     match subject {
-        Subject::Definition(def) => out.push_str(names.parts.name(def)),
-        Subject::Avp(entry) => match names.parts.avp(entry) {
-            Some(part) => out.push_str(part.name),
-            None => Ok(()),
-        },
-        Subject::Within(def, named) => {
-            let def = names.parts.name(def);
-            let avp = name_of(names, named);
-            write!(out, "{def}/{avp}")
-        }
+        Subject::Definition(def) => out.push_str(parts.def_name(def)),
+        Subject::Avp(entry) => out.push_str(parts.avp_name(entry)),
+        Subject::Within(def, named) => push_within(out, parts.def_name(def), name_of(parts, named)),
     }
+}
+
+fn push_within(out: &mut String, def: &str, avp: &str) -> Result<(), AllocError>
+    ensures { OnOk result (string_bytes out.new ≡ string_bytes out.old ++ (def.now ++ codes "/" ++ avp.now)) }
+{
+    write!(out, "{def}/{avp}")
 }
 
 /// The name of the AVPs; `AVP` for those that no rule lists.
-pub(crate) fn name_of<'a, B: Book>(names: &Names<'a, B>, named: Named) -> &'a str {
+pub(crate) fn name_of<'a, B: Book>(parts: &Parts<'a, B>, named: Named) -> &'a str
+    ensures { result.now ≡ named_text (B.meaning parts.now.book.now) named }
+{
     match named {
-        Named::Key(key) => names.key(key),
+        Named::Key(key) => parts.key_name(key),
         Named::Others => "AVP",
         Named::Base(avp) => avp.name(),
     }
