@@ -37,7 +37,7 @@ pub(crate) fn listed<S: Sink>(
     let a = &books.first.book;
     let b = &books.second.book;
     let list = &inputs.table;
-    let names = names_in(alloc, inputs, books)?;
+    let names = names_in(alloc, &*inputs, &*books)?;
     let listed = list_lines(alloc, asked, list, &names, a, b, sink)?;
     put_ending(alloc, asked, list, a, listed, sink)
 }
