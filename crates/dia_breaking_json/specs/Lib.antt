@@ -3,5 +3,3 @@ pub mod Keys
 pub mod LineObjects
 pub mod Lines
 pub mod Parts
-pub mod SpotTexts
-pub mod Spots

@@ -1,6 +1,5 @@
 //! The AVPs of dictionaries by their names.
 
-use crate::spots::Texts;
 use dia_book::{Book, Key};
 use std::alloc::{AllocError, Global};
 use std::collections::BTreeMap;
@@ -12,12 +11,11 @@ pub struct Keys {
     pub(crate) keys: BTreeMap<String, Key>,
 }
 
-/// The AVPs of two dictionaries by their names, and their texts.
+/// The AVPs of two dictionaries by their names.
 #[derive(Drop)]
-pub struct Names<'s> {
+pub struct Names {
     pub first: Keys,
     pub second: Keys,
-    pub texts: Box<Texts<'s>>,
 }
 
 impl Keys {

@@ -11,7 +11,6 @@ mod objects;
 mod parts;
 mod paths;
 mod places;
-mod spots;
 mod subjects;
 mod texts;
 
@@ -19,4 +18,3 @@ pub use fields::{object_text, push_null, push_text, push_unsigned};
 pub use keys::{Keys, Names};
 pub use lines::cause_json;
 pub use objects::{cause_object, line_object};
-pub use spots::{Spelt, Texts};

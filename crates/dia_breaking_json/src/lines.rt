@@ -20,7 +20,7 @@ use std::alloc::{AllocError, Global};
 /// hexadecimal digits and a line feed.
 pub fn cause_json(
     alloc: Global,
-    names: &Names<'_>,
+    names: &Names,
     words: &str,
     message: &str,
 ) -> Result<String, AllocError>
@@ -35,7 +35,7 @@ pub fn cause_json(
 fn push_fields(
     alloc: Global,
     out: &mut String,
-    names: &Names<'_>,
+    names: &Names,
     words: &str,
     message: &str,
 ) -> Result<(), AllocError>
@@ -50,7 +50,7 @@ fn push_fields(
 fn push_parts(
     alloc: Global,
     out: &mut String,
-    names: &Names<'_>,
+    names: &Names,
     parts: Parts<'_>,
     message: &str,
 ) -> Result<(), AllocError>
@@ -79,7 +79,7 @@ fn push_undecided(alloc: Global, out: &mut String, is_undecided: bool) -> Result
 fn push_matter(
     alloc: Global,
     out: &mut String,
-    names: &Names<'_>,
+    names: &Names,
     reason: &str,
     subject: &str,
     detail: &str,
@@ -95,7 +95,7 @@ fn push_matter(
 fn push_about(
     alloc: Global,
     out: &mut String,
-    names: &Names<'_>,
+    names: &Names,
     reason: &str,
     subject: &str,
 ) -> Result<(), AllocError>

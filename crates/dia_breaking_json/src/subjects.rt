@@ -27,7 +27,7 @@ pub(crate) fn push_reason(alloc: Global, out: &mut String, reason: &str) -> Resu
 pub(crate) fn push_subject(
     alloc: Global,
     out: &mut String,
-    names: &Names<'_>,
+    names: &Names,
     reason: &str,
     subject: &str,
 ) -> Result<(), AllocError>
@@ -44,7 +44,7 @@ pub(crate) fn push_subject(
 fn push_if_avp(
     alloc: Global,
     out: &mut String,
-    names: &Names<'_>,
+    names: &Names,
     subject: &str,
 ) -> Result<(), AllocError>
     ensures { OnOk result (Adds out.old out.new
@@ -60,7 +60,7 @@ fn push_if_avp(
 pub(crate) fn push_avp(
     alloc: Global,
     out: &mut String,
-    names: &Names<'_>,
+    names: &Names,
     name: &str,
 ) -> Result<(), AllocError>
     ensures { OnOk result (Adds out.old out.new ((

@@ -7,7 +7,7 @@ use dia_json::{check_lines, check_stream, refute_lines};
 use std::alloc::{AllocError, Global};
 use std::test::Fail;
 
-/// A valid request, one without its Origin-Realm, one that is cut, one with a byte after it, a text that isn't hexadecimal, and
+/// A valid request, one without its Origin-Realm, one that is cut, one with a byte behind it, a text that isn't hexadecimal, and
 /// one with an AVP that isn't known.
 const LINES: &str = "\
 0100002c80000118000000000000000100000002000001084000000b612e6200000001284000000962000000

@@ -6,7 +6,7 @@ use dia_json::{show, show_lines};
 use std::alloc::{AllocError, Global};
 use std::test::Fail;
 
-/// A Device-Watchdog-Request of RFC 6733 section 5.5.1, and after its two AVPs one that no dictionary knows.
+/// A Device-Watchdog-Request of RFC 6733 section 5.5.1, and behind its two AVPs one that no dictionary knows.
 const REQUEST: &str = "010000388000011800000000000000010000000200000108400000\
     0b612e6200000001284000000962000000\
     00ffffff8000000c00000007";

@@ -13,7 +13,7 @@ const FIRST: &str = "%avp X 9001 Unsigned32 any <T> ::= < Diameter Header: 302, 
 const SECOND: &str = "%avp X 9001 Unsigned32 any <T> ::= < Diameter Header: 302, REQ > *3 [ X ]";
 
 const LISTED: &str =
-    r#"{"command":"T","path":[],"reason":"too-many","avp":{"name":"X","code":9001,"vendor":0},"sent":"0..*","sent_min":0,"sent_max":null,"accepted":"0..3","accepted_min":0,"accepted_max":3,"in_header":false,"a":{"line":1,"column":66},"b":{"line":1,"column":66},"text":"T: too-many X: 0..* sent, 0..3 accepted"}
+    r#"{"command":"T","path":[],"reason":"too-many","avp":{"name":"X","code":9001,"vendor":0},"sent":"0..*","sent_min":0,"sent_max":null,"accepted":"0..3","accepted_min":0,"accepted_max":3,"in_header":false,"text":"T: too-many X: 0..* sent, 0..3 accepted"}
 {"lines":1,"causes":1,"accepted":0,"stale":0}
 "#;
 

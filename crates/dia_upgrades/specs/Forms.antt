@@ -5,7 +5,6 @@ use Rattle.dia_breaking_json.specs.declared.Names.{Names}
 use Rattle.dia_breaking_json.specs.Keys.{key_in}
 use Rattle.dia_breaking_json.specs.LineObjects.{line_object}
 use Rattle.dia_breaking_json.specs.Lines.{cause_json}
-use Rattle.dia_breaking_json.specs.SpotTexts.{both_in}
 use Rattle.dia_run.specs.Texts.{line}
 use Rattle.dia_upgrades.specs.declared.asked.Form.{Form}
 use Rattle.dia_upgrades.specs.declared.asked.Form.TheVariants.{Text, Json}
@@ -13,7 +12,7 @@ use Rattle.dia_upgrades.specs.Rows.{Row, digits_line}
 
 -- what is written of a line
 abbrev pub object_in : Names → Row → List ℕ
-object_in names row = line (line_object (key_in names.first) (key_in names.second) (both_in names.texts.value) row.parts row.words row.digits)
+object_in names row = line (line_object (key_in names.first) (key_in names.second) row.parts row.words row.digits)
 
 abbrev pub line_in : Form → Row → List ℕ
 line_in Text row = line row.words ++ digits_line row.digits

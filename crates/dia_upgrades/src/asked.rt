@@ -8,9 +8,9 @@ use dia_policy::{Sends, Unknown};
 pub enum Form<'a> {
     /// In words, each line followed by its message on a line of its own.
     Text,
-    /// As JSON: an object for each line, with the AVPs and the texts of the two dictionaries. What words report of the whole answer isn't
+    /// As JSON: an object for each line, with the AVPs of the two dictionaries. What words report of the whole answer isn't
     /// written.
-    Json(&'a Names<'a>),
+    Json(&'a Names),
 }
 
 /// What is done about stale entries of the list of accepted lines.

@@ -197,7 +197,7 @@ fn put_once<S: Sink>(
 }
 
 /// The objects of causes.
-fn causes_json(alloc: Global, names: &Names<'_>, causes: &[Recorded]) -> Result<String, AllocError>
+fn causes_json(alloc: Global, names: &Names, causes: &[Recorded]) -> Result<String, AllocError>
     ensures { IfOk result (λ text. string_bytes text ≡ flat_map (cause_object_in names.now) (map plain_recorded causes.now)) }
 {
     let mut text = String::new(alloc);
@@ -211,7 +211,7 @@ fn causes_json(alloc: Global, names: &Names<'_>, causes: &[Recorded]) -> Result<
 fn push_cause(
     alloc: Global,
     text: &mut String,
-    names: &Names<'_>,
+    names: &Names,
     recorded: &Recorded,
 ) -> Result<(), AllocError>
     ensures { OnOk result (string_bytes text.new ≡ string_bytes text.old ++ cause_object_in names.now (plain_recorded recorded.now)) }

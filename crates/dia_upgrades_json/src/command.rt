@@ -88,7 +88,7 @@ fn over_books<S: Sink>(
         → Reports ⟦<IndexedBook as Book>⟧.meaning asked.entry inputs.now (S.written sink.old) (S.written sink.new) result }
     ensures device { (result ≡ Err Device) ↔ IsTrue (S.has_failed sink.new) }
 {
-    let Listed { exit, found } = listed(alloc, asked, inputs, &books, sink)?;
+    let Listed { exit, found } = listed(alloc, asked, &inputs.table, &books, sink)?;
     let report = Report::Read { books, found };
     Ok(Reported { exit, report })
 }

@@ -1,7 +1,0 @@
-pub mod MarkedTexts
-pub mod Marks
-pub mod PartLists
-pub mod Parts
-pub mod Sought
-pub mod Tables
-pub mod Texts
