@@ -1,7 +1,7 @@
 -- The table of the rules that are asked for.
 use Rattle.std.proofs.Common.{◌≡◌, Bool, List, refl, ap, ◌∙◌}
 use Rattle.std.specs.Prelude.{map}
-use Rattle.dia_lint.specs.Words.{rule_number, rules}
+use Rattle.dia_lint.specs.Words.{rules}
 use Rattle.dia_lint.specs.declared.rule.Rule.{Rule}
 use Rattle.dia_lint.specs.declared.rule.Rule.TheVariants as rule
 use Rattle.dia_lint_text.specs.Asking.{has_in}

@@ -1,11 +1,11 @@
 -- The line and the column of the next byte.
-use Rattle.std.proofs.Common.{◌≡◌, ℕ, zero, suc, ◌+◌, ◌-◌, ◌<◌, ◌≤◌, Bool, true, false, cond, List, [], ◌∷◌, ◌++◌, length, take, drop, Some, refl, sym, ap, ◌∙◌, arith, not}
+use Rattle.std.proofs.Common.{◌≡◌, ℕ, zero, suc, ◌+◌, ◌-◌, ◌≤◌, Bool, true, false, cond, List, [], ◌∷◌, ◌++◌, length, take, drop, Some, refl, ap, ◌∙◌, arith, not}
 use Rattle.std.specs.Prelude.{◌==◌, count_by, reverse, slice_get, if◌then◌else◌}
 use Rattle.std.specs.List.{prefix_len, suffix_len}
 use Rattle.std.proofs.lemmas.List.{length-append, reverse-append}
 use Rattle.std.proofs.lemmas.List.Sums.{count_by-le-length}
 use Rattle.dia_valid.proofs.Members.{count_append, count_cons, taken}
-use Rattle.dia_explain_places.specs.Places.{bytes_in_line, characters, column_at, is_inner, line_at, line_front}
+use Rattle.dia_explain_places.specs.Places.{characters, column_at, is_inner, line_at}
 
 abbrev pub is_feed : ℕ → Bool
 is_feed c = c == 10

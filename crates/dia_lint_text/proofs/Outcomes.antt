@@ -1,14 +1,13 @@
 -- What is written, from its parts.
-use Rattle.std.proofs.Common.{◌≡◌, ℕ, ◌+◌, ◌-◌, ◌++◌, Bool, List, Result, Ok, Err, flat_map, length, map, refl, sym, ap, subst, arith, ◌∙◌}
+use Rattle.std.proofs.Common.{◌≡◌, ℕ, ◌-◌, ◌++◌, Bool, List, Result, Ok, Err, flat_map, length, map, sym, ap, subst, arith, ◌∙◌}
 use Rattle.std.proofs.lemmas.List.{length-map}
 use Rattle.dia_lint.specs.declared.rule.Rule.{Rule}
-use Rattle.std.specs.Prelude.{IfOk, Some, None, string_bytes}
+use Rattle.std.specs.Prelude.{IfOk, None, string_bytes}
 use Rattle.dia_accepted.specs.Accepted.{PlainEntry, plain_entry}
 use Rattle.dia_book.specs.Dictionary.{Dictionary}
 use Rattle.dia_ccf.specs.declared.source.Def.{Def}
 use Rattle.dia_ccf.specs.declared.source.Source.{Source}
 use Rattle.dia_ccf.specs.Plain.{plain_source}
-use Rattle.dia_io.specs.declared.Exit.{Exit}
 use Rattle.dia_io.specs.declared.Exit.TheVariants as exits
 use Rattle.dia_io.specs.declared.Inputs.{Inputs}
 use Rattle.dia_lint.specs.Words.{rules}

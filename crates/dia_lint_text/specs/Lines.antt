@@ -1,5 +1,5 @@
 -- The lines that are written, as text and as JSON (RFC 8259).
-use Rattle.std.specs.Prelude.{◌≡◌, ℕ, ◌==◌, not, ◌&&◌, Bool, if◌then◌else◌, List, [], ◌∷◌, ◌++◌, length, count_by, filter, flat_map, map, Option, Some, None, slice_get, codes, nat_eq}
+use Rattle.std.specs.Prelude.{ℕ, ◌==◌, not, ◌&&◌, Bool, if◌then◌else◌, List, [], ◌∷◌, ◌++◌, length, count_by, filter, flat_map, map, Option, Some, None, slice_get, codes, nat_eq}
 use Rattle.std.specs.List.{list_any}
 use Rattle.std.specs.Option.{option_map_or}
 use Rattle.std.specs.Fmt.{decimal}
@@ -20,7 +20,7 @@ use Rattle.dia_lint.specs.declared.finding.Subject.TheVariants as subject
 use Rattle.dia_lint.specs.declared.rule.Rule.{Rule}
 use Rattle.dia_lint_text.specs.Asking.{Question}
 use Rattle.dia_lint_text.specs.Lists.{counted_words}
-use Rattle.dia_lint_text.specs.Names.{avp_name, def_name, named_text}
+use Rattle.dia_lint_text.specs.Names.{def_name, named_text}
 use Rattle.dia_lint_text.specs.Rows.{PlainRow}
 
 -- ---- a finding as an object

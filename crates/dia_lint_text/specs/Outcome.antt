@@ -1,5 +1,5 @@
 -- What `lint` writes, and how it ends.
-use Rattle.std.specs.Prelude.{◌≡◌, ℕ, Bool, true, false, List, [], ◌∷◌, ◌++◌, length, map, flat_map, Some, None, codes}
+use Rattle.std.specs.Prelude.{◌≡◌, ℕ, Bool, true, false, List, ◌++◌, map, flat_map, Some, None, codes}
 use Rattle.json.specs.Print.{quoted}
 use Rattle.dia_accepted.specs.Accepted.{PlainEntry}
 use Rattle.dia_ccf.specs.declared.source.Source.{Source}

@@ -1,5 +1,5 @@
 -- Where findings are in the text of a dictionary, and the order of their lines.
-use Rattle.std.specs.Prelude.{◌≡◌, ℕ, ◌-◌, nat_le, Bool, List, [], ◌∷◌, length, map, filter, Option, Some, None, slice_get, unwrap_or, string_bytes}
+use Rattle.std.specs.Prelude.{ℕ, ◌-◌, nat_le, Bool, List, length, map, filter, Option, slice_get, unwrap_or, string_bytes}
 use Rattle.std.specs.List.{enumerate_from}
 use Rattle.std.specs.List.Sorted.{IsPermutation, IsNonDecreasingBy, IsSorted}
 use Rattle.std.specs.Option.{option_map, option_map_or, option_or}

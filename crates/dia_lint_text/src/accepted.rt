@@ -1,5 +1,6 @@
 //! The list of accepted lines.
-ghost use Rattle.std.specs.Prelude.{◌≡◌, ◌++◌, ◌∷◌, [], IfErr, IfOk, IfSome, None, ◌+◌, ◌-◌, ◌≤◌, OnOk, Some, if◌then◌else◌, map, string_bytes, codes, length};
+ghost use Rattle.std.specs.Prelude.{◌≡◌, ◌++◌, ◌∷◌, [], IfErr, IfOk, IfSome, None, ◌+◌, ◌-◌, ◌≤◌, OnOk, Some};
+ghost use Rattle.std.specs.Prelude.{if◌then◌else◌, map, string_bytes, codes, length};
 ghost use Rattle.std.specs.Option.{option_map};
 ghost use Rattle.std.specs.Str.Lines.{lines};
 ghost use Rattle.dia_accepted.specs.Accepted.{plain_entry};
@@ -99,7 +100,8 @@ fn read_lines(
     text: &str,
     choice: &Choice,
 ) -> Result<Result<Vec<Entry>, BadList>, AllocError>
-    ensures entries { IfOk result (λ read. IfOk read (λ list. map plain_entry list.items ≡ entries_from (has_in choice.now.chosen.items) 1 (lines text.now))) }
+    ensures entries { IfOk result (λ read. IfOk read (λ list. map plain_entry list.items
+        ≡ entries_from (has_in choice.now.chosen.items) 1 (lines text.now))) }
     ensures form { IfOk result (λ read. IfOk read (λ list. fault_from text.now 1 (lines text.now) ≡ None)) }
     ensures fault { IfOk result (λ read. IfErr read (λ bad. fault_from text.now 1 (lines text.now) ≡ Some bad)) }
     ensures kinds { IfOk result (λ read. IfErr read HasLine) }

@@ -1,6 +1,7 @@
 //! The rules that are asked for.
 
-ghost use Rattle.std.specs.Prelude.{◌≡◌, ◌&&◌, ◌||◌, ◌++◌, ◌∷◌, List, ℕ, [], IfOk, IfSome, None, OnOk, find, length, map, not, ◌<◌};
+ghost use Rattle.std.specs.Prelude.{◌≡◌, ◌&&◌, ◌||◌, ◌++◌, ◌∷◌, List, ℕ, [], IfOk, IfSome, None, OnOk, find};
+ghost use Rattle.std.specs.Prelude.{length, map, not, ◌<◌};
 ghost use Rattle.std.specs.List.{list_any};
 ghost use Rattle.std.specs.Option.{option_copied, option_map};
 ghost use Rattle.dia_lint.specs.Words.{rules};
@@ -76,7 +77,8 @@ fn push_word<'a>(
     words: &mut Vec<&'a str>,
     rest: Option<&'a str>,
 ) -> Result<Option<&'a str>, AllocError>
-    ensures added { IfOk result (λ following. map (λ word. word.now) words.new.items ++ words_left (option_map (λ r. r.now) following)
+    ensures added { IfOk result (λ following. map (λ word. word.now) words.new.items
+        ++ words_left (option_map (λ r. r.now) following)
         ≡ map (λ word. word.now) words.old.items ++ words_left (option_copied rest.entry)) }
     ensures shorter { IfOk result (λ following. IfSome following (λ f. IfSome rest.entry (λ r. length f.now < length r.now))) }
     ensures ended { IfOk result (λ following. rest.entry ≡ None → following ≡ None) }

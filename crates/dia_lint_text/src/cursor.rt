@@ -32,7 +32,8 @@ impl<'a> Cursor<'a> {
         }
     }
 
-    /// Moves to an offset, and returns its line and its column, in characters, both from 1. Offsets that don't fall take the time of
+    /// Moves to an offset, and returns its line and its column, in characters, both from 1. Offsets that don't fall
+    /// take the time of
     /// one pass.
     pub fn move_to(&mut self, at: usize) -> Place
         requires { IsCursor self.old }

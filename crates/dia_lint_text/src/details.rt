@@ -28,7 +28,8 @@ pub(crate) fn push_detail<B: Book>(
 }
 
 fn push_needed(out: &mut String, name: &str) -> Result<(), AllocError>
-    ensures { OnOk result (string_bytes out.new ≡ string_bytes out.old ++ (codes "it needs " ++ name.now ++ codes ", and there is none")) }
+    ensures { OnOk result (string_bytes out.new ≡ string_bytes out.old ++ (codes "it needs " ++ name.now
+        ++ codes ", and there is none")) }
 {
     write!(out, "it needs {name}, and there is none")
 }
@@ -52,7 +53,8 @@ fn push_session(out: &mut String, name: &str) -> Result<(), AllocError>
 }
 
 fn push_p(out: &mut String, own: Pxy, of: &str, theirs: Pxy) -> Result<(), AllocError>
-    ensures { OnOk result (string_bytes out.new ≡ string_bytes out.old ++ (codes "P " ++ p_word own ++ codes ", that of " ++ of.now ++ codes " is " ++ p_word theirs)) }
+    ensures { OnOk result (string_bytes out.new ≡ string_bytes out.old ++ (codes "P " ++ p_word own
+        ++ codes ", that of " ++ of.now ++ codes " is " ++ p_word theirs)) }
 {
     let own = p_word(own);
     let theirs = p_word(theirs);
@@ -96,7 +98,8 @@ fn push_others(out: &mut String, min: u32, max: u32) -> Result<(), AllocError>
 }
 
 fn push_experiment(out: &mut String, code: u32) -> Result<(), AllocError>
-    ensures { OnOk result (string_bytes out.new ≡ string_bytes out.old ++ (codes "code " ++ decimal code ++ codes " is for experiments")) }
+    ensures { OnOk result (string_bytes out.new ≡ string_bytes out.old ++ (codes "code " ++ decimal code
+        ++ codes " is for experiments")) }
 {
     write!(out, "code {code} is for experiments")
 }

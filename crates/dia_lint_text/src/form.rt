@@ -20,7 +20,8 @@ pub(crate) struct Form<'a> {
     pub detail: &'a str,
 }
 
-/// The entry of a line, without a comment, which begins with the first `#` if white space or nothing precedes it, and without white
+/// The entry of a line, without a comment, which begins with the first `#` if white space or nothing precedes it,
+/// and without white
 /// space at its end.
 pub(crate) fn entry_text(line: &str) -> &str
     ensures { result.now ≡ entry_text line.now }

@@ -1,5 +1,6 @@
 //! The lines of an answer.
-ghost use Rattle.std.specs.Prelude.{◌≡◌, ◌++◌, ◌∷◌, [], Bool, List, ℕ, IfOk, OnOk, codes, count_by, filter, flat_map, if◌then◌else◌, map, nat_eq, not, slice_get, string_bytes};
+ghost use Rattle.std.specs.Prelude.{◌≡◌, ◌++◌, ◌∷◌, [], Bool, List, ℕ, IfOk, OnOk, codes, count_by, filter};
+ghost use Rattle.std.specs.Prelude.{flat_map, if◌then◌else◌, map, nat_eq, not, slice_get, string_bytes};
 ghost use Rattle.std.specs.List.{list_any};
 ghost use Rattle.std.specs.Option.{option_copied, option_map_or};
 ghost use Rattle.std.specs.Fmt.{decimal};
@@ -178,7 +179,8 @@ fn is_accepted(
     finding: Option<&Finding>,
     row: &Row,
 ) -> Result<bool, AllocError>
-    ensures accepted { IfOk result (λ known. (list : List PlainEntry) (recorded : List PlainRecorded) → HasSeen accepting.old list recorded
+    ensures accepted { IfOk result (λ known. (list : List PlainEntry) (recorded : List PlainRecorded)
+        → HasSeen accepting.old list recorded
         → known ≡ list_any (accepts (words_by (option_copied finding.entry) (plain_row row.now))) list) }
     ensures come { OnOk result ((list : List PlainEntry) (recorded : List PlainRecorded) → HasSeen accepting.old list recorded
         → HasSeen accepting.new list (recorded ++ recorded_by (option_copied finding.entry) (plain_row row.now) ∷ [])) }
@@ -210,7 +212,8 @@ fn push_row<B: Book>(
     ensures text { OnOk result ((text : List ℕ) → place.line ≡ line_at text row.now.at → place.column ≡ column_at text row.now.at
         → string_bytes left.new.text ≡ string_bytes left.old.text
         ++ option_map_or (line_by (question asked.now) (B.meaning parts.now.book.now) text (plain_row row.now)) (option_copied finding.entry) []) }
-    ensures shown { OnOk result (map (λ s. s.rule) left.new.shown.items ≡ map (λ s. s.rule) left.old.shown.items ++ row.now.rule ∷ []) }
+    ensures shown { OnOk result (map (λ s. s.rule) left.new.shown.items ≡ map (λ s. s.rule) left.old.shown.items
+        ++ row.now.rule ∷ []) }
 {
     if let Some(finding) = finding {
         push_line(alloc, &mut left.text, asked, parts, place, finding, row)?;
@@ -378,7 +381,8 @@ fn has_rule(shown: &[Shown], rule: Rule) -> bool
 
 /// Adds the words of entries as strings, with commas between them.
 fn push_array(alloc: Global, out: &mut String, entries: &[Entry]) -> Result<(), AllocError>
-    ensures { OnOk result (string_bytes out.new ≡ string_bytes out.old ++ strings (map (λ e. e.words) (map plain_entry entries.now))) }
+    ensures { OnOk result (string_bytes out.new ≡ string_bytes out.old
+        ++ strings (map (λ e. e.words) (map plain_entry entries.now))) }
 {
     match entries {
         [] => Ok(()),
@@ -390,7 +394,8 @@ fn push_array(alloc: Global, out: &mut String, entries: &[Entry]) -> Result<(), 
 }
 
 fn push_others(alloc: Global, out: &mut String, entries: &[Entry]) -> Result<(), AllocError>
-    ensures { OnOk result (string_bytes out.new ≡ string_bytes out.old ++ flat_map another (map (λ e. e.words) (map plain_entry entries.now))) }
+    ensures { OnOk result (string_bytes out.new ≡ string_bytes out.old
+        ++ flat_map another (map (λ e. e.words) (map plain_entry entries.now))) }
 {
     for entry in entries {
         push_other(out, &quoted(alloc, &entry.words)?)?;

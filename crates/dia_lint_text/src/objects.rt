@@ -38,7 +38,8 @@ pub(crate) fn push_object<B: Book>(
 }
 
 fn push_words(alloc: Global, out: &mut String, detail: &str) -> Result<(), AllocError>
-    ensures { OnOk result (string_bytes out.new ≡ string_bytes out.old ++ (codes ",\"detail\":" ++ quoted detail.now ++ codes "}\n")) }
+    ensures { OnOk result (string_bytes out.new ≡ string_bytes out.old ++ (codes ",\"detail\":" ++ quoted detail.now
+        ++ codes "}\n")) }
 {
     let detail = quoted(alloc, detail)?;
     write!(out, ",\"detail\":{detail}}}\n")
@@ -62,7 +63,8 @@ fn push_kind(out: &mut String, word: &str, kind: &str) -> Result<(), AllocError>
 }
 
 fn push_section(out: &mut String, section: &str) -> Result<(), AllocError>
-    ensures { OnOk result (string_bytes out.new ≡ string_bytes out.old ++ (codes ",\"section\":\"" ++ section.now ++ codes "\"")) }
+    ensures { OnOk result (string_bytes out.new ≡ string_bytes out.old ++ (codes ",\"section\":\"" ++ section.now
+        ++ codes "\"")) }
 {
     write!(out, ",\"section\":\"{section}\"")
 }

@@ -49,7 +49,8 @@ fn unsorted<B: Book>(
     findings: &[Finding],
     choice: &Choice,
 ) -> Result<Vec<Row>, AllocError>
-    ensures { IfOk result (λ rows. map plain_row rows.items ≡ asked_rows (has_in choice.now.chosen.items) (B.meaning parts.now.book.now) parts.now.source.now
+    ensures { IfOk result (λ rows. map plain_row rows.items
+        ≡ asked_rows (has_in choice.now.chosen.items) (B.meaning parts.now.book.now) parts.now.source.now
         (map (λ g. g.now) parts.now.groups.items) text.now findings.now) }
 {
     let mut rows = Vec::new(alloc);

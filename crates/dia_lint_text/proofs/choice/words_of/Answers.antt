@@ -1,5 +1,5 @@
-use Rattle.std.proofs.Common.{length, arith, ◌∙◌}
-use Rattle.dia_lint_text.proofs.Searches.{shorter, used_up}
+use Rattle.std.proofs.Common.{length, arith}
+use Rattle.dia_lint_text.proofs.Searches.{used_up}
 use Rattle.dia_lint_text.proofs.choice.words_of.Goals as goal
 
 pub push_last-requires : goal.push_last-requires

@@ -1,4 +1,4 @@
-use Rattle.std.proofs.Common.{map, refl, sym, ap, ◌∙◌}
+use Rattle.std.proofs.Common.{map, refl, ap}
 use Rattle.dia_dict.specs.contracts.indexed_book.IndexedBookBook.TheImpl.{ghosts}
 use Rattle.std.proofs.lemmas.Result.{IfOk-weaker}
 use Rattle.dia_accepted.specs.Accepted.{plain_entry}

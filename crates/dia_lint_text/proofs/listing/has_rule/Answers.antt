@@ -1,8 +1,7 @@
-use Rattle.std.proofs.Common.{nat_eq, map, ap, rules, tests, ◌∙◌, sym}
+use Rattle.std.proofs.Common.{nat_eq, map, ap, rules, tests, ◌∙◌}
 use Rattle.std.specs.List.{list_any}
 use Rattle.std.proofs.lemmas.Iterator.{YieldsList-from_slice}
 use Rattle.std.proofs.lemmas.Iterator.Search.{any_from_yields_List}
-use Rattle.dia_lint.specs.Words.{rule_number}
 use Rattle.dia_lint_text.proofs.Searches.{any_mapped}
 use Rattle.dia_lint_text.proofs.listing.has_rule.Goals as goal
 

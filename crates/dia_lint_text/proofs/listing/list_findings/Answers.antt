@@ -1,4 +1,4 @@
-use Rattle.std.proofs.Common.{[], length, map, refl, string_bytes, ap, sym, arith, ◌∙◌}
+use Rattle.std.proofs.Common.{length, map, string_bytes, ap, sym, arith}
 use Rattle.std.proofs.lemmas.List.{length-map}
 use Rattle.dia_accepted.specs.Accepted.{plain_entry}
 use Rattle.dia_lint_text.specs.Asking.{question}
