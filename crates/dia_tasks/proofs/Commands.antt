@@ -1,9 +1,8 @@
 -- Commands as text.
-use Rattle.std.proofs.Common.{◌≢◌, ℕ, List, refl}
+use Rattle.std.proofs.Common.{◌≢◌, refl}
 use Rattle.dia_io.specs.declared.Command.{Command}
 use Rattle.dia_io.specs.declared.Command.TheVariants.{Show, Render, Check, Compare, Refute, Propose}
 use Rattle.dia_io.specs.declared.Inputs.{Inputs}
-use Rattle.dia_io.specs.declared.Exit.{Exit}
 use Rattle.dia_cli.specs.declared.origin.Origin.{Origin}
 use Rattle.dia_run.specs.Outcome.{IsOutcome}
 use Rattle.dia_tasks.specs.Endings.{Runs}

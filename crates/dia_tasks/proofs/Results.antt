@@ -1,6 +1,6 @@
 -- Results that are no errors.
-use Rattle.std.proofs.Common.{◌≡◌, Bool, IsTrue, rules}
-use Rattle.std.specs.Prelude.{Result, Ok, Err, ◌↔◌, ◌⊎◌, true, false}
+use Rattle.std.proofs.Common.{◌≡◌}
+use Rattle.std.specs.Prelude.{Ok, Err, ◌↔◌, ◌⊎◌}
 use Rattle.std.proofs.Common.{arith}
 
 -- what holds just where there is an error doesn't hold

@@ -1,5 +1,5 @@
 -- What is written for a command whose inputs are read whole, and how it ends.
-use Rattle.std.specs.Prelude.{◌≡◌, ⊤, ℕ, Bool, true, false, List, map, codes, string_bytes}
+use Rattle.std.specs.Prelude.{◌≡◌, ℕ, Bool, true, false, List, map, codes, string_bytes}
 use Rattle.dia_io.specs.declared.Command.{Command}
 use Rattle.dia_io.specs.declared.Command.TheVariants.{Show, Render, Check, Compare, Refute, Propose}
 use Rattle.dia_io.specs.declared.Inputs.{Inputs}
@@ -71,7 +71,3 @@ pub data IsReplied (asked : Answering) (inputs : Inputs) (text : List ℕ) (exit
 abbrev pub name_line : NameFault → List ℕ
 name_line Host = line (codes "answer: host")
 name_line Realm = line (codes "answer: realm")
-
--- any text: what `lint` writes is tested, and not stated here
-abbrev pub IsAnyText : List ℕ → Exit → Type 0
-IsAnyText text exit = ⊤

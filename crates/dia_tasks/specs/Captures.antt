@@ -10,7 +10,6 @@ use Rattle.dia_lines.specs.declared.fault.LinesFault.{LinesFault}
 use Rattle.dia_lines.specs.declared.fault.LinesFault.TheVariants as fault
 use Rattle.dia_captures.specs.declared.summaries.Lines.{Lines}
 use Rattle.dia_captures.specs.declared.summaries.Lines.TheVariants.{Checked, Refuted, Placed}
-use Rattle.dia_captures.specs.declared.runs.Captured.{Captured}
 use Rattle.dia_captures.specs.Lines.{AreLinesAnswered, IsFrontPut, checks, refutations}
 use Rattle.dia_captures.specs.Streams.{IsStreamAnswered, IsStreamFrontPut}
 use Rattle.dia_json.specs.Runs.{ChecksLines, ChecksFront, RefutesLines, RefutesFront, ChecksStream, StreamFront}
@@ -23,7 +22,6 @@ use Rattle.dia_cli.specs.declared.ending.Ending.{Ending}
 use Rattle.dia_cli.specs.declared.ending.Ending.TheVariants as ending
 use Rattle.dia_cli.specs.declared.origin.Origin.{Origin}
 use Rattle.dia_cli.specs.declared.origin.Origin.TheVariants.{Nowhere, Base, Empty, File, StandardInput}
-use Rattle.dia_tasks.specs.declared.captured.Capture.{Capture}
 
 -- what a feed still gave before, and what it gives now
 pub record Fed : Type 0 where

@@ -1,5 +1,5 @@
 -- What a run leaves on standard output, and how it ends.
-use Rattle.std.specs.Prelude.{IsTrue, ◌≡◌, ℕ, Bool, true, false, List, Option, Result, Ok, Err, codes, string_bytes}
+use Rattle.std.specs.Prelude.{IsTrue, ◌≡◌, ℕ, true, List, Result, Ok, Err, codes, string_bytes}
 use Rattle.std.specs.Io.KnownBytes.{Appends}
 use Rattle.dia_io.specs.Writing.{AppendsFront}
 use Rattle.dia_io.specs.declared.Exit.{Exit}

@@ -2,5 +2,6 @@ pub mod Answers
 pub mod Captures
 pub mod Connections
 pub mod Endings
+pub mod Lints
 pub mod Samples
 pub mod Tasks

@@ -1,5 +1,5 @@
 -- What a task writes on standard output, and how it ends: each task but `breaking`.
-use Rattle.std.specs.Prelude.{IsTrue, ◌≡◌, ℕ, Bool, true, false, List, Option, Result, Ok, Err, map, string_bytes}
+use Rattle.std.specs.Prelude.{IsTrue, ◌≡◌, ℕ, Bool, true, List, Option, Result, Ok, Err, map, string_bytes}
 use Rattle.dia_io.specs.declared.Inputs.{Inputs}
 use Rattle.dia_captures.specs.declared.summaries.Lines.TheVariants.{Checked, Refuted, Placed}
 use Rattle.dia_make.specs.Outcome.{IsMakeOutcome}
@@ -10,11 +10,13 @@ use Rattle.dia_cli.specs.declared.ending.Ending.{Ending}
 use Rattle.dia_cli.specs.declared.origin.Origins.{Origins}
 use Rattle.dia_cli.specs.declared.task.Task.{Task}
 use Rattle.dia_cli.specs.declared.task.Task.TheVariants as task
-use Rattle.dia_tasks.specs.Answers.{IsAllFaults, IsAnswer, IsAnyText, IsNamed, IsReplied}
+use Rattle.dia_tasks.specs.Answers.{IsAllFaults, IsAnswer, IsNamed, IsReplied}
 use Rattle.dia_tasks.specs.Captures.{Captures, Lists, Masks, known_of, messages_word}
 use Rattle.dia_tasks.specs.Connections.{Follows}
+use Rattle.dia_tasks.specs.Lints.{question_of}
 use Rattle.dia_tasks.specs.Samples.{Samples, form_of}
 use Rattle.dia_diff.specs.Outcome.{IsDiffOutcome}
+use Rattle.dia_lint_text.specs.Outcome.{IsLintOutcome}
 use Rattle.dia_uses.specs.Outcome.{IsUsesOutcome}
 use Rattle.dia_tasks.specs.Endings.{Runs}
 use Rattle.dia_tasks.specs.declared.running.Attempt.{Attempt}
@@ -55,7 +57,7 @@ TaskRuns (task.Follow asked) json w origins inputs out ended =
 TaskRuns (task.Mask asked) json w origins inputs out ended = Masks (messages_word origins.messages) out ended
 TaskRuns (task.Uses avps) json w origins inputs out ended = Runs (IsUsesOutcome json (map string_bytes avps.items) inputs) out ended
 TaskRuns (task.Diff sends unknown) json w origins inputs out ended = Runs (IsDiffOutcome sends unknown json inputs) out ended
-TaskRuns (task.Lint asked) json w origins inputs out ended = Runs IsAnyText out ended
+TaskRuns (task.Lint asked) json w origins inputs out ended = Runs (IsLintOutcome (question_of asked json origins.first) inputs) out ended
 TaskRuns (task.Examples asked) json w origins inputs out ended = Samples (form_of asked.text json) asked.unknown inputs out ended
 
 -- `breaking` is left to be done: nothing was written

@@ -3,8 +3,9 @@
 ghost use Rattle.std.specs.Prelude.{◌≡◌, IsTrue, map, string_bytes};
 ghost use Rattle.dia_cli.specs.Ending.{stream};
 ghost use Rattle.dia_diff.specs.Outcome.{IsDiffOutcome};
-ghost use Rattle.dia_tasks.specs.Answers.{IsAnyText};
+ghost use Rattle.dia_lint_text.specs.Outcome.{IsLintOutcome};
 ghost use Rattle.dia_tasks.specs.Endings.{Runs};
+ghost use Rattle.dia_tasks.specs.Lints.{list_of, question_of};
 ghost use Rattle.dia_tasks.specs.Samples.{Samples, form_of};
 ghost use Rattle.dia_uses.specs.Outcome.{IsUsesOutcome};
 
@@ -91,7 +92,7 @@ where
     R: AllocGlobal + Eprint,
     W: Write,
     requires { ¬ IsTrue (⟦<ToWriter<W> as Sink>⟧.has_failed out.old) }
-    ensures { Runs IsAnyText
+    ensures { Runs (IsLintOutcome (question_of asked.now manner.json origins.now.first) inputs.now)
         (stream (⟦<ToWriter<W> as Sink>⟧.written out.old) (⟦<ToWriter<W> as Sink>⟧.written out.new)
         (⟦<ToWriter<W> as Sink>⟧.has_failed out.new)) result }
 {
@@ -160,7 +161,9 @@ fn form_of(text: bool, json: bool) -> Form
 }
 
 /// A list of names with commas, which is empty for the word that names no table.
-pub(crate) fn list_of(word: &str) -> &str {
+pub(crate) fn list_of(word: &str) -> &str
+    ensures { result.now ≡ list_of word.now }
+{
     if word == NO_TABLE { "" } else { word }
 }
 

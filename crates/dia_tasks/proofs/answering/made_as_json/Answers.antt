@@ -1,4 +1,3 @@
-use Rattle.std.proofs.Common.{IfOk, string_bytes, ◌≡◌, ℕ, List}
 use Rattle.dia_tasks.proofs.answering.made_as_json.Goals as goal
 
 pub returns-in-Check : goal.returns-in-Check

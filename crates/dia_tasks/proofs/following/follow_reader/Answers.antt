@@ -1,4 +1,4 @@
-use Rattle.std.proofs.Common.{rules, ◌≡◌, IsTrue, ℕ, List, arith, inr, refl, subst}
+use Rattle.std.proofs.Common.{inr, refl, subst}
 use Rattle.dia_tasks.proofs.Feeds.{gives_itself}
 use Rattle.dia_tasks.proofs.Failures.{failure_of}
 use Rattle.dia_tasks.proofs.Results.{sound_sink_at_ok}
@@ -30,7 +30,7 @@ returns g c = (
     fed (g.D.Read.remaining c.new-feed.result.reader) (g.D.Read.remaining c.follow.new.feed.reader),
     rw c.new-feed.ensures.remaining (gives_itself _),
     subst (λ (o : Options).
-      IsFollowBegun o c.args.inputs.now.first (g.D.Read.remaining c.new-feed.result.reader) (g.D.Read.remaining c.follow.new.feed.reader) (g.W.Write.contents c.args.out.now.writer)
-      (g.W.Write.contents c.follow.new.sink.writer)) c.options_of-options.ensures (c.in-Err.ensures.front refl),
+        IsFollowBegun o c.args.inputs.now.first (g.D.Read.remaining c.new-feed.result.reader) (g.D.Read.remaining c.follow.new.feed.reader) (g.W.Write.contents c.args.out.now.writer)
+        (g.W.Write.contents c.follow.new.sink.writer)) c.options_of-options.ensures (c.in-Err.ensures.front refl),
   ),
 )

@@ -1,4 +1,4 @@
-use Rattle.std.proofs.Common.{rules, ◌≡◌, IsTrue, ℕ, List, arith, inr, refl}
+use Rattle.std.proofs.Common.{inr, refl}
 use Rattle.dia_tasks.proofs.Feeds.{gives_itself}
 use Rattle.dia_tasks.proofs.Failures.{failure_of}
 use Rattle.dia_tasks.proofs.Results.{sound_sink_at_ok}

@@ -1,4 +1,3 @@
-use Rattle.std.proofs.Common.{rules}
 use Rattle.dia_answer_run.specs.Outcome.{IsAnswerText}
 use Rattle.dia_run.specs.Outcome.{IsMessageOutcome}
 use Rattle.dia_tasks.specs.Answers.{IsReplied, named}

@@ -1,4 +1,3 @@
-use Rattle.std.proofs.Common.{rules, ◌≡◌, IsTrue, ℕ, List}
 use Rattle.dia_tasks.proofs.running.run_json.Goals as goal
 
 pub returns-in-Show : goal.returns-in-Show

@@ -1,4 +1,3 @@
-use Rattle.std.proofs.Common.{IfOk, string_bytes, ◌≡◌, ℕ, List}
 use Rattle.dia_tasks.proofs.Commands.{text_is_outcome}
 use Rattle.dia_tasks.proofs.running.run_whole.Goals as goal
 

@@ -1,6 +1,3 @@
-use Rattle.std.proofs.Common.{rules, ◌≡◌, IsTrue, ℕ, List}
-use Rattle.dia_cli.specs.declared.origin.Origin.{Origin}
-use Rattle.dia_cli.specs.declared.origin.Origin.TheVariants.{Nowhere, Base, StandardInput, File}
 use Rattle.dia_tasks.proofs.running.show_plainly.Goals as goal
 use Rattle.dia_tasks.proofs.Commands.{show_with_words}
 

@@ -1,4 +1,4 @@
-use Rattle.std.proofs.Common.{rules, ◌≡◌, IsTrue, ℕ, List, Bool, true, false, string_bytes}
+use Rattle.std.proofs.Common.{◌≡◌, true, false, string_bytes}
 use Rattle.dia_tasks.proofs.showing.show_json.Goals as goal
 
 pub returns-in-Ok : goal.returns-in-Ok

@@ -1,4 +1,3 @@
-use Rattle.std.proofs.Common.{rules, ◌≡◌, IsTrue, ℕ, List}
 use Rattle.dia_tasks.proofs.showing.show_named.Goals as goal
 
 pub returns-then-manner : goal.returns-then-manner

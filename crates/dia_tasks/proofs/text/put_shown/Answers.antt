@@ -1,4 +1,3 @@
-use Rattle.std.proofs.Common.{rules, ◌≡◌, IsTrue, ℕ, List}
 use Rattle.dia_tasks.proofs.Results.{sound_at_ok}
 use Rattle.dia_tasks.proofs.text.put_shown.Goals as goal
 

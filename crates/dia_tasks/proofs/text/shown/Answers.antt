@@ -1,4 +1,3 @@
-use Rattle.std.proofs.Common.{rules, ◌≡◌, IsTrue, ℕ, List}
 use Rattle.dia_tasks.proofs.text.shown.Goals as goal
 
 pub returns-in-Ok : goal.returns-in-Ok
