@@ -5,13 +5,38 @@ use dia_peer::{Cause, Event, Output, Role, State, TimerAction, quiet_ms, timer};
 
 /// The state before, the event, the state after, and what the timer does.
 const ROWS: [(State, Event<'static>, State, TimerAction); 8] = [
-    (State::Idle, Event::Start, State::WaitCer, TimerAction::Reply),
-    (State::WaitCer, Event::Bytes(&[]), State::WaitCer, TimerAction::Keep),
-    (State::WaitCer, Event::Bytes(&[]), State::Open, TimerAction::Quiet),
+    (
+        State::Idle,
+        Event::Start,
+        State::WaitCer,
+        TimerAction::Reply,
+    ),
+    (
+        State::WaitCer,
+        Event::Bytes(&[]),
+        State::WaitCer,
+        TimerAction::Keep,
+    ),
+    (
+        State::WaitCer,
+        Event::Bytes(&[]),
+        State::Open,
+        TimerAction::Quiet,
+    ),
     (State::Open, Event::Tick, State::Open, TimerAction::Quiet),
     (State::Open, Event::Start, State::Open, TimerAction::Keep),
-    (State::Open, Event::Stop(Cause::Busy), State::WaitDpa, TimerAction::Reply),
-    (State::WaitDpa, Event::Bytes(&[]), State::WaitDpa, TimerAction::Keep),
+    (
+        State::Open,
+        Event::Stop(Cause::Busy),
+        State::WaitDpa,
+        TimerAction::Reply,
+    ),
+    (
+        State::WaitDpa,
+        Event::Bytes(&[]),
+        State::WaitDpa,
+        TimerAction::Keep,
+    ),
     (State::Open, Event::Lost, State::Closed, TimerAction::Off),
 ];
 
