@@ -42,9 +42,9 @@ impl<A: Book, B: Book> Drop for Traffic<'_, A, B> {
 /// Which messages a line breaks.
 #[derive(Clone, Copy)]
 pub(crate) struct Mark {
-    /// Those of the first side.
+    /// Messages that the side of the first dictionary sends.
     pub there: bool,
-    /// Those of the second.
+    /// Messages that the side of the second one sends.
     pub back: bool,
 }
 

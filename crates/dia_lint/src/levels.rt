@@ -11,9 +11,9 @@ use dia_breaking_levels::{Costs, TOO_LONG, length_least};
 /// The least lengths of a definition's levels, in bytes. `TOO_LONG` means that no message has room.
 #[derive(Clone, Copy)]
 pub(crate) struct LevelCost {
-    /// That of a least level.
+    /// The length of a least level.
     pub base: u64,
-    /// That of a shortest AVP that no rule lists.
+    /// The length of a shortest AVP that no rule lists.
     pub filler: u64,
     /// What a least level with an AVP that comes through the wildcard takes besides that AVP.
     pub beside: u64,

@@ -167,7 +167,7 @@ fn findings<B: Book>(alloc: Global, book: &B, unknown: Unknown) -> Result<Vec<Fi
     Ok(all)
 }
 
-/// Those that don't follow from what messages have.
+/// The findings of the rules that `exact_findings` leaves out.
 fn others<B: Book>(alloc: Global, book: &B) -> Result<Vec<Finding>, AllocError> {
     let mut all = command_findings(alloc, book)?;
     all.extend_from_slice(&range_findings(alloc, book)?)?;

@@ -40,7 +40,7 @@ impl AvpCount {
 pub struct Counts {
     /// By entry.
     known: Vec<AvpCount>,
-    /// Those that the dictionary doesn't know.
+    /// Of the AVPs that the dictionary doesn't know.
     pub unknown: AvpCount,
     /// How many bytes became zero that are no part of an AVP or of the message.
     pub zeroed: u64,
