@@ -2,8 +2,8 @@
 use Rattle.std.proofs.Common.{◌≡◌, Result, Ok, Err, subst}
 use Rattle.std.specs.declared.alloc.AllocError.{AllocError}
 use Rattle.dia_book.specs.Dictionary.{Dictionary}
-use Rattle.dia_policy.specs.declared.Unknown.{Unknown}
-use Rattle.dia_policy.specs.declared.Levels.{Levels}
+use Rattle.dia_terms.specs.declared.Unknown.{Unknown}
+use Rattle.dia_terms.specs.declared.Levels.{Levels}
 use Rattle.dia_valid.specs.Valid.{IsValid}
 use Rattle.dia_answer.specs.declared.contents.Contents.{Contents}
 use Rattle.dia_answer.specs.declared.forms.Made.{Made}

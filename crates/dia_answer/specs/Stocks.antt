@@ -10,8 +10,8 @@ use Rattle.dia_book.specs.declared.MRule.TheVariants.{MustNot}
 use Rattle.dia_book.specs.declared.DRule.{DRule}
 use Rattle.dia_book.specs.Keys.{same_key}
 use Rattle.dia_book.specs.Dictionary.{Dictionary}
-use Rattle.dia_policy.specs.declared.Unknown.{Unknown}
-use Rattle.dia_policy.specs.declared.Levels.{Levels}
+use Rattle.dia_terms.specs.declared.Unknown.{Unknown}
+use Rattle.dia_terms.specs.declared.Levels.{Levels}
 use Rattle.dia_valid.specs.Valid.{known, AllFit, is_listed, has_wildcard}
 use Rattle.dia_answer.specs.Dictionaries.{base_key}
 

@@ -5,8 +5,8 @@ use Rattle.hex.specs.Hex.{encode_lower}
 use Rattle.dia_io.specs.declared.Exit.TheVariants as exits
 use Rattle.dia_io.specs.declared.Inputs.{Inputs}
 use Rattle.dia_dict.specs.Dictionary.{Dictionary}
-use Rattle.dia_policy.specs.declared.Unknown.{Unknown}
-use Rattle.dia_policy.specs.declared.Levels.{Levels}
+use Rattle.dia_terms.specs.declared.Unknown.{Unknown}
+use Rattle.dia_terms.specs.declared.Levels.{Levels}
 use Rattle.dia_report.specs.declared.Refused.TheVariants.{Bad}
 use Rattle.dia_report.specs.declared.BadInput.{BadInput}
 use Rattle.dia_report.specs.Refusals.{RecordsOf, bad_input_text, dictionary_line}

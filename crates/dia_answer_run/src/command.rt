@@ -14,9 +14,9 @@ ghost use Rattle.dia_answer_run.specs.Outcome.{IsAnswerText};
 use dia_answer::{Form, Made, Names, NoAnswer, answer};
 use dia_dict::Book;
 use dia_io::{Exit, Inputs, RunFault, Sink, put_all};
-use dia_policy::{Levels, Unknown};
 use dia_report::{BadInput, Refused};
 use dia_run::{read_dictionary, read_message};
+use dia_terms::{Levels, Unknown};
 use std::alloc::{AllocError, Global};
 
 /// What the command found in its inputs.

@@ -5,9 +5,9 @@ use Rattle.std.specs.Int.{IsBitSet}
 use Rattle.dia_wire.specs.declared.Header.{Header}
 use Rattle.dia_wire.specs.Wire.{PlainAvp, IsHead, IsMessage}
 use Rattle.dia_book.specs.Dictionary.{Dictionary, PlainDefinition, definitions, selected}
-use Rattle.dia_policy.specs.declared.Unknown.{Unknown}
-use Rattle.dia_policy.specs.declared.Levels.TheVariants as levels
-use Rattle.dia_policy.specs.declared.Sends.{Sends}
+use Rattle.dia_terms.specs.declared.Unknown.{Unknown}
+use Rattle.dia_terms.specs.declared.Levels.TheVariants as levels
+use Rattle.dia_terms.specs.declared.Sends.{Sends}
 use Rattle.dia_valid.specs.Valid.{PHolds, IsValid, class_of}
 use Rattle.dia_breaking.specs.declared.heads.Head.{Head}
 use Rattle.dia_breaking.specs.declared.line.Place.{Place}

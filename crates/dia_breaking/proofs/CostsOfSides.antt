@@ -5,8 +5,8 @@ use Rattle.std.specs.Option.{option_map_or}
 use Rattle.dia_wire.specs.declared.Key.{Key}
 use Rattle.dia_wire.specs.Wire.{head_length}
 use Rattle.dia_book.specs.Dictionary.{Dictionary, entry_of}
-use Rattle.dia_policy.specs.declared.Sends.{Sends}
-use Rattle.dia_policy.specs.declared.Sends.TheVariants.{Any, Known, Listed}
+use Rattle.dia_terms.specs.declared.Sends.{Sends}
+use Rattle.dia_terms.specs.declared.Sends.TheVariants.{Any, Known, Listed}
 use Rattle.dia_breaking_levels.specs.LevelTests.{too_long}
 use Rattle.dia_breaking_levels.specs.Showing.{HaveLengths}
 use Rattle.dia_breaking_shortest.specs.Exact.{AreExact}

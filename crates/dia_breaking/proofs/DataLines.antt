@@ -9,7 +9,7 @@ use Rattle.dia_wire.specs.Wire.{PlainAvp, SpellsAll, avp_length}
 use Rattle.dia_data.specs.Plain.{PlainFormat, EightBytes, Address, Utf8String}
 use Rattle.dia_book.specs.declared.DRule.{DRule}
 use Rattle.dia_book.specs.Dictionary.{Dictionary, DictEntry, PlainDefinition}
-use Rattle.dia_policy.specs.declared.Sends.{Sends}
+use Rattle.dia_terms.specs.declared.Sends.{Sends}
 use Rattle.dia_breaking_data.specs.declared.short_data.Witness.{Witness}
 use Rattle.dia_breaking_avps.specs.Breaks.{IsDataBreak}
 use Rattle.dia_breaking_avps.specs.Levels.{HasEightBytes, IsOrdinary, IsUndecided, RefusesLeastLevel, empty, short}

@@ -1,7 +1,7 @@
 -- The least lengths, recorded as the entries' lengths, are floors.
 use Rattle.std.proofs.Common.{◌≡◌, ℕ, List, subst}
 use Rattle.dia_book.specs.Dictionary.{Dictionary}
-use Rattle.dia_policy.specs.declared.Sends.{Sends}
+use Rattle.dia_terms.specs.declared.Sends.{Sends}
 use Rattle.dia_breaking_shortest.specs.declared.lookup.Least.{Least}
 use Rattle.dia_breaking_shortest.specs.Floors.{AreFloors}
 use Rattle.dia_breaking_shortest.specs.Lengths.{length_of}

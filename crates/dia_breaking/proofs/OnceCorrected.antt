@@ -15,9 +15,9 @@ use Rattle.dia_wire.proofs.OneHeader.{head_says}
 use Rattle.dia_book.specs.declared.Class.{Class}
 use Rattle.dia_book.specs.declared.Class.TheVariants.{Request, Answer, Error as ErrorClass}
 use Rattle.dia_book.specs.Dictionary.{Dictionary, IsDictionary, PlainDefinition, definitions, groups, selected}
-use Rattle.dia_policy.specs.declared.Sends.{Sends}
-use Rattle.dia_policy.specs.declared.Unknown.{Unknown}
-use Rattle.dia_policy.specs.declared.Levels.TheVariants as levels
+use Rattle.dia_terms.specs.declared.Sends.{Sends}
+use Rattle.dia_terms.specs.declared.Unknown.{Unknown}
+use Rattle.dia_terms.specs.declared.Levels.TheVariants as levels
 use Rattle.dia_check.specs.Faults.{HasLength}
 use Rattle.dia_valid.specs.Valid.{AllFit, AllowsP, IsValid, Placed, class_of}
 use Rattle.dia_valid.proofs.SelectedCommands.{Choice, NoChoice, choose, command_at}

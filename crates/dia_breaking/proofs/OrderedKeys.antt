@@ -8,8 +8,8 @@ use Rattle.dia_book.specs.Keys.{same_key}
 use Rattle.dia_book.specs.Dictionary.{Dictionary, DictEntry, IsDictionary, entry_of}
 use Rattle.dia_book.proofs.Members.{AreApart, AreApart-filter, at_append, at_filter, at_map, position-is_some}
 use Rattle.dia_book.proofs.SameKeys.{same_key-equal}
-use Rattle.dia_policy.specs.declared.Sends.{Sends}
-use Rattle.dia_policy.specs.declared.Sends.TheVariants.{Any, Known, Listed}
+use Rattle.dia_terms.specs.declared.Sends.{Sends}
+use Rattle.dia_terms.specs.declared.Sends.TheVariants.{Any, Known, Listed}
 use Rattle.dia_breaking.specs.SentKeys.{AreSentInOrder, IsStrange, IsStranger, entry_keys, keys_of_b_alone}
 
 -- ---- the stranger

@@ -12,8 +12,8 @@ use Rattle.dia_data.specs.Plain.{PlainFormat, EightBytes, Address, Utf8String}
 use Rattle.dia_book.specs.declared.DRule.{DRule}
 use Rattle.dia_book.specs.Dictionary.{Dictionary, DictEntry, PlainDefinition}
 use Rattle.dia_valid.specs.Valid.{known}
-use Rattle.dia_policy.specs.declared.Unknown.{Unknown}
-use Rattle.dia_policy.specs.declared.Sends.{Sends}
+use Rattle.dia_terms.specs.declared.Unknown.{Unknown}
+use Rattle.dia_terms.specs.declared.Sends.{Sends}
 use Rattle.dia_breaking_avps.specs.declared.breaking.AvpBreaks.{AvpBreaks}
 use Rattle.dia_breaking_avps.specs.declared.breaking.HeadBreak.{HeadBreak}
 use Rattle.dia_breaking_avps.specs.declared.breaking.HeadBreak.TheVariants.{Unknown as UnknownAvp, MBit}

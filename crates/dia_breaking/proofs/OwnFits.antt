@@ -10,9 +10,9 @@ use Rattle.dia_data.specs.Leaf.{IsLeaf}
 use Rattle.dia_book.specs.declared.DRule.{DRule}
 use Rattle.dia_book.specs.Dictionary.{Dictionary, DictEntry, PlainDefinition, IsDictionary, entry_of}
 use Rattle.dia_book.proofs.Members.{at_map, into_map}
-use Rattle.dia_policy.specs.declared.Unknown.{Unknown}
-use Rattle.dia_policy.specs.declared.Sends.{Sends}
-use Rattle.dia_policy.specs.declared.Sends.TheVariants.{Any}
+use Rattle.dia_terms.specs.declared.Unknown.{Unknown}
+use Rattle.dia_terms.specs.declared.Sends.{Sends}
+use Rattle.dia_terms.specs.declared.Sends.TheVariants.{Any}
 use Rattle.dia_valid.specs.Valid.{Fits as AvpFits, IsAccepted, IsLevel, MHolds, is_listed, known}
 use Rattle.dia_valid.specs.Valid.{HasFlags}
 use Rattle.dia_valid.specs.Rules.{rules_in}

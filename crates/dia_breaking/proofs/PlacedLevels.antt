@@ -10,8 +10,8 @@ use Rattle.dia_wire.specs.Wire.{PlainAvp, key_of}
 use Rattle.dia_book.specs.declared.DRule.{DRule}
 use Rattle.dia_book.specs.Dictionary.{Dictionary, PlainDefinition, AreRules, IsDictionary, definitions}
 use Rattle.dia_book.proofs.Members.{at_map, into_map, into_right}
-use Rattle.dia_policy.specs.declared.Unknown.{Unknown}
-use Rattle.dia_policy.specs.declared.Sends.{Sends}
+use Rattle.dia_terms.specs.declared.Unknown.{Unknown}
+use Rattle.dia_terms.specs.declared.Sends.{Sends}
 use Rattle.dia_valid.specs.Valid.{Placed}
 use Rattle.dia_valid.specs.Rules.{rules_in}
 use Rattle.dia_valid.proofs.Members.{IsIn, in_contains, in_filter_map, some_of, there_is}

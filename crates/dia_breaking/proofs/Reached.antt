@@ -12,8 +12,8 @@ use Rattle.dia_book.specs.declared.DRule.{DRule}
 use Rattle.dia_book.specs.Dictionary.{Dictionary, PlainDefinition, AreRules, IsDictionary, definitions, entry_of, lists_key}
 use Rattle.dia_book.proofs.Members.{at_Contains, at_filter_map, at_map, into_map, position-is_some}
 use Rattle.dia_book.proofs.SameKeys.{same_key-equal, same_key-refl, same_key-true}
-use Rattle.dia_policy.specs.declared.Unknown.{Unknown}
-use Rattle.dia_policy.specs.declared.Sends.{Sends}
+use Rattle.dia_terms.specs.declared.Unknown.{Unknown}
+use Rattle.dia_terms.specs.declared.Sends.{Sends}
 use Rattle.dia_valid.proofs.Entries.{at_position}
 use Rattle.dia_valid.specs.Valid.{is_listed}
 use Rattle.dia_valid.specs.Rules.{rules_in}

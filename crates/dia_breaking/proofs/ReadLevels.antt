@@ -12,8 +12,8 @@ use Rattle.dia_data.specs.Leaf.{IsLeaf}
 use Rattle.dia_book.specs.declared.DRule.{DRule}
 use Rattle.dia_book.specs.Dictionary.{Dictionary, DictEntry, PlainDefinition, IsDictionary, definitions, entry_of}
 use Rattle.dia_book.proofs.Members.{at_Contains, into_map}
-use Rattle.dia_policy.specs.declared.Unknown.{Unknown}
-use Rattle.dia_policy.specs.declared.Sends.{Sends}
+use Rattle.dia_terms.specs.declared.Unknown.{Unknown}
+use Rattle.dia_terms.specs.declared.Sends.{Sends}
 use Rattle.dia_valid.specs.Valid.{known, is_listed, IsAccepted, MHolds}
 use Rattle.dia_valid.specs.Valid.{group_at}
 use Rattle.dia_valid.proofs.Members.{IsIn, in_contains, there_is}

@@ -11,8 +11,8 @@ use Rattle.dia_book.specs.Dictionary.{Dictionary, IsDictionary}
 use Rattle.dia_book.proofs.Members.{AreApart, AreApart-filter, position-is_some}
 use Rattle.dia_book.proofs.SameKeys.{same_key-equal, same_key-true}
 use Rattle.dia_valid.proofs.Entries.{at_position}
-use Rattle.dia_policy.specs.declared.Unknown.{Unknown}
-use Rattle.dia_policy.specs.declared.Sends.{Sends}
+use Rattle.dia_terms.specs.declared.Unknown.{Unknown}
+use Rattle.dia_terms.specs.declared.Sends.{Sends}
 use Rattle.dia_breaking.specs.declared.keys.Own.{Own}
 use Rattle.dia_breaking.specs.declared.keys.Recording.{Recording}
 use Rattle.dia_breaking.specs.SentKeys.{AreSentInOrder}

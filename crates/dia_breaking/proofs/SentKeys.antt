@@ -7,8 +7,8 @@ use Rattle.dia_wire.specs.declared.Key.{Key}
 use Rattle.dia_book.specs.Dictionary.{DictEntry, Dictionary, IsDictionary, entry_of}
 use Rattle.dia_book.proofs.Members.{at_Contains, into_filter}
 use Rattle.dia_valid.proofs.Members.{IsIn, contains_in, in_left, in_right, some_of}
-use Rattle.dia_policy.specs.declared.Sends.{Sends}
-use Rattle.dia_policy.specs.declared.Sends.TheVariants.{Any, Known, Listed}
+use Rattle.dia_terms.specs.declared.Sends.{Sends}
+use Rattle.dia_terms.specs.declared.Sends.TheVariants.{Any, Known, Listed}
 use Rattle.dia_breaking_shortest.proofs.Strangers.{key_at, key_in, at_most}
 use Rattle.dia_breaking.specs.SentKeys.{AreSentInOrder, AreSentKeys, HasKeys, entry_keys, keys_of_b_alone}
 use Rattle.dia_breaking.proofs.Lists.{contains_at}

@@ -6,8 +6,8 @@ use Rattle.dia_wire.specs.declared.Key.{Key}
 use Rattle.dia_wire.specs.Wire.{PlainAvp, key_of, head_length, avp_length, padded_length}
 use Rattle.dia_book.specs.declared.DRule.{DRule}
 use Rattle.dia_book.specs.Dictionary.{Dictionary}
-use Rattle.dia_policy.specs.declared.Unknown.{Unknown}
-use Rattle.dia_policy.specs.declared.Sends.{Sends}
+use Rattle.dia_terms.specs.declared.Unknown.{Unknown}
+use Rattle.dia_terms.specs.declared.Sends.{Sends}
 use Rattle.dia_breaking_sites.specs.Sent.{IsSentWithin}
 use Rattle.dia_breaking_sites.specs.Sites.{IsLevelOf}
 use Rattle.dia_breaking_sites.proofs.Members.{IsIn, in_contains, contains_in, in_all}

@@ -13,8 +13,8 @@ use Rattle.dia_book.proofs.SameKeys.{same_key-true}
 use Rattle.dia_valid.specs.Valid.{is_listed}
 use Rattle.dia_valid.specs.Rules.{rules_in}
 use Rattle.dia_valid.proofs.Members.{taken, in_at, at_in, in_contains, contains_in, any_in, IsIn}
-use Rattle.dia_policy.specs.declared.Sends.{Sends}
-use Rattle.dia_policy.specs.declared.Sends.TheVariants.{Any, Known, Listed}
+use Rattle.dia_terms.specs.declared.Sends.{Sends}
+use Rattle.dia_terms.specs.declared.Sends.TheVariants.{Any, Known, Listed}
 use Rattle.dia_breaking_shortest.specs.Floors.{shortest_head}
 use Rattle.dia_breaking_shortest.proofs.Strangers.{key_in}
 use Rattle.dia_breaking_levels.specs.Levels.{FirstIsShortest}

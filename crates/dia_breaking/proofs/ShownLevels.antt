@@ -10,9 +10,9 @@ use Rattle.dia_book.specs.declared.Class.{Class}
 use Rattle.dia_book.specs.declared.DRule.{DRule}
 use Rattle.dia_book.specs.Dictionary.{Dictionary, DictEntry, IsDictionary, PlainDefinition, entry_of, group_place, selected}
 use Rattle.dia_book.proofs.Members.{at_map, into_left, into_map, into_right}
-use Rattle.dia_policy.specs.declared.Levels.TheVariants as levels
-use Rattle.dia_policy.specs.declared.Sends.{Sends}
-use Rattle.dia_policy.specs.declared.Unknown.{Unknown}
+use Rattle.dia_terms.specs.declared.Levels.TheVariants as levels
+use Rattle.dia_terms.specs.declared.Sends.{Sends}
+use Rattle.dia_terms.specs.declared.Unknown.{Unknown}
 use Rattle.dia_valid.specs.Valid.{IsValidOf, class_of, known}
 use Rattle.dia_valid.specs.Rules.{rules_in}
 use Rattle.dia_valid.proofs.GroupNumbers.{group_there}

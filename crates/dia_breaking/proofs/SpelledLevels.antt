@@ -10,8 +10,8 @@ use Rattle.dia_wire.specs.Wire.{PlainAvp, Spells, SpellsAll, key_of}
 use Rattle.dia_breaking_data.specs.declared.short_data.Witness.{Witness}
 use Rattle.dia_breaking_data.specs.Shortest.{witness_bytes}
 use Rattle.dia_book.specs.Dictionary.{entry_of}
-use Rattle.dia_policy.specs.declared.Sends.{Sends}
-use Rattle.dia_policy.specs.declared.Sends.TheVariants.{Any, Known, Listed}
+use Rattle.dia_terms.specs.declared.Sends.{Sends}
+use Rattle.dia_terms.specs.declared.Sends.TheVariants.{Any, Known, Listed}
 use Rattle.dia_valid.proofs.Members.{contains_in, in_left, in_right}
 use Rattle.dia_breaking_avps.specs.Sent.{HasThisM}
 use Rattle.dia_breaking_levels.specs.LevelTests.{too_long}

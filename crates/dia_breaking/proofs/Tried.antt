@@ -8,8 +8,8 @@ use Rattle.dia_data.specs.Plain.{PlainFormat, Grouped}
 use Rattle.dia_data.specs.declared.accept.Leaf.TheVariants.{Fine, BadLength, BadValue}
 use Rattle.dia_book.specs.declared.DRule.{DRule}
 use Rattle.dia_book.specs.Dictionary.{Dictionary, DictEntry, PlainDefinition}
-use Rattle.dia_policy.specs.declared.Unknown.{Unknown}
-use Rattle.dia_policy.specs.declared.Sends.{Sends}
+use Rattle.dia_terms.specs.declared.Unknown.{Unknown}
+use Rattle.dia_terms.specs.declared.Sends.{Sends}
 use Rattle.dia_valid.specs.Valid.{Fits, IsLevel}
 use Rattle.dia_data.proofs.Leaves.{leaf_fits}
 use Rattle.dia_breaking_avps.specs.Breaks.{IsDataBreak}

@@ -1,9 +1,9 @@
 -- What two checks of a message show: one under the sender's dictionary, one under the receiver's.
 use Rattle.std.specs.Prelude.{◌≡◌, ◌≢◌, ⊤, ℕ, ◌-◌, nat_le, Bool, true, false, not, ◌&&◌, if◌then◌else◌, List, [], ◌∷◌, All, Some, Contains, slice_get}
 use Rattle.dia_book.specs.Dictionary.{Dictionary, PlainDefinition, definitions}
-use Rattle.dia_policy.specs.declared.Levels.TheVariants as levels
-use Rattle.dia_policy.specs.declared.Sends.{Sends}
-use Rattle.dia_policy.specs.declared.Sends.TheVariants.{Any, Known, Listed}
+use Rattle.dia_terms.specs.declared.Levels.TheVariants as levels
+use Rattle.dia_terms.specs.declared.Sends.{Sends}
+use Rattle.dia_terms.specs.declared.Sends.TheVariants.{Any, Known, Listed}
 use Rattle.dia_valid.specs.Valid.{IsValid, IsValidOf}
 use Rattle.dia_breaking_sites.specs.Sent.{own_policy, Breaks}
 use Rattle.dia_valid.specs.Inclusion.{PlainTable, IsIncluded}

@@ -4,7 +4,7 @@ use Rattle.std.specs.Int.{IsBitSet}
 use Rattle.dia_wire.specs.declared.Header.{Header}
 use Rattle.dia_wire.specs.Wire.{IsMessage}
 use Rattle.dia_book.specs.Dictionary.{Dictionary, PlainDefinition}
-use Rattle.dia_policy.specs.declared.Levels.TheVariants as levels
+use Rattle.dia_terms.specs.declared.Levels.TheVariants as levels
 use Rattle.dia_valid.specs.Valid.{AllowsP, IsValid, IsValidOf}
 use Rattle.dia_breaking_sites.specs.Sent.{IsSent, own_policy}
 use Rattle.dia_breaking_sites.specs.Sites.{AreAsked}

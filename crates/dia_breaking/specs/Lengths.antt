@@ -5,9 +5,9 @@ use Rattle.std.specs.Ordering.{nat_cmp}
 use Rattle.std.specs.Option.{option_map_or}
 use Rattle.dia_wire.specs.declared.Key.{Key}
 use Rattle.dia_book.specs.Dictionary.{Dictionary, entry_of}
-use Rattle.dia_policy.specs.declared.Sends.{Sends}
+use Rattle.dia_terms.specs.declared.Sends.{Sends}
 use Rattle.dia_breaking.specs.SentKeys.{IsStranger, entry_keys}
-use Rattle.dia_policy.specs.declared.Sends.TheVariants.{Any, Known, Listed}
+use Rattle.dia_terms.specs.declared.Sends.TheVariants.{Any, Known, Listed}
 use Rattle.dia_breaking_shortest.specs.declared.lookup.Least.{Least}
 use Rattle.dia_breaking_shortest.specs.Floors.{shortest_head}
 use Rattle.dia_breaking_shortest.specs.Least.{IsLeastOf}

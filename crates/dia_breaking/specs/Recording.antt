@@ -5,8 +5,8 @@ use Rattle.std.specs.HashMap.{get}
 use Rattle.dia_wire.specs.declared.Key.{Key}
 use Rattle.dia_book.specs.Keys.{same_key}
 use Rattle.dia_book.specs.Dictionary.{Dictionary}
-use Rattle.dia_policy.specs.declared.Unknown.{Unknown}
-use Rattle.dia_policy.specs.declared.Sends.{Sends}
+use Rattle.dia_terms.specs.declared.Unknown.{Unknown}
+use Rattle.dia_terms.specs.declared.Sends.{Sends}
 use Rattle.dia_breaking_avps.specs.Sent.{group_of}
 use Rattle.dia_breaking_avps.specs.Breaks.{AcceptsFlags}
 use Rattle.dia_breaking_avps.specs.Laws.{FitKeyAlone}

@@ -1,8 +1,8 @@
 -- The two sides of an upgrade, and what is reported of a command.
 use Rattle.std.specs.Prelude.{ℕ, List}
 use Rattle.dia_book.specs.Dictionary.{Dictionary}
-use Rattle.dia_policy.specs.declared.Sends.{Sends}
-use Rattle.dia_policy.specs.declared.Unknown.{Unknown}
+use Rattle.dia_terms.specs.declared.Sends.{Sends}
+use Rattle.dia_terms.specs.declared.Unknown.{Unknown}
 use Rattle.dia_breaking.specs.declared.line.Breaks.{Breaks}
 use Rattle.dia_breaking.specs.declared.line.Line.{Line}
 use Rattle.dia_breaking.specs.declared.line.Site.{Site}

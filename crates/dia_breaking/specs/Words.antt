@@ -12,8 +12,8 @@ use Rattle.dia_data.specs.Plain.{PlainFormat, plain_format, word_of}
 use Rattle.dia_breaking.specs.Runs.{canonical, lacking_of, ranges_in}
 use Rattle.dia_book.specs.declared.DRule.{DRule}
 use Rattle.dia_book.specs.Dictionary.{Dictionary, definitions, groups, selected}
-use Rattle.dia_policy.specs.declared.Unknown.{Unknown}
-use Rattle.dia_policy.specs.declared.Unknown.TheVariants.{Kept, Refused}
+use Rattle.dia_terms.specs.declared.Unknown.{Unknown}
+use Rattle.dia_terms.specs.declared.Unknown.TheVariants.{Kept, Refused}
 use Rattle.dia_valid.specs.Valid.{known}
 use Rattle.dia_valid.specs.Rules.{rule_of, rules_in, wildcard_of}
 use Rattle.dia_breaking_levels.specs.declared.line.Line.{Line as LevelLine}

@@ -1,7 +1,7 @@
 //! Messages of lines, checked under both dictionaries.
 ghost use Rattle.std.specs.Prelude.{◌≡◌, ◌↔◌, ◌+◌, ℕ, IfNone, IfOk, IfSome, IsTrue, List, length, map};
 ghost use Rattle.dia_wire.specs.Lengths.{header_length};
-ghost use Rattle.dia_policy.specs.declared.Levels.TheVariants.{Any};
+ghost use Rattle.dia_terms.specs.declared.Levels.TheVariants.{Any};
 ghost use Rattle.dia_valid.specs.Valid.{IsValid, IsValidOf};
 ghost use Rattle.dia_breaking_sites.specs.Sent.{own_policy};
 ghost use Rattle.dia_breaking_shortest.specs.Floors.{IsSpellable};
@@ -19,7 +19,7 @@ use crate::line::{Breaks, Cause, Line, Standing};
 use crate::upgrade::Upgrade;
 use dia_book::{Book, DefId, Key};
 use dia_check::{Levels, Refusal, check};
-use dia_policy::{Sends, Unknown};
+use dia_terms::{Sends, Unknown};
 use dia_wire::HEADER_LENGTH;
 use std::alloc::{AllocError, Global};
 

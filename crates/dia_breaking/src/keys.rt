@@ -18,7 +18,7 @@ use crate::lengths::{keys_of, stranger};
 use crate::meanings::is_read_as_other;
 use dia_book::{Book, Key};
 use dia_breaking_avps::{AvpBreaks, DataBreak, avp_breaks};
-use dia_policy::{Sends, Unknown};
+use dia_terms::{Sends, Unknown};
 use std::alloc::{AllocError, Global};
 use std::collections::HashMap;
 

@@ -11,7 +11,7 @@ ghost use Rattle.dia_breaking.specs.SentKeys.{IsStrange, IsStranger, entry_keys}
 use dia_book::{Book, Key};
 use dia_breaking_levels::{Costs, TOO_LONG};
 use dia_breaking_shortest::{Least, least_lengths, shortest_head};
-use dia_policy::Sends;
+use dia_terms::Sends;
 use std::alloc::{AllocError, Global};
 
 /// A's dictionary, what A's side sends, and the lengths of the shortest AVPs that it sends.

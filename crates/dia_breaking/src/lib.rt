@@ -41,7 +41,7 @@ mod ways;
 mod words;
 
 pub use confirm::MOST_CHECKED_TOGETHER;
-pub use dia_policy::{Sends, Unknown};
+pub use dia_terms::{Sends, Unknown};
 pub use laws::{
     data_lines_are_apart, included_commands_break_nothing, line_messages_are_one, lines_are_shown,
     listings_are_one, the_lines_are_all, the_lines_are_one, the_meanings_are_one,

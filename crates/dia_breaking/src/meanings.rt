@@ -11,7 +11,7 @@ use crate::books::{format_of, group_of, m_rule_of};
 use dia_book::{Book, Format, Key, MRule};
 use dia_breaking_avps::{AvpBreaks, DataBreak};
 use dia_data::format_below;
-use dia_policy::{Sends, Unknown};
+use dia_terms::{Sends, Unknown};
 
 /// Whether B's side accepts all data of AVPs of the key, and reads them as another format. `breaks` says how these break.
 pub(crate) fn is_read_as_other<A: Book, B: Book>(

@@ -10,7 +10,7 @@ use crate::meanings::is_read_as_other;
 use dia_book::{Book, Key};
 use dia_breaking_avps::{AvpBreaks, avp_breaks};
 use dia_breaking_levels::Costs;
-use dia_policy::Unknown;
+use dia_terms::Unknown;
 use std::alloc::{AllocError, Global};
 
 /// An AVP of which there is something to report.

@@ -20,7 +20,7 @@ use crate::upgrade::Upgrade;
 use crate::words::{command_name, is_command, site_at};
 use dia_book::{Book, DefId, Key};
 use dia_breaking_levels::{Line as LevelLine, Reason};
-use dia_policy::Unknown;
+use dia_terms::Unknown;
 use std::alloc::{AllocError, Global};
 
 impl<'a, A: Book, B: Book> Upgrade<'a, A, B> {

@@ -31,7 +31,7 @@ use crate::readings::OtherApps;
 use dia_book::{Book, Class, DefId};
 use dia_breaking_levels::{Line as LevelLine, level_lines};
 use dia_breaking_ways::Node;
-use dia_policy::{Sends, Unknown};
+use dia_terms::{Sends, Unknown};
 use std::alloc::{AllocError, Global};
 
 /// Messages of A's side that B's side reads.

@@ -11,8 +11,8 @@ use Rattle.dia_book.specs.declared.DRule.{DRule}
 use Rattle.dia_book.specs.Dictionary.{Dictionary, DictEntry, is_fixed}
 use Rattle.dia_book.specs.Keys.{same_key}
 use Rattle.dia_book.proofs.SameKeys.{same_key-true}
-use Rattle.dia_policy.specs.declared.sends.Sends.{Sends}
-use Rattle.dia_policy.specs.declared.sends.Sends.TheVariants.{Any, Known, Listed}
+use Rattle.dia_terms.specs.declared.sends.Sends.{Sends}
+use Rattle.dia_terms.specs.declared.sends.Sends.TheVariants.{Any, Known, Listed}
 use Rattle.dia_valid.specs.Valid.{Placed, fixed_rules, has_wildcard, is_listed, is_wildcard, known, loose_rules}
 use Rattle.dia_valid.proofs.Members.{IsIn, all_of, any_in, in_at, in_filter}
 use Rattle.dia_valid.proofs.RulesOfKeys.{IsRunKey, all_middle, listed}

@@ -7,9 +7,9 @@ use Rattle.dia_wire.specs.Wire.{PlainAvp, key_of, SpellsAll}
 use Rattle.dia_data.specs.Leaf.{IsLeaf}
 use Rattle.dia_book.specs.declared.DRule.{DRule}
 use Rattle.dia_book.specs.Dictionary.{Dictionary, DictEntry, PlainDefinition}
-use Rattle.dia_policy.specs.declared.Unknown.{Unknown}
-use Rattle.dia_policy.specs.declared.sends.Sends.{Sends}
-use Rattle.dia_policy.specs.declared.sends.Sends.TheVariants as senders
+use Rattle.dia_terms.specs.declared.Unknown.{Unknown}
+use Rattle.dia_terms.specs.declared.sends.Sends.{Sends}
+use Rattle.dia_terms.specs.declared.sends.Sends.TheVariants as senders
 use Rattle.dia_valid.specs.Valid.{Fits as AvpFits, IsAccepted, IsLevel, MHolds, known}
 use Rattle.dia_valid.specs.Valid.{group_at}
 use Rattle.dia_valid.specs.Valid.{HasFlags}

@@ -9,7 +9,7 @@ use Rattle.dia_data.specs.Leaf.{IsLeaf}
 use Rattle.dia_data.specs.Plain.{Address}
 use Rattle.dia_book.specs.Dictionary.{Dictionary, DictEntry, PlainDefinition}
 use Rattle.dia_valid.specs.Valid.{known}
-use Rattle.dia_policy.specs.declared.sends.Sends.{Sends}
+use Rattle.dia_terms.specs.declared.sends.Sends.{Sends}
 use Rattle.dia_breaking_avps.specs.declared.breaking.DataBreak.{DataBreak}
 use Rattle.dia_breaking_avps.specs.declared.breaking.DataBreak.TheVariants.{Fits}
 use Rattle.dia_breaking_avps.specs.Answers.{IsLevelBreak}

@@ -4,8 +4,8 @@ use Rattle.std.specs.Prelude.{◌⊎◌, IsTrue, IsSome}
 use Rattle.dia_wire.specs.declared.Key.{Key}
 use Rattle.dia_wire.specs.Wire.{HasM}
 use Rattle.dia_book.specs.Dictionary.{Dictionary, DictEntry, entry_of}
-use Rattle.dia_policy.specs.declared.Unknown.{Unknown}
-use Rattle.dia_policy.specs.declared.sends.Sends.{Sends}
+use Rattle.dia_terms.specs.declared.Unknown.{Unknown}
+use Rattle.dia_terms.specs.declared.sends.Sends.{Sends}
 use Rattle.dia_valid.specs.Valid.{known}
 use Rattle.dia_valid.specs.Valid.{HasFlags}
 use Rattle.dia_valid.proofs.Entries.{entry_here, not_known}

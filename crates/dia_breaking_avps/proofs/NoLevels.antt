@@ -9,7 +9,7 @@ use Rattle.dia_data.specs.Leaf.{IsAddress, IsGraphic, IsIdentity, IsLeaf, IsUri,
 use Rattle.dia_data.proofs.FormatsBelow.{leaf_below}
 use Rattle.dia_book.specs.declared.DRule.{DRule}
 use Rattle.dia_book.specs.Dictionary.{Dictionary}
-use Rattle.dia_policy.specs.declared.Unknown.{Unknown}
+use Rattle.dia_terms.specs.declared.Unknown.{Unknown}
 use Rattle.dia_valid.specs.Valid.{Fits, IsLevel, Placed}
 use Rattle.dia_breaking_sites.specs.Sent.{AreBytes}
 use Rattle.dia_breaking_data.specs.Shortest.{IsShortestLeaf, AreBytes as AreWitnessBytes}

@@ -7,9 +7,9 @@ use Rattle.dia_data.specs.Plain.{PlainFormat, AnyBytes, EightBytes, OctetString}
 use Rattle.dia_data.specs.Leaf.{IsLeaf}
 use Rattle.dia_book.specs.declared.DRule.{DRule}
 use Rattle.dia_book.specs.Dictionary.{Dictionary, DictEntry, PlainDefinition, IsDictionary, definitions, entry_of, group_place}
-use Rattle.dia_policy.specs.declared.Unknown.{Unknown}
-use Rattle.dia_policy.specs.declared.sends.Sends.{Sends}
-use Rattle.dia_policy.specs.declared.sends.Sends.TheVariants as senders
+use Rattle.dia_terms.specs.declared.Unknown.{Unknown}
+use Rattle.dia_terms.specs.declared.sends.Sends.{Sends}
+use Rattle.dia_terms.specs.declared.sends.Sends.TheVariants as senders
 use Rattle.dia_valid.specs.Valid.{Fits, IsLevel, known}
 use Rattle.dia_valid.proofs.Entries.{not_known}
 use Rattle.dia_breaking_sites.specs.Sent.{IsSentLevel, IsSentWithin}

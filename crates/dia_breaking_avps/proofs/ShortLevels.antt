@@ -8,8 +8,8 @@ use Rattle.dia_wire.specs.Wire.{PlainAvp, SpellsAll}
 use Rattle.dia_data.specs.Plain.{PlainFormat, EightBytes}
 use Rattle.dia_data.specs.Leaf.{IsLeaf}
 use Rattle.dia_book.specs.Dictionary.{Dictionary, DictEntry, PlainDefinition}
-use Rattle.dia_policy.specs.declared.sends.Sends.{Sends}
-use Rattle.dia_policy.specs.declared.sends.Sends.TheVariants.{Any}
+use Rattle.dia_terms.specs.declared.sends.Sends.{Sends}
+use Rattle.dia_terms.specs.declared.sends.Sends.TheVariants.{Any}
 use Rattle.dia_valid.specs.Valid.{Fits, IsLevel, known}
 use Rattle.dia_valid.proofs.Members.{some_of}
 use Rattle.dia_breaking_sites.specs.Sent.{IsSentLevel, IsSentWithin}

@@ -18,9 +18,9 @@ use Rattle.dia_data.proofs.RangeSets.{any_within}
 use Rattle.dia_data.proofs.Schemes.{front_from_scheme, scheme_from_front}
 use Rattle.dia_book.specs.declared.DRule.{DRule}
 use Rattle.dia_book.specs.Dictionary.{Dictionary, DictEntry, PlainDefinition}
-use Rattle.dia_policy.specs.declared.Unknown.{Unknown}
-use Rattle.dia_policy.specs.declared.sends.Sends.{Sends}
-use Rattle.dia_policy.specs.declared.sends.Sends.TheVariants.{Any as AnySent}
+use Rattle.dia_terms.specs.declared.Unknown.{Unknown}
+use Rattle.dia_terms.specs.declared.sends.Sends.{Sends}
+use Rattle.dia_terms.specs.declared.sends.Sends.TheVariants.{Any as AnySent}
 use Rattle.dia_valid.specs.Valid.{Fits, IsLevel, known}
 use Rattle.dia_breaking_sites.specs.Sent.{IsSentLevel, IsSentWithin}
 use Rattle.dia_breaking_avps.specs.Sent.{IsAcceptedData, IsSentData, IsShortestRefused, group_of}

@@ -5,8 +5,8 @@ use Rattle.dia_data.specs.Plain.{PlainFormat, Address}
 use Rattle.dia_data.specs.Leaf.{IsLeaf}
 use Rattle.dia_book.specs.declared.DRule.{DRule}
 use Rattle.dia_book.specs.Dictionary.{Dictionary, DictEntry, PlainDefinition, definitions}
-use Rattle.dia_policy.specs.declared.Unknown.{Unknown}
-use Rattle.dia_policy.specs.declared.sends.Sends.{Sends}
+use Rattle.dia_terms.specs.declared.Unknown.{Unknown}
+use Rattle.dia_terms.specs.declared.sends.Sends.{Sends}
 use Rattle.dia_valid.specs.Valid.{Fits as AvpFits, IsLevel}
 use Rattle.dia_valid.specs.Valid.{HasFlags}
 use Rattle.dia_breaking_data.specs.declared.short_data.Witness.{Witness}

@@ -6,8 +6,8 @@ use Rattle.dia_data.specs.Plain.{PlainFormat, EightBytes, Address, Utf8String}
 use Rattle.dia_data.specs.Leaf.{IsLeaf}
 use Rattle.dia_book.specs.declared.DRule.{DRule}
 use Rattle.dia_book.specs.Dictionary.{Dictionary}
-use Rattle.dia_policy.specs.declared.sends.Sends.{Sends}
-use Rattle.dia_policy.specs.declared.sends.Sends.TheVariants.{Any, Known, Listed}
+use Rattle.dia_terms.specs.declared.sends.Sends.{Sends}
+use Rattle.dia_terms.specs.declared.sends.Sends.TheVariants.{Any, Known, Listed}
 
 -- the least AVP Length whose three bytes are all graphic, as those of a DiameterIdentity are: 0x212121
 abbrev pub graphic_length : ℕ

@@ -6,9 +6,9 @@ use Rattle.dia_wire.specs.Wire.{HasM}
 use Rattle.dia_data.specs.Leaf.{IsLeaf}
 use Rattle.dia_book.specs.declared.DRule.{DRule}
 use Rattle.dia_book.specs.Dictionary.{Dictionary, DictEntry, PlainDefinition, definitions}
-use Rattle.dia_policy.specs.declared.Unknown.{Unknown}
-use Rattle.dia_policy.specs.declared.sends.Sends.{Sends}
-use Rattle.dia_policy.specs.declared.sends.Sends.TheVariants.{Any}
+use Rattle.dia_terms.specs.declared.Unknown.{Unknown}
+use Rattle.dia_terms.specs.declared.sends.Sends.{Sends}
+use Rattle.dia_terms.specs.declared.sends.Sends.TheVariants.{Any}
 use Rattle.dia_valid.specs.Valid.{Fits, IsLevel, known}
 use Rattle.dia_breaking_sites.specs.Sent.{AreBytes, IsSentLevel, IsSentWithin}
 

@@ -8,7 +8,7 @@ ghost use Rattle.dia_breaking_avps.specs.Levels.{HasNoFamily, IsFamily, OthersHa
 use crate::breaking::DataBreak;
 use crate::forms::asks_for_none;
 use dia_book::{Book, DRule};
-use dia_policy::Sends;
+use dia_terms::Sends;
 
 /// The least code whose first two bytes are 1, the family of IPv4.
 const FIRST_FAMILY: u32 = 0x0001_0000;

@@ -1,7 +1,7 @@
 //! The AVPs of one key.
 ghost use Rattle.std.specs.Prelude.{◌≡◌, IsSome, Some};
 ghost use Rattle.dia_book.specs.Dictionary.{entry_of};
-ghost use Rattle.dia_policy.specs.declared.Unknown.{Unknown as AnyPolicy};
+ghost use Rattle.dia_terms.specs.declared.Unknown.{Unknown as AnyPolicy};
 ghost use Rattle.dia_breaking_avps.specs.Breaks.{IsDataBreak, IsHeadBreak, IsSilent, TakesLevels};
 ghost use Rattle.dia_breaking_avps.specs.Laws.{FitKeyAlone};
 ghost use Rattle.dia_breaking_avps.specs.Sent.{group_of};
@@ -11,7 +11,7 @@ use crate::breaking::{AvpBreaks, DataBreak, HeadBreak};
 use crate::flags::{m_flags, own_policy, refused_flag};
 use crate::forms::{sent_leaf, sent_level};
 use dia_book::{Book, Entry, Format, Key};
-use dia_policy::{Sends, Unknown};
+use dia_terms::{Sends, Unknown};
 
 /// What an AVP of the key that A's side sends breaks by itself under B, with this policy for AVPs that B doesn't know. Where A
 /// doesn't know the key, and its side sends only AVPs that it knows, nothing breaks. A message needn't have room for an AVP of a

@@ -5,7 +5,7 @@ ghost use Rattle.dia_breaking_sites.specs.Sent.{own_policy};
 ghost use Rattle.dia_breaking_avps.specs.Answers.{IsAllowed, IsLeftFlag};
 
 use dia_book::{Book, Key, MRule};
-use dia_policy::{Sends, Unknown};
+use dia_terms::{Sends, Unknown};
 
 /// Which M flags an AVP may have.
 #[derive(Clone, Copy)]

@@ -5,7 +5,7 @@ ghost use Rattle.std.specs.Option.{option_map};
 ghost use Rattle.dia_data.specs.Leaf.{IsLeaf};
 ghost use Rattle.dia_data.specs.Plain.{plain_format};
 ghost use Rattle.dia_book.specs.Dictionary.{Dictionary, DictEntry, PlainDefinition, definitions};
-ghost use Rattle.dia_policy.specs.declared.Unknown.{Unknown as AnyPolicy};
+ghost use Rattle.dia_terms.specs.declared.Unknown.{Unknown as AnyPolicy};
 ghost use Rattle.dia_valid.specs.Valid.{Fits, IsLevel};
 ghost use Rattle.dia_breaking_data.specs.Shortest.{witness_bytes};
 ghost use Rattle.dia_breaking_avps.specs.Answers.{IsShortestBreak, IsEntryData, IsLeafBreak};
@@ -17,7 +17,7 @@ use crate::breaking::DataBreak;
 use dia_book::{Book, DRule, DefId, Entry, Format};
 use dia_breaking_data::{Witness, shortest, witness};
 use dia_data::FormatKind;
-use dia_policy::Sends;
+use dia_terms::Sends;
 
 /// What breaks of leaves of a format, where B's entry says how they are read.
 pub(crate) fn sent_leaf<B: Book>(format: &Format, b: &B, entry: Entry) -> DataBreak

@@ -13,8 +13,8 @@ use Rattle.dia_valid.specs.Valid.{is_listed}
 use Rattle.dia_valid.specs.Rules.{rules_in}
 use Rattle.dia_valid.proofs.GroupNumbers.{group_missing, group_number}
 use Rattle.dia_valid.proofs.Members.{at_some}
-use Rattle.dia_policy.specs.declared.Sends.{Sends}
-use Rattle.dia_policy.specs.declared.Sends.TheVariants.{Any, Known, Listed}
+use Rattle.dia_terms.specs.declared.Sends.{Sends}
+use Rattle.dia_terms.specs.declared.Sends.TheVariants.{Any, Known, Listed}
 use Rattle.dia_breaking_levels.specs.LevelTests.{too_long}
 use Rattle.dia_breaking_shortest.specs.declared.lookup.Least.{Least}
 use Rattle.dia_breaking_shortest.specs.declared.order.Ranked.{Ranked}

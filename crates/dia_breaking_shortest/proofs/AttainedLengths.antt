@@ -10,8 +10,8 @@ use Rattle.dia_valid.specs.Valid.{known, is_listed, Placed}
 use Rattle.dia_valid.proofs.GroupNumbers.{number_of, group_there}
 use Rattle.dia_valid.proofs.Members.{contains_in, in_at, in_contains, IsIn}
 use Rattle.dia_valid.proofs.RulesOfKeys.{is_listed_by}
-use Rattle.dia_policy.specs.declared.Sends.{Sends}
-use Rattle.dia_policy.specs.declared.Sends.TheVariants.{Any, Known, Listed}
+use Rattle.dia_terms.specs.declared.Sends.{Sends}
+use Rattle.dia_terms.specs.declared.Sends.TheVariants.{Any, Known, Listed}
 use Rattle.dia_breaking_sites.specs.Sent.{StandAsSent}
 use Rattle.dia_breaking_levels.specs.LeastLevels.{total, or_filler, plan, WantsOver}
 use Rattle.dia_breaking_levels.specs.LevelTests.{too_long, base_length}

@@ -14,8 +14,8 @@ use Rattle.dia_valid.specs.Valid.{known, is_listed, Placed}
 use Rattle.dia_valid.proofs.Entries.{kept_rules}
 use Rattle.dia_valid.proofs.Entries.{at_position}
 use Rattle.dia_valid.proofs.GroupNumbers.{number_of, group_there}
-use Rattle.dia_policy.specs.declared.Sends.{Sends}
-use Rattle.dia_policy.specs.declared.Sends.TheVariants.{Any, Known, Listed}
+use Rattle.dia_terms.specs.declared.Sends.{Sends}
+use Rattle.dia_terms.specs.declared.Sends.TheVariants.{Any, Known, Listed}
 use Rattle.dia_breaking_sites.specs.Sent.{StandAsSent, AreBytes}
 use Rattle.dia_breaking_sites.proofs.Members.{IsIn, contains_in, in_contains, in_at, at_in, in_all}
 use Rattle.dia_breaking_data.specs.Shortest as witness

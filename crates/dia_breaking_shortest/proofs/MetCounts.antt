@@ -8,8 +8,8 @@ use Rattle.dia_wire.specs.declared.Key.{Key}
 use Rattle.dia_book.specs.declared.DRule.{DRule}
 use Rattle.dia_book.specs.Dictionary.{Dictionary, entry_of}
 use Rattle.dia_valid.specs.Valid.{is_listed}
-use Rattle.dia_policy.specs.declared.Sends.{Sends}
-use Rattle.dia_policy.specs.declared.Sends.TheVariants.{Any, Known, Listed}
+use Rattle.dia_terms.specs.declared.Sends.{Sends}
+use Rattle.dia_terms.specs.declared.Sends.TheVariants.{Any, Known, Listed}
 use Rattle.dia_valid.proofs.Members.{IsIn, all_of, contains_in, in_at, in_contains}
 use Rattle.dia_breaking_levels.specs.LevelTests.{too_long, capped}
 use Rattle.dia_breaking_shortest.specs.declared.order.Ranked.{Ranked}

@@ -7,7 +7,7 @@ use Rattle.std.proofs.lemmas.Option.{slice_get_within}
 use Rattle.dia_wire.specs.declared.Key.{Key}
 use Rattle.dia_breaking_data.specs.Shortest.{witness_bytes}
 use Rattle.dia_book.specs.Dictionary.{Dictionary, DictEntry, entry_of, group_place}
-use Rattle.dia_policy.specs.declared.Sends.{Sends}
+use Rattle.dia_terms.specs.declared.Sends.{Sends}
 use Rattle.dia_valid.specs.Rules.{rules_in}
 use Rattle.dia_breaking_levels.specs.declared.line.Part.{Part}
 use Rattle.dia_breaking_levels.specs.LevelTests.{too_long}

@@ -12,8 +12,8 @@ use Rattle.dia_book.specs.declared.MRule.TheVariants.{Must, MustNot, Any as AnyM
 use Rattle.dia_book.specs.declared.DRule.{DRule}
 use Rattle.dia_book.specs.Dictionary.{Dictionary, DictEntry, PlainDefinition}
 use Rattle.dia_valid.specs.Valid.{IsAccepted, MHolds, known}
-use Rattle.dia_policy.specs.declared.Sends.{Sends}
-use Rattle.dia_policy.specs.declared.Sends.TheVariants.{Any}
+use Rattle.dia_terms.specs.declared.Sends.{Sends}
+use Rattle.dia_terms.specs.declared.Sends.TheVariants.{Any}
 use Rattle.dia_breaking_sites.specs.Sent.{own_policy, StandAsSent, IsSentLevel, IsSentWithin}
 use Rattle.dia_breaking_levels.specs.LeastLevels.{total}
 use Rattle.dia_breaking_shortest.specs.Floors.{shortest_head, vendor_field, padded, IsAttained, IsSpellable}

@@ -15,8 +15,8 @@ use Rattle.dia_breaking_data.specs.Shortest.{witness_bytes}
 use Rattle.dia_breaking_data.specs.TheData.{the_data}
 use Rattle.dia_book.specs.declared.DRule.{DRule}
 use Rattle.dia_book.specs.Dictionary.{Dictionary, DictEntry, PlainDefinition, definitions, entry_of}
-use Rattle.dia_policy.specs.declared.Sends.{Sends}
-use Rattle.dia_policy.specs.declared.Sends.TheVariants.{Any, Known, Listed}
+use Rattle.dia_terms.specs.declared.Sends.{Sends}
+use Rattle.dia_terms.specs.declared.Sends.TheVariants.{Any, Known, Listed}
 use Rattle.dia_valid.specs.Rules.{rules_in}
 use Rattle.dia_valid.proofs.GroupNumbers.{group_missing, group_there, number_of}
 use Rattle.dia_valid.proofs.Members.{IsIn, contains_in, in_at}

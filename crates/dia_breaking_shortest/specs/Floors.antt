@@ -5,8 +5,8 @@ use Rattle.dia_wire.specs.Wire.{PlainAvp, key_of, head_length, Spells}
 use Rattle.dia_data.specs.Leaf.{IsLeaf}
 use Rattle.dia_book.specs.Dictionary.{Dictionary, DictEntry, PlainDefinition}
 use Rattle.dia_valid.specs.Valid.{known}
-use Rattle.dia_policy.specs.declared.Sends.{Sends}
-use Rattle.dia_policy.specs.declared.Sends.TheVariants.{Any}
+use Rattle.dia_terms.specs.declared.Sends.{Sends}
+use Rattle.dia_terms.specs.declared.Sends.TheVariants.{Any}
 use Rattle.dia_breaking_sites.specs.Sent.{StandAsSent, IsSentAvp, AreBytes}
 pub use Rattle.dia_breaking_levels.specs.LeastLevels.{total}
 

@@ -6,7 +6,7 @@ use Rattle.dia_breaking_data.specs.declared.short_data.Witness.{Witness}
 use Rattle.dia_breaking_data.specs.Shortest.{witness_bytes}
 use Rattle.dia_breaking_data.specs.TheData.{the_data}
 use Rattle.dia_book.specs.Dictionary.{Dictionary, DictEntry, entry_of, group_place}
-use Rattle.dia_policy.specs.declared.Sends.{Sends}
+use Rattle.dia_terms.specs.declared.Sends.{Sends}
 use Rattle.dia_valid.specs.Rules.{rules_in}
 use Rattle.dia_breaking_shortest.specs.declared.lookup.Least.{Least}
 use Rattle.dia_breaking_shortest.specs.declared.order.Ranked.{Ranked}

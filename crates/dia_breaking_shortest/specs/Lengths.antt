@@ -9,8 +9,8 @@ use Rattle.dia_breaking_data.specs.Shortest.{AreBytes}
 use Rattle.dia_book.specs.declared.DRule.{DRule}
 use Rattle.dia_book.specs.Dictionary.{Dictionary, DictEntry, entry_of}
 use Rattle.dia_valid.specs.Valid.{is_listed}
-use Rattle.dia_policy.specs.declared.Sends.{Sends}
-use Rattle.dia_policy.specs.declared.Sends.TheVariants.{Any, Known, Listed}
+use Rattle.dia_terms.specs.declared.Sends.{Sends}
+use Rattle.dia_terms.specs.declared.Sends.TheVariants.{Any, Known, Listed}
 use Rattle.dia_breaking_levels.specs.LevelTests.{too_long, capped, base_length}
 use Rattle.dia_breaking_shortest.specs.declared.order.Ranked.{Ranked}
 use Rattle.dia_breaking_shortest.specs.Floors.{shortest_head, padded}

@@ -20,7 +20,7 @@ use crate::search::search;
 use dia_book::{Book, Entry, Key};
 use dia_breaking_data::{Witness, shortest};
 use dia_breaking_levels::TOO_LONG;
-use dia_policy::Sends;
+use dia_terms::Sends;
 use std::alloc::{AllocError, Global};
 
 /// More keys of one vendor than a dictionary knows.

@@ -14,7 +14,7 @@ use crate::order::{Ranked, first_unlisted, rules_of};
 use dia_book::{Book, DRule, DefId, Entry, Key};
 use dia_breaking_data::Witness;
 use dia_breaking_levels::TOO_LONG;
-use dia_policy::Sends;
+use dia_terms::Sends;
 use std::alloc::{AllocError, Global};
 
 /// How long the shortest AVPs are that a side sends, and what they are made of.

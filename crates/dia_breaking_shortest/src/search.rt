@@ -7,7 +7,7 @@ use crate::lookup::Least;
 use crate::order::{Ranked, group_of, lists, rules_of};
 use dia_book::{Book, DRule};
 use dia_breaking_levels::TOO_LONG;
-use dia_policy::Sends;
+use dia_terms::Sends;
 use std::alloc::{AllocError, Global};
 use std::cmp::Reverse;
 use std::collections::BinaryHeap;

@@ -3,8 +3,8 @@ use Rattle.std.proofs.Common.{ℕ, zero, suc, List, map}
 use Rattle.std.specs.List.{AllByRecursion}
 use Rattle.dia_wire.specs.Wire.{PlainAvp, key_of}
 use Rattle.dia_book.specs.Dictionary.{Dictionary, PlainDefinition}
-use Rattle.dia_policy.specs.declared.Unknown.{Unknown}
-use Rattle.dia_policy.specs.declared.sends.Sends.{Sends}
+use Rattle.dia_terms.specs.declared.Unknown.{Unknown}
+use Rattle.dia_terms.specs.declared.sends.Sends.{Sends}
 use Rattle.dia_valid.specs.Valid.{Fits, Placed}
 use Rattle.dia_breaking_sites.specs.Sent.{IsSentLevel, IsSentWithin}
 use Rattle.dia_breaking_sites.specs.Sites.{AreAsked, IsReadAlone, LevelsAreRead, same, inside}

@@ -7,7 +7,7 @@ use Rattle.dia_wire.specs.Wire.{PlainAvp, SpellsAll, padded_length}
 use Rattle.dia_wire.proofs.Spelling.{opened}
 use Rattle.dia_book.specs.declared.DRule.{DRule}
 use Rattle.dia_book.specs.Dictionary.{Dictionary}
-use Rattle.dia_policy.specs.declared.sends.Sends.{Sends}
+use Rattle.dia_terms.specs.declared.sends.Sends.{Sends}
 use Rattle.dia_breaking_sites.specs.Sites.{IsLevelOf}
 
 size : (avps : List PlainAvp) (bytes : List ℕ) → SpellsAll avps bytes → sum_by padded_length avps ≡ length bytes

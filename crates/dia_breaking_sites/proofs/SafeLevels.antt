@@ -7,10 +7,10 @@ use Rattle.dia_wire.specs.Wire.{PlainAvp, key_of, Spells, SpellsAll}
 use Rattle.dia_data.specs.Leaf.{IsLeaf}
 use Rattle.dia_book.specs.declared.DRule.{DRule}
 use Rattle.dia_book.specs.Dictionary.{Dictionary, DictEntry, PlainDefinition}
-use Rattle.dia_policy.specs.declared.Unknown.{Unknown}
+use Rattle.dia_terms.specs.declared.Unknown.{Unknown}
 use Rattle.dia_valid.specs.Valid.{known, MHolds, IsAccepted, FitsBy, IsLevel, Fits, Placed}
 use Rattle.dia_valid.specs.Valid.{group_at}
-use Rattle.dia_policy.specs.declared.sends.Sends.{Sends}
+use Rattle.dia_terms.specs.declared.sends.Sends.{Sends}
 use Rattle.dia_breaking_sites.specs.Sent.{own_policy, StandAsSent, IsSentLevel, IsSentWithin, AreBytes}
 use Rattle.dia_breaking_sites.specs.Sites.{Site, IsLevelOf, FitsAlone, HasSite, AboutLevels, same, inside, AreAsked, AreSafe, AreLevelsOfB}
 use Rattle.dia_breaking_sites.proofs.Members.{IsIn, contains_in, in_all, all_map, all_parts}

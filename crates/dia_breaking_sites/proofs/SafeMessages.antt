@@ -8,10 +8,10 @@ use Rattle.dia_wire.specs.Lengths.{three_bytes}
 use Rattle.dia_wire.specs.Number.{number, IsField}
 use Rattle.dia_wire.specs.Wire.{PlainAvp, key_of, SpellsAll, IsHead, IsMessage}
 use Rattle.dia_book.specs.Dictionary.{Dictionary, PlainDefinition, definitions, selected}
-use Rattle.dia_policy.specs.declared.Unknown.{Unknown}
-use Rattle.dia_policy.specs.declared.Levels.TheVariants as levels
+use Rattle.dia_terms.specs.declared.Unknown.{Unknown}
+use Rattle.dia_terms.specs.declared.Levels.TheVariants as levels
 use Rattle.dia_valid.specs.Valid.{class_of, AllowsP, Placed, IsValid, IsValidOf}
-use Rattle.dia_policy.specs.declared.sends.Sends.{Sends}
+use Rattle.dia_terms.specs.declared.sends.Sends.{Sends}
 use Rattle.dia_breaking_sites.specs.Sent.{StandAsSent, AreBytes, IsSent}
 use Rattle.dia_breaking_sites.specs.Sites.{Site, IsLevelOf, HasSite, AboutLevels, AreAsked, AreSafe}
 use Rattle.dia_breaking_sites.specs.Selection.{max_body, AboutFlags, IsMetAt, IsMet, AreMet, IsSelected, IsAsked, AreValidWhere}

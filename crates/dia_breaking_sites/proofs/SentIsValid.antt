@@ -4,10 +4,10 @@ use Rattle.dia_wire.specs.declared.Key.{Key}
 use Rattle.dia_wire.specs.Wire.{PlainAvp, key_of}
 use Rattle.dia_book.specs.declared.DRule.{DRule}
 use Rattle.dia_book.specs.Dictionary.{Dictionary}
-use Rattle.dia_policy.specs.declared.Levels.TheVariants as levels
+use Rattle.dia_terms.specs.declared.Levels.TheVariants as levels
 use Rattle.dia_valid.specs.Valid.{known, IsLevel, Fits, Placed, IsValidOf}
-use Rattle.dia_policy.specs.declared.sends.Sends.{Sends}
-use Rattle.dia_policy.specs.declared.sends.Sends.TheVariants as sends
+use Rattle.dia_terms.specs.declared.sends.Sends.{Sends}
+use Rattle.dia_terms.specs.declared.sends.Sends.TheVariants as sends
 use Rattle.dia_breaking_sites.specs.Sent.{own_policy, StandAsSent, IsSentLevel, IsSentWithin, AreBytes, IsSent}
 use Rattle.dia_breaking_sites.proofs.Members.{all_map}
 use Rattle.dia_breaking_sites.proofs.SafeLevels.{body_more}

@@ -8,10 +8,10 @@ use Rattle.dia_book.specs.declared.Class.TheVariants as classes
 use Rattle.dia_book.specs.declared.DefHead.{DefHead}
 use Rattle.dia_book.specs.declared.DefHead.TheVariants.{Group, Command, Error}
 use Rattle.dia_book.specs.Dictionary.{Dictionary, PlainDefinition, definitions, selected, is_command}
-use Rattle.dia_policy.specs.declared.Unknown.{Unknown}
-use Rattle.dia_policy.specs.declared.Levels.TheVariants as levels
+use Rattle.dia_terms.specs.declared.Unknown.{Unknown}
+use Rattle.dia_terms.specs.declared.Levels.TheVariants as levels
 use Rattle.dia_valid.specs.Valid.{AllowsP, IsValid, class_of}
-use Rattle.dia_policy.specs.declared.sends.Sends.{Sends}
+use Rattle.dia_terms.specs.declared.sends.Sends.{Sends}
 use Rattle.dia_breaking_sites.specs.Sent.{IsSent}
 use Rattle.dia_breaking_sites.specs.Sites.{Site, HasSite, AboutLevels, AreAsked}
 

@@ -3,11 +3,11 @@ use Rattle.std.specs.Prelude.{◌≡◌, ℕ, ◌≤◌, ◌⊎◌, Bool, List, 
 use Rattle.dia_wire.specs.Wire.{PlainAvp, key_of, SpellsAll}
 use Rattle.dia_book.specs.declared.DRule.{DRule}
 use Rattle.dia_book.specs.Dictionary.{Dictionary, PlainDefinition}
-use Rattle.dia_policy.specs.declared.Unknown.{Unknown}
-use Rattle.dia_policy.specs.declared.Levels.TheVariants as levels
+use Rattle.dia_terms.specs.declared.Unknown.{Unknown}
+use Rattle.dia_terms.specs.declared.Levels.TheVariants as levels
 use Rattle.dia_valid.specs.Valid.{Placed, IsLevel, FitsBy, Fits, AllFit}
 use Rattle.dia_valid.specs.Valid.{group_at}
-use Rattle.dia_policy.specs.declared.sends.Sends.{Sends}
+use Rattle.dia_terms.specs.declared.sends.Sends.{Sends}
 use Rattle.dia_breaking_sites.specs.Sent.{StandAsSent, AreSentAvps, AreBytes}
 
 -- a level that is read so has room for this many bytes

@@ -8,7 +8,7 @@
 mod safe;
 mod sent;
 
-pub use dia_policy::Sends;
+pub use dia_terms::Sends;
 pub use safe::{
     few_headers_report, levels_are_read, levels_keep_to_room, safe_sites_include,
     safe_sites_read_levels,

@@ -2,8 +2,8 @@ ghost use Rattle.std.specs.Prelude.{◌≡◌, ℕ, ◌≤◌, Bool, IsTrue, Lis
 ghost use Rattle.dia_wire.specs.Wire.{PlainAvp, padded_length};
 ghost use Rattle.dia_book.specs.declared.DRule.{DRule as AnyRule};
 ghost use Rattle.dia_book.specs.Dictionary.{Dictionary, PlainDefinition, IsDictionary, definitions};
-ghost use Rattle.dia_policy.specs.declared.Unknown.{Unknown as AnyPolicy};
-ghost use Rattle.dia_policy.specs.declared.sends.Sends.{Sends as AnySender};
+ghost use Rattle.dia_terms.specs.declared.Unknown.{Unknown as AnyPolicy};
+ghost use Rattle.dia_terms.specs.declared.sends.Sends.{Sends as AnySender};
 ghost use Rattle.dia_breaking_sites.specs.Sites.{Site, IsLevelOf, LevelTest, Passes, AreSafe, AreLevelsOfB, LevelsAreRead};
 ghost use Rattle.dia_breaking_sites.specs.Selection.{FlagTest, IsForbidden, AreMet, AreValidWhere, IsMetBy};
 

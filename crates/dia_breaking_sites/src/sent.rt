@@ -1,9 +1,9 @@
 ghost use Rattle.std.specs.Prelude.{◌≢◌, ℕ, List};
 ghost use Rattle.dia_book.specs.Dictionary.{Dictionary};
-ghost use Rattle.dia_policy.specs.declared.Levels.TheVariants as levels;
+ghost use Rattle.dia_terms.specs.declared.Levels.TheVariants as levels;
 ghost use Rattle.dia_valid.specs.Valid.{IsValidOf};
-ghost use Rattle.dia_policy.specs.declared.sends.Sends.{Sends as AnySender};
-ghost use Rattle.dia_policy.specs.declared.sends.Sends.TheVariants as senders;
+ghost use Rattle.dia_terms.specs.declared.sends.Sends.{Sends as AnySender};
+ghost use Rattle.dia_terms.specs.declared.sends.Sends.TheVariants as senders;
 ghost use Rattle.dia_breaking_sites.specs.Sent.{own_policy, AreBytes, IsSent};
 
 /// What is sent is valid under the sender's dictionary.

@@ -2,8 +2,8 @@
 
 use dia_ccf::parse;
 use dia_dict::{IndexedBook, PlainBook, resolve};
-use dia_policy::Sends;
 use dia_rows::{Names, RowFault};
+use dia_terms::Sends;
 use dia_wire::Key;
 use std::alloc::Global;
 use std::process::Abort;

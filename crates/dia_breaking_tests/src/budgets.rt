@@ -11,8 +11,8 @@
 use crate::books::{indexed_of, same};
 use dia_breaking::{Standing, Upgrade};
 use dia_dict::Book;
-use dia_policy::{Sends, Unknown};
 use dia_rows::{Names, Row, field};
+use dia_terms::{Sends, Unknown};
 use std::alloc::{AllocError, Global};
 use std::process::Abort;
 use std::test::Fail;

@@ -10,8 +10,8 @@
 use crate::books::{X, indexed_of, plain_of, same, sends_of};
 use dia_breaking_avps::{HeadBreak, avp_breaks};
 use dia_dict::Book;
-use dia_policy::{Sends, Unknown};
 use dia_rows::{Names, Row, RowFault, field};
+use dia_terms::{Sends, Unknown};
 use std::process::Abort;
 use std::test::Fail;
 

@@ -13,8 +13,8 @@ use crate::books::{X, indexed_of, plain_of, same};
 use dia_breaking_avps::{DataBreak, avp_breaks};
 use dia_data::{Format, Leaf, accepts, print_value};
 use dia_dict::Book;
-use dia_policy::{Sends, Unknown};
 use dia_rows::{Names, Row, field};
+use dia_terms::{Sends, Unknown};
 use std::process::Abort;
 use std::test::Fail;
 

@@ -2,8 +2,8 @@
 use Rattle.std.proofs.Common.{◌≡◌, ℕ, List, Option, Some, Err, refl, subst, sym}
 use Rattle.std.specs.Prelude.{IfSome}
 use Rattle.dia_book.specs.Dictionary.{Dictionary}
-use Rattle.dia_policy.specs.declared.Unknown.{Unknown}
-use Rattle.dia_policy.specs.declared.Levels.{Levels}
+use Rattle.dia_terms.specs.declared.Unknown.{Unknown}
+use Rattle.dia_terms.specs.declared.Levels.{Levels}
 use Rattle.dia_check.specs.declared.fault.Refusal.TheVariants as refusal
 use Rattle.dia_check.specs.Faults.{IsRecorded}
 use Rattle.dia_answer.specs.declared.forms.Made.{Made}

@@ -3,7 +3,7 @@ use Rattle.std.proofs.Common.{◌≡◌, ℕ, List, Option, Some, Result, Err, s
 use Rattle.std.specs.Prelude.{IfSome, IfErr}
 use Rattle.std.specs.Global.{Global}
 use Rattle.std_alloc.specs.declared.arc.Arc.{Arc}
-use Rattle.dia_policy.specs.declared.Unknown.{Unknown}
+use Rattle.dia_terms.specs.declared.Unknown.{Unknown}
 use Rattle.dia_book.specs.Dictionary.{Dictionary}
 use Rattle.dia_dict.specs.declared.indexed_book.IndexedBook.{IndexedBook}
 use Rattle.dia_dict.specs.contracts.indexed_book.IndexedBookBook.TheImpl.{ghosts}

@@ -2,8 +2,8 @@
 use Rattle.std.proofs.Common.{◌≡◌, ℕ, List, [], ◌∷◌, ◌++◌, length, Option, Some, None, refl, ap, subst, suc, sym, append-nil, true≢false}
 use Rattle.std.specs.Prelude.{IfSome, IsSome}
 use Rattle.dia_book.specs.Dictionary.{Dictionary}
-use Rattle.dia_policy.specs.declared.Unknown.{Unknown}
-use Rattle.dia_policy.specs.declared.Levels.{Levels}
+use Rattle.dia_terms.specs.declared.Unknown.{Unknown}
+use Rattle.dia_terms.specs.declared.Levels.{Levels}
 use Rattle.dia_c_calls.specs.declared.verdict.Verdict.{Verdict}
 use Rattle.dia_c_calls.specs.Batches.{AreVerdicts, AreVerdictsFrom}
 

@@ -1,6 +1,6 @@
 -- The line of an answer says yes only where the answer is yes.
 use Rattle.std.proofs.Common.{◌≡◌, List, ℕ, refl}
-use Rattle.dia_policy.specs.declared.Unknown.{Unknown}
+use Rattle.dia_terms.specs.declared.Unknown.{Unknown}
 use Rattle.dia_book.specs.Dictionary.{Dictionary}
 use Rattle.dia_inclusion.specs.declared.Answer.{Answer}
 use Rattle.dia_inclusion.specs.declared.Answer.TheVariants as answer

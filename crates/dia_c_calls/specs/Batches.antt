@@ -1,8 +1,8 @@
 -- Messages that follow one another in a buffer, and a verdict on each.
 use Rattle.std.specs.Prelude.{◌≤◌, ◌-◌, ℕ, List, [], ◌∷◌, take, drop, ⊤}
 use Rattle.dia_book.specs.Dictionary.{Dictionary}
-use Rattle.dia_policy.specs.declared.Unknown.{Unknown}
-use Rattle.dia_policy.specs.declared.Levels.{Levels}
+use Rattle.dia_terms.specs.declared.Unknown.{Unknown}
+use Rattle.dia_terms.specs.declared.Levels.{Levels}
 use Rattle.dia_c_calls.specs.declared.verdict.Verdict.{Verdict}
 use Rattle.dia_c_calls.specs.Verdicts.{IsVerdictOn}
 

@@ -1,7 +1,7 @@
 -- Two dictionaries compared by the text of a table of pairs.
 use Rattle.std.specs.Prelude.{◌≡◌, ◌≢◌, ◌<◌, ◌≤◌, ◌==◌, if◌then◌else◌, ℕ, List, length}
 use Rattle.std.specs.Str.{IsUtf8}
-use Rattle.dia_policy.specs.declared.Unknown.{Unknown}
+use Rattle.dia_terms.specs.declared.Unknown.{Unknown}
 use Rattle.dia_book.specs.Dictionary.{Dictionary}
 use Rattle.dia_inclusion.specs.declared.Answer.{Answer}
 use Rattle.dia_tables.specs.declared.TableFault.{TableFault}

@@ -1,8 +1,8 @@
 -- The answer to a request that reports its first fault.
 use Rattle.std.specs.Prelude.{◌≡◌, ℕ, List}
 use Rattle.dia_book.specs.Dictionary.{Dictionary}
-use Rattle.dia_policy.specs.declared.Unknown.{Unknown}
-use Rattle.dia_policy.specs.declared.Levels.{Levels}
+use Rattle.dia_terms.specs.declared.Unknown.{Unknown}
+use Rattle.dia_terms.specs.declared.Levels.{Levels}
 use Rattle.dia_answer.specs.declared.forms.Form.{Form}
 use Rattle.dia_answer.specs.declared.forms.Form.TheVariants as form
 use Rattle.dia_answer.specs.declared.forms.Made.{Made}

@@ -1,8 +1,8 @@
 -- The verdict of a message that comes in pieces.
 use Rattle.std.specs.Prelude.{◌≡◌, ℕ, ◌++◌, List, drop, length, take, if◌then◌else◌, Option, None, Some, Result}
 use Rattle.dia_book.specs.Dictionary.{Dictionary}
-use Rattle.dia_policy.specs.declared.Unknown.{Unknown}
-use Rattle.dia_policy.specs.declared.Levels.{Levels}
+use Rattle.dia_terms.specs.declared.Unknown.{Unknown}
+use Rattle.dia_terms.specs.declared.Levels.{Levels}
 use Rattle.dia_check.specs.declared.Progress.{Progress}
 use Rattle.dia_check.specs.declared.Refusal.{Refusal}
 use Rattle.dia_check.specs.declared.Selected.{Selected}

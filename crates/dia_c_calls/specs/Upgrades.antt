@@ -2,8 +2,8 @@
 use Rattle.std.specs.Prelude.{◌≡◌, ◌≢◌, ◌<◌, ◌⊎◌, ◌/◌, ◌%◌, ◌==◌, ℕ, suc, min, nat_eq, Bool, List, [], if◌then◌else◌}
 use Rattle.std.specs.Str.{IsUtf8}
 use Rattle.std.specs.Str.Lines.{lines}
-use Rattle.dia_policy.specs.declared.Sends.{Sends}
-use Rattle.dia_policy.specs.declared.Sends.TheVariants as sends
+use Rattle.dia_terms.specs.declared.Sends.{Sends}
+use Rattle.dia_terms.specs.declared.Sends.TheVariants as sends
 use Rattle.dia_book.specs.Dictionary.{Dictionary}
 use Rattle.dia_accepted.specs.Accepted.{PlainEntry, max_list}
 use Rattle.dia_inclusion.specs.Proposed.{IsFirstUnknown}

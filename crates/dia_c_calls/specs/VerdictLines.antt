@@ -1,7 +1,7 @@
 -- The verdict on a message as a line of JSON.
 use Rattle.std.specs.Prelude.{◌≡◌, ℕ, List}
-use Rattle.dia_policy.specs.declared.Unknown.{Unknown}
-use Rattle.dia_policy.specs.declared.Levels.{Levels}
+use Rattle.dia_terms.specs.declared.Unknown.{Unknown}
+use Rattle.dia_terms.specs.declared.Levels.{Levels}
 use Rattle.dia_book.specs.Dictionary.{Dictionary}
 use Rattle.dia_captures.specs.declared.Checked.{Checked}
 use Rattle.dia_captures.specs.Verdicts.{IsMessageChecked}

@@ -2,8 +2,8 @@
 
 ghost use Rattle.std.specs.Prelude.{◌≡◌, ◌≢◌, ◌++◌, ◌↔◌, ℕ, List, [], Err, IfOk, OnErr, OnOk, drop, length, take};
 ghost use Rattle.dia_book.specs.Dictionary.{Dictionary};
-ghost use Rattle.dia_policy.specs.declared.Unknown.{Unknown as AnyPolicy};
-ghost use Rattle.dia_policy.specs.declared.Levels.{Levels as AnyLevels};
+ghost use Rattle.dia_terms.specs.declared.Unknown.{Unknown as AnyPolicy};
+ghost use Rattle.dia_terms.specs.declared.Levels.{Levels as AnyLevels};
 ghost use Rattle.dia_check.specs.Faults.{IsAnswer};
 ghost use Rattle.dia_check.specs.Pauses.{HasPaused, IsPausedFor, WasSpent};
 ghost use Rattle.dia_check.specs.Streaming.{CountsLevels, OpensLevel, Takes, taken_of};

@@ -5,7 +5,7 @@ ghost use Rattle.dia_c_calls.specs.Upgrades.{AreNumbers, IsSender, has_option, s
 ghost use Rattle.dia_c_calls.specs.Verdicts.{IsUnknownPolicy, policy_of};
 
 use crate::verdict::policy_of;
-use dia_policy::{Sends, Unknown};
+use dia_terms::{Sends, Unknown};
 
 /// What is to be listed, but for the names of commands.
 #[derive(Clone, Copy)]

@@ -4,20 +4,20 @@ use Rattle.std.specs.List.{flat_map}
 use Rattle.std.specs.Io.KnownBytes.{Appends}
 use Rattle.std.proofs.KnownBytes.{Appends-nil, Consumes-nil}
 use Rattle.dia_dict.specs.Dictionary.{Dictionary}
-use Rattle.dia_policy.specs.declared.Unknown.{Unknown}
-use Rattle.dia_policy.specs.declared.Levels.{Levels}
+use Rattle.dia_terms.specs.declared.Unknown.{Unknown}
+use Rattle.dia_terms.specs.declared.Levels.{Levels}
 use Rattle.dia_io.specs.declared.Input.{Input}
 use Rattle.dia_io.specs.declared.Inputs.{Inputs}
 use Rattle.dia_io.specs.declared.Exit.{Exit}
 use Rattle.dia_io.specs.declared.Exit.TheVariants as exits
 use Rattle.dia_io.specs.declared.Command.TheVariants as command
 use Rattle.dia_io.specs.Writing.{AppendsFront}
-use Rattle.dia_lines.specs.Lines.{LineHasOneAnswer, recorded_lines}
-use Rattle.dia_lines.specs.Lines as lines
-use Rattle.dia_lines.specs.FeedToSink.{FrontAnswered, LinesAnswered}
-use Rattle.dia_lines.proofs.LineNumbers.{without_numbers}
-use Rattle.dia_lines.proofs.OneAnswer.{text_once}
-use Rattle.dia_lines.proofs.OtherAnswers.{IsAnswered-map, FrontAnswered-map, LinesAnswered-map, same_text}
+use Rattle.dia_streams.specs.Lines.{LineHasOneAnswer, recorded_lines}
+use Rattle.dia_streams.specs.Lines as lines
+use Rattle.dia_streams.specs.FeedToSink.{FrontAnswered, LinesAnswered}
+use Rattle.dia_streams.proofs.LineNumbers.{without_numbers}
+use Rattle.dia_streams.proofs.OneAnswer.{text_once}
+use Rattle.dia_streams.proofs.OtherAnswers.{IsAnswered-map, FrontAnswered-map, LinesAnswered-map, same_text}
 use Rattle.dia_report.specs.declared.refusing.Refused.{Refused}
 use Rattle.dia_report.specs.declared.refusing.Refused.TheVariants.{Bad, NoMemory}
 use Rattle.dia_report.specs.Refusals.{dictionary_line}

@@ -4,9 +4,9 @@ use Rattle.std.specs.Prelude.{IfOk, IfSome, take, if◌then◌else◌}
 use Rattle.hex.specs.Hex.{decode_of}
 use Rattle.std.proofs.lemmas.Option.{same_Some}
 use Rattle.dia_dict.specs.Dictionary.{Dictionary, IsDictionary, PlainDefinition}
-use Rattle.dia_policy.specs.declared.Unknown.{Unknown}
-use Rattle.dia_policy.specs.declared.Levels.{Levels}
-use Rattle.dia_policy.specs.Limits.{max_message_text}
+use Rattle.dia_terms.specs.declared.Unknown.{Unknown}
+use Rattle.dia_terms.specs.declared.Levels.{Levels}
+use Rattle.dia_terms.specs.Limits.{max_message_text}
 use Rattle.dia_check.specs.declared.Selected.{Selected}
 use Rattle.dia_check.specs.declared.Refusal.{Refusal}
 use Rattle.dia_check.specs.declared.Refusal.TheVariants as refusal
@@ -19,7 +19,7 @@ use Rattle.dia_io.specs.declared.Inputs.{Inputs}
 use Rattle.dia_io.specs.declared.Exit.{Exit}
 use Rattle.dia_io.specs.declared.Exit.TheVariants.{Yes, No, Bad}
 use Rattle.dia_io.specs.Inputs.{Holds}
-use Rattle.dia_lines.specs.Lines.{IsLineInput}
+use Rattle.dia_streams.specs.Lines.{IsLineInput}
 use Rattle.dia_run.specs.Texts.{IsMessageText, IsNoMessageText, digits_of, too_long, not_hexadecimal, IsDictionaryText, line}
 use Rattle.dia_report.specs.declared.refusing.Refused.{Refused}
 use Rattle.dia_report.specs.declared.refusing.Refused.TheVariants as kinds

@@ -5,14 +5,14 @@ use Rattle.std.specs.List.{flat_map}
 use Rattle.std.specs.Io.KnownBytes.{Appends}
 use Rattle.std.proofs.lemmas.Bool.{false≢true}
 use Rattle.dia_dict.specs.Dictionary.{Dictionary}
-use Rattle.dia_policy.specs.declared.Unknown.{Unknown}
-use Rattle.dia_policy.specs.declared.Levels.{Levels}
+use Rattle.dia_terms.specs.declared.Unknown.{Unknown}
+use Rattle.dia_terms.specs.declared.Levels.{Levels}
 use Rattle.dia_io.specs.declared.Inputs.{Inputs}
 use Rattle.dia_io.specs.declared.Exit.TheVariants as exits
 use Rattle.dia_io.specs.Writing.{AppendsFront}
-use Rattle.dia_lines.specs.declared.fault.LinesFault.{LinesFault}
-use Rattle.dia_lines.specs.declared.fault.LinesFault.TheVariants as faults
-use Rattle.dia_lines.specs.FeedToSink.{LinesAnswered}
+use Rattle.dia_streams.specs.declared.fault.LinesFault.{LinesFault}
+use Rattle.dia_streams.specs.declared.fault.LinesFault.TheVariants as faults
+use Rattle.dia_streams.specs.FeedToSink.{LinesAnswered}
 use Rattle.dia_report.specs.declared.refusing.Refused.{Refused}
 use Rattle.dia_report.specs.declared.reporting.Answered.{Answered}
 use Rattle.dia_report.specs.declared.refusing.Refused.TheVariants.{Bad, NoMemory}

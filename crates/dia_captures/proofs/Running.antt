@@ -5,7 +5,7 @@ use Rattle.std.specs.declared.alloc.AllocError.{AllocError}
 use Rattle.dia_dict.specs.Dictionary.{Dictionary}
 use Rattle.dia_io.specs.declared.Exit.{Exit}
 use Rattle.dia_io.specs.declared.Input.{Input}
-use Rattle.dia_lines.specs.FeedToSink.{AllAnswered}
+use Rattle.dia_streams.specs.FeedToSink.{AllAnswered}
 use Rattle.dia_streams.specs.Streams.{AllRecorded}
 use Rattle.dia_captures.specs.declared.ended.Ended.{Ended}
 use Rattle.dia_captures.specs.declared.summaries.Lines.{Lines}

@@ -6,14 +6,14 @@ use Rattle.std.specs.Io.KnownBytes.{Appends}
 use Rattle.std.proofs.KnownBytes.{Appends-nil, Consumes-nil}
 use Rattle.std.proofs.lemmas.Bool.{false≢true}
 use Rattle.dia_dict.specs.Dictionary.{Dictionary}
-use Rattle.dia_policy.specs.declared.Unknown.{Unknown}
-use Rattle.dia_policy.specs.declared.Levels.{Levels}
+use Rattle.dia_terms.specs.declared.Unknown.{Unknown}
+use Rattle.dia_terms.specs.declared.Levels.{Levels}
 use Rattle.dia_io.specs.declared.Inputs.{Inputs}
 use Rattle.dia_io.specs.declared.Exit.{Exit}
 use Rattle.dia_io.specs.declared.Exit.TheVariants as exits
 use Rattle.dia_io.specs.Writing.{AppendsFront}
-use Rattle.dia_lines.specs.declared.fault.LinesFault.{LinesFault}
-use Rattle.dia_lines.specs.declared.fault.LinesFault.TheVariants as faults
+use Rattle.dia_streams.specs.declared.fault.LinesFault.{LinesFault}
+use Rattle.dia_streams.specs.declared.fault.LinesFault.TheVariants as faults
 use Rattle.dia_streams.specs.Streams.{AllRecorded, BytesHaveOneVerdict, SomeRecorded, WholeRecorded, IsFrontRecorded}
 use Rattle.dia_streams.proofs.OneStream.{stream_once}
 use Rattle.dia_streams.specs.Streams as streams

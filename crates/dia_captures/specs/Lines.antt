@@ -2,15 +2,15 @@
 use Rattle.std.specs.Prelude.{◌≡◌, ℕ, ◌⊎◌, List, [], Option, map, if◌then◌else◌}
 use Rattle.std.specs.List.{flat_map}
 use Rattle.std.specs.Io.KnownBytes.{Appends, Consumes}
-use Rattle.dia_policy.specs.declared.Unknown.{Unknown}
-use Rattle.dia_policy.specs.declared.Levels.{Levels}
+use Rattle.dia_terms.specs.declared.Unknown.{Unknown}
+use Rattle.dia_terms.specs.declared.Levels.{Levels}
 use Rattle.dia_io.specs.declared.Input.{Input}
 use Rattle.dia_io.specs.declared.Inputs.{Inputs}
 use Rattle.dia_io.specs.declared.Exit.{Exit}
 use Rattle.dia_io.specs.declared.Exit.TheVariants.{Yes, No}
 use Rattle.dia_io.specs.Writing.{AppendsFront}
-use Rattle.dia_lines.specs.Lines.{IsAnswered}
-use Rattle.dia_lines.specs.FeedToSink.{FrontAnswered}
+use Rattle.dia_streams.specs.Lines.{IsAnswered}
+use Rattle.dia_streams.specs.FeedToSink.{FrontAnswered}
 use Rattle.dia_run.specs.Texts.{line}
 use Rattle.dia_run.specs.Outcome.{IsCheckOutcome, IsRefuteOutcome, Refuses}
 use Rattle.dia_run.specs.RefusedDictionaries.{RefusesFirst, RefusesSecond}

@@ -6,7 +6,7 @@ use Rattle.dia_dict.specs.Dictionary.{Dictionary}
 use Rattle.dia_io.specs.declared.Exit.{Exit}
 use Rattle.dia_io.specs.declared.Exit.TheVariants.{Yes, No}
 use Rattle.dia_io.specs.declared.Input.{Input}
-use Rattle.dia_lines.specs.Lines.{IsAnswered}
+use Rattle.dia_streams.specs.Lines.{IsAnswered}
 use Rattle.dia_streams.specs.Streams.{IsStreamRecorded, StillGives}
 use Rattle.dia_captures.specs.declared.ended.Ended.{Ended}
 use Rattle.dia_captures.specs.declared.summaries.Lines.TheVariants as lines

@@ -7,11 +7,11 @@ use Rattle.std.specs.Fmt.{decimal}
 use Rattle.std.specs.Io.KnownBytes.{Appends, Consumes}
 use Rattle.std.specs.declared.alloc.AllocError.{AllocError}
 use Rattle.dia_dict.specs.Dictionary.{Dictionary}
-use Rattle.dia_policy.specs.declared.Unknown.{Unknown}
-use Rattle.dia_policy.specs.declared.Levels.{Levels}
+use Rattle.dia_terms.specs.declared.Unknown.{Unknown}
+use Rattle.dia_terms.specs.declared.Levels.{Levels}
 use Rattle.dia_io.specs.declared.Input.{Input}
 use Rattle.dia_io.specs.declared.Inputs.{Inputs}
-use Rattle.dia_lines.specs.Lines.{IsAnswered}
+use Rattle.dia_streams.specs.Lines.{IsAnswered}
 use Rattle.dia_streams.specs.Streams.{IsStreamRecorded, StillGives}
 use Rattle.dia_run.specs.Texts.{IsDictionaryText}
 use Rattle.dia_check.specs.Reasons.{reason_word}

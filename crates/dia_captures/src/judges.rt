@@ -8,8 +8,7 @@ use crate::verdicts::{Checked, Flaw, Refuted};
 use dia_check::{Levels, Unknown, check};
 use dia_dict::Book;
 use dia_io::Input;
-use dia_lines::Judge;
-use dia_streams::MessageJudge;
+use dia_streams::{Judge, MessageJudge};
 use std::alloc::{AllocError, Global};
 
 /// `check` of each line, or of each message of a stream.

@@ -2,12 +2,12 @@
 
 ghost use Rattle.std.specs.Prelude.{◌≡◌, List, ℕ};
 ghost use Rattle.dia_dict.specs.Dictionary.{Dictionary};
-ghost use Rattle.dia_policy.specs.declared.Unknown.{Unknown as AnyPolicy};
-ghost use Rattle.dia_policy.specs.declared.Levels.{Levels as AnyLevels};
+ghost use Rattle.dia_terms.specs.declared.Unknown.{Unknown as AnyPolicy};
+ghost use Rattle.dia_terms.specs.declared.Levels.{Levels as AnyLevels};
 ghost use Rattle.dia_io.specs.declared.Input.{Input as AnyInput};
 ghost use Rattle.dia_io.specs.declared.Inputs.{Inputs as AnyInputs};
 ghost use Rattle.dia_io.specs.declared.Exit.{Exit as AnyExit};
-ghost use Rattle.dia_lines.specs.Lines.{LineHasOneAnswer};
+ghost use Rattle.dia_streams.specs.Lines.{LineHasOneAnswer};
 ghost use Rattle.dia_run.specs.Texts.{IsDictionaryText};
 ghost use Rattle.dia_captures.specs.declared.verdicts.Checked.{Checked as AnyVerdict};
 ghost use Rattle.dia_captures.specs.declared.verdicts.Refuted.{Refuted as AnyVerdicts};

@@ -5,9 +5,9 @@ ghost use Rattle.std.specs.Prelude.{Err, IfOk, IfSome, IsErr, IsOk, IsTrue, None
 ghost use Rattle.std.specs.List.{flat_map};
 ghost use Rattle.std.specs.Io.KnownBytes.{Appends, IsAtEnd};
 ghost use Rattle.dia_io.specs.Writing.{AppendsFront};
-ghost use Rattle.dia_lines.specs.declared.fault.LinesFault.TheVariants.{NoMemory, Device, Endless};
-ghost use Rattle.dia_lines.specs.FeedToSink.{FrontAnswered, LinesAnswered, most_pieces};
-ghost use Rattle.dia_lines.specs.Lines.{recorded_lines};
+ghost use Rattle.dia_streams.specs.declared.fault.LinesFault.TheVariants.{NoMemory, Device, Endless};
+ghost use Rattle.dia_streams.specs.FeedToSink.{FrontAnswered, LinesAnswered, most_pieces};
+ghost use Rattle.dia_streams.specs.Lines.{recorded_lines};
 ghost use Rattle.dia_streams.specs.Streams.{SomeRecorded, WholeRecorded, most_places};
 ghost use Rattle.dia_run.specs.Texts.{line};
 ghost use Rattle.dia_report.specs.Refusals.{RecordsOf};
@@ -25,10 +25,9 @@ use crate::verdicts::{Checked, Refuted};
 use dia_check::{Levels, Unknown};
 use dia_dict::Book;
 use dia_io::{Exit, Feed, Inputs, Sink, put_all};
-use dia_lines::{Judge, LinesFault, answer_lines};
 use dia_report::{Answered, Refused, Report, Reported};
 use dia_run::{answer_of, read_dictionary};
-use dia_streams::{MessageJudge, answer_stream};
+use dia_streams::{Judge, LinesFault, MessageJudge, answer_lines, answer_stream};
 use std::alloc::{AllocError, Global};
 
 /// How a command over many messages ended.

@@ -7,11 +7,10 @@ ghost use Rattle.dia_captures.specs.Verdicts.{IsTextRefused};
 
 use crate::verdicts::{Checked, Flaw};
 use dia_io::Input;
-use dia_policy::MAX_MESSAGE_TEXT;
 use dia_report::Refused;
 use dia_run::read_message;
 use dia_streams::decode_digits;
-use dia_terms::is_white;
+use dia_terms::{MAX_MESSAGE_TEXT, is_white};
 use std::alloc::{AllocError, Global};
 
 /// Decodes the text of a line into the front of the space, and answers how many bytes it spells, or what is wrong with it.

@@ -9,7 +9,7 @@ use crate::summaries::{Lines, push_first_line, push_mets, push_others, put_in_or
 use crate::verdicts::{Checked, Flaw, Refuted};
 use dia_dict::Book;
 use dia_io::Exit;
-use dia_lines::Watch;
+use dia_streams::Watch;
 use std::alloc::{AllocError, Global};
 
 /// The verdicts that were seen, counted.

@@ -7,8 +7,8 @@ use Rattle.std.proofs.lemmas.List.{length-append}
 use Rattle.dia_wire.specs.Wire.{avp_length, BeginsWithNone}
 use Rattle.dia_wire.proofs.Spelling.{rounded-le, at_least_8}
 use Rattle.dia_book.specs.Dictionary.{Dictionary, IsDictionary, definitions}
-use Rattle.dia_policy.specs.declared.Unknown.{Unknown}
-use Rattle.dia_policy.specs.declared.Levels.{Levels}
+use Rattle.dia_terms.specs.declared.Unknown.{Unknown}
+use Rattle.dia_terms.specs.declared.Levels.{Levels}
 use Rattle.dia_check.specs.declared.open_levels.OpenLevels.{OpenLevels}
 use Rattle.dia_check.specs.Levels.{Level, IsOpen}
 use Rattle.dia_check.specs.Levels as levels

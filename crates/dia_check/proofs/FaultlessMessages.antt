@@ -13,9 +13,9 @@ use Rattle.dia_data.specs.Leaf.{IsLeaf, LengthFits}
 use Rattle.dia_data.proofs.Leaves.{leaf_fits}
 use Rattle.dia_book.specs.declared.DRule.{DRule}
 use Rattle.dia_book.specs.Dictionary.{Dictionary, DictEntry, IsDictionary, AreRules, PlainDefinition, definitions, selected}
-use Rattle.dia_policy.specs.declared.Unknown.{Unknown}
-use Rattle.dia_policy.specs.declared.Levels.{Levels}
-use Rattle.dia_policy.specs.declared.Levels.TheVariants.{Any, AtMost}
+use Rattle.dia_terms.specs.declared.Unknown.{Unknown}
+use Rattle.dia_terms.specs.declared.Levels.{Levels}
+use Rattle.dia_terms.specs.declared.Levels.TheVariants.{Any, AtMost}
 use Rattle.dia_check.specs.declared.fault.Reason.{Reason}
 use Rattle.dia_check.specs.declared.fault.Subject.{Subject}
 use Rattle.dia_valid.specs.Valid.{class_of, known, IsLevel, Fits, FitsBy, AllFit, MHolds, IsAccepted, IsValidOf}

@@ -8,8 +8,8 @@ use Rattle.dia_wire.proofs.Spelling.{opened, rounded-le}
 use Rattle.dia_wire.proofs.OneHeader.{head_says}
 use Rattle.dia_book.specs.Dictionary.{Dictionary, IsDictionary, PlainDefinition}
 use Rattle.dia_check.proofs.FaultlessLevels.{opens}
-use Rattle.dia_policy.specs.declared.Unknown.{Unknown}
-use Rattle.dia_policy.specs.declared.Levels.{Levels}
+use Rattle.dia_terms.specs.declared.Unknown.{Unknown}
+use Rattle.dia_terms.specs.declared.Levels.{Levels}
 use Rattle.dia_check.specs.Levels.{IsMember, MayOpen, between}
 use Rattle.dia_check.specs.Levels as levels
 use Rattle.dia_check.specs.Faults.{Occurs, Looks, HasGoodHeader, avp_length as bad_length, avp as at_avp, missing_at_end}

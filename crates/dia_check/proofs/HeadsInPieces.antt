@@ -11,8 +11,8 @@ use Rattle.dia_wire.proofs.Spelling.{opened, rounded, at_least_8}
 use Rattle.dia_wire.proofs.Fields.{big_from-number}
 use Rattle.dia_wire.proofs.Decode.{is_bad, len_of, vendor_of, avp_of, good_begins}
 use Rattle.dia_book.specs.Dictionary.{Dictionary, IsDictionary}
-use Rattle.dia_policy.specs.declared.Unknown.{Unknown}
-use Rattle.dia_policy.specs.declared.Levels.{Levels}
+use Rattle.dia_terms.specs.declared.Unknown.{Unknown}
+use Rattle.dia_terms.specs.declared.Levels.{Levels}
 use Rattle.dia_check.specs.declared.open_levels.OpenLevels.{OpenLevels}
 use Rattle.dia_check.specs.declared.stream.parts.HeadPart.{HeadPart}
 use Rattle.dia_check.specs.declared.stream.front.Front.{Front}

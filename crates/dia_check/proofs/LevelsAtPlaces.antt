@@ -11,9 +11,9 @@ use Rattle.dia_wire.proofs.Spelling.{opened, rounded-le, at_least_8, with_vendor
 use Rattle.dia_data.specs.declared.LeafState.{LeafState}
 use Rattle.dia_book.specs.Dictionary.{Dictionary, DictEntry, IsDictionary, PlainDefinition, definitions, selected}
 use Rattle.dia_book.proofs.Members.{at_Contains}
-use Rattle.dia_policy.specs.declared.Unknown.{Unknown}
-use Rattle.dia_policy.specs.declared.Levels.{Levels}
-use Rattle.dia_policy.specs.declared.Levels.TheVariants.{Any, AtMost}
+use Rattle.dia_terms.specs.declared.Unknown.{Unknown}
+use Rattle.dia_terms.specs.declared.Levels.{Levels}
+use Rattle.dia_terms.specs.declared.Levels.TheVariants.{Any, AtMost}
 use Rattle.dia_check.specs.declared.open_levels.OpenLevels.{OpenLevels}
 use Rattle.dia_check.specs.declared.stream.parts.Part.{Part}
 use Rattle.dia_check.specs.declared.stream.parts.Part.TheVariants.{Head, Data}

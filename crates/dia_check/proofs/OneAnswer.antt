@@ -12,8 +12,8 @@ use Rattle.dia_wire.proofs.OneHeader.{head_says}
 use Rattle.dia_data.specs.Plain.{Grouped}
 use Rattle.dia_data.specs.Leaf.{IsLeaf}
 use Rattle.dia_book.specs.Dictionary.{Dictionary, DictEntry, IsDictionary, PlainDefinition}
-use Rattle.dia_policy.specs.declared.Unknown.{Unknown}
-use Rattle.dia_policy.specs.declared.Levels.{Levels}
+use Rattle.dia_terms.specs.declared.Unknown.{Unknown}
+use Rattle.dia_terms.specs.declared.Levels.{Levels}
 use Rattle.dia_check.specs.declared.fault.Reason.{Reason}
 use Rattle.dia_check.specs.declared.fault.Reason.TheVariants as reason
 use Rattle.dia_check.specs.declared.fault.Subject.{Subject}

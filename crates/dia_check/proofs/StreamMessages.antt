@@ -7,8 +7,8 @@ use Rattle.dia_wire.specs.declared.Header.{Header}
 use Rattle.dia_wire.specs.Number.{number}
 use Rattle.dia_wire.specs.Wire.{IsHead, IsMessageLength, HasVendorFlag, HasWholeHead, IsBadLength}
 use Rattle.dia_book.specs.Dictionary.{Dictionary, IsDictionary}
-use Rattle.dia_policy.specs.declared.Unknown.{Unknown}
-use Rattle.dia_policy.specs.declared.Levels.{Levels}
+use Rattle.dia_terms.specs.declared.Unknown.{Unknown}
+use Rattle.dia_terms.specs.declared.Levels.{Levels}
 use Rattle.dia_check.specs.declared.fault.Refusal.{Refusal}
 use Rattle.dia_check.specs.declared.fault.Refusal.TheVariants as refusal
 use Rattle.dia_check.specs.declared.open_levels.OpenLevels.{OpenLevels}

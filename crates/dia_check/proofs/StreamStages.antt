@@ -6,8 +6,8 @@ use Rattle.std.proofs.lemmas.Bool.{cases_lt, cases_Bool}
 use Rattle.std.proofs.lemmas.List.{append_assoc, drop-take, length-append, length-take, take-append-drop, take_all, take-take}
 use Rattle.dia_wire.specs.Number.{number}
 use Rattle.dia_book.specs.Dictionary.{Dictionary}
-use Rattle.dia_policy.specs.declared.Unknown.{Unknown}
-use Rattle.dia_policy.specs.declared.Levels.{Levels}
+use Rattle.dia_terms.specs.declared.Unknown.{Unknown}
+use Rattle.dia_terms.specs.declared.Levels.{Levels}
 use Rattle.dia_check.specs.declared.stream.front.Front.{Front}
 use Rattle.dia_check.specs.declared.stream.StreamFault.{StreamFault}
 use Rattle.dia_check.specs.declared.stream.StreamFault.TheVariants as fault

@@ -5,8 +5,8 @@ use Rattle.dia_wire.specs.Number.{number}
 use Rattle.dia_wire.specs.Wire.{PlainAvp, key_of, head_length, avp_length, SpellsAll, BeginsWith, IsHead}
 use Rattle.dia_book.specs.declared.DRule.{DRule}
 use Rattle.dia_book.specs.Dictionary.{Dictionary, PlainDefinition, definitions, selected}
-use Rattle.dia_policy.specs.declared.Levels.{Levels}
-use Rattle.dia_policy.specs.declared.Levels.TheVariants.{Any, AtMost}
+use Rattle.dia_terms.specs.declared.Levels.{Levels}
+use Rattle.dia_terms.specs.declared.Levels.TheVariants.{Any, AtMost}
 use Rattle.dia_valid.specs.Valid.{class_of, known}
 
 -- a level: its rules, where it begins and ends, and how many groups it lies in

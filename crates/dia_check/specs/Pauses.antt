@@ -5,8 +5,8 @@ use Rattle.dia_data.specs.Plain.{Grouped}
 use Rattle.dia_data.specs.State.{HasSeenData}
 use Rattle.dia_data.specs.declared.SeenData.{SeenData}
 use Rattle.dia_book.specs.Dictionary.{Dictionary, DictEntry}
-use Rattle.dia_policy.specs.declared.Unknown.{Unknown}
-use Rattle.dia_policy.specs.declared.Levels.{Levels}
+use Rattle.dia_terms.specs.declared.Unknown.{Unknown}
+use Rattle.dia_terms.specs.declared.Levels.{Levels}
 use Rattle.dia_valid.specs.Valid.{known}
 use Rattle.dia_check.specs.Reading.{HasSeen}
 use Rattle.dia_check.specs.Streaming.{HasTaken, IsStage}

@@ -9,8 +9,8 @@ use Rattle.dia_data.specs.Leaf.{IsLeaf}
 use Rattle.dia_data.specs.State.{DenotesData}
 use Rattle.dia_data.specs.declared.LeafState.{LeafState}
 use Rattle.dia_book.specs.Dictionary.{Dictionary, DictEntry, definitions, entry_of, group_place}
-use Rattle.dia_policy.specs.declared.Unknown.{Unknown}
-use Rattle.dia_policy.specs.declared.Levels.{Levels}
+use Rattle.dia_terms.specs.declared.Unknown.{Unknown}
+use Rattle.dia_terms.specs.declared.Levels.{Levels}
 use Rattle.dia_check.specs.declared.fault.Reason.{Reason}
 use Rattle.dia_check.specs.declared.fault.Refusal.{Refusal}
 use Rattle.dia_check.specs.declared.fault.Refusal.TheVariants as refusal

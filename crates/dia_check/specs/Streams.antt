@@ -2,8 +2,8 @@
 use Rattle.std.specs.Prelude.{◌≡◌, List, ◌++◌, length, drop, ℕ}
 use Rattle.dia_book.specs.declared.Book.{Ghosts}
 use Rattle.dia_book.specs.Dictionary.{Dictionary}
-use Rattle.dia_policy.specs.declared.Unknown.{Unknown}
-use Rattle.dia_policy.specs.declared.Levels.{Levels}
+use Rattle.dia_terms.specs.declared.Unknown.{Unknown}
+use Rattle.dia_terms.specs.declared.Levels.{Levels}
 use Rattle.dia_check.specs.declared.stream.Stream.{Stream}
 use Rattle.dia_check.specs.Streaming.{HasTaken, IsSpentStage, OpensLevel, taken_of}
 

@@ -18,7 +18,7 @@ use crate::basis::Basis;
 use crate::fault::Reason;
 use crate::open_levels::{OpenLevels, Wrong};
 use dia_book::{Book, DefId, Entry, Leaf, MRule, accepts};
-use dia_policy::{Levels, Unknown};
+use dia_terms::{Levels, Unknown};
 use dia_wire::{AVP_MANDATORY, Avp, Key, key};
 use std::alloc::{AllocError, Global};
 

@@ -1,5 +1,5 @@
 use dia_book::Book;
-use dia_policy::{Levels, Unknown};
+use dia_terms::{Levels, Unknown};
 
 /// What a check uses.
 #[derive(Drop)]

@@ -1,7 +1,7 @@
 ghost use Rattle.std.specs.Prelude.{◌≡◌, ◌≢◌, ◌↔◌, ◌<◌, ◌^◌, Err, ℕ, List, length, MatchResult, Result};
 ghost use Rattle.dia_book.specs.Dictionary.{Dictionary, IsDictionary};
-ghost use Rattle.dia_policy.specs.declared.Unknown.{Unknown as AnyPolicy};
-ghost use Rattle.dia_policy.specs.declared.Levels.{Levels as AnyLevels};
+ghost use Rattle.dia_terms.specs.declared.Unknown.{Unknown as AnyPolicy};
+ghost use Rattle.dia_terms.specs.declared.Levels.{Levels as AnyLevels};
 ghost use Rattle.dia_check.specs.declared.fault.Reason.{Reason as AnyReason};
 ghost use Rattle.dia_check.specs.declared.fault.Subject.{Subject as AnySubject};
 ghost use Rattle.dia_check.specs.declared.fault.Selected.{Selected as AnySelected};
@@ -17,7 +17,7 @@ use crate::header::{good_command, whole_header};
 use crate::open_levels::OpenLevels;
 use crate::room::Room;
 use dia_book::{Book, DefId};
-use dia_policy::{Levels, Unknown};
+use dia_terms::{Levels, Unknown};
 use dia_wire::HEADER_LENGTH;
 use std::alloc::Global;
 

@@ -3,8 +3,8 @@
 ghost use Rattle.std.specs.Prelude.{◌≡◌, ◌≢◌, ◌<◌, ◌^◌, ◌↔◌, ◌⊎◌, ℕ, List, length};
 ghost use Rattle.std.specs.Prelude.{Err, IfErr, MatchResult, IsTrue, IsFalse};
 ghost use Rattle.dia_book.specs.Dictionary.{Dictionary};
-ghost use Rattle.dia_policy.specs.declared.Unknown.{Unknown as AnyPolicy};
-ghost use Rattle.dia_policy.specs.declared.Levels.{Levels as AnyLevels};
+ghost use Rattle.dia_terms.specs.declared.Unknown.{Unknown as AnyPolicy};
+ghost use Rattle.dia_terms.specs.declared.Levels.{Levels as AnyLevels};
 ghost use Rattle.dia_valid.specs.Valid.{HasR, HasE, HasT, class_of, PHolds, AllowsP};
 ghost use Rattle.dia_check.specs.Faults.{HasHeader, HasLength, HasGoodHeader, IsAnswer};
 

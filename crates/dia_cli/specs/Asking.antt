@@ -4,8 +4,8 @@ use Rattle.std.specs.Borrow.{Bor}
 use Rattle.std.specs.Option.{option_map_or}
 use Rattle.clap.specs.Walk.{Row, Text, first_of, texts}
 use Rattle.clap.specs.Words.{App, IsAmong, Kinds, fault_of, kind_of, subcommand_of}
-use Rattle.dia_policy.specs.declared.Sends.TheVariants as sent
-use Rattle.dia_policy.specs.declared.Unknown.TheVariants.{Kept, Refused}
+use Rattle.dia_terms.specs.declared.Sends.TheVariants as sent
+use Rattle.dia_terms.specs.declared.Unknown.TheVariants.{Kept, Refused}
 use Rattle.dia_cli.specs.FoundTasks.{IsTaskOf, arguments_of, has_arguments}
 use Rattle.dia_cli.specs.InputWords.{AreFound}
 use Rattle.dia_cli.specs.Lines.{program_app}

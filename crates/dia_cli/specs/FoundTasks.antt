@@ -5,8 +5,8 @@ use Rattle.clap.specs.Walk.{Row, Text, all_of, first_of}
 use Rattle.dia_io.specs.declared.Command.TheVariants as command
 use Rattle.dia_cli.specs.declared.task.Task.{Task}
 use Rattle.dia_cli.specs.declared.task.Task.TheVariants.{Whole, Make, ShowText, ShowNamed, ShowLines, Breaking, CheckLines, RefuteLines, CheckStream, CheckAll, Answer, Follow, Mask, Uses, Diff, Lint, Examples}
-use Rattle.dia_policy.specs.declared.Levels.{Levels}
-use Rattle.dia_policy.specs.declared.Unknown.{Unknown}
+use Rattle.dia_terms.specs.declared.Levels.{Levels}
+use Rattle.dia_terms.specs.declared.Unknown.{Unknown}
 use Rattle.dia_cli.specs.InputWords.{InputTexts, one_text, pair_texts}
 use Rattle.dia_cli.specs.Words.{AreJudged, IsFlag, IsPolicy, apart_in, has_pair, has_policy, has_word, is_flag, is_given, is_judged, is_sender, masked_apart_in, sends_word}
 

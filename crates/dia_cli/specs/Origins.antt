@@ -4,8 +4,8 @@ use Rattle.std.specs.Borrow.{Bor}
 use Rattle.std.specs.Str.{bytes_eq}
 use Rattle.clap.specs.Lexer.{usize_max}
 use Rattle.dia_ccf.specs.Limits.{max_text}
-use Rattle.dia_policy.specs.Limits.{max_table}
-use Rattle.dia_policy.specs.Limits.{max_message_text}
+use Rattle.dia_terms.specs.Limits.{max_table}
+use Rattle.dia_terms.specs.Limits.{max_message_text}
 use Rattle.dia_cli.specs.declared.origin.Origin.{Origin}
 use Rattle.dia_cli.specs.declared.origin.Origin.TheVariants.{Base, Empty, File, Nowhere, StandardInput}
 use Rattle.dia_cli.specs.declared.origin.Origins.{Origins}

@@ -40,7 +40,7 @@ use crate::values::{
 use clap::ArgMatches;
 use clap::error::ErrorKind;
 use dia_io::Command;
-use dia_policy::{Levels, Sends, Unknown};
+use dia_terms::{Levels, Sends, Unknown};
 use std::alloc::{AllocError, Global};
 use std::convert::AsStr;
 

@@ -6,7 +6,7 @@ ghost use Rattle.dia_cli.specs.Origins.{messages_origin, origin_within, table_or
 ghost use Rattle.dia_cli.specs.Origins.{is_standard_input, reads_twice};
 
 use dia_ccf::MAX_TEXT;
-use dia_policy::{MAX_MESSAGE_TEXT, MAX_TABLE};
+use dia_terms::{MAX_MESSAGE_TEXT, MAX_TABLE};
 
 /// The word for standard input.
 pub const STANDARD_INPUT: &str = "-";

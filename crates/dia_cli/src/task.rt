@@ -1,5 +1,5 @@
 use dia_io::Command;
-use dia_policy::{Levels, Sends, Unknown};
+use dia_terms::{Levels, Sends, Unknown};
 
 /// What the command line asks the program to do.
 #[derive(Drop)]

@@ -11,7 +11,7 @@ ghost use Rattle.dia_cli.specs.Words.{IsLimitOf, flag_word, is_given, policy_wor
 
 use crate::origin::Origin;
 use clap::ArgMatches;
-use dia_policy::{Levels, Sends, Unknown};
+use dia_terms::{Levels, Sends, Unknown};
 use std::alloc::{AllocError, Global};
 
 /// The origin of the dictionary that this argument names.

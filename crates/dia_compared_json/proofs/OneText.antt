@@ -5,7 +5,7 @@ use Rattle.std.proofs.lemmas.Option.{same_Some}
 use Rattle.dia_book.specs.Keys.{same_key}
 use Rattle.dia_book.specs.Dictionary.{Dictionary, DictEntry}
 use Rattle.dia_valid.proofs.Entries.{at_position}
-use Rattle.dia_policy.specs.declared.Unknown.{Unknown}
+use Rattle.dia_terms.specs.declared.Unknown.{Unknown}
 use Rattle.dia_io.specs.declared.Exit.{Exit}
 use Rattle.dia_inclusion.specs.declared.Answer.{Answer}
 use Rattle.dia_inclusion.specs.declared.Answer.TheVariants.{Yes, No}

@@ -8,7 +8,7 @@ use Rattle.serde_json.specs.Data.{array, no_members}
 use Rattle.serde_json.specs.Written.{compact_text}
 use Rattle.serde_json.proofs.OnLiterals.{serde_json_on_literals}
 use Rattle.dia_dict.specs.Dictionary.{Dictionary}
-use Rattle.dia_policy.specs.declared.Unknown.{Unknown}
+use Rattle.dia_terms.specs.declared.Unknown.{Unknown}
 use Rattle.dia_inclusion.specs.declared.Answer.{Answer}
 use Rattle.dia_inclusion.specs.declared.Answer.TheVariants.{Yes, No}
 use Rattle.dia_inclusion.specs.declared.Failing.{Failing}

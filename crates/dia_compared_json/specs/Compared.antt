@@ -3,7 +3,7 @@ use Rattle.std.specs.Prelude.{◌≡◌, ◌≢◌, ℕ, ◌⊎◌, List, [], So
 use Rattle.serde_json.specs.Data.{no_members}
 use Rattle.dia_dict.specs.Dictionary.{Dictionary}
 use Rattle.dia_dict.specs.declared.IndexedBook.{IndexedBook}
-use Rattle.dia_policy.specs.declared.Unknown.{Unknown}
+use Rattle.dia_terms.specs.declared.Unknown.{Unknown}
 use Rattle.dia_inclusion.specs.declared.Answer.{Answer}
 use Rattle.dia_inclusion.specs.declared.Answer.TheVariants.{Yes as Passed, No as Failed}
 use Rattle.dia_inclusion.specs.declared.Failing.{Failing}

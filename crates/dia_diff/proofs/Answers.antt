@@ -6,8 +6,8 @@ use Rattle.dia_differences.specs.Same.{IsSameDictionary}
 use Rattle.dia_io.specs.declared.Exit.TheVariants as exits
 use Rattle.dia_io.specs.declared.Inputs.{Inputs}
 use Rattle.dia_dict.specs.Dictionary.{Dictionary}
-use Rattle.dia_policy.specs.declared.Sends.{Sends}
-use Rattle.dia_policy.specs.declared.Unknown.{Unknown}
+use Rattle.dia_terms.specs.declared.Sends.{Sends}
+use Rattle.dia_terms.specs.declared.Unknown.{Unknown}
 use Rattle.dia_report.specs.declared.Refused.TheVariants.{Bad}
 use Rattle.dia_report.specs.declared.BadInput.{BadInput}
 use Rattle.dia_report.specs.declared.reporting.Answered.{Answered}

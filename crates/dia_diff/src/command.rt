@@ -16,10 +16,10 @@ use dia_book::Book;
 use dia_diff_text::push;
 use dia_differences::{Line, Partners, Side, lines_of};
 use dia_io::{Exit, Input, Inputs, RunFault, Sink, put_all};
-use dia_policy::{Sends, Unknown};
 use dia_refused_json::bad_input_line;
 use dia_report::{Answered, BadInput, Refused, Report, Reported};
 use dia_run::read_dictionary;
+use dia_terms::{Sends, Unknown};
 use std::alloc::{AllocError, Global};
 
 /// What `diff` is asked for.

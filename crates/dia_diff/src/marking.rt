@@ -10,7 +10,7 @@ use crate::subjects::Subjects;
 use dia_book::Book;
 use dia_breaking::{Breaks, Upgrade};
 use dia_differences::{Line, Side, What};
-use dia_policy::{Sends, Unknown};
+use dia_terms::{Sends, Unknown};
 use std::alloc::{AllocError, Global};
 
 /// Messages of one side, which the other reads.

@@ -11,7 +11,7 @@
 
 use crate::{Asked, write_diff};
 use dia_io::{Input, Inputs, ToWriter};
-use dia_policy::{Sends, Unknown};
+use dia_terms::{Sends, Unknown};
 use std::alloc::Global;
 use std::process::Abort;
 

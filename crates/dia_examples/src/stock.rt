@@ -8,7 +8,7 @@ use crate::lookup::group_of;
 use dia_book::{Book, DefId, Entry, Key, MRule, Slot};
 use dia_breaking_levels::{Costs, TOO_LONG};
 use dia_breaking_shortest::{Least, least_lengths, shortest_head};
-use dia_policy::{Sends, Unknown};
+use dia_terms::{Sends, Unknown};
 use std::alloc::{AllocError, Global};
 
 /// A dictionary, with the plain AVP of each key, and the keys that wildcards let in.

@@ -5,7 +5,7 @@ use Rattle.std.specs.Io.KnownBytes.{Appends}
 use Rattle.dia_io.specs.declared.Exit.TheVariants.{Bad}
 use Rattle.dia_io.specs.declared.Inputs.{Inputs}
 use Rattle.dia_io.specs.Writing.{AppendsFront}
-use Rattle.dia_policy.specs.declared.Unknown.{Unknown}
+use Rattle.dia_terms.specs.declared.Unknown.{Unknown}
 use Rattle.dia_dict.specs.Dictionary.{Dictionary}
 use Rattle.dia_report.specs.declared.reporting.Reported.{Reported}
 use Rattle.dia_run.specs.Texts.{IsDictionaryText}

@@ -7,7 +7,7 @@ use Rattle.std.proofs.lemmas.List.{append-nil}
 use Rattle.std.proofs.lemmas.List.Elements.{All-append, All-cons, All-nil}
 use Rattle.std.proofs.lemmas.List.Folds.{concat-append}
 use Rattle.dia_io.specs.Writing.{AppendsFront}
-use Rattle.dia_policy.specs.declared.Unknown.{Unknown}
+use Rattle.dia_terms.specs.declared.Unknown.{Unknown}
 use Rattle.dia_dict.specs.Dictionary.{Dictionary}
 use Rattle.dia_examples_text.specs.declared.forms.Form.{Form}
 use Rattle.dia_examples_text.specs.Vectors.{AreVectors, Begins, IsVector, Writes}

@@ -6,8 +6,8 @@ use Rattle.std.specs.Io.KnownBytes.{Appends}
 use Rattle.hex.specs.Hex.{encode_lower}
 use Rattle.dia_io.specs.declared.Exit.{Exit}
 use Rattle.dia_io.specs.Writing.{AppendsFront}
-use Rattle.dia_policy.specs.declared.Unknown.{Unknown}
-use Rattle.dia_policy.specs.declared.Levels.TheVariants.{Any}
+use Rattle.dia_terms.specs.declared.Unknown.{Unknown}
+use Rattle.dia_terms.specs.declared.Levels.TheVariants.{Any}
 use Rattle.dia_dict.specs.Dictionary.{Dictionary}
 use Rattle.dia_run.specs.Outcome.{IsJudged}
 use Rattle.dia_run.specs.Texts.{line}

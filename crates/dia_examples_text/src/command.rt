@@ -5,7 +5,7 @@ ghost use Rattle.std.specs.Io.KnownBytes.{Appends};
 ghost use Rattle.dia_examples_text.specs.Outcome.{Begun, IsExamplesOutcome, IsExamplesText, Puts};
 ghost use Rattle.dia_examples_text.specs.Outcome.{no_command_text, refused_text};
 ghost use Rattle.dia_io.specs.Writing.{AppendsFront};
-ghost use Rattle.dia_policy.specs.declared.Unknown.{Unknown as AnyPolicy};
+ghost use Rattle.dia_terms.specs.declared.Unknown.{Unknown as AnyPolicy};
 ghost use Rattle.dia_report.specs.Refusals.{bad_input_text};
 ghost use Rattle.dia_run.specs.RefusedDictionaries.{RefusesFirst};
 ghost use Rattle.dia_run.specs.Texts.{IsDictionaryText};
@@ -16,10 +16,10 @@ use crate::naming::places_of;
 use crate::tally::Tally;
 use dia_dict::Book;
 use dia_io::{Exit, Input, Inputs, RunFault, Sink, put_all};
-use dia_policy::Unknown;
 use dia_refused_json::{bad_input_line, quoted};
 use dia_report::{BadInput, Refused, Report, Reported};
 use dia_run::read_dictionary;
+use dia_terms::Unknown;
 use std::alloc::{AllocError, Global};
 
 /// Writes test vectors of the commands of these names, or of all where there is no name, by the first dictionary.

@@ -3,7 +3,7 @@
 ghost use Rattle.std.specs.Prelude.{◌≡◌, ◌≢◌, ◌<◌, ◌++◌, ℕ, List, Err, IfOk, length, string_bytes};
 ghost use Rattle.dia_dict.specs.Dictionary.{definitions};
 ghost use Rattle.dia_examples_text.specs.Vectors.{IsBody, IsVector, IsVerdictOf, before, columns, heading};
-ghost use Rattle.dia_policy.specs.declared.Unknown.{Unknown as AnyPolicy};
+ghost use Rattle.dia_terms.specs.declared.Unknown.{Unknown as AnyPolicy};
 
 use crate::objects::object;
 use dia_check::{Refusal, Selected};

@@ -6,9 +6,8 @@ use crate::notes::{SAVE, push_noted, push_too_long, push_whole};
 use dia_explain_places::{
     NamedText, Note, Unpadded, back, count_digits, find_unpadded, place_of_byte,
 };
-use dia_policy::MAX_MESSAGE_TEXT;
 use dia_report::BadMessage;
-use dia_terms::is_white;
+use dia_terms::{MAX_MESSAGE_TEXT, is_white};
 use dia_wire::{HEADER_LENGTH, HeadFault, read_header};
 use std::alloc::{AllocError, Global};
 

@@ -2,8 +2,8 @@
 
 use dia_explain_places::Note;
 use dia_io::Inputs;
-use dia_policy::Sends;
 use dia_report::BothBooks;
+use dia_terms::Sends;
 use dia_upgrades::{Asked, Stale, lines_left};
 
 /// Up to this product of commands and AVPs it is counted what breaks where less is sent, which takes as long as the answer.

@@ -8,8 +8,8 @@ use Rattle.dia_wire.specs.Wire.{PlainAvp, key_of, head_length, avp_length, padde
 use Rattle.dia_wire.proofs.Spelling.{rounded-le, at_least_8}
 use Rattle.dia_book.specs.declared.DRule.{DRule}
 use Rattle.dia_book.specs.Dictionary.{Dictionary, IsDictionary, PlainDefinition, definitions}
-use Rattle.dia_policy.specs.declared.Unknown.{Unknown}
-use Rattle.dia_policy.specs.declared.Levels.{Levels}
+use Rattle.dia_terms.specs.declared.Unknown.{Unknown}
+use Rattle.dia_terms.specs.declared.Levels.{Levels}
 use Rattle.dia_valid.specs.Valid.{fixed_rules}
 use Rattle.dia_valid.proofs.RunsOfOneKeyMore.{at_start}
 use Rattle.dia_check.specs.declared.fault.Fault.{Fault}

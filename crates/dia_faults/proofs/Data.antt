@@ -6,7 +6,7 @@ use Rattle.dia_wire.specs.Wire.{PlainAvp, key_of}
 use Rattle.dia_data.specs.Plain.{PlainFormat, Grouped}
 use Rattle.dia_data.specs.Leaf.{LengthFits}
 use Rattle.dia_book.specs.Dictionary.{Dictionary, DictEntry, IsDictionary, PlainDefinition, entry_of}
-use Rattle.dia_policy.specs.declared.Levels.{Levels}
+use Rattle.dia_terms.specs.declared.Levels.{Levels}
 use Rattle.dia_valid.specs.Valid.{known, group_at}
 use Rattle.dia_valid.proofs.Entries.{all_at, entry_here, not_known}
 use Rattle.dia_check.specs.declared.fault.Reason.{Reason}

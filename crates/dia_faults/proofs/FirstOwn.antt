@@ -6,8 +6,8 @@ use Rattle.dia_wire.specs.Wire.{PlainAvp, key_of}
 use Rattle.dia_data.specs.Plain.{Grouped}
 use Rattle.dia_data.specs.Leaf.{IsLeaf, LengthFits}
 use Rattle.dia_book.specs.Dictionary.{AreRules, Dictionary, DictEntry}
-use Rattle.dia_policy.specs.declared.Unknown.{Unknown}
-use Rattle.dia_policy.specs.declared.Levels.{Levels}
+use Rattle.dia_terms.specs.declared.Unknown.{Unknown}
+use Rattle.dia_terms.specs.declared.Levels.{Levels}
 use Rattle.dia_valid.specs.Valid.{HasFlags, known}
 use Rattle.dia_valid.specs.LongestRuns.{met}
 use Rattle.dia_check.specs.declared.fault.Reason.{Reason}

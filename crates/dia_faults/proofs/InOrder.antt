@@ -6,8 +6,8 @@ use Rattle.dia_wire.specs.declared.Header.{Header}
 use Rattle.dia_wire.specs.Wire.{avp_length, head_length, padded_length}
 use Rattle.dia_wire.proofs.Spelling.{rounded-le}
 use Rattle.dia_book.specs.Dictionary.{Dictionary, PlainDefinition}
-use Rattle.dia_policy.specs.declared.Unknown.{Unknown}
-use Rattle.dia_policy.specs.declared.Levels.{Levels}
+use Rattle.dia_terms.specs.declared.Unknown.{Unknown}
+use Rattle.dia_terms.specs.declared.Levels.{Levels}
 use Rattle.dia_check.specs.declared.open_levels.Wrong.{Wrong}
 use Rattle.dia_check.specs.Levels.{Level}
 use Rattle.dia_check.specs.Walks.{Found, Rest, following, inside, whole}

@@ -7,7 +7,7 @@ use Rattle.dia_book.specs.declared.DRule.{DRule}
 use Rattle.dia_book.specs.Dictionary.{Dictionary, PlainDefinition, definitions}
 use Rattle.dia_valid.specs.Valid.{fixed_rules}
 use Rattle.dia_valid.specs.LongestRuns.{met, IsAt}
-use Rattle.dia_policy.specs.declared.Levels.{Levels}
+use Rattle.dia_terms.specs.declared.Levels.{Levels}
 use Rattle.dia_check.specs.Walks.{Rest}
 use Rattle.dia_faults.specs.Levels.{IsOpened}
 

@@ -1,7 +1,7 @@
 ghost use Rattle.std.specs.Prelude.{◌≡◌, ◌↔◌, ◌∷◌, [], false, ◌<◌, ◌≤◌, ◌^◌, IfErr, IfOk, List, OnOk, Some, length, map, slice_get, ℕ};
 ghost use Rattle.dia_book.specs.Dictionary.{Dictionary, PlainDefinition, definitions};
-ghost use Rattle.dia_policy.specs.declared.Unknown.{Unknown as AnyPolicy};
-ghost use Rattle.dia_policy.specs.declared.Levels.{Levels as AnyLevels};
+ghost use Rattle.dia_terms.specs.declared.Unknown.{Unknown as AnyPolicy};
+ghost use Rattle.dia_terms.specs.declared.Levels.{Levels as AnyLevels};
 ghost use Rattle.dia_valid.specs.Valid.{IsValid};
 ghost use Rattle.dia_check.specs.declared.fault.Fault.{Fault as AnyFault};
 ghost use Rattle.dia_check.specs.Faults.{IsRecorded};

@@ -5,7 +5,7 @@ use Rattle.std.proofs.KnownBytes.{Consumes-nil}
 use Rattle.dia_io.specs.declared.Input.{Input}
 use Rattle.dia_io.specs.declared.Exit.{Exit}
 use Rattle.dia_io.specs.declared.Exit.TheVariants as exits
-use Rattle.dia_lines.specs.declared.fault.LinesFault.{LinesFault}
+use Rattle.dia_streams.specs.declared.fault.LinesFault.{LinesFault}
 use Rattle.dia_refused_json.specs.Recording.{RecordsBad}
 use Rattle.dia_follow_text.specs.declared.running.Followed.{Followed}
 use Rattle.dia_dict.specs.Dictionary.{Dictionary}

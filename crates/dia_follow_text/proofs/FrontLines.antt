@@ -4,8 +4,8 @@ use Rattle.std.specs.Prelude.{⊤, ◌⊎◌}
 use Rattle.std.proofs.lemmas.List.{append-nil}
 use Rattle.std.proofs.lemmas.List.Elements.{All-head, All-tail}
 use Rattle.dia_io.specs.declared.Input.{Input}
-use Rattle.dia_lines.specs.Lines.{AreAnswered, none, one_more, IsAnswered, IsLine, LineHasOneAnswer, line_feed}
-use Rattle.dia_lines.proofs.OneAnswer.{text_once}
+use Rattle.dia_streams.specs.Lines.{AreAnswered, none, one_more, IsAnswered, IsLine, LineHasOneAnswer, line_feed}
+use Rattle.dia_streams.proofs.OneAnswer.{text_once}
 
 -- the last byte, if there is one, is a line feed
 abbrev Ends : List ℕ → Type 0

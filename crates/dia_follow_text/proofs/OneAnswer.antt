@@ -5,9 +5,9 @@ use Rattle.std.specs.List.{flat_map, fold}
 use Rattle.std.proofs.lemmas.List.{append-nil}
 use Rattle.dia_io.specs.declared.Exit.{Exit}
 use Rattle.dia_io.specs.declared.Input.{Input}
-use Rattle.dia_lines.specs.Lines.{AreAnswered, IsAnswered, LineHasOneAnswer, line_number}
-use Rattle.dia_lines.proofs.OneAnswer.{text_once}
-use Rattle.dia_lines.proofs.OtherAnswers.{AreAnswered-map, IsAnswered-map}
+use Rattle.dia_streams.specs.Lines.{AreAnswered, IsAnswered, LineHasOneAnswer, line_number}
+use Rattle.dia_streams.proofs.OneAnswer.{text_once}
+use Rattle.dia_streams.proofs.OtherAnswers.{AreAnswered-map, IsAnswered-map}
 use Rattle.dia_dict.specs.Dictionary.{Dictionary, IsDictionary}
 use Rattle.dia_run.specs.Texts.{IsDictionaryText}
 use Rattle.dia_report.specs.Refusals.{dictionary_line}

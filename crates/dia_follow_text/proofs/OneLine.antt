@@ -5,11 +5,11 @@ use Rattle.std.proofs.lemmas.Bool.{ltb-false, ltb-true}
 use Rattle.std.proofs.lemmas.List.{append_cancel_right}
 use Rattle.hex.specs.declared.error.FromHexError.{FromHexError}
 use Rattle.hex.specs.Hex.{decode_of}
-use Rattle.dia_policy.specs.Limits.{max_message_text}
+use Rattle.dia_terms.specs.Limits.{max_message_text}
 use Rattle.dia_io.specs.declared.Input.{Input}
 use Rattle.dia_io.specs.declared.Input.TheVariants as inputs
 use Rattle.dia_io.specs.Inputs.{Holds, IsOver}
-use Rattle.dia_lines.specs.Lines.{IsLineInput, LineHasOneAnswer}
+use Rattle.dia_streams.specs.Lines.{IsLineInput, LineHasOneAnswer}
 use Rattle.dia_dict.specs.Dictionary.{Dictionary, IsDictionary}
 use Rattle.dia_run.specs.Texts.{line}
 use Rattle.dia_run.proofs.OneOutcome.{judged_once}

@@ -8,8 +8,8 @@ use Rattle.std.proofs.lemmas.List.Elements.{All-nil}
 use Rattle.dia_io.specs.declared.Exit.TheVariants as exits
 use Rattle.dia_io.specs.declared.Input.{Input}
 use Rattle.dia_io.specs.Writing.{AppendsFront}
-use Rattle.dia_lines.specs.declared.fault.LinesFault.{LinesFault}
-use Rattle.dia_lines.specs.Lines.{none, IsLineInput, line_feed}
+use Rattle.dia_streams.specs.declared.fault.LinesFault.{LinesFault}
+use Rattle.dia_streams.specs.Lines.{none, IsLineInput, line_feed}
 use Rattle.dia_dict.specs.Dictionary.{Dictionary}
 use Rattle.dia_follow_text.specs.declared.answering.Answered.{Answered}
 use Rattle.dia_follow_text.specs.declared.answering.State.{State}

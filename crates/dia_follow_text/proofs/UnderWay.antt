@@ -6,8 +6,8 @@ use Rattle.std.proofs.lemmas.List.{append-nil}
 use Rattle.std.proofs.lemmas.List.Elements.{All-append, All-nil}
 use Rattle.std.proofs.lemmas.List.Sums.{fold-append}
 use Rattle.dia_io.specs.declared.Input.{Input}
-use Rattle.dia_lines.proofs.LinesUnderWay.{next_line as next_piece}
-use Rattle.dia_lines.specs.Lines.{AreAnswered, one_more, IsAnswered, IsLine, IsLineInput, line_feed, line_number}
+use Rattle.dia_streams.proofs.LinesUnderWay.{next_line as next_piece}
+use Rattle.dia_streams.specs.Lines.{AreAnswered, one_more, IsAnswered, IsLine, IsLineInput, line_feed, line_number}
 use Rattle.dia_dict.specs.Dictionary.{Dictionary}
 use Rattle.dia_follow.specs.Connections.{PlainConnection, after, findings_of}
 use Rattle.dia_follow_text.specs.declared.answering.Answered.{Answered}

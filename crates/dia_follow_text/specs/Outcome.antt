@@ -2,12 +2,12 @@
 use Rattle.std.specs.Prelude.{◌≡◌, ℕ, ◌+◌, ◌⊎◌, ◌||◌, IsTrue, Bool, true, false, if◌then◌else◌, List, [], ◌++◌, Option, None, Some, Ok, Err, IsOk}
 use Rattle.std.specs.List.{flat_map, fold}
 use Rattle.hex.specs.Hex.{decode_of}
-use Rattle.dia_policy.specs.Limits.{max_message_text}
+use Rattle.dia_terms.specs.Limits.{max_message_text}
 use Rattle.dia_io.specs.declared.Exit.{Exit}
 use Rattle.dia_io.specs.declared.Exit.TheVariants.{Yes, No, Bad}
 use Rattle.dia_io.specs.declared.Input.{Input}
 use Rattle.dia_io.specs.Inputs.{Holds, IsOver}
-use Rattle.dia_lines.specs.Lines.{AreAnswered, IsAnswered, line_number}
+use Rattle.dia_streams.specs.Lines.{AreAnswered, IsAnswered, line_number}
 use Rattle.dia_dict.specs.Dictionary.{Dictionary}
 use Rattle.dia_follow.specs.declared.End.{End}
 use Rattle.dia_follow.specs.declared.Line.{Line}

@@ -5,7 +5,7 @@ use Rattle.dia_io.specs.declared.Exit.{Exit}
 use Rattle.dia_io.specs.declared.Exit.TheVariants.{Yes, No}
 use Rattle.dia_io.specs.declared.Input.{Input}
 use Rattle.dia_io.specs.Writing.{AppendsFront}
-use Rattle.dia_lines.specs.Lines.{AreAnswered, IsAnswered}
+use Rattle.dia_streams.specs.Lines.{AreAnswered, IsAnswered}
 use Rattle.dia_dict.specs.Dictionary.{Dictionary}
 use Rattle.dia_run.specs.Texts.{IsDictionaryText}
 use Rattle.dia_follow_text.specs.declared.answering.Answered.{Answered}

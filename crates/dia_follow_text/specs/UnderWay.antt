@@ -1,6 +1,6 @@
 -- The lines of a connection that are answered as they are read. `put` is what was put of the answers before.
 use Rattle.std.specs.Prelude.{◌≡◌, ℕ, Bool, true, false, List, ◌++◌, Option, None, Some, string_bytes}
-use Rattle.dia_lines.specs.Lines.{AreAnswered, IsAnswered, IsLine, IsLineInput}
+use Rattle.dia_streams.specs.Lines.{AreAnswered, IsAnswered, IsLine, IsLineInput}
 use Rattle.dia_dict.specs.Dictionary.{Dictionary}
 use Rattle.dia_follow_text.specs.declared.answering.Answered.{Answered}
 use Rattle.dia_follow_text.specs.declared.answering.State.{State}

@@ -2,7 +2,7 @@
 
 ghost use Rattle.std.specs.Prelude.{◌≡◌, List, ℕ, Ok, Some, IfOk, OnOk, if◌then◌else◌, string_bytes};
 ghost use Rattle.hex.specs.Hex.{decode_of};
-ghost use Rattle.dia_policy.specs.Limits.{max_message_text};
+ghost use Rattle.dia_terms.specs.Limits.{max_message_text};
 ghost use Rattle.dia_io.specs.declared.Input.{Input as AnyInput};
 ghost use Rattle.dia_io.specs.Inputs.{Holds};
 ghost use Rattle.dia_follow.specs.Connections.{new_connection, the_middle};
@@ -19,9 +19,8 @@ use crate::unanswered::push_all_unanswered;
 use dia_dict::Book;
 use dia_follow::{Connection, Line, read};
 use dia_io::Input;
-use dia_lines::{clear, extend, is_empty, split_line};
-use dia_policy::MAX_MESSAGE_TEXT;
-use dia_streams::decode_digits;
+use dia_streams::{clear, decode_digits, extend, is_empty, split_line};
+use dia_terms::MAX_MESSAGE_TEXT;
 use std::alloc::{AllocError, Global};
 
 /// How lines are answered.
@@ -56,7 +55,7 @@ pub(crate) struct Answered {
 impl Answered {
     ghost use Rattle.std.specs.Prelude.{◌≡◌, ◌++◌, ◌∷◌, [], IfOk, OnOk, if◌then◌else◌, string_bytes};
     ghost use Rattle.dia_follow.specs.Connections.{new_connection, the_middle};
-    ghost use Rattle.dia_lines.specs.Lines.{IsLine, IsLineInput, line_feed};
+    ghost use Rattle.dia_streams.specs.Lines.{IsLine, IsLineInput, line_feed};
     ghost use Rattle.dia_follow_text.specs.Outcome.{IsLineOf, PlainLine, begun, next_line};
     ghost use Rattle.dia_follow_text.specs.UnderWay.{Ends, ReachesNow, Reads, ReadsLast, progress_at};
 

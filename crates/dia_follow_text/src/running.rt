@@ -3,7 +3,7 @@
 ghost use Rattle.std.specs.Prelude.{◌≡◌, ◌≢◌, ◌↔◌, ◌⊎◌, ◌++◌, [], ℕ, List, Option, Ok, Err, IfOk, IsErr, IsOk, IsTrue, OnOk, string_bytes};
 ghost use Rattle.std.specs.Io.KnownBytes.{Appends, IsAtEnd};
 ghost use Rattle.dia_io.specs.Writing.{AppendsFront};
-ghost use Rattle.dia_lines.specs.declared.fault.LinesFault.TheVariants.{Device};
+ghost use Rattle.dia_streams.specs.declared.fault.LinesFault.TheVariants.{Device};
 ghost use Rattle.dia_follow_text.specs.declared.entry.BadLine.{BadLine as AnyBadLine};
 ghost use Rattle.dia_follow_text.specs.Answers.{bad_line};
 ghost use Rattle.dia_report.specs.Refusals.{RecordsOf};
@@ -19,9 +19,9 @@ use crate::options::Options;
 use crate::summary::summary_of;
 use dia_dict::Book;
 use dia_io::{Exit, Failed, Feed, Input, Sink, put_all};
-use dia_lines::LinesFault;
 use dia_report::{Refused, Report, Reported};
 use dia_run::{answer_of, read_dictionary};
+use dia_streams::LinesFault;
 use std::alloc::{AllocError, Global};
 
 /// How many bytes are asked for at a time.

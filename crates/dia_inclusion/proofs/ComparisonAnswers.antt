@@ -2,7 +2,7 @@
 use Rattle.std.proofs.Common.{◌≡◌, ℕ, List, [], Option, Some, refl, sym, subst}
 use Rattle.std.specs.Prelude.{◌↔◌, Result, Ok, Err, IfOk, MatchOption}
 use Rattle.dia_book.specs.Dictionary.{Dictionary, IsDictionary}
-use Rattle.dia_policy.specs.declared.Unknown.{Unknown}
+use Rattle.dia_terms.specs.declared.Unknown.{Unknown}
 use Rattle.dia_inclusion.specs.declared.checking.Answer.{Answer}
 use Rattle.dia_inclusion.specs.declared.checking.Answer.TheVariants.{Yes, No}
 use Rattle.dia_inclusion.specs.declared.checking.Verdict.{Verdict}

@@ -10,7 +10,7 @@ use Rattle.dia_book.specs.Keys.{same_key}
 use Rattle.dia_book.proofs.SameKeys.{same_key-refl, same_key-true}
 use Rattle.dia_book.specs.declared.DRule.{DRule}
 use Rattle.dia_book.specs.Dictionary.{Dictionary, DictEntry, PlainDefinition, IsDictionary, definitions, group_place}
-use Rattle.dia_policy.specs.declared.Unknown.{Unknown}
+use Rattle.dia_terms.specs.declared.Unknown.{Unknown}
 use Rattle.dia_inclusion.specs.declared.checking.Test.{Test}
 use Rattle.dia_inclusion.specs.declared.checking.Test.TheVariants.{N1, N2, N3, N4, N5, N6, N7, N8, N9, N10}
 use Rattle.dia_inclusion.specs.declared.checking.PairKind.{PairKind}

@@ -7,8 +7,8 @@ use Rattle.dia_book.specs.declared.Class.{Class}
 use Rattle.dia_book.specs.declared.Class.TheVariants as classes
 use Rattle.dia_book.proofs.Members.{at_Contains, into_right}
 use Rattle.dia_book.specs.Dictionary.{Dictionary, PlainDefinition, IsDictionary, groups, definitions, is_command}
-use Rattle.dia_policy.specs.declared.Unknown.{Unknown}
-use Rattle.dia_policy.specs.declared.Levels.{Levels}
+use Rattle.dia_terms.specs.declared.Unknown.{Unknown}
+use Rattle.dia_terms.specs.declared.Levels.{Levels}
 use Rattle.dia_valid.specs.Valid.{AllowsP, class_of, Placed, IsValidOf}
 use Rattle.dia_tables.specs.TableText.{PlainTable}
 use Rattle.dia_inclusion.specs.declared.checking.PairKind.TheVariants as kind

@@ -17,8 +17,8 @@ use Rattle.dia_book.proofs.SameKeys.{same_key-refl, same_key-true}
 use Rattle.dia_book.proofs.Lists.{position-within}
 use Rattle.dia_book.proofs.Members.{position-is_some, at_map, into_map}
 use Rattle.dia_book.specs.Dictionary.{Dictionary, DictEntry, PlainDefinition, IsDictionary, entry_of}
-use Rattle.dia_policy.specs.declared.Unknown.{Unknown}
-use Rattle.dia_policy.specs.declared.Unknown.TheVariants.{Kept, Refused}
+use Rattle.dia_terms.specs.declared.Unknown.{Unknown}
+use Rattle.dia_terms.specs.declared.Unknown.TheVariants.{Kept, Refused}
 use Rattle.dia_valid.specs.Valid.{known}
 use Rattle.dia_tables.specs.TableText.{PlainTable}
 use Rattle.dia_inclusion.specs.Below.{IsCoveredAlone, IsCovered, IsKnown}

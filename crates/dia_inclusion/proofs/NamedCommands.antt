@@ -14,7 +14,7 @@ use Rattle.dia_wire.specs.declared.Key.{Key}
 use Rattle.dia_book.specs.declared.DRule.{DRule}
 use Rattle.dia_book.specs.Dictionary.{Dictionary, DictEntry, PlainDefinition, IsDictionary, definitions, groups}
 use Rattle.dia_book.proofs.Members.{at_filter_map, position-is_some}
-use Rattle.dia_policy.specs.declared.Unknown.{Unknown}
+use Rattle.dia_terms.specs.declared.Unknown.{Unknown}
 use Rattle.dia_valid.specs.Valid.{known}
 use Rattle.dia_inclusion.specs.declared.proposing.naming.NamedCommands.{NamedCommands}
 use Rattle.dia_inclusion.specs.declared.proposing.reaching.Reached.{Reached}

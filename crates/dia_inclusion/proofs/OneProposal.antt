@@ -3,7 +3,7 @@ use Rattle.std.proofs.Common.{◌≡◌, ℕ, suc, ◌<◌, List, [], ◌∷◌,
 use Rattle.std.specs.Prelude.{◌⊎◌, Contains, slice_get}
 use Rattle.dia_wire.specs.declared.Key.{Key}
 use Rattle.dia_book.specs.Dictionary.{Dictionary, DictEntry, PlainDefinition, IsDictionary}
-use Rattle.dia_policy.specs.declared.Unknown.{Unknown}
+use Rattle.dia_terms.specs.declared.Unknown.{Unknown}
 use Rattle.dia_tables.specs.TableText.{PlainTable}
 use Rattle.dia_inclusion.specs.Closed.{IsWanted, error, same_app, no_app, both_none, other_app}
 use Rattle.dia_inclusion.specs.Proposed.{IsProposed, AreBeside, AreCommandPairs, AreAvpPairs, IsProposal}

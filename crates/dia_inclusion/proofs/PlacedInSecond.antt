@@ -11,8 +11,8 @@ use Rattle.dia_book.specs.Keys.{same_key}
 use Rattle.dia_book.proofs.SameKeys.{same_key-refl, same_key-true}
 use Rattle.dia_book.proofs.Members.{AreApart, AreApart-filter}
 use Rattle.dia_book.specs.Dictionary.{Dictionary, AreRules, is_fixed}
-use Rattle.dia_policy.specs.declared.Unknown.{Unknown}
-use Rattle.dia_policy.specs.declared.Unknown.TheVariants.{Kept}
+use Rattle.dia_terms.specs.declared.Unknown.{Unknown}
+use Rattle.dia_terms.specs.declared.Unknown.TheVariants.{Kept}
 use Rattle.dia_valid.specs.Valid.{InBounds, fixed_rules, loose_rules, is_listed, is_wildcard, has_wildcard, MayBeLoose, counted, Placed}
 use Rattle.dia_valid.proofs.LongestRuns.{AreDistinct}
 use Rattle.dia_inclusion.specs.declared.checking.Test.TheVariants.{N1, N2, N3, N5, N6, N7, N8}

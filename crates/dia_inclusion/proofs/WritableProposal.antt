@@ -7,7 +7,7 @@ use Rattle.std.proofs.lemmas.List.Elements.{All-contains}
 use Rattle.dia_terms.specs.Limits.{max_name}
 use Rattle.dia_terms.specs.Names.{is_name, is_name_run, same_bytes}
 use Rattle.dia_book.specs.Dictionary.{Dictionary, DictEntry, PlainDefinition, IsDictionary}
-use Rattle.dia_policy.specs.declared.Unknown.{Unknown}
+use Rattle.dia_terms.specs.declared.Unknown.{Unknown}
 use Rattle.dia_tables.specs.TableText.{PlainTable, HasShortNames, most_pairs}
 use Rattle.dia_tables.specs.WrittenTable.{AreNames, IsWritable}
 use Rattle.dia_inclusion.specs.Closed.{NamesEntry}

@@ -5,8 +5,8 @@ use Rattle.dia_data.specs.Plain.{AnyBytes, OctetString}
 use Rattle.dia_book.specs.declared.MRule.TheVariants.{Must, MustNot}
 use Rattle.dia_book.specs.declared.DRule.{DRule}
 use Rattle.dia_book.specs.Dictionary.{Dictionary, DictEntry}
-use Rattle.dia_policy.specs.declared.Unknown.{Unknown}
-use Rattle.dia_policy.specs.declared.Unknown.TheVariants.{Kept}
+use Rattle.dia_terms.specs.declared.Unknown.{Unknown}
+use Rattle.dia_terms.specs.declared.Unknown.TheVariants.{Kept}
 use Rattle.dia_valid.specs.Valid.{known, fixed_rules}
 use Rattle.dia_inclusion.specs.declared.checking.Test.{Test}
 use Rattle.dia_inclusion.specs.declared.checking.Test.TheVariants.{N1, N2, N3, N4, N5, N6, N7, N8, N9, N10}

@@ -8,7 +8,7 @@ use Rattle.dia_book.specs.declared.Class.{Class}
 use Rattle.dia_book.specs.declared.DefHead.{DefHead}
 use Rattle.dia_book.specs.declared.DefHead.TheVariants.{Group, Command, Error}
 use Rattle.dia_book.specs.Dictionary.{Dictionary, DictEntry, PlainDefinition}
-use Rattle.dia_policy.specs.declared.Unknown.{Unknown}
+use Rattle.dia_terms.specs.declared.Unknown.{Unknown}
 use Rattle.dia_valid.specs.Valid.{AllowsP}
 use Rattle.dia_inclusion.specs.declared.checking.Answer.{Answer}
 use Rattle.dia_inclusion.specs.declared.checking.Answer.TheVariants.{Yes, No}

@@ -19,7 +19,7 @@ use Rattle.dia_inclusion.specs.declared.checking.Test.TheVariants.{N1, N2, N3, N
 use Rattle.dia_inclusion.specs.declared.reasons.Failing.{Failing}
 use Rattle.dia_inclusion.specs.declared.reasons.Failing.TheVariants as failing
 use Rattle.dia_inclusion.specs.Closed.{BothGrouped}
-use Rattle.dia_policy.specs.declared.Unknown.{Unknown}
+use Rattle.dia_terms.specs.declared.Unknown.{Unknown}
 use Rattle.dia_tables.specs.TableText.{PlainTable}
 use Rattle.dia_inclusion.specs.Sides.{Sides, Compared, compared}
 use Rattle.dia_inclusion.specs.Tests.{is_within, is_max_within, is_above_zero, is_kept, may_come, leads, let_in_rule, covered_rule, listed_rule, of_key}

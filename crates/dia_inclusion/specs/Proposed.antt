@@ -3,7 +3,7 @@ use Rattle.std.specs.Prelude.{◌≡◌, ℕ, ◌<◌, ◌⊎◌, ◌↔◌, Lis
 use Rattle.dia_wire.specs.declared.Key.{Key}
 use Rattle.dia_book.specs.declared.DRule.{DRule}
 use Rattle.dia_book.specs.Dictionary.{Dictionary, DictEntry, PlainDefinition}
-use Rattle.dia_policy.specs.declared.Unknown.{Unknown}
+use Rattle.dia_terms.specs.declared.Unknown.{Unknown}
 use Rattle.dia_valid.specs.Valid.{known}
 use Rattle.dia_inclusion.specs.declared.proposing.ProposeFault.{ProposeFault}
 use Rattle.dia_inclusion.specs.declared.proposing.ProposeFault.TheVariants.{UnknownCommand, NoMemory}

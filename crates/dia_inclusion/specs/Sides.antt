@@ -1,6 +1,6 @@
 -- What two dictionaries are compared by.
 use Rattle.dia_book.specs.Dictionary.{Dictionary}
-use Rattle.dia_policy.specs.declared.Unknown.{Unknown}
+use Rattle.dia_terms.specs.declared.Unknown.{Unknown}
 use Rattle.dia_tables.specs.TableText.{PlainTable}
 
 -- two dictionaries, and whether AVPs that they don't know are accepted

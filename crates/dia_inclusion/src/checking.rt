@@ -7,8 +7,8 @@ ghost use Rattle.dia_inclusion.specs.Failings.{AreFailingsFor};
 use crate::comparing::{Comparison, Sides};
 use crate::reasons::Failing;
 use dia_book::Book;
-use dia_policy::Unknown;
 use dia_tables::Table;
+use dia_terms::Unknown;
 use std::alloc::{AllocError, Global};
 
 /// A test of a pair of definitions; the tenth is of the pair itself.

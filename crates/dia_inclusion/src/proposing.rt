@@ -13,8 +13,8 @@ mod wanting;
 
 use crate::comparing::{Commands, Sides, names_of_commands};
 use dia_book::{Book, Entry};
-use dia_policy::Unknown;
 use dia_tables::{Table, push_pair};
+use dia_terms::Unknown;
 use indexmap::IndexSet;
 use naming::NamedCommands;
 use reaching::Reached;

@@ -3,7 +3,7 @@ ghost use Rattle.dia_io.specs.Exit.{status_of};
 ghost use Rattle.dia_io.specs.Inputs.{Holds, IsOver};
 
 use crate::streams::Failed;
-use dia_policy::{Levels, Unknown};
+use dia_terms::{Levels, Unknown};
 use std::alloc::AllocError;
 use thiserror::Error;
 

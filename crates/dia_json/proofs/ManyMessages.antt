@@ -8,8 +8,8 @@ use Rattle.dia_io.specs.declared.Input.{Input}
 use Rattle.dia_io.specs.declared.Exit.{Exit}
 use Rattle.dia_io.specs.declared.Exit.TheVariants as exits
 use Rattle.dia_io.specs.Writing.{AppendsFront}
-use Rattle.dia_lines.specs.declared.fault.LinesFault.{LinesFault}
-use Rattle.dia_lines.specs.declared.fault.LinesFault.TheVariants as faults
+use Rattle.dia_streams.specs.declared.fault.LinesFault.{LinesFault}
+use Rattle.dia_streams.specs.declared.fault.LinesFault.TheVariants as faults
 use Rattle.dia_report.specs.declared.refusing.Refused.{Refused}
 use Rattle.dia_report.specs.declared.refusing.Refused.TheVariants.{Bad, NoMemory}
 use Rattle.dia_json.specs.Runs.{IsNothing, IsRefusalFront, IsRefusalPut}

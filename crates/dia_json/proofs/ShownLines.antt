@@ -16,8 +16,8 @@ use Rattle.dia_io.specs.declared.Input.{Input}
 use Rattle.dia_io.specs.declared.Input.TheVariants.{TooLong}
 use Rattle.dia_io.specs.declared.Inputs.{Inputs}
 use Rattle.dia_io.specs.Writing.{AppendsFront}
-use Rattle.dia_lines.specs.FeedToSink.{FrontAnswered, LinesAnswered}
-use Rattle.dia_lines.specs.Lines.{recorded_lines}
+use Rattle.dia_streams.specs.FeedToSink.{FrontAnswered, LinesAnswered}
+use Rattle.dia_streams.specs.Lines.{recorded_lines}
 use Rattle.dia_report.specs.declared.bad_input.BadInput.{BadInput}
 use Rattle.dia_report.specs.declared.refusing.Refused.{Refused}
 use Rattle.dia_report.specs.declared.refusing.Refused.TheVariants as refused

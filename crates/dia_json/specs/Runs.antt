@@ -2,15 +2,15 @@
 use Rattle.std.specs.Prelude.{◌≡◌, ℕ, ◌⊎◌, List, [], Option}
 use Rattle.std.specs.Io.KnownBytes.{Appends, Consumes}
 use Rattle.dia_dict.specs.Dictionary.{Dictionary}
-use Rattle.dia_policy.specs.declared.Unknown.{Unknown}
-use Rattle.dia_policy.specs.declared.Levels.{Levels}
+use Rattle.dia_terms.specs.declared.Unknown.{Unknown}
+use Rattle.dia_terms.specs.declared.Levels.{Levels}
 use Rattle.dia_io.specs.declared.Input.{Input}
 use Rattle.dia_io.specs.declared.Inputs.{Inputs}
 use Rattle.dia_io.specs.declared.Exit.{Exit}
 use Rattle.dia_io.specs.declared.Exit.TheVariants.{Bad}
 use Rattle.dia_io.specs.Writing.{AppendsFront}
-use Rattle.dia_lines.specs.Lines.{recorded_lines}
-use Rattle.dia_lines.specs.FeedToSink.{FrontAnswered, LinesAnswered}
+use Rattle.dia_streams.specs.Lines.{recorded_lines}
+use Rattle.dia_streams.specs.FeedToSink.{FrontAnswered, LinesAnswered}
 use Rattle.dia_streams.specs.Streams.{SomeRecorded, WholeRecorded}
 use Rattle.dia_run.specs.Texts.{IsDictionaryText}
 use Rattle.dia_captures.specs.declared.verdicts.Checked.{Checked}

@@ -11,8 +11,8 @@ use Rattle.dia_io.specs.declared.Exit.TheVariants.{Bad}
 use Rattle.dia_io.specs.declared.Input.{Input}
 use Rattle.dia_io.specs.declared.Input.TheVariants.{TooLong}
 use Rattle.dia_io.specs.declared.Inputs.{Inputs}
-use Rattle.dia_lines.specs.FeedToSink.{FrontAnswered, LinesAnswered}
-use Rattle.dia_lines.specs.Lines.{recorded_lines}
+use Rattle.dia_streams.specs.FeedToSink.{FrontAnswered, LinesAnswered}
+use Rattle.dia_streams.specs.Lines.{recorded_lines}
 use Rattle.dia_refused_json.specs.Recording.{IsRefusal, IsRefusedOr, RefusedDictionary}
 use Rattle.dia_run.specs.declared.commands.Outcome.{Outcome}
 use Rattle.dia_run.specs.Outcome.{IsMessageShown}

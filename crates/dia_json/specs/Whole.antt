@@ -3,7 +3,7 @@ use Rattle.std.specs.Prelude.{◌≡◌, ℕ, ◌⊎◌, Bool, List, ◌++◌, c
 use Rattle.std.specs.List.{flat_map}
 use Rattle.serde_json.specs.Data.{Members, member, no_members, number, string, unsigned}
 use Rattle.dia_dict.specs.Dictionary.{Dictionary}
-use Rattle.dia_policy.specs.declared.Unknown.{Unknown}
+use Rattle.dia_terms.specs.declared.Unknown.{Unknown}
 use Rattle.dia_inclusion.specs.Proposed.{IsFirstUnknown, IsProposal}
 use Rattle.dia_tables.specs.TableText.{PlainTable}
 use Rattle.dia_io.specs.declared.Inputs.{Inputs}

@@ -4,8 +4,7 @@ use crate::verdicts::{push_numbered, push_numbered_refuted, push_placed};
 use dia_captures::{CheckJudge, Checked, Flaw, RefuteJudge, Refuted, check_bytes, check_line};
 use dia_dict::Book;
 use dia_io::Input;
-use dia_lines::Judge;
-use dia_streams::MessageJudge;
+use dia_streams::{Judge, MessageJudge};
 use std::alloc::{AllocError, Global};
 
 /// `check` of each line, or of each message of a stream, written as JSON.

@@ -4,8 +4,8 @@ ghost use Rattle.std.specs.Prelude.{◌≡◌, ◌≢◌, ◌↔◌, ◌≤◌, 
 ghost use Rattle.std.specs.Prelude.{Err, IfOk, IfSome, IsErr, IsTrue, None, string_bytes};
 ghost use Rattle.std.specs.Io.KnownBytes.{Appends, IsAtEnd};
 ghost use Rattle.dia_io.specs.Writing.{AppendsFront};
-ghost use Rattle.dia_lines.specs.declared.fault.LinesFault.TheVariants.{NoMemory, Device, Endless};
-ghost use Rattle.dia_lines.specs.FeedToSink.{most_pieces};
+ghost use Rattle.dia_streams.specs.declared.fault.LinesFault.TheVariants.{NoMemory, Device, Endless};
+ghost use Rattle.dia_streams.specs.FeedToSink.{most_pieces};
 ghost use Rattle.dia_streams.specs.Streams.{most_places};
 ghost use Rattle.dia_captures.specs.Summaries.{IsMade};
 ghost use Rattle.dia_json.specs.Runs.{ChecksFront, ChecksLines, ChecksStream, ChecksSummary, ChecksWhole};
@@ -17,10 +17,10 @@ use crate::judges::{JsonCheck, JsonRefute};
 use dia_captures::{Captured, CheckJudge, RefuteJudge, run_checks, run_refutations, run_stream};
 use dia_check::{Levels, Unknown};
 use dia_io::{Exit, Feed, Input, Inputs, Sink, put_all};
-use dia_lines::LinesFault;
 use dia_refused_json::refuse;
 use dia_report::{Answered, Refused, Report, Reported};
 use dia_run::read_dictionary;
+use dia_streams::LinesFault;
 use std::alloc::Global;
 
 /// `check` of each line of a feed: yes where each is valid.

@@ -3,9 +3,9 @@
 ghost use Rattle.std.specs.Prelude.{◌≡◌, ◌≢◌, ◌↔◌, ◌≤◌, ◌⊎◌, ◌++◌, ◌==◌, length};
 ghost use Rattle.std.specs.Prelude.{Err, IfOk, IfSome, IsErr, IsTrue, OnOk, string_bytes};
 ghost use Rattle.std.specs.Io.KnownBytes.{IsAtEnd};
-ghost use Rattle.dia_lines.specs.declared.fault.LinesFault.TheVariants.{NoMemory, Device, Endless};
+ghost use Rattle.dia_streams.specs.declared.fault.LinesFault.TheVariants.{NoMemory, Device, Endless};
 ghost use Rattle.dia_io.specs.declared.Input.TheVariants.{TooLong};
-ghost use Rattle.dia_lines.specs.FeedToSink.{most_pieces};
+ghost use Rattle.dia_streams.specs.FeedToSink.{most_pieces};
 ghost use Rattle.dia_refused_json.specs.Recording.{RecordsBad};
 ghost use Rattle.std.specs.List.{after_first};
 ghost use Rattle.dia_run.specs.Report.{IsReadFrom};
@@ -17,11 +17,11 @@ use crate::listing::JsonRows;
 use crate::showing::{no_values, of_show};
 use dia_dict::{Book, IndexedBook};
 use dia_io::{Exit, Feed, Input, Inputs, Sink};
-use dia_lines::{Judge, LinesFault};
 use dia_refused_json::refuse;
 use dia_report::{Answered, ReadBook, Refused};
 use dia_run::{Outcome, read_dictionary, read_message, write_message};
 use dia_show::{Manner, Opening, Reported, list_lines, put_refusal, read_manner};
+use dia_streams::{Judge, LinesFault};
 use std::alloc::{AllocError, Global};
 
 /// `show` of each line of a feed, as JSON: what `show` writes for it alone, with the line's number as the first member of each

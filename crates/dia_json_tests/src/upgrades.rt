@@ -1,7 +1,7 @@
 //! What breaks, as JSON.
 
 use dia_io::{Exit, Input, Inputs, ToWriter};
-use dia_policy::{Sends, Unknown};
+use dia_terms::{Sends, Unknown};
 use dia_upgrades::{Asked, Form, Stale};
 use dia_upgrades_json::breaking;
 use std::alloc::{AllocError, Global};

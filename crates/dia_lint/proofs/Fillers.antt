@@ -10,8 +10,8 @@ use Rattle.dia_book.specs.declared.DRule.{DRule}
 use Rattle.dia_book.specs.Dictionary.{Dictionary, DictEntry, PlainDefinition, IsDictionary, entry_of, definitions}
 use Rattle.dia_valid.specs.Valid.{is_listed}
 use Rattle.dia_valid.proofs.Members.{IsIn, at_in, contains_in, in_contains, taken}
-use Rattle.dia_policy.specs.declared.Sends.{Sends}
-use Rattle.dia_policy.specs.declared.Sends.TheVariants.{Any, Known, Listed}
+use Rattle.dia_terms.specs.declared.Sends.{Sends}
+use Rattle.dia_terms.specs.declared.Sends.TheVariants.{Any, Known, Listed}
 use Rattle.dia_breaking_levels.specs.LevelTests.{too_long, least_filler}
 use Rattle.dia_breaking_levels.specs.Levels.{OtherIsShortest}
 use Rattle.dia_breaking_levels.proofs.FloorBounds.{rule_of_listed}

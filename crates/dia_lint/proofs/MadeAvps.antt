@@ -10,8 +10,8 @@ use Rattle.dia_book.specs.declared.MRule.TheVariants.{Must, MustNot, Any as AnyM
 use Rattle.dia_book.specs.declared.DRule.{DRule}
 use Rattle.dia_book.specs.Dictionary.{Dictionary, DictEntry, PlainDefinition}
 use Rattle.dia_valid.specs.Valid.{IsAccepted, MHolds, known}
-use Rattle.dia_policy.specs.declared.Sends.{Sends}
-use Rattle.dia_policy.specs.declared.Sends.TheVariants.{Any}
+use Rattle.dia_terms.specs.declared.Sends.{Sends}
+use Rattle.dia_terms.specs.declared.Sends.TheVariants.{Any}
 use Rattle.dia_breaking_sites.specs.Sent.{own_policy, StandAsSent, IsSentAvp, IsSentLevel, IsSentWithin, AreBytes}
 use Rattle.dia_breaking_sites.proofs.Members.{all_map}
 use Rattle.dia_breaking_sites.proofs.SafeLevels.{body_more}

@@ -12,11 +12,11 @@ use Rattle.dia_wire.specs.Wire.{PlainAvp, IsHead, IsMessage, SpellsAll, key_of}
 use Rattle.dia_book.specs.declared.DRule.{DRule}
 use Rattle.dia_book.specs.Dictionary.{Dictionary, PlainDefinition, IsDictionary, definitions, groups}
 use Rattle.dia_book.proofs.Members.{into_right}
-use Rattle.dia_policy.specs.declared.Unknown.{Unknown}
-use Rattle.dia_policy.specs.declared.Unknown.TheVariants.{Kept, Refused}
-use Rattle.dia_policy.specs.declared.Levels.TheVariants as levels
-use Rattle.dia_policy.specs.declared.Sends.{Sends}
-use Rattle.dia_policy.specs.declared.Sends.TheVariants.{Any, Known, Listed}
+use Rattle.dia_terms.specs.declared.Unknown.{Unknown}
+use Rattle.dia_terms.specs.declared.Unknown.TheVariants.{Kept, Refused}
+use Rattle.dia_terms.specs.declared.Levels.TheVariants as levels
+use Rattle.dia_terms.specs.declared.Sends.{Sends}
+use Rattle.dia_terms.specs.declared.Sends.TheVariants.{Any, Known, Listed}
 use Rattle.dia_valid.specs.Valid.{Fits, IsLevel, IsValidOf, Placed, is_listed, known}
 use Rattle.dia_valid.proofs.Members.{contains_in, in_at}
 use Rattle.dia_breaking_sites.specs.Sent.{AreBytes, IsSent, IsSentLevel, IsSentWithin, StandAsSent, own_policy}

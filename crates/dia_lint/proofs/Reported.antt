@@ -12,7 +12,7 @@ use Rattle.dia_book.specs.Keys.{same_key}
 use Rattle.dia_book.specs.Dictionary.{Dictionary, DictEntry, PlainDefinition, IsDictionary, entry_of, group_place, groups}
 use Rattle.dia_book.proofs.Members.{at_append, position-is_some}
 use Rattle.dia_book.proofs.SameKeys.{same_key-refl}
-use Rattle.dia_policy.specs.declared.Unknown.{Unknown}
+use Rattle.dia_terms.specs.declared.Unknown.{Unknown}
 use Rattle.dia_valid.proofs.GroupNumbers.{group_number, group_there, number_of}
 use Rattle.dia_valid.proofs.Members.{some_of}
 use Rattle.dia_breaking_levels.specs.LevelTests.{too_long}

@@ -7,8 +7,8 @@ use Rattle.dia_wire.specs.Wire.{PlainAvp, Spells, key_of}
 use Rattle.dia_book.specs.declared.DefHead.{DefHead}
 use Rattle.dia_book.specs.declared.DefHead.TheVariants.{Group, Command, Error}
 use Rattle.dia_book.specs.Dictionary.{Dictionary, DictEntry, PlainDefinition, group_place, groups}
-use Rattle.dia_policy.specs.declared.Unknown.{Unknown}
-use Rattle.dia_policy.specs.declared.Levels.TheVariants as levels
+use Rattle.dia_terms.specs.declared.Unknown.{Unknown}
+use Rattle.dia_terms.specs.declared.Levels.TheVariants as levels
 use Rattle.dia_valid.specs.Valid.{AllFit, IsValidOf}
 use Rattle.dia_breaking_sites.specs.Sent.{AreBytes}
 use Rattle.dia_breaking_sites.specs.Selection.{max_body}

@@ -8,7 +8,7 @@ ghost use Rattle.dia_lint.specs.Costs.{AreOthers, entry_keys};
 use dia_book::{Book, Key};
 use dia_breaking_levels::{Costs, TOO_LONG};
 use dia_breaking_shortest::{Least, least_lengths};
-use dia_policy::Sends;
+use dia_terms::Sends;
 use std::alloc::{AllocError, Global};
 
 /// The lengths of the shortest AVPs that a side sends by a book.

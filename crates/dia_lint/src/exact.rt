@@ -18,7 +18,7 @@ use crate::reached::{Reached, has_room};
 use crate::rule::Rule;
 use dia_book::{Book, DRule, DefHead, DefId, Entry, Key};
 use dia_breaking_levels::TOO_LONG;
-use dia_policy::{Sends, Unknown};
+use dia_terms::{Sends, Unknown};
 use std::alloc::{AllocError, Global};
 
 /// The commands without a valid message, the groups without an AVP that fits, and the rules and AVPs that no valid message has;

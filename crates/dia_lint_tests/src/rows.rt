@@ -10,8 +10,8 @@
 use crate::texts::{CHANGES, GOOD, SMALL};
 use dia_io::{Input, Inputs, ToWriter};
 use dia_lint_text::{Asked, write_lint};
-use dia_policy::Unknown;
 use dia_rows::{Names, Row, field, word};
+use dia_terms::Unknown;
 use std::process::Abort;
 
 #[test]

@@ -1,7 +1,7 @@
 -- Which rules are asked for.
 use Rattle.std.specs.Prelude.{ℕ, ◌==◌, ◌&&◌, ◌||◌, not, Bool, true, false, if◌then◌else◌, List, [], ◌∷◌, ◌++◌, find, Option, Some, None, slice_get, unwrap_or}
 use Rattle.std.specs.List.{list_any}
-use Rattle.dia_policy.specs.declared.Unknown.{Unknown}
+use Rattle.dia_terms.specs.declared.Unknown.{Unknown}
 use Rattle.dia_terms.specs.Names.{same_bytes}
 use Rattle.dia_lint.specs.Words.{names_rule, rule_number, rules, set_of, set_word}
 use Rattle.dia_lint.specs.declared.rule.Rule.{Rule}

@@ -1,6 +1,6 @@
 //! What is asked.
 
-use dia_policy::Unknown;
+use dia_terms::Unknown;
 
 /// What `lint` is asked.
 #[derive(Clone, Copy)]

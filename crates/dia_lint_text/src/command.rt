@@ -31,10 +31,10 @@ use dia_io::{Exit, Input, Inputs, RunFault, Sink, put_all};
 use dia_lint::{
     Finding, command_findings, exact_findings, guideline_findings, range_findings, rule_findings,
 };
-use dia_policy::Unknown;
 use dia_refused_json::{bad_input_line, text_of};
 use dia_report::{Answered, BadInput, ReadBook, Refused, Report, Reported};
 use dia_run::read_dictionary;
+use dia_terms::Unknown;
 use std::alloc::{AllocError, Global};
 
 /// Writes a line for each finding of the dictionary, the first input, that the list of accepted lines, the table's input, doesn't

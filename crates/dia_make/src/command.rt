@@ -13,9 +13,9 @@ use crate::refusing::refuse;
 use crate::reporting::{Answered, BadText, RefusedText, Report, Reported};
 use dia_dict::{Book, IndexedBook};
 use dia_io::{Exit, Input, Inputs, RunFault, Sink, put_all};
-use dia_policy::MAX_MESSAGE_TEXT;
 use dia_report::{ReadBook, Refused};
 use dia_run::read_dictionary;
+use dia_terms::MAX_MESSAGE_TEXT;
 use dia_text::{NotMade, make_all};
 use std::alloc::{AllocError, Global};
 

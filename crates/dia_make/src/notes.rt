@@ -10,7 +10,7 @@ use dia_data::{Format, push_hex_byte, push_value};
 use dia_dict::{IndexedBook, base_text};
 use dia_explain_places::{Note, line_from, start_of_line};
 use dia_io::{Input, Inputs};
-use dia_policy::MAX_MESSAGE_TEXT;
+use dia_terms::MAX_MESSAGE_TEXT;
 use dia_text::{Fault, Faults, all_faults};
 use std::alloc::{AllocError, Global};
 

@@ -2,7 +2,7 @@
 
 ghost use Rattle.std.specs.Prelude.{◌≡◌, ◌≢◌, ◌↔◌, ℕ, List, IfOk, OnOk, Err, IsTrue, string_bytes};
 ghost use Rattle.std.specs.Io.KnownBytes.{Appends};
-ghost use Rattle.dia_policy.specs.Limits.{max_message_text};
+ghost use Rattle.dia_terms.specs.Limits.{max_message_text};
 ghost use Rattle.dia_io.specs.declared.Exit.{Exit as AnyExit};
 ghost use Rattle.dia_io.specs.declared.Exit.TheVariants.{Yes};
 ghost use Rattle.dia_io.specs.declared.Inputs.{Inputs as AnyInputs};

@@ -11,8 +11,8 @@ use Rattle.dia_data.specs.declared.accept.Leaf.TheVariants.{BadLength, BadValue}
 use Rattle.dia_data.specs.Plain.{PlainFormat, Grouped}
 use Rattle.dia_data.specs.Leaf.{IsLeaf, LengthFits}
 use Rattle.dia_book.specs.Dictionary.{Dictionary, DictEntry, IsDictionary, PlainDefinition}
-use Rattle.dia_policy.specs.declared.Unknown.{Unknown}
-use Rattle.dia_policy.specs.declared.Levels.{Levels}
+use Rattle.dia_terms.specs.declared.Unknown.{Unknown}
+use Rattle.dia_terms.specs.declared.Levels.{Levels}
 use Rattle.dia_valid.specs.Valid.{group_at, known}
 use Rattle.dia_valid.specs.LongestRuns.{run_end, loose_start, met}
 use Rattle.dia_check.specs.declared.fault.Reason.{Reason}

@@ -5,7 +5,7 @@ use Rattle.hex.specs.Hex.{decode_of, encode_lower}
 use Rattle.dia_io.specs.declared.Input.{Input}
 use Rattle.dia_io.specs.declared.Input.TheVariants.{Bytes, TooLong}
 use Rattle.dia_io.specs.Inputs.{Holds, IsOver}
-use Rattle.dia_policy.specs.Limits.{max_message_text}
+use Rattle.dia_terms.specs.Limits.{max_message_text}
 use Rattle.dia_dict.specs.Dictionary.{Dictionary}
 use Rattle.dia_run.specs.Texts.{IsMessageText, IsNoMessageText, digits_of, not_hexadecimal, too_long}
 use Rattle.dia_run.proofs.HexTexts.{decoded}

@@ -2,8 +2,8 @@
 use Rattle.std.specs.Prelude.{◌≡◌, ℕ, List, ◌++◌, codes, ⊤}
 use Rattle.hex.specs.Hex.{encode_lower}
 use Rattle.dia_io.specs.declared.Input.{Input}
-use Rattle.dia_lines.specs.declared.answered.Answered.{Answered as Lines}
-use Rattle.dia_lines.specs.UnderWay.{Ends, Reads}
+use Rattle.dia_streams.specs.declared.answered.Answered.{Answered as Lines}
+use Rattle.dia_streams.specs.LinesUnderWay.{Ends, Reads}
 use Rattle.dia_dict.specs.Dictionary.{Dictionary}
 use Rattle.dia_run.specs.Texts.{IsMessageText, IsNoMessageText}
 use Rattle.dia_mask.specs.declared.choice.Choice.{Choice}

@@ -2,7 +2,7 @@
 
 ghost use Rattle.std.specs.Prelude.{◌≡◌, ◌++◌, ◌+◌, ◌∷◌, ℕ, List, [], OnOk, codes, string_bytes};
 ghost use Rattle.hex.specs.Hex.{encode_lower};
-ghost use Rattle.dia_lines.specs.Lines.{IsLine, IsLineInput, line_feed, line_number};
+ghost use Rattle.dia_streams.specs.Lines.{IsLine, IsLineInput, line_feed, line_number};
 ghost use Rattle.dia_mask.specs.Masked.{Adds, IsMessageMasked};
 ghost use Rattle.dia_mask.specs.Replaced.{Numbering};
 ghost use Rattle.dia_mask.specs.Runs.{words_of};
@@ -13,8 +13,8 @@ ghost use Rattle.dia_mask_text.specs.Lines.{EndsMasked, IsLineMasked, ReadsMaske
 use crate::spelling::{Unread, spell_line};
 use dia_dict::Book;
 use dia_io::Input;
-use dia_lines::{clear, extend, is_empty, split_line};
 use dia_mask::{Choice, Run, mask_message};
+use dia_streams::{clear, extend, is_empty, split_line};
 use std::alloc::{AllocError, Global};
 
 /// How lines are masked.

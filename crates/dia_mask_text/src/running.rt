@@ -1,7 +1,7 @@
 //! The command over the lines of a text.
 
 ghost use Rattle.std.specs.Prelude.{◌≡◌, ◌↔◌, ◌⊎◌, Err, IsTrue};
-ghost use Rattle.dia_lines.specs.declared.fault.LinesFault.TheVariants.{Device};
+ghost use Rattle.dia_streams.specs.declared.fault.LinesFault.TheVariants.{Device};
 
 use crate::answering::{Answered, Manner, State};
 use crate::choosing::{BadName, Why, choice_of};
@@ -9,9 +9,9 @@ use crate::options::Options;
 use crate::summary::push_summary;
 use dia_dict::Book;
 use dia_io::{Exit, Feed, Input, Sink, put_all};
-use dia_lines::LinesFault;
 use dia_report::{Refused, Report, Reported};
 use dia_run::{answer_of, read_dictionary};
+use dia_streams::LinesFault;
 use std::alloc::{AllocError, Global};
 
 /// How many bytes are asked for at a time.

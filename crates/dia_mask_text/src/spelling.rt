@@ -6,11 +6,10 @@ ghost use Rattle.dia_mask_text.specs.Lines.{why};
 ghost use Rattle.dia_run.specs.Texts.{IsMessageText, IsNoMessageText, digits_of};
 
 use dia_io::Input;
-use dia_policy::MAX_MESSAGE_TEXT;
 use dia_report::Refused;
 use dia_run::read_message;
 use dia_streams::decode_digits;
-use dia_terms::is_white;
+use dia_terms::{MAX_MESSAGE_TEXT, is_white};
 use std::alloc::{AllocError, Global};
 
 /// Why a line spells no bytes.

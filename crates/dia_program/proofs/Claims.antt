@@ -1,7 +1,7 @@
 -- What the end of a request says of its inputs.
 use Rattle.std.proofs.Common.{◌≡◌, ◌∙◌, ℕ, Bool, true, false, List, inl, inr, refl, subst, sym}
 use Rattle.std.specs.Prelude.{Ok, codes}
-use Rattle.dia_policy.specs.declared.Unknown.{Unknown}
+use Rattle.dia_terms.specs.declared.Unknown.{Unknown}
 use Rattle.dia_io.specs.declared.Command.{Command}
 use Rattle.dia_io.specs.declared.Command.TheVariants as command
 use Rattle.dia_io.specs.declared.Exit.{Exit}

@@ -2,8 +2,8 @@
 use Rattle.std.specs.Prelude.{ℕ, List}
 use Rattle.dia_io.specs.declared.Exit.{Exit}
 use Rattle.dia_io.specs.declared.Inputs.{Inputs}
-use Rattle.dia_policy.specs.declared.Unknown.{Unknown}
-use Rattle.dia_policy.specs.declared.Levels.{Levels}
+use Rattle.dia_terms.specs.declared.Unknown.{Unknown}
+use Rattle.dia_terms.specs.declared.Levels.{Levels}
 use Rattle.dia_captures.specs.declared.summaries.Lines.{Lines}
 use Rattle.dia_captures.specs.declared.summaries.Lines.TheVariants.{Checked, Refuted, Placed}
 use Rattle.dia_captures.specs.Lines.{IsLinesOutcome, checks, refutations}

@@ -15,7 +15,7 @@ use Rattle.dia_io.specs.declared.Input.{Input}
 use Rattle.dia_io.specs.declared.Input.TheVariants.{Bytes, TooLong}
 use Rattle.dia_io.specs.declared.Exit.{Exit}
 use Rattle.dia_io.specs.Inputs.{Holds, IsOver}
-use Rattle.dia_policy.specs.Limits.{max_message_text}
+use Rattle.dia_terms.specs.Limits.{max_message_text}
 use Rattle.dia_report.specs.Refusals.{fault_text, wrong_text}
 use Rattle.dia_run.specs.Texts.{line, IsSourceText, IsNoSourceText, too_long, not_text, fault, IsDictionaryText, IsNoDictionaryText, IsMessageText, IsNoMessageText}
 use Rattle.dia_run.specs.Texts.{not_hexadecimal, digits_of}

@@ -1,8 +1,8 @@
 -- What is written of all faults of a message.
 use Rattle.std.specs.Prelude.{◌≡◌, ℕ, ◌<◌, Bool, List, [], ◌++◌, flat_map, length, map, take, nat_lt, Ok, Err, codes, if◌then◌else◌}
 use Rattle.dia_dict.specs.Dictionary.{Dictionary}
-use Rattle.dia_policy.specs.declared.Unknown.{Unknown}
-use Rattle.dia_policy.specs.declared.Levels.{Levels}
+use Rattle.dia_terms.specs.declared.Unknown.{Unknown}
+use Rattle.dia_terms.specs.declared.Levels.{Levels}
 use Rattle.dia_valid.specs.Valid.{IsValidOf}
 use Rattle.dia_check.specs.declared.Fault.{Fault}
 use Rattle.dia_check.specs.declared.Refusal.{Refusal}

@@ -17,7 +17,7 @@ use Rattle.dia_dict.specs.Dictionary.{Dictionary, IsDictionary}
 use Rattle.dia_dict.specs.Resolution.{resolved, first_wrong, Wrong}
 use Rattle.dia_io.specs.declared.Input.{Input}
 use Rattle.dia_io.specs.Inputs.{Holds, IsOver}
-use Rattle.dia_policy.specs.Limits.{max_message_text}
+use Rattle.dia_terms.specs.Limits.{max_message_text}
 use Rattle.dia_report.specs.Refusals.{fault_text, wrong_text}
 
 -- a text and its line feed

@@ -32,7 +32,7 @@ pub use dia_io::{
     Command, Exit, Failed, Feed, FromReader, Input, InputFault, Inputs, RunFault, Sink, ToWriter,
     read_input,
 };
-pub use dia_policy::MAX_MESSAGE_TEXT;
+pub use dia_terms::MAX_MESSAGE_TEXT;
 pub use inputs::dictionary::read_dictionary;
 pub use inputs::message::read_message;
 pub use inputs::table::read_table;

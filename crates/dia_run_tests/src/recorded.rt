@@ -1,8 +1,9 @@
-//! The texts of the faults of dia_check and dia_compat.
+//! The texts of the faults of dia_check, dia_inclusion and dia_tables.
 
 use crate::words::same;
 use dia_check::{Fault, Reason, Refusal, StreamFault, Subject};
-use dia_compat::{ProposeFault, TableFault};
+use dia_inclusion::ProposeFault;
+use dia_tables::TableFault;
 use std::fmt::Display;
 use std::process::Abort;
 

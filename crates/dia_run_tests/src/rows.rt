@@ -18,7 +18,7 @@
 use crate::books::{Books, Task, is_verdict};
 use crate::check::feed;
 use crate::check::pieces::check_level;
-use crate::compat::answer_pairs;
+use crate::comparing::answer_pairs;
 use crate::words::{levels_of, number_of, policy_of, range_of};
 use dia_check::{Levels, Stream, Unknown};
 use dia_dict::{Book, base_text};

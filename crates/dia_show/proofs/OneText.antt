@@ -10,9 +10,9 @@ use Rattle.dia_io.specs.declared.Input.{Input}
 use Rattle.dia_io.specs.declared.Input.TheVariants.{Bytes, TooLong}
 use Rattle.dia_io.specs.declared.Inputs.{Inputs}
 use Rattle.dia_io.specs.Inputs.{Holds, IsOver}
-use Rattle.dia_lines.specs.Lines.{IsLineInput, LineHasOneAnswer, recorded_lines}
-use Rattle.dia_lines.proofs.OneAnswer.{text_once}
-use Rattle.dia_policy.specs.Limits.{max_message_text}
+use Rattle.dia_streams.specs.Lines.{IsLineInput, LineHasOneAnswer, recorded_lines}
+use Rattle.dia_streams.proofs.OneAnswer.{text_once}
+use Rattle.dia_terms.specs.Limits.{max_message_text}
 use Rattle.dia_report.specs.Refusals.{dictionary_line}
 use Rattle.dia_run.specs.Texts.{IsMessageText, IsNoMessageText, too_long, not_hexadecimal}
 use Rattle.dia_run.proofs.OneInput.{Same, refused_once, one_dictionary, dictionary_or_not, one_reason_for_dictionary, one_message, message_or_not, one_message_reason, held_once, not_over}

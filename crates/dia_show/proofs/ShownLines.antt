@@ -12,10 +12,10 @@ use Rattle.dia_io.specs.declared.Exit.TheVariants as exits
 use Rattle.dia_io.specs.declared.Input.{Input}
 use Rattle.dia_io.specs.declared.Inputs.{Inputs}
 use Rattle.dia_io.specs.Writing.{AppendsFront}
-use Rattle.dia_lines.specs.FeedToSink.{AllAnswered, FrontAnswered, LinesAnswered}
-use Rattle.dia_lines.specs.Lines.{line_number, recorded_from, recorded_lines}
-use Rattle.dia_lines.specs.Lines as lines
-use Rattle.dia_lines.proofs.OtherAnswers.{IsAnswered-map, FrontAnswered-map, LinesAnswered-map}
+use Rattle.dia_streams.specs.FeedToSink.{AllAnswered, FrontAnswered, LinesAnswered}
+use Rattle.dia_streams.specs.Lines.{line_number, recorded_from, recorded_lines}
+use Rattle.dia_streams.specs.Lines as lines
+use Rattle.dia_streams.proofs.OtherAnswers.{IsAnswered-map, FrontAnswered-map, LinesAnswered-map}
 use Rattle.dia_report.specs.declared.refusing.Refused.{Refused}
 use Rattle.dia_report.specs.declared.refusing.Refused.TheVariants.{Bad, NoMemory}
 use Rattle.dia_report.specs.Refusals.{RecordsOf, bad_input_text}

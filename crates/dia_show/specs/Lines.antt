@@ -10,8 +10,8 @@ use Rattle.dia_io.specs.declared.Exit.TheVariants.{Yes, No, Bad}
 use Rattle.dia_io.specs.declared.Input.{Input}
 use Rattle.dia_io.specs.declared.Inputs.{Inputs}
 use Rattle.dia_io.specs.Writing.{AppendsFront}
-use Rattle.dia_lines.specs.FeedToSink.{FrontAnswered}
-use Rattle.dia_lines.specs.Lines.{IsAnswered, recorded_lines}
+use Rattle.dia_streams.specs.FeedToSink.{FrontAnswered}
+use Rattle.dia_streams.specs.Lines.{IsAnswered, recorded_lines}
 use Rattle.dia_report.specs.Refusals.{dictionary_line}
 use Rattle.dia_run.specs.declared.commands.Outcome.{Outcome}
 use Rattle.dia_run.specs.Outcome.{Refuses}

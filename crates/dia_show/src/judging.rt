@@ -9,9 +9,9 @@ use crate::command::show_message;
 use crate::manner::Manner;
 use dia_dict::Book;
 use dia_io::{Exit, Input};
-use dia_lines::{Judge, Watch};
 use dia_report::Refused;
 use dia_run::{Outcome, outcome_of, read_message};
+use dia_streams::{Judge, Watch};
 use std::alloc::{AllocError, Global};
 
 /// `show` of each line, in a manner and with the names of a dictionary.

@@ -4,7 +4,7 @@ ghost use Rattle.std.specs.Prelude.{◌≡◌, ℕ, Bool, List, [], false};
 ghost use Rattle.dia_io.specs.declared.Exit.{Exit as AnyExit};
 ghost use Rattle.dia_io.specs.declared.Inputs.{Inputs as AnyInputs};
 ghost use Rattle.dia_io.specs.Inputs.{Holds};
-ghost use Rattle.dia_lines.specs.Lines.{LineHasOneAnswer};
+ghost use Rattle.dia_streams.specs.Lines.{LineHasOneAnswer};
 ghost use Rattle.dia_run.specs.Outcome.{IsShowOutcome};
 ghost use Rattle.dia_show.specs.Lines.{IsLinesOutcome, OfLine};
 ghost use Rattle.dia_show.specs.Outcome.{IsNamedOutcome};

@@ -4,9 +4,9 @@ ghost use Rattle.std.specs.Prelude.{◌≡◌, ◌≢◌, ◌↔◌, ◌≤◌, 
 ghost use Rattle.std.specs.Prelude.{Err, IfOk, IfSome, IsErr, IsTrue, string_bytes};
 ghost use Rattle.std.specs.Io.KnownBytes.{Appends, IsAtEnd};
 ghost use Rattle.dia_io.specs.Writing.{AppendsFront};
-ghost use Rattle.dia_lines.specs.declared.fault.LinesFault.TheVariants.{NoMemory, Device, Endless};
-ghost use Rattle.dia_lines.specs.FeedToSink.{FrontAnswered, LinesAnswered, most_pieces};
-ghost use Rattle.dia_lines.specs.Lines.{recorded_lines};
+ghost use Rattle.dia_streams.specs.declared.fault.LinesFault.TheVariants.{NoMemory, Device, Endless};
+ghost use Rattle.dia_streams.specs.FeedToSink.{FrontAnswered, LinesAnswered, most_pieces};
+ghost use Rattle.dia_streams.specs.Lines.{recorded_lines};
 ghost use Rattle.dia_report.specs.declared.reporting.Report.TheVariants.{Done as NothingToReport};
 ghost use Rattle.dia_run.specs.Texts.{IsDictionaryText};
 ghost use Rattle.dia_show.specs.Lines.{AreLinesShown, AreOutcomesListed, IsFrontShown, IsOpening, OfLine, numbered};
@@ -19,9 +19,9 @@ use crate::reading::read_manner;
 use crate::reporting::{Answered, Report, Reported};
 use dia_dict::{Book, IndexedBook};
 use dia_io::{Exit, Feed, Inputs, Sink, put_all};
-use dia_lines::{Judge, LinesFault, answer_lines};
 use dia_report::{ReadBook, Refused};
 use dia_run::{Outcome, read_dictionary};
+use dia_streams::{Judge, LinesFault, answer_lines};
 use std::alloc::{AllocError, Global};
 
 /// `show` of each line of a feed: a line with its number, and then what `show` writes for it alone. Yes where each is shown to

@@ -5,7 +5,7 @@ use Rattle.std.proofs.lemmas.List.{append-nil, length-append}
 use Rattle.std.proofs.lemmas.List.Elements.{filter-append}
 use Rattle.hex.specs.Hex.{hex_digit_value}
 use Rattle.dia_streams.specs.Streams.{AreSpelled, BeginsNoPair, IsPair, digits_of, is_white}
-use Rattle.dia_streams.specs.UnderWay.{IsHalf, AreDigits, AreStopped, AreTaken, Takes}
+use Rattle.dia_streams.specs.StreamUnderWay.{IsHalf, AreDigits, AreStopped, AreTaken, Takes}
 
 -- ---- digits
 

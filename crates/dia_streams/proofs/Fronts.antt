@@ -9,7 +9,7 @@ use Rattle.dia_wire.specs.Number.{number}
 use Rattle.dia_wire.specs.Wire.{BeginsMessage, IsHead, IsMessageLength}
 use Rattle.dia_wire.proofs.OneHeader.{head_says}
 use Rattle.dia_streams.specs.Streams.{IsEndless, IsMessage}
-use Rattle.dia_streams.specs.UnderWay.{BeginsNone}
+use Rattle.dia_streams.specs.StreamUnderWay.{BeginsNone}
 
 pub message_long : (bytes : List ℕ) (n : ℕ) → BeginsMessage bytes n → 20 ≤ length bytes
 message_long bytes n (h, head, sound) = (head_says h n bytes head).0

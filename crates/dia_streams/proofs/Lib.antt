@@ -1,3 +1,8 @@
+pub mod FeedToSink
+pub mod LineNumbers
+pub mod LinesUnderWay
+pub mod OneAnswer
+pub mod OtherAnswers
 pub mod DigitsTaken
 pub mod PairsDecoded
 pub mod PairsTaken

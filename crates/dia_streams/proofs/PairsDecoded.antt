@@ -9,7 +9,7 @@ use Rattle.hex.specs.declared.error.FromHexError.{FromHexError}
 use Rattle.hex.specs.declared.error.FromHexError.TheVariants.{InvalidHexCharacter}
 use Rattle.hex.specs.Hex.{decode_pairs, digit_or_error, hex_digit_value, pair_value, ◌>>=◌}
 use Rattle.hex.proofs.Pairs.{prepend, decode_step, decode_err, decode_start}
-use Rattle.dia_streams.specs.UnderWay.{value_or_none}
+use Rattle.dia_streams.specs.StreamUnderWay.{value_or_none}
 
 -- ---- a pair
 

@@ -6,7 +6,7 @@ use Rattle.hex.specs.declared.error.FromHexError.{FromHexError}
 use Rattle.hex.specs.declared.error.FromHexError.TheVariants.{OddLength}
 use Rattle.hex.specs.Hex.{decode_of, decode_pairs, digit_or_error, hex_digit_value, ◌>>=◌}
 use Rattle.dia_streams.specs.Streams.{AreSpelled, digits_of}
-use Rattle.dia_streams.specs.UnderWay.{Takes}
+use Rattle.dia_streams.specs.StreamUnderWay.{Takes}
 use Rattle.dia_streams.proofs.DigitsTaken.{no_white, spelled_both, Takes-both, Takes-stopped}
 
 -- a pair before what is decoded

@@ -7,13 +7,13 @@ use Rattle.std.proofs.KnownBytes.{Appends-nil, Consumes-nil, Consumes-trans, Con
 use Rattle.std.proofs.lemmas.Grind.{flat_map-append}
 use Rattle.std.proofs.lemmas.List.{append-nil, length-append}
 use Rattle.dia_io.specs.Writing.{AppendsFront}
-use Rattle.dia_lines.specs.FeedToSink.{Sees}
-use Rattle.dia_lines.proofs.FeedToSink.{front_both, put_both}
-use Rattle.dia_lines.proofs.LinesUnderWay.{Sees-both, Sees-nothing}
+use Rattle.dia_streams.specs.FeedToSink.{Sees}
+use Rattle.dia_streams.proofs.FeedToSink.{front_both, put_both}
+use Rattle.dia_streams.proofs.LinesUnderWay.{Sees-both, Sees-nothing}
 use Rattle.dia_streams.specs.declared.digits.Digits.{Digits}
 use Rattle.dia_streams.specs.declared.streamed.Streamed.{Streamed}
 use Rattle.dia_streams.specs.Streams.{AreSpelled, none, IsPart, IsStreamRecorded, IsFrontRecorded, StillGives, AllRecorded, WholeRecorded, SomeRecorded, digits_of}
-use Rattle.dia_streams.specs.UnderWay.{AreDigits, Goes, IsHalf, IsUnderWay, Reads, Ends, AreRead}
+use Rattle.dia_streams.specs.StreamUnderWay.{AreDigits, Goes, IsHalf, IsUnderWay, Reads, Ends, AreRead}
 use Rattle.dia_streams.proofs.DigitsTaken.{digits_both}
 
 -- nothing follows at the end

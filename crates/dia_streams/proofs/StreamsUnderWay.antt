@@ -6,11 +6,11 @@ use Rattle.std.specs.List.{flat_map}
 use Rattle.std.proofs.lemmas.Grind.{flat_map-append}
 use Rattle.std.proofs.lemmas.List.{append-nil, length-append, take-append-le}
 use Rattle.std.proofs.lemmas.List.Concat.{flat_map-cons}
-use Rattle.dia_lines.proofs.LinesUnderWay.{Sees-both, Sees-nothing}
+use Rattle.dia_streams.proofs.LinesUnderWay.{Sees-both, Sees-nothing}
 use Rattle.dia_streams.specs.declared.recorded.Recorded.{Recorded}
 use Rattle.dia_streams.specs.declared.streamed.Streamed.{Streamed}
 use Rattle.dia_streams.specs.Streams.{AreSpelled, AreRecorded, none, message, IsEndRecorded, nothing, part, endless, no_digits, IsEndless, IsMessage, IsPart, IsStreamRecorded, Spells, digits_of, is_white}
-use Rattle.dia_streams.specs.UnderWay.{AreDigits, AreTaken, Takes, HasRecorded, Adds, RecordsWhole, BeginsNone, IsUnderWay, Reads, Ends}
+use Rattle.dia_streams.specs.StreamUnderWay.{AreDigits, AreTaken, Takes, HasRecorded, Adds, RecordsWhole, BeginsNone, IsUnderWay, Reads, Ends}
 use Rattle.dia_streams.proofs.DigitsTaken.{digits_both, spelled_both, spelled_front, stops_half}
 use Rattle.dia_streams.proofs.Fronts.{endless_on}
 

@@ -1,2 +1,5 @@
+pub mod FeedToSink
+pub mod Lines
+pub mod LinesUnderWay
 pub mod Streams
-pub mod UnderWay
+pub mod StreamUnderWay

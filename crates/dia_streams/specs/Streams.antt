@@ -6,7 +6,7 @@ pub use Rattle.dia_terms.specs.Texts.{is_white, digits_of}
 use Rattle.hex.specs.Hex.{hex_digit_value}
 use Rattle.dia_wire.specs.Wire.{BeginsMessage}
 use Rattle.dia_io.specs.Writing.{AppendsFront}
-use Rattle.dia_lines.specs.FeedToSink.{Sees}
+use Rattle.dia_streams.specs.FeedToSink.{Sees}
 
 -- ---- the bytes of a text
 

@@ -22,7 +22,7 @@ pub struct Digits {
 impl Digits {
     ghost use Rattle.std.specs.Prelude.{◌≡◌, ◌≤◌, ◌++◌, ◌∷◌, List, ℕ, [], None, Some, IfOk, OnOk, length};
     ghost use Rattle.hex.specs.Hex.{hex_digit_value};
-    ghost use Rattle.dia_streams.specs.UnderWay.{AreDigits, Takes};
+    ghost use Rattle.dia_streams.specs.StreamUnderWay.{AreDigits, Takes};
 
     /// No digit came yet.
     pub fn new(alloc: Global) -> Digits

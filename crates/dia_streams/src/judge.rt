@@ -1,31 +1,30 @@
-ghost use Rattle.std.specs.Prelude.{◌≡◌, ◌++◌, List, ℕ, Option, None, Some, IfOk, string_bytes};
+ghost use Rattle.std.specs.Prelude.{◌≡◌, ◌++◌, List, ℕ, IfOk, string_bytes};
+ghost use Rattle.dia_io.specs.declared.Input.{Input as AnyInput};
 
+use dia_io::Input;
 use std::alloc::{AllocError, Global};
 
-/// What judges messages.
-pub trait MessageJudge {
-    /// What is found of a message.
-    type Verdict: Copy;
+/// What judges lines.
+pub trait Judge {
+    /// What is found of a line. It may own memory.
+    type Verdict: Drop;
 
-    // Whether the bytes of a message have this verdict; or, where there are none, what isn't hexadecimal.
-    ghost says: { Self → Option (List ℕ) → Self.Verdict → Type 0 };
+    // Whether a line has this verdict.
+    ghost says: { Self → AnyInput → Self.Verdict → Type 0 };
 
-    // The line for a verdict on what begins at a place.
-    ghost recorded: { Self → ℕ × Self.Verdict → List ℕ };
+    // The text for a verdict on the line of this number.
+    ghost recorded: { Self → ℕ → Self.Verdict → List ℕ };
 
-    /// The verdict on the bytes of a message that begins at a place. Its line is added to a text.
+    /// The verdict on the line of this number. Its text is added to another. What the space holds means nothing: it is memory
+    /// that is used again for the next line.
     fn judge(
         &self,
         alloc: Global,
-        at: u64,
-        message: &[u8],
+        number: u64,
+        line: &Input,
+        space: &mut Vec<u8>,
         text: &mut String,
     ) -> Result<Self::Verdict, AllocError>
-        ensures { IfOk result (λ verdict. says self.now (Some message.now) verdict
-            × (string_bytes text.new ≡ string_bytes text.old ++ recorded self.now (at, verdict))) };
-
-    /// The verdict on a text that isn't hexadecimal in the message that begins at a place. Its line is added to a text.
-    fn judge_no_digits(&self, at: u64, text: &mut String) -> Result<Self::Verdict, AllocError>
-        ensures { IfOk result (λ verdict. says self.now None verdict
-            × (string_bytes text.new ≡ string_bytes text.old ++ recorded self.now (at, verdict))) };
+        ensures { IfOk result (λ verdict. says self.now line.now verdict
+            × (string_bytes text.new ≡ string_bytes text.old ++ recorded self.now number verdict)) };
 }

@@ -2,7 +2,7 @@
 
 ghost use Rattle.std.specs.Prelude.{◌≡◌, ◌++◌, ◌↔◌, take, IfSome, IsNone, IsTrue};
 ghost use Rattle.dia_streams.specs.Streams.{IsEndless, IsMessage};
-ghost use Rattle.dia_streams.specs.UnderWay.{BeginsNone};
+ghost use Rattle.dia_streams.specs.StreamUnderWay.{BeginsNone};
 
 use dia_wire::{HEADER_LENGTH, read_header};
 

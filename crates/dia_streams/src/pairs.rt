@@ -2,7 +2,7 @@
 
 ghost use Rattle.std.specs.Prelude.{◌≡◌, ◌≤◌, ◌*◌, length, take, Ok, IfOk, IfSome, IsNone, IsOk, IsTrue};
 ghost use Rattle.hex.specs.Hex.{decode_of};
-ghost use Rattle.dia_streams.specs.UnderWay.{value_or_none};
+ghost use Rattle.dia_streams.specs.StreamUnderWay.{value_or_none};
 
 use std::alloc::{AllocError, Global};
 

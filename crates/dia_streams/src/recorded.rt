@@ -2,9 +2,10 @@
 
 ghost use Rattle.std.specs.Prelude.{◌≡◌};
 
-use crate::judge::MessageJudge;
+use crate::fault::LinesFault;
+use crate::message_judge::MessageJudge;
 use crate::messages::first_message;
-use dia_lines::{LinesFault, Watch};
+use crate::watch::Watch;
 use std::alloc::{AllocError, Global};
 
 /// The lines of the messages that are whole.
@@ -18,9 +19,9 @@ pub struct Recorded {
 
 impl Recorded {
     ghost use Rattle.std.specs.Prelude.{◌≡◌, ◌≢◌, ◌≤◌, ◌+◌, None, Some, [], Err, IfErr, IfOk, OnOk, length, string_bytes};
-    ghost use Rattle.dia_lines.specs.declared.fault.LinesFault.TheVariants.{Device, Endless};
+    ghost use Rattle.dia_streams.specs.declared.fault.LinesFault.TheVariants.{Device, Endless};
     ghost use Rattle.dia_streams.specs.Streams.{most_places};
-    ghost use Rattle.dia_streams.specs.UnderWay.{Adds, BeginsNone, RecordsWhole};
+    ghost use Rattle.dia_streams.specs.StreamUnderWay.{Adds, BeginsNone, RecordsWhole};
 
     /// Nothing was reported yet.
     pub fn new(alloc: Global) -> Recorded

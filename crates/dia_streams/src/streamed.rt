@@ -1,10 +1,11 @@
 //! The messages of a stream that were reported, and the one that is under way.
 
 use crate::digits::Digits;
-use crate::judge::MessageJudge;
+use crate::fault::LinesFault;
+use crate::message_judge::MessageJudge;
 use crate::messages::bad_header;
 use crate::recorded::Recorded;
-use dia_lines::{LinesFault, Watch};
+use crate::watch::Watch;
 use std::alloc::{AllocError, Global};
 
 /// A stream of which a front was read.
@@ -17,9 +18,9 @@ pub struct Streamed {
 
 impl Streamed {
     ghost use Rattle.std.specs.Prelude.{◌≡◌, ◌≢◌, ◌≤◌, ◌++◌, List, ℕ, [], None, IfErr, IfOk, OnOk, length, string_bytes};
-    ghost use Rattle.dia_lines.specs.declared.fault.LinesFault.TheVariants.{Device, Endless};
+    ghost use Rattle.dia_streams.specs.declared.fault.LinesFault.TheVariants.{Device, Endless};
     ghost use Rattle.dia_streams.specs.Streams.{most_places};
-    ghost use Rattle.dia_streams.specs.UnderWay.{Ends, IsUnderWay, Reads};
+    ghost use Rattle.dia_streams.specs.StreamUnderWay.{Ends, IsUnderWay, Reads};
 
     /// Nothing was read yet.
     pub fn new(alloc: Global) -> Streamed

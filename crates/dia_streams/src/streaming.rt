@@ -4,14 +4,15 @@ ghost use Rattle.std.specs.Prelude.{◌≡◌, ◌↔◌, ◌≤◌, ◌⊎◌, 
 ghost use Rattle.std.specs.Prelude.{Ok, Err, IfSome, IsErr, IsTrue, OnOk, true, false, string_bytes};
 ghost use Rattle.std.specs.Io.KnownBytes.{Appends};
 ghost use Rattle.dia_io.specs.Writing.{AppendsFront};
-ghost use Rattle.dia_lines.specs.declared.fault.LinesFault.TheVariants.{NoMemory, Device, Endless};
+ghost use Rattle.dia_streams.specs.declared.fault.LinesFault.TheVariants.{NoMemory, Device, Endless};
 ghost use Rattle.dia_streams.specs.Streams.{AllRecorded, SomeRecorded, WholeRecorded, most_places};
-ghost use Rattle.dia_streams.specs.UnderWay.{AreRead};
+ghost use Rattle.dia_streams.specs.StreamUnderWay.{AreRead};
 
-use crate::judge::MessageJudge;
+use crate::fault::LinesFault;
+use crate::message_judge::MessageJudge;
 use crate::streamed::Streamed;
+use crate::watch::Watch;
 use dia_io::{Failed, Feed, Sink, put_all};
-use dia_lines::{LinesFault, Watch};
 use std::alloc::Global;
 
 /// How many bytes are asked for at a time.

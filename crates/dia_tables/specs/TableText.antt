@@ -4,7 +4,7 @@ use Rattle.std.specs.Prelude.{length, map, take, Option, Some, None, option_to_l
 use Rattle.std.specs.List.{filter_map, list_all, AllByRecursion}
 use Rattle.std.specs.Global.{Global}
 use Rattle.std.specs.Str.Lines.{lines}
-pub use Rattle.dia_policy.specs.Limits.{max_table}
+pub use Rattle.dia_terms.specs.Limits.{max_table}
 pub use Rattle.dia_terms.specs.Limits.{max_name}
 pub use Rattle.dia_terms.specs.Names.{is_run_byte, is_name_run}
 pub use Rattle.dia_valid.specs.Inclusion.{PlainTable}

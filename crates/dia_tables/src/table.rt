@@ -6,8 +6,7 @@ ghost use Rattle.dia_tables.specs.TableText.{IsTable, IsTableFault, IsWithinLimi
 ghost use Rattle.dia_tables.specs.Lines.{Adds, PassesLimit, HasRoom};
 
 use crate::line::{Line, read_line};
-pub use dia_policy::MAX_TABLE;
-pub use dia_terms::MAX_NAME;
+pub use dia_terms::{MAX_NAME, MAX_TABLE};
 use std::alloc::{AllocError, Global};
 use std::fmt;
 use thiserror::Error;

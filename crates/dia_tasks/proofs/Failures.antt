@@ -3,8 +3,8 @@ use Rattle.std.proofs.Common.{◌≡◌, ℕ, Bool, true, false, List, IsTrue, c
 use Rattle.std.specs.Prelude.{Option, Result, Err, ◌↔◌, ◌⊎◌}
 use Rattle.std.specs.Borrow.{Bor}
 use Rattle.std.specs.declared.io.Error.{Error}
-use Rattle.dia_lines.specs.declared.fault.LinesFault.{LinesFault}
-use Rattle.dia_lines.specs.declared.fault.LinesFault.TheVariants as fault
+use Rattle.dia_streams.specs.declared.fault.LinesFault.{LinesFault}
+use Rattle.dia_streams.specs.declared.fault.LinesFault.TheVariants as fault
 use Rattle.dia_io.specs.declared.RunFault.{RunFault}
 use Rattle.dia_io.specs.declared.RunFault.TheVariants as run
 use Rattle.dia_io.specs.declared.Exit.{Exit}

@@ -5,8 +5,8 @@ use Rattle.dia_io.specs.declared.Command.TheVariants.{Show, Render, Check, Compa
 use Rattle.dia_io.specs.declared.Inputs.{Inputs}
 use Rattle.dia_io.specs.declared.Exit.{Exit}
 use Rattle.dia_io.specs.declared.Exit.TheVariants.{Bad}
-use Rattle.dia_policy.specs.declared.Levels.{Levels}
-use Rattle.dia_policy.specs.declared.Unknown.{Unknown}
+use Rattle.dia_terms.specs.declared.Levels.{Levels}
+use Rattle.dia_terms.specs.declared.Unknown.{Unknown}
 use Rattle.dia_dict.specs.Dictionary.{Dictionary}
 use Rattle.dia_answer.specs.Names.{IsName}
 use Rattle.dia_answer.specs.declared.names.NameFault.{NameFault}

@@ -1,7 +1,7 @@
 -- What is written for `examples`, and how it ends.
 use Rattle.std.specs.Prelude.{IsTrue, Bool, true, false, Result, Ok, Err, codes}
 use Rattle.dia_io.specs.declared.Inputs.{Inputs}
-use Rattle.dia_policy.specs.declared.Unknown.{Unknown}
+use Rattle.dia_terms.specs.declared.Unknown.{Unknown}
 use Rattle.dia_report.specs.declared.reporting.Reported.{Reported}
 use Rattle.dia_cli.specs.Ending.{Stream}
 use Rattle.dia_cli.specs.declared.ending.Ending.{Ending}

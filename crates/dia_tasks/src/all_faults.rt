@@ -10,9 +10,9 @@ use crate::answering::put_answer;
 use dia_check::check;
 use dia_cli::Ending;
 use dia_io::{Inputs, Sink, ToWriter};
-use dia_policy::{Levels, Unknown};
 use dia_report::{Answered, Invalid, ReadBook, Refused, Report, Reported};
 use dia_run::{Outcome, answer_of, read_dictionary, read_message, report_faults};
+use dia_terms::{Levels, Unknown};
 use std::alloc::{AllocError, Global};
 use std::io::Write;
 

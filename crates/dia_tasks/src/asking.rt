@@ -16,8 +16,8 @@ use dia_diff::write_diff;
 use dia_examples_text::{Form, write_examples};
 use dia_io::{Inputs, Sink, ToWriter};
 use dia_lint_text::write_lint;
-use dia_policy::{Sends, Unknown};
 use dia_report::Reported;
+use dia_terms::{Sends, Unknown};
 use dia_uses::write_uses;
 use std::io::Write;
 

@@ -2,7 +2,7 @@
 
 ghost use Rattle.std.specs.Prelude.{◌≡◌, ◌⊎◌, ◌↔◌, true, false, Err, IfOk, IsErr, IsTrue, is_some};
 ghost use Rattle.dia_cli.specs.Ending.{stream};
-ghost use Rattle.dia_lines.specs.declared.fault.LinesFault.TheVariants.{Device};
+ghost use Rattle.dia_streams.specs.declared.fault.LinesFault.TheVariants.{Device};
 ghost use Rattle.dia_tasks.specs.Captures.{ArePut, Captures, IsBegun, IsEndingOf, fed, known_of, messages_word};
 
 use crate::front::{Front, is_recording};
@@ -15,9 +15,9 @@ use dia_explain_answers::{Asked, push_check_alone, push_refute_alone};
 use dia_explain_inputs::push_front;
 use dia_explain_places::Note;
 use dia_io::{Exit, Feed, FromReader, Inputs, Sink, ToWriter};
-use dia_lines::LinesFault;
-use dia_policy::{Levels, Unknown};
 use dia_report::Reported;
+use dia_streams::LinesFault;
+use dia_terms::{Levels, Unknown};
 use std::alloc::Global;
 use std::io;
 use std::io::{Read, Write};

@@ -2,7 +2,7 @@
 
 ghost use Rattle.std.specs.Prelude.{◌≡◌, ◌↔◌, ◌⊎◌, Err, IfOk, IsErr, IsTrue};
 ghost use Rattle.dia_cli.specs.Ending.{stream};
-ghost use Rattle.dia_lines.specs.declared.fault.LinesFault.TheVariants.{Device};
+ghost use Rattle.dia_streams.specs.declared.fault.LinesFault.TheVariants.{Device};
 ghost use Rattle.dia_tasks.specs.Captures.{AreShown, IsShownBegun, Lists, fed, known_of, messages_word};
 
 use crate::captured::{ending_of, report_front};
@@ -13,8 +13,8 @@ use crate::showing::recorded_of;
 use dia_captures::Lines;
 use dia_cli::{BASE_DICTIONARY, Ending, Opener, Origin, Origins, STANDARD_INPUT};
 use dia_io::{Exit, Feed, FromReader, Inputs, Sink, ToWriter};
-use dia_lines::LinesFault;
 use dia_report::Reported;
+use dia_streams::LinesFault;
 use std::alloc::Global;
 use std::io::{Read, Write};
 

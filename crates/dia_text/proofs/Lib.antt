@@ -22,3 +22,8 @@ pub mod ShownWords
 pub mod NoTexts
 pub mod Parts
 pub mod Counted
+pub mod ValidFields
+pub mod Drawn
+pub mod Fitting
+pub mod NamedHeaders
+pub mod ValidTexts

@@ -13,3 +13,4 @@ pub mod Made
 pub mod AllFaults
 pub mod LineTexts
 pub mod TextOf
+pub mod ValidTexts

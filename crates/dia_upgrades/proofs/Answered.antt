@@ -21,7 +21,7 @@ use Rattle.dia_accepted.specs.Accepted.{unused_of as recorded_unused}
 use Rattle.dia_accepted.specs.Seen.{HasSeen as RecordedSeen}
 use Rattle.dia_breaking.specs.Sides.{Sides}
 use Rattle.std.specs.Global.{Vec}
-use Rattle.dia_policy.specs.declared.Sends.TheVariants as sent
+use Rattle.dia_terms.specs.declared.Sends.TheVariants as sent
 use Rattle.dia_upgrades.specs.declared.asked.Asked.{Asked}
 use Rattle.dia_upgrades.specs.declared.asked.Form.{Form}
 use Rattle.dia_upgrades.specs.declared.asked.Form.TheVariants.{Text, Json}

@@ -7,8 +7,8 @@ use Rattle.std.proofs.lemmas.Bool.{eq-eqb}
 use Rattle.std.proofs.lemmas.Option.{slice_get-get_or}
 use Rattle.std.proofs.lemmas.List.Elements.{All-from_recursion, recursion_from_All}
 use Rattle.dia_accepted.specs.Accepted.{PlainEntry}
-use Rattle.dia_policy.specs.declared.sends.Sends.{Sends}
-use Rattle.dia_policy.specs.declared.Unknown.{Unknown}
+use Rattle.dia_terms.specs.declared.sends.Sends.{Sends}
+use Rattle.dia_terms.specs.declared.Unknown.{Unknown}
 use Rattle.dia_book.specs.Dictionary.{Dictionary}
 use Rattle.dia_book.proofs.Members.{at_filter, into_filter}
 use Rattle.dia_breaking_sites.specs.Selection.{AreValid}

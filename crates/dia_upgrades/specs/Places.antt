@@ -1,8 +1,8 @@
 -- The places of the commands that are asked for.
 use Rattle.std.specs.Prelude.{◌≡◌, ℕ, nat_eq, ◌+◌, ◌<◌, false, List, [], ◌∷◌, length, take, get_or, All}
 use Rattle.std.specs.List.{filter_map, list_any, range_with_len}
-use Rattle.dia_policy.specs.declared.sends.Sends.{Sends}
-use Rattle.dia_policy.specs.declared.Unknown.{Unknown}
+use Rattle.dia_terms.specs.declared.sends.Sends.{Sends}
+use Rattle.dia_terms.specs.declared.Unknown.{Unknown}
 use Rattle.dia_book.specs.Dictionary.{Dictionary, groups}
 use Rattle.dia_breaking_sites.specs.Selection.{AreValid}
 use Rattle.dia_inclusion.specs.PairTests.{command_named}

@@ -4,7 +4,7 @@ use Rattle.std.specs.List.{flat_map}
 use Rattle.hex.specs.Hex.{encode_lower}
 use Rattle.dia_accepted.specs.Accepted.{PlainRecorded}
 use Rattle.dia_wire.specs.declared.Key.{Key}
-use Rattle.dia_policy.specs.declared.sends.Sends.{Sends}
+use Rattle.dia_terms.specs.declared.sends.Sends.{Sends}
 use Rattle.dia_book.specs.Dictionary.{Dictionary, groups}
 use Rattle.dia_breaking_sites.specs.Sent.{AreBytes}
 use Rattle.dia_breaking_shortest.specs.Exact.{AreExact}

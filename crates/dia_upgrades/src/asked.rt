@@ -1,7 +1,7 @@
 //! What the command is asked for.
 
 use dia_breaking_json::Names;
-use dia_policy::{Sends, Unknown};
+use dia_terms::{Sends, Unknown};
 
 /// The form in which lines are written.
 #[derive(Clone, Copy)]

@@ -16,7 +16,7 @@ use dia_accepted::{Entry, about};
 use dia_breaking::Upgrade;
 use dia_dict::Book;
 use dia_io::RunFault;
-use dia_policy::{Sends, Unknown};
+use dia_terms::{Sends, Unknown};
 use std::alloc::{AllocError, Global};
 
 /// The stale entries among those that accept no line of the answer, unless they are ignored. For entries that may be stale the

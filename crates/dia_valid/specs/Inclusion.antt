@@ -1,8 +1,8 @@
 -- A table of pairs of names, and when it shows that each valid message of one dictionary is valid under another.
 use Rattle.std.specs.Prelude.{◌≡◌, ℕ, List, Some, Contains, slice_get}
 use Rattle.dia_book.specs.Dictionary.{Dictionary, PlainDefinition, definitions}
-use Rattle.dia_policy.specs.declared.Unknown.{Unknown}
-use Rattle.dia_policy.specs.declared.Levels.{Levels}
+use Rattle.dia_terms.specs.declared.Unknown.{Unknown}
+use Rattle.dia_terms.specs.declared.Levels.{Levels}
 use Rattle.dia_valid.specs.Valid.{IsValidOf}
 
 -- a table as a plain value

@@ -16,10 +16,10 @@ use Rattle.dia_book.specs.declared.DefHead.{DefHead}
 use Rattle.dia_book.specs.declared.DefHead.TheVariants.{Group, Command, Error}
 use Rattle.dia_book.specs.declared.DRule.{DRule}
 use Rattle.dia_book.specs.Dictionary.{Dictionary, DictEntry, PlainDefinition, is_fixed, lists_key, entry_of, definitions, selected}
-use Rattle.dia_policy.specs.declared.Unknown.{Unknown}
-use Rattle.dia_policy.specs.declared.Unknown.TheVariants.{Kept, Refused}
-use Rattle.dia_policy.specs.declared.Levels.{Levels}
-use Rattle.dia_policy.specs.declared.Levels.TheVariants as levels
+use Rattle.dia_terms.specs.declared.Unknown.{Unknown}
+use Rattle.dia_terms.specs.declared.Unknown.TheVariants.{Kept, Refused}
+use Rattle.dia_terms.specs.declared.Levels.{Levels}
+use Rattle.dia_terms.specs.declared.Levels.TheVariants as levels
 -- ---- flags
 
 pub use Rattle.dia_wire.specs.Wire.{HasM, HasR, HasP, HasE, HasT}

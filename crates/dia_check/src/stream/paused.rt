@@ -2,8 +2,8 @@
 
 ghost use Rattle.std.specs.Prelude.{◌≡◌, ◌↔◌, ℕ, List};
 ghost use Rattle.dia_book.specs.Dictionary.{Dictionary};
-ghost use Rattle.dia_policy.specs.declared.Unknown.{Unknown as AnyPolicy};
-ghost use Rattle.dia_policy.specs.declared.Levels.{Levels as AnyLevels};
+ghost use Rattle.dia_terms.specs.declared.Unknown.{Unknown as AnyPolicy};
+ghost use Rattle.dia_terms.specs.declared.Levels.{Levels as AnyLevels};
 ghost use Rattle.dia_check.specs.Pauses.{HasPaused, HasSeenPaused, IsPauseOf, IsPauseOfPart};
 ghost use Rattle.dia_check.specs.Pauses.{IsPausedFor, IsResumeOf, IsResumeOfPart, WasSpent};
 ghost use Rattle.dia_check.specs.Reading.{HasSeen};
@@ -18,7 +18,7 @@ use crate::stream::parts::{DataPart, HeadPart, Part};
 use crate::stream::stages::{Body, Stage};
 use dia_book::{Book, DefId};
 use dia_data::{LeafState, SeenData};
-use dia_policy::{Levels, Unknown};
+use dia_terms::{Levels, Unknown};
 use dia_wire::Key;
 use std::alloc::Global;
 

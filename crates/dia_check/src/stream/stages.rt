@@ -1,8 +1,8 @@
 //! How far a message was read that comes in pieces.
 
 ghost use Rattle.std.specs.Prelude.{◌≡◌, ◌≢◌, ◌⊎◌, ◌<◌, ◌^◌, Err, unwrap_or};
-ghost use Rattle.dia_policy.specs.declared.Unknown.{Unknown as AnyPolicy};
-ghost use Rattle.dia_policy.specs.declared.Levels.{Levels as AnyLevels};
+ghost use Rattle.dia_terms.specs.declared.Unknown.{Unknown as AnyPolicy};
+ghost use Rattle.dia_terms.specs.declared.Levels.{Levels as AnyLevels};
 ghost use Rattle.dia_check.specs.Basis.{plain_basis};
 ghost use Rattle.dia_check.specs.Faults.{simple};
 ghost use Rattle.dia_check.specs.Front.{front_bytes};

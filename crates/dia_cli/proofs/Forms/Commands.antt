@@ -10,9 +10,9 @@ use Rattle.clap.proofs.OnLiterals.{clap_on_literals}
 use Rattle.dia_io.specs.declared.Command.TheVariants as command
 use Rattle.dia_cli.specs.declared.task.Task.{Task}
 use Rattle.dia_cli.specs.declared.task.Task.TheVariants.{Whole, Make, ShowText, ShowNamed, ShowLines, Breaking, CheckLines, RefuteLines, CheckStream, CheckAll, Answer, Follow, Mask, Uses, Diff, Lint, Examples}
-use Rattle.dia_policy.specs.declared.Sends.TheVariants.{Any, Known, Listed}
-use Rattle.dia_policy.specs.declared.Unknown.{Unknown}
-use Rattle.dia_policy.specs.declared.Unknown.TheVariants.{Kept, Refused}
+use Rattle.dia_terms.specs.declared.Sends.TheVariants.{Any, Known, Listed}
+use Rattle.dia_terms.specs.declared.Unknown.{Unknown}
+use Rattle.dia_terms.specs.declared.Unknown.TheVariants.{Kept, Refused}
 use Rattle.dia_cli.specs.Asking.{line_shape}
 use Rattle.dia_cli.specs.Forms.{Form, IsTaskOfForm, alone, answer, as_json, as_listing, as_text, breaking, check, compare, diff, examples, follow, form_inputs, form_json, form_name, form_options, form_row, form_words, has_lines, has_names, in_full, in_lines, in_stream, is_full, is_json, is_lines, is_objects, is_plain_form, is_stream, is_text, is_texts, json_of, keep_given, lint, make, mask, mask_given, only_given, propose, refute, render, show, uses, values_given}
 use Rattle.dia_cli.specs.FoundTasks.{HasOptionsOf, arguments_of, has_arguments, task_name}

@@ -8,10 +8,10 @@ use Rattle.clap.specs.ValueTests.{accepts}
 use Rattle.clap.specs.Walk.{Rule, Text, texts}
 use Rattle.clap.specs.declared.builder.value_parser.ValueParser.TheVariants as vp
 use Rattle.clap.proofs.WalkLemmas.{list_any-map}
-use Rattle.dia_policy.specs.declared.Sends.{Sends}
-use Rattle.dia_policy.specs.declared.Sends.TheVariants.{Any, Known, Listed}
-use Rattle.dia_policy.specs.declared.Unknown.{Unknown}
-use Rattle.dia_policy.specs.declared.Unknown.TheVariants.{Kept, Refused}
+use Rattle.dia_terms.specs.declared.Sends.{Sends}
+use Rattle.dia_terms.specs.declared.Sends.TheVariants.{Any, Known, Listed}
+use Rattle.dia_terms.specs.declared.Unknown.{Unknown}
+use Rattle.dia_terms.specs.declared.Unknown.TheVariants.{Kept, Refused}
 use Rattle.dia_cli.specs.Asking.{line_shape}
 use Rattle.dia_cli.specs.Rows.{CommandRow, input_rule, row_shape}
 use Rattle.dia_cli.specs.Slots.{Slot, policy_given, sender_given}

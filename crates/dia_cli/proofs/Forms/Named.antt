@@ -8,11 +8,11 @@ use Rattle.std.specs.Str.{bytes_eq}
 use Rattle.clap.specs.ValueTests.{is_unsigned_in}
 use Rattle.clap.specs.Walk.{Row, Text, first_of}
 use Rattle.clap.proofs.WalkLemmas.{both}
-use Rattle.dia_policy.specs.declared.Levels.{Levels}
-use Rattle.dia_policy.specs.declared.Sends.{Sends}
-use Rattle.dia_policy.specs.declared.Sends.TheVariants.{Any, Known, Listed}
-use Rattle.dia_policy.specs.declared.Unknown.{Unknown}
-use Rattle.dia_policy.specs.declared.Unknown.TheVariants.{Kept, Refused}
+use Rattle.dia_terms.specs.declared.Levels.{Levels}
+use Rattle.dia_terms.specs.declared.Sends.{Sends}
+use Rattle.dia_terms.specs.declared.Sends.TheVariants.{Any, Known, Listed}
+use Rattle.dia_terms.specs.declared.Unknown.{Unknown}
+use Rattle.dia_terms.specs.declared.Unknown.TheVariants.{Kept, Refused}
 use Rattle.dia_cli.specs.Slots.{Slot, is_plain, is_plain_slot, number}
 use Rattle.dia_cli.specs.InputWords.{AreFound, AreNamed, IsFound, IsNamed, one_text, pair_texts}
 use Rattle.dia_cli.specs.Words.{IsLimitOf, flag_word, has_pair, is_flag, is_given, is_limit, is_policy, is_sender, policy_word, sends_word}

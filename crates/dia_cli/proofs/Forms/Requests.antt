@@ -3,8 +3,8 @@ use Rattle.std.proofs.Common.{◌≡◌, ◌∙◌, Bool, true, false, List, [],
 use Rattle.std.specs.Borrow.{Bor}
 use Rattle.std.specs.Prelude.{unwrap_or}
 use Rattle.clap.specs.Walk.{Row, Text, first_of, texts}
-use Rattle.dia_policy.specs.declared.Sends.TheVariants.{Any, Known, Listed}
-use Rattle.dia_policy.specs.declared.Unknown.TheVariants.{Kept, Refused}
+use Rattle.dia_terms.specs.declared.Sends.TheVariants.{Any, Known, Listed}
+use Rattle.dia_terms.specs.declared.Unknown.TheVariants.{Kept, Refused}
 use Rattle.dia_cli.specs.Apart.{mask_apart, show_apart}
 use Rattle.dia_cli.specs.Asking.{IsApart, IsCheckWithBoth, IsRequestOf, IsWithBoth, is_asked, line_shape}
 use Rattle.dia_cli.specs.Forms.{Form, IsOfForm, Masked, Recording, alone, as_json, as_listing, as_text, check, examples, form_inputs, form_json, form_name, form_row, has_lines, has_names, in_columns, in_full, in_lines, in_objects, in_stream, in_texts, is_json, is_plain_form, is_text, keep_given, mask, mask_given, masked, masked_only, only_given, show, values_given, words_of}

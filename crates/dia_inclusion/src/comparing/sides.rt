@@ -7,7 +7,7 @@ ghost use Rattle.dia_inclusion.specs.ReachedKeys.{IsShared};
 
 use super::rules::Rules;
 use dia_book::{Book, DefId, Key};
-use dia_policy::Unknown;
+use dia_terms::Unknown;
 use std::marker::Model;
 
 /// Two dictionaries, and whether AVPs that they don't know are accepted.

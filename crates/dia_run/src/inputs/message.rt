@@ -3,14 +3,13 @@
 ghost use Rattle.std.specs.Prelude.{◌≡◌, ◌≢◌, Ok, IfOk, IfErr, IsOk};
 ghost use Rattle.hex.specs.Hex.{decode_of};
 ghost use Rattle.dia_io.specs.Inputs.{Holds};
-ghost use Rattle.dia_policy.specs.Limits.{max_message_text};
+ghost use Rattle.dia_terms.specs.Limits.{max_message_text};
 ghost use Rattle.dia_run.specs.Texts.{IsMessageText, IsNoMessageText, digits_of};
 ghost use Rattle.dia_report.specs.Refusals.{RecordsOf};
 
 use dia_io::Input;
-use dia_policy::MAX_MESSAGE_TEXT;
 use dia_report::{BadMessage, Refused};
-use dia_terms::is_white;
+use dia_terms::{MAX_MESSAGE_TEXT, is_white};
 use hex::FromHexError;
 use std::alloc::{AllocError, Global};
 

@@ -3,7 +3,7 @@ use Rattle.std.specs.List.Sorted.{IsPermutation, IsStableByKey}
 use Rattle.std.specs.Ordering.{nat_cmp}
 use Rattle.std.proofs.lemmas.Fn.{always_returns_same}
 use Rattle.std.proofs.lemmas.List.Sorted.{IsNonDecreasingBy-from_sort_by_key}
-use Rattle.dia_policy.specs.declared.Sends.TheVariants.{Known}
+use Rattle.dia_terms.specs.declared.Sends.TheVariants.{Known}
 use Rattle.dia_breaking.specs.Lengths.{listed_length}
 use Rattle.dia_breaking.proofs.lengths.in_order.Goals as goal
 

@@ -4,7 +4,7 @@ use Rattle.dia_data.specs.Leaf.{IsLeaf}
 use Rattle.dia_data.specs.Plain.{PlainFormat, plain_format}
 use Rattle.dia_book.specs.declared.DRule.{DRule}
 use Rattle.dia_book.specs.Dictionary.{Dictionary, plain_definition}
-use Rattle.dia_policy.specs.declared.Unknown.{Unknown}
+use Rattle.dia_terms.specs.declared.Unknown.{Unknown}
 use Rattle.dia_valid.specs.Valid.{Fits, IsLevel}
 use Rattle.dia_breaking_data.specs.declared.short_data.Witness.{Witness}
 use Rattle.dia_breaking_data.specs.Shortest.{witness_bytes}

@@ -2,7 +2,7 @@ use Rattle.std.proofs.Common.{◌≡◌, ℕ, List, Ok, Some, ap, subst, sym, �
 use Rattle.hex.specs.Hex.{decode_of}
 use Rattle.dia_follow_text.specs.Entries.{PlainEntry, entry_of}
 use Rattle.std.specs.Prelude.{string_bytes}
-use Rattle.dia_lines.proofs.LinesUnderWay.{on_ok_map}
+use Rattle.dia_streams.proofs.LinesUnderWay.{on_ok_map}
 use Rattle.dia_follow.specs.declared.Line.{Line}
 use Rattle.dia_follow.specs.Connections.{after}
 use Rattle.dia_follow_text.specs.Judging.{IsJudgedAs}

@@ -2,7 +2,7 @@ use Rattle.std.proofs.Common.{◌++◌, List, ℕ, ◌∙◌, ap, sym}
 use Rattle.std.specs.Prelude.{false, string_bytes}
 use Rattle.std.specs.List.{flat_map}
 use Rattle.dia_follow_text.specs.Commons.{entry_text}
-use Rattle.dia_lines.proofs.LinesUnderWay.{on_ok_map}
+use Rattle.dia_streams.proofs.LinesUnderWay.{on_ok_map}
 use Rattle.dia_follow_text.proofs.ListedEntries.{from_first, no_entries}
 use Rattle.dia_follow_text.proofs.commons.push_entries.Goals as goal
 

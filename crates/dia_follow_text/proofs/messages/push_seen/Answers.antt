@@ -1,6 +1,6 @@
 use Rattle.std.proofs.Common.{◌++◌, ◌∙◌, ap, sym}
 use Rattle.std.specs.Prelude.{string_bytes}
-use Rattle.dia_lines.proofs.LinesUnderWay.{on_ok_map}
+use Rattle.dia_streams.proofs.LinesUnderWay.{on_ok_map}
 use Rattle.dia_follow.specs.declared.Seen.{Seen}
 use Rattle.dia_follow.specs.Moments.{PlainMoment}
 use Rattle.dia_follow_text.specs.Answers.{answer_by, message_answer}

@@ -4,7 +4,7 @@ use Rattle.std.specs.Option.{option_copied}
 use Rattle.dia_follow_text.specs.Details.{detail_text}
 use Rattle.dia_follow_text.specs.Reasons.{section}
 use Rattle.dia_follow.specs.Messages.{result_of}
-use Rattle.dia_lines.proofs.LinesUnderWay.{on_ok_map}
+use Rattle.dia_streams.proofs.LinesUnderWay.{on_ok_map}
 use Rattle.dia_follow_text.proofs.Appended.{finding_added, when_ok}
 use Rattle.dia_follow_text.proofs.objects.push_finding.Goals as goal
 

@@ -1,5 +1,5 @@
 use Rattle.std.specs.Prelude.{string_bytes}
-use Rattle.dia_lines.proofs.LinesUnderWay.{on_ok_map}
+use Rattle.dia_streams.proofs.LinesUnderWay.{on_ok_map}
 use Rattle.dia_follow_text.proofs.Appended.{head_added}
 use Rattle.dia_follow_text.proofs.objects.push_head.Goals as goal
 

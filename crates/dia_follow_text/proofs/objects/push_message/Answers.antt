@@ -1,6 +1,6 @@
 use Rattle.std.proofs.Common.{◌++◌, codes}
 use Rattle.std.specs.Prelude.{string_bytes}
-use Rattle.dia_lines.proofs.LinesUnderWay.{on_ok_map}
+use Rattle.dia_streams.proofs.LinesUnderWay.{on_ok_map}
 use Rattle.dia_follow_text.proofs.Appended.{object_added, when_ok}
 use Rattle.dia_follow_text.proofs.objects.push_message.Goals as goal
 

@@ -1,5 +1,5 @@
 use Rattle.std.specs.Prelude.{string_bytes}
-use Rattle.dia_lines.proofs.LinesUnderWay.{on_ok_map}
+use Rattle.dia_streams.proofs.LinesUnderWay.{on_ok_map}
 use Rattle.dia_follow_text.proofs.Appended.{bad_line_added}
 use Rattle.dia_follow_text.proofs.said.push_bad_line.Goals as goal
 

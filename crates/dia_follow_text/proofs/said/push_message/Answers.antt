@@ -1,6 +1,6 @@
 use Rattle.std.proofs.Common.{◌++◌, codes}
 use Rattle.std.specs.Prelude.{string_bytes}
-use Rattle.dia_lines.proofs.LinesUnderWay.{on_ok_map}
+use Rattle.dia_streams.proofs.LinesUnderWay.{on_ok_map}
 use Rattle.dia_follow_text.proofs.Appended.{message_added, when_ok}
 use Rattle.dia_follow_text.proofs.said.push_message.Goals as goal
 

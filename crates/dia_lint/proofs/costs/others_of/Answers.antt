@@ -1,8 +1,8 @@
 use Rattle.std.proofs.Common.{sym, subst}
 use Rattle.std.specs.Prelude.{IfOk}
 use Rattle.std.specs.List.Sorted.{IsNonDecreasingBy}
-use Rattle.dia_policy.specs.declared.Sends.{Sends}
-use Rattle.dia_policy.specs.declared.Sends.TheVariants.{Any, Known}
+use Rattle.dia_terms.specs.declared.Sends.{Sends}
+use Rattle.dia_terms.specs.declared.Sends.TheVariants.{Any, Known}
 use Rattle.dia_breaking_shortest.specs.Lengths.{length_of}
 use Rattle.dia_lint.specs.Costs.{AreOthers}
 use Rattle.dia_lint.proofs.Fillers.{when_ok, when_both}

@@ -1,6 +1,6 @@
 use Rattle.std.proofs.Common.{length, ap, subst, ◌∙◌}
 use Rattle.dia_book.specs.Dictionary.{groups}
-use Rattle.dia_policy.specs.declared.Sends.{Sends}
+use Rattle.dia_terms.specs.declared.Sends.{Sends}
 use Rattle.dia_lint.specs.Costs.{AreLengths, level_of, sender_of}
 use Rattle.dia_lint.proofs.ExactFindings.{AreReported, all_reported}
 use Rattle.dia_lint.proofs.Reported.{commands_ascend, commands_exact, groups_ascend, groups_exact, others_have_avps, others_have_messages}

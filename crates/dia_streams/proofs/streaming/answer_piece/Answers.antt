@@ -1,9 +1,9 @@
 use Rattle.std.proofs.Common.{◌≡◌, ◌++◌, take, ◌<◌, length, Err, subst, arith, rules, true, false}
-use Rattle.dia_lines.specs.declared.fault.LinesFault.TheVariants.{Endless}
+use Rattle.dia_streams.specs.declared.fault.LinesFault.TheVariants.{Endless}
 use Rattle.std.proofs.lemmas.List.{length-take}
 use Rattle.std.specs.Io.KnownBytes.{Consumes}
 use Rattle.std.proofs.KnownBytes.{Consumes-trans}
-use Rattle.dia_lines.proofs.FeedToSink.{long_feed}
+use Rattle.dia_streams.proofs.FeedToSink.{long_feed}
 use Rattle.dia_streams.specs.Streams.{most_places}
 use Rattle.dia_streams.proofs.StreamToSink.{piece_read, all_over, all_read, whole_before, whole_kept, some_of_whole, sink_failed, sink_failed_at_end, ok_same}
 use Rattle.dia_streams.proofs.streaming.answer_piece.Goals as goal

@@ -1,6 +1,6 @@
 use Rattle.std.proofs.Common.{◌≡◌, Ok, Err, refl, ap, arith, rules, inl, inr}
-use Rattle.dia_lines.specs.declared.fault.LinesFault.TheVariants.{NoMemory, Endless}
-use Rattle.dia_lines.proofs.FeedToSink.{long_feed}
+use Rattle.dia_streams.specs.declared.fault.LinesFault.TheVariants.{NoMemory, Endless}
+use Rattle.dia_streams.proofs.FeedToSink.{long_feed}
 use Rattle.dia_streams.specs.Streams.{most_places}
 use Rattle.dia_streams.proofs.StreamToSink.{first_read, some_of_whole, whole_now}
 use Rattle.dia_streams.proofs.streaming.answer_stream.Goals as goal

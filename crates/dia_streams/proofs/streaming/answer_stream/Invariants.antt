@@ -1,6 +1,6 @@
 use Rattle.std.proofs.Common.{◌-◌, ◌≤◌}
 use Rattle.std.specs.Prelude.{IsTrue}
-use Rattle.dia_streams.specs.UnderWay.{AreRead}
+use Rattle.dia_streams.specs.StreamUnderWay.{AreRead}
 use Rattle.dia_streams.proofs.streaming.answer_stream.Given as goal
 
 abbrev pub invariant-loop-pieces_left : goal.invariant-loop-pieces_left

@@ -4,8 +4,8 @@ use Rattle.std.proofs.lemmas.Bool.{cases_lt}
 use Rattle.std.specs.Coded.{le_prop}
 use Rattle.std.specs.Prelude.{◌^◌}
 use Rattle.dia_book.specs.Dictionary.{Dictionary}
-use Rattle.dia_policy.specs.declared.Unknown.{Unknown}
-use Rattle.dia_policy.specs.declared.Levels.{Levels}
+use Rattle.dia_terms.specs.declared.Unknown.{Unknown}
+use Rattle.dia_terms.specs.declared.Levels.{Levels}
 use Rattle.dia_check.specs.Streaming.{HasTaken, IsSpentStage, OpensAfter, OpensLevel, taken_of}
 use Rattle.dia_check.proofs.StreamStages.{body_opens, body_taken, has_taken, is_stage, live_stage, may_read, memory_of, moved, taken_within}
 use Rattle.dia_check.proofs.stream.Stream.take_body.Goals as goal

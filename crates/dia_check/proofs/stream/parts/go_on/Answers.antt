@@ -4,8 +4,8 @@ use Rattle.std.proofs.lemmas.Result.{err_from_is_err_and}
 use Rattle.std.specs.Coded.{le_prop}
 use Rattle.dia_book.specs.Dictionary.{definitions}
 use Rattle.dia_check.specs.declared.open_levels.OpenLevel.{OpenLevel}
-use Rattle.dia_policy.specs.declared.Unknown.{Unknown}
-use Rattle.dia_policy.specs.declared.Levels.{Levels}
+use Rattle.dia_terms.specs.declared.Unknown.{Unknown}
+use Rattle.dia_terms.specs.declared.Levels.{Levels}
 use Rattle.dia_check.specs.Faults.{HasGoodHeader}
 use Rattle.dia_check.specs.UnderWay.{so_far, IsUnderWay}
 use Rattle.dia_check.proofs.UnderWay.{done, all_done, found_missing}

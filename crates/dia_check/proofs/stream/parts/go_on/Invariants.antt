@@ -1,6 +1,6 @@
 use Rattle.std.proofs.Common.{ℕ, List, length}
-use Rattle.dia_policy.specs.declared.Unknown.{Unknown}
-use Rattle.dia_policy.specs.declared.Levels.{Levels}
+use Rattle.dia_terms.specs.declared.Unknown.{Unknown}
+use Rattle.dia_terms.specs.declared.Levels.{Levels}
 use Rattle.dia_check.specs.Faults.{HasGoodHeader}
 use Rattle.dia_check.specs.UnderWay.{IsUnderWay}
 use Rattle.dia_check.specs.Reading.{AreSound}

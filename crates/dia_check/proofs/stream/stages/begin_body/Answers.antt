@@ -8,8 +8,8 @@ use Rattle.dia_book.specs.Dictionary.{definitions}
 use Rattle.dia_valid.specs.Valid.{IsValidOf}
 use Rattle.dia_check.proofs.CheckAnswers.{walk_answers}
 use Rattle.dia_check.proofs.HeaderAnswers.{found_answers}
-use Rattle.dia_policy.specs.declared.Unknown.TheVariants.{Kept}
-use Rattle.dia_policy.specs.declared.Levels.TheVariants.{Any}
+use Rattle.dia_terms.specs.declared.Unknown.TheVariants.{Kept}
+use Rattle.dia_terms.specs.declared.Levels.TheVariants.{Any}
 use Rattle.dia_check.specs.OpenLevels.{AreOpenUnder, begun}
 use Rattle.dia_check.proofs.UnderWay.{started}
 use Rattle.dia_check.proofs.AvpsInPieces.{found_at_stop, opens_body}

@@ -1,4 +1,4 @@
-use Rattle.dia_policy.specs.declared.Levels.TheVariants.{Any}
+use Rattle.dia_terms.specs.declared.Levels.TheVariants.{Any}
 use Rattle.dia_run.proofs.FedTexts.{names_command}
 use Rattle.dia_examples_text.proofs.Live.{is_live}
 use Rattle.dia_examples_text.proofs.lines.Writing.judged.Goals as goal

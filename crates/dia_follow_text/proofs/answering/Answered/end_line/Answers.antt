@@ -1,5 +1,5 @@
 use Rattle.std.proofs.lemmas.Result.{IfOk-weaker}
-use Rattle.dia_lines.proofs.LinesUnderWay.{is_some}
+use Rattle.dia_streams.proofs.LinesUnderWay.{is_some}
 use Rattle.dia_follow_text.proofs.UnderWay.{ReadsLast-line, ReadsLast-nothing}
 use Rattle.dia_follow_text.proofs.answering.Answered.end_line.Goals as goal
 

@@ -1,6 +1,6 @@
 use Rattle.std.proofs.Common.{List, ℕ, ◌++◌, ◌∷◌, ◌∙◌, [], refl, sym}
-use Rattle.dia_lines.specs.Lines.{line_feed}
-use Rattle.dia_lines.proofs.LinesUnderWay.{next_line}
+use Rattle.dia_streams.specs.Lines.{line_feed}
+use Rattle.dia_streams.proofs.LinesUnderWay.{next_line}
 use Rattle.dia_follow_text.proofs.UnderWay.{line_read, line_refused, Reads-nothing, rest_read}
 use Rattle.dia_follow_text.proofs.answering.Answered.read.Goals as goal
 

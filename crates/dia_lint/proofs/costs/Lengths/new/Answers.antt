@@ -1,5 +1,5 @@
 use Rattle.std.proofs.Common.{refl, subst}
-use Rattle.dia_policy.specs.declared.Sends.{Sends}
+use Rattle.dia_terms.specs.declared.Sends.{Sends}
 use Rattle.dia_breaking_shortest.specs.Floors.{AreFloors}
 use Rattle.dia_breaking_shortest.specs.Lengths.{length_of}
 use Rattle.dia_lint.specs.Costs.{AreOthers}

@@ -1,6 +1,6 @@
 use Rattle.std.proofs.Common.{ℕ, [], ◌∷◌}
 use Rattle.std.specs.Prelude.{⊤}
-use Rattle.dia_lines.proofs.LinesUnderWay.{Ends-line, Ends-nothing, is_some}
+use Rattle.dia_streams.proofs.LinesUnderWay.{Ends-line, Ends-nothing, is_some}
 use Rattle.dia_mask_text.specs.Lines.{IsLineMasked, lines_of}
 use Rattle.dia_mask_text.proofs.answering.Answered.end.Goals as goal
 

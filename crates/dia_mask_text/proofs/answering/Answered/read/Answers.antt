@@ -1,8 +1,8 @@
 use Rattle.std.proofs.Common.{List, ℕ, [], ◌∷◌, ◌++◌, refl, sym, subst}
 use Rattle.std.specs.Prelude.{⊤}
-use Rattle.dia_lines.specs.Lines.{line_feed}
-use Rattle.dia_lines.specs.UnderWay.{Reads}
-use Rattle.dia_lines.proofs.LinesUnderWay.{Reads-both, Reads-nothing, Reads-rest, next_line}
+use Rattle.dia_streams.specs.Lines.{line_feed}
+use Rattle.dia_streams.specs.LinesUnderWay.{Reads}
+use Rattle.dia_streams.proofs.LinesUnderWay.{Reads-both, Reads-nothing, Reads-rest, next_line}
 use Rattle.dia_mask.specs.Runs.{words_of}
 use Rattle.dia_mask.proofs.Characters.{agrees_before, grows_on, no_more}
 use Rattle.dia_mask_text.specs.declared.answering.Answered.{Answered}

@@ -1,6 +1,6 @@
 use Rattle.std.proofs.Common.{ℕ, [], ◌∷◌, refl}
 use Rattle.std.specs.Prelude.{⊤}
-use Rattle.dia_lines.proofs.LinesUnderWay.{Reads-line}
+use Rattle.dia_streams.proofs.LinesUnderWay.{Reads-line}
 use Rattle.dia_mask_text.specs.declared.answering.Answered.{Answered}
 use Rattle.dia_mask_text.specs.Lines.{IsLineMasked, lines_of}
 use Rattle.dia_mask_text.proofs.answering.Answered.read_line.Goals as goal

@@ -1,6 +1,6 @@
 use Rattle.std.proofs.Common.{ℕ, Option, ◌∷◌, [], sym, subst, arith}
 use Rattle.std.proofs.lemmas.List.{append-nil}
-use Rattle.dia_streams.specs.UnderWay.{AreDigits}
+use Rattle.dia_streams.specs.StreamUnderWay.{AreDigits}
 use Rattle.dia_streams.proofs.DigitsTaken.{half_begun, half_ended, half_small, value_small}
 use Rattle.dia_streams.proofs.digits.Digits.add.Goals as goal
 

@@ -1,5 +1,5 @@
 use Rattle.std.proofs.Common.{Bool, true, false, ◌<◌, ◌+◌, ℕ, ◌++◌, ◌∷◌, [], List, length, take, drop, get_or, ◌∙◌, ap, subst, arith}
-use Rattle.dia_streams.specs.UnderWay.{Takes}
+use Rattle.dia_streams.specs.StreamUnderWay.{Takes}
 use Rattle.dia_streams.proofs.DigitsTaken.{Takes-both}
 use Rattle.dia_streams.proofs.PairsTaken.{Takes-lines, if_ok_map, next_line, stopped_within}
 use Rattle.dia_streams.proofs.digits.Digits.take.Goals as goal

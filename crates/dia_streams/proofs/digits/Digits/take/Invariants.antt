@@ -1,5 +1,5 @@
 use Rattle.std.proofs.Common.{◌≡◌, List, ◌++◌, ℕ, length, true}
-use Rattle.dia_streams.specs.UnderWay.{Takes}
+use Rattle.dia_streams.specs.StreamUnderWay.{Takes}
 use Rattle.dia_streams.proofs.digits.Digits.take.Given as goal
 
 abbrev pub invariant-loop-at : goal.invariant-loop-at

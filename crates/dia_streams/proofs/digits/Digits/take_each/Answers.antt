@@ -1,6 +1,6 @@
 use Rattle.std.proofs.Common.{◌+◌, take, drop, true, false, Bool, ◌∷◌, [], get_or, sym, subst}
 use Rattle.std.proofs.lemmas.List.{take_more, take_all, take-append-drop}
-use Rattle.dia_streams.specs.UnderWay.{Takes}
+use Rattle.dia_streams.specs.StreamUnderWay.{Takes}
 use Rattle.dia_streams.proofs.DigitsTaken.{Takes-nothing, Takes-both, Takes-stopped}
 use Rattle.dia_streams.proofs.digits.Digits.take_each.Goals as goal
 

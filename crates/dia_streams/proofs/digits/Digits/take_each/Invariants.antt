@@ -1,5 +1,5 @@
 use Rattle.std.proofs.Common.{take, true}
-use Rattle.dia_streams.specs.UnderWay.{Takes}
+use Rattle.dia_streams.specs.StreamUnderWay.{Takes}
 use Rattle.dia_streams.proofs.digits.Digits.take_each.Given as goal
 
 abbrev pub invariant-loop-byte : goal.invariant-loop-byte

@@ -1,5 +1,5 @@
 use Rattle.std.proofs.Common.{Bool, true, false, ◌++◌, subst}
-use Rattle.dia_streams.specs.UnderWay.{Takes}
+use Rattle.dia_streams.specs.StreamUnderWay.{Takes}
 use Rattle.dia_streams.proofs.DigitsTaken.{Takes-both}
 use Rattle.dia_streams.proofs.PairsTaken.{if_ok_map, of_parts, of_three, stopped_within}
 use Rattle.dia_streams.proofs.digits.Digits.take_line.Goals as goal

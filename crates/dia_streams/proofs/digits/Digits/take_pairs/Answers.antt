@@ -1,5 +1,5 @@
 use Rattle.std.proofs.Common.{◌++◌, ◌∙◌, List, ℕ, take, true, Option, sym, subst, ap}
-use Rattle.dia_streams.specs.UnderWay.{Takes}
+use Rattle.dia_streams.specs.StreamUnderWay.{Takes}
 use Rattle.dia_streams.proofs.PairsTaken.{Takes-pairs}
 use Rattle.dia_streams.proofs.StreamsUnderWay.{has_none}
 use Rattle.dia_streams.proofs.digits.Digits.take_pairs.Goals as goal

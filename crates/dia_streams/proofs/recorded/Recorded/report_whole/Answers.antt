@@ -1,5 +1,5 @@
 use Rattle.std.proofs.Common.{◌≡◌, ℕ, ◌+◌, ◌≤◌, List, length, Err, refl, sym, ap, subst, ◌∙◌, arith, rules}
-use Rattle.dia_lines.specs.declared.fault.LinesFault.TheVariants.{Endless}
+use Rattle.dia_streams.specs.declared.fault.LinesFault.TheVariants.{Endless}
 use Rattle.dia_streams.specs.Streams.{most_places}
 use Rattle.std.proofs.lemmas.List.{length-append}
 use Rattle.std.specs.Prelude.{IfErr, string_bytes}

@@ -1,5 +1,5 @@
 use Rattle.std.proofs.Common.{◌≡◌, ◌+◌, length}
-use Rattle.dia_streams.specs.UnderWay.{RecordsWhole}
+use Rattle.dia_streams.specs.StreamUnderWay.{RecordsWhole}
 use Rattle.dia_streams.proofs.recorded.Recorded.report_whole.Given as goal
 
 abbrev pub invariant-loop-message : goal.invariant-loop-message

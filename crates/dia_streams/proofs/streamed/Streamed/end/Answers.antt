@@ -1,5 +1,5 @@
 use Rattle.std.proofs.Common.{List, ℕ, Some, subst}
-use Rattle.dia_lines.proofs.LinesUnderWay.{on_ok_map}
+use Rattle.dia_streams.proofs.LinesUnderWay.{on_ok_map}
 use Rattle.dia_streams.proofs.StreamsUnderWay.{Ends-nothing, Ends-part, Ends-half, has_half, has_none, empty_by, some_by}
 use Rattle.dia_streams.proofs.streamed.Streamed.end.Goals as goal
 

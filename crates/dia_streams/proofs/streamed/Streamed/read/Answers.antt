@@ -1,7 +1,7 @@
 use Rattle.std.proofs.Common.{◌≡◌, ℕ, ◌≤◌, Bool, List, ◌++◌, length, Some, Err, refl, sym, ap, subst, arith, rules}
 use Rattle.std.specs.Prelude.{IfErr}
-use Rattle.dia_lines.specs.declared.fault.LinesFault.TheVariants.{Endless}
-use Rattle.dia_streams.specs.UnderWay.{IsUnderWay, Takes, RecordsWhole}
+use Rattle.dia_streams.specs.declared.fault.LinesFault.TheVariants.{Endless}
+use Rattle.dia_streams.specs.StreamUnderWay.{IsUnderWay, Takes, RecordsWhole}
 use Rattle.dia_streams.specs.Streams.{most_places}
 use Rattle.dia_streams.proofs.StreamsUnderWay.{many_read, Reads-endless, Reads-stopped, Reads-on, is_part, all_left}
 use Rattle.dia_streams.proofs.streamed.Streamed.read.Goals as goal

@@ -1,3 +1,0 @@
-pub mod FeedToSink
-pub mod Lines
-pub mod UnderWay
