@@ -7,3 +7,4 @@ pub mod LoneAvps
 pub mod OwnKeys
 pub mod Answers
 pub mod Flags
+pub mod Replies

@@ -4,3 +4,4 @@ pub mod Contents
 pub mod Stocks
 pub mod Reports
 pub mod Names
+pub mod Outcome

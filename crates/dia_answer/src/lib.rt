@@ -1,4 +1,5 @@
-//! The answer to a request that reports its first fault (RFC 6733 sections 6.2, 7.1, 7.1.5, 7.2 and 7.5).
+//! The answer to a request that reports its first fault (RFC 6733 sections 6.2, 7.1, 7.1.5, 7.2 and 7.5), and the command that
+//! writes it, as a function over values.
 //!
 //! ```text
 //! let names = Names::new("host.invalid", "invalid")?;
@@ -13,6 +14,7 @@ mod alone;
 mod answering;
 mod around;
 mod codes;
+mod command;
 mod contents;
 mod example;
 mod failed;
@@ -25,5 +27,6 @@ mod request;
 mod stock;
 
 pub use answering::answer;
+pub use command::{Report, Reported, write_answer};
 pub use forms::{Form, Made, NoAnswer};
 pub use names::{NameFault, Names};

@@ -1,4 +1,4 @@
-//! The tests of `dia_answer` and `dia_answer_run`: `rows` has requests with their answers in bytes. There is nothing but tests.
+//! The tests of `dia_answer`: `rows` has requests with their answers in bytes. There is nothing but tests.
 #![tactic(auto)]
 
 #[cfg(test)]

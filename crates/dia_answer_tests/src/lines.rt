@@ -1,7 +1,6 @@
 //! What the command writes, and how it ends.
 
-use dia_answer::Names;
-use dia_answer_run::write_answer;
+use dia_answer::{Names, write_answer};
 use dia_check::{Levels, Unknown};
 use dia_dict::base_text;
 use dia_io::{Exit, Input, Inputs, ToWriter};

@@ -7,7 +7,7 @@ use Rattle.dia_terms.specs.declared.Levels.{Levels}
 use Rattle.dia_check.specs.declared.fault.Refusal.TheVariants as refusal
 use Rattle.dia_check.specs.Faults.{IsRecorded}
 use Rattle.dia_answer.specs.declared.forms.Made.{Made}
-use Rattle.dia_answer_run.specs.Outcome.{IsReply}
+use Rattle.dia_answer.specs.Outcome.{IsReply}
 use Rattle.dia_c_calls.specs.declared.reply.Answered.{Answered}
 use Rattle.dia_c_calls.specs.declared.reply.Reply.TheVariants as reply
 use Rattle.dia_c_calls.specs.Held.{text_in}

@@ -8,7 +8,7 @@ use Rattle.dia_answer.specs.declared.forms.Form.TheVariants as form
 use Rattle.dia_answer.specs.declared.forms.Made.{Made}
 use Rattle.dia_answer.specs.declared.forms.NoAnswer.{NoAnswer}
 use Rattle.dia_answer.specs.Reports.{IsNoAnswer}
-use Rattle.dia_answer_run.specs.Outcome.{IsReply}
+use Rattle.dia_answer.specs.Outcome.{IsReply}
 use Rattle.dia_c_calls.specs.declared.verdict.Verdict.{Verdict}
 use Rattle.dia_c_calls.specs.Verdicts.{fault_verdict}
 

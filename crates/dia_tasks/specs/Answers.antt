@@ -11,7 +11,7 @@ use Rattle.dia_dict.specs.Dictionary.{Dictionary}
 use Rattle.dia_answer.specs.Names.{IsName}
 use Rattle.dia_answer.specs.declared.names.NameFault.{NameFault}
 use Rattle.dia_answer.specs.declared.names.NameFault.TheVariants.{Host, Realm}
-use Rattle.dia_answer_run.specs.Outcome.{IsAnswerText}
+use Rattle.dia_answer.specs.Outcome.{IsAnswerText}
 use Rattle.dia_cli.specs.declared.task.Answering.{Answering}
 use Rattle.dia_cli.specs.declared.origin.Origin.{Origin}
 use Rattle.dia_cli.specs.declared.origin.Origin.TheVariants.{Nowhere}

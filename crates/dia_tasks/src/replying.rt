@@ -2,15 +2,14 @@
 
 ghost use Rattle.std.specs.Prelude.{◌≡◌, IfOk, IsTrue, string_bytes};
 ghost use Rattle.dia_cli.specs.Ending.{stream};
-ghost use Rattle.dia_answer_run.specs.Outcome.{IsAnswerText};
+ghost use Rattle.dia_answer.specs.Outcome.{IsAnswerText};
 ghost use Rattle.dia_run.specs.Outcome.{IsMessageOutcome};
 ghost use Rattle.dia_io.specs.declared.Exit.TheVariants.{Bad};
 ghost use Rattle.dia_tasks.specs.Answers.{IsReplied, name_line};
 ghost use Rattle.dia_tasks.specs.Endings.{Runs};
 
 use crate::answering::put_answer;
-use dia_answer::{Form, NameFault, Names};
-use dia_answer_run::write_answer;
+use dia_answer::{Form, NameFault, Names, write_answer};
 use dia_cli::{Answering, Ending, STANDARD_OUTPUT};
 use dia_io::{Exit, Inputs, Sink, ToWriter};
 use dia_report::{Answered, Report, Reported};
@@ -66,10 +65,10 @@ where
 }
 
 /// Writes by which definition the answer is made, unless it is to be quiet. Where an input is refused, that is left to be explained.
-fn explained<R: Eprint>(rt: &R, report: dia_answer_run::Report, quiet: bool) -> Report {
+fn explained<R: Eprint>(rt: &R, report: dia_answer::Report, quiet: bool) -> Report {
     match report {
-        dia_answer_run::Report::Refused(bad) => Report::Refused(bad),
-        dia_answer_run::Report::Made(form) if !quiet => {
+        dia_answer::Report::Refused(bad) => Report::Refused(bad),
+        dia_answer::Report::Made(form) if !quiet => {
             let _ = rt.eprint(text_of(form));
             Report::Done
         }

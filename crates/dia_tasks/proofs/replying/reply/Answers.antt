@@ -1,4 +1,4 @@
-use Rattle.dia_answer_run.specs.Outcome.{IsAnswerText}
+use Rattle.dia_answer.specs.Outcome.{IsAnswerText}
 use Rattle.dia_run.specs.Outcome.{IsMessageOutcome}
 use Rattle.dia_tasks.specs.Answers.{IsReplied, named}
 use Rattle.dia_tasks.proofs.Runs.{runs_of_put, runs_weaker}

@@ -9,9 +9,11 @@ ghost use Rattle.dia_report.specs.Refusals.{bad_input_text};
 ghost use Rattle.dia_run.specs.Outcome.{IsMessageOutcome};
 ghost use Rattle.dia_run.specs.Texts.{IsDictionaryText, line};
 ghost use Rattle.dia_answer.specs.Reports.{no_answer_word};
-ghost use Rattle.dia_answer_run.specs.Outcome.{IsAnswerText};
+ghost use Rattle.dia_answer.specs.Outcome.{IsAnswerText};
 
-use dia_answer::{Form, Made, Names, NoAnswer, answer};
+use crate::answering::answer;
+use crate::forms::{Form, Made, NoAnswer};
+use crate::names::Names;
 use dia_dict::Book;
 use dia_io::{Exit, Inputs, RunFault, Sink, put_all};
 use dia_report::{BadInput, Refused};

@@ -1,5 +1,5 @@
-use Rattle.dia_answer_run.proofs.Answers.{is_made, is_none}
-use Rattle.dia_answer_run.proofs.command.reply.Goals as goal
+use Rattle.dia_answer.proofs.Replies.{is_made, is_none}
+use Rattle.dia_answer.proofs.command.reply.Goals as goal
 
 pub returns-in-Ok : goal.returns-in-Ok
 returns-in-Ok g c =

@@ -1,5 +1,5 @@
-use Rattle.dia_answer_run.proofs.Answers.{bad_dictionary}
-use Rattle.dia_answer_run.proofs.command.text_for.Goals as goal
+use Rattle.dia_answer.proofs.Replies.{bad_dictionary}
+use Rattle.dia_answer.proofs.command.text_for.Goals as goal
 
 pub returns-in-Err-Bad : goal.returns-in-Err-Bad
 returns-in-Err-Bad c =

@@ -1,5 +1,5 @@
-use Rattle.dia_answer_run.proofs.Answers.{replied, bad_message}
-use Rattle.dia_answer_run.proofs.command.text_by.Goals as goal
+use Rattle.dia_answer.proofs.Replies.{replied, bad_message}
+use Rattle.dia_answer.proofs.command.text_by.Goals as goal
 
 pub returns-in-Ok : goal.returns-in-Ok
 returns-in-Ok g c =

@@ -15,8 +15,8 @@ use Rattle.dia_run.specs.Texts.{line, IsDictionaryText, IsNoDictionaryText, IsMe
 use Rattle.dia_answer.specs.declared.Made.{Made}
 use Rattle.dia_answer.specs.declared.NoAnswer.{NoAnswer}
 use Rattle.dia_answer.specs.Reports.{IsNoAnswer, no_answer_word}
-use Rattle.dia_answer_run.specs.declared.command.Answered.{Answered}
-use Rattle.dia_answer_run.specs.Outcome.{IsAnswerText, IsReply, made, none}
+use Rattle.dia_answer.specs.declared.command.Answered.{Answered}
+use Rattle.dia_answer.specs.Outcome.{IsAnswerText, IsReply, made, none}
 
 pub bad_dictionary : {E : Type 0} (u : Unknown) (most : Levels) (inputs : Inputs) (why : BadInput) (r : Result Answered E)
     → RecordsOf (λ recorded. (w : List ℕ) × IsNoDictionaryText inputs.first w × (recorded ≡ dictionary_line 1 w)) (Bad why)
