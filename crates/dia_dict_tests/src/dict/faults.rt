@@ -8,7 +8,7 @@ use std::alloc::{AllocError, Global};
 use std::process::Abort;
 
 const ROWS: &str = r"
-# Each kind, in the order in which they are told.
+# Each kind, in the order in which they are reported.
 %avp X 1 Time any %avp X 1 Grouped any <T> ::= < Diameter Header: 302, REQ > { Z } => DuplicateName X
 %avp G 5 Grouped any <T> ::= < Diameter Header: 302, REQ > { Z } => NoGroupFormat G
 %avp G 5 Time any <G> ::= < AVP Header: 5 > %avp H 5 Time any => HeaderMismatch G

@@ -93,7 +93,7 @@ $H\n{ => name at line 2
 $H\nNest pad x00 {\n} => value at line 2
 $H\nNest {} => value at line 2
 
-# The first fault is told, also where a later line has another.
+# The first fault is reported, also where a later line has another.
 $H\n264 x61\nOrigin-Realm x61\n} => name at line 3
 $H\n264 x6\nOrigin-Realm x61 => value at line 2
 code 1\nOrigin-Realm x61 => syntax at line 1

@@ -40,7 +40,7 @@ let UNLISTED = 0000270f00000008
 
 # version.
 check kept any | $base | 0200002c80000118 $I $OH $OR => 1 fault 5011 at 0 version -\n
-# version, told once there are 20 bytes, and before the length.
+# version, reported once there are 20 bytes, and before the length.
 fronts 0..20 check kept any | $base | 0200002c80000118 $I $OH $OR => 1 truncated\n
 fronts 20..45 check kept any | $base | 0200002c80000118 $I $OH $OR => 1 fault 5011 at 0 version -\n
 fronts 0..20 check kept any | $base | 0000002c80000118 $I $OH $OR => 1 truncated\n
@@ -48,7 +48,7 @@ fronts 20..45 check kept any | $base | 0000002c80000118 $I $OH $OR => 1 fault 50
 
 # length.
 check kept any | $base | 0100002e80000118 $I $OH $OR => 1 fault 5015 at 1 length -\n
-# length, told once there are 20 bytes.
+# length, reported once there are 20 bytes.
 fronts 0..20 check kept any | $base | 0100002d80000118 $I $OH $OR => 1 truncated\n
 fronts 20..45 check kept any | $base | 0100002d80000118 $I $OH $OR => 1 fault 5015 at 1 length -\n
 fronts 0..20 check kept any | $base | 0100001080000118 $I $OH $OR => 1 truncated\n
@@ -105,14 +105,14 @@ check kept any | $base | 0100002c80000118 $I 00000108c000000c612e6200 $OR => 1 f
 # unknown, under the policy that refuses what is unknown.
 check refused any | $base | 0100003480000118 $I $OH $OR 0000270f00000008 => 1 fault 5001 at 44 unknown 9999:0\n
 check refused any | $base | 0100003480000118 $I $OH $OR 0000270f40000008 => 1 fault 5001 at 44 unknown 9999:0\n
-# unknown, told before an AVP that is missing or not allowed, and behind a group that lacks nothing.
+# unknown, reported before an AVP that is missing or not allowed, and after a group that lacks nothing.
 check kept any | $RULES | 0100001c8000012e $I $UNKNOWN => 1 fault 5001 at 20 unknown 9999:0\n
 check kept any | $RULES | 010000348000012e $I $A $B $UNKNOWN => 1 fault 5001 at 44 unknown 9999:0\n
 check kept any | $RULES | 010000488000012e $I $A $B $N_OF_C $UNKNOWN => 1 fault 5001 at 64 unknown 9999:0\n
 
 # m-bit.
 check kept any | %avp X 9002 Unsigned32 must $T { X } | 010000208000012e $I 0000232a0000000c00000007 => 1 fault 3009 at 20 m-bit X\n
-# m-bit, told before an AVP that is missing, not allowed or one too many, and before the AVP's data and depth.
+# m-bit, reported before an AVP that is missing, not allowed or one too many, and before the AVP's data and depth.
 check kept any | $RULES | 010000208000012e $I $B_CLEAR => 1 fault 3009 at 20 m-bit B\n
 check kept any | $RULES | 010000388000012e $I $A $B $A_CLEAR => 1 fault 3009 at 44 m-bit A\n
 check kept any | $RULES | 0100002c8000012e $I $A $A_CLEAR => 1 fault 3009 at 32 m-bit A\n
@@ -126,13 +126,13 @@ check kept any | $base | 0100002080000118 $I $OH => 1 fault 5005 at 32 missing O
 check kept any | $base | 0100003480000118 $I $OH $OR $FAILED => 1 fault 5005 at 52 missing AVP\n
 check kept any | $base | 0100002880000118 $I $OH $FAILED => 1 fault 5005 at 40 missing AVP\n
 check kept any | $base | 0100003c80000118 $I $OH $FAILED 0000270f40000008 $OR => 1 fault 5005 at 40 missing AVP\n
-# missing, told before an AVP that isn't allowed or is one too many, and before the AVP's data and depth.
+# missing, reported before an AVP that isn't allowed or is one too many, and before the AVP's data and depth.
 check kept any | $RULES | 0100001c8000012e $I $UNLISTED => 1 fault 5005 at 20 missing A\n
 check kept any | $RULES | 010000208000012e $I $B_SHORT => 1 fault 5005 at 20 missing A\n
 check kept any | $RULES | 0100001c8000012e $I $G => 1 fault 5005 at 20 missing A\n
 check kept any | $RULES | 0100001c8000012e $I $C_EMPTY => 1 fault 5005 at 20 missing A\n
 check kept 0 | $RULES | 0100001c8000012e $I $H => 1 fault 5005 at 20 missing A\n
-# missing, at the end of a level, which is told before what follows it.
+# missing, at the end of a level, which is reported before what follows it.
 check kept any | $RULES | 010000148000012e $I => 1 fault 5005 at 20 missing A\n
 check kept any | $RULES | 010000208000012e $I $A => 1 fault 5005 at 32 missing B\n
 check kept any | $RULES | 010000288000012e $I $A $N_EMPTY => 1 fault 5005 at 40 missing C\n
@@ -143,7 +143,7 @@ check kept any | $RULES | 0100003c8000012e $I $A $B $N_EMPTY $UNKNOWN => 1 fault
 check kept any | $base | 0100005020000118 $I $S $OH $S $OR $RESULT => 1 fault 5008 at 44 not-allowed Session-Id\n
 check kept any | $S1 | 010000388000012c $I $S $OH $S => 1 fault 5008 at 44 not-allowed Session-Id\n
 check kept any | $RULES | 010000348000012e $I $A $B $UNLISTED => 1 fault 5008 at 44 not-allowed 9999:0\n
-# not-allowed, told before the AVP's data and depth.
+# not-allowed, reported before the AVP's data and depth.
 check kept any | $RULES | 010000388000012e $I $A $B $A_SHORT => 1 fault 5008 at 44 not-allowed A\n
 check kept any | $RULES | 010000348000012e $I $A $B $E_EMPTY => 1 fault 5008 at 44 not-allowed E\n
 check kept 0 | $RULES | 010000348000012e $I $A $B $K => 1 fault 5008 at 44 not-allowed K\n
@@ -151,7 +151,7 @@ check kept 0 | $RULES | 010000348000012e $I $A $B $K => 1 fault 5008 at 44 not-a
 # too-many.
 check kept any | $S1 | 010000388000012c $I $S $S $OH => 1 fault 5009 at 32 too-many Session-Id\n
 check kept any | $base | 0100003880000118 $I $OH $OH $OR => 1 fault 5009 at 32 too-many Origin-Host\n
-# too-many, told before the AVP's data and depth.
+# too-many, reported before the AVP's data and depth.
 check kept any | $RULES | 0100002c8000012e $I $A $A_SHORT => 1 fault 5009 at 32 too-many A\n
 check kept any | $RULES | 010000388000012e $I $A $B $B_SHORT => 1 fault 5009 at 44 too-many B\n
 check kept any | $RULES | 010000408000012e $I $A $B $C $C_EMPTY => 1 fault 5009 at 56 too-many C\n
@@ -166,7 +166,7 @@ check kept any | $RULES | 010000208000012e $I $A_SHORT => 1 fault 5014 at 20 lea
 # leaf-value.
 check kept any | $base | 0100002880000118 $I 0000010840000008 $OR => 1 fault 5004 at 20 leaf-value Origin-Host\n
 check kept any | $base | 010000388000011a $I $OH $OR 000001114000000c00000003 => 1 fault 5004 at 44 leaf-value Disconnect-Cause\n
-# leaf-value, of an Enumerated list with a gap, and a value behind the gap.
+# leaf-value, of an Enumerated list with a gap, and a value after the gap.
 check kept any | $GAP | 010000208000012e $I 0000232c4000000c00000002 => 1 fault 5004 at 20 leaf-value E\n
 check kept any | $GAP | 010000208000012e $I 0000232c4000000c00000003 => 0 valid T\n
 # leaf-value, of AVPs with which nothing else is wrong.
@@ -178,7 +178,7 @@ check kept 0 | $base | 0100003c80000118 $I $OH $OR 00000117400000100000270f00000
 check kept 0 | $base | 0100003480000118 $I $OH $OR 0000011740000008 => 1 fault 5012 at 44 depth Failed-AVP\n
 check kept 0 | $base | 0100003c80000118 $I $OH $OR 0000011740000010 0000270f00000008 => 1 fault 5012 at 44 depth Failed-AVP\n
 check kept 0 | $base | 0100003480000118 $I $OH $OR 0000011740000008 => 1 fault 5012 at 44 depth Failed-AVP\n
-# depth, of groups with which nothing else is wrong, and told before a missing AVP in the group.
+# depth, of groups with which nothing else is wrong, and reported before a missing AVP in the group.
 check kept 0 | $RULES | 010000348000012e $I $A $B $H => 1 fault 5012 at 44 depth H\n
 check kept 0 | $RULES | 010000348000012e $I $A $B $N_EMPTY => 1 fault 5012 at 44 depth N\n
 ";
