@@ -1,6 +1,6 @@
-//! The tests of `dia_check`, `dia_faults`, `dia_tables`, `dia_inclusion`, `dia_peer` and `dia_run`, by library: each goes through public calls alone. `rows` has
-//! what both kinds of book answer. Those of `dia_run` are `devices`, which fail; what its commands write, `.ci/cases` compares.
-//! There is nothing but tests.
+//! The tests of `dia_check`, `dia_faults`, `dia_tables`, `dia_inclusion`, `dia_peer` and `dia_run`, by library: each goes through
+//! public calls alone. `rows` has what both kinds of book answer. Those of `dia_run` are `devices`, which fail; what its commands
+//! write, `.ci/cases` compares. There is nothing but tests.
 #![tactic(auto)]
 
 #[cfg(test)]
