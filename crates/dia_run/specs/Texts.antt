@@ -9,6 +9,8 @@ use Rattle.dia_ccf.specs.declared.CcfFault.TheVariants as ccf
 use Rattle.dia_ccf.specs.declared.Refused.{Refused as NoText}
 use Rattle.dia_ccf.specs.declared.Refused.TheVariants as unread
 use Rattle.dia_ccf.specs.Limits.{max_text}
+use Rattle.dia_ccf.specs.declared.source.Source.{Source}
+use Rattle.dia_ccf.specs.Places.{IsPlaced}
 use Rattle.dia_ccf.specs.Plain.{PlainSource}
 use Rattle.dia_ccf.specs.Tokens.{tokens}
 use Rattle.dia_ccf.specs.Grammar.{Derives}
@@ -33,6 +35,10 @@ IsNoText input limit at = (bytes : List ℕ) × Holds input limit bytes × (¬ I
 -- the input is the text of this source
 abbrev pub IsSourceText : Input → PlainSource → Type 0
 IsSourceText input source = (text : List ℕ) × Holds input max_text text × IsUtf8 text × Derives (tokens text) source
+
+-- the parts of the source have their offsets in the input's text
+abbrev pub IsPlacedIn : Input → Source → Type 0
+IsPlacedIn input source = (text : List ℕ) × Holds input max_text text × IsPlaced text source
 
 -- what is reported of a text that the grammar refuses
 abbrev pub refused_text : NoText → List ℕ

@@ -8,7 +8,7 @@ ghost use Rattle.dia_dict.specs.Resolution.{wrong, first_wrong};
 ghost use Rattle.dia_io.specs.declared.Input.{Input as AnyInput};
 ghost use Rattle.dia_io.specs.Inputs.{Holds};
 ghost use Rattle.dia_dict.specs.Dictionary.{IsDictionary};
-ghost use Rattle.dia_run.specs.Texts.{IsSourceText, IsNoSourceText};
+ghost use Rattle.dia_run.specs.Texts.{IsPlacedIn, IsSourceText, IsNoSourceText};
 ghost use Rattle.dia_run.specs.Texts.{IsDictionaryText, IsNoDictionaryText};
 ghost use Rattle.dia_report.specs.Refusals.{dictionary_line, RecordsOf, bad_dictionary_text};
 ghost use Rattle.dia_run.specs.Texts.{refused_text};
@@ -23,6 +23,7 @@ use std::alloc::{AllocError, AllocFailed, Global};
 /// The source that an input's text spells. `number` says which dictionary of the command it is, from 1.
 pub fn read_source(alloc: Global, number: u8, input: &Input) -> Result<Source, Refused>
     ensures source { IfOk result (λ source. IsSourceText input.now (plain_source source)) }
+    ensures placed { IfOk result (λ source. IsPlacedIn input.now source) }
     ensures recorded { IfErr result (RecordsOf (λ recorded. (why : List ℕ) × IsNoSourceText input.now why
         × (recorded ≡ dictionary_line number why))) }
     ensures kept { IfErr result (HasFinding input.now) }
@@ -47,6 +48,7 @@ pub fn read_source(alloc: Global, number: u8, input: &Input) -> Result<Source, R
 /// two by value.
 pub fn read_dictionary(alloc: Global, number: u8, input: &Input) -> Result<Box<ReadBook>, Refused>
     ensures source { IfOk result (λ read. IsSourceText input.now (plain_source read.value.source)) }
+    ensures placed { IfOk result (λ read. IsPlacedIn input.now read.value.source) }
     ensures book { IfOk result
         (λ read. IsDictionaryText input.now (⟦<IndexedBook as Book>⟧.meaning read.value.book)) }
     ensures recorded { IfErr result (RecordsOf (λ recorded. (why : List ℕ) × IsNoDictionaryText input.now why
