@@ -12,8 +12,8 @@ use Rattle.dia_report.specs.declared.BadInput.{BadInput}
 use Rattle.dia_report.specs.Refusals.{RecordsOf, bad_input_text, dictionary_line}
 use Rattle.dia_run.specs.Outcome.{IsMessageOutcome, ended, no_dictionary, no_message}
 use Rattle.dia_run.specs.Texts.{line, IsDictionaryText, IsNoDictionaryText, IsMessageText, IsNoMessageText}
-use Rattle.dia_answer.specs.declared.Made.{Made}
-use Rattle.dia_answer.specs.declared.NoAnswer.{NoAnswer}
+use Rattle.dia_answer.specs.declared.forms.Made.{Made}
+use Rattle.dia_answer.specs.declared.forms.NoAnswer.{NoAnswer}
 use Rattle.dia_answer.specs.Reports.{IsNoAnswer, no_answer_word}
 use Rattle.dia_answer.specs.declared.command.Answered.{Answered}
 use Rattle.dia_answer.specs.Outcome.{IsAnswerText, IsReply, made, none}

@@ -8,8 +8,8 @@ use Rattle.dia_terms.specs.declared.Unknown.{Unknown}
 use Rattle.dia_terms.specs.declared.Levels.{Levels}
 use Rattle.dia_check.specs.Faults.{IsRecorded}
 use Rattle.dia_run.specs.Texts.{line}
-use Rattle.dia_answer.specs.declared.Made.{Made}
-use Rattle.dia_answer.specs.declared.NoAnswer.{NoAnswer}
+use Rattle.dia_answer.specs.declared.forms.Made.{Made}
+use Rattle.dia_answer.specs.declared.forms.NoAnswer.{NoAnswer}
 use Rattle.dia_answer.specs.Reports.{IsFormFor, IsNoAnswer, IsProcessed, IsValidBy, no_answer_word}
 
 -- an answer to the request that reports its first fault
