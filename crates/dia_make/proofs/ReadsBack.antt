@@ -12,9 +12,11 @@ use Rattle.dia_text.specs.declared.fault.Kind.TheVariants.{Syntax, Braces, Limit
 use Rattle.dia_text.specs.declared.fault.Fault.{Fault}
 use Rattle.dia_text.specs.Words.{first_word}
 use Rattle.dia_text.specs.Reading.{◌>>=◌}
-use Rattle.dia_text.specs.Lines.{PlainLine, Blank, Leaf, Open, Close, line_of, header_at, header_of}
+use Rattle.dia_text.specs.PlainLines.{PlainLine, Blank, Leaf, Open, Close}
+use Rattle.dia_text.specs.Lines.{line_of, header_at, header_of}
 use Rattle.dia_text.specs.Drafts.{Frame, Level}
-use Rattle.dia_text.specs.Made.{lines, made_lines, message_from, body_from, begin, step, finished, no_level, line_added, fault_in, fault_at, is_empty, has_word, digits_line, part_text, parts_text}
+use Rattle.dia_text.specs.Made.{lines, made_lines, message_from, body_from, begin, step, finished, line_added, fault_in, fault_at, is_empty, has_word, digits_line, part_text, parts_text}
+use Rattle.dia_text.specs.Drafts.{no_level}
 use Rattle.dia_text.specs.LineTexts.{leaf_line, open_line, close_line, header_line}
 use Rattle.dia_text.specs.TextOf.{IsLevelText, end, leaf, group, IsTextOf, after_data}
 use Rattle.dia_text.proofs.Bytes.{AreBytes, bytes_split, bytes_take, bytes_drop, parts_of, fields_of}

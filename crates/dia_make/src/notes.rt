@@ -173,9 +173,11 @@ fn push_meant(note: &mut Note, names: &NamesOf<'_>, word: &[u8], meant: Meant) {
         Meant::Shown => note.put(
             "hint: this is a line of `diacmd show`: `diacmd show --as-text` writes the text that `make` reads\n",
         ),
-        Meant::Word => note.put(
-            "hint: `diacmd show --values` prints such a word after its number: leave it out, or write the text by \
-             `diacmd show --as-text`\n",
+        Meant::Comma => note.put(
+            "hint: an AVP is on a line of its own; commas are between the members of a group that is on one line\n",
+        ),
+        Meant::Member => note.put(
+            "hint: a comma is between two members of a group that is on one line\n",
         ),
     }
 }

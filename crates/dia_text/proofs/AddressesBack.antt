@@ -143,8 +143,8 @@ hex_lacks_dot n = grind (arith, nat_tests)
 hex_lacks_colon : (n : ℕ) → (hex_digit n == 58) ≡ false
 hex_lacks_colon n = grind (arith, nat_tests)
 
-hex_sign : (n : ℕ) → is_sign (hex_digit n) ≡ true
-hex_sign n = grind (arith, nat_tests)
+hex_sign : (n : ℕ) → n < 16 → is_sign (hex_digit n) ≡ true
+hex_sign n small = grind (arith, nat_tests)
 
 -- of these letters none is a digit of a byte
 hex_other : (n c : ℕ) → n < 16 → 103 ≤ c → (hex_digit n == c) ≡ false
@@ -160,11 +160,14 @@ groups_lack_colon [] = tt
 groups_lack_colon (a ∷ []) = tt
 groups_lack_colon (a ∷ b ∷ bytes) = ((hex_lacks_colon (a / 16), (hex_lacks_colon (a % 16), (hex_lacks_colon (b / 16), (hex_lacks_colon (b % 16), tt)))), groups_lack_colon bytes)
 
-groups_signs : (bytes : List ℕ) → AllByRecursion (λ (p : List ℕ). list_all is_sign p ≡ true) (groups bytes)
-groups_signs [] = tt
-groups_signs (a ∷ []) = tt
-groups_signs (a ∷ b ∷ bytes) =
-    (and_from _ _ (hex_sign (a / 16)) (and_from _ _ (hex_sign (a % 16)) (and_from _ _ (hex_sign (b / 16)) (and_from _ _ (hex_sign (b % 16)) refl))), groups_signs bytes)
+groups_signs : (bytes : List ℕ) → AreBytes bytes → AllByRecursion (λ (p : List ℕ). list_all is_sign p ≡ true) (groups bytes)
+groups_signs [] h = tt
+groups_signs (a ∷ []) h = tt
+groups_signs (a ∷ b ∷ bytes) (small, (small', h)) = (
+  and_from _ _ (hex_sign (a / 16) (omega (arith, small))) (and_from _ _ (hex_sign (a % 16) (omega arith))
+      (and_from _ _ (hex_sign (b / 16) (omega (arith, small'))) (and_from _ _ (hex_sign (b % 16) (omega arith)) refl))),
+  groups_signs bytes h,
+)
 
 pair_back : (a b : ℕ) → a < 256 → b < 256 → byte_pair (hex_byte a ++ hex_byte b) ≡ Some (a ∷ b ∷ [])
 pair_back a b h k = ap if_decoded (pairs_back 0 (a ∷ b ∷ []) (h, (k, tt)))
@@ -210,7 +213,7 @@ ipv6_reads (a ∷ b ∷ bytes) sixteen (small, (small', h)) =
     ∙ ap (λ (ps : List (List ℕ)). if length ps == 8 then in_family 2 (each byte_pair ps) else None) parts ∙ rw (count, back.1) refl in
     from_word (Some Address) (0 ∷ 2 ∷ rest) w
     (subst (IsValue (Some Address) (0 ∷ 2 ∷ rest)) (sym is)
-    (hex_value a b (0 ∷ 2 ∷ rest) more small small' (subst (λ (t : List ℕ). list_all is_sign t ≡ true) is (signs_joined 58 (groups rest) refl (groups_signs rest)))
+    (hex_value a b (0 ∷ 2 ∷ rest) more small small' (subst (λ (t : List ℕ). list_all is_sign t ≡ true) is (signs_joined 58 (groups rest) refl (groups_signs rest (small, (small', h)))))
     (subst (λ (t : List ℕ). address_of t ≡ Some (0 ∷ 2 ∷ rest)) is found)))
 
 -- ---- other families
@@ -241,7 +244,7 @@ family_reads family rest small h =
       feeds = no_feed_both (codes "family " ++ decimal family ++ codes " ") (hexadecimal rest)
           (no_feed_both (codes "family " ++ decimal family) (codes " ")
           (no_feed_both (codes "family ") (decimal family) (refl, (refl, (refl, (refl, (refl, (refl, (refl, tt))))))) (no_feed_word (decimal family) (decimal_word family fits).signs)) (refl, tt))
-          (no_feed_word (hexadecimal rest) (hexadecimal_word rest).signs);
+          (no_feed_word (hexadecimal rest) (hexadecimal_word rest h).signs);
       flags = λ ws. ap (λ (t : List ℕ). same_bytes t (codes "flags")) (first ws);
       len = λ ws. ap (λ (t : List ℕ). same_bytes t (codes "length")) (first ws);
       brace = λ ws. ap (λ (t : List ℕ). same_bytes t (codes "{")) (first ws);
@@ -252,7 +255,7 @@ family_reads family rest small h =
           ∙ family_read (spaced (codes "family" ∷ decimal family ∷ digits)) (spaced (decimal family ∷ digits)) (spaced digits) (hexadecimal rest) rest (decimal family) (spaced ws) family
           (next_is (codes "family") (decimal family ∷ digits) is_family) (after_next (codes "family") (decimal family ∷ digits) is_family)
           (next_is (decimal family) digits (decimal_word family fits)) (number_back (2 ^ 16) family small fits) (after_next (decimal family) digits (decimal_word family fits))
-          (next_is (hexadecimal rest) ws (hexadecimal_word rest)) (bytes_back rest h) (after_next (hexadecimal rest) ws (hexadecimal_word rest));
+          (next_is (hexadecimal rest) ws (hexadecimal_word rest h)) (bytes_back rest h) (after_next (hexadecimal rest) ws (hexadecimal_word rest h));
     }
 
 -- ---- by the family

@@ -9,7 +9,7 @@ use Rattle.dia_text.specs.declared.line.Head.{Head}
 use Rattle.dia_text.specs.declared.fault.Kind.{Kind}
 use Rattle.dia_text.specs.declared.fault.Misread.{Misread}
 use Rattle.dia_text.specs.declared.fault.Misread.TheVariants as misread
-use Rattle.dia_text.specs.Lines.{Leaf}
+use Rattle.dia_text.specs.PlainLines.{Leaf}
 use Rattle.dia_text.specs.Drafts.{Frame, Level, Occurs, IsAdded, IsAppended, added, closed, front_bytes, length_of, end_bytes, avp_of}
 
 front_parts : (code flags n : ℕ) (o : Option ℕ) → length (big_bytes 4 code ++ (flags ∷ big_bytes 3 n) ++ vendor_bytes o) ≡ head_length o

@@ -94,7 +94,7 @@ flags_back letters wrong wanted default flags ws small other = by (option_eq nat
     by false e =
         flags_there letters wrong default wanted (spaced (codes "flags" ∷ hex_byte flags ∷ ws)) (spaced (hex_byte flags ∷ ws)) (hex_byte flags) (spaced ws) flags
         (next_is (codes "flags") (hex_byte flags ∷ ws) (keyword (codes "flags") (omega arith) refl)) (after_next (codes "flags") (hex_byte flags ∷ ws) (keyword (codes "flags") (omega arith) refl))
-        (next_is (hex_byte flags) ws (hex_byte_word flags)) (after_next (hex_byte flags) ws (hex_byte_word flags)) (flags_value letters flags small)
+        (next_is (hex_byte flags) ws (hex_byte_word flags small)) (after_next (hex_byte flags) ws (hex_byte_word flags small)) (flags_value letters flags small)
 
 pub number_written : (key : List ℕ) (wanted : Wanted) (default : Option ℕ) (n : ℕ) (ws : List (List ℕ)) → n < 2 ^ 32 → IsWord key → same_bytes key key ≡ true
     → number_field key default wanted (spaced (key ∷ decimal n ∷ ws)) ≡ Ok (n, spaced ws)
@@ -129,23 +129,23 @@ padding_back len pad bytes = by (same_bytes pad (padding len))
     by false =
         padding_there (spaced (codes "pad" ∷ hexadecimal pad ∷ [])) (spaced (hexadecimal pad ∷ [])) (hexadecimal pad) [] pad
         (next_is (codes "pad") (hexadecimal pad ∷ []) (keyword (codes "pad") (omega arith) refl)) (after_next (codes "pad") (hexadecimal pad ∷ []) (keyword (codes "pad") (omega arith) refl))
-        (next_is (hexadecimal pad) [] (hexadecimal_word pad)) (after_next (hexadecimal pad) [] (hexadecimal_word pad)) (bytes_back pad bytes)
+        (next_is (hexadecimal pad) [] (hexadecimal_word pad bytes)) (after_next (hexadecimal pad) [] (hexadecimal_word pad bytes)) (bytes_back pad bytes)
 
 -- ---- they are words
 
-pub flags_are_words : (default : Option ℕ) (flags : ℕ) (ws : List (List ℕ)) → AreWords ws → AreWords (flags_words default flags ++ ws)
-flags_are_words default flags ws all = by (option_eq nat_eq default (Some flags))
+pub flags_are_words : (default : Option ℕ) (flags : ℕ) (ws : List (List ℕ)) → flags < 256 → AreWords ws → AreWords (flags_words default flags ++ ws)
+flags_are_words default flags ws small all = by (option_eq nat_eq default (Some flags))
   where
     by : (b : Bool) → AreWords ((if b then [] else (codes "flags" ∷ hex_byte flags ∷ [])) ++ ws)
     by true = all
-    by false = (keyword (codes "flags") (omega arith) refl, (hex_byte_word flags, all))
+    by false = (keyword (codes "flags") (omega arith) refl, (hex_byte_word flags small, all))
 
-pub flags_have_no_feeds : (default : Option ℕ) (flags : ℕ) → HaveNoFeeds (flags_words default flags)
-flags_have_no_feeds default flags = by (option_eq nat_eq default (Some flags))
+pub flags_have_no_feeds : (default : Option ℕ) (flags : ℕ) → flags < 256 → HaveNoFeeds (flags_words default flags)
+flags_have_no_feeds default flags small = by (option_eq nat_eq default (Some flags))
   where
     by : (b : Bool) → HaveNoFeeds (if b then [] else (codes "flags" ∷ hex_byte flags ∷ []))
     by true = tt
-    by false = no_feed_words (codes "flags" ∷ hex_byte flags ∷ []) (keyword (codes "flags") (omega arith) refl, (hex_byte_word flags, tt))
+    by false = no_feed_words (codes "flags" ∷ hex_byte flags ∷ []) (keyword (codes "flags") (omega arith) refl, (hex_byte_word flags small, tt))
 
 pub app_are_words : (default : Option ℕ) (n : ℕ) (ws : List (List ℕ)) → n < 2 ^ 32 → AreWords ws → AreWords (app_words default n ++ ws)
 app_are_words default n ws small all = by (option_eq nat_eq default (Some n))
@@ -154,9 +154,9 @@ app_are_words default n ws small all = by (option_eq nat_eq default (Some n))
     by true = all
     by false = (keyword (codes "app") (omega arith) refl, (decimal_word n (omega (arith, small)), all))
 
-pub pad_are_words : (len : ℕ) (pad : List ℕ) → AreWords (pad_words len pad)
-pad_are_words len pad = by (same_bytes pad (padding len))
+pub pad_are_words : (len : ℕ) (pad : List ℕ) → AreBytes pad → AreWords (pad_words len pad)
+pad_are_words len pad bytes = by (same_bytes pad (padding len))
   where
     by : (b : Bool) → AreWords (if b then [] else (codes "pad" ∷ hexadecimal pad ∷ []))
     by true = tt
-    by false = (keyword (codes "pad") (omega arith) refl, (hexadecimal_word pad, tt))
+    by false = (keyword (codes "pad") (omega arith) refl, (hexadecimal_word pad bytes, tt))

@@ -17,7 +17,8 @@ use Rattle.dia_text.specs.Words.{first_word, after_word}
 use Rattle.dia_text.specs.Numbers.{any_below}
 use Rattle.dia_text.specs.Fields.{flags_field, number_field}
 use Rattle.dia_text.specs.Keys.{class_flags, p_flag, start_of, command_named, start_named}
-use Rattle.dia_text.specs.Lines.{header_letters, no_more, start_at, header_at, header_of}
+use Rattle.dia_text.specs.Lines.{header_letters, start_at, header_at, header_of}
+use Rattle.dia_text.specs.Avps.{no_more}
 use Rattle.dia_text.specs.LineTexts.{spaced, app_words, identifier_words, field_words, code_start, code_header, named_header, header_text, header_line, class_bits, serves, names_header}
 use Rattle.dia_text.proofs.Bytes.{HasFields}
 use Rattle.dia_text.proofs.WordsBack.{AreWords, HasNoFeed, first_is, after_is, next_is, after_next, no_feed_words, no_feed_line, decimal_word}
@@ -80,7 +81,7 @@ pub record IsHeaderLine (d : Dictionary) (h : Header) (line : List ℕ) : Type 0
 
 field_are_words : (h : Header) (s : Start) (n : ℕ) (b : List ℕ) → HasFields h n b → AreWords (field_words h s)
 field_are_words h s n b f =
-    flags_are_words s.flags h.flags (app_words s.app h.app ++ identifier_words h) (app_are_words s.app h.app (identifier_words h) f.app
+    flags_are_words s.flags h.flags (app_words s.app h.app ++ identifier_words h) f.flags (app_are_words s.app h.app (identifier_words h) f.app
     (keyword (codes "hop") (omega arith) refl, (decimal_word h.hop (omega (arith, f.hop)), (keyword (codes "end") (omega arith) refl, (decimal_word h.e2e (omega (arith, f.e2e)), tt)))))
 
 by_code : (d : Dictionary) (h : Header) (n : ℕ) (b : List ℕ) → HasFields h n b → IsHeaderLine d h (code_header h)

@@ -23,6 +23,8 @@ pub mod NoTexts
 pub mod Parts
 pub mod Counted
 pub mod ValidFields
+pub mod Shorter
+pub mod GroupsRead
 pub mod Drawn
 pub mod Fitting
 pub mod NamedHeaders

@@ -19,15 +19,18 @@ use Rattle.dia_text.specs.Reading.{◌>>=◌}
 use Rattle.dia_text.specs.Fields.{flags_field, length_field, padding_field}
 use Rattle.dia_text.specs.Keys.{code_of, default_flags, format_at}
 use Rattle.dia_text.specs.Dates.{time_of}
-use Rattle.dia_text.specs.Values.{value_at, is_time, is_date_of, after_date}
-use Rattle.dia_text.specs.Lines.{PlainLine, Blank, Leaf, Open, Close, avp_letters, head_at, leaf_at, open_at, close_at, avp_at, line_of}
+use Rattle.dia_text.specs.Values.{value_at, is_time, is_date_of, after_date, takes_remark, is_remark, after_remark, after_note}
+use Rattle.dia_text.specs.PlainLines.{PlainLine, Blank, Leaf, Open, Close}
+use Rattle.dia_text.specs.Avps.{avp_letters, head_at, data_at, close_at, avp_at, part_at}
+use Rattle.dia_text.specs.Lines.{whole_line, line_of}
 use Rattle.dia_text.specs.Drafts.{Level, added, avp_of}
-use Rattle.dia_text.specs.Made.{in_line, line_added}
+use Rattle.dia_text.specs.Avps.{in_line}
+use Rattle.dia_text.specs.Made.{line_added}
 use Rattle.dia_text.specs.LineTexts.{spaced, avp_word, code_at, avp_flags, IsWordOf, pad_words, leaf_line, open_line, close_line}
 use Rattle.dia_text.specs.TextOf.{after_data}
 use Rattle.dia_text.proofs.Bytes.{HasParts, plain_head}
-use Rattle.dia_text.proofs.WordsBack.{HasNoFeed, first_is, after_is, next_is, after_next, no_feed_words, no_feeds_both, no_feed_line}
-use Rattle.dia_text.proofs.FieldsBack.{keyword, flags_back, length_not_there, padding_back, said_pad, flags_are_words, flags_have_no_feeds, pad_are_words}
+use Rattle.dia_text.proofs.WordsBack.{HasNoFeed, first_is, after_is, next_is, no_feed_words, no_feeds_both, no_feed_line}
+use Rattle.dia_text.proofs.FieldsBack.{keyword, flags_back, length_not_there, padding_back, said_pad, flags_have_no_feeds, pad_are_words}
 use Rattle.dia_text.proofs.ValuesBack.{value_back}
 use Rattle.dia_text.proofs.KeysBack.{NamesAvp, word_names}
 
@@ -38,10 +41,10 @@ head_read : (d : Dictionary) (text t1 t2 : List ℕ) (code : AvpCode) (flags : �
 unfolding head_at
 head_read d text t1 t2 code flags a b c e = rw (a, b, c, e) refl
 
-leaf_read : (d : Dictionary) (head : Head) (text t1 bytes : List ℕ) (pad : Option (List ℕ)) → value_at (format_at d head.code) text ≡ Ok (bytes, t1)
-    → after_date (format_at d head.code) bytes t1 ≡ t1 → padding_field t1 ≡ Ok (pad, []) → leaf_at d head text ≡ Ok (Leaf head bytes pad)
-unfolding leaf_at
-leaf_read d head text t1 bytes pad a c b = rw (a, c, b) refl
+data_read : (d : Dictionary) (head : Head) (text t1 bytes : List ℕ) (pad : Option (List ℕ)) → value_at (format_at d head.code) text ≡ Ok (bytes, t1)
+    → after_note (format_at d head.code) bytes t1 ≡ t1 → padding_field t1 ≡ Ok (pad, []) → data_at d head text ≡ Ok (Leaf head bytes pad, [])
+unfolding data_at
+data_read d head text t1 bytes pad a c b = rw (a, c, b) refl
 
 -- no date stands before padding
 no_date : (format : Option PlainFormat) (bytes text : List ℕ) → time_of (first_word text) ≡ None → after_date format bytes text ≡ text
@@ -49,33 +52,46 @@ no_date format bytes text none =
     let other : (is_time format && is_date_of bytes (first_word text)) ≡ false = and_right _ _ (ap (λ (o : Option ℕ). option_map_or (λ n. same_bytes (big_bytes 4 n) bytes) o false) none) in
     ap (λ (b : Bool). if b then after_word text else text) other
 
-pad_no_date : (format : Option PlainFormat) (bytes : List ℕ) (len : ℕ) (pad : List ℕ) → after_date format bytes (spaced (pad_words len pad)) ≡ spaced (pad_words len pad)
-pad_no_date format bytes len pad = by (same_bytes pad (padding len))
+no_word : (format : Option PlainFormat) (text : List ℕ) → is_remark (first_word text) ≡ false → after_remark format text ≡ text
+no_word format text none =
+    let other : (takes_remark format && is_remark (first_word text)) ≡ false = and_right _ _ none in
+    ap (λ (b : Bool). if b then after_word text else text) other
+
+no_note : (format : Option PlainFormat) (bytes text : List ℕ) → is_remark (first_word text) ≡ false → time_of (first_word text) ≡ None → after_note format bytes text ≡ text
+no_note format bytes text no_remark none = ap (after_date format bytes) (no_word format text no_remark) ∙ no_date format bytes text none
+
+pad_no_note : (format : Option PlainFormat) (bytes : List ℕ) (len : ℕ) (pad : List ℕ) → after_note format bytes (spaced (pad_words len pad)) ≡ spaced (pad_words len pad)
+pad_no_note format bytes len pad = by (same_bytes pad (padding len))
   where
-    by : (b : Bool) → after_date format bytes (spaced (if b then [] else (codes "pad" ∷ hexadecimal pad ∷ []))) ≡ spaced (if b then [] else (codes "pad" ∷ hexadecimal pad ∷ []))
-    by true = no_date format bytes [] refl
-    by false = no_date format bytes (spaced (codes "pad" ∷ hexadecimal pad ∷ [])) (ap time_of (next_is (codes "pad") (hexadecimal pad ∷ []) (keyword (codes "pad") (omega arith) refl)))
+    by : (b : Bool) → after_note format bytes (spaced (if b then [] else (codes "pad" ∷ hexadecimal pad ∷ []))) ≡ spaced (if b then [] else (codes "pad" ∷ hexadecimal pad ∷ []))
+    by true = no_note format bytes [] refl refl
+    by false =
+        let next = next_is (codes "pad") (hexadecimal pad ∷ []) (keyword (codes "pad") (omega arith) refl) in
+        no_note format bytes (spaced (codes "pad" ∷ hexadecimal pad ∷ [])) (ap is_remark next) (ap time_of next)
 
-opens : (head : Head) → open_at head [] ≡ Ok (Open head)
-unfolding open_at
-opens head = refl
-
-avp_is_leaf : (d : Dictionary) (text t : List ℕ) (head : Head) (l : PlainLine) → head_at d text ≡ Ok (head, t) → same_bytes (first_word t) (codes "{") ≡ false → leaf_at d head t ≡ Ok l → avp_at d text ≡ Ok l
+avp_is_leaf : (d : Dictionary) (text t : List ℕ) (head : Head) (l : PlainLine × List ℕ) → head_at d text ≡ Ok (head, t) → same_bytes (first_word t) (codes "{") ≡ false → data_at d head t ≡ Ok l → avp_at d text ≡ Ok l
 unfolding avp_at
 avp_is_leaf d text t head l a other b = rw (a, other, b) refl
 
-avp_is_open : (d : Dictionary) (text t : List ℕ) (head : Head) → head_at d text ≡ Ok (head, t) → same_bytes (first_word t) (codes "{") ≡ true → after_word t ≡ [] → avp_at d text ≡ Ok (Open head)
+avp_is_open : (d : Dictionary) (text t : List ℕ) (head : Head) → head_at d text ≡ Ok (head, t) → same_bytes (first_word t) (codes "{") ≡ true → after_word t ≡ [] → avp_at d text ≡ Ok (Open head, [])
 unfolding avp_at
-avp_is_open d text t head a same b = rw (a, same, b, opens head) refl
+avp_is_open d text t head a same b = rw (a, same, b) refl
 
-line_is_avp : (d : Dictionary) (text : List ℕ) (l : PlainLine) → 0 < length (first_word text) → same_bytes (first_word text) (codes "}") ≡ false → avp_at d text ≡ Ok l → line_of d text ≡ Ok l
+part_is_avp : (d : Dictionary) (text : List ℕ) (l : PlainLine × List ℕ) → same_bytes (first_word text) (codes "}") ≡ false → avp_at d text ≡ Ok l → part_at d text ≡ Ok l
+unfolding part_at
+part_is_avp d text l other is = rw (other, is) refl
+
+line_is_part : (d : Dictionary) (text : List ℕ) (l : PlainLine) → 0 < length (first_word text) → part_at d text ≡ Ok (l, []) → whole_line d l [] ≡ Ok l → line_of d text ≡ Ok l
 unfolding line_of
-line_is_avp d text l some other is =
+line_is_part d text l some is alone =
     let no_blank : (length (first_word text) == 0) ≡ false = ne_eqb (length (first_word text)) 0 (λ e. omega (arith, e, some)) in
-    rw (no_blank, other, is) refl
+    rw (no_blank, is) alone
+
+line_is_avp : (d : Dictionary) (text : List ℕ) (l : PlainLine) → 0 < length (first_word text) → same_bytes (first_word text) (codes "}") ≡ false → avp_at d text ≡ Ok (l, []) → whole_line d l [] ≡ Ok l → line_of d text ≡ Ok l
+line_is_avp d text l some other is alone = line_is_part d text l some (part_is_avp d text (l, []) other is) alone
 
 pub closes : (d : Dictionary) → line_of d close_line ≡ Ok (Close None)
-unfolding line_of close_at padding_field
+unfolding line_of part_at close_at padding_field
 closes d = refl
 
 pub blank : (d : Dictionary) → line_of d [] ≡ Ok Blank
@@ -109,33 +125,32 @@ leaf_back d v front word sound p is_word =
     let ws : List (List ℕ) = word ∷ pads in
     let line = leaf_line d v word (after_data v front) in
     let head = head_back d v front ws p names (value.flags pads) (value.len pads) in
-    let leaf = leaf_read d (plain_head v) (spaced ws) (spaced pads) v.bytes (said_pad (avp_length v) (after_data v front)) (value.reads pads)
-    (pad_no_date (format_at d (code_at v)) v.bytes (avp_length v) (after_data v front)) (padding_back (avp_length v) (after_data v front) p.following) in
+    let leaf = data_read d (plain_head v) (spaced ws) (spaced pads) v.bytes (said_pad (avp_length v) (after_data v front)) (value.reads pads)
+    (pad_no_note (format_at d (code_at v)) v.bytes (avp_length v) (after_data v front)) (padding_back (avp_length v) (after_data v front) p.following) in
     let first = first_is w (avp_flags d v ++ ws) names.begins.word in
     let some = names.begins.word.some in
     record {
       reads = line_is_avp d line _ (omega (arith, ap length first, some)) (ap (λ (t : List ℕ). same_bytes t (codes "}")) first ∙ names.begins.brace)
-          (avp_is_leaf d line (spaced ws) (plain_head v) _ head (value.brace pads) leaf);
+          (avp_is_leaf d line (spaced ws) (plain_head v) _ head (value.brace pads) leaf) refl;
       feeds = no_feed_line w (avp_flags d v ++ ws) names.begins.word
-          (no_feeds_both (avp_flags d v) ws (flags_have_no_feeds (Some (default_flags d (code_at v))) v.flags)
-          (value.feeds, no_feed_words pads (pad_are_words (avp_length v) (after_data v front))));
+          (no_feeds_both (avp_flags d v) ws (flags_have_no_feeds (Some (default_flags d (code_at v))) v.flags p.flags)
+          (value.feeds, no_feed_words pads (pad_are_words (avp_length v) (after_data v front) p.following)));
     }
 
 pub open_back : (d : Dictionary) (v : PlainAvp) (front : List ℕ) → IsDictionary d → HasParts v front → IsLineOf d (Open (plain_head v)) (open_line d v)
 open_back d v front sound p =
     let names = word_names d (code_at v) sound p.code p.vendor in
     let w = avp_word d (code_at v) in
-    let brace = keyword (codes "{") (omega arith) refl in
     let ws : List (List ℕ) = codes "{" ∷ [] in
     let line = open_line d v in
-    let next = next_is (codes "{") [] brace in
-    let head = head_back d v front ws p names (ap (λ (t : List ℕ). same_bytes t (codes "flags")) next) (ap (λ (t : List ℕ). same_bytes t (codes "length")) next) in
+    let head = head_back d v front ws p names refl refl in
     let first = first_is w (avp_flags d v ++ ws) names.begins.word in
     let some = names.begins.word.some in
     record {
       reads = line_is_avp d line _ (omega (arith, ap length first, some)) (ap (λ (t : List ℕ). same_bytes t (codes "}")) first ∙ names.begins.brace)
-          (avp_is_open d line (spaced ws) (plain_head v) head (ap (λ (t : List ℕ). same_bytes t (codes "{")) next) (after_next (codes "{") [] brace));
-      feeds = no_feed_line w (avp_flags d v ++ ws) names.begins.word (no_feed_words (avp_flags d v ++ ws) (flags_are_words (Some (default_flags d (code_at v))) v.flags ws (brace, tt)));
+          (avp_is_open d line (spaced ws) (plain_head v) head refl refl) refl;
+      feeds = no_feed_line w (avp_flags d v ++ ws) names.begins.word
+          (no_feeds_both (avp_flags d v) ws (flags_have_no_feeds (Some (default_flags d (code_at v))) v.flags p.flags) ((refl, tt), tt));
     }
 
 -- ---- what they add

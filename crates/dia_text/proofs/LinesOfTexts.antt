@@ -15,7 +15,8 @@ use Rattle.dia_text.specs.Reading.{◌>>=◌, FailsAt}
 use Rattle.dia_text.specs.Lines.{header_of}
 use Rattle.dia_text.specs.Drafts.{Level}
 use Rattle.dia_text.specs.declared.fault.Kind.TheVariants.{Syntax}
-use Rattle.dia_text.specs.Made.{message_from, body_from, no_level, fault_in, placed, Misses, step, finished, line_added}
+use Rattle.dia_text.specs.Made.{message_from, body_from, fault_in, placed, Misses, step, finished, line_added}
+use Rattle.dia_text.specs.Drafts.{no_level}
 use Rattle.dia_text.specs.Made.{lines, is_empty, has_word, fault_at, parts_text, made_lines}
 
 pub bind_fails : {A B : Type 0} (e : NotRead) (r : Result A Misfit) (f : A → Result B Misfit) → FailsAt e r → FailsAt e (r >>= f)

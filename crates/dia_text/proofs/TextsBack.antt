@@ -10,7 +10,8 @@ use Rattle.dia_book.specs.Dictionary.{Dictionary, IsDictionary}
 use Rattle.dia_text.specs.declared.fault.Misfit.{Misfit}
 use Rattle.dia_text.specs.Lines.{header_of}
 use Rattle.dia_text.specs.Drafts.{Frame, Level}
-use Rattle.dia_text.specs.Made.{lines, made, message_from, body_from, begin, step, finished, no_level, line_added}
+use Rattle.dia_text.specs.Made.{lines, made, message_from, body_from, begin, step, finished, line_added}
+use Rattle.dia_text.specs.Drafts.{no_level}
 use Rattle.dia_text.specs.LineTexts.{leaf_line, open_line, close_line, header_line}
 use Rattle.dia_text.specs.TextOf.{IsLevelText, end, leaf, group, IsTextOf, after_data}
 use Rattle.dia_text.proofs.Bytes.{AreBytes, bytes_split, bytes_take, bytes_drop, parts_of, fields_of}

@@ -1,5 +1,5 @@
 -- The numbers that lines write fit their fields, where those of the dictionary do.
-use Rattle.std.proofs.Common.{◌≡◌, ℕ, ◌+◌, ◌<◌, ◌^◌, ◌==◌, Bool, true, false, nat_lt, if◌then◌else◌, List, [], ◌∷◌, length, take, drop, Option, Some, None, IfSome, unwrap_or, Result, Ok, Err, codes, refl, subst, arith}
+use Rattle.std.proofs.Common.{◌≡◌, ℕ, zero, suc, ◌+◌, ◌<◌, ◌^◌, ◌==◌, Bool, true, false, nat_lt, if◌then◌else◌, List, [], ◌∷◌, length, take, drop, Option, Some, None, IfSome, unwrap_or, Result, Ok, Err, codes, refl, subst, arith}
 use Rattle.std.specs.Prelude.{IfOk, option_and_then, ⊤}
 use Rattle.std.specs.Option.{option_map, option_or}
 use Rattle.std.specs.List.{AllByRecursion, find, prefix_len}
@@ -23,26 +23,30 @@ use Rattle.dia_text.specs.Numbers.{number_of, number_below, any_number, any_belo
 use Rattle.dia_text.specs.Reading.{◌>>=◌, some_or, at_word}
 use Rattle.dia_text.specs.Fields.{number_field, flags_field, length_field, padding_field}
 use Rattle.dia_text.specs.Keys.{is_no_slash, with_vendor, vendor_code, numbered, code_of_key, entry_named, code_of, default_flags, format_at, class_flags, p_flag, start_of, command_named, start_named}
-use Rattle.dia_text.specs.Values.{value_at, after_date}
-use Rattle.dia_text.specs.Lines.{avp_letters, header_letters, no_more, PlainLine, Blank, Leaf, Open, Close, head_at, leaf_at, open_at, close_at, avp_at, line_of, start_at, header_at, header_of}
+use Rattle.dia_text.specs.Values.{value_at, after_note}
+use Rattle.dia_text.specs.Drafts.{Level, added, no_level}
+use Rattle.dia_text.specs.Avps.{avp_letters, no_more, head_at, data_at, close_at, avp_at, part_at, in_line}
+use Rattle.dia_text.specs.Groups.{member_at, after_part, is_last, group_from, group_at}
+use Rattle.dia_text.specs.Lines.{header_letters, whole_line, line_of, start_at, header_at, header_of}
+use Rattle.dia_text.specs.PlainLines.{PlainLine, Blank, Leaf, Open, Close}
 use Rattle.dia_text.specs.ValidTexts.{KeyFits, AppFits, NumbersFit}
 
 -- ---- reading
 
 -- what holds of the first part, and so of what is read
-reads : {A B E : Type 0} (P : A → Type 0) (Q : B → Type 0) (r : Result A E) (f : A → Result B E) → IfOk r P → ((x : A) → P x → IfOk (f x) Q) → IfOk (r >>= f) Q
+pub reads : {A B E : Type 0} (P : A → Type 0) (Q : B → Type 0) (r : Result A E) (f : A → Result B E) → IfOk r P → ((x : A) → P x → IfOk (f x) Q) → IfOk (r >>= f) Q
 reads P Q (Ok x) f h more = more x h
 reads P Q (Err k) f h more = tt
 
-any : {A E : Type 0} (r : Result A E) → IfOk r (λ x. ⊤)
+pub any : {A E : Type 0} (r : Result A E) → IfOk r (λ x. ⊤)
 any (Ok x) = tt
 any (Err k) = tt
 
-some_fits : {A : Type 0} (P : A → Type 0) (o : Option A) (k : Kind) → IfSome o P → IfOk (some_or o k) P
+pub some_fits : {A : Type 0} (P : A → Type 0) (o : Option A) (k : Kind) → IfSome o P → IfOk (some_or o k) P
 some_fits P (Some x) k h = h
 some_fits P None k h = tt
 
-at_fits : {A : Type 0} (P : A → Type 0) (text : List ℕ) (wanted : Wanted) (r : Result A Kind) → IfOk r P → IfOk (at_word text wanted r) P
+pub at_fits : {A : Type 0} (P : A → Type 0) (text : List ℕ) (wanted : Wanted) (r : Result A Kind) → IfOk r P → IfOk (at_word text wanted r) P
 at_fits P text wanted (Ok x) h = h
 at_fits P text wanted (Err k) h = tt
 
@@ -50,7 +54,7 @@ either : {A : Type 0} (P : A → Type 0) (a b : Option A) → IfSome a P → IfS
 either P (Some x) b h k = h
 either P None b h k = k
 
-if_ok : {A E : Type 0} (P : A → Type 0) (b : Bool) (x y : Result A E) → IfOk x P → IfOk y P → IfOk (if b then x else y) P
+pub if_ok : {A E : Type 0} (P : A → Type 0) (b : Bool) (x y : Result A E) → IfOk x P → IfOk y P → IfOk (if b then x else y) P
 if_ok P true x y h k = h
 if_ok P false x y h k = k
 
@@ -140,33 +144,51 @@ LineFits (Leaf head bytes pad) = CodeFits head.code
 LineFits (Open head) = CodeFits head.code
 LineFits (Close pad) = ⊤
 
-leaf_fits : (d : Dictionary) (head : Head) (text : List ℕ) → CodeFits head.code → IfOk (leaf_at d head text) LineFits
-unfolding leaf_at
-leaf_fits d head text h =
-    reads (λ _. ⊤) LineFits (value_at (format_at d head.code) text) _ (any (value_at (format_at d head.code) text))
-    (λ value u. reads (λ _. ⊤) LineFits (padding_field (after_date (format_at d head.code) value.0 value.1)) _ (any (padding_field (after_date (format_at d head.code) value.0 value.1)))
-    (λ pad v. reads (λ _. ⊤) LineFits (no_more pad.1) _ (any (no_more pad.1)) (λ e w. h)))
+data_fits : (d : Dictionary) (head : Head) (text : List ℕ) → CodeFits head.code → IfOk (data_at d head text) (λ x. LineFits x.0)
+unfolding data_at
+data_fits d head text h =
+    reads (λ _. ⊤) (λ x. LineFits x.0) (value_at (format_at d head.code) text) _ (any (value_at (format_at d head.code) text))
+    (λ value u. reads (λ _. ⊤) (λ x. LineFits x.0) (padding_field (after_note (format_at d head.code) value.0 value.1)) _ (any (padding_field (after_note (format_at d head.code) value.0 value.1)))
+    (λ pad v. h))
 
-open_fits : (head : Head) (text : List ℕ) → CodeFits head.code → IfOk (open_at head text) LineFits
-unfolding open_at
-open_fits head text h = reads (λ _. ⊤) LineFits (no_more text) _ (any (no_more text)) (λ e u. h)
-
-close_fits : (text : List ℕ) → IfOk (close_at text) LineFits
+close_fits : (text : List ℕ) → IfOk (close_at text) (λ x. LineFits x.0)
 unfolding close_at
-close_fits text =
-    reads (λ _. ⊤) LineFits (padding_field text) _ (any (padding_field text)) (λ pad u. reads (λ _. ⊤) LineFits (no_more pad.1) _ (any (no_more pad.1)) (λ e v. tt))
+close_fits text = reads (λ _. ⊤) (λ x. LineFits x.0) (padding_field text) _ (any (padding_field text)) (λ pad u. tt)
 
-avp_fits : (d : Dictionary) (text : List ℕ) → NumbersFit d → IfOk (avp_at d text) LineFits
+avp_fits : (d : Dictionary) (text : List ℕ) → NumbersFit d → IfOk (avp_at d text) (λ x. LineFits x.0)
 unfolding avp_at
 avp_fits d text fit =
-    reads (λ x. CodeFits x.0.code) LineFits (head_at d text) _ (head_fits d text fit)
-    (λ head h. if_ok LineFits (same_bytes (first_word head.1) (codes "{")) (open_at head.0 (after_word head.1)) (leaf_at d head.0 head.1) (open_fits head.0 (after_word head.1) h) (leaf_fits d head.0 head.1 h))
+    reads (λ x. CodeFits x.0.code) (λ x. LineFits x.0) (head_at d text) _ (head_fits d text fit)
+    (λ head h. if_ok (λ x. LineFits x.0) (same_bytes (first_word head.1) (codes "{")) (Ok (Open head.0, after_word head.1)) (data_at d head.0 head.1) h (data_fits d head.0 head.1 h))
+
+part_fits : (d : Dictionary) (text : List ℕ) → NumbersFit d → IfOk (part_at d text) (λ x. LineFits x.0)
+unfolding part_at
+part_fits d text fit =
+    if_ok (λ x. LineFits x.0) (same_bytes (first_word text) (codes "}")) (close_at (after_word text)) (avp_at d text) (close_fits (after_word text)) (avp_fits d text fit)
+
+-- a group has the head of its line
+group_fits : (n : ℕ) (d : Dictionary) (head : Head) (level : Level) (text : List ℕ) → CodeFits head.code → IfOk (group_from n d head level text) LineFits
+unfolding group_from
+group_fits zero d head level text h = tt
+group_fits (suc n) d head level text h =
+    reads (λ _. ⊤) LineFits (member_at d text) _ (any (member_at d text))
+    (λ part u. if_ok LineFits (is_last part.0 level.outer) _ _
+    (reads (λ _. ⊤) LineFits (no_more part.1) _ (any (no_more part.1)) (λ e v. h))
+    (reads (λ _. ⊤) LineFits (in_line d text part.0 (added level part.0)) _ (any (in_line d text part.0 (added level part.0)))
+    (λ next v. reads (λ _. ⊤) LineFits (after_part part.0 part.1) _ (any (after_part part.0 part.1)) (λ rest w. group_fits n d head next rest h))))
+
+whole_fits : (d : Dictionary) (part : PlainLine) (rest : List ℕ) → LineFits part → IfOk (whole_line d part rest) LineFits
+whole_fits d Blank rest h = reads (λ _. ⊤) LineFits (no_more rest) _ (any (no_more rest)) (λ e u. tt)
+whole_fits d (Leaf head bytes pad) rest h = reads (λ _. ⊤) LineFits (no_more rest) _ (any (no_more rest)) (λ e u. h)
+whole_fits d (Open head) rest h =
+    if_ok LineFits (length (first_word rest) == 0) (Ok (Open head)) (group_at d head rest) h (group_fits (length rest) d head no_level rest h)
+whole_fits d (Close pad) rest h = reads (λ _. ⊤) LineFits (no_more rest) _ (any (no_more rest)) (λ e u. tt)
 
 pub line_fits : (d : Dictionary) (text : List ℕ) → NumbersFit d → IfOk (line_of d text) LineFits
 unfolding line_of
 line_fits d text fit =
-    if_ok LineFits (length (first_word text) == 0) (Ok Blank) (if same_bytes (first_word text) (codes "}") then close_at (after_word text) else avp_at d text) tt
-    (if_ok LineFits (same_bytes (first_word text) (codes "}")) (close_at (after_word text)) (avp_at d text) (close_fits (after_word text)) (avp_fits d text fit))
+    if_ok LineFits (length (first_word text) == 0) (Ok Blank) _ tt
+    (reads (λ x. LineFits x.0) LineFits (part_at d text) _ (part_fits d text fit) (λ part h. whole_fits d part.0 part.1 h))
 
 -- ---- headers
 

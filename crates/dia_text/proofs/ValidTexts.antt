@@ -21,9 +21,12 @@ use Rattle.dia_text.specs.declared.fault.Kind.TheVariants.{Limit}
 use Rattle.dia_text.specs.declared.fault.Fault.{Fault}
 use Rattle.dia_text.specs.declared.line.Head.{Head}
 use Rattle.dia_text.specs.Reading.{◌>>=◌, misfit}
-use Rattle.dia_text.specs.Lines.{Blank, Leaf, Open, Close, line_of, header_of}
+use Rattle.dia_text.specs.PlainLines.{Blank, Leaf, Open, Close}
+use Rattle.dia_text.specs.Lines.{line_of, header_of}
 use Rattle.dia_text.specs.Drafts.{Level, added, avp_of}
-use Rattle.dia_text.specs.Made.{made, message_from, body_from, begin, step, finished, no_level, line_added, in_line, value_misfit, brace_wanted, fault_at}
+use Rattle.dia_text.specs.Made.{made, message_from, body_from, begin, step, finished, line_added, fault_at}
+use Rattle.dia_text.specs.Drafts.{no_level}
+use Rattle.dia_text.specs.Avps.{in_line, value_misfit, brace_wanted}
 use Rattle.dia_text.specs.ValidTexts.{NumbersFit, IsOwn, key_at, IsValidLevel, end, blank, leaf, group, IsHeaderOf, IsValidText, IsValidOrLong}
 use Rattle.dia_text.proofs.Drawn.{drawn, bytes_drawn, own_m, added_or_long}
 use Rattle.dia_text.proofs.ValidFields.{CodeFits, HasFields, read_fits, header_read}

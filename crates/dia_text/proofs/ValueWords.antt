@@ -67,4 +67,4 @@ from_word format bytes w v = record {
 pub hexadecimal_reads : (format : Option PlainFormat) (bytes : List ℕ) → AreBytes bytes → ReadsBack format bytes (hexadecimal bytes)
 hexadecimal_reads format bytes h =
     from_word format bytes (hexadecimal bytes)
-    (record { word = hexadecimal_word bytes; flags = refl; len = refl; brace = refl; family = refl; reads = bytes_back bytes h })
+    (record { word = hexadecimal_word bytes h; flags = refl; len = refl; brace = refl; family = refl; reads = bytes_back bytes h })

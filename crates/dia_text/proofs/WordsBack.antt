@@ -1,5 +1,5 @@
 -- The words of a line that is written, read back one after the other; and the lines of a text.
-use Rattle.std.proofs.Common.{◌≡◌, ℕ, suc, ◌+◌, ◌/◌, ◌%◌, ◌^◌, ◌<◌, ◌==◌, ◌&&◌, nat_le, not, Bool, true, false, cond, List, [], ◌∷◌, ◌++◌, length, drop, take_while, flat_map, refl, sym, ap, ◌∙◌, append_assoc, arith}
+use Rattle.std.proofs.Common.{◌≡◌, ℕ, suc, ◌+◌, ◌/◌, ◌%◌, ◌^◌, ◌<◌, ◌==◌, ◌&&◌, nat_le, not, Bool, true, false, cond, if◌then◌else◌, List, [], ◌∷◌, ◌++◌, length, take, drop, flat_map, refl, sym, ap, ◌∙◌, append_assoc, arith}
 use Rattle.std.specs.List.{AllByRecursion, list_all, prefix_len}
 use Rattle.std.specs.Char.{is_ascii_digit}
 use Rattle.std.specs.Fmt.{decimal}
@@ -10,15 +10,15 @@ use Rattle.std.proofs.lemmas.List.{take_at, drop_at}
 use Rattle.std.proofs.lemmas.List.Elements.{All-from_recursion}
 use Rattle.std.proofs.lemmas.List.Splits.{slice_split_at}
 use Rattle.dia_data.specs.Shown.{hex_digit, hex_byte, hexadecimal}
-use Rattle.dia_text.specs.Words.{is_blank, is_word_byte, unblanked, first_word, after_word}
+use Rattle.dia_text.specs.Words.{is_blank, is_mark, is_word_byte, unblanked, word_length, first_word, after_word}
 use Rattle.dia_text.specs.Made.{lines}
 use Rattle.dia_text.specs.LineTexts.{spaced}
 use Rattle.dia_text.specs.TextOf.{fed}
 use Rattle.dia_text.proofs.NumbersOfWords.{digits_model}
 
--- a byte above `#`, but not `;`
+-- a byte above `#`, but neither `;` nor a mark
 abbrev pub is_sign : ℕ → Bool
-is_sign c = nat_le 36 c && not (c == 59)
+is_sign c = (nat_le 36 c && not (c == 59)) && not (is_mark c)
 
 pub record IsWord (w : List ℕ) : Type 0 where
   pub some : 0 < length w
@@ -31,6 +31,9 @@ AreWords ws = AllByRecursion IsWord ws
 
 sign_in_word : (c : ℕ) → is_sign c ≡ true → is_word_byte c ≡ true
 sign_in_word c sign = grind (arith, nat_tests)
+
+sign_is_no_mark : (c : ℕ) → is_sign c ≡ true → is_mark c ≡ false
+sign_is_no_mark c sign = grind (arith, nat_tests)
 
 sign_is_no_blank : (c : ℕ) → is_sign c ≡ true → is_blank c ≡ false
 sign_is_no_blank c sign = grind (arith, nat_tests)
@@ -53,18 +56,21 @@ signs_append (c ∷ a) b h k =
 pub decimal_word : (n : ℕ) → n < 2 ^ 64 → IsWord (decimal n)
 decimal_word n fits = record { some = decimal_nonempty n fits; signs = digits_are_signs (decimal n) (digits_decimal digits_model n fits) }
 
-digit_sign : (n : ℕ) → is_sign (hex_digit n) ≡ true
-digit_sign n = grind (arith, nat_tests)
+digit_sign : (n : ℕ) → n < 16 → is_sign (hex_digit n) ≡ true
+digit_sign n small = grind (arith, nat_tests)
 
-hex_signs : (bytes : List ℕ) → list_all is_sign (flat_map hex_byte bytes) ≡ true
-hex_signs [] = refl
-hex_signs (b ∷ bytes) = and_from _ _ (digit_sign (b / 16)) (and_from _ _ (digit_sign (b % 16)) (hex_signs bytes))
+abbrev AreSmall : List ℕ → Type 0
+AreSmall bytes = AllByRecursion (λ (b : ℕ). b < 256) bytes
 
-pub hexadecimal_word : (bytes : List ℕ) → IsWord (hexadecimal bytes)
-hexadecimal_word bytes = record { some = omega arith; signs = hex_signs bytes }
+hex_signs : (bytes : List ℕ) → AreSmall bytes → list_all is_sign (flat_map hex_byte bytes) ≡ true
+hex_signs [] small = refl
+hex_signs (b ∷ bytes) (first, small) = and_from _ _ (digit_sign (b / 16) (omega (arith, first))) (and_from _ _ (digit_sign (b % 16) (omega arith)) (hex_signs bytes small))
 
-pub hex_byte_word : (b : ℕ) → IsWord (hex_byte b)
-hex_byte_word b = record { some = omega arith; signs = and_from _ _ (digit_sign (b / 16)) (and_from _ _ (digit_sign (b % 16)) refl) }
+pub hexadecimal_word : (bytes : List ℕ) → AreSmall bytes → IsWord (hexadecimal bytes)
+hexadecimal_word bytes small = record { some = omega arith; signs = hex_signs bytes small }
+
+pub hex_byte_word : (b : ℕ) → b < 256 → IsWord (hex_byte b)
+hex_byte_word b small = record { some = omega arith; signs = and_from _ _ (digit_sign (b / 16) (omega (arith, small))) (and_from _ _ (digit_sign (b % 16) (omega arith)) refl) }
 
 -- ---- reading
 
@@ -77,27 +83,33 @@ unblanked_word (c ∷ w) rest h =
     let other : is_blank c ≡ false = sign_is_no_blank c (and_parts (is_sign c) (list_all is_sign w) h.signs).0 in
     ap (λ (b : Bool). drop (cond b (1 + prefix_len is_blank (w ++ rest)) 0) (c ∷ (w ++ rest))) other
 
-word_length : (w : List ℕ) (ws : List (List ℕ)) → list_all is_sign w ≡ true → prefix_len is_word_byte (w ++ spaced ws) ≡ length w
-word_length [] [] all = refl
-word_length [] (x ∷ ws) all = refl
-word_length (c ∷ w) ws all =
+letters_length : (w : List ℕ) (ws : List (List ℕ)) → list_all is_sign w ≡ true → prefix_len is_word_byte (w ++ spaced ws) ≡ length w
+letters_length [] [] all = refl
+letters_length [] (x ∷ ws) all = refl
+letters_length (c ∷ w) ws all =
     let parts = and_parts (is_sign c) (list_all is_sign w) all in
     let here = sign_in_word c parts.0 in
-    let rest = word_length w ws parts.1 in
+    let rest = letters_length w ws parts.1 in
     rw (here, rest) (omega arith)
 
+length_is : (w : List ℕ) (ws : List (List ℕ)) → IsWord w → word_length (w ++ spaced ws) ≡ length w
+length_is [] ws h = absurd (let some = h.some in omega (arith, some))
+length_is (c ∷ w) ws h =
+    let other : is_mark c ≡ false = sign_is_no_mark c (and_parts (is_sign c) (list_all is_sign w) h.signs).0 in
+    ap (λ (b : Bool). if b then 1 else prefix_len is_word_byte (c ∷ (w ++ spaced ws))) other ∙ letters_length (c ∷ w) ws h.signs
+
 pub first_is : (w : List ℕ) (ws : List (List ℕ)) → IsWord w → first_word (w ++ spaced ws) ≡ w
-first_is w ws h = ap (take_while is_word_byte) (unblanked_word w (spaced ws) h) ∙ take_at w (spaced ws) _ (sym (word_length w ws h.signs))
+first_is w ws h = ap (λ (t : List ℕ). take (word_length t) t) (unblanked_word w (spaced ws) h) ∙ take_at w (spaced ws) _ (sym (length_is w ws h))
 
 pub after_is : (w : List ℕ) (ws : List (List ℕ)) → IsWord w → after_word (w ++ spaced ws) ≡ spaced ws
 after_is w ws h =
-    ap (λ (t : List ℕ). drop (prefix_len is_word_byte t) t) (unblanked_word w (spaced ws) h) ∙ drop_at w (spaced ws) _ (sym (word_length w ws h.signs))
+    ap (λ (t : List ℕ). drop (word_length t) t) (unblanked_word w (spaced ws) h) ∙ drop_at w (spaced ws) _ (sym (length_is w ws h))
 
 pub next_is : (w : List ℕ) (ws : List (List ℕ)) → IsWord w → first_word (spaced (w ∷ ws)) ≡ w
-next_is w ws h = ap (take_while is_word_byte) (blank_first (w ++ spaced ws)) ∙ first_is w ws h
+next_is w ws h = ap (λ (t : List ℕ). take (word_length t) t) (blank_first (w ++ spaced ws)) ∙ first_is w ws h
 
 pub after_next : (w : List ℕ) (ws : List (List ℕ)) → IsWord w → after_word (spaced (w ∷ ws)) ≡ spaced ws
-after_next w ws h = ap (λ (t : List ℕ). drop (prefix_len is_word_byte t) t) (blank_first (w ++ spaced ws)) ∙ after_is w ws h
+after_next w ws h = ap (λ (t : List ℕ). drop (word_length t) t) (blank_first (w ++ spaced ws)) ∙ after_is w ws h
 
 -- ---- lines
 

@@ -14,7 +14,8 @@ use Rattle.dia_text.specs.declared.draft.Opened.{Opened}
 use Rattle.dia_text.specs.declared.line.Head.{Head}
 use Rattle.dia_text.specs.Lines.{header_of}
 use Rattle.dia_text.specs.Drafts.{Level, Frame, Occurs}
-use Rattle.dia_text.specs.Made.{lines, fault_in, fault_at, no_level, line_added, is_empty, has_word}
+use Rattle.dia_text.specs.Made.{lines, fault_in, fault_at, line_added, is_empty, has_word}
+use Rattle.dia_text.specs.Drafts.{no_level}
 
 -- the most faults that are reported with their places
 abbrev pub max_faults : ℕ

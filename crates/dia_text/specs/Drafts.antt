@@ -9,7 +9,7 @@ use Rattle.dia_text.specs.declared.fault.Misread.{Misread}
 use Rattle.dia_text.specs.declared.draft.Opened.{Opened}
 use Rattle.dia_text.specs.declared.line.Head.{Head}
 use Rattle.dia_text.specs.Reading.{◌>>=◌, Fails}
-use Rattle.dia_text.specs.Lines.{PlainLine, Blank, Leaf, Open, Close}
+use Rattle.dia_text.specs.PlainLines.{PlainLine, Blank, Leaf, Open, Close}
 
 -- the bytes of an AVP before its data (RFC 6733 section 4.1)
 abbrev pub front_bytes : Head → ℕ → List ℕ
@@ -41,6 +41,9 @@ pub record Frame : Type 0 where
 pub record Level : Type 0 where
   pub outer : List Frame
   pub bytes : List ℕ
+
+abbrev pub no_level : Level
+no_level = record { outer = []; bytes = [] }
 
 abbrev pub closed : List Frame → List ℕ → Option (List ℕ) → Result Level Kind
 closed [] bytes pad = Err Braces

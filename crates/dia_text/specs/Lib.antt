@@ -7,8 +7,11 @@ pub mod Fields
 pub mod Keys
 pub mod Values
 pub mod ValueParts
-pub mod Lines
+pub mod PlainLines
 pub mod Drafts
+pub mod Avps
+pub mod Groups
+pub mod Lines
 pub mod Made
 pub mod AllFaults
 pub mod LineTexts

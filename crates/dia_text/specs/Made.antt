@@ -16,12 +16,11 @@ use Rattle.dia_text.specs.declared.fault.Fault.{Fault}
 use Rattle.dia_text.specs.declared.fault.NotMade.{NotMade}
 use Rattle.dia_text.specs.declared.fault.NotMade.TheVariants as not_made
 use Rattle.std.specs.Global.{Vec}
-use Rattle.dia_text.specs.declared.draft.Opened.{Opened}
-use Rattle.dia_text.specs.declared.line.Head.{Head}
-use Rattle.dia_text.specs.Words.{unblanked, first_word}
-use Rattle.dia_text.specs.Reading.{◌>>=◌, FailsAt, misfit}
-use Rattle.dia_text.specs.Lines.{PlainLine, Blank, Leaf, Open, Close, head_at, line_of, header_of}
-use Rattle.dia_text.specs.Drafts.{Level, Frame, Occurs, added}
+use Rattle.dia_text.specs.Words.{first_word}
+use Rattle.dia_text.specs.Reading.{◌>>=◌}
+use Rattle.dia_text.specs.Drafts.{Level, Frame, added, no_level}
+use Rattle.dia_text.specs.Avps.{in_line}
+use Rattle.dia_text.specs.Lines.{line_of, header_of}
 
 abbrev pub lines : List ℕ → List (List ℕ)
 lines text = slice_split (λ b. b == 10) text
@@ -38,9 +37,6 @@ fault_at n kind wanted = record { kind = kind; line = n; at = None; wanted = wan
 abbrev pub further : ℕ → Fault → Fault
 further n f = record { kind = f.kind; line = n + f.line; at = f.at; wanted = f.wanted }
 
-abbrev pub no_level : Level
-no_level = record { outer = []; bytes = [] }
-
 abbrev pub finished : Header → List Frame → List ℕ → ℕ → Result (List ℕ) Fault
 finished header (f ∷ fs) bytes n = Err (fault_at n Braces want.ClosingBrace)
 finished header [] bytes n =
@@ -50,39 +46,9 @@ abbrev pub step : Result Level Misfit → List ℕ → ℕ → (Level → Result
 step (Ok level) l n more = more level
 step (Err m) l n more = Err (fault_in l n m)
 
--- how many bytes of a line are left from the value of its AVP on
-abbrev pub value_left : Result (Head × List ℕ) Misfit → ℕ
-value_left (Ok x) = length (unblanked x.1)
-value_left (Err m) = m.left
-
--- what could be in place of a closing brace
-abbrev pub brace_wanted : Kind → Wanted
-brace_wanted Braces = want.OpenGroup
-brace_wanted kind = want.ShorterGroup
-
--- a value with more data than an AVP has
-abbrev pub value_misfit : Dictionary → List ℕ → Kind → Misfit
-value_misfit d l kind = record { kind = kind; wanted = want.ShorterData; left = value_left (head_at d l) }
-
--- a line that can be read, and can't be added: a closing brace, or a value
-abbrev pub line_misfit : Dictionary → List ℕ → PlainLine → Kind → Misfit
-line_misfit d l (Close pad) kind = misfit l (brace_wanted kind) kind
-line_misfit d l Blank kind = value_misfit d l kind
-line_misfit d l (Leaf head bytes pad) kind = value_misfit d l kind
-line_misfit d l (Open head) kind = value_misfit d l kind
-
-abbrev pub in_line : Dictionary → List ℕ → PlainLine → Result Level Kind → Result Level Misfit
-in_line d l line (Ok level) = Ok level
-in_line d l line (Err kind) = Err (line_misfit d l line kind)
-
 -- what a line adds
 abbrev pub line_added : Dictionary → List ℕ → Level → Result Level Misfit
 line_added d l level = line_of d l >>= λ line. in_line d l line (added level line)
-
--- the line was added, unless memory was refused
-abbrev pub IsTaken : Result Level Misfit → Result (Unit {0}) NotRead → List ℕ → List Opened → Type 0
-IsTaken read (Ok u) out groups = (level : Level) × (read ≡ Ok level) × Occurs level.outer level.bytes out groups
-IsTaken read (Err e) out groups = FailsAt e read
 
 -- the lines after the first n, which end with the line of the header
 abbrev pub body_from : Dictionary → Header → ℕ → List (List ℕ) → Level → Result (List ℕ) Fault

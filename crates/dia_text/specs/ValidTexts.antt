@@ -16,7 +16,8 @@ use Rattle.dia_text.specs.declared.fault.Kind.TheVariants.{Limit}
 use Rattle.dia_text.specs.declared.line.Head.{Head}
 use Rattle.dia_text.specs.declared.commands.Start.{Start}
 use Rattle.dia_text.specs.Keys.{entry_at, default_flags, command_named}
-use Rattle.dia_text.specs.Lines.{Blank, Leaf, Open, Close, line_of, header_of}
+use Rattle.dia_text.specs.PlainLines.{Blank, Leaf, Open, Close}
+use Rattle.dia_text.specs.Lines.{line_of, header_of}
 use Rattle.dia_text.specs.Made.{lines}
 
 -- ---- dictionaries

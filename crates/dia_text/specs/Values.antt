@@ -1,7 +1,8 @@
 -- The data that a value writes, by the format of its AVP.
-use Rattle.std.specs.Prelude.{ℕ, ◌+◌, ◌^◌, ◌==◌, ◌&&◌, Bool, true, false, not, if◌then◌else◌, List, [], ◌∷◌, ◌++◌, length, take, drop, Option, Some, None, option_and_then, Result, Ok, Err, codes}
+use Rattle.std.specs.Prelude.{ℕ, ◌+◌, ◌^◌, ◌==◌, ◌&&◌, ◌||◌, Bool, true, false, not, if◌then◌else◌, List, [], ◌∷◌, ◌++◌, length, take, drop, Option, Some, None, is_some, option_and_then, Result, Ok, Err, codes}
 use Rattle.std.specs.Option.{option_map, option_map_or, option_or}
-use Rattle.std.specs.List.{prefix_len, slice_split}
+use Rattle.std.specs.List.{prefix_len, slice_split, list_any}
+use Rattle.std.specs.Char.{is_ascii_alphabetic}
 use Rattle.byteorder.specs.Endian.{big_bytes}
 use Rattle.hex.specs.Hex.{decode_sized}
 use Rattle.dia_terms.specs.Names.{same_bytes}
@@ -183,3 +184,43 @@ is_date_of bytes word = option_map_or (λ n. same_bytes (big_bytes 4 n) bytes) (
 -- what follows the date, where there is one
 abbrev pub after_date : Option PlainFormat → List ℕ → List ℕ → List ℕ
 after_date format bytes text = if is_time format && is_date_of bytes (first_word text) then after_word text else text
+
+-- ---- the word after a number
+
+abbrev pub is_number : FormatKind → Bool
+is_number (of_format.FourBytes Signed) = true
+is_number (of_format.FourBytes Unsigned) = true
+is_number (of_format.EightBytes Signed) = true
+is_number (of_format.EightBytes Unsigned) = true
+is_number of_format.Enumerated = true
+is_number kind = false
+
+-- formats of numbers but Time, whose number a date may follow
+abbrev pub takes_remark : Option PlainFormat → Bool
+takes_remark (Some (FourBytes Time)) = false
+takes_remark (Some format) = is_number (kind_of format)
+takes_remark None = false
+
+-- bytes, or a text
+abbrev pub begins_value : List ℕ → Bool
+begins_value [] = false
+begins_value (c ∷ cs) = c == 120 || c == 34
+
+abbrev pub is_keyword : List ℕ → Bool
+is_keyword word = (same_bytes word (codes "flags") || same_bytes word (codes "length")) || same_bytes word (codes "pad")
+
+-- bytes, a text, a number, or a date
+abbrev pub is_value : List ℕ → Bool
+is_value word = (begins_value word || is_some (any_number word)) || is_some (time_of word)
+
+-- a word for the reader of a text: it has a letter, and is neither a value nor a keyword
+abbrev pub is_remark : List ℕ → Bool
+is_remark word = list_any is_ascii_alphabetic word && not (is_value word || is_keyword word)
+
+-- what follows the word after a number, where there is one
+abbrev pub after_remark : Option PlainFormat → List ℕ → List ℕ
+after_remark format text = if takes_remark format && is_remark (first_word text) then after_word text else text
+
+-- what follows the data's word and date
+abbrev pub after_note : Option PlainFormat → List ℕ → List ℕ → List ℕ
+after_note format bytes text = after_date format bytes (after_remark format text)

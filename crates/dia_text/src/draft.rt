@@ -5,7 +5,7 @@ ghost use Rattle.std.specs.Option.{option_map};
 ghost use Rattle.byteorder.specs.Endian.{big_bytes};
 ghost use Rattle.dia_wire.specs.Wire.{head_length};
 ghost use Rattle.dia_wire.specs.Written.{padding, vendor_bytes};
-ghost use Rattle.dia_text.specs.Lines.{plain_line, Open, Close};
+ghost use Rattle.dia_text.specs.PlainLines.{plain_line, Open, Close};
 ghost use Rattle.dia_text.specs.AllFaults.{IsLeft};
 ghost use Rattle.dia_text.specs.Drafts.{front_bytes, length_of, end_bytes, avp_of};
 ghost use Rattle.dia_text.specs.Drafts.{Level, Occurs, IsAppended, IsAdded, added};

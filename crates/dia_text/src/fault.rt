@@ -93,9 +93,11 @@ pub enum Wanted {
     BytesOfUnknown,
     /// No word more.
     LineEnd,
+    /// A comma, or the closing brace of a group on one line.
+    NextMember,
     /// Another line than a closing brace, since no group is open.
     OpenGroup,
-    /// A closing brace, since a group is open where the text ends.
+    /// A closing brace, since a group is open where the text ends, or on one line where this ends.
     ClosingBrace,
     /// Less data in a value: an AVP Length is below 2^24.
     ShorterData,

@@ -2,20 +2,19 @@
 ghost use Rattle.std.specs.Prelude.{◌≡◌, ◌<◌, ◌≤◌, ◌^◌, ◌++◌};
 ghost use Rattle.std.specs.Prelude.{IfOk, IfErr, OnOk, length, drop, map};
 ghost use Rattle.dia_wire.specs.Written.{header_bytes};
-ghost use Rattle.dia_text.specs.Drafts.{Level, Occurs};
-ghost use Rattle.dia_text.specs.Made.{lines, made, body_from, no_level, finished};
-ghost use Rattle.dia_text.specs.Made.{line_added, placed, IsMade, IsBegun, IsTaken, IsWithin, message_from};
-ghost use Rattle.dia_text.specs.Made.{fault_at, fault_in, brace_wanted, line_misfit, value_misfit};
+ghost use Rattle.dia_text.specs.Drafts.{Level, Occurs, no_level};
+ghost use Rattle.dia_text.specs.Avps.{IsTaken};
+ghost use Rattle.dia_text.specs.Made.{lines, made, body_from, finished};
+ghost use Rattle.dia_text.specs.Made.{line_added, placed, IsMade, IsBegun, IsWithin, message_from};
+ghost use Rattle.dia_text.specs.Made.{fault_at, fault_in};
 ghost use Rattle.dia_text.specs.AllFaults.{IsLeftAt};
-ghost use Rattle.dia_text.specs.Lines.{plain_line, head_at};
 
-use crate::draft::{Opened, add, push_byte_and_u24, push_u32};
-use crate::fault::{Fault, Kind, Misfit, Misread, NotMade, NotRead, Wanted, misfit_at};
-use crate::line::Line;
-use crate::lines::{head_at, header_of, line_of};
+use crate::adding::add_part;
+use crate::draft::{Opened, push_byte_and_u24, push_u32};
+use crate::fault::{Fault, Kind, Misfit, NotMade, NotRead, Wanted};
+use crate::lines::{header_of, line_of};
 use crate::names::NamedBook;
 use crate::splitting::split;
-use crate::words::without_blanks;
 use dia_book::Book;
 use dia_wire::{HEADER_LENGTH, Header};
 use std::alloc::{AllocError, Global};
@@ -154,45 +153,7 @@ pub(crate) fn take_line<B: Book>(
     ensures groups { IsLeftAt result groups.old.items groups.new.items }
 {
     let line = line_of(alloc, named, text)?;
-    match add(alloc, out, groups, &line) {
-        Ok(()) => Ok(()),
-        Err(Misread::Fault(kind)) => Err(NotRead::Misfit(line_misfit(named, text, &line, kind))),
-        Err(Misread::NoMemory) => Err(NotRead::NoMemory),
-    }
-}
-
-/// Why a line that was read can't be added.
-fn line_misfit<B: Book>(named: &NamedBook<'_, B>, text: &[u8], line: &Line, kind: Kind) -> Misfit
-    ensures { result ≡ line_misfit named.now text.now (plain_line line.now) kind }
-{
-    match line {
-        Line::Close(_) => misfit_at(text, brace_wanted(kind), kind),
-        Line::Blank | Line::Leaf(..) | Line::Open(_) => value_misfit(named, text, kind),
-    }
-}
-
-/// The value of a line is at fault.
-fn value_misfit<B: Book>(named: &NamedBook<'_, B>, text: &[u8], kind: Kind) -> Misfit
-    ensures { result ≡ value_misfit named.now text.now kind }
-{
-    let left = match head_at(named, text) {
-        Ok((_, rest)) => without_blanks(rest).len(),
-        Err(misfit) => misfit.left,
-    };
-    Misfit {
-        kind,
-        wanted: Wanted::ShorterData,
-        left,
-    }
-}
-
-fn brace_wanted(kind: Kind) -> Wanted
-    ensures { result ≡ brace_wanted kind }
-{
-    match kind {
-        Kind::Braces => Wanted::OpenGroup,
-        Kind::Syntax | Kind::Name | Kind::Value | Kind::Limit => Wanted::ShorterGroup,
-    }
+    add_part(alloc, named, out, groups, text, &line)
 }
 
 /// The message of a header and these AVPs, if no group is open.

@@ -2,14 +2,12 @@
 ghost use Rattle.std.specs.Prelude.{◌≡◌, ◌==◌, ◌<◌, ◌^◌, ◌++◌, IfSome, Err, if◌then◌else◌, map, option_copied};
 ghost use Rattle.std.specs.Option.{option_map, option_or};
 ghost use Rattle.byteorder.specs.Endian.{big_bytes};
-ghost use Rattle.dia_terms.specs.Names.{same_bytes};
 ghost use Rattle.std.specs.List.{slice_split};
 ghost use Rattle.dia_data.specs.Plain.{plain_format};
 ghost use Rattle.dia_text.specs.declared.fault.Kind.TheVariants.{Value};
 ghost use Rattle.dia_text.specs.Words.{unblanked, first_word, after_letter};
 ghost use Rattle.dia_text.specs.Numbers.{number_below, any_below};
 ghost use Rattle.dia_text.specs.Dates.{time_of};
-ghost use Rattle.dia_text.specs.Values.{after_date, is_time, is_date_of};
 ghost use Rattle.dia_text.specs.Reading.{Gives, Reads, some_or, at_word};
 ghost use Rattle.dia_text.specs.Values.{value_at, words_at, text_at, family_at, value_of, formatted};
 ghost use Rattle.dia_text.specs.Values.{number_bytes, address_of, in_family, each, unescaped};
@@ -252,44 +250,6 @@ fn time_number(word: &[u8]) -> Option<u64>
         Some(number) => Some(number),
         None => Some(u64::from(time_of(word)?)),
     }
-}
-
-/// What follows the date of a Time after its number, where there is one.
-pub(crate) fn after_date<'a>(format: Option<&Format>, bytes: &[u8], text: &'a [u8]) -> &'a [u8]
-    ensures { result.now ≡ after_date
-        (option_map (λ format. plain_format format.now) format.entry) bytes.now text.entry.now }
-{
-    let (word, following) = next_word(text);
-    if is_time(format) && is_date_of(bytes, word) {
-        following
-    } else {
-        text
-    }
-}
-
-fn is_time(format: Option<&Format>) -> bool
-    ensures { result ≡ is_time (option_map (λ format. plain_format format.now) format.entry) }
-{
-    matches!(format, Some(Format::Time))
-}
-
-/// Whether a word is the date of this data.
-fn is_date_of(bytes: &[u8], word: &[u8]) -> bool
-    ensures { result ≡ is_date_of bytes.now word.now }
-{
-    match time_of(word) {
-        Some(number) => is_number(number, bytes),
-        None => false,
-    }
-}
-
-/// Whether these are the four bytes of a number.
-fn is_number(number: u32, bytes: &[u8]) -> bool
-    ensures { result ≡ same_bytes (big_bytes 4 number) bytes.now }
-{
-    let mut four = [0; 4];
-    BigEndian::write_u32(&mut four, number);
-    four.as_slice() == bytes
 }
 
 fn formatted_as(alloc: Global, kind: FormatKind, word: &[u8]) -> Result<Vec<u8>, Misread>

@@ -15,6 +15,9 @@ Origin-Host x61\n264 x6 => 2; name at line 1; value at line 2
 # A faulty line whose last byte is a brace opens a group all the same.
 $H\nNests {\n264 x61\n} => 1; name at line 2
 $H\nNests { # one\n264 x61\n} => 2; name at line 2; braces at line 4
+# A group on one line is left out with its braces.
+$H\nNest {\nNest { 264 x6 }\n264 x61\n} => 1; value at line 3
+$H\nNest { 264 x61, Nest {\n264 x61\n} => 1; braces at line 2
 # An empty line ends a message.
 $H\nNest {\n\n264 x61\n} => 3; braces at line 2; name at line 4; braces at line 5
 code 1\n\ncode 2\n\n$H\n264 x6 => 3; syntax at line 1; syntax at line 3; value at line 6

@@ -82,8 +82,6 @@ $H\nNest {\n}\n} => braces at line 4
 $H\nNest { => braces at line 2
 $H\nNest {\n => braces at line 3
 $H\nNest {\nNest {\n}\n => braces at line 5
-$H\nNest { } => syntax at line 2
-$H\nNest { 264 x61 } => syntax at line 2
 $H\nNest {\n264 x61 } => syntax at line 3
 $H\nNest {\n} } => syntax at line 3
 $H\nNest {\n} pad => syntax at line 3
@@ -91,7 +89,24 @@ $H\nNest {\n} x => syntax at line 3
 $H\nNest\n{\n} => syntax at line 2
 $H\n{ => name at line 2
 $H\nNest pad x00 {\n} => value at line 2
-$H\nNest {} => value at line 2
+
+# A group on one line has commas between its members, and its closing brace on the line.
+$H\nNest { 264 x61 => syntax at line 2
+$H\nNest { 264 x61\n} => syntax at line 2
+$H\nNest { 264 x61, => braces at line 2
+$H\nNest { Nest { => braces at line 2
+$H\nNest { Nest { } => syntax at line 2
+$H\nNest { 264 x61 264 x62 } => syntax at line 2
+$H\nNest { Nest { } 264 x61 } => syntax at line 2
+$H\nNest { 264 x61,, 264 x62 } => name at line 2
+$H\nNest { , } => name at line 2
+$H\nNest { Origin-Realm x61 } => name at line 2
+$H\nNest { 264 x6 } => value at line 2
+$H\nNest { 264 } => value at line 2
+$H\nNest { } } => syntax at line 2
+$H\nNest { 264 x61 } 264 x62 => syntax at line 2
+$H\n264 x61, 264 x62 => syntax at line 2
+$H\n, 264 x61 => name at line 2
 
 # The first fault is reported, also where a later line has another.
 $H\n264 x61\nOrigin-Realm x61\n} => name at line 3

@@ -85,6 +85,29 @@ $H\nValue-Digits -1 => $I64 ffffffffffffffff
 $H\nValue-Digits 9223372036854775808 => value at line 2
 $H\nValue-Digits -9223372036854775809 => value at line 2
 
+# A word after a number is for the reader. It has a letter, and is neither a value, a date nor a keyword.
+$H\nCC-Request-Type 1 INITIAL_REQUEST => $ENUM 00000001
+$H\nCC-Request-Type -1 none pad x00 => 01000021 $B 000001a0 4000000c ffffffff 00
+$H\nCC-Request-Type x00000001 INITIAL_REQUEST => $ENUM 00000001
+$H\nCC-Request-Number 0x1a 3GPP-GPRS#one => $U32 0000001a
+$H\nExponent -2 H(E)NB => $I32 fffffffe
+$H\nCC-Total-Octets 1 G.3_Fax => $U64 0000000000000001
+$H\nValue-Digits -1 X.25 => $I64 ffffffffffffffff
+$H\nCharge 1 one => 01000024 $B 0000232e c0000010 00007ed9 00000001
+$H\nCC-Request-Type INITIAL_REQUEST => value at line 2
+$H\nCC-Request-Type 1 2 => syntax at line 2
+$H\nCC-Request-Type 1 0x2 => syntax at line 2
+$H\nCC-Request-Type 1 x02 => syntax at line 2
+$H\nCC-Request-Type 1 \x22one\x22 => syntax at line 2
+$H\nCC-Request-Type 1 flags M => syntax at line 2
+$H\nCC-Request-Type 1 length 12 => syntax at line 2
+$H\nCC-Request-Type 1 pad => syntax at line 2
+$H\nCC-Request-Type 1 one two => syntax at line 2
+$H\nEvent-Timestamp 1 one => syntax at line 2
+$H\nRatio x00000000 one => syntax at line 2
+$H\nSession-Id \x22a\x22 one => syntax at line 2
+$H\n9999 x01 one => syntax at line 2
+
 # Digits for any AVP, also of a length that its format can't have.
 $H\nCC-Request-Number x0102 => 01000020 $B 0000019f 4000000a 0102 0000
 $H\nCC-Request-Number x00000102 => $U32 00000102

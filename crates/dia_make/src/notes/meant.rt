@@ -32,8 +32,10 @@ pub enum Meant {
     Number,
     /// A line that `show` prints.
     Shown,
-    /// A word that `show --values` prints after a number.
-    Word,
+    /// A comma after an AVP that is in no group on one line.
+    Comma,
+    /// The next member of a group on one line, without a comma before it.
+    Member,
 }
 
 /// What may be meant by a word in place of what is wanted. `line` has the word, and `before` is the text before the line.
@@ -53,34 +55,10 @@ pub fn meant_of(wanted: Wanted, word: &[u8], line: &[u8], before: &[u8]) -> Mean
         | Wanted::Group
         | Wanted::Address
         | Wanted::Bytes => meant_number(word),
-        Wanted::LineEnd if is_name(word) && follows_number(line, word) => Meant::Word,
+        Wanted::LineEnd if word == b",".as_slice() => Meant::Comma,
+        Wanted::NextMember if !word.is_empty() => Meant::Member,
         _ => Meant::Nothing,
     }
-}
-
-/// Whether a word begins with a letter, and goes on with letters, digits, dashes and low lines.
-fn is_name(word: &[u8]) -> bool {
-    let [first, ..] = word else {
-        return false;
-    };
-    first.is_ascii_alphabetic()
-        && word.iter().all(|byte| byte.is_ascii_alphanumeric() || matches!(byte, b'-' | b'_'))
-}
-
-/// Whether a word follows a decimal number on its line, other than the last one of a header.
-fn follows_number(line: &[u8], word: &[u8]) -> bool {
-    let mut is_after = false;
-    let mut is_of_end = false;
-    for other in line.split(|byte| matches!(byte, b' ' | b'\t' | b'\r')) {
-        if !other.is_empty() {
-            if is_after && other == word {
-                return true;
-            }
-            is_after = !is_of_end && other.iter().all(|byte| byte.is_ascii_digit());
-            is_of_end = other == b"end".as_slice();
-        }
-    }
-    false
 }
 
 fn meant_number(word: &[u8]) -> Meant {

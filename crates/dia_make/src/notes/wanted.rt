@@ -32,6 +32,7 @@ pub fn words_of(wanted: Wanted) -> &'static str {
         Wanted::AnyValue => "a value, or `{` for the members of a group",
         Wanted::Family => "the number of an address family, at most 65535",
         Wanted::LineEnd => "the end of the line",
+        Wanted::NextMember => "`,` and the next member of the group, or `}`",
         Wanted::OpenGroup => "an AVP or the end of the text, as no group is open",
         Wanted::ClosingBrace => "} for a group that is open",
         Wanted::ShorterData => "less data: an AVP has at most 16777215 bytes",

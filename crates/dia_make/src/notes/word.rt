@@ -1,11 +1,12 @@
 //! The word at a place of a text.
 
-/// The word that begins at a place. A text in quotes is one word, also where its closing quote is missing. The word is empty at a
-/// comment and at the end of a line.
+/// The word that begins at a place. A text in quotes is one word, also where its closing quote is missing, and so is a brace or a
+/// comma. The word is empty at a comment and at the end of a line.
 pub fn word_at(text: &[u8], at: usize) -> &[u8] {
     let rest = text.get(at..).unwrap_or(b"".as_slice());
     let length = match rest {
         [b'"', following @ ..] => quoted_length(following),
+        [first, ..] if is_mark(*first) => 1,
         _ => rest.iter().take_while(|byte| is_of_word(**byte)).count(),
     };
     rest.get(..length).unwrap_or(rest)
@@ -22,7 +23,11 @@ fn quoted_length(following: &[u8]) -> usize {
 }
 
 fn is_of_word(byte: u8) -> bool {
-    !matches!(byte, b' ' | b'\t' | b'\r' | b'\n' | b'#' | b';')
+    !is_mark(byte) && !matches!(byte, b' ' | b'\t' | b'\r' | b'\n' | b'#' | b';')
+}
+
+fn is_mark(byte: u8) -> bool {
+    matches!(byte, b'{' | b'}' | b',')
 }
 
 /// The place after the last word of the line that begins at a place: that of its comment, or of its end.

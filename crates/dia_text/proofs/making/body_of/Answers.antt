@@ -1,7 +1,8 @@
 use Rattle.std.proofs.Common.{◌≡◌, arith, ◌+◌, ◌∙◌, List, ℕ, Bor, Result, length, map, refl, ap, sym, subst}
 use Rattle.std.proofs.lemmas.List.{length-map}
 use Rattle.dia_text.specs.declared.fault.Fault.{Fault}
-use Rattle.dia_text.specs.Made.{finished, IsMade, no_level}
+use Rattle.dia_text.specs.Made.{finished, IsMade}
+use Rattle.dia_text.specs.Drafts.{no_level}
 use Rattle.dia_text.proofs.Parts.{within_more}
 use Rattle.dia_text.proofs.LinesOfTexts.{front, next_line, bad_line, last_line, misses_same}
 use Rattle.dia_text.proofs.making.body_of.Goals as goal

@@ -1,6 +1,7 @@
 use Rattle.std.proofs.Common.{◌≡◌, ℕ, List, map, drop, Bor}
 use Rattle.dia_text.specs.Drafts.{Level, Occurs}
-use Rattle.dia_text.specs.Made.{body_from, no_level}
+use Rattle.dia_text.specs.Made.{body_from}
+use Rattle.dia_text.specs.Drafts.{no_level}
 use Rattle.dia_text.proofs.making.body_of.Given as goal
 
 abbrev pub invariant-loop-index : goal.invariant-loop-index
