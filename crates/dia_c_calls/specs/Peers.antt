@@ -1,5 +1,5 @@
 -- One end of a connection, as programs in C open it.
-use Rattle.std.specs.Prelude.{◌≡◌, ◌≢◌, ℕ, ◌⊎◌, List, [], map, take, Option, Some, None, nat_eq, if◌then◌else◌}
+use Rattle.std.specs.Prelude.{◌≡◌, ◌≢◌, false, ℕ, ◌⊎◌, List, [], map, take, Option, Some, None, nat_eq, if◌then◌else◌}
 use Rattle.std.specs.Str.{IsUtf8}
 use Rattle.dia_peer.specs.declared.config.Role.{Role}
 use Rattle.dia_peer.specs.declared.config.Role.TheVariants.{Initiator, Responder}
@@ -30,7 +30,7 @@ abbrev pub IsManner : ℕ → Type 0
 IsManner n = (n ≡ 0) ⊎ (n ≡ 1)
 
 abbrev pub manner_of : ℕ → Manner
-manner_of n = record { relays = nat_eq n 1 }
+manner_of n = record { relays = nat_eq n 1; life = false; values = false }
 
 -- an IPv4 address has the first four of the bytes
 abbrev pub ip_of : PeerAddress → Ip

@@ -25,8 +25,16 @@ pub fn manner_of(manner: u32) -> Option<Manner>
     ensures none { result ≡ None → ¬ IsManner manner }
 {
     match manner {
-        0 => Some(Manner { relays: false }),
-        1 => Some(Manner { relays: true }),
+        0 => Some(Manner {
+            relays: false,
+            life: false,
+            values: false,
+        }),
+        1 => Some(Manner {
+            relays: true,
+            life: false,
+            values: false,
+        }),
         _ => None,
     }
 }

@@ -5,7 +5,9 @@ ghost use Rattle.dia_peer.specs.Messages.{after};
 ghost use Rattle.dia_peer.specs.Table.{without_next};
 ghost use Rattle.dia_peer.specs.World.{idle};
 
+mod life;
 mod on_message;
+mod values;
 
 use crate::codes::RELAY;
 use crate::config::{Config, ConfigFault, Kind, Manner, Role};
@@ -14,6 +16,7 @@ use crate::kept_requests::{Ids, Taken};
 use crate::node::Node;
 use std::alloc::{AllocError, Global};
 use std::marker::Model;
+pub use values::Value;
 
 /// One end of a connection.
 ///
@@ -30,7 +33,13 @@ pub struct Core {
     last_dpr: Option<Ids>,
     /// A DWR waits for its answer.
     waits: bool,
+    /// A watchdog waited at a `Tick`, and nothing was heard since.
+    suspect: bool,
     taken: Option<Taken>,
+    /// The message in which the peer introduced itself: its CER, or its answer to ours.
+    met: Option<Vec<u8>>,
+    /// The DPR of the peer.
+    left: Option<Vec<u8>>,
 }
 
 impl Model for Core {
@@ -50,7 +59,10 @@ impl Model for Core {
       last_dwr = c.last_dwr;
       last_dpr = c.last_dpr;
       waits = c.waits;
+      suspect = c.suspect;
       taken = option_map taken_of c.taken;
+      met = option_map (λ bytes. bytes.items) c.met;
+      left = option_map (λ bytes. bytes.items) c.left;
     } };
 }
 
@@ -77,7 +89,12 @@ impl Core {
             × (core ≡ idle (plain_config config) role plain)) }
         ensures err { IfErr result (IsRefusedAs plain (plain_config config)) }
     {
-        Core::with(alloc, config, role, Manner { relays: false })
+        let manner = Manner {
+            relays: false,
+            life: false,
+            values: false,
+        };
+        Core::with(alloc, config, role, manner)
     }
 
     /// A core of a manner before its first event. All else is as in `new`.
@@ -106,7 +123,10 @@ impl Core {
             last_dwr: None,
             last_dpr: None,
             waits: false,
+            suspect: false,
             taken: None,
+            met: None,
+            left: None,
         })
     }
 
@@ -166,9 +186,9 @@ impl Core {
             Event::Start => self.starts(),
             Event::Bytes(bytes) => {
                 let what = self.node.received(bytes)?;
-                self.gets(bytes, what)
+                self.keeps(bytes, what)
             }
-            Event::Tick => self.ticks(),
+            Event::Tick => self.waits_on(),
             Event::Stop(cause) => self.stops(cause),
             Event::Lost => Ok(self.breaks()),
         }
