@@ -7,4 +7,10 @@ pub mod LoneAvps
 pub mod OwnKeys
 pub mod Answers
 pub mod Flags
+pub mod Those
+pub mod Orders
+pub mod Stocks
+pub mod Results
+pub mod Reasons
 pub mod Replies
+pub mod Building

@@ -2,6 +2,9 @@ pub mod Dictionaries
 pub mod Requests
 pub mod Contents
 pub mod Stocks
+pub mod Helds
+pub mod Bodies
+pub mod Sources
 pub mod Reports
 pub mod Names
 pub mod Outcome

@@ -1,26 +1,37 @@
 -- The answer to a request that reports its first fault (RFC 6733 sections 6.2, 7.1.5 and 7.2).
-use Rattle.std.specs.Prelude.{◌≡◌, ℕ, ◌/◌, ◌<◌, bit_and, bit_or, List, length, IfOk, Result, codes, Err, ⊤}
+use Rattle.std.specs.Prelude.{◌≡◌, ℕ, ◌/◌, ◌<◌, bit_and, bit_or, true, List, [], ◌∷◌, length, map, IfOk, Some, None, Result, codes, Err, slice_get, ⊤}
+use Rattle.std.specs.List.{list_all}
+use Rattle.dia_wire.specs.declared.Key.{Key}
 use Rattle.dia_wire.specs.declared.Header.{Header}
-use Rattle.dia_wire.specs.Wire.{PlainAvp, HasR, IsMessage}
+use Rattle.dia_wire.specs.Number.{IsField}
+use Rattle.dia_wire.specs.Wire.{PlainAvp, HasR, IsMessage, MessageWithZeros}
 use Rattle.dia_book.specs.declared.Class.{Class}
 use Rattle.dia_book.specs.declared.Class.TheVariants.{Answer, Error}
-use Rattle.dia_book.specs.Dictionary.{Dictionary}
+use Rattle.dia_book.specs.declared.DRule.{DRule}
+use Rattle.dia_book.specs.Dictionary.{AreRules, Dictionary, PlainDefinition, definitions, selected}
 use Rattle.dia_dict.specs.Base.{base}
 use Rattle.dia_terms.specs.declared.Unknown.{Unknown}
 use Rattle.dia_terms.specs.declared.Levels.{Levels}
 use Rattle.dia_valid.specs.Valid.{IsValid}
 use Rattle.dia_check.specs.declared.Fault.{Fault}
+use Rattle.dia_check.specs.declared.Reason.{Reason}
 use Rattle.dia_check.specs.declared.Refusal.TheVariants as refusal
 use Rattle.dia_check.specs.Faults.{IsAnswer, IsRecorded}
+use Rattle.dia_run.specs.Texts.{line}
+use Rattle.dia_run.specs.Verdict.{fault_line}
 use Rattle.dia_answer.specs.declared.forms.Form.{Form}
 use Rattle.dia_answer.specs.declared.forms.Form.TheVariants as form
 use Rattle.std.specs.declared.alloc.AllocError.{AllocError}
 use Rattle.dia_answer.specs.declared.forms.Made.{Made}
 use Rattle.dia_answer.specs.declared.contents.Contents.{Contents}
+use Rattle.dia_answer.specs.declared.contents.Extent.{Extent}
 use Rattle.dia_answer.specs.declared.forms.NoAnswer.{NoAnswer}
 use Rattle.dia_answer.specs.declared.forms.NoAnswer.TheVariants as no_answer
 use Rattle.dia_answer.specs.Dictionaries.{opaque}
-use Rattle.dia_answer.specs.Requests.{IsRequestHead}
+use Rattle.dia_answer.specs.Requests.{AreRequestAvps, IsOfHeader, IsRequestHead}
+use Rattle.dia_answer.specs.Stocks.{IsFitOf, copied, may_be_unlisted}
+use Rattle.dia_answer.specs.Bodies.{AreThose, IsSession, IsStock, Parts, in_order, of_key, proxy_info, session_id}
+use Rattle.dia_answer.specs.Sources.{in_extent, parts_of}
 
 -- the class of a form's messages
 abbrev pub form_class : Form → Class
@@ -58,6 +69,58 @@ pub record IsProcessed (request : List ℕ) (code : ℕ) (f : Form) (bytes : Lis
   pub avps : List PlainAvp
   pub message : IsMessage (answer_header header f) avps bytes
 
+-- the message's only AVP of a key has data with P
+pub record HasOne (key : Key) (P : List ℕ → Type 0) (bytes : List ℕ) : Type 0 where
+  pub header : Header
+  pub avps : List PlainAvp
+  pub message : IsMessage header avps bytes
+  pub avp : PlainAvp
+  pub one : of_key key avps ≡ avp ∷ []
+  pub held : P avp.bytes
+
+-- what the answer copies of the request: its first Session-Id, if the dictionary takes it, and each Proxy-Info that fits (section 6.2)
+pub record HasCopies (d : Dictionary) (u : Unknown) (most : Levels) (r : Reason) (request : List ℕ) (bytes : List ℕ) : Type 0 where
+  pub header : Header
+  pub avps : List PlainAvp
+  pub message : IsMessage header avps bytes
+  pub found : List PlainAvp
+  pub reads : AreRequestAvps r found request
+  pub session : IsSession d found (of_key session_id avps)
+  pub proxies : List PlainAvp
+  pub are_proxies : AreThose (IsFitOf d u most proxy_info) found proxies
+  pub copies : of_key proxy_info avps ≡ map copied proxies
+
+-- the command of a form's messages
+abbrev pub IsCommandOf : Dictionary → Header → Form → PlainDefinition → Type 0
+IsCommandOf d h f command = (c : ℕ) × (selected d h.code (form_class f) h.app ≡ Some c) × (slice_get (definitions d) c ≡ Some command)
+
+-- what an answer is made of: the fault's code, the names of the node, the line of a check of the request, the request's AVPs, and the data of Failed-AVP, if there is one
+pub record AreParts (d : Dictionary) (u : Unknown) (most : Levels) (host realm request : List ℕ) (fault : Fault) (p : Parts) : Type 0 where
+  pub unknown : p.unknown ≡ u
+  pub levels : p.levels ≡ most
+  pub reads : AreRequestAvps fault.reason p.request request
+  pub code : IsField 4 fault.code p.code
+  pub is_host : p.host ≡ host
+  pub is_realm : p.realm ≡ realm
+  pub text : List ℕ
+  pub has_text : p.line ≡ Some text
+  pub is_line : line text ≡ fault_line d fault
+  -- section 7.5: it holds AVPs, so a fault of the header has none
+  pub none : IsOfHeader fault.reason → p.failed ≡ None
+
+-- all AVPs of the answer, in their order: by the rules of its form's command, with Error-Message and Failed-AVP or without them
+pub record HasBody (d : Dictionary) (u : Unknown) (most : Levels) (host realm request : List ℕ) (made : Made) : Type 0 where
+  pub header : Header
+  pub reads : IsRequestHead header request
+  pub command : PlainDefinition
+  pub is_command : IsCommandOf (form_dictionary made.form d) header made.form command
+  pub parts : Parts
+  pub are_parts : AreParts d u most host realm request made.fault parts
+  pub extent : Extent
+  pub avps : List PlainAvp
+  pub are_avps : IsStock (form_dictionary made.form d) made.form command.rules (in_extent extent parts) avps
+  pub message : MessageWithZeros (answer_header header made.form) (in_order command.rules avps) made.bytes.items
+
 -- the R flag is set
 abbrev pub IsRequest : List ℕ → Type 0
 IsRequest bytes = (h : Header) × IsRequestHead h bytes × HasR h.flags
@@ -86,16 +149,27 @@ OnMade P result = IfOk result (λ found. IfOk found P)
 
 -- ---- what the parts of the code answer
 
--- a message with the request's header, whose AVPs have the Result-Code, and valid
-pub record IsWritten (d : Dictionary) (f : Form) (c : Contents) (bytes : List ℕ) : Type 0 where
-  pub avps : List PlainAvp
-  pub message : IsMessage (answer_header c.header f) avps bytes
+-- in the command's own answer each AVP but Error-Message is listed by a rule
+abbrev pub IsListed : Form → List DRule → List PlainAvp → Type 0
+IsListed form.Own rules avps = list_all (may_be_unlisted rules) avps ≡ true
+IsListed f rules avps = ⊤
+
+-- the message by these rules, and valid
+pub record IsWritten (d : Dictionary) (f : Form) (rules : List DRule) (e : Extent) (c : Contents) (bytes : List ℕ) : Type 0 where
+  pub stock : List PlainAvp
+  pub is_stock : IsStock d f rules (in_extent e (parts_of c)) stock
+  pub listed : IsListed f rules stock
+  pub message : MessageWithZeros (answer_header c.header f) (in_order rules stock) bytes
   pub valid : IsValid (opaque d) c.unknown c.levels bytes
 
 pub record IsAnswerBy (d : Dictionary) (c : Contents) (made : Made) : Type 0 where
   pub fault : made.fault ≡ c.fault
   pub permanent : IsFormFor c.fault.code made.form
-  pub written : IsWritten d made.form c made.bytes.items
+  pub command : PlainDefinition
+  pub is_command : IsCommandOf d c.header made.form command
+  pub are_rules : AreRules command.rules
+  pub extent : Extent
+  pub written : IsWritten d made.form command.rules extent c made.bytes.items
 
 -- the answer of one of the forms, by the dictionary or the base dictionary
 abbrev pub IsAnswerOf : Dictionary → Contents → Made → Type 0

@@ -1,5 +1,5 @@
 -- A request: its header and its AVPs (RFC 6733 section 3).
-use Rattle.std.specs.Prelude.{◌≡◌, ℕ, ◌≤◌, List, [], ◌++◌, length, take, drop, slice_index}
+use Rattle.std.specs.Prelude.{◌≡◌, ℕ, ◌≤◌, List, [], ◌++◌, length, take, drop, slice_index, ⊤}
 use Rattle.dia_wire.specs.declared.Header.{Header}
 use Rattle.dia_wire.specs.Lengths.{header_length}
 use Rattle.dia_wire.specs.Number.{number}
@@ -29,3 +29,13 @@ abbrev pub AreRequestAvps : Reason → List PlainAvp → List ℕ → Type 0
 AreRequestAvps reason.Version avps bytes = avps ≡ []
 AreRequestAvps reason.Length avps bytes = avps ≡ []
 AreRequestAvps r avps bytes = AreFront avps (drop header_length bytes)
+
+-- a fault of the header
+abbrev pub IsOfHeader : Reason → Type 0
+IsOfHeader reason.Version = ⊤
+IsOfHeader reason.Length = ⊤
+IsOfHeader reason.Bits = ⊤
+IsOfHeader reason.Command = ⊤
+IsOfHeader reason.Application = ⊤
+IsOfHeader reason.Proxiable = ⊤
+IsOfHeader r = ⊥

@@ -1,15 +1,19 @@
 //! Answers to requests.
 
-ghost use Rattle.std.specs.Prelude.{◌≡◌, ◌<◌, ◌≤◌, ◌/◌, ◌↔◌, Err, IfErr, IfOk, IfSome, IsTrue, Ok, length, map, slice_index};
+ghost use Rattle.std.specs.Prelude.{◌≡◌, ◌≢◌, ◌++◌, ◌<◌, ◌≤◌, ◌/◌, ◌↔◌, Err, IfErr, IfOk, IfSome, IsTrue, Ok, length, map, slice_index};
 ghost use Rattle.dia_wire.specs.Lengths.{three_bytes};
 ghost use Rattle.dia_wire.specs.Wire.{plain_avp, HasR, MessageWithZeros};
 ghost use Rattle.dia_valid.specs.Valid.{IsValid};
 ghost use Rattle.dia_check.specs.Faults.{IsRecorded};
 ghost use Rattle.dia_answer.specs.Dictionaries.{opaque};
 ghost use Rattle.dia_answer.specs.Reports.{
+  HasBody,
+  HasCopies,
+  HasOne,
   IsAnswerBy,
   IsAnswerOf,
   IsFormFor,
+  IsListed,
   IsNoAnswer,
   IsProcessed,
   IsValidBy,
@@ -17,7 +21,12 @@ ghost use Rattle.dia_answer.specs.Reports.{
   OnMade,
   answer_header,
   form_class,
+  form_dictionary,
 };
+ghost use Rattle.dia_wire.specs.Number.{IsField};
+ghost use Rattle.dia_answer.specs.Bodies.{AllOf, origin_host, origin_realm, proxy_info, result_code};
+ghost use Rattle.dia_answer.specs.Helds.{plains};
+ghost use Rattle.dia_answer.specs.declared.forms.NoAnswer.{NoAnswer as AnyNoAnswer};
 
 use crate::contents::{Contents, Extent};
 use crate::forms::{Form, Made, NoAnswer};
@@ -54,11 +63,20 @@ pub fn answer<B: Book>(
     ensures valid { OnMade (λ made. IsValidBy (B.meaning book.now) unknown levels made.form made.bytes.items) result }
     ensures processed { OnMade (λ made. IsProcessed bytes.now made.fault.code made.form made.bytes.items) result }
     ensures permanent { OnMade (λ made. IsFormFor made.fault.code made.form) result }
+    ensures result_code { OnMade (λ made. HasOne result_code (IsField 4 made.fault.code) made.bytes.items) result }
+    ensures origin_host { OnMade (λ made. HasOne origin_host (λ b. b ≡ names.now.host.now) made.bytes.items) result }
+    ensures origin_realm { OnMade (λ made. HasOne origin_realm (λ b. b ≡ names.now.realm.now) made.bytes.items) result }
+    ensures copies { OnMade (λ made. HasCopies (form_dictionary made.form (B.meaning book.now))
+        unknown levels made.fault.reason bytes.now made.bytes.items) result }
+    ensures body { OnMade (HasBody (B.meaning book.now) unknown levels names.now.host.now names.now.realm.now bytes.now) result }
     ensures short { (result ≡ Ok (Err NoAnswer.Short)) ↔ (length bytes.now < 20) }
     ensures answer { (result ≡ Ok (Err NoAnswer.Answer))
         ↔ ((20 ≤ length bytes.now) × (¬ HasR (slice_index bytes.now 4))) }
     ensures no_answer { IfOk result
         (λ found. IfErr found (IsNoAnswer (B.meaning book.now) unknown levels bytes.now)) }
+    ensures exact { (why : AnyNoAnswer) → why ≢ NoAnswer.TooLong
+        → IsNoAnswer (B.meaning book.now) unknown levels bytes.now why
+        → IfOk result (λ found. found ≡ Err why) }
 {
     let Some(header) = header_of(bytes) else {
         return Ok(Err(NoAnswer::Short));
@@ -167,10 +185,10 @@ fn by_rules<B: Book>(
 ) -> Result<Option<Vec<u8>>, AllocError>
     requires { 0 < length (B.meaning book.now).commands }
     ensures { IfOk result (λ found. IfSome found (λ bytes.
-        IsWritten (B.meaning book.now) form contents.now bytes.items)) }
+        IsWritten (B.meaning book.now) form rules.now extent contents.now bytes.items)) }
 {
     let stock = Stock::new(book, form, rules, contents, extent)?;
-    if form == Form::Own && !stock.is_listed(rules) {
+    if !may_be_taken(form, rules, &stock) {
         return Ok(None);
     }
     let avps = stock.in_order(contents.alloc, rules)?;
@@ -178,6 +196,17 @@ fn by_rules<B: Book>(
     match written(contents.alloc, &header, &avps)? {
         Some(bytes) => if_valid(book, contents, bytes),
         None => Ok(None),
+    }
+}
+
+/// Whether a form with these AVPs is taken: in the command's own answer each but Error-Message is listed by a rule.
+fn may_be_taken(form: Form, rules: &[DRule], stock: &Stock<'_>) -> bool
+    requires { AllOf proxy_info (plains stock.now.proxies.items) }
+    ensures { IsTrue result ↔ IsListed form rules.now (plains stock.now.few.items ++ plains stock.now.proxies.items) }
+{
+    match form {
+        Form::Own => stock.is_listed(rules),
+        Form::Error | Form::Base => true,
     }
 }
 

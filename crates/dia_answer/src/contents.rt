@@ -1,10 +1,14 @@
 //! What an answer is made of, whatever its form.
 
-ghost use Rattle.std.specs.Prelude.{◌≡◌, ◌<◌, ◌≤◌, IfOk, length, string_bytes};
+ghost use Rattle.std.specs.Prelude.{◌≡◌, ◌<◌, ◌≤◌, IfOk, None, Some, length, string_bytes};
 ghost use Rattle.std.specs.Option.{option_map};
 ghost use Rattle.byteorder.specs.Endian.{big_bytes};
 ghost use Rattle.dia_wire.specs.Lengths.{header_length, three_bytes};
-ghost use Rattle.dia_answer.specs.Contents.{full_line, full_failed};
+ghost use Rattle.dia_run.specs.Texts.{line};
+ghost use Rattle.dia_run.specs.Verdict.{fault_line};
+ghost use Rattle.dia_answer.specs.Contents.{full};
+ghost use Rattle.dia_answer.specs.Helds.{plains};
+ghost use Rattle.dia_answer.specs.Requests.{AreRequestAvps, IsOfHeader};
 
 use crate::failed::failed_data;
 use crate::held::Held;
@@ -60,7 +64,13 @@ impl<'a> Contents<'a> {
         requires long { header_length ≤ length bytes.now }
         requires fits { header.code < three_bytes }
         ensures same { IfOk result (λ contents. (contents.fault ≡ fault) × (contents.header ≡ header)
-            × (contents.unknown ≡ unknown) × (contents.levels ≡ levels)) }
+            × (contents.unknown ≡ unknown) × (contents.levels ≡ levels) × (contents.names ≡ names.entry)) }
+        ensures request { IfOk result
+            (λ contents. AreRequestAvps fault.reason (plains contents.request.items) bytes.now) }
+        ensures failed { IsOfHeader fault.reason
+            → IfOk result (λ contents. option_map (λ f. f.items) contents.failed ≡ None) }
+        ensures line { IfOk result
+            (λ contents. line (string_bytes contents.line) ≡ fault_line (B.meaning book.now) fault) }
     {
         let mut code = [0; 4];
         BigEndian::write_u32(&mut code, fault.code);
@@ -80,7 +90,7 @@ impl<'a> Contents<'a> {
 
     /// The data of Error-Message.
     pub(crate) fn line(&self, extent: Extent) -> Option<&str>
-        ensures { option_map (λ l. l.now) result ≡ full_line extent (string_bytes self.now.line) }
+        ensures { option_map (λ l. l.now) result ≡ full extent (Some (string_bytes self.now.line)) }
     {
         match extent {
             Extent::Full => Some(self.line.as_str()),
@@ -91,7 +101,7 @@ impl<'a> Contents<'a> {
     /// The data of Failed-AVP.
     pub(crate) fn failed(&self, extent: Extent) -> Option<&[u8]>
         ensures { option_map (λ f. f.now) result
-            ≡ full_failed extent (option_map (λ f. f.items) self.now.failed) }
+            ≡ full extent (option_map (λ f. f.items) self.now.failed) }
     {
         match (extent, &self.failed) {
             (Extent::Full, Some(bytes)) => Some(bytes.as_slice()),

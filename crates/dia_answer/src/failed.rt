@@ -1,8 +1,9 @@
 //! The data of Failed-AVP (RFC 6733 section 7.5).
 
-ghost use Rattle.std.specs.Prelude.{◌<◌, IfSome, length};
+ghost use Rattle.std.specs.Prelude.{◌≡◌, ◌<◌, IfOk, IfSome, None, length};
 ghost use Rattle.dia_wire.specs.Wire.{plain_avp, Agrees};
 ghost use Rattle.dia_book.specs.Dictionary.{definitions};
+ghost use Rattle.dia_answer.specs.Requests.{IsOfHeader};
 
 use crate::around::groups_around;
 use crate::example::Example;
@@ -19,7 +20,9 @@ pub(crate) fn failed_data<B: Book>(
     header: &Header,
     bytes: &[u8],
     fault: &Fault,
-) -> Result<Option<Vec<u8>>, AllocError> {
+) -> Result<Option<Vec<u8>>, AllocError>
+    ensures header { IsOfHeader fault.now.reason → IfOk result (λ failed. failed ≡ None) }
+{
     match fault.reason {
         Reason::Version | Reason::Length | Reason::Bits => Ok(None),
         Reason::Command | Reason::Application | Reason::Proxiable => Ok(None),

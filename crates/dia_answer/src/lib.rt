@@ -16,6 +16,7 @@ mod around;
 mod codes;
 mod command;
 mod contents;
+mod copies;
 mod example;
 mod failed;
 mod forms;

@@ -1,12 +1,25 @@
 //! The AVPs that an answer may hold.
 
-ghost use Rattle.std.specs.Prelude.{◌≡◌, ◌<◌, ◌↔◌, IfOk, IsTrue, length};
+ghost use Rattle.std.specs.Prelude.{◌≡◌, ◌<◌, ◌↔◌, ◌++◌, ◌∷◌, [], true, not, IfOk, IsTrue, List, OnOk, filter, find, if◌then◌else◌, length, map};
 ghost use Rattle.std.specs.List.{list_all};
-ghost use Rattle.dia_wire.specs.Wire.{plain_avp};
+ghost use Rattle.std.specs.Option.{option_map};
+ghost use Rattle.dia_wire.specs.Wire.{PlainAvp, key_of, plain_avp};
 ghost use Rattle.dia_book.specs.Dictionary.{lists_key};
 ghost use Rattle.dia_valid.specs.Valid.{has_wildcard, is_listed};
+ghost use Rattle.dia_book.specs.Keys.{same_key};
+ghost use Rattle.dia_answer.specs.Bodies.{
+  AllOf,
+  IsSession,
+  IsStock,
+  error_messages,
+  failed_avps,
+  in_order,
+  may_fail,
+  proxy_info,
+};
+ghost use Rattle.dia_answer.specs.Helds.{plain_held, plains};
+ghost use Rattle.dia_answer.specs.Sources.{in_extent, parts_of};
 ghost use Rattle.dia_answer.specs.Stocks.{
-  IsFitOf,
   TakesData,
   has_format,
   is_nest,
@@ -19,9 +32,10 @@ ghost use Rattle.dia_answer.specs.Stocks.{
 use crate::alone::{Alone, Judge};
 use crate::codes::{
     ERROR_MESSAGE, FAILED_AVP, ORIGIN_HOST, ORIGIN_REALM, PROXY_INFO, RESULT_CODE, SESSION_ID,
-    base_key, is_own,
+    base_key,
 };
 use crate::contents::{Contents, Extent};
+use crate::copies::{push_copies, push_fitting};
 use crate::example::m_flag;
 use crate::forms::Form;
 use crate::held::Held;
@@ -46,6 +60,9 @@ impl<'a> Stock<'a> {
         extent: Extent,
     ) -> Result<Self, AllocError>
         requires some { 0 < length (B.meaning book.now).commands }
+        ensures stock { IfOk result (λ s. IsStock (B.meaning book.now) form rules.now
+            (in_extent extent (parts_of contents.now)) (plains s.few.items ++ plains s.proxies.items)) }
+        ensures proxies { IfOk result (λ s. AllOf proxy_info (plains s.proxies.items)) }
     {
         let alloc = contents.alloc;
         let request = contents.request.as_slice();
@@ -57,9 +74,7 @@ impl<'a> Stock<'a> {
         };
         let mut few = Vec::new(alloc);
         push_session(&mut few, book, request)?;
-        few.push(own(book, RESULT_CODE, &contents.code))?;
-        few.push(own(book, ORIGIN_HOST, contents.names.host.as_bytes()))?;
-        few.push(own(book, ORIGIN_REALM, contents.names.realm.as_bytes()))?;
+        push_sender(&mut few, book, contents)?;
         push_message(&mut few, book, rules, contents.line(extent))?;
         push_failed(&mut few, book, form, rules, contents.failed(extent))?;
         push_copies(&mut few, &judge, form, rules, request)?;
@@ -70,9 +85,12 @@ impl<'a> Stock<'a> {
     }
 
     /// Whether each AVP but Error-Message is listed by a rule.
-    pub(crate) fn is_listed(&self, rules: &[DRule]) -> bool {
+    pub(crate) fn is_listed(&self, rules: &[DRule]) -> bool
+        requires { AllOf proxy_info (plains self.now.proxies.items) }
+        ensures { result ≡ list_all (may_be_unlisted rules.now) (plains self.now.few.items ++ plains self.now.proxies.items) }
+    {
         all_listed(&self.few, rules)
-            && (is_listed(rules, base_key(PROXY_INFO)) || self.proxies.is_empty())
+            && (is_listed(rules, base_key(PROXY_INFO)) || self.proxies.as_slice().is_empty())
     }
 
     /// The AVPs in the order of the rules, and then those that no rule lists.
@@ -80,22 +98,40 @@ impl<'a> Stock<'a> {
         &self,
         alloc: Global,
         rules: &[DRule],
-    ) -> Result<Vec<Held<'a>>, AllocError> {
+    ) -> Result<Vec<Held<'a>>, AllocError>
+        requires { AllOf proxy_info (plains self.now.proxies.items) }
+        ensures { IfOk result (λ avps. plains avps.items
+            ≡ in_order rules.now (plains self.now.few.items ++ plains self.now.proxies.items)) }
+    {
         let mut avps = Vec::new(alloc);
         for rule in rules {
             self.push_of_rule(&mut avps, rule)?;
         }
-        push_unlisted(&mut avps, &self.few, rules)?;
-        if !is_listed(rules, base_key(PROXY_INFO)) {
-            avps.extend_from_slice(&self.proxies)?;
-        }
+        self.push_rest(&mut avps, rules)?;
         Ok(avps)
     }
 
     /// Adds the AVPs of a rule.
-    fn push_of_rule(&self, out: &mut Vec<Held<'a>>, rule: &DRule) -> Result<(), AllocError> {
+    fn push_of_rule(&self, out: &mut Vec<Held<'a>>, rule: &DRule) -> Result<(), AllocError>
+        requires { AllOf proxy_info (plains self.now.proxies.items) }
+        ensures { OnOk result (plains out.new.items ≡ plains out.old.items
+            ++ filter (λ v. lists_key (key_of v) rule.now) (plains self.now.few.items ++ plains self.now.proxies.items)) }
+    {
         push_listed(out, &self.few, rule)?;
         if lists(rule, base_key(PROXY_INFO)) {
+            out.extend_from_slice(&self.proxies)?;
+        }
+        Ok(())
+    }
+
+    /// Adds the AVPs that no rule lists.
+    fn push_rest(&self, out: &mut Vec<Held<'a>>, rules: &[DRule]) -> Result<(), AllocError>
+        requires { AllOf proxy_info (plains self.now.proxies.items) }
+        ensures { OnOk result (plains out.new.items ≡ plains out.old.items
+            ++ filter (λ v. not (is_listed rules.now (key_of v))) (plains self.now.few.items ++ plains self.now.proxies.items)) }
+    {
+        push_unlisted(out, &self.few, rules)?;
+        if is_unlisted(rules, base_key(PROXY_INFO)) {
             out.extend_from_slice(&self.proxies)?;
         }
         Ok(())
@@ -112,6 +148,12 @@ fn is_listed(rules: &[DRule], key: Key) -> bool
     ensures { result ≡ is_listed rules.now key }
 {
     rules.iter().any(|rule| lists(rule, key))
+}
+
+fn is_unlisted(rules: &[DRule], key: Key) -> bool
+    ensures { result ≡ not (is_listed rules.now key) }
+{
+    !is_listed(rules, key)
 }
 
 /// Whether a rule lists the key, or there is a wildcard.
@@ -143,7 +185,10 @@ fn push_listed<'a>(
     out: &mut Vec<Held<'a>>,
     avps: &[Held<'a>],
     rule: &DRule,
-) -> Result<(), AllocError> {
+) -> Result<(), AllocError>
+    ensures { OnOk result (plains out.new.items
+        ≡ plains out.old.items ++ filter (λ v. lists_key (key_of v) rule.now) (plains avps.now)) }
+{
     for avp in avps {
         push_if(out, avp, lists(rule, avp.key()))?;
     }
@@ -154,14 +199,20 @@ fn push_unlisted<'a>(
     out: &mut Vec<Held<'a>>,
     avps: &[Held<'a>],
     rules: &[DRule],
-) -> Result<(), AllocError> {
+) -> Result<(), AllocError>
+    ensures { OnOk result (plains out.new.items
+        ≡ plains out.old.items ++ filter (λ v. not (is_listed rules.now (key_of v))) (plains avps.now)) }
+{
     for avp in avps {
-        push_if(out, avp, !is_listed(rules, avp.key()))?;
+        push_if(out, avp, is_unlisted(rules, avp.key()))?;
     }
     Ok(())
 }
 
-fn push_if<'a>(out: &mut Vec<Held<'a>>, avp: &Held<'a>, is: bool) -> Result<(), AllocError> {
+fn push_if<'a>(out: &mut Vec<Held<'a>>, avp: &Held<'a>, is: bool) -> Result<(), AllocError>
+    ensures { OnOk result (plains out.new.items
+        ≡ plains out.old.items ++ (if is then plain_held avp.now ∷ [] else [])) }
+{
     if is {
         out.push(*avp)?;
     }
@@ -180,20 +231,74 @@ fn own<'a, B: Book>(book: &B, code: u32, bytes: &'a [u8]) -> Held<'a>
     })
 }
 
-/// The data of the request's first Session-Id, if the dictionary takes it (RFC 6733 section 6.2).
+/// Adds an AVP of the base protocol with these data.
+fn push_own<'a, B: Book>(
+    out: &mut Vec<Held<'a>>,
+    book: &B,
+    code: u32,
+    bytes: &'a [u8],
+) -> Result<(), AllocError>
+    ensures { OnOk result (plains out.new.items
+        ≡ plains out.old.items ++ own (B.meaning book.now) code bytes.now ∷ []) }
+{
+    out.push(own(book, code, bytes))?;
+    Ok(())
+}
+
+/// Adds Result-Code, Origin-Host and Origin-Realm (RFC 6733 sections 7.1, 6.3 and 6.4).
+fn push_sender<'a, B: Book>(
+    out: &mut Vec<Held<'a>>,
+    book: &B,
+    contents: &'a Contents<'_>,
+) -> Result<(), AllocError>
+    ensures { OnOk result (plains out.new.items ≡ plains out.old.items
+        ++ (own (B.meaning book.now) 268 contents.now.code
+        ∷ own (B.meaning book.now) 264 contents.now.names.host.now
+        ∷ own (B.meaning book.now) 296 contents.now.names.realm.now ∷ [])) }
+{
+    push_own(out, book, RESULT_CODE, &contents.code)?;
+    push_own(out, book, ORIGIN_HOST, contents.names.host.as_bytes())?;
+    push_own(out, book, ORIGIN_REALM, contents.names.realm.as_bytes())
+}
+
+/// Adds the data of the request's first Session-Id, if the dictionary takes it (RFC 6733 section 6.2).
 fn push_session<'a, B: Book>(
     out: &mut Vec<Held<'a>>,
     book: &B,
     request: &[Held<'a>],
-) -> Result<(), AllocError> {
+) -> Result<(), AllocError>
+    ensures { OnOk result ((these : List PlainAvp) × IsSession (B.meaning book.now) (plains request.now) these
+        × (plains out.new.items ≡ plains out.old.items ++ these)) }
+{
     let wanted = base_key(SESSION_ID);
-    let Some(avp) = request.iter().find(|avp| avp.key() == wanted) else {
+    let Some(avp) = first_of(request, wanted) else {
         return Ok(());
     };
-    if takes(book, wanted, avp.avp.bytes) {
-        out.push(own(book, SESSION_ID, avp.avp.bytes))?;
+    let bytes = avp.avp.bytes;
+    if takes(book, wanted, bytes) {
+        push_own(out, book, SESSION_ID, bytes)
+    } else {
+        Ok(())
     }
-    Ok(())
+}
+
+/// The first AVP of a key.
+fn first_of<'b, 'a>(avps: &'b [Held<'a>], wanted: Key) -> Option<&'b Held<'a>>
+    ensures { option_map (λ h. plain_held h.now) result
+        ≡ find (λ v. same_key (key_of v) wanted) (plains avps.now) }
+{
+    for avp in avps {
+        if has_key(avp, wanted) {
+            return Some(avp);
+        }
+    }
+    None
+}
+
+fn has_key(avp: &Held<'_>, wanted: Key) -> bool
+    ensures { result ≡ same_key (key_of (plain_held avp.now)) wanted }
+{
+    avp.key() == wanted
 }
 
 /// Whether these are data of a leaf of the key.
@@ -235,7 +340,10 @@ fn push_message<'a, B: Book>(
     book: &B,
     rules: &[DRule],
     line: Option<&'a str>,
-) -> Result<(), AllocError> {
+) -> Result<(), AllocError>
+    ensures { OnOk result (plains out.new.items ≡ plains out.old.items
+        ++ error_messages (B.meaning book.now) rules.now (option_map (λ l. l.now) line.entry)) }
+{
     let Some(line) = line else {
         return Ok(());
     };
@@ -259,82 +367,26 @@ fn push_failed<'a, B: Book>(
     form: Form,
     rules: &[DRule],
     failed: Option<&'a [u8]>,
-) -> Result<(), AllocError> {
+) -> Result<(), AllocError>
+    ensures { OnOk result (plains out.new.items ≡ plains out.old.items
+        ++ failed_avps (B.meaning book.now) form rules.now (option_map (λ f. f.now) failed.entry)) }
+{
     let Some(bytes) = failed else {
         return Ok(());
     };
-    let wanted = base_key(FAILED_AVP);
-    let held = match form {
-        Form::Own => true,
-        Form::Error | Form::Base => may_hold(rules, wanted),
-    };
-    if has_nest(book, wanted) && held {
-        out.push(own(book, FAILED_AVP, bytes))?;
-    }
-    Ok(())
-}
-
-/// Adds, in the command's own answer, for each rule as many AVPs of the request as it requires.
-fn push_copies<'a, B: Book>(
-    out: &mut Vec<Held<'a>>,
-    judge: &Judge<'_, B>,
-    form: Form,
-    rules: &[DRule],
-    request: &[Held<'a>],
-) -> Result<(), AllocError> {
-    match form {
-        Form::Own => {
-            for rule in rules {
-                push_required(out, judge, rule, request)?;
-            }
-            Ok(())
-        }
-        Form::Error | Form::Base => Ok(()),
-    }
-}
-
-/// Adds as many AVPs of the request as a rule requires.
-fn push_required<'a, B: Book>(
-    out: &mut Vec<Held<'a>>,
-    judge: &Judge<'_, B>,
-    rule: &DRule,
-    request: &[Held<'a>],
-) -> Result<(), AllocError> {
-    match rule.key {
-        Some(key) if !is_own(key) => push_fitting(out, judge, request, key, rule.min as usize),
-        _ => Ok(()),
-    }
-}
-
-/// Adds the first AVPs of a key that fit the dictionary, at most so many.
-fn push_fitting<'a, B: Book>(
-    out: &mut Vec<Held<'a>>,
-    judge: &Judge<'_, B>,
-    request: &[Held<'a>],
-    wanted: Key,
-    most: usize,
-) -> Result<(), AllocError> {
-    let mut left = most;
-    for avp in request {
-        if left == 0 {
-            return Ok(());
-        }
-        if is_fit_of(judge, wanted, avp)? {
-            out.push(avp.copied())?;
-            left -= 1;
-        }
-    }
-    Ok(())
-}
-
-/// Whether the AVP has the key, and fits.
-fn is_fit_of<B: Book>(judge: &Judge<'_, B>, wanted: Key, avp: &Held<'_>) -> Result<bool, AllocError>
-    ensures { IfOk result (λ ok. IsTrue ok ↔ IsFitOf (B.meaning judge.now.book.book.now)
-        judge.now.unknown judge.now.levels wanted (plain_avp avp.now.avp)) }
-{
-    if avp.key() == wanted {
-        judge.fits(avp)
+    if has_nest(book, base_key(FAILED_AVP)) && may_fail(form, rules) {
+        push_own(out, book, FAILED_AVP, bytes)
     } else {
-        Ok(false)
+        Ok(())
+    }
+}
+
+/// Whether an answer of this form has Failed-AVP: the command's own answer has it, or isn't taken.
+fn may_fail(form: Form, rules: &[DRule]) -> bool
+    ensures { result ≡ may_fail form rules.now }
+{
+    match form {
+        Form::Own => true,
+        Form::Error | Form::Base => may_hold(rules, base_key(FAILED_AVP)),
     }
 }

@@ -1,6 +1,24 @@
+use Rattle.std.proofs.Common.{◌≡◌, ◌<◌, ◌^◌, Ok, Err, refl, sym, ap, subst}
+use Rattle.std.specs.Prelude.{string_bytes}
+use Rattle.dia_wire.specs.declared.Header.{Header}
+use Rattle.dia_wire.specs.Number.{IsField}
+use Rattle.dia_wire.specs.Wire.{HasR}
+use Rattle.dia_check.specs.declared.Fault.{Fault}
+use Rattle.dia_check.specs.declared.Refusal.{Refusal}
+use Rattle.dia_check.specs.declared.Refusal.TheVariants.{Trailing, Truncated}
+use Rattle.dia_check.specs.Faults.{IsAnswer, IsRecorded}
+use Rattle.dia_run.specs.Texts.{line}
+use Rattle.dia_run.specs.Verdict.{fault_line}
 use Rattle.dia_answer.specs.declared.forms.Made.{Made}
-use Rattle.dia_answer.specs.Reports.{IsAnswerOf, IsValidBy}
+use Rattle.dia_answer.specs.declared.forms.NoAnswer.TheVariants as no_answer
+use Rattle.dia_answer.specs.declared.names.Names.{Names}
+use Rattle.dia_answer.specs.Bodies.{origin_host, origin_realm, result_code}
+use Rattle.dia_answer.specs.Helds.{plains}
+use Rattle.dia_answer.specs.Requests.{AreRequestAvps, IsOfHeader, IsRequestHead}
+use Rattle.dia_answer.specs.Reports.{HasBody, HasCopies, HasOne, IsAnswerOf, IsValidBy, form_dictionary}
 use Rattle.dia_answer.proofs.Answers.{OnMade-map, made_is_valid}
+use Rattle.dia_answer.proofs.Results.{made_body, made_copies, made_origin_host, made_origin_realm, made_result_code, recorded_code}
+use Rattle.dia_answer.proofs.Reasons.{no_reason, one_reason}
 use Rattle.dia_answer.proofs.answering.answer.Goals as goal
 
 pub returns-in_ok-contents-in-Err-Fault-clause-valid : goal.returns-in_ok-contents-in-Err-Fault-clause-valid
@@ -10,3 +28,92 @@ returns-in_ok-contents-in-Err-Fault-clause-valid g c =
     let same = c.in_ok-contents-in-Err-Fault.ensures.same in
     OnMade-map (IsAnswerOf d contents) (λ (made : Made). IsValidBy d c.args.unknown c.args.levels made.form made.bytes.items)
     (λ made h. made_is_valid d contents made c.args.unknown c.args.levels same.2 same.3 h) c.report.result c.report.ensures.made
+
+pub returns-in_ok-contents-in-Err-Fault-clause-result_code : goal.returns-in_ok-contents-in-Err-Fault-clause-result_code
+returns-in_ok-contents-in-Err-Fault-clause-result_code g c =
+    let d = g.B.Book.meaning c.args.book.now in
+    let contents = c.in_ok-contents-in-Err-Fault.contents in
+    let recorded : IsRecorded d c.args.unknown c.args.levels c.args.bytes.now c.in-Err-Fault.fault =
+    subst (λ (e : Refusal). IsAnswer d c.args.unknown c.args.levels c.args.bytes.now (Err e)) c.in-Err-Fault.field-0-is c.in-Err-Fault.ensures.answer in
+    let small : contents.fault.code < 2 ^ 32 =
+    subst (λ (f : Fault). f.code < 2 ^ 32) (sym c.in_ok-contents-in-Err-Fault.ensures.same.0) (recorded_code d c.args.unknown c.args.levels c.args.bytes.now c.in-Err-Fault.fault recorded) in
+    OnMade-map (IsAnswerOf d contents) (λ (made : Made). HasOne result_code (IsField 4 made.fault.code) made.bytes.items) (λ made h. made_result_code d contents made small h) c.report.result c.report.ensures.made
+
+pub returns-in_ok-contents-in-Err-Fault-clause-origin_host : goal.returns-in_ok-contents-in-Err-Fault-clause-origin_host
+returns-in_ok-contents-in-Err-Fault-clause-origin_host g c =
+    let d = g.B.Book.meaning c.args.book.now in
+    let contents = c.in_ok-contents-in-Err-Fault.contents in
+    let host = c.args.names.now.host.now in
+    let is : contents.names.host.now ≡ host = ap (λ (n : Names). n.host.now) c.in_ok-contents-in-Err-Fault.ensures.same.4 in
+    OnMade-map (IsAnswerOf d contents) (λ (made : Made). HasOne origin_host (λ b. b ≡ host) made.bytes.items) (λ made h. made_origin_host d contents made host is h) c.report.result c.report.ensures.made
+
+pub returns-in_ok-contents-in-Err-Fault-clause-origin_realm : goal.returns-in_ok-contents-in-Err-Fault-clause-origin_realm
+returns-in_ok-contents-in-Err-Fault-clause-origin_realm g c =
+    let d = g.B.Book.meaning c.args.book.now in
+    let contents = c.in_ok-contents-in-Err-Fault.contents in
+    let realm = c.args.names.now.realm.now in
+    let is : contents.names.realm.now ≡ realm = ap (λ (n : Names). n.realm.now) c.in_ok-contents-in-Err-Fault.ensures.same.4 in
+    OnMade-map (IsAnswerOf d contents) (λ (made : Made). HasOne origin_realm (λ b. b ≡ realm) made.bytes.items) (λ made h. made_origin_realm d contents made realm is h) c.report.result c.report.ensures.made
+
+pub returns-in_ok-contents-in-Err-Fault-clause-copies : goal.returns-in_ok-contents-in-Err-Fault-clause-copies
+returns-in_ok-contents-in-Err-Fault-clause-copies g c =
+    let d = g.B.Book.meaning c.args.book.now in
+    let request = c.args.bytes.now in
+    let contents = c.in_ok-contents-in-Err-Fault.contents in
+    let kept = c.in_ok-contents-in-Err-Fault.ensures in
+    let reads = subst (λ (f : Fault). AreRequestAvps f.reason (plains contents.request.items) request) (sym kept.same.0) kept.request in
+    OnMade-map (IsAnswerOf d contents) (λ (made : Made). HasCopies (form_dictionary made.form d) c.args.unknown c.args.levels made.fault.reason request made.bytes.items)
+    (λ made h. made_copies d c.args.unknown c.args.levels request contents made kept.same.2 kept.same.3 reads h) c.report.result c.report.ensures.made
+
+pub returns-in_ok-contents-in-Err-Fault-clause-body : goal.returns-in_ok-contents-in-Err-Fault-clause-body
+returns-in_ok-contents-in-Err-Fault-clause-body g c =
+    let d = g.B.Book.meaning c.args.book.now in
+    let u = c.args.unknown in
+    let most = c.args.levels in
+    let request = c.args.bytes.now in
+    let names = c.args.names.now in
+    let contents = c.in_ok-contents-in-Err-Fault.contents in
+    let kept = c.in_ok-contents-in-Err-Fault.ensures in
+    let fault = c.in-Err-Fault.fault in
+    let recorded : IsRecorded d c.args.unknown c.args.levels c.args.bytes.now c.in-Err-Fault.fault =
+    subst (λ (e : Refusal). IsAnswer d c.args.unknown c.args.levels c.args.bytes.now (Err e)) c.in-Err-Fault.field-0-is c.in-Err-Fault.ensures.answer in
+    let small : contents.fault.code < 2 ^ 32 = subst (λ (f : Fault). f.code < 2 ^ 32) (sym kept.same.0) (recorded_code d u most request fault recorded) in
+    let head = subst (λ (h : Header). IsRequestHead h request) (sym kept.same.1) c.in-Some.ensures.reads in
+    let host : contents.names.host.now ≡ names.host.now = ap (λ (n : Names). n.host.now) kept.same.4 in
+    let realm : contents.names.realm.now ≡ names.realm.now = ap (λ (n : Names). n.realm.now) kept.same.4 in
+    let reads = subst (λ (f : Fault). AreRequestAvps f.reason (plains contents.request.items) request) (sym kept.same.0) kept.request in
+    let text = subst (λ (f : Fault). line (string_bytes contents.line) ≡ fault_line d f) (sym kept.same.0) kept.line in
+    let none = λ (of_header : IsOfHeader contents.fault.reason). kept.failed (subst (λ (f : Fault). IsOfHeader f.reason) kept.same.0 of_header) in
+    OnMade-map (IsAnswerOf d contents) (HasBody d u most names.host.now names.realm.now request)
+    (λ made h. made_body d u most names.host.now names.realm.now request contents made small head kept.same.2 kept.same.3 host realm reads text none h) c.report.result c.report.ensures.made
+
+pub returns-in_ok-contents-in-Err-Fault-clause-exact : goal.returns-in_ok-contents-in-Err-Fault-clause-exact
+returns-in_ok-contents-in-Err-Fault-clause-exact g c why other h =
+    let d = g.B.Book.meaning c.args.book.now in
+    let recorded : IsRecorded d c.args.unknown c.args.levels c.args.bytes.now c.in-Err-Fault.fault =
+    subst (λ (e : Refusal). IsAnswer d c.args.unknown c.args.levels c.args.bytes.now (Err e)) c.in-Err-Fault.field-0-is c.in-Err-Fault.ensures.answer in
+    let reads = c.in-Some.ensures.reads in
+    let is_request = subst HasR reads.flags (c.is_request.ensures.0 c.if-not-is_request.false) in
+    absurd (no_reason d c.args.unknown c.args.levels c.args.bytes.now c.in-Err-Fault.fault (g.met.B.Book.sound c.args.book.now) recorded reads.long is_request why other h)
+
+pub returns-in-Ok-clause-exact : goal.returns-in-Ok-clause-exact
+returns-in-Ok-clause-exact g c =
+    let reads = c.in-Some.ensures.reads in
+    let is_request = subst HasR reads.flags (c.is_request.ensures.0 c.if-not-is_request.false) in
+    one_reason (g.B.Book.meaning c.args.book.now) c.args.unknown c.args.levels c.args.bytes.now (Ok c.in-Ok.field-0) no_answer.Valid (g.met.B.Book.sound c.args.book.now) c.in-Ok.ensures.answer (λ e. absurd cc) reads.long is_request refl
+
+pub returns-in-Err-Truncated-clause-exact : goal.returns-in-Err-Truncated-clause-exact
+returns-in-Err-Truncated-clause-exact g c =
+    let d = g.B.Book.meaning c.args.book.now in
+    let answer = subst (λ (e : Refusal). IsAnswer d c.args.unknown c.args.levels c.args.bytes.now (Err e)) c.in-Err-Truncated.field-0-is c.in-Err-Truncated.ensures.answer in
+    let reads = c.in-Some.ensures.reads in
+    let is_request = subst HasR reads.flags (c.is_request.ensures.0 c.if-not-is_request.false) in
+    one_reason d c.args.unknown c.args.levels c.args.bytes.now (Err Truncated) no_answer.Truncated (g.met.B.Book.sound c.args.book.now) answer (λ e. absurd cc) reads.long is_request refl
+
+pub returns-in-Err-Trailing-clause-exact : goal.returns-in-Err-Trailing-clause-exact
+returns-in-Err-Trailing-clause-exact g c =
+    let d = g.B.Book.meaning c.args.book.now in
+    let answer = subst (λ (e : Refusal). IsAnswer d c.args.unknown c.args.levels c.args.bytes.now (Err e)) c.in-Err-Trailing.field-0-is c.in-Err-Trailing.ensures.answer in
+    let reads = c.in-Some.ensures.reads in
+    let is_request = subst HasR reads.flags (c.is_request.ensures.0 c.if-not-is_request.false) in
+    one_reason d c.args.unknown c.args.levels c.args.bytes.now (Err Trailing) no_answer.Trailing (g.met.B.Book.sound c.args.book.now) answer (λ e. absurd cc) reads.long is_request refl
