@@ -1,5 +1,5 @@
 -- The findings of commands without messages and of groups without AVPs, once all are added.
-use Rattle.std.proofs.Common.{◌≡◌, ℕ, List, [], ◌++◌, length, ap, subst, ◌∙◌}
+use Rattle.std.proofs.Common.{◌≡◌, ℕ, List, [], ◌++◌, length, None, sym, ap, subst, ◌∙◌}
 use Rattle.std.proofs.lemmas.List.{append-nil}
 use Rattle.dia_wire.specs.declared.Key.{Key}
 use Rattle.dia_book.specs.Dictionary.{Dictionary, groups}
@@ -7,14 +7,14 @@ use Rattle.dia_terms.specs.declared.Sends.{Sends}
 use Rattle.dia_terms.specs.declared.Unknown.{Unknown}
 use Rattle.dia_lint.specs.declared.finding.Finding.{Finding}
 use Rattle.dia_lint.specs.Costs.{level_of, sender_of}
-use Rattle.dia_lint.specs.Exact.{is_no_level, is_no_message, reported}
+use Rattle.dia_lint.specs.Exact.{AreOfMessages, is_no_level, is_no_message, reported}
 use Rattle.dia_lint.specs.Gathered.{Adds, long_commands, long_groups}
-use Rattle.dia_lint.proofs.Added.{adds_more, adds_then}
+use Rattle.dia_lint.proofs.Added.{adds_more, adds_then, of_messages_list}
 
 -- these are reported of a dictionary
 abbrev pub AreReported : Dictionary → Sends → List ℕ → List Key → List Finding → Type 0
 AreReported d sends lengths others found = (reported is_no_message found ≡ long_commands (level_of d sends lengths others) (length (groups d)) (length d.commands))
-    × (reported is_no_level found ≡ long_groups d lengths (length d.entries))
+    × (reported is_no_level found ≡ long_groups d lengths (length d.entries)) × AreOfMessages found
 
 pub all_reported : (d book : Dictionary) (u : Unknown) (sends : Sends) (lengths : List ℕ) (others : List Key) (none first second last : List Finding) → book ≡ d → sends ≡ sender_of u → none ≡ []
     → Adds [] (long_groups book lengths (length book.entries)) none first
@@ -27,5 +27,6 @@ all_reported d book u sends lengths others none first second last is_book is_sen
     let here : AreReported book sends lengths others last = (
       all.of_messages ∙ ap (λ (xs : List Finding). reported is_no_message xs ++ commands) is_none,
       all.of_levels ∙ ap (λ (xs : List Finding). reported is_no_level xs ++ (levels ++ [])) is_none ∙ append-nil levels,
+      all.rules (subst AreOfMessages (sym is_none) (of_messages_list None tt)),
     ) in
     subst (λ (s : Sends). AreReported d s lengths others last) is_sends (subst (λ (x : Dictionary). AreReported x sends lengths others last) is_book here)

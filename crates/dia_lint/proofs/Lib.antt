@@ -2,6 +2,7 @@ pub mod Added
 pub mod CommandLines
 pub mod ExactFindings
 pub mod Fillers
+pub mod FirstRequests
 pub mod Headers
 pub mod InRange
 pub mod MadeAvps
@@ -9,3 +10,4 @@ pub mod MadeLevels
 pub mod Messages
 pub mod Places
 pub mod Reported
+pub mod Unnamed

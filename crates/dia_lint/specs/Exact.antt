@@ -1,6 +1,6 @@
 -- Which commands have valid messages, and which AVPs fit, and the findings about those that don't (RFC 6733 sections 3, 3.2, 4.1
 -- and 4.4).
-use Rattle.std.specs.Prelude.{◌≡◌, ◌⊎◌, ℕ, ◌+◌, ◌^◌, ◌<◌, ◌≤◌, ◌↔◌, Bool, true, false, if◌then◌else◌, List, [], ◌∷◌, length, filter_map, Option, Some, None, slice_get, IfSome, Contains, ⊤}
+use Rattle.std.specs.Prelude.{◌≡◌, ◌⊎◌, ℕ, ◌+◌, ◌^◌, ◌<◌, ◌≤◌, ◌↔◌, Bool, true, false, if◌then◌else◌, List, [], ◌∷◌, length, filter_map, Option, Some, None, slice_get, IfSome, All, Contains, ⊤}
 use Rattle.dia_wire.specs.declared.Key.{Key}
 use Rattle.dia_wire.specs.Lengths.{three_bytes}
 use Rattle.dia_wire.specs.Wire.{PlainAvp, Spells, key_of}
@@ -16,7 +16,7 @@ use Rattle.dia_lint.specs.declared.finding.Finding.{Finding}
 use Rattle.dia_lint.specs.declared.finding.Subject.{Subject}
 use Rattle.dia_lint.specs.declared.finding.Subject.TheVariants.{Definition}
 use Rattle.dia_lint.specs.declared.rule.Rule.{Rule}
-use Rattle.dia_lint.specs.declared.rule.Rule.TheVariants.{NoMessage, NoLevel}
+use Rattle.dia_lint.specs.declared.rule.Rule.TheVariants.{NoMessage, NoLevel, NeverStands, NeverHeld, NeverListed}
 
 -- ---- what a dictionary lets in
 
@@ -43,6 +43,23 @@ is_no_message rule = false
 abbrev pub is_no_level : Rule → Bool
 is_no_level NoLevel = true
 is_no_level rule = false
+
+-- a rule about what valid messages have
+abbrev pub is_of_messages : Rule → Bool
+is_of_messages NoMessage = true
+is_of_messages NoLevel = true
+is_of_messages NeverStands = true
+is_of_messages NeverHeld = true
+is_of_messages NeverListed = true
+is_of_messages rule = false
+
+-- all findings are of these rules
+abbrev pub AreOfMessages : List Finding → Type 0
+AreOfMessages found = All (λ (x : Finding). is_of_messages x.rule ≡ true) found
+
+-- all findings are of this rule
+abbrev pub AreOf : Rule → List Finding → Type 0
+AreOf rule found = All (λ (x : Finding). x.rule ≡ rule) found
 
 -- the number of the definition that a finding is about
 abbrev pub definition_in : Subject → Option ℕ

@@ -1,14 +1,14 @@
 -- What findings are added, and the definitions whose least levels no message has room for, one after the other.
-use Rattle.std.specs.Prelude.{◌≡◌, ℕ, zero, suc, ◌+◌, nat_le, false, if◌then◌else◌, List, [], ◌∷◌, ◌++◌, Option, IfSome}
+use Rattle.std.specs.Prelude.{◌≡◌, ℕ, zero, suc, ◌+◌, nat_le, true, false, if◌then◌else◌, List, [], ◌∷◌, ◌++◌, Option, IfSome}
 use Rattle.std.specs.Option.{option_map_or}
 use Rattle.dia_book.specs.Dictionary.{Dictionary, group_place}
 use Rattle.dia_breaking_levels.specs.LevelTests.{too_long}
 use Rattle.dia_breaking_shortest.specs.Lengths.{entry_length}
 use Rattle.dia_lint.specs.declared.finding.Finding.{Finding}
-use Rattle.dia_lint.specs.Exact.{is_no_level, is_no_message, reported}
+use Rattle.dia_lint.specs.Exact.{AreOfMessages, is_no_level, is_no_message, is_of_messages, reported}
 
 -- n parts, one after the other
-abbrev pub gathered : (ℕ → List ℕ) → ℕ → List ℕ
+abbrev pub gathered : {X : Type 0} → (ℕ → List X) → ℕ → List X
 gathered part zero = []
 gathered part (suc n) = gathered part n ++ part n
 
@@ -26,11 +26,12 @@ long_group d lengths e = option_map_or (λ def. if nat_le too_long (entry_length
 abbrev pub long_groups : Dictionary → List ℕ → ℕ → List ℕ
 long_groups d lengths n = gathered (long_group d lengths) n
 
--- findings of both rules are added for these definitions
+-- findings of both rules are added for these definitions, and none but of rules about messages
 pub record Adds (messages levels : List ℕ) (old new : List Finding) : Type 0 where
   pub of_messages : reported is_no_message new ≡ reported is_no_message old ++ messages
   pub of_levels : reported is_no_level new ≡ reported is_no_level old ++ levels
+  pub rules : AreOfMessages old → AreOfMessages new
 
--- a finding of another rule
+-- a finding of another rule about messages
 abbrev pub IsAside : Option Finding → Type 0
-IsAside found = IfSome found (λ (x : Finding). (is_no_message x.rule ≡ false) × (is_no_level x.rule ≡ false))
+IsAside found = IfSome found (λ (x : Finding). (is_no_message x.rule ≡ false) × (is_no_level x.rule ≡ false) × (is_of_messages x.rule ≡ true))

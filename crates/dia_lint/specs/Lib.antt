@@ -1,7 +1,12 @@
 pub mod BaseAvps
 pub mod BaseTable
 pub mod Costs
+pub mod Declarations
 pub mod Exact
+pub mod Firsts
 pub mod Gathered
+pub mod GuidelineLines
 pub mod Guidelines
+pub mod OwnRules
+pub mod Pairs
 pub mod Words

@@ -333,7 +333,7 @@ impl BaseRow {
 static BASE_ROWS: [BaseRow; 49] = BaseRow::ALL;
 
 /// The AVPs, by their codes.
-fn base_rows() -> &'static [BaseRow]
+pub(crate) fn base_rows() -> &'static [BaseRow]
     ensures { map plain_row result.now ≡ base_rows }
 {
     BASE_ROWS.as_slice()

@@ -1,6 +1,8 @@
 //! Which commands belong together.
-ghost use Rattle.std.specs.Prelude.{◌≡◌, ◌<◌, IfSome, length};
-ghost use Rattle.dia_book.specs.Dictionary.{definitions, selected};
+ghost use Rattle.std.specs.Prelude.{◌≡◌, ◌<◌, ◌+◌, ◌^◌, IfOk, IfSome, Contains, length};
+ghost use Rattle.std.specs.List.Sorted.{IsNonDecreasing};
+ghost use Rattle.dia_book.specs.Dictionary.{definitions, groups, selected};
+ghost use Rattle.dia_lint.specs.Pairs.{IsUnnamed, app_in, app_of, command_for};
 
 use crate::books::command_at;
 use dia_book::{Book, Class, DefHead, DefId, Pxy};
@@ -13,6 +15,13 @@ pub(crate) struct Command {
     pub code: u32,
     pub class: Class,
     pub app: Option<u32>,
+    pub p: Pxy,
+}
+
+/// A request.
+#[derive(Clone, Copy)]
+pub(crate) struct Request {
+    pub def: DefId,
     pub p: Pxy,
 }
 
@@ -37,22 +46,13 @@ pub(crate) fn command_of<B: Book>(book: &B, def: DefId) -> Option<Command>
     }
 }
 
-/// The commands without those for errors, in the dictionary's order.
-pub(crate) fn commands<B: Book>(alloc: Global, book: &B) -> Result<Vec<Command>, AllocError> {
-    let mut found = Vec::new(alloc);
-    for index in 0..book.commands() {
-        if let Some(command) = command_of(book, command_at(book, index)) {
-            found.push(command)?;
-        }
-    }
-    Ok(found)
-}
-
-/// An Application-ID that no command names.
-pub(crate) fn unnamed_app<B: Book>(alloc: Global, book: &B) -> Result<u32, AllocError> {
+/// An Application-ID that no command is for.
+pub(crate) fn unnamed_app<B: Book>(alloc: Global, book: &B) -> Result<u32, AllocError>
+    ensures { IfOk result (IsUnnamed (B.meaning book.now)) }
+{
     let mut apps = Vec::new(alloc);
-    for command in &commands(alloc, book)? {
-        if let Some(app) = command.app {
+    for index in 0..book.commands() {
+        if let Some(app) = app_in(book, command_at(book, index)) {
             apps.push(app)?;
         }
     }
@@ -60,8 +60,30 @@ pub(crate) fn unnamed_app<B: Book>(alloc: Global, book: &B) -> Result<u32, Alloc
     Ok(first_gap(&apps))
 }
 
+/// The Application-ID that a definition is for.
+fn app_in<B: Book>(book: &B, def: DefId) -> Option<u32>
+    requires { def < length (definitions (B.meaning book.now)) }
+    ensures { result ≡ app_in (B.meaning book.now) def }
+{
+    app_of(&book.def(def).head)
+}
+
+fn app_of(head: &DefHead) -> Option<u32>
+    ensures { result ≡ app_of head.now }
+{
+    match *head {
+        DefHead::Group(_) => None,
+        DefHead::Command { app, .. } => app,
+        DefHead::Error { .. } => None,
+    }
+}
+
 /// The least number that isn't in a list in order.
-fn first_gap(numbers: &[u32]) -> u32 {
+fn first_gap(numbers: &[u32]) -> u32
+    requires sorted { IsNonDecreasing numbers.now }
+    requires few { length numbers.now < 2 ^ 32 }
+    ensures { ¬ Contains numbers.now result }
+{
     let mut next: u32 = 0;
     for number in numbers {
         if *number == next {
@@ -79,7 +101,9 @@ pub(crate) fn selected<B: Book>(
     app: Option<u32>,
     unnamed: u32,
 ) -> Option<DefId>
+    requires { IsUnnamed (B.meaning book.now) unnamed }
     ensures within { IfSome result (λ def. def < length (definitions (B.meaning book.now))) }
+    ensures selected { result ≡ command_for (B.meaning book.now) code class app }
 {
     match app {
         Some(app) => select(book, code, class, app),

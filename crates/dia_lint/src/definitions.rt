@@ -47,7 +47,7 @@ fn wildcard_place(rules: &[DRule]) -> Option<usize>
 }
 
 /// Whether the rule lets AVPs in.
-fn lets_in(rule: &DRule) -> bool
+pub(crate) fn lets_in(rule: &DRule) -> bool
     ensures { result ≡ lets_in rule.now }
 {
     !(rule.max == Some(0))
@@ -113,7 +113,7 @@ pub(crate) fn comes_first(rules: &[DRule], avp: BaseAvp) -> bool
     }
 }
 
-fn is_fixed(rule: &DRule) -> bool
+pub(crate) fn is_fixed(rule: &DRule) -> bool
     ensures { result ≡ is_fixed rule.now }
 {
     rule.kind == RuleKind::Fixed

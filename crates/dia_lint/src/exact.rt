@@ -1,11 +1,11 @@
 //! What no valid message has.
-ghost use Rattle.std.specs.Prelude.{◌≡◌, ◌<◌, nat_le, [], ◌∷◌, if◌then◌else◌, length, IfOk, OnOk, option_to_list};
+ghost use Rattle.std.specs.Prelude.{◌≡◌, ◌<◌, nat_le, [], ◌∷◌, if◌then◌else◌, length, true, IfOk, IfSome, OnOk, option_to_list};
 ghost use Rattle.dia_book.specs.Dictionary.{definitions, groups};
 ghost use Rattle.dia_breaking_levels.specs.LevelTests.{too_long};
 ghost use Rattle.dia_breaking_shortest.specs.Lengths.{entry_length};
 ghost use Rattle.dia_lint.specs.Costs.{level_of, sender_of};
-ghost use Rattle.dia_lint.specs.Exact.{AreAscending, NoLevelIsExact, NoMessageIsExact, OthersHaveAvps};
-ghost use Rattle.dia_lint.specs.Exact.{OthersHaveMessages, is_no_level, is_no_message, reported};
+ghost use Rattle.dia_lint.specs.Exact.{AreAscending, AreOfMessages, NoLevelIsExact, NoMessageIsExact, OthersHaveAvps};
+ghost use Rattle.dia_lint.specs.Exact.{OthersHaveMessages, is_no_level, is_no_message, is_of_messages, reported};
 ghost use Rattle.dia_lint.specs.Gathered.{Adds, IsAside, long_command, long_commands, long_group, long_groups};
 
 use crate::books::{command_at, group_of};
@@ -28,6 +28,7 @@ pub fn exact_findings<B: Book>(
     book: &B,
     unknown: Unknown,
 ) -> Result<Vec<Finding>, AllocError>
+    ensures rules { IfOk result (λ found. AreOfMessages found.items) }
     ensures no_message { IfOk result (λ found. NoMessageIsExact (B.meaning book.now) unknown found.items) }
     ensures no_level { IfOk result (λ found. NoLevelIsExact (B.meaning book.now) unknown found.items) }
     ensures others_have_messages { IfOk result (λ found. OthersHaveMessages (B.meaning book.now) unknown found.items) }
@@ -116,6 +117,7 @@ fn no_level<B: Book>(lengths: &Lengths<'_, B>, entry: Entry, def: DefId) -> Opti
     ensures messages { reported is_no_message (option_to_list result) ≡ [] }
     ensures levels { reported is_no_level (option_to_list result) ≡
         (if nat_le too_long (entry_length lengths.now.least.lengths.items entry) then def ∷ [] else []) }
+    ensures rule { IfSome result (λ x. is_of_messages x.rule ≡ true) }
 {
     if has_no_level(lengths, entry) {
         Some(needs(lengths, def, Rule::NoLevel))
@@ -174,6 +176,7 @@ fn no_message<B: Book>(lengths: &Lengths<'_, B>, def: DefId) -> Option<Finding>
         lengths.now.others.items def)
         then def ∷ [] else []) }
     ensures levels { reported is_no_level (option_to_list result) ≡ [] }
+    ensures rule { IfSome result (λ x. is_of_messages x.rule ≡ true) }
 {
     if LevelCost::of(lengths, def).base >= TOO_LONG {
         Some(needs(lengths, def, Rule::NoMessage))

@@ -2,13 +2,18 @@
 //!
 //! A rule *lists* an AVP if its greatest count is above 0, and *requires* it if its least count is.
 
-ghost use Rattle.std.specs.Prelude.{◌≡◌, ◌<◌, IfOk, length};
-ghost use Rattle.dia_book.specs.Dictionary.{definitions};
+ghost use Rattle.std.specs.Prelude.{◌≡◌, ◌<◌, [], IfOk, length};
+ghost use Rattle.std.specs.Option.{option_map_or};
+ghost use Rattle.dia_book.specs.Dictionary.{definitions, group_place};
+ghost use Rattle.dia_lint.specs.Firsts.{AreFirsts};
+ghost use Rattle.dia_lint.specs.Gathered.{gathered};
+ghost use Rattle.dia_lint.specs.GuidelineLines.{guideline_lines, lines_of_command, lines_of_entry};
 ghost use Rattle.dia_lint.specs.Guidelines.{about, at_head, at_rule, command_head, command_lines, group_lines};
 ghost use Rattle.dia_lint.specs.Guidelines.{is_proxiable, is_request, only_if, own_lines};
 
 mod base;
 mod closed;
+mod firsts;
 mod numbers;
 mod pairs;
 mod results;
@@ -21,11 +26,12 @@ use crate::definitions::rule_or_head;
 use crate::detail::Detail;
 use crate::finding::{Finding, Named, Place, Subject, push};
 use crate::rule::Rule;
-use base::push_base;
+use base::base_findings;
 use closed::{closed_group, open_to_some};
-use dia_book::{Book, Class, DRule, DefHead, DefId, Pxy};
+use dia_book::{Book, Class, DRule, DefHead, DefId, Entry, Pxy};
+use firsts::Firsts;
 use numbers::number_findings;
-use pairs::{Firsts, push_pairs};
+use pairs::pair_findings;
 use results::answer_findings;
 use routing::{hop_findings, origin_findings, realm_findings};
 use sessions::session_findings;
@@ -67,23 +73,72 @@ impl Head {
     }
 }
 
-/// The findings of all guidelines.
-pub fn guideline_findings<B: Book>(alloc: Global, book: &B) -> Result<Vec<Finding>, AllocError> {
+/// The findings of all guidelines: those of the commands, and then those of the AVPs, in the dictionary's order.
+pub fn guideline_findings<B: Book>(alloc: Global, book: &B) -> Result<Vec<Finding>, AllocError>
+    ensures { IfOk result (λ found. found.items ≡ guideline_lines (B.meaning book.now)) }
+{
+    let mut found = all_of_commands(alloc, book)?;
+    found.extend_from_slice(&all_of_entries(alloc, book)?)?;
+    Ok(found)
+}
+
+fn all_of_commands<B: Book>(alloc: Global, book: &B) -> Result<Vec<Finding>, AllocError>
+    ensures { IfOk result (λ found. found.items ≡ gathered (lines_of_command (B.meaning book.now)) (length (B.meaning book.now).commands)) }
+{
     let firsts = Firsts::of(alloc, book)?;
     let mut found = Vec::new(alloc);
     for index in 0..book.commands() {
-        let def = command_at(book, index);
-        found.extend_from_slice(&command_guidelines(alloc, book, def)?)?;
-        push_pairs(&mut found, book, def, &firsts)?;
-    }
-    for index in 0..book.entries() {
-        let entry = book.entry_at(index);
-        if let Some(def) = group_of(book, entry) {
-            found.extend_from_slice(&group_guidelines(alloc, book, def)?)?;
-        }
-        push_base(&mut found, book, entry)?;
+        found.extend_from_slice(&of_command(alloc, book, index, &firsts)?)?;
     }
     Ok(found)
+}
+
+/// The findings of the command at a place.
+fn of_command<B: Book>(
+    alloc: Global,
+    book: &B,
+    index: usize,
+    firsts: &Firsts,
+) -> Result<Vec<Finding>, AllocError>
+    requires within { index < length (B.meaning book.now).commands }
+    requires firsts { AreFirsts (B.meaning book.now) firsts.now }
+    ensures { IfOk result (λ found. found.items ≡ lines_of_command (B.meaning book.now) index) }
+{
+    let def = command_at(book, index);
+    let mut found = command_guidelines(alloc, book, def)?;
+    found.extend_from_slice(&pair_findings(alloc, book, def, firsts)?)?;
+    Ok(found)
+}
+
+fn all_of_entries<B: Book>(alloc: Global, book: &B) -> Result<Vec<Finding>, AllocError>
+    ensures { IfOk result (λ found. found.items ≡ gathered (lines_of_entry (B.meaning book.now)) (length (B.meaning book.now).entries)) }
+{
+    let mut found = Vec::new(alloc);
+    for index in 0..book.entries() {
+        found.extend_from_slice(&of_entry(alloc, book, book.entry_at(index))?)?;
+    }
+    Ok(found)
+}
+
+/// The findings of an AVP.
+fn of_entry<B: Book>(alloc: Global, book: &B, entry: Entry) -> Result<Vec<Finding>, AllocError>
+    requires { entry < length (B.meaning book.now).entries }
+    ensures { IfOk result (λ found. found.items ≡ lines_of_entry (B.meaning book.now) entry) }
+{
+    let mut found = of_group(alloc, book, entry)?;
+    found.extend_from_slice(&base_findings(alloc, book, entry)?)?;
+    Ok(found)
+}
+
+/// The findings of the entry's group, if it has one.
+fn of_group<B: Book>(alloc: Global, book: &B, entry: Entry) -> Result<Vec<Finding>, AllocError>
+    requires { entry < length (B.meaning book.now).entries }
+    ensures { IfOk result (λ found. found.items ≡ option_map_or (group_lines (B.meaning book.now)) (group_place (B.meaning book.now) entry) []) }
+{
+    match group_of(book, entry) {
+        Some(def) => group_guidelines(alloc, book, def),
+        None => Ok(Vec::new(alloc)),
+    }
 }
 
 /// The findings of a command by its head and its rules alone. A group has none.

@@ -1,6 +1,7 @@
 //! Commands of an application that say nothing beside the one without application.
-ghost use Rattle.std.specs.Prelude.{◌<◌, IfSome, length};
+ghost use Rattle.std.specs.Prelude.{◌<◌, IfOk, IfSome, length};
 ghost use Rattle.dia_book.specs.Dictionary.{definitions};
+ghost use Rattle.dia_lint.specs.Exact.{AreOf};
 
 use crate::books::command_at;
 use crate::commands::{Command, command_of, select, unnamed_app};
@@ -12,7 +13,9 @@ use dia_book::{Book, DefId};
 use std::alloc::{AllocError, Global};
 
 /// The commands with an application whose levels are those of the command of the same code, class and P flag without one.
-pub fn command_findings<B: Book>(alloc: Global, book: &B) -> Result<Vec<Finding>, AllocError> {
+pub fn command_findings<B: Book>(alloc: Global, book: &B) -> Result<Vec<Finding>, AllocError>
+    ensures { IfOk result (λ found. AreOf Rule.SameCommand found.items) }
+{
     let unnamed = unnamed_app(alloc, book)?;
     let mut found = Vec::new(alloc);
     for index in 0..book.commands() {

@@ -1,4 +1,6 @@
 //! Values that the list of an Enumerated AVP has twice.
+ghost use Rattle.std.specs.Prelude.{◌<◌, IfOk, OnOk, length};
+ghost use Rattle.dia_lint.specs.Exact.{AreOf};
 
 use crate::detail::Detail;
 use crate::finding::{Finding, Place, Subject};
@@ -8,17 +10,33 @@ use std::alloc::{AllocError, Global};
 use std::collections::BTreeSet;
 
 /// The ranges of which a range before them has a number.
-pub fn range_findings<B: Book>(alloc: Global, book: &B) -> Result<Vec<Finding>, AllocError> {
+pub fn range_findings<B: Book>(alloc: Global, book: &B) -> Result<Vec<Finding>, AllocError>
+    ensures { IfOk result (λ found. AreOf Rule.TwiceListed found.items) }
+{
     let mut found = Vec::new(alloc);
     for index in 0..book.entries() {
-        let entry = book.entry_at(index);
-        if let Format::Enumerated(values) = book.format(entry) {
-            if let Some(list) = values.list() {
-                push_ranges(alloc, &mut found, entry, list)?;
-            }
-        }
+        push_entry(alloc, &mut found, book, book.entry_at(index))?;
     }
     Ok(found)
+}
+
+/// Adds the findings of an AVP, if it has a list.
+fn push_entry<B: Book>(
+    alloc: Global,
+    found: &mut Vec<Finding>,
+    book: &B,
+    entry: Entry,
+) -> Result<(), AllocError>
+    requires { entry < length (B.meaning book.now).entries }
+    ensures { OnOk result (AreOf Rule.TwiceListed found.old.items → AreOf Rule.TwiceListed found.new.items) }
+{
+    match book.format(entry) {
+        Format::Enumerated(values) => match values.list() {
+            Some(list) => push_ranges(alloc, found, entry, list),
+            None => Ok(()),
+        },
+        _ => Ok(()),
+    }
 }
 
 fn push_ranges(
@@ -26,7 +44,9 @@ fn push_ranges(
     found: &mut Vec<Finding>,
     entry: Entry,
     list: &[(u32, u32)],
-) -> Result<(), AllocError> {
+) -> Result<(), AllocError>
+    ensures { OnOk result (AreOf Rule.TwiceListed found.old.items → AreOf Rule.TwiceListed found.new.items) }
+{
     for number in &numbers_twice(alloc, list)? {
         if let Some(number) = number {
             found.push(Finding {

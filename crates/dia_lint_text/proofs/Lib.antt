@@ -6,6 +6,7 @@ pub mod Cursors
 pub mod Entries
 pub mod Joined
 pub mod Left
+pub mod Numbered
 pub mod Orders
 pub mod Outcomes
 pub mod RowsMore

@@ -22,6 +22,7 @@ use Rattle.dia_lint_text.specs.Asking.{Question, has_in, is_asked, stranger}
 use Rattle.dia_lint_text.specs.Lines.{accepted_of, ending, exit_of, left_of, line_of, stale_of}
 use Rattle.dia_lint_text.specs.Listed.{IsListed}
 use Rattle.dia_lint_text.specs.Lists.{IsListText, IsNoListText}
+use Rattle.dia_lint_text.proofs.Numbered.{commands_numbered}
 use Rattle.dia_lint_text.specs.Outcome.{AreFindings, IsLintOutcome, IsListing, listed, no_dictionary, no_dictionary_text, no_list, no_list_text}
 use Rattle.dia_lint_text.specs.Rows.{AreInOrder, AreSorted, PlainRow, asked_rows}
 use Rattle.dia_lint_text.specs.declared.accepted.BadList.{BadList}
@@ -71,6 +72,11 @@ pub same_listed : (q : Question) (list : List PlainEntry) (listing : Listing) (d
 same_listed q list listing d d' text text' found found' rows rows' e1 e2 e3 e4 is =
     subst (λ (p : Dictionary × List ℕ × List Finding × List PlainRow). IsListed q p.0 p.1 p.2 list p.3 listing) (λ i. (e1 i, e2 i, e3 i, e4 i)) is
 
+-- three lists of findings after the first
+pub all_others : (first second third fourth m n all x y z : List Finding) → m ≡ first ++ x → n ≡ m ++ y → all ≡ n ++ z → x ≡ second → y ≡ third → z ≡ fourth
+    → all ≡ ((first ++ second) ++ third) ++ fourth
+all_others first second third fourth m n all x y z to_m to_n to_all is_x is_y is_z = cc
+
 -- the outcome of a listing
 pub listed_outcome : (q : Question) (inputs : Inputs) (source : Source) (d : Dictionary) (chosen : List Bool) (found : List Finding) (list : List PlainEntry)
     (listing : Listing) (a : Answered) → chosen ≡ map (is_asked q) rules → stranger q ≡ None → IsSourceText inputs.first (plain_source source) → IsDictionaryText inputs.first d
@@ -78,7 +84,7 @@ pub listed_outcome : (q : Question) (inputs : Inputs) (source : Source) (d : Dic
     → IsListing q d source (text_of inputs.first) found list (string_bytes listing.text) (exit_of (map (λ s. s.rule) listing.shown.items) (map plain_entry listing.stale.items))
     → a.text ≡ listing.text → a.exit ≡ exit_of (map (λ s. s.rule) listing.shown.items) (map plain_entry listing.stale.items) → IsLintOutcome q inputs (string_bytes a.text) a.exit
 listed_outcome q inputs source d chosen found list listing a table known read is findings are lists text exit =
-    listed source d found list known read is findings (subst (λ test. IsListText test inputs.table list) (table_is (is_asked q) chosen table) are)
+    listed source d found list known read is (commands_numbered inputs.first d is) findings (subst (λ test. IsListText test inputs.table list) (table_is (is_asked q) chosen table) are)
     (subst (λ e. IsListing q d source (text_of inputs.first) found list (string_bytes a.text) e) (sym exit)
     (subst (λ t. IsListing q d source (text_of inputs.first) found list (string_bytes t) (exit_of (map (λ s. s.rule) listing.shown.items) (map plain_entry listing.stale.items))) (sym text) lists))
 

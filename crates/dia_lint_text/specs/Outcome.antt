@@ -1,11 +1,11 @@
 -- What `lint` writes, and how it ends.
-use Rattle.std.specs.Prelude.{◌≡◌, ℕ, Bool, true, false, List, ◌++◌, map, flat_map, Some, None, codes}
+use Rattle.std.specs.Prelude.{◌≡◌, ℕ, Bool, true, false, List, ◌++◌, map, flat_map, slice_get, Some, None, codes}
 use Rattle.json.specs.Print.{quoted}
 use Rattle.dia_accepted.specs.Accepted.{PlainEntry}
 use Rattle.dia_ccf.specs.declared.source.Source.{Source}
 use Rattle.dia_ccf.specs.declared.source.Def.{Def}
 use Rattle.dia_ccf.specs.Plain.{plain_source}
-use Rattle.dia_book.specs.Dictionary.{Dictionary}
+use Rattle.dia_book.specs.Dictionary.{Dictionary, PlainDefinition}
 use Rattle.dia_io.specs.declared.Exit.{Exit}
 use Rattle.dia_io.specs.declared.Exit.TheVariants as exits
 use Rattle.dia_io.specs.declared.Input.{Input}
@@ -16,8 +16,11 @@ use Rattle.dia_report.specs.Refusals.{bad_input_text}
 use Rattle.dia_run.specs.RefusedDictionaries.{RefusesFirst}
 use Rattle.dia_run.specs.Texts.{line, IsDictionaryText, IsSourceText}
 use Rattle.dia_refused_json.specs.Refusals.{bad_input_json, text_of}
-use Rattle.dia_lint.specs.Exact.{AreAscending, NoLevelIsExact, NoMessageIsExact, OthersHaveAvps, OthersHaveMessages, is_no_level, is_no_message, reported}
+use Rattle.dia_lint.specs.Exact.{AreAscending, AreOf, AreOfMessages, IsNumbered, NoLevelIsExact, NoMessageIsExact, OthersHaveAvps, OthersHaveMessages, is_no_level, is_no_message, reported}
+use Rattle.dia_lint.specs.GuidelineLines.{guideline_lines}
+use Rattle.dia_lint.specs.OwnRules.{says_nothing_lines}
 use Rattle.dia_lint.specs.declared.finding.Finding.{Finding}
+use Rattle.dia_lint.specs.declared.rule.Rule.TheVariants as rule
 use Rattle.dia_lint_text.specs.Asking.{Question, is_asked, stranger}
 use Rattle.dia_lint_text.specs.Lists.{IsListText, IsNoListText, bad_list_json, bad_list_text}
 use Rattle.dia_lint_text.specs.Rows.{AreInOrder, AreSorted, PlainRow, asked_rows}
@@ -26,17 +29,31 @@ use Rattle.dia_lint_text.specs.declared.accepted.BadList.{BadList}
 
 -- ---- the findings
 
--- all findings of a dictionary: those that follow from its meaning, and others
+-- those that aren't about valid messages: of `same-command` and of `twice-listed`, and then of `says-nothing` and of the guidelines
+pub record AreOthers (d : Dictionary) (found : List Finding) : Type 0 where
+  pub same_commands : List Finding
+  pub ranges : List Finding
+  pub all : found ≡ ((same_commands ++ ranges) ++ says_nothing_lines d) ++ guideline_lines d
+  pub of_commands : AreOf rule.SameCommand same_commands
+  pub of_ranges : AreOf rule.TwiceListed ranges
+
+-- all findings of a dictionary: those about valid messages, and the others
 pub record AreFindings (d : Dictionary) (u : Unknown) (found : List Finding) : Type 0 where
   pub exact : List Finding
   pub others : List Finding
   pub all : found ≡ exact ++ others
+  pub are_others : AreOthers d others
+  pub rules : AreOfMessages exact
   pub no_message : NoMessageIsExact d u exact
   pub no_level : NoLevelIsExact d u exact
   pub others_have_messages : OthersHaveMessages d u exact
   pub others_have_avps : OthersHaveAvps d u exact
   pub messages_once : AreAscending (reported is_no_message exact)
   pub levels_once : AreAscending (reported is_no_level exact)
+
+-- the code and the application of each command can be in a header (RFC 6733 section 3)
+abbrev pub AreNumbered : Dictionary → Type 0
+AreNumbered d = (i : ℕ) (command : PlainDefinition) → slice_get d.commands i ≡ Some command → IsNumbered command.head
 
 -- ---- inputs that are refused
 
@@ -74,7 +91,7 @@ pub record IsListing (q : Question) (d : Dictionary) (source : Source) (text : L
 -- the findings are listed, or a word names no rule, or the dictionary or the list is refused
 pub data IsLintOutcome (q : Question) (inputs : Inputs) (written : List ℕ) (exit : Exit) : Type 0 where
   listed : (source : Source) (d : Dictionary) (found : List Finding) (list : List PlainEntry) → stranger q ≡ None
-      → IsSourceText inputs.first (plain_source source) → IsDictionaryText inputs.first d → AreFindings d q.unknown found
+      → IsSourceText inputs.first (plain_source source) → IsDictionaryText inputs.first d → AreNumbered d → AreFindings d q.unknown found
       → IsListText (is_asked q) inputs.table list → IsListing q d source (text_of inputs.first) found list written exit → IsLintOutcome q inputs written exit
   no_rule : (word : List ℕ) → stranger q ≡ Some word → written ≡ no_rule_text q.json word → exit ≡ exits.Bad → IsLintOutcome q inputs written exit
   no_dictionary : (bad : BadInput) → stranger q ≡ None → RefusesFirst inputs (bad_input_text bad)

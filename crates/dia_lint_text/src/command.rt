@@ -11,8 +11,8 @@ ghost use Rattle.dia_lint.specs.Words.{rules};
 ghost use Rattle.dia_lint.specs.declared.finding.Finding.{Finding as AnyFinding};
 ghost use Rattle.dia_lint_text.specs.Asking.{is_asked, question, stranger};
 ghost use Rattle.dia_lint_text.specs.Lines.{exit_of};
-ghost use Rattle.dia_lint_text.specs.Outcome.{AreFindings, IsLintOutcome, IsListing, bad_text, no_dictionary_text, no_list_text};
-ghost use Rattle.dia_lint_text.specs.Outcome.{no_rule_text};
+ghost use Rattle.dia_lint_text.specs.Outcome.{AreFindings, AreOthers, IsLintOutcome, IsListing, bad_text, no_dictionary_text};
+ghost use Rattle.dia_lint_text.specs.Outcome.{no_list_text, no_rule_text};
 ghost use Rattle.dia_refused_json.specs.Refusals.{text_of};
 ghost use Rattle.dia_run.specs.Texts.{IsDictionaryText, IsSourceText};
 
@@ -168,11 +168,16 @@ fn findings<B: Book>(alloc: Global, book: &B, unknown: Unknown) -> Result<Vec<Fi
 }
 
 /// The findings of the rules that `exact_findings` leaves out.
-fn others<B: Book>(alloc: Global, book: &B) -> Result<Vec<Finding>, AllocError> {
+fn others<B: Book>(alloc: Global, book: &B) -> Result<Vec<Finding>, AllocError>
+    ensures { IfOk result (λ found. AreOthers (B.meaning book.now) found.items) }
+{
     let mut all = command_findings(alloc, book)?;
-    all.extend_from_slice(&range_findings(alloc, book)?)?;
-    all.extend_from_slice(&rule_findings(alloc, book)?)?;
-    all.extend_from_slice(&guideline_findings(alloc, book)?)?;
+    let ranges = range_findings(alloc, book)?;
+    let own_rules = rule_findings(alloc, book)?;
+    let guidelines = guideline_findings(alloc, book)?;
+    all.extend_from_slice(&ranges)?;
+    all.extend_from_slice(&own_rules)?;
+    all.extend_from_slice(&guidelines)?;
     Ok(all)
 }
 

@@ -2,207 +2,153 @@
 //!
 //! The answer to a request is what its application selects, and without an application the answer without one.
 
-ghost use Rattle.std.specs.Prelude.{◌<◌, IfSome, length};
-ghost use Rattle.dia_book.specs.Dictionary.{definitions};
+ghost use Rattle.std.specs.Prelude.{◌≡◌, ◌<◌, ◌≤◌, false, IfOk, length};
+ghost use Rattle.std.specs.Option.{option_map_or};
+ghost use Rattle.dia_book.specs.Dictionary.{definitions, groups};
+ghost use Rattle.dia_lint.specs.Firsts.{AreFirsts};
+ghost use Rattle.dia_lint.specs.Pairs.{allows, answer_pairs, error_pairs, first_request, has_session};
+ghost use Rattle.dia_lint.specs.Pairs.{is_not_allowed, is_of, no_answer, no_error, no_request, p_differs, pair_lines, pairs_of};
+ghost use Rattle.dia_lint.specs.Pairs.{request_in, request_pairs, selector, session_lost};
 
 use crate::base_avps::BaseAvp;
 use crate::books::command_at;
-use crate::commands::{selected, unnamed_app};
+use crate::commands::Request;
 use crate::definitions::lists;
 use crate::detail::Detail;
 use crate::finding::{Finding, push};
-use crate::guidelines::{Head, at_head, at_rule, command_head};
+use crate::guidelines::firsts::{Firsts, answer_to, first_of, is_same_p, request_if};
+use crate::guidelines::{Head, at_head, at_rule, command_head, only_if};
 use crate::rule::Rule;
 use dia_book::{Book, Class, DRule, DefId, Pxy};
 use std::alloc::{AllocError, Global};
 
-/// A request.
-#[derive(Clone, Copy)]
-struct Request {
-    def: DefId,
-    p: Pxy,
-}
-
-/// For each definition, the first requests that it is the answer to.
-#[derive(Drop)]
-pub(super) struct Firsts {
-    /// An Application-ID that no command names.
-    unnamed: u32,
-    /// The first request of the dictionary.
-    request: Option<DefId>,
-    has_errors: bool,
-    /// The first request of each answer.
-    any: Vec<Option<Request>>,
-    /// The first whose P flag is another.
-    unlike: Vec<Option<Request>>,
-    /// The first with Session-Id.
-    session: Vec<Option<Request>>,
-}
-
-impl Firsts {
-    pub fn of<B: Book>(alloc: Global, book: &B) -> Result<Firsts, AllocError> {
-        let count = definitions(book);
-        let mut firsts = Firsts {
-            unnamed: unnamed_app(alloc, book)?,
-            request: None,
-            has_errors: false,
-            any: none_for_each(alloc, count)?,
-            unlike: none_for_each(alloc, count)?,
-            session: none_for_each(alloc, count)?,
-        };
-        for index in 0..book.commands() {
-            firsts.see(book, command_at(book, index));
-        }
-        Ok(firsts)
-    }
-
-    fn see<B: Book>(&mut self, book: &B, def: DefId)
-        requires { def < length (definitions (B.meaning book.now)) }
-    {
-        let definition = book.def(def);
-        if let Some(head) = command_head(&definition.head) {
-            match head.class {
-                Class::Request => self.see_request(book, def, &head, &definition.rules),
-                Class::Answer => {}
-                Class::Error => self.has_errors = true,
-            }
-        }
-    }
-
-    fn see_request<B: Book>(&mut self, book: &B, def: DefId, head: &Head, rules: &[DRule]) {
-        if self.request.is_none() {
-            self.request = Some(def);
-        }
-        let Some(answer) = answer_to(book, head, self.unnamed) else {
-            return;
-        };
-        put_first(&mut self.any, answer, def, head.p);
-        if is_unlike(book, answer, head.p) {
-            put_first(&mut self.unlike, answer, def, head.p);
-        }
-        if lists(rules, BaseAvp::SessionId) {
-            put_first(&mut self.session, answer, def, head.p);
-        }
-    }
-}
-
-/// How many definitions the book has, if it has a command.
-fn definitions<B: Book>(book: &B) -> usize {
-    if book.commands() == 0 {
-        0
-    } else {
-        command_at(book, book.commands() - 1)
-            .index()
-            .saturating_add(1)
-    }
-}
-
-fn none_for_each(alloc: Global, count: usize) -> Result<Vec<Option<Request>>, AllocError> {
-    let mut list = Vec::new(alloc);
-    for _ in 0..count {
-        list.push(None)?;
-    }
-    Ok(list)
-}
-
-fn put_first(firsts: &mut Vec<Option<Request>>, answer: DefId, def: DefId, p: Pxy) {
-    if let Some(first) = firsts.get_mut(answer.index()) {
-        if first.is_none() {
-            *first = Some(Request { def, p });
-        }
-    }
-}
-
-fn first_of(firsts: &[Option<Request>], answer: DefId) -> Option<Request> {
-    match firsts.get(answer.index()) {
-        Some(first) => *first,
-        None => None,
-    }
-}
-
-fn answer_to<B: Book>(book: &B, head: &Head, unnamed: u32) -> Option<DefId>
-    ensures within { IfSome result (λ def. def < length (definitions (B.meaning book.now))) }
-{
-    match head.code {
-        Some(code) => selected(book, code, Class::Answer, head.app, unnamed),
-        None => None,
-    }
-}
-
-/// Whether the P flag of this definition's messages is another one.
-fn is_unlike<B: Book>(book: &B, def: DefId, p: Pxy) -> bool
-    requires { def < length (definitions (B.meaning book.now)) }
-{
-    match command_head(&book.def(def).head) {
-        Some(head) => head.p != p,
-        None => false,
-    }
-}
-
-/// Adds what is wrong between a request and its answer.
-pub(super) fn push_pairs<B: Book>(
-    found: &mut Vec<Finding>,
+/// What is wrong between a request and its answer.
+pub(super) fn pair_findings<B: Book>(
+    alloc: Global,
     book: &B,
     def: DefId,
     firsts: &Firsts,
-) -> Result<(), AllocError>
-    requires { def < length (definitions (B.meaning book.now)) }
+) -> Result<Vec<Finding>, AllocError>
+    requires command { length (groups (B.meaning book.now)) ≤ def }
+    requires within { def < length (definitions (B.meaning book.now)) }
+    requires firsts { AreFirsts (B.meaning book.now) firsts.now }
+    ensures { IfOk result (λ found. found.items ≡ pair_lines (B.meaning book.now) def) }
 {
     let definition = book.def(def);
-    let Some(head) = command_head(&definition.head) else {
-        return Ok(());
-    };
-    match head.class {
-        Class::Request => {
-            push(found, no_answer(book, def, &head, firsts))?;
-            push(found, no_error(def, firsts))
-        }
-        Class::Answer => push_answer(found, def, &head, &definition.rules, firsts),
-        Class::Error => push_errors(found, book, def, &head, &definition.rules),
+    match command_head(&definition.head) {
+        Some(head) => pairs_of(alloc, book, def, &head, &definition.rules, firsts),
+        None => Ok(Vec::new(alloc)),
     }
 }
 
-fn push_answer(
-    found: &mut Vec<Finding>,
+fn pairs_of<B: Book>(
+    alloc: Global,
+    book: &B,
     def: DefId,
     head: &Head,
     rules: &[DRule],
     firsts: &Firsts,
-) -> Result<(), AllocError> {
-    push(found, no_request(def, head, firsts))?;
-    push(found, p_differs(def, head, first_of(&firsts.unlike, def)))?;
+) -> Result<Vec<Finding>, AllocError>
+    requires command { length (groups (B.meaning book.now)) ≤ def }
+    requires within { def < length (definitions (B.meaning book.now)) }
+    requires firsts { AreFirsts (B.meaning book.now) firsts.now }
+    ensures { IfOk result (λ found. found.items ≡ pairs_of (B.meaning book.now) def head.now rules.now) }
+{
+    match head.class {
+        Class::Request => request_findings(alloc, book, def, head, firsts),
+        Class::Answer => answer_findings(alloc, book, def, head, rules, firsts),
+        Class::Error => error_findings(alloc, book, def, head, rules),
+    }
+}
+
+fn request_findings<B: Book>(
+    alloc: Global,
+    book: &B,
+    def: DefId,
+    head: &Head,
+    firsts: &Firsts,
+) -> Result<Vec<Finding>, AllocError>
+    requires { AreFirsts (B.meaning book.now) firsts.now }
+    ensures { IfOk result (λ found. found.items ≡ request_pairs (B.meaning book.now) def head.now) }
+{
+    let mut found = Vec::new(alloc);
+    push(&mut found, no_answer(book, def, head, firsts))?;
+    push(&mut found, no_error(book, def, firsts))?;
+    Ok(found)
+}
+
+fn answer_findings<B: Book>(
+    alloc: Global,
+    book: &B,
+    def: DefId,
+    head: &Head,
+    rules: &[DRule],
+    firsts: &Firsts,
+) -> Result<Vec<Finding>, AllocError>
+    requires command { length (groups (B.meaning book.now)) ≤ def }
+    requires within { def < length (definitions (B.meaning book.now)) }
+    requires firsts { AreFirsts (B.meaning book.now) firsts.now }
+    ensures { IfOk result (λ found. found.items ≡ answer_pairs (B.meaning book.now) def head.now rules.now) }
+{
+    let mut found = Vec::new(alloc);
     push(
-        found,
+        &mut found,
+        no_request(def, head, first_of(&firsts.any, def)),
+    )?;
+    push(
+        &mut found,
+        p_differs(def, head, first_of(&firsts.unlike, def)),
+    )?;
+    push(
+        &mut found,
         session_lost(def, rules, first_of(&firsts.session, def)),
+    )?;
+    Ok(found)
+}
+
+fn error_findings<B: Book>(
+    alloc: Global,
+    book: &B,
+    def: DefId,
+    head: &Head,
+    rules: &[DRule],
+) -> Result<Vec<Finding>, AllocError>
+    ensures { IfOk result (λ found. found.items ≡ error_pairs (B.meaning book.now) def head.now rules.now) }
+{
+    let mut found = Vec::new(alloc);
+    push(
+        &mut found,
+        p_differs(def, head, first_not_allowed(book, head.p)),
+    )?;
+    push(
+        &mut found,
+        session_lost(def, rules, first_with_session(book)),
+    )?;
+    Ok(found)
+}
+
+fn no_answer<B: Book>(book: &B, def: DefId, head: &Head, firsts: &Firsts) -> Option<Finding>
+    requires { AreFirsts (B.meaning book.now) firsts.now }
+    ensures { result ≡ no_answer (B.meaning book.now) def head.now }
+{
+    only_if(
+        !answer_to(book, head, firsts.unnamed).is_some(),
+        at_head(def, Rule::NoAnswer, selector(head)),
     )
 }
 
-fn push_errors<B: Book>(
-    found: &mut Vec<Finding>,
-    book: &B,
-    def: DefId,
-    head: &Head,
-    rules: &[DRule],
-) -> Result<(), AllocError> {
-    push(found, p_differs(def, head, first_not_allowed(book, head.p)))?;
-    push(found, session_lost(def, rules, first_with_session(book)))
+fn no_request(def: DefId, head: &Head, first: Option<Request>) -> Option<Finding>
+    ensures { result ≡ no_request def head.now first }
+{
+    only_if(
+        !first.is_some(),
+        at_head(def, Rule::NoRequest, selector(head)),
+    )
 }
 
-fn no_answer<B: Book>(book: &B, def: DefId, head: &Head, firsts: &Firsts) -> Option<Finding> {
-    match answer_to(book, head, firsts.unnamed) {
-        Some(_) => None,
-        None => Some(at_head(def, Rule::NoAnswer, selector(head))),
-    }
-}
-
-fn no_request(def: DefId, head: &Head, firsts: &Firsts) -> Option<Finding> {
-    match first_of(&firsts.any, def) {
-        Some(_) => None,
-        None => Some(at_head(def, Rule::NoRequest, selector(head))),
-    }
-}
-
-fn selector(head: &Head) -> Detail {
+fn selector(head: &Head) -> Detail
+    ensures { result ≡ selector head.now }
+{
     Detail::Selector {
         code: head.code.unwrap_or(0),
         app: head.app,
@@ -210,16 +156,30 @@ fn selector(head: &Head) -> Detail {
 }
 
 /// Errors answer any request (RFC 6733 section 7.2).
-fn no_error(def: DefId, firsts: &Firsts) -> Option<Finding> {
-    if firsts.has_errors || firsts.request != Some(def) {
-        None
-    } else {
-        Some(at_head(def, Rule::NoError, Detail::NoErrors))
+fn no_error<B: Book>(book: &B, def: DefId, firsts: &Firsts) -> Option<Finding>
+    requires { AreFirsts (B.meaning book.now) firsts.now }
+    ensures { result ≡ no_error (B.meaning book.now) def }
+{
+    only_if(
+        is_request(firsts.request, def) && !book.has_command(0, Class::Error),
+        at_head(def, Rule::NoError, Detail::NoErrors),
+    )
+}
+
+/// Whether the request is of this definition.
+fn is_request(request: Option<Request>, def: DefId) -> bool
+    ensures { result ≡ option_map_or (is_of def) request false }
+{
+    match request {
+        Some(request) => request.def.index() == def.index(),
+        None => false,
     }
 }
 
 /// An answer has the P flag of its request (RFC 6733 sections 6.2 and 7.2).
-fn p_differs(def: DefId, head: &Head, request: Option<Request>) -> Option<Finding> {
+fn p_differs(def: DefId, head: &Head, request: Option<Request>) -> Option<Finding>
+    ensures { result ≡ p_differs def head.now request }
+{
     match request {
         Some(request) => {
             let detail = Detail::Proxiable {
@@ -233,64 +193,70 @@ fn p_differs(def: DefId, head: &Head, request: Option<Request>) -> Option<Findin
     }
 }
 
-/// Whether errors with this P flag answer requests with the other.
-fn allows(own: Pxy, theirs: Pxy) -> bool {
-    own == Pxy::Either || own == theirs
-}
-
 /// An answer has the Session-Id of its request (RFC 6733 section 6.2).
-fn session_lost(def: DefId, rules: &[DRule], request: Option<Request>) -> Option<Finding> {
-    let avp = BaseAvp::SessionId;
+fn session_lost(def: DefId, rules: &[DRule], request: Option<Request>) -> Option<Finding>
+    ensures { result ≡ session_lost def rules.now request }
+{
+    if lists(rules, BaseAvp::SessionId) {
+        return None;
+    }
     match request {
-        Some(request) if !lists(rules, avp) => {
+        Some(request) => {
             let detail = Detail::HasSession(request.def);
-            Some(at_rule(def, rules, Rule::SessionLost, avp, detail))
+            Some(at_rule(def, rules, Rule::SessionLost, BaseAvp::SessionId, detail))
         }
-        _ => None,
+        None => None,
     }
 }
 
 /// The first request that has Session-Id.
-fn first_with_session<B: Book>(book: &B) -> Option<Request> {
+fn first_with_session<B: Book>(book: &B) -> Option<Request>
+    ensures { result ≡ first_request (B.meaning book.now) has_session }
+{
+    let mut first = None;
     for index in 0..book.commands() {
-        let def = command_at(book, index);
-        if let Some(p) = request_with_session(book, def) {
-            return Some(Request { def, p });
-        }
+        first = first.or(request_with_session(book, command_at(book, index)));
     }
-    None
+    first
 }
 
-/// The P flag of a request that has Session-Id.
-fn request_with_session<B: Book>(book: &B, def: DefId) -> Option<Pxy>
+/// The definition, if it is a request that has Session-Id.
+fn request_with_session<B: Book>(book: &B, def: DefId) -> Option<Request>
     requires { def < length (definitions (B.meaning book.now)) }
+    ensures { result ≡ request_in (B.meaning book.now) has_session def }
 {
     let definition = book.def(def);
     match command_head(&definition.head) {
-        Some(head) if head.is_request() && lists(&definition.rules, BaseAvp::SessionId) => {
-            Some(head.p)
-        }
-        _ => None,
+        Some(head) => request_if(lists(&definition.rules, BaseAvp::SessionId), def, &head),
+        None => None,
     }
 }
 
 /// The first request whose P flag errors with this one don't allow.
-fn first_not_allowed<B: Book>(book: &B, own: Pxy) -> Option<Request> {
+fn first_not_allowed<B: Book>(book: &B, own: Pxy) -> Option<Request>
+    ensures { result ≡ first_request (B.meaning book.now) (is_not_allowed own) }
+{
+    let mut first = None;
     for index in 0..book.commands() {
-        let def = command_at(book, index);
-        if let Some(p) = request_not_allowed(book, def, own) {
-            return Some(Request { def, p });
-        }
+        first = first.or(request_not_allowed(book, command_at(book, index), own));
     }
-    None
+    first
 }
 
-/// The P flag of a request, if errors with the other don't allow it.
-fn request_not_allowed<B: Book>(book: &B, def: DefId, own: Pxy) -> Option<Pxy>
+/// The definition, if it is a request whose P flag errors with the other don't allow.
+fn request_not_allowed<B: Book>(book: &B, def: DefId, own: Pxy) -> Option<Request>
     requires { def < length (definitions (B.meaning book.now)) }
+    ensures { result ≡ request_in (B.meaning book.now) (is_not_allowed own) def }
 {
     match command_head(&book.def(def).head) {
-        Some(head) if head.is_request() && !allows(own, head.p) => Some(head.p),
-        _ => None,
+        Some(head) => request_if(!allows(own, head.p), def, &head),
+        None => None,
     }
+}
+
+/// Whether errors with this P flag answer requests with the other.
+fn allows(own: Pxy, theirs: Pxy) -> bool
+    ensures { result ≡ allows own theirs }
+{
+    is_same_p(own, Pxy::Either) || is_same_p(own, theirs)
 }

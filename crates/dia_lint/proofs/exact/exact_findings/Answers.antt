@@ -20,6 +20,7 @@ returns g c =
     all_reported d (g.B.Book.meaning made.book.now) c.args.unknown made.least.sends lengths others c.new-found.result.items c.push_groups.new.found.items c.push_commands.new.found.items found
     (ap g.B.Book.meaning c.in_ok-lengths.ensures.book) sends c.new-found.ensures.items c.in_ok-push_groups.ensures c.in_ok-push_commands.ensures c.in_ok-push_unreached.ensures in
     record {
+      rules = all.2;
       no_message = commands_exact d c.args.unknown lengths others found is are all.0;
       no_level = groups_exact d c.args.unknown lengths others found is are all.1;
       others_have_messages = others_have_messages d c.args.unknown lengths others found is are all.0;

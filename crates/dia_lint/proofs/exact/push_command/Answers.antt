@@ -17,4 +17,5 @@ returns g c =
     (subst (λ (n : ℕ). reported is_no_message (option_to_list c.no_message.result) ≡ (if nat_le too_long (level n) then n ∷ [] else [])) c.command_at-def.ensures.number
     c.no_message.ensures.messages)
     c.no_message.ensures.levels
+    c.no_message.ensures.rule
     c.push_reached.ensures

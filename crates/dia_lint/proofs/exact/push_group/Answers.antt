@@ -13,4 +13,4 @@ returns-in_ok-push-in-Some g c =
     let lengths = c.args.lengths.now.least.lengths.items in
     let part = λ (o : Option ℕ). option_map_or (λ (def : ℕ). if nat_le too_long (entry_length lengths c.args.entry) then def ∷ [] else []) o [] in
     adds_found [] (long_group d lengths c.args.entry) c.args.found.now.items c.push.new.found.items c.push_reached.new.found.items c.no_level.result c.push_reached.result
-    c.in_ok-push-in-Some.ensures c.no_level.ensures.messages (c.no_level.ensures.levels ∙ ap part c.in-Some.ensures.place) c.push_reached.ensures
+    c.in_ok-push-in-Some.ensures c.no_level.ensures.messages (c.no_level.ensures.levels ∙ ap part c.in-Some.ensures.place) c.no_level.ensures.rule c.push_reached.ensures

@@ -1,0 +1,6 @@
+use Rattle.dia_lint.specs.declared.rule.Rule.TheVariants as rule
+use Rattle.dia_lint.specs.Exact.{AreOf}
+use Rattle.dia_lint.proofs.twice.range_findings.Given as goal
+
+abbrev pub invariant-loop-index : goal.invariant-loop-index
+invariant-loop-index g l = AreOf rule.TwiceListed l.found.items
