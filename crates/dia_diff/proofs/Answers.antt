@@ -30,17 +30,17 @@ module _ {E : Type 0} (sends : Sends) (unknown : Unknown) (json : Bool) (inputs 
   bad_second d why (Err e) is lacks text exit = tt
 
   pub by_dictionaries : (a b : Dictionary) (r : Result Answered E) → IsDictionaryText inputs.first a → IsDictionaryText inputs.second b
-      → IfOk r (λ x. IsDiffText a b json x.exit (string_bytes x.text)) → IfOk r (λ x. IsDiffOutcome sends unknown json inputs (string_bytes x.text) x.exit)
+      → IfOk r (λ x. IsDiffText a b sends unknown json x.exit (string_bytes x.text)) → IfOk r (λ x. IsDiffOutcome sends unknown json inputs (string_bytes x.text) x.exit)
   by_dictionaries a b (Ok x) is_a is_b text = answered a b is_a is_b text
   by_dictionaries a b (Err e) is_a is_b text = tt
 
-module _ {E : Type 0} (a b : Dictionary) (json : Bool) (count : ℕ) (lines : (count ≡ 0) ↔ IsSameDictionary a b) where
+module _ {E : Type 0} (a b : Dictionary) (sends : Sends) (unknown : Unknown) (json : Bool) (count : ℕ) (lines : (count ≡ 0) ↔ IsSameDictionary a b) where
   pub without_lines : (r : Result Answered E) → count ≡ 0 → IfOk r (λ x. x.exit ≡ exits.Yes) → IfOk r (λ x. string_bytes x.text ≡ same_text json)
-      → IfOk r (λ x. IsDiffText a b json x.exit (string_bytes x.text))
-  without_lines (Ok x) none exit text = subst (λ (e : Exit). IsDiffText a b json e (string_bytes x.text)) (sym exit) (lines.0 none, text)
+      → IfOk r (λ x. IsDiffText a b sends unknown json x.exit (string_bytes x.text))
+  without_lines (Ok x) none exit text = subst (λ (e : Exit). IsDiffText a b sends unknown json e (string_bytes x.text)) (sym exit) (lines.0 none, text)
   without_lines (Err e) none exit text = tt
 
-  pub with_lines : (r : Result Answered E) → (count ≡ 0 → ⊥) → IfOk r (λ x. x.exit ≡ exits.No) → IfOk r (λ x. AreLines a b json (string_bytes x.text))
-      → IfOk r (λ x. IsDiffText a b json x.exit (string_bytes x.text))
-  with_lines (Ok x) some exit text = subst (λ (e : Exit). IsDiffText a b json e (string_bytes x.text)) (sym exit) (λ same. some (lines.1 same), text)
+  pub with_lines : (r : Result Answered E) → (count ≡ 0 → ⊥) → IfOk r (λ x. x.exit ≡ exits.No) → IfOk r (λ x. AreLines a b sends unknown json (string_bytes x.text))
+      → IfOk r (λ x. IsDiffText a b sends unknown json x.exit (string_bytes x.text))
+  with_lines (Ok x) some exit text = subst (λ (e : Exit). IsDiffText a b sends unknown json e (string_bytes x.text)) (sym exit) (λ same. some (lines.1 same), text)
   with_lines (Err e) some exit text = tt

@@ -1,2 +1,9 @@
 mod Answers
-mod MarkedLines
+mod LinesWithMarks
+mod FoundMarks
+mod Present
+mod SameSubjects
+mod SubjectTests
+mod Tests
+mod TextsOfLines
+mod Unmarked

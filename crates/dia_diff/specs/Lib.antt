@@ -1,2 +1,9 @@
+pub mod Subjects
+pub mod Origins
+pub mod Routes
+pub mod Candidates
 pub mod Marks
+pub mod Marked
+pub mod Unbroken
+pub mod MarkedLines
 pub mod Outcome

@@ -17,6 +17,7 @@ use Rattle.dia_differences.specs.Same.{IsSameDictionary}
 use Rattle.dia_differences.specs.Lines.{AreDifferences}
 use Rattle.dia_diff_text.specs.Lines.{AreTexts}
 use Rattle.dia_diff.specs.Marks.{whats}
+use Rattle.dia_diff.specs.MarkedLines.{AreMarkedLines}
 
 -- the line where nothing differs
 abbrev pub same_text : Bool → List ℕ
@@ -28,19 +29,19 @@ abbrev pub refused_text : Bool → Input → BadInput → List ℕ
 refused_text true input bad = bad_input_json input bad
 refused_text false input bad = line (bad_input_text bad)
 
--- a line for each difference, in their order
-abbrev pub AreLines : Dictionary → Dictionary → Bool → List ℕ → Type 0
-AreLines a b json text = (lines : List Line) × AreDifferences a b (whats lines) × AreTexts json a b lines text
+-- a line for each difference, in their order, with its marks
+abbrev pub AreLines : Dictionary → Dictionary → Sends → Unknown → Bool → List ℕ → Type 0
+AreLines a b sends unknown json text = (lines : List Line) × AreDifferences a b (whats lines) × AreMarkedLines a b sends unknown lines × AreTexts json a b lines text
 
 -- the line where both dictionaries mean the same, and otherwise lines
-abbrev pub IsDiffText : Dictionary → Dictionary → Bool → Exit → List ℕ → Type 0
-IsDiffText a b json exits.Yes text = IsSameDictionary a b × (text ≡ same_text json)
-IsDiffText a b json exits.No text = (¬ IsSameDictionary a b) × AreLines a b json text
-IsDiffText a b json exits.Bad text = ⊥
+abbrev pub IsDiffText : Dictionary → Dictionary → Sends → Unknown → Bool → Exit → List ℕ → Type 0
+IsDiffText a b sends unknown json exits.Yes text = IsSameDictionary a b × (text ≡ same_text json)
+IsDiffText a b sends unknown json exits.No text = (¬ IsSameDictionary a b) × AreLines a b sends unknown json text
+IsDiffText a b sends unknown json exits.Bad text = ⊥
 
 -- the dictionaries are read and answered, or one is refused
 pub data IsDiffOutcome (sends : Sends) (unknown : Unknown) (json : Bool) (inputs : Inputs) (text : List ℕ) (exit : Exit) : Type 0 where
-  answered : (a b : Dictionary) → IsDictionaryText inputs.first a → IsDictionaryText inputs.second b → IsDiffText a b json exit text
+  answered : (a b : Dictionary) → IsDictionaryText inputs.first a → IsDictionaryText inputs.second b → IsDiffText a b sends unknown json exit text
       → IsDiffOutcome sends unknown json inputs text exit
   no_first : (bad : BadInput) → RefusesFirst inputs (bad_input_text bad) → text ≡ refused_text json inputs.first bad → exit ≡ exits.Bad
       → IsDiffOutcome sends unknown json inputs text exit

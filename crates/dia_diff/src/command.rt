@@ -1,20 +1,20 @@
 //! The command, from its inputs to what is written.
 
-ghost use Rattle.std.specs.Prelude.{◌≡◌, ◌↔◌, ℕ, List, [], Err, IfOk, IsTrue, string_bytes};
+ghost use Rattle.std.specs.Prelude.{◌≡◌, ◌≢◌, ◌↔◌, ℕ, List, [], Err, IfOk, IsTrue, length, string_bytes};
 ghost use Rattle.std.specs.Io.KnownBytes.{Appends};
 ghost use Rattle.dia_io.specs.declared.Exit.{Exit as AnyExit};
 ghost use Rattle.dia_io.specs.Writing.{AppendsFront};
 ghost use Rattle.dia_run.specs.Texts.{IsDictionaryText};
 ghost use Rattle.dia_differences.specs.Lines.{Adds, AreDifferences};
+ghost use Rattle.dia_differences.specs.Partners.{matches_of, paired};
 ghost use Rattle.dia_diff_text.specs.Lines.{AreTexts};
 ghost use Rattle.dia_diff.specs.Outcome.{AreLines, IsDiffOutcome, IsDiffText, refused_text, same_text};
 
-use crate::marking::{Mark, Traffic, mark_lines, marked, no_marks};
+use crate::marked_lines::marked_lines;
 use crate::notes::counts_of;
-use crate::subjects::Subjects;
 use dia_book::Book;
 use dia_diff_text::push;
-use dia_differences::{Line, Partners, Side, lines_of};
+use dia_differences::{Line, Partners, lines_of};
 use dia_io::{Exit, Input, Inputs, RunFault, Sink, put_all};
 use dia_refused_json::bad_input_line;
 use dia_report::{Answered, BadInput, Refused, Report, Reported};
@@ -123,34 +123,36 @@ fn differences<A: Book, B: Book>(
     notes: &mut String,
 ) -> Result<Answered, AllocError>
     ensures { IfOk result (λ x. IsDiffText
-        (A.meaning a.now) (B.meaning b.now) asked.json x.exit (string_bytes x.text)) }
+        (A.meaning a.now) (B.meaning b.now) asked.sends asked.unknown asked.json x.exit (string_bytes x.text)) }
 {
     let partners = Partners::new(alloc, a, b)?;
     let lines = lines_of(alloc, a, b, &partners)?;
     if lines.is_empty() {
         return same(alloc, asked.json);
     }
-    let marks = marks_of(alloc, asked, a, b, &partners, &lines)?;
-    answered(alloc, asked.json, a, b, &lines, &marks, notes)
+    answered(alloc, asked, a, b, &partners, &lines, notes)
 }
 
 /// The answer of these lines with their marks.
 fn answered<A: Book, B: Book>(
     alloc: Global,
-    json: bool,
+    asked: Asked,
     a: &A,
     b: &B,
+    partners: &Partners,
     lines: &[Line],
-    marks: &[Mark],
     notes: &mut String,
 ) -> Result<Answered, AllocError>
-    requires { Adds [] lines.now (AreDifferences (A.meaning a.now) (B.meaning b.now)) }
+    requires partners { paired partners.now ≡ matches_of (A.meaning a.now) (B.meaning b.now) }
+    requires some { length lines.now ≢ 0 }
+    requires differences { Adds [] lines.now (AreDifferences (A.meaning a.now) (B.meaning b.now)) }
     ensures exit { IfOk result (λ x. x.exit ≡ Exit.No) }
-    ensures text { IfOk result (λ x. AreLines (A.meaning a.now) (B.meaning b.now) json (string_bytes x.text)) }
+    ensures text { IfOk result (λ x. AreLines
+        (A.meaning a.now) (B.meaning b.now) asked.sends asked.unknown asked.json (string_bytes x.text)) }
 {
-    let lines = marked(alloc, lines, marks)?;
+    let lines = marked_lines(alloc, asked, a, b, partners, lines)?;
     note_counts(alloc, &lines, notes);
-    written(alloc, json, a, b, &lines)
+    written(alloc, asked.json, a, b, &lines)
 }
 
 /// Notes how many lines there are: nothing if memory is refused for it.
@@ -158,39 +160,6 @@ fn note_counts(alloc: Global, lines: &[Line], notes: &mut String) {
     if let Ok(said) = counts_of(alloc, lines) {
         *notes = said;
     }
-}
-
-/// Which messages of either side the lines break.
-fn marks_of<A: Book, B: Book>(
-    alloc: Global,
-    asked: Asked,
-    a: &A,
-    b: &B,
-    partners: &Partners,
-    lines: &[Line],
-) -> Result<Vec<Mark>, AllocError> {
-    let mut marks = no_marks(alloc, lines.len())?;
-    let subjects = Subjects::new(alloc, lines)?;
-    let Asked { sends, unknown, .. } = asked;
-    let there = Traffic {
-        sender: a,
-        receiver: b,
-        side: Side::First,
-        commands: &partners.commands.there,
-        sends,
-        unknown,
-    };
-    mark_lines(alloc, lines, &mut marks, &subjects, &there)?;
-    let back = Traffic {
-        sender: b,
-        receiver: a,
-        side: Side::Second,
-        commands: &partners.commands.back,
-        sends,
-        unknown,
-    };
-    mark_lines(alloc, lines, &mut marks, &subjects, &back)?;
-    Ok(marks)
 }
 
 /// The answer of these lines.

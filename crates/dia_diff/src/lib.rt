@@ -1,13 +1,16 @@
 //! The command `diff`: what differs in meaning between two dictionaries, and which difference breaks messages.
 #![tactic(auto)]
 
+mod candidates;
 mod command;
-mod finding;
+mod marked_lines;
 mod marking;
+mod marks;
 mod notes;
 mod origins;
 #[cfg(test)]
 mod rows;
 mod subjects;
+mod traffic;
 
 pub use command::{Asked, write_diff};

@@ -2,9 +2,9 @@
 use Rattle.std.specs.Prelude.{◌≡◌, ℕ, Bool, true, false, not, List, [], Option, Some, None, codes, slice_get, MatchOption}
 use Rattle.std.specs.Option.{option_map_or}
 use Rattle.dia_book.specs.Dictionary.{Dictionary}
-use Rattle.dia_owners.specs.declared.owner.Owner.{Owner}
-use Rattle.dia_owners.specs.declared.owner.Owner.TheVariants as owners
-use Rattle.dia_owners.specs.Owners.{name_of}
+use Rattle.dia_differences.specs.declared.owner.Owner.{Owner}
+use Rattle.dia_differences.specs.declared.owner.Owner.TheVariants as owners
+use Rattle.dia_differences.specs.Owners.{name_of}
 use Rattle.dia_differences.specs.declared.lines.AvpField.{AvpField}
 use Rattle.dia_differences.specs.declared.lines.AvpField.TheVariants as avps
 use Rattle.dia_differences.specs.declared.lines.HeadField.{HeadField}

@@ -8,8 +8,7 @@ ghost use Rattle.dia_diff_text.specs.Parts.{avp_word, field_of, head_word, is_co
 
 use crate::sides::words_in;
 use dia_book::Book;
-use dia_differences::{AvpField, HeadField, Line, Side, What};
-use dia_owners::Owner;
+use dia_differences::{AvpField, HeadField, Line, Owner, Side, What};
 use std::alloc::{AllocError, Global};
 
 /// What a line says.

@@ -3,12 +3,11 @@
 ghost use Rattle.std.specs.Prelude.{◌≡◌, ◌<◌, ◌++◌, ◌^◌, IfSome, OnOk, codes, slice_get, string_bytes};
 ghost use Rattle.std.specs.Option.{option_map_or};
 ghost use Rattle.dia_valid.specs.Valid.{known};
-ghost use Rattle.dia_owners.specs.Owners.{rules_of};
+ghost use Rattle.dia_differences.specs.Owners.{rules_of};
 ghost use Rattle.dia_diff_text.specs.Words.{AddsText, avp_words, close_word, open_word, place_rule_words, place_words, rule_words};
 
 use dia_book::{Book, DRule, Key, RuleKind};
-use dia_differences::RulePlace;
-use dia_owners::push_counts;
+use dia_differences::{RulePlace, push_counts};
 use std::alloc::AllocError;
 
 /// Adds a rule, as `[ User-Name ] 0..1`, and of a fixed one its place: `< Session-Id > 1 at 1`.

@@ -9,8 +9,7 @@ ghost use Rattle.dia_diff_text.specs.Words.{AddsText, IsAvpWords, command_words}
 use crate::rules::push_rule;
 use crate::words::{push_avp_field, push_declaration, push_head_field, push_header};
 use dia_book::{Book, Definition, Entry};
-use dia_differences::{AvpField, HeadField, Side, What};
-use dia_owners::Owner;
+use dia_differences::{AvpField, HeadField, Owner, Side, What};
 use std::alloc::{AllocError, Global};
 
 /// The words of a line in the dictionary of a side, if it has what differs.

@@ -12,9 +12,9 @@ use Rattle.dia_book.specs.Dictionary.{Dictionary, DictEntry, PlainDefinition, Is
 use Rattle.dia_book.proofs.SameKeys.{same_key-equal, same_key-true}
 use Rattle.dia_valid.proofs.Entries.{at_position}
 use Rattle.dia_valid.proofs.Members.{IsIn, all_of, contains_in, in_at, in_filter_map, in_left, in_right, some_of}
-use Rattle.dia_owners.specs.declared.owner.Owner.{Owner}
-use Rattle.dia_owners.specs.declared.owner.Owner.TheVariants.{Avp, Command}
-use Rattle.dia_owners.specs.Owners.{owned, rules_of}
+use Rattle.dia_differences.specs.declared.owner.Owner.{Owner}
+use Rattle.dia_differences.specs.declared.owner.Owner.TheVariants.{Avp, Command}
+use Rattle.dia_differences.specs.Owners.{owned, rules_of}
 use Rattle.dia_differences.specs.Partners.{Matches}
 use Rattle.dia_differences.specs.Same.{AreSameRules, HasRules}
 use Rattle.dia_differences.specs.Matching.{other_key, partner_of, place_by, rule_place}

@@ -1,3 +1,6 @@
+mod Groups
+pub mod Owned
+mod Names
 mod Chains
 mod Paired
 mod CommandMessages

@@ -3,9 +3,9 @@ use Rattle.std.proofs.Common.{◌≡◌, ℕ, zero, suc, ◌<◌, List, ◌++◌
 use Rattle.std.specs.Prelude.{IfSome, IsSome, slice_get}
 use Rattle.dia_book.specs.declared.definition.DRule.{DRule}
 use Rattle.dia_book.specs.Dictionary.{Dictionary}
-use Rattle.dia_owners.specs.declared.owner.Owner.{Owner}
-use Rattle.dia_owners.specs.declared.owner.Owner.TheVariants as owners
-use Rattle.dia_owners.specs.Owners.{rules_of}
+use Rattle.dia_differences.specs.declared.owner.Owner.{Owner}
+use Rattle.dia_differences.specs.declared.owner.Owner.TheVariants as owners
+use Rattle.dia_differences.specs.Owners.{rules_of}
 use Rattle.dia_valid.proofs.Members.{at_some, there_is}
 use Rattle.dia_differences.specs.declared.lines.AvpField.{AvpField}
 use Rattle.dia_differences.specs.declared.lines.AvpField.TheVariants as avps

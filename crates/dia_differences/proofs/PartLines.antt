@@ -1,7 +1,7 @@
 -- The lines of an AVP or a command, from those of its fields and those of its rules.
 use Rattle.std.proofs.Common.{◌≡◌, ℕ, List, length, Option, Some, None, refl, sym, subst, ap, ◌∙◌}
 use Rattle.dia_book.specs.Dictionary.{Dictionary}
-use Rattle.dia_owners.specs.declared.owner.Owner.TheVariants as owners
+use Rattle.dia_differences.specs.declared.owner.Owner.TheVariants as owners
 use Rattle.dia_differences.specs.declared.lines.Line.{Line}
 use Rattle.dia_differences.specs.declared.lines.What.{What}
 use Rattle.dia_differences.specs.declared.sides.Side.TheVariants as sides

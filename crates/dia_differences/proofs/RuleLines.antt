@@ -5,8 +5,8 @@ use Rattle.std.proofs.lemmas.Option.{same_Some}
 use Rattle.dia_valid.proofs.Members.{when_some}
 use Rattle.dia_book.specs.declared.definition.DRule.{DRule}
 use Rattle.dia_book.specs.Dictionary.{Dictionary}
-use Rattle.dia_owners.specs.declared.owner.Owner.{Owner}
-use Rattle.dia_owners.specs.Owners.{rules_of}
+use Rattle.dia_differences.specs.declared.owner.Owner.{Owner}
+use Rattle.dia_differences.specs.Owners.{rules_of}
 use Rattle.dia_differences.specs.declared.lines.Line.{Line}
 use Rattle.dia_differences.specs.declared.lines.What.{What}
 use Rattle.dia_differences.specs.declared.lines.What.TheVariants as kinds

@@ -11,10 +11,10 @@ use Rattle.dia_book.specs.Rules.{is_fixed}
 use Rattle.dia_book.specs.Dictionary.{Dictionary, PlainDefinition, definitions, lists_key, slot_at, slot_of}
 use Rattle.dia_valid.proofs.Entries.{at_position}
 use Rattle.dia_valid.proofs.Members.{at_some, there_is, when_some}
-use Rattle.dia_owners.specs.declared.owner.Owner.{Owner}
-use Rattle.dia_owners.specs.Owners.{definition_of}
-use Rattle.dia_owners.proofs.Owned.{rules_none, rules_some}
-use Rattle.dia_differences.specs.Matching.{other_key, place_by, rule_place}
+use Rattle.dia_differences.specs.declared.owner.Owner.{Owner}
+use Rattle.dia_differences.specs.Owners.{definition_of, rules_of}
+use Rattle.dia_differences.proofs.Owned.{rules_none, rules_some}
+use Rattle.dia_differences.specs.Matching.{listed_at, other_key, place_by, rule_place}
 use Rattle.dia_differences.specs.Slots.{slot_place}
 
 -- the place of a key's slot is that of its rule
@@ -68,3 +68,26 @@ pub slot_in : (e : Dictionary) (n : ℕ) (k : Key) (s : Slot) (o : Option ℕ) �
     → IfSome (slice_get (definitions e) n) (λ x. o ≡ position (lists_key k) x.rules)
 slot_in e n k s o slot place = when_some (λ (y : PlainDefinition). o ≡ position (lists_key k) y.rules) (slice_get (definitions e) n) (λ y there.
     place ∙ ap slot_place (at_some (λ (x : PlainDefinition). s ≡ slot_of x.rules k) (slice_get (definitions e) n) y slot there) ∙ place_of_slot y.rules k)
+
+-- what holds of the rules of an owner's definition holds of the owner's rules
+module _ (d : Dictionary) (of : Owner) (key : Option Key) where
+  none_listed : (key : Option Key) → None ≡ listed_at key []
+  none_listed None = refl
+  none_listed (Some k) = refl
+
+  pub nowhere_listed : None ≡ definition_of d of → None ≡ listed_at key (rules_of d of)
+  nowhere_listed none = none_listed key ∙ ap (listed_at key) (rules_none d of none)
+
+  pub listed_in : (n : ℕ) (o : Option ℕ) → Some n ≡ definition_of d of → n < length (definitions d) → IfSome (slice_get (definitions d) n) (λ x. o ≡ listed_at key x.rules) → o ≡ listed_at key (rules_of d of)
+  listed_in n o is within found =
+      let (x, at) = there_is (definitions d) n within in
+      at_some (λ (y : PlainDefinition). o ≡ listed_at key y.rules) (slice_get (definitions d) n) x found at ∙ ap (listed_at key) (rules_some d of n x is at)
+
+module _ (d : Dictionary) (n : ℕ) (key : Option Key) (o : Option ℕ) where
+  pub wildcard_among : (x : PlainDefinition) → slice_get (definitions d) n ≡ Some x → key ≡ None → o ≡ position (λ r. not (is_some r.key)) x.rules → IfSome (slice_get (definitions d) n) (λ y. o ≡ listed_at key y.rules)
+  wildcard_among x at none found = when_some (λ (y : PlainDefinition). o ≡ listed_at key y.rules) (slice_get (definitions d) n) (λ y there.
+      found ∙ ap (λ (z : PlainDefinition). position (λ (r : DRule). not (is_some r.key)) z.rules) (same_Some x y (sym at ∙ there)) ∙ ap (λ (k : Option Key). listed_at k y.rules) (sym none))
+
+  pub key_among : (k : Key) (s : Slot) → key ≡ Some k → IfSome (slice_get (definitions d) n) (λ x. s ≡ slot_of x.rules k) → o ≡ slot_place s → IfSome (slice_get (definitions d) n) (λ y. o ≡ listed_at key y.rules)
+  key_among k s some slot place = when_some (λ (y : PlainDefinition). o ≡ listed_at key y.rules) (slice_get (definitions d) n) (λ y there.
+      at_some (λ (x : PlainDefinition). o ≡ position (lists_key k) x.rules) (slice_get (definitions d) n) y (slot_in d n k s o slot place) there ∙ ap (λ (t : Option Key). listed_at t y.rules) (sym some))

@@ -8,7 +8,7 @@ use Rattle.dia_book.proofs.Members.{All-from_places}
 use Rattle.dia_book.proofs.SameKeys.{same_key-equal, same_key-true}
 use Rattle.dia_valid.proofs.Entries.{all_at}
 use Rattle.dia_valid.proofs.Members.{some_of, there_is}
-use Rattle.dia_owners.specs.declared.owner.Owner.TheVariants as of
+use Rattle.dia_differences.specs.declared.owner.Owner.TheVariants as of
 use Rattle.dia_differences.specs.Partners.{Matches}
 use Rattle.dia_differences.specs.Same.{IsSameAvp, IsSameCommand, IsSameDictionary}
 use Rattle.dia_differences.specs.Partners.{AreBothWays}

@@ -12,8 +12,8 @@ use Rattle.dia_book.specs.declared.definition.DRule.{DRule}
 use Rattle.dia_book.specs.declared.definition.DefHead.{DefHead}
 use Rattle.dia_book.specs.declared.definition.DefHead.TheVariants.{Group, Command, Error}
 use Rattle.dia_book.specs.Dictionary.{Dictionary, DictEntry, PlainDefinition, IsCommandHead, IsSameSelector}
-use Rattle.dia_owners.specs.declared.owner.Owner.TheVariants as of
-use Rattle.dia_owners.specs.Owners.{rules_of}
+use Rattle.dia_differences.specs.declared.owner.Owner.TheVariants as of
+use Rattle.dia_differences.specs.Owners.{rules_of}
 use Rattle.dia_differences.specs.declared.lines.AvpField.TheVariants as avps
 use Rattle.dia_differences.specs.declared.lines.HeadField.TheVariants as heads
 use Rattle.dia_differences.specs.Headers.{pxy_of, selector}

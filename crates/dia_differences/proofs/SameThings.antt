@@ -3,9 +3,9 @@ use Rattle.std.proofs.Common.{◌≡◌, ℕ, List, length, Option, Some}
 use Rattle.std.specs.Prelude.{IsSome, slice_get}
 use Rattle.dia_book.specs.declared.definition.DRule.{DRule}
 use Rattle.dia_book.specs.Dictionary.{Dictionary}
-use Rattle.dia_owners.specs.declared.owner.Owner.{Owner}
-use Rattle.dia_owners.specs.declared.owner.Owner.TheVariants.{Avp, Command}
-use Rattle.dia_owners.specs.Owners.{rules_of}
+use Rattle.dia_differences.specs.declared.owner.Owner.{Owner}
+use Rattle.dia_differences.specs.declared.owner.Owner.TheVariants.{Avp, Command}
+use Rattle.dia_differences.specs.Owners.{rules_of}
 use Rattle.dia_differences.specs.declared.lines.AvpField.TheVariants as avps
 use Rattle.dia_differences.specs.declared.lines.HeadField.TheVariants as heads
 use Rattle.dia_differences.specs.Partners.{Matches}

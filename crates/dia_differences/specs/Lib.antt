@@ -1,3 +1,6 @@
+pub mod Sides
+pub mod Owners
+pub mod Counts
 pub mod Same
 pub mod Headers
 pub mod Partners

@@ -2,9 +2,9 @@
 use Rattle.std.specs.Prelude.{◌≡◌, ◌⊎◌, ℕ, zero, suc, false, IfSome, IsSome, List, [], ◌∷◌, ◌++◌, length, map, Option, Some, None, slice_get}
 use Rattle.dia_book.specs.declared.definition.DRule.{DRule}
 use Rattle.dia_book.specs.Dictionary.{Dictionary}
-use Rattle.dia_owners.specs.declared.owner.Owner.{Owner}
-use Rattle.dia_owners.specs.declared.owner.Owner.TheVariants as owners
-use Rattle.dia_owners.specs.Owners.{rules_of}
+use Rattle.dia_differences.specs.declared.owner.Owner.{Owner}
+use Rattle.dia_differences.specs.declared.owner.Owner.TheVariants as owners
+use Rattle.dia_differences.specs.Owners.{rules_of}
 use Rattle.dia_differences.specs.declared.lines.AvpField.{AvpField}
 use Rattle.dia_differences.specs.declared.lines.AvpField.TheVariants as avps
 use Rattle.dia_differences.specs.declared.lines.HeadField.{HeadField}

@@ -4,8 +4,8 @@ use Rattle.dia_wire.specs.declared.Key.{Key}
 use Rattle.dia_book.specs.declared.definition.DRule.{DRule}
 use Rattle.dia_book.specs.Dictionary.{Dictionary, DictEntry, PlainDefinition, entry_of, lists_key}
 use Rattle.dia_book.specs.Rules.{is_fixed}
-use Rattle.dia_owners.specs.declared.owner.Owner.{Owner}
-use Rattle.dia_owners.specs.Owners.{rules_of}
+use Rattle.dia_differences.specs.declared.owner.Owner.{Owner}
+use Rattle.dia_differences.specs.Owners.{rules_of}
 use Rattle.dia_differences.specs.declared.lines.AvpField.{AvpField}
 use Rattle.dia_differences.specs.declared.lines.AvpField.TheVariants as avps
 use Rattle.dia_differences.specs.declared.lines.HeadField.{HeadField}
@@ -48,6 +48,11 @@ At R xs ys i j = IfSome (slice_get xs i) (λ x. IfSome (slice_get ys j) (R x))
 abbrev pub other_key : Dictionary → Dictionary → List (Option ℕ) → Key → Option Key
 other_key a b pairs key =
     option_and_then (λ e. option_and_then (λ f. option_and_then (λ y. Some y.key) (slice_get b.entries f)) (partner_of pairs e (length b.entries))) (entry_of a key)
+
+-- the place of the rule for a key, or without a key of the wildcard's
+abbrev pub listed_at : Option Key → List DRule → Option ℕ
+listed_at None rules = position (λ rule. not (is_some rule.key)) rules
+listed_at (Some key) rules = position (lists_key key) rules
 
 abbrev pub place_by : Dictionary → Dictionary → List (Option ℕ) → List DRule → Option Key → Option ℕ
 place_by a b pairs others None = position (λ rule. not (is_some rule.key)) others

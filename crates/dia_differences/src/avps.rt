@@ -8,12 +8,12 @@ ghost use Rattle.dia_differences.specs.Lines.{AddedAvp, Adds, AloneAvp, AvpLines
 ghost use Rattle.dia_differences.specs.Partners.{paired};
 
 use crate::lines::{AvpField, Line, What, push_line, push_unless};
+use crate::owner::Owner;
 use crate::partners::Partners;
 use crate::rules::{push_all_rules, push_rules};
 use crate::sides::Side;
 use dia_book::{Book, Entry, Format, MRule};
 use dia_data::format_below;
-use dia_owners::Owner;
 use std::alloc::AllocError;
 
 /// Adds the lines of the AVPs of the first dictionary.

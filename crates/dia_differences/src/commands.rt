@@ -10,11 +10,11 @@ ghost use Rattle.dia_differences.specs.Partners.{paired};
 use crate::avps::partner;
 use crate::headers::{pxy_of, selector_of};
 use crate::lines::{HeadField, Line, What, push_line, push_unless};
+use crate::owner::Owner;
 use crate::partners::Partners;
 use crate::rules::{push_all_rules, push_rules};
 use crate::sides::Side;
 use dia_book::{Book, Definition};
-use dia_owners::Owner;
 use std::alloc::AllocError;
 
 /// Adds the lines of the commands of the first dictionary.

@@ -2,12 +2,12 @@
 ghost use Rattle.std.specs.Prelude.{◌≡◌, ◌∷◌, ◌++◌, OnOk, [], if◌then◌else◌};
 ghost use Rattle.dia_differences.specs.Lines.{unmarked};
 
+use crate::owner::Owner;
 use crate::sides::Side;
-use dia_owners::Owner;
 use std::alloc::AllocError;
 
 /// A field of an AVP.
-#[derive(Clone, Copy, PartialEq, Eq)]
+#[derive(Clone, Copy, PartialEq, Eq, Hash)]
 pub enum AvpField {
     Name,
     Code,
@@ -17,7 +17,7 @@ pub enum AvpField {
 }
 
 /// A field of a command's header, or its name.
-#[derive(Clone, Copy, PartialEq, Eq)]
+#[derive(Clone, Copy, PartialEq, Eq, Hash)]
 pub enum HeadField {
     Name,
     Code,

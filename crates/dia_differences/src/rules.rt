@@ -4,18 +4,18 @@ ghost use Rattle.std.specs.Prelude.{◌≡◌, ◌<◌, ◌↔◌, IfSome, IsTru
 ghost use Rattle.std.specs.Prelude.{◌∷◌, ◌++◌, [], if◌then◌else◌, option_and_then, position, slice_get, true};
 ghost use Rattle.dia_book.specs.Dictionary.{definitions, lists_key};
 ghost use Rattle.dia_book.specs.Rules.{is_fixed};
-ghost use Rattle.dia_owners.specs.Owners.{rules_of};
+ghost use Rattle.dia_differences.specs.Owners.{rules_of};
 ghost use Rattle.dia_differences.specs.Lines.{Adds, AllRules, OtherRules, OwnRules, RuleLine, RuleLines, unmarked};
-ghost use Rattle.dia_differences.specs.Matching.{IsSameAt, other_key, place_by, rule_place};
+ghost use Rattle.dia_differences.specs.Matching.{IsSameAt, listed_at, other_key, place_by, rule_place};
 ghost use Rattle.dia_differences.specs.Partners.{paired};
 ghost use Rattle.dia_differences.specs.Slots.{slot_place};
 
 use crate::avps::partner;
 use crate::lines::{Line, RulePlace, What, push_line, push_unless};
+use crate::owner::Owner;
 use crate::partners::Partners;
 use crate::sides::Side;
 use dia_book::{Book, DRule, DefId, Definition, Key, RuleKind, Slot};
-use dia_owners::Owner;
 use std::alloc::AllocError;
 
 /// Adds the rules of a definition that one dictionary alone has.
@@ -167,6 +167,28 @@ fn place_in<D: Book, E: Book>(
     }
 }
 
+/// The place of the rule of a definition for a key, or without a key of the wildcard's: none where there is no such rule.
+pub fn place_of_rule<D: Book>(book: &D, of: Owner, key: Option<Key>) -> Option<usize>
+    ensures { result ≡ listed_at key (rules_of (D.meaning book.now) of) }
+{
+    match of.definition(book) {
+        Some(def) => place_among(book, def, key),
+        None => None,
+    }
+}
+
+/// The same among the rules of this definition.
+fn place_among<D: Book>(book: &D, def: DefId, key: Option<Key>) -> Option<usize>
+    requires { def < length (definitions (D.meaning book.now)) }
+    ensures { IfSome (slice_get (definitions (D.meaning book.now)) def)
+        (λ d. result ≡ listed_at key d.rules) }
+{
+    match key {
+        None => wildcard_place(book.def(def)),
+        Some(key) => slot_place(book.slot(def, key)),
+    }
+}
+
 /// The place of the wildcard's rule.
 fn wildcard_place(definition: &Definition) -> Option<usize>
     ensures { result ≡ position (λ r. not (is_some r.key)) definition.now.rules.items }
@@ -201,7 +223,7 @@ fn other_key<D: Book, E: Book>(
 }
 
 /// The place of a slot's rule.
-pub fn slot_place(slot: Slot) -> Option<usize>
+fn slot_place(slot: Slot) -> Option<usize>
     ensures { result ≡ slot_place slot }
 {
     match slot {

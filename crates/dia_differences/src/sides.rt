@@ -1,4 +1,6 @@
 //! The two dictionaries.
+ghost use Rattle.std.specs.Prelude.{◌≡◌};
+ghost use Rattle.dia_differences.specs.Sides.{other_side};
 
 /// One of the two dictionaries.
 #[derive(Clone, Copy, PartialEq, Eq, Hash)]
@@ -8,7 +10,9 @@ pub enum Side {
 }
 
 impl Side {
-    pub fn other(self) -> Side {
+    pub fn other(self) -> Side
+        ensures { result ≡ other_side self }
+    {
         match self {
             Side::First => Side::Second,
             Side::Second => Side::First,

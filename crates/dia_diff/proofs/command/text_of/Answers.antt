@@ -2,7 +2,7 @@ use Rattle.std.proofs.Common.{List, subst, string_bytes, arith}
 use Rattle.std.proofs.lemmas.List.{take_all}
 use Rattle.dia_differences.specs.declared.lines.Line.{Line}
 use Rattle.dia_diff_text.specs.Lines.{AreTexts}
-use Rattle.dia_diff.proofs.MarkedLines.{texts_next}
+use Rattle.dia_diff.proofs.TextsOfLines.{texts_next}
 use Rattle.dia_diff.proofs.command.text_of.Goals as goal
 
 pub loop-line-preserved : goal.loop-line-preserved

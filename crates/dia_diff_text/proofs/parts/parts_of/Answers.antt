@@ -1,6 +1,6 @@
 use Rattle.std.proofs.Common.{refl, ap, ◌∙◌}
 use Rattle.dia_differences.specs.declared.sides.Side.{Side}
-use Rattle.dia_owners.specs.declared.owner.Owner.{Owner}
+use Rattle.dia_differences.specs.declared.owner.Owner.{Owner}
 use Rattle.dia_diff_text.specs.Parts.{is_command, name_in}
 use Rattle.dia_diff_text.proofs.SameParts.{same_parts}
 use Rattle.dia_diff_text.proofs.parts.parts_of.Goals as goal

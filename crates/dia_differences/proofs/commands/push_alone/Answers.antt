@@ -1,7 +1,7 @@
 use Rattle.std.proofs.Common.{length}
 use Rattle.std.proofs.lemmas.Result.{on_ok_weaker}
-use Rattle.dia_owners.specs.declared.owner.Owner.TheVariants as owners
-use Rattle.dia_owners.specs.Owners.{rules_of}
+use Rattle.dia_differences.specs.declared.owner.Owner.TheVariants as owners
+use Rattle.dia_differences.specs.Owners.{rules_of}
 use Rattle.dia_differences.specs.declared.lines.What.TheVariants as kinds
 use Rattle.dia_differences.specs.Lines.{AllRules, Only}
 use Rattle.dia_differences.proofs.Chains.{adds_only, adds_then}

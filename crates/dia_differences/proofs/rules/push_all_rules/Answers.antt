@@ -1,6 +1,6 @@
 use Rattle.std.proofs.Common.{ℕ, List, length, arith, ap}
 use Rattle.dia_book.specs.declared.definition.DRule.{DRule}
-use Rattle.dia_owners.specs.Owners.{rules_of}
+use Rattle.dia_differences.specs.Owners.{rules_of}
 use Rattle.dia_differences.specs.declared.lines.What.{What}
 use Rattle.dia_differences.specs.declared.lines.What.TheVariants as kinds
 use Rattle.dia_differences.specs.Lines.{Only, place_of}

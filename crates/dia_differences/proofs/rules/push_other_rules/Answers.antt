@@ -2,7 +2,7 @@ use Rattle.std.proofs.Common.{List, length, arith, sym, ap, ◌∙◌}
 use Rattle.std.specs.Prelude.{slice_get}
 use Rattle.std.proofs.lemmas.Option.{slice_get-get_or}
 use Rattle.dia_book.specs.declared.definition.DRule.{DRule}
-use Rattle.dia_owners.specs.Owners.{rules_of}
+use Rattle.dia_differences.specs.Owners.{rules_of}
 use Rattle.dia_differences.specs.Lines.{OtherRuleAt}
 use Rattle.dia_differences.proofs.Chains.{adds_all, adds_first, adds_next}
 use Rattle.dia_differences.proofs.RuleLines.{other_rule}

@@ -1,5 +1,5 @@
 use Rattle.std.proofs.lemmas.Result.{on_ok_weaker}
-use Rattle.dia_owners.specs.Owners.{rules_of}
+use Rattle.dia_differences.specs.Owners.{rules_of}
 use Rattle.dia_differences.specs.Matching.{rule_place}
 use Rattle.dia_differences.proofs.RuleLines.{rule_found, rule_missing}
 use Rattle.dia_differences.proofs.rules.push_own_rule.Goals as goal

@@ -1,3 +1,0 @@
-mod Groups
-pub mod Owned
-mod Names
