@@ -17,7 +17,7 @@ use Rattle.dia_report.specs.declared.reporting.Answered.{Answered}
 use Rattle.dia_report.specs.declared.BadInput.{BadInput}
 use Rattle.dia_report.specs.declared.Refused.TheVariants.{Bad}
 use Rattle.dia_report.specs.Refusals.{RecordsOf, dictionary_line}
-use Rattle.dia_run.specs.Texts.{IsDictionaryText, IsNoDictionaryText, IsSourceText}
+use Rattle.dia_run.specs.Texts.{IsDictionaryText, IsNoDictionaryText, IsPlacedIn, IsSourceText}
 use Rattle.dia_lint_text.specs.Asking.{Question, has_in, is_asked, stranger}
 use Rattle.dia_lint_text.specs.Lines.{accepted_of, ending, exit_of, left_of, line_of, stale_of}
 use Rattle.dia_lint_text.specs.Listed.{IsListed}
@@ -79,12 +79,12 @@ all_others first second third fourth m n all x y z to_m to_n to_all is_x is_y is
 
 -- the outcome of a listing
 pub listed_outcome : (q : Question) (inputs : Inputs) (source : Source) (d : Dictionary) (chosen : List Bool) (found : List Finding) (list : List PlainEntry)
-    (listing : Listing) (a : Answered) → chosen ≡ map (is_asked q) rules → stranger q ≡ None → IsSourceText inputs.first (plain_source source) → IsDictionaryText inputs.first d
-    → AreFindings d q.unknown found → IsListText (has_in chosen) inputs.table list
+    (listing : Listing) (a : Answered) → chosen ≡ map (is_asked q) rules → stranger q ≡ None → IsSourceText inputs.first (plain_source source)
+    → IsPlacedIn inputs.first source → IsDictionaryText inputs.first d → AreFindings d q.unknown found → IsListText (has_in chosen) inputs.table list
     → IsListing q d source (text_of inputs.first) found list (string_bytes listing.text) (exit_of (map (λ s. s.rule) listing.shown.items) (map plain_entry listing.stale.items))
     → a.text ≡ listing.text → a.exit ≡ exit_of (map (λ s. s.rule) listing.shown.items) (map plain_entry listing.stale.items) → IsLintOutcome q inputs (string_bytes a.text) a.exit
-listed_outcome q inputs source d chosen found list listing a table known read is findings are lists text exit =
-    listed source d found list known read is (commands_numbered inputs.first d is) findings (subst (λ test. IsListText test inputs.table list) (table_is (is_asked q) chosen table) are)
+listed_outcome q inputs source d chosen found list listing a table known read placed is findings are lists text exit =
+    listed source d found list known read placed is (commands_numbered inputs.first d is) findings (subst (λ test. IsListText test inputs.table list) (table_is (is_asked q) chosen table) are)
     (subst (λ e. IsListing q d source (text_of inputs.first) found list (string_bytes a.text) e) (sym exit)
     (subst (λ t. IsListing q d source (text_of inputs.first) found list (string_bytes t) (exit_of (map (λ s. s.rule) listing.shown.items) (map plain_entry listing.stale.items))) (sym text) lists))
 

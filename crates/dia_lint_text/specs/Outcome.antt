@@ -14,7 +14,7 @@ use Rattle.dia_terms.specs.declared.Unknown.{Unknown}
 use Rattle.dia_report.specs.declared.bad_input.BadInput.{BadInput}
 use Rattle.dia_report.specs.Refusals.{bad_input_text}
 use Rattle.dia_run.specs.RefusedDictionaries.{RefusesFirst}
-use Rattle.dia_run.specs.Texts.{line, IsDictionaryText, IsSourceText}
+use Rattle.dia_run.specs.Texts.{line, IsDictionaryText, IsPlacedIn, IsSourceText}
 use Rattle.dia_refused_json.specs.Refusals.{bad_input_json, text_of}
 use Rattle.dia_lint.specs.Exact.{AreAscending, AreOf, AreOfMessages, IsNumbered, NoLevelIsExact, NoMessageIsExact, OthersHaveAvps, OthersHaveMessages, is_no_level, is_no_message, reported}
 use Rattle.dia_lint.specs.GuidelineLines.{guideline_lines}
@@ -88,10 +88,10 @@ pub record IsListing (q : Question) (d : Dictionary) (source : Source) (text : L
       ++ ending q.json (map (λ row. row.rule) (left_of list found rows)) (accepted_of list found rows) (stale_of list found rows)
   pub exit_is : exit ≡ exit_of (map (λ row. row.rule) (left_of list found rows)) (stale_of list found rows)
 
--- the findings are listed, or a word names no rule, or the dictionary or the list is refused
+-- the findings are listed, by the lines and columns of the dictionary's text, or a word names no rule, or the dictionary or the list is refused
 pub data IsLintOutcome (q : Question) (inputs : Inputs) (written : List ℕ) (exit : Exit) : Type 0 where
   listed : (source : Source) (d : Dictionary) (found : List Finding) (list : List PlainEntry) → stranger q ≡ None
-      → IsSourceText inputs.first (plain_source source) → IsDictionaryText inputs.first d → AreNumbered d → AreFindings d q.unknown found
+      → IsSourceText inputs.first (plain_source source) → IsPlacedIn inputs.first source → IsDictionaryText inputs.first d → AreNumbered d → AreFindings d q.unknown found
       → IsListText (is_asked q) inputs.table list → IsListing q d source (text_of inputs.first) found list written exit → IsLintOutcome q inputs written exit
   no_rule : (word : List ℕ) → stranger q ≡ Some word → written ≡ no_rule_text q.json word → exit ≡ exits.Bad → IsLintOutcome q inputs written exit
   no_dictionary : (bad : BadInput) → stranger q ≡ None → RefusesFirst inputs (bad_input_text bad)

@@ -14,7 +14,7 @@ ghost use Rattle.dia_lint_text.specs.Lines.{exit_of};
 ghost use Rattle.dia_lint_text.specs.Outcome.{AreFindings, AreOthers, IsLintOutcome, IsListing, bad_text, no_dictionary_text};
 ghost use Rattle.dia_lint_text.specs.Outcome.{no_list_text, no_rule_text};
 ghost use Rattle.dia_refused_json.specs.Refusals.{text_of};
-ghost use Rattle.dia_run.specs.Texts.{IsDictionaryText, IsSourceText};
+ghost use Rattle.dia_run.specs.Texts.{IsDictionaryText, IsPlacedIn, IsSourceText};
 
 use crate::accepted::{BadList, read_accepted};
 use crate::asked::Asked;
@@ -110,6 +110,7 @@ fn over_book(
     requires chosen { choice.now.chosen.items ≡ map (is_asked (question asked.now)) rules }
     requires known { stranger (question asked.now) ≡ None }
     requires source { IsSourceText inputs.now.first (plain_source read.now.source) }
+    requires placed { IsPlacedIn inputs.now.first read.now.source }
     requires book { IsDictionaryText inputs.now.first (⟦<IndexedBook as Book>⟧.meaning read.now.book) }
     ensures { IfOk result (λ a. IsLintOutcome (question asked.now) inputs.now (string_bytes a.text) a.exit) }
 {
