@@ -114,8 +114,3 @@ Captures lines u most json inputs known word out ended =
 -- `show --lines`
 abbrev pub Lists : Bool → Bool → Inputs → Option (List ℕ) → List ℕ → Stream → Result Reported Ending → Type 0
 Lists json names inputs known word out ended = Ends (AreShown json names inputs) (IsShownBegun json names inputs) known word out ended
-
--- `mask`: where it fails, a device did, or memory was refused. What it writes is tested, and not stated here
-abbrev pub Masks : List ℕ → Stream → Result Reported Ending → Type 0
-Masks word out (Ok reported) = ¬ IsTrue out.failed
-Masks word out (Err made) = IsFailure word out.failed made

@@ -11,9 +11,10 @@ use Rattle.dia_cli.specs.declared.origin.Origins.{Origins}
 use Rattle.dia_cli.specs.declared.task.Task.{Task}
 use Rattle.dia_cli.specs.declared.task.Task.TheVariants as task
 use Rattle.dia_tasks.specs.Answers.{IsAllFaults, IsAnswer, IsNamed, IsReplied}
-use Rattle.dia_tasks.specs.Captures.{Captures, Lists, Masks, known_of, messages_word}
+use Rattle.dia_tasks.specs.Captures.{Captures, Lists, known_of, messages_word}
 use Rattle.dia_tasks.specs.Connections.{Follows}
 use Rattle.dia_tasks.specs.Lints.{question_of}
+use Rattle.dia_tasks.specs.Masked.{Masks}
 use Rattle.dia_tasks.specs.Samples.{Samples, form_of}
 use Rattle.dia_diff.specs.Outcome.{IsDiffOutcome}
 use Rattle.dia_lint_text.specs.Outcome.{IsLintOutcome}
@@ -54,7 +55,8 @@ TaskRuns (task.CheckAll u most) json w origins inputs out ended = Runs (IsAllFau
 TaskRuns (task.Answer asked) json w origins inputs out ended = Runs (IsReplied asked inputs) out ended
 TaskRuns (task.Follow asked) json w origins inputs out ended =
     Follows asked json inputs (messages_of w origins) (messages_word origins.messages) out ended
-TaskRuns (task.Mask asked) json w origins inputs out ended = Masks (messages_word origins.messages) out ended
+TaskRuns (task.Mask asked) json w origins inputs out ended =
+    Masks asked inputs (messages_of w origins) (messages_word origins.messages) out ended
 TaskRuns (task.Uses avps) json w origins inputs out ended = Runs (IsUsesOutcome json (map string_bytes avps.items) inputs) out ended
 TaskRuns (task.Diff sends unknown) json w origins inputs out ended = Runs (IsDiffOutcome sends unknown json inputs) out ended
 TaskRuns (task.Lint asked) json w origins inputs out ended = Runs (IsLintOutcome (question_of asked json origins.first) inputs) out ended

@@ -1,8 +1,10 @@
 //! `mask`: messages with the data replaced that may identify subscribers or nodes.
 
-ghost use Rattle.std.specs.Prelude.{IsTrue};
+ghost use Rattle.std.specs.Prelude.{◌≡◌, IsTrue};
 ghost use Rattle.dia_cli.specs.Ending.{stream};
-ghost use Rattle.dia_tasks.specs.Captures.{Masks, messages_word};
+ghost use Rattle.dia_mask_text.specs.Names.{lists};
+ghost use Rattle.dia_tasks.specs.Captures.{known_of, messages_word};
+ghost use Rattle.dia_tasks.specs.Masked.{Masks, lists_of};
 
 use crate::asking::{list_of, put_notes};
 use crate::captured::ending_of;
@@ -28,7 +30,8 @@ where
     O: Opener,
     W: Write,
     requires { ¬ IsTrue (⟦<ToWriter<W> as Sink>⟧.has_failed out.old) }
-    ensures { Masks (messages_word origins.now.messages)
+    ensures { Masks asked.now inputs.now
+        (known_of (O.content opener.now) (O.input opener.now) origins.now.messages) (messages_word origins.now.messages)
         (stream (⟦<ToWriter<W> as Sink>⟧.written out.old) (⟦<ToWriter<W> as Sink>⟧.written out.new)
         (⟦<ToWriter<W> as Sink>⟧.has_failed out.new)) result }
 {
@@ -62,17 +65,12 @@ where
     D: Read + Drop,
     W: Write,
     requires { ¬ IsTrue (⟦<ToWriter<W> as Sink>⟧.has_failed out.old) }
-    ensures { Masks name.entry.now
+    ensures { Masks asked.now inputs.now (D.remaining reader) name.entry.now
         (stream (⟦<ToWriter<W> as Sink>⟧.written out.old) (⟦<ToWriter<W> as Sink>⟧.written out.new)
         (⟦<ToWriter<W> as Sink>⟧.has_failed out.new)) result }
 {
     let mut feed = FromReader::new(reader);
-    let options = Options {
-        keep: list_of(asked.keep.as_str()),
-        mask: list_of(asked.mask.as_str()),
-        only: list_of(asked.only.as_str()),
-        json: manner.json,
-    };
+    let options = options_of(asked, manner.json);
     let mut notes = String::new(rt.alloc());
     match mask(
         rt.alloc(),
@@ -87,5 +85,17 @@ where
             Ok(reported)
         }
         Err(fault) => Err(ending_of(fault, name, out.failure(), feed.failure())),
+    }
+}
+
+/// Which AVPs are masked, and how the summary is written.
+fn options_of(asked: &Masking, json: bool) -> Options<'_>
+    ensures { lists result ≡ lists_of asked.now }
+{
+    Options {
+        keep: list_of(asked.keep.as_str()),
+        mask: list_of(asked.mask.as_str()),
+        only: list_of(asked.only.as_str()),
+        json,
     }
 }
