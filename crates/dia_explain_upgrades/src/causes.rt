@@ -1,12 +1,11 @@
 //! Where both dictionaries have what a cause is about, and what can be changed.
 
-use crate::namesakes::Number;
-use crate::places::{Avp, Places, rule_place};
-use dia_ccf::Def;
-use dia_explain_places::{InputTexts, Note};
+use dia_breaking_places::{Matter, MatterKind, Places, first_place, second_place};
+use dia_ccf::Source;
+use dia_explain_places::{InputTexts, NamedText, Note};
 use dia_report::BothBooks;
 use dia_upgrades::Recorded;
-use std::alloc::AllocError;
+use std::alloc::{AllocError, Global};
 
 /// The most causes that are explained, unless all are asked for.
 const MOST: usize = 20;
@@ -40,22 +39,64 @@ impl<'a> Cause<'a> {
         })
     }
 
-    /// The name of the command of the path.
-    fn command(&self) -> &'a str {
-        let first = match self.path.split_once('/') {
-            Some((first, _)) => first,
-            None => self.path,
-        };
-        match first.split_once(' ') {
-            Some((name, _)) => name,
-            None => first,
+    /// What the cause is about.
+    fn matter(&self) -> Matter<'a> {
+        Matter {
+            kind: kind_of(self.reason),
+            command: self.command(),
+            application: self.application(),
+            group: self.group(),
+            subject: self.subject,
         }
+    }
+
+    /// `COMMAND[application N]`, or COMMAND, with which the path begins.
+    fn front(&self) -> &'a str {
+        match self.path.split_once('/') {
+            Some((front, _)) => front,
+            None => self.path,
+        }
+    }
+
+    fn command(&self) -> &'a str {
+        let front = self.front();
+        match front.split_once('[') {
+            Some((name, _)) => name,
+            None => front,
+        }
+    }
+
+    fn application(&self) -> Option<u32> {
+        let (_, rest) = self.front().split_once("[application ")?;
+        rest.strip_suffix(']')?.parse::<u32>().ok()
     }
 
     /// The name of the last group of the path.
     fn group(&self) -> Option<&'a str> {
         let (_, last) = self.path.rsplit_once('/')?;
         Some(last)
+    }
+}
+
+fn kind_of(reason: &str) -> MatterKind {
+    match reason {
+        "command" | "application" | "proxiable" => MatterKind::Head,
+        "missing" | "too-many" | "not-allowed" | "order" => MatterKind::Rule,
+        _ => MatterKind::Avp,
+    }
+}
+
+/// A dictionary's text, the word that names it, and the places of its parts.
+#[derive(Drop)]
+struct Side<'a> {
+    text: NamedText<'a>,
+    places: Places<'a>,
+}
+
+impl<'a> Side<'a> {
+    fn of(alloc: Global, text: NamedText<'a>, source: &'a Source) -> Result<Self, AllocError> {
+        let places = Places::new(alloc, source)?;
+        Ok(Side { text, places })
     }
 }
 
@@ -69,8 +110,8 @@ pub(crate) fn push_causes(
     all: bool,
 ) -> Result<(), AllocError> {
     let alloc = note.allocator();
-    let first = Places::of(alloc, &texts.first, &books.first.source)?;
-    let second = Places::of(alloc, &texts.second, &books.second.source)?;
+    let first = Side::of(alloc, texts.first, &books.first.source)?;
+    let second = Side::of(alloc, texts.second, &books.second.source)?;
     let count = if all {
         causes.len()
     } else {
@@ -79,7 +120,7 @@ pub(crate) fn push_causes(
     let mut hinted = Vec::new(alloc);
     for recorded in causes.iter().take(count) {
         if let Some(cause) = Cause::of(recorded.words.as_str()) {
-            push_cause(note, &first, &second, &cause);
+            push_cause(note, &first, &second, &cause)?;
             let fixes = fixes_of(cause.reason, cause.subject);
             if !hinted.contains(&fixes.in_second) {
                 push_fixes(note, &first, &second, fixes);
@@ -105,90 +146,29 @@ fn push_left(note: &mut Note, left: usize) {
 }
 
 /// Adds a cause, with the places in both dictionaries.
-fn push_cause(note: &mut Note, first: &Places<'_>, second: &Places<'_>, cause: &Cause<'_>) {
-    note.put_all(&[cause.summary, "\n"]);
-    match cause.reason {
-        "command" | "application" | "proxiable" => push_heads(note, first, second, cause),
-        "missing" | "too-many" | "not-allowed" | "order" => push_rules(note, first, second, cause),
-        _ => push_avps(note, first, second, cause),
-    }
-}
-
-/// Adds the heads of the commands of both.
-fn push_heads(note: &mut Note, first: &Places<'_>, second: &Places<'_>, cause: &Cause<'_>) {
-    let Some(own) = first.command(cause.command()) else {
-        return;
-    };
-    push_spot(note, first, own.at);
-    if let Some(other) = second.same_command(own) {
-        push_spot(note, second, other.at);
-    }
-}
-
-/// Adds the rules of both for the AVP, or the heads of the definitions that have none.
-fn push_rules(note: &mut Note, first: &Places<'_>, second: &Places<'_>, cause: &Cause<'_>) {
-    if let Some(own) = definition(first, cause) {
-        push_spot(note, first, rule_place(own, cause.subject));
-    }
-    if let Some(other) = same_definition(first, second, cause) {
-        let place = match same_name(first, second, cause.subject) {
-            Some(name) => rule_place(other, name),
-            None => rule_place(other, cause.subject),
-        };
-        push_spot(note, second, place);
-    }
-}
-
-/// Adds the declarations of the AVP in both.
-fn push_avps(note: &mut Note, first: &Places<'_>, second: &Places<'_>, cause: &Cause<'_>) {
-    let own = first.avp(cause.subject);
-    if let Some(own) = own {
-        push_spot(note, first, own.at);
-    }
-    let other = match own {
-        Some(own) => same_avp(second, own.number),
-        None => second.avp(cause.subject),
-    };
-    if let Some(other) = other {
-        push_spot(note, second, other.at);
-    }
-}
-
-/// The definition that the path leads to.
-fn definition<'a>(first: &Places<'a>, cause: &Cause<'_>) -> Option<&'a Def> {
-    match cause.group() {
-        Some(name) => first.avp(name)?.group,
-        None => first.command(cause.command()),
-    }
-}
-
-/// The definition of the second dictionary for the level that the path leads to.
-fn same_definition<'b>(
-    first: &Places<'_>,
-    second: &Places<'b>,
+fn push_cause(
+    note: &mut Note,
+    first: &Side<'_>,
+    second: &Side<'_>,
     cause: &Cause<'_>,
-) -> Option<&'b Def> {
-    match cause.group() {
-        Some(name) => same_avp(second, first.avp(name)?.number)?.group,
-        None => second.same_command(first.command(cause.command())?),
+) -> Result<(), AllocError> {
+    let alloc = note.allocator();
+    let matter = cause.matter();
+    let other = second_place(alloc, &first.places, &second.places, matter)?;
+    note.put_all(&[cause.summary, "\n"]);
+    push_spot(note, first, first_place(&first.places, matter));
+    push_spot(note, second, other);
+    Ok(())
+}
+
+/// Adds the place of a declaration, a head or a rule, if there is one, and its text.
+fn push_spot(note: &mut Note, side: &Side<'_>, at: Option<usize>) {
+    if let Some(at) = at {
+        let NamedText { name, text } = side.text;
+        note.put_place(name, text, at);
+        note.put_shown(part_from(text, at));
+        note.put("\n");
     }
-}
-
-/// The AVP of a number.
-fn same_avp<'b>(second: &Places<'b>, number: Number) -> Option<Avp<'b>> {
-    second.avp(second.name_of(number)?)
-}
-
-/// The second dictionary's name of the AVP that has a name in the first.
-fn same_name<'b>(first: &Places<'_>, second: &Places<'b>, name: &str) -> Option<&'b str> {
-    second.name_of(first.avp(name)?.number)
-}
-
-/// Adds the place of a declaration, a head or a rule, and its text.
-fn push_spot(note: &mut Note, places: &Places<'_>, at: usize) {
-    note.put_place(places.name, places.text, at);
-    note.put_shown(part_from(places.text, at));
-    note.put("\n");
 }
 
 /// The text of the part that begins at a place: of a rule or a head to the end of its bracket, of a declaration to the next part, a
@@ -235,16 +215,16 @@ struct Fixes {
     in_first: &'static str,
 }
 
-fn push_fixes(note: &mut Note, first: &Places<'_>, second: &Places<'_>, fixes: Fixes) {
+fn push_fixes(note: &mut Note, first: &Side<'_>, second: &Side<'_>, fixes: Fixes) {
     push_fix(note, "hint: in ", second, fixes.in_second);
     push_fix(note, "; or in ", first, fixes.in_first);
     note.put("\n");
 }
 
 /// Adds what can be changed in one dictionary.
-fn push_fix(note: &mut Note, front: &str, places: &Places<'_>, fix: &str) {
+fn push_fix(note: &mut Note, front: &str, side: &Side<'_>, fix: &str) {
     note.put(front);
-    note.put(places.name);
+    note.put(side.text.name);
     note.put(": ");
     note.put(fix);
 }

@@ -7,7 +7,6 @@ mod causes;
 mod less;
 mod list;
 mod namesakes;
-mod places;
 mod tally;
 mod unchosen;
 mod upgrade;

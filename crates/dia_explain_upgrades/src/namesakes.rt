@@ -11,9 +11,9 @@ const MOST: usize = 20;
 
 /// The code of an AVP, and its vendor or 0.
 #[derive(Clone, Copy, PartialEq, Eq, PartialOrd, Ord)]
-pub(crate) struct Number {
-    pub code: u32,
-    pub vendor: u32,
+struct Number {
+    code: u32,
+    vendor: u32,
 }
 
 /// The AVPs of a dictionary in the order of their names, and the word that names its text.
