@@ -1,5 +1,5 @@
-//! The tests of `dia_json`, `dia_compared_json`, `dia_breaking_json` and `dia_upgrades_json`: what is put as JSON. They go
-//! through public calls alone. There is nothing but tests.
+//! The tests of `dia_json`, `dia_compared_json`, `dia_breaking_places`, `dia_breaking_json` and `dia_upgrades_json`: what is put
+//! as JSON. They go through public calls alone. There is nothing but tests.
 #![tactic(auto)]
 
 #[cfg(test)]
@@ -8,6 +8,8 @@ mod answers;
 mod lines;
 #[cfg(test)]
 mod many;
+#[cfg(test)]
+mod places;
 #[cfg(test)]
 mod shown;
 #[cfg(test)]
