@@ -29,10 +29,11 @@ WANTED = [
     f"changed.txt:2:24: {EXPECTED}\n",
     '<testsuite name="breaking" tests="1" failures="1" errors="0">\n'
     '<testcase classname="T" name="missing Y"><failure message="0 sent, 1 accepted"/></testcase>\n</testsuite>\n',
+    "::error file=theirs.txt,line=3,col=45::T: missing Y: 0 sent, 1 accepted\n",
     "9002 0 Y\n",
 ]
 """What each recipe makes of the files below, in the order of the page."""
-STATUSES = [1, 1, 0, 1, 1, 1, 2, 1, 1]
+STATUSES = [1, 1, 0, 1, 1, 1, 2, 1, 1, 1]
 
 SENT = """
 %avp A 9001 Unsigned32 any      %avp B 9002 Unsigned32 any      %avp C 9003 Unsigned32 any      %avp D 9004 Unsigned32 any

@@ -61,6 +61,12 @@ def annotations($file):
     elif .verdict == "valid" then empty
     else "::error file=\($file),line=\(.line)::\([.code, .reason // .verdict // .kind, .avp.name // .avp.code] | map(select(.)) | join(" "))" end;
 
+# The lines of `breaking` as annotations of GitHub, each at its position in the text of B, if it has one.
+def break_annotations($file):
+  (try breaks catch {failed: .})
+  | if .failed then "::error::\(.failed | gsub("%"; "%25"))", (.failed | error)
+    else "::error file=\($file)\(if .b then ",line=\(.b.line),col=\(.b.column)" else "" end)::\((.text // "stale: \(.stale)") | gsub("%"; "%25"))" end;
+
 # Where the text of a dictionary is refused, as editors read it: the file, the line and the column, and what was expected there.
 def places($file):
   answers | select(.error)

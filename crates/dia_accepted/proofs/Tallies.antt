@@ -32,7 +32,7 @@ use Rattle.dia_accepted.proofs.CauseLaws.{either_way, cause_laws, command_laws}
 -- ---- each once
 
 module _ {X : Type 0} {same : X → X → Bool} (laws : IsEquivalence same) where
-  once_more : (xs : List X) (x : X) → each_once same (xs ++ x ∷ []) ≡ each_once same xs ++ cond (list_any (same x) xs) [] (x ∷ [])
+  pub once_more : (xs : List X) (x : X) → each_once same (xs ++ x ∷ []) ≡ each_once same xs ++ cond (list_any (same x) xs) [] (x ∷ [])
   once_more [] x = refl
   once_more (y ∷ ys) x =
       let other = λ (z : X). not (same y z) in

@@ -38,7 +38,7 @@ impl Causes {
     ghost use Rattle.std.specs.Prelude.{◌≡◌, ◌<◌, ◌^◌, ◌+◌, ◌++◌, ◌∷◌, ◌⊎◌, List, ℕ, [], IfOk, OnOk, map, string_bytes, Bool, true, false};
     ghost use Rattle.std.specs.List.{list_any};
     ghost use Rattle.dia_accepted.specs.Accepted.{PlainRecorded, plain_recorded};
-    ghost use Rattle.dia_accepted.specs.Causes.{has_cause, once_of};
+    ghost use Rattle.dia_accepted.specs.Causes.{commands_with, has_cause, once_of};
     ghost use Rattle.dia_accepted.specs.Seen.{AreCauses, is_command};
     ghost use Rattle.dia_accepted.specs.Words.{cause_text};
 
@@ -97,6 +97,14 @@ impl Causes {
         let is_new = self.own.insert(key)?;
         count_cause(alloc, &mut self.counts, cause, is_new)?;
         Ok(())
+    }
+
+    /// How many commands have a line with the cause of these words.
+    pub fn count(&self, words: &str) -> usize
+        ensures { (forgets : Bool) (recorded : List PlainRecorded) (command visits : ℕ) (t : PlainRecorded) → t.words ≡ words.now
+            → AreCauses forgets self.now recorded command visits → result ≡ commands_with recorded t }
+    {
+        count_of(&self.counts, cause_of(words).as_bytes())
     }
 
     /// A line for each cause, in the order of the first places, with how many commands have it.
@@ -189,7 +197,8 @@ fn once_line(
     })
 }
 
-fn once_words(alloc: Global, commands: usize, words: &str) -> Result<String, AllocError>
+/// The line of a cause that so many commands have, by the words of its first line.
+pub fn once_words(alloc: Global, commands: usize, words: &str) -> Result<String, AllocError>
     ensures { IfOk result (λ made. string_bytes made ≡ once_words commands words.now) }
 {
     let (path, cause) = path_and_cause(words);

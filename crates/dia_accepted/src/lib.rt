@@ -13,6 +13,6 @@ mod words;
 
 pub use accepting::Accepting;
 pub use choosing::about;
-pub use counting::Causes;
+pub use counting::{Causes, once_words};
 pub use list::{Entry, ListFault, MAX_LINES, MAX_LIST, read_list};
 pub use recorded::Recorded;

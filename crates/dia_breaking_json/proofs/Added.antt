@@ -7,8 +7,7 @@ use Rattle.std.proofs.lemmas.List.{append-nil, map-append, take_more}
 use Rattle.json.specs.Print.{quoted}
 use Rattle.serde_json.specs.Data.{Data, array}
 use Rattle.serde_json.specs.Written.{compact_text, items_text, members_text}
-use Rattle.dia_breaking_json.specs.Fields.{Field, field_text, fields_text, members_of, name_text, object_of, strings}
-use Rattle.dia_breaking_json.specs.Parts.{after}
+use Rattle.dia_breaking_json.specs.Fields.{Field, after_comma, field_text, fields_text, members_of, name_text, object_of, strings}
 
 -- ---- members
 
@@ -66,10 +65,10 @@ members_end (x ∷ xs) =
     regroup : (n v t e : List ℕ) → codes "," ++ (n ++ (codes ":" ++ (v ++ (t ++ e)))) ≡ ((codes "," ++ (n ++ (codes ":" ++ v))) ++ t) ++ e
     regroup n v t e = simp append_assoc
 
-pub object_is : (fields text : List ℕ) (xs : List Field) → fields ≡ fields_text xs → text ≡ codes "{" ++ (after 44 fields ++ codes "}") → text ≡ compact_text (object_of xs)
-object_is fields text xs are is = is ∙ ap (λ (t : List ℕ). codes "{" ++ (after 44 t ++ codes "}")) are ∙ by xs
+pub object_is : (fields text : List ℕ) (xs : List Field) → fields ≡ fields_text xs → text ≡ codes "{" ++ (after_comma fields ++ codes "}") → text ≡ compact_text (object_of xs)
+object_is fields text xs are is = is ∙ ap (λ (t : List ℕ). codes "{" ++ (after_comma t ++ codes "}")) are ∙ by xs
   where
-    by : (xs : List Field) → codes "{" ++ (after 44 (fields_text xs) ++ codes "}") ≡ compact_text (object_of xs)
+    by : (xs : List Field) → codes "{" ++ (after_comma (fields_text xs) ++ codes "}") ≡ compact_text (object_of xs)
     by [] = refl
     by (x ∷ xs) = sym (ap (λ (t : List ℕ). codes "{" ++ (quoted x.0 ++ (codes ":" ++ (compact_text x.1 ++ t)))) (members_end xs) ∙ regroup (quoted x.0) (compact_text x.1) (fields_text xs) (codes "}"))
       where
@@ -85,10 +84,10 @@ items_end (n ∷ names) = ap (λ (t : List ℕ). codes "," ++ (quoted n ++ t)) (
     regroup : (n t e : List ℕ) → codes "," ++ (n ++ (t ++ e)) ≡ ((codes "," ++ n) ++ t) ++ e
     regroup n t e = simp append_assoc
 
-pub array_is : (written text : List ℕ) (names : List (List ℕ)) → written ≡ flat_map name_text names → text ≡ codes "[" ++ (after 44 written ++ codes "]") → text ≡ compact_text (array (strings names))
-array_is written text names are is = is ∙ ap (λ (t : List ℕ). codes "[" ++ (after 44 t ++ codes "]")) are ∙ by names
+pub array_is : (written text : List ℕ) (names : List (List ℕ)) → written ≡ flat_map name_text names → text ≡ codes "[" ++ (after_comma written ++ codes "]") → text ≡ compact_text (array (strings names))
+array_is written text names are is = is ∙ ap (λ (t : List ℕ). codes "[" ++ (after_comma t ++ codes "]")) are ∙ by names
   where
-    by : (names : List (List ℕ)) → codes "[" ++ (after 44 (flat_map name_text names) ++ codes "]") ≡ compact_text (array (strings names))
+    by : (names : List (List ℕ)) → codes "[" ++ (after_comma (flat_map name_text names) ++ codes "]") ≡ compact_text (array (strings names))
     by [] = refl
     by (n ∷ names) = sym (ap (λ (t : List ℕ). codes "[" ++ (quoted n ++ t)) (items_end names) ∙ regroup (quoted n) (flat_map name_text names) (codes "]"))
       where

@@ -1,4 +1,2 @@
 pub mod Added
-pub mod Ends
-pub mod Groups
 pub mod Kept

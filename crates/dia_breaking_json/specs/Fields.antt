@@ -1,6 +1,6 @@
 -- Members of a JSON object (RFC 8259), in their order: names and values.
-use Rattle.std.specs.Prelude.{◌≡◌, ℕ, List, [], ◌∷◌, ◌++◌, codes, string_bytes}
-use Rattle.std.specs.List.{flat_map}
+use Rattle.std.specs.Prelude.{◌≡◌, ℕ, ◌==◌, List, [], ◌∷◌, ◌++◌, codes, string_bytes}
+use Rattle.std.specs.List.{after_first, flat_map}
 use Rattle.std.specs.declared.string.String.{String}
 use Rattle.json.specs.Print.{quoted}
 use Rattle.serde_json.specs.Data.{Data, Items, Members, item, member, no_items, no_members, object, string}
@@ -35,6 +35,10 @@ field_text field = codes "," ++ (quoted field.0 ++ (codes ":" ++ compact_text fi
 
 abbrev pub fields_text : List Field → List ℕ
 fields_text fields = flat_map field_text fields
+
+-- what follows the first comma
+abbrev pub after_comma : List ℕ → List ℕ
+after_comma text = after_first (λ c. c == 44) text
 
 -- these members were added
 abbrev pub Adds : {Z : Type 0} → String Z → String Z → List Field → Type 0

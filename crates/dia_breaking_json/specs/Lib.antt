@@ -1,5 +1,6 @@
 pub mod Fields
 pub mod Keys
 pub mod LineObjects
-pub mod Lines
-pub mod Parts
+pub mod Members
+pub mod SpotTexts
+pub mod Spots

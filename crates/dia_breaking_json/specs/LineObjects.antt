@@ -11,7 +11,8 @@ use Rattle.dia_breaking.specs.declared.LineReason.TheVariants.{Command, Applicat
 use Rattle.dia_breaking.specs.LineParts.{PlainAmount, PlainParts, PlainPath, PlainSubject, amount_text, reason_text, Counts}
 use Rattle.dia_breaking.specs.LineParts as subjects
 use Rattle.dia_breaking_json.specs.Fields.{Field, object_of, strings, text_field}
-use Rattle.dia_breaking_json.specs.Lines.{avp_fields, unsigned_field}
+use Rattle.dia_breaking_json.specs.Members.{avp_fields, unsigned_field}
+use Rattle.dia_breaking_json.specs.Spots.{PlainTexts, spot_fields}
 
 -- ---- where it is
 
@@ -82,14 +83,16 @@ detail_fields parts = sent_fields parts.sent ++ text_if (codes "behind") parts.f
 abbrev pub matter_fields : (first second : List ℕ → Option Key) → PlainParts → List Field
 matter_fields first second parts = reason_field parts.reason ++ subject_field first second parts.subject ++ detail_fields parts ++ header_field parts.reason
 
--- a line in this place, with its words, and with the hexadecimal digits of its message, if it has one
-abbrev pub fields_at : List Field → (first second : List ℕ → Option Key) → PlainParts → (words : List ℕ) → Option (List ℕ) → List Field
-fields_at place first second parts words message =
-    undecided_field parts.standing ++ place ++ matter_fields first second parts ++ text_if (codes "message") message ++ text_field (codes "text") words
+-- a line in this place, with its words, and with the hexadecimal digits of its message, if it has one; the look-ups by name and the texts are those of
+-- the two dictionaries
+abbrev pub fields_at : List Field → (first second : List ℕ → Option Key) → PlainTexts → PlainParts → (words : List ℕ) → Option (List ℕ) → List Field
+fields_at place first second texts parts words message =
+    undecided_field parts.standing ++ place ++ matter_fields first second parts ++ text_if (codes "message") message ++ spot_fields texts parts
+    ++ text_field (codes "text") words
 
-unfoldable pub line_object : (first second : List ℕ → Option Key) → PlainParts → (words : List ℕ) → Option (List ℕ) → List ℕ
-line_object first second parts words message = compact_text (object_of (fields_at (path_fields parts.path) first second parts words message))
+unfoldable pub line_object : (first second : List ℕ → Option Key) → PlainTexts → PlainParts → (words : List ℕ) → Option (List ℕ) → List ℕ
+line_object first second texts parts words message = compact_text (object_of (fields_at (path_fields parts.path) first second texts parts words message))
 
 -- the cause of a line, which so many commands have
-unfoldable pub cause_object : (first second : List ℕ → Option Key) → ℕ → PlainParts → (words : List ℕ) → Option (List ℕ) → List ℕ
-cause_object first second commands parts words message = compact_text (object_of (fields_at (first_fields commands parts.path) first second parts words message))
+unfoldable pub cause_object : (first second : List ℕ → Option Key) → PlainTexts → ℕ → PlainParts → (words : List ℕ) → Option (List ℕ) → List ℕ
+cause_object first second texts commands parts words message = compact_text (object_of (fields_at (first_fields commands parts.path) first second texts parts words message))

@@ -6,7 +6,7 @@ ghost use Rattle.dia_breaking.specs.LineParts.{plain_amount, plain_parts};
 ghost use Rattle.dia_breaking_json.specs.Fields.{Adds};
 ghost use Rattle.dia_breaking_json.specs.LineObjects.{accepted_fields, amount_fields, count_fields, detail_fields, most_field};
 ghost use Rattle.dia_breaking_json.specs.LineObjects.{sent_fields, text_if};
-ghost use Rattle.dia_breaking_json.specs.Lines.{unsigned_field};
+ghost use Rattle.dia_breaking_json.specs.Members.{unsigned_field};
 
 use crate::fields::{push_null, push_text, push_u32};
 use crate::objects::push_if;

@@ -4,11 +4,9 @@ ghost use Rattle.std.specs.Prelude.{◌≡◌, ◌∷◌, [], IfOk, List, OnOk, 
 ghost use Rattle.serde_json.specs.Data.{Data, boolean, null};
 ghost use Rattle.serde_json.specs.Written.{compact_text};
 ghost use Rattle.json.specs.Print.{quoted};
-ghost use Rattle.dia_breaking_json.specs.Fields.{Adds, Field, fields_text, object_of, text_field};
-ghost use Rattle.dia_breaking_json.specs.Lines.{number_field, unsigned_field};
+ghost use Rattle.dia_breaking_json.specs.Fields.{Adds, Field, after_comma, fields_text, object_of, text_field};
+ghost use Rattle.dia_breaking_json.specs.Members.{unsigned_field};
 
-use crate::numbers::number_of;
-use crate::texts::after;
 use serde_json::Value;
 use std::alloc::{AllocError, Global};
 
@@ -24,8 +22,18 @@ pub fn object_text(alloc: Global, fields: &str) -> Result<String, AllocError>
     ensures { IfOk result (λ text. (members : List Field) → fields.now ≡ fields_text members
         → string_bytes text ≡ compact_text (object_of members)) }
 {
-    let members = after(fields, ',');
+    let members = after_comma(fields);
     format!(in alloc; "{{{members}}}")
+}
+
+/// What follows the first comma.
+pub(crate) fn after_comma(text: &str) -> &str
+    ensures { result.now ≡ after_comma text.now }
+{
+    match text.split_once(',') {
+        Some((_, rest)) => rest,
+        None => "",
+    }
 }
 
 /// Adds a member of which this is the text of the value.
@@ -97,19 +105,4 @@ pub(crate) fn push_u32(
     ensures { OnOk result (Adds out.old out.new (unsigned_field name.now number)) }
 {
     push_unsigned(alloc, out, name, u64::from(number))
-}
-
-/// Adds the number that a text is, if it is one.
-pub(crate) fn push_number(
-    alloc: Global,
-    out: &mut String,
-    name: &str,
-    text: &str,
-) -> Result<(), AllocError>
-    ensures { OnOk result (Adds out.old out.new (number_field name.now text.now)) }
-{
-    match number_of(text) {
-        Some(number) => push_unsigned(alloc, out, name, number),
-        None => Ok(()),
-    }
 }

@@ -1,5 +1,6 @@
 //! The AVPs of dictionaries by their names.
 
+use crate::spots::Texts;
 use dia_book::{Book, Key};
 use std::alloc::{AllocError, Global};
 use std::collections::BTreeMap;
@@ -11,11 +12,12 @@ pub struct Keys {
     pub(crate) keys: BTreeMap<String, Key>,
 }
 
-/// The AVPs of two dictionaries by their names.
+/// The AVPs of two dictionaries by their names, and their texts.
 #[derive(Drop)]
-pub struct Names {
+pub struct Names<'s> {
     pub first: Keys,
     pub second: Keys,
+    pub texts: Box<Texts<'s>>,
 }
 
 impl Keys {

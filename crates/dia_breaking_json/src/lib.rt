@@ -1,20 +1,15 @@
-//! The lines of `breaking` as JSON (RFC 8259), each from its parts; those of `--once` from their words.
+//! The lines and the causes of `breaking` as JSON (RFC 8259), each from the parts of a line.
 #![tactic(auto)]
 
 mod amounts;
-mod details;
 mod fields;
 mod keys;
-mod lines;
-mod numbers;
 mod objects;
-mod parts;
 mod paths;
-mod places;
+mod spots;
 mod subjects;
-mod texts;
 
 pub use fields::{object_text, push_null, push_text, push_unsigned};
 pub use keys::{Keys, Names};
-pub use lines::cause_json;
 pub use objects::{cause_object, line_object};
+pub use spots::{Spelt, Texts};

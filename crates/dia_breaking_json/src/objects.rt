@@ -6,6 +6,7 @@ ghost use Rattle.serde_json.specs.Written.{compact_text};
 ghost use Rattle.dia_breaking.specs.LineParts.{plain_parts, plain_subject};
 ghost use Rattle.dia_breaking_json.specs.Fields.{Adds, Field, fields_text, object_of};
 ghost use Rattle.dia_breaking_json.specs.Keys.{key_in};
+ghost use Rattle.dia_breaking_json.specs.SpotTexts.{both_in};
 ghost use Rattle.dia_breaking_json.specs.LineObjects.{cause_object, fields_at, header_field, is_of_header};
 ghost use Rattle.dia_breaking_json.specs.LineObjects.{line_object, matter_fields, reason_field, subject_field};
 ghost use Rattle.dia_breaking_json.specs.LineObjects.{text_if, undecided_field};
@@ -14,6 +15,7 @@ use crate::amounts::push_detail;
 use crate::fields::{object_text, push_bool, push_text, push_u32};
 use crate::keys::Names;
 use crate::paths::{first_members, path_members};
+use crate::spots::push_spots;
 use crate::subjects::push_avp;
 use dia_breaking::{LineParts, LineReason, Standing, Subject};
 use std::alloc::{AllocError, Global};
@@ -22,12 +24,12 @@ use std::alloc::{AllocError, Global};
 /// only where memory was refused.
 pub fn line_object(
     alloc: Global,
-    names: &Names,
+    names: &Names<'_>,
     parts: &LineParts<'_>,
     words: &str,
     message: Option<&str>,
 ) -> Result<String, AllocError>
-    ensures { IfOk result (λ text. string_bytes text ≡ line_object (key_in names.now.first) (key_in names.now.second)
+    ensures { IfOk result (λ text. string_bytes text ≡ line_object (key_in names.now.first) (key_in names.now.second) (both_in names.now.texts.value)
         (plain_parts parts.now) words.now (option_map (λ digits. digits.now) message.entry)) }
 {
     let place = path_members(alloc, &parts.path)?;
@@ -38,13 +40,13 @@ pub fn line_object(
 /// comes only where memory was refused.
 pub fn cause_object(
     alloc: Global,
-    names: &Names,
+    names: &Names<'_>,
     commands: u64,
     parts: &LineParts<'_>,
     words: &str,
     message: Option<&str>,
 ) -> Result<String, AllocError>
-    ensures { IfOk result (λ text. string_bytes text ≡ cause_object (key_in names.now.first) (key_in names.now.second) commands
+    ensures { IfOk result (λ text. string_bytes text ≡ cause_object (key_in names.now.first) (key_in names.now.second) (both_in names.now.texts.value) commands
         (plain_parts parts.now) words.now (option_map (λ digits. digits.now) message.entry)) }
 {
     let place = first_members(alloc, commands, &parts.path)?;
@@ -55,13 +57,13 @@ pub fn cause_object(
 fn object_at(
     alloc: Global,
     place: &str,
-    names: &Names,
+    names: &Names<'_>,
     parts: &LineParts<'_>,
     words: &str,
     message: Option<&str>,
 ) -> Result<String, AllocError>
     ensures { IfOk result (λ text. (members : List Field) → place.now ≡ fields_text members → string_bytes text
-        ≡ compact_text (object_of (fields_at members (key_in names.now.first) (key_in names.now.second)
+        ≡ compact_text (object_of (fields_at members (key_in names.now.first) (key_in names.now.second) (both_in names.now.texts.value)
         (plain_parts parts.now) words.now (option_map (λ digits. digits.now) message.entry)))) }
 {
     let mut fields = String::new(alloc);
@@ -69,6 +71,7 @@ fn object_at(
     fields.push_str(place)?;
     push_matter(alloc, &mut fields, names, parts)?;
     push_if(alloc, &mut fields, "message", message)?;
+    push_spots(alloc, &mut fields, &names.texts, parts)?;
     push_text(alloc, &mut fields, "text", words)?;
     object_text(alloc, fields.as_str())
 }
@@ -101,7 +104,7 @@ pub(crate) fn push_if(
 fn push_matter(
     alloc: Global,
     out: &mut String,
-    names: &Names,
+    names: &Names<'_>,
     parts: &LineParts<'_>,
 ) -> Result<(), AllocError>
     ensures { OnOk result (Adds out.old out.new
@@ -129,7 +132,7 @@ fn push_reason(
 fn push_subject(
     alloc: Global,
     out: &mut String,
-    names: &Names,
+    names: &Names<'_>,
     subject: Subject<'_>,
 ) -> Result<(), AllocError>
     ensures { OnOk result (Adds out.old out.new

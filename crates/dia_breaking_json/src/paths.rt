@@ -8,8 +8,9 @@ ghost use Rattle.dia_breaking.specs.LineParts.{plain_path};
 ghost use Rattle.dia_breaking_json.specs.Fields.{Adds, fields_text, name_text, object_of, strings};
 ghost use Rattle.dia_breaking_json.specs.LineObjects.{application_field, first_fields, path_fields};
 
-use crate::fields::{object_text, push_field, push_text, push_u32, push_unsigned};
-use crate::places::{array_text, push_name};
+use crate::fields::{
+    after_comma, object_text, push_field, push_text, push_u32, push_unsigned, quoted,
+};
 use dia_breaking::Path;
 use std::alloc::{AllocError, Global};
 
@@ -71,4 +72,21 @@ fn names_text(alloc: Global, groups: &[&str]) -> Result<String, AllocError>
         push_name(alloc, &mut names, name)?;
     }
     Ok(names)
+}
+
+/// The array of names, of which each has the comma before it.
+fn array_text(alloc: Global, names: &str) -> Result<String, AllocError>
+    ensures { IfOk result (λ text. (members : List (List ℕ)) → names.now ≡ flat_map name_text members
+        → string_bytes text ≡ compact_text (array (strings members))) }
+{
+    let members = after_comma(names);
+    format!(in alloc; "[{members}]")
+}
+
+/// Adds a name, with the comma before it.
+fn push_name(alloc: Global, names: &mut String, name: &str) -> Result<(), AllocError>
+    ensures { OnOk result (string_bytes names.new ≡ string_bytes names.old ++ name_text name.now) }
+{
+    let name = quoted(alloc, name)?;
+    write!(names, ",{name}")
 }

@@ -4,63 +4,18 @@ ghost use Rattle.std.specs.Prelude.{◌≡◌, ◌∷◌, [], IfOk, OnOk, codes,
 ghost use Rattle.serde_json.specs.Written.{compact_text};
 ghost use Rattle.dia_breaking_json.specs.Fields.{Adds, object_of};
 ghost use Rattle.dia_breaking_json.specs.Keys.{key_in};
-ghost use Rattle.dia_breaking_json.specs.Lines.{avp_field, avp_fields, key_fields, known_fields};
-ghost use Rattle.dia_breaking_json.specs.Lines.{reason_field, second_field, subject_field};
+ghost use Rattle.dia_breaking_json.specs.Members.{avp_fields, key_fields, known_fields, second_field};
 
-use crate::fields::{object_text, push_field, push_number, push_text, push_u32};
+use crate::fields::{object_text, push_field, push_text, push_u32};
 use crate::keys::Names;
 use dia_book::Key;
 use std::alloc::{AllocError, Global};
 
-/// Adds the reason, if there is one.
-pub(crate) fn push_reason(alloc: Global, out: &mut String, reason: &str) -> Result<(), AllocError>
-    ensures { OnOk result (Adds out.old out.new (reason_field reason.now)) }
-{
-    if reason.len() > 0 {
-        push_text(alloc, out, "reason", reason)
-    } else {
-        Ok(())
-    }
-}
-
-/// Adds the AVP, or the application that is refused.
-pub(crate) fn push_subject(
-    alloc: Global,
-    out: &mut String,
-    names: &Names,
-    reason: &str,
-    subject: &str,
-) -> Result<(), AllocError>
-    ensures { OnOk result (Adds out.old out.new
-        (subject_field (key_in names.now.first) (key_in names.now.second) reason.now subject.now)) }
-{
-    if reason == "application" {
-        push_number(alloc, out, "refused_application", subject)
-    } else {
-        push_if_avp(alloc, out, names, subject)
-    }
-}
-
-fn push_if_avp(
-    alloc: Global,
-    out: &mut String,
-    names: &Names,
-    subject: &str,
-) -> Result<(), AllocError>
-    ensures { OnOk result (Adds out.old out.new
-        (avp_field (key_in names.now.first) (key_in names.now.second) subject.now)) }
-{
-    if subject == "-" {
-        Ok(())
-    } else {
-        push_avp(alloc, out, names, subject)
-    }
-}
-
+/// Adds the AVP of a name.
 pub(crate) fn push_avp(
     alloc: Global,
     out: &mut String,
-    names: &Names,
+    names: &Names<'_>,
     name: &str,
 ) -> Result<(), AllocError>
     ensures { OnOk result (Adds out.old out.new ((

@@ -95,7 +95,7 @@ fn input_of(alloc: Global, bytes: &[u8]) -> Result<Input, AllocError>
 /// The answer for what is asked, and for the list of accepted lines in this input.
 fn listed_for<A: Book, B: Book>(
     alloc: Global,
-    asked: Asked<'_>,
+    asked: Asked<'_, '_>,
     list: &Input,
     a: &A,
     b: &B,
@@ -129,7 +129,7 @@ struct RecordedText {
 
 fn recorded_of<A: Book, B: Book>(
     alloc: Global,
-    asked: Asked<'_>,
+    asked: Asked<'_, '_>,
     list: &Input,
     a: &A,
     b: &B,

@@ -19,7 +19,7 @@ use std::alloc::{AllocError, Global};
 pub fn explain_upgrade(
     alloc: Global,
     texts: &InputTexts<'_>,
-    asked: Asked<'_>,
+    asked: Asked<'_, '_>,
     inputs: &Inputs,
     report: &Report,
     explain: bool,
@@ -42,7 +42,7 @@ pub fn explain_upgrade(
 fn push_found(
     note: &mut Note,
     texts: &InputTexts<'_>,
-    asked: Asked<'_>,
+    asked: Asked<'_, '_>,
     inputs: &Inputs,
     books: &BothBooks,
     found: &Found,

@@ -13,9 +13,20 @@ const FIRST: &str = "%avp X 9001 Unsigned32 any <T> ::= < Diameter Header: 302, 
 const SECOND: &str = "%avp X 9001 Unsigned32 any <T> ::= < Diameter Header: 302, REQ > *3 [ X ]";
 
 const LISTED: &str =
-    r#"{"command":"T","path":[],"reason":"too-many","avp":{"name":"X","code":9001,"vendor":0},"sent":"0..*","sent_min":0,"sent_max":null,"accepted":"0..3","accepted_min":0,"accepted_max":3,"in_header":false,"text":"T: too-many X: 0..* sent, 0..3 accepted"}
+    r#"{"command":"T","path":[],"reason":"too-many","avp":{"name":"X","code":9001,"vendor":0},"sent":"0..*","sent_min":0,"sent_max":null,"accepted":"0..3","accepted_min":0,"accepted_max":3,"in_header":false,"a":{"line":1,"column":66},"b":{"line":1,"column":66},"text":"T: too-many X: 0..* sent, 0..3 accepted"}
 {"lines":1,"causes":1,"accepted":0,"stale":0}
 "#;
+
+const CAUSES: &str =
+    r#"{"commands":1,"first":{"command":"T","path":[]},"reason":"too-many","avp":{"name":"X","code":9001,"vendor":0},"sent":"0..*","sent_min":0,"sent_max":null,"accepted":"0..3","accepted_min":0,"accepted_max":3,"in_header":false,"a":{"line":1,"column":66},"b":{"line":1,"column":66},"text":"too-many X: 0..* sent, 0..3 accepted, in 1 command, first in T"}
+{"lines":1,"causes":1,"accepted":0,"stale":0}
+"#;
+
+#[test]
+fn lists_causes(rt: HostRuntime) -> Result<(), Fail> {
+    assert!(rt; is_answer(rt.alloc(), "", true, Exit::No, CAUSES)?);
+    Ok(())
+}
 
 #[test]
 fn lists_what_breaks(rt: HostRuntime) -> Result<(), Fail> {
@@ -42,13 +53,24 @@ fn lists_what_breaks(rt: HostRuntime) -> Result<(), Fail> {
 
 /// Whether `breaking` with this list of accepted lines writes these objects, and ends so.
 fn is_listed(alloc: Global, list: &str, exit: Exit, objects: &str) -> Result<bool, Fail> {
+    is_answer(alloc, list, false, exit, objects)
+}
+
+/// The same, with one object for each cause if `once`.
+fn is_answer(
+    alloc: Global,
+    list: &str,
+    once: bool,
+    exit: Exit,
+    objects: &str,
+) -> Result<bool, Fail> {
     let inputs = inputs(alloc, list)?;
     let mut sink = ToWriter::new(Vec::new(alloc));
     let asked = Asked {
         sends: Sends::Any,
         unknown: Unknown::Kept,
         messages: false,
-        once: false,
+        once,
         meaning: false,
         stale: Stale::Fails,
         form: Form::Text,

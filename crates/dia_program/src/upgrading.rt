@@ -16,7 +16,7 @@ use std::alloc::Global;
 use std::io::Write;
 
 /// `breaking` as the command line asks for it.
-pub(crate) fn asked_of(breaking: &Breaking) -> Asked<'_>
+pub(crate) fn asked_of(breaking: &Breaking) -> Asked<'_, '_>
     ensures { AsksFor breaking.now result }
 {
     Asked {
@@ -45,7 +45,7 @@ fn stale_in(is_allowed: bool) -> Stale
 /// Lists what breaks, and explains it, unless it is to be quiet: each cause if `explain`, and otherwise the first ones.
 pub(crate) fn list<'a, R, W>(
     rt: &R,
-    asked: Asked<'_>,
+    asked: Asked<'_, '_>,
     explain: bool,
     inputs: &Inputs,
     origins: &Origins<'a>,
@@ -75,7 +75,7 @@ where
 /// Lists what breaks, as JSON if that is asked for.
 fn listed<W: Write>(
     alloc: Global,
-    asked: Asked<'_>,
+    asked: Asked<'_, '_>,
     inputs: &Inputs,
     json: bool,
     out: &mut ToWriter<W>,
@@ -100,7 +100,7 @@ fn listed<W: Write>(
 fn note_upgrade<R: AllocGlobal + Eprint>(
     rt: &R,
     texts: &InputTexts<'_>,
-    asked: Asked<'_>,
+    asked: Asked<'_, '_>,
     explain: bool,
     inputs: &Inputs,
     report: &Report,

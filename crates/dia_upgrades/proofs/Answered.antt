@@ -5,7 +5,7 @@ use Rattle.std.specs.Io.KnownBytes.{Appends}
 use Rattle.std.specs.List.{AllByRecursion}
 use Rattle.std.proofs.KnownBytes.{Appends-nil, Appends-trans}
 use Rattle.std.proofs.lemmas.Bool.{eqb-true}
-use Rattle.std.proofs.lemmas.List.{append-nil, map-id}
+use Rattle.std.proofs.lemmas.List.{append-nil}
 use Rattle.std.proofs.lemmas.List.Elements.{All-contains, All-from_recursion}
 use Rattle.dia_book.specs.Dictionary.{Dictionary, IsDictionary}
 use Rattle.dia_breaking_sites.specs.Selection.{AreValid}
@@ -15,7 +15,7 @@ use Rattle.dia_io.specs.declared.Exit.TheVariants.{Yes, No, Bad}
 use Rattle.dia_io.specs.declared.RunFault.{RunFault}
 use Rattle.dia_io.specs.declared.RunFault.TheVariants.{Device, NoMemory}
 use Rattle.dia_io.specs.Writing.{AppendsFront}
-use Rattle.dia_accepted.specs.Accepted.{PlainEntry, PlainRecorded, is_about, plain_entry, plain_recorded}
+use Rattle.dia_accepted.specs.Accepted.{PlainEntry, PlainRecorded, is_about, plain_entry}
 use Rattle.dia_accepted.specs.declared.list.Entry.{Entry}
 use Rattle.dia_accepted.specs.Accepted.{unused_of as recorded_unused}
 use Rattle.dia_accepted.specs.Seen.{HasSeen as RecordedSeen}
@@ -37,12 +37,12 @@ use Rattle.dia_upgrades.specs.Outcome.{nothing, nothing_else, lines}
 use Rattle.dia_upgrades.specs.Places.{asked_places}
 use Rattle.dia_upgrades.specs.Stale.{AreLookedFor, AreStale, AreUnused, AreUnusedBy, failing, stale_text}
 use Rattle.dia_upgrades.specs.Recorded.{AreRecorded, answer_written, causes_written, number_at, written}
-use Rattle.dia_upgrades.specs.UnderWay.{AreAllPut, AreFirstLines, Answers, Ends, Finds, OccursPut, end_text, exit_of, fails_of, is_any, lines_end, nothing_said, text_shown}
+use Rattle.dia_upgrades.specs.UnderWay.{AreAllPut, AreFirstLines, Answers, Ends, Finds, IsTextOfCauses, OccursPut, end_text, exit_of, fails_of, firsts_in, is_any, lines_end, nothing_said, text_shown}
 use Rattle.dia_upgrades.proofs.AskedCommands.{asked_each, command_occurs}
 use Rattle.dia_upgrades.proofs.LinesToReport.{nothing_shown}
 use Rattle.dia_upgrades.proofs.Puts.{front_after}
 use Rattle.dia_upgrades.proofs.RecordedLines.{recorded_accepted, recorded_alike, recorded_valid}
-use Rattle.dia_upgrades.specs.Rows.{Row, kept, left_of, once_of, tolds, unused_of}
+use Rattle.dia_upgrades.specs.Rows.{FirstLine, Row, cause_among, causes_of, firsts_of, left_of, once_of, tolds, unused_of}
 
 -- ---- what is told of commands
 
@@ -65,7 +65,7 @@ no_stale_text Text = refl
 no_stale_text (Json names) = refl
 
 -- what is written in the end, where no line is left and no entry fails
-end_of_none : (asked : Asked) (recorded left : List Row) (causes : List PlainRecorded) (lines : ℕ) (is_some : Bool) → left ≡ [] → lines ≡ counted (length left) → is_some ≡ is_any recorded
+end_of_none : (asked : Asked) (recorded left : List Row) (causes : List ℕ) (lines : ℕ) (is_some : Bool) → left ≡ [] → lines ≡ counted (length left) → is_some ≡ is_any recorded
     → text_shown asked left ++ end_text asked lines is_some causes [] ≡ said asked.form (nothing_left asked.meaning recorded)
 end_of_none asked recorded left causes n is_some none counts some =
     let zero : n ≡ 0 = counts ∙ ap (λ (xs : List Row). counted (length xs)) none in
@@ -88,28 +88,29 @@ some_lines_left n t left counts = ap (λ (m : ℕ). m == 0) counts ∙ by (lengt
     by : (n : ℕ) → (counted (suc n) == 0) ≡ false
     by n = not_zero_by (counted (suc n)) (omega arith)
 
-all_kept : (xs : List Row) → map (kept true) xs ≡ xs
-all_kept xs = map-id xs
+-- this is written of the causes of lines
+abbrev AreWritten : Asked → List Row → List ℕ → Type 0
+AreWritten asked left causes = causes ≡ causes_written asked (map (cause_among (tolds left)) (firsts_in asked left))
 
 -- what is written of the lines that are left
-lines_of_some : (asked : Asked) (left : List Row) (causes : List PlainRecorded) (lines : ℕ) (is_some : Bool) (n : ℕ) → (lines == 0) ≡ false → causes ≡ once_of (map (kept asked.once) left)
+lines_of_some : (asked : Asked) (left : List Row) (causes : List ℕ) (lines : ℕ) (is_some : Bool) (n : ℕ) → (lines == 0) ≡ false → AreWritten asked left causes
     → text_shown asked left ++ lines_end asked lines is_some causes n ≡ answer_written asked left
 lines_of_some asked left causes count is_some n some causes_are =
-    ap (λ (b : Bool). text_shown asked left ++ cond b (nothing_said asked.form asked.meaning is_some n) (cond asked.once (causes_written asked causes) [])) some
-    ∙ by asked.once causes_are
+    ap (λ (b : Bool). text_shown asked left ++ cond b (nothing_said asked.form asked.meaning is_some n) causes) some ∙ ap (λ (x : List ℕ). text_shown asked left ++ x) causes_are
+    ∙ by asked.once
   where
-    by : (b : Bool) → causes ≡ once_of (map (kept b) left) → cond b [] (written asked left) ++ cond b (causes_written asked causes) [] ≡ cond b (causes_written asked (once_of left)) (written asked left)
-    by true e = ap (causes_written asked) (e ∙ ap once_of (all_kept left))
-    by false e = append-nil (written asked left)
+    by : (b : Bool) → cond b [] (written asked left) ++ causes_written asked (map (cause_among (tolds left)) (cond b (firsts_of left) [])) ≡ cond b (causes_written asked (causes_of left)) (written asked left)
+    by true = refl
+    by false = append-nil (written asked left)
 
-end_of_some : (asked : Asked) (left : List Row) (causes : List PlainRecorded) (lines : ℕ) (is_some : Bool) (fails : List PlainEntry) → (lines == 0) ≡ false → causes ≡ once_of (map (kept asked.once) left)
+end_of_some : (asked : Asked) (left : List Row) (causes : List ℕ) (lines : ℕ) (is_some : Bool) (fails : List PlainEntry) → (lines == 0) ≡ false → AreWritten asked left causes
     → text_shown asked left ++ end_text asked lines is_some causes fails ≡ answer_written asked left ++ stale_text asked.form fails
 end_of_some asked left causes count is_some fails some causes_are =
     sym (append_assoc (text_shown asked left) (lines_end asked count is_some causes (length fails)) (stale_text asked.form fails))
     ∙ ap (λ (x : List ℕ). x ++ stale_text asked.form fails) (lines_of_some asked left causes count is_some (length fails) some causes_are)
 
 -- where no line is left, and some entry fails
-end_of_stale : (asked : Asked) (left : List Row) (causes : List PlainRecorded) (lines : ℕ) (is_some : Bool) (e : PlainEntry) (fails : List PlainEntry) → left ≡ [] → lines ≡ counted (length left)
+end_of_stale : (asked : Asked) (left : List Row) (causes : List ℕ) (lines : ℕ) (is_some : Bool) (e : PlainEntry) (fails : List PlainEntry) → left ≡ [] → lines ≡ counted (length left)
     → text_shown asked left ++ end_text asked lines is_some causes (e ∷ fails) ≡ answer_written asked left ++ stale_text asked.form (e ∷ fails)
 end_of_stale asked left causes n is_some e fails none counts =
     let zero : n ≡ 0 = counts ∙ ap (λ (xs : List Row). counted (length xs)) none in
@@ -120,19 +121,19 @@ end_of_stale asked left causes n is_some e fails none counts =
     ∙ ap (λ (x : List ℕ). x ++ others) (sym (by asked.once))
     ∙ ap (λ (xs : List Row). answer_written asked xs ++ others) (sym none)
   where
-    by : (b : Bool) → cond b (causes_written asked (once_of [])) (written asked []) ≡ []
+    by : (b : Bool) → cond b (causes_written asked (causes_of [])) (written asked []) ≡ []
     by true = refl
     by false = refl
 
 module _ (asked : Asked) (input : Input) (a b : Dictionary) (list : List PlainEntry) (is_list : IsListText input list) where
   module _ (sound : IsDictionary a) (can : CanAsk asked a) (apart : List Row) (stale : List PlainEntry) where
-    answerable : (recorded : List Row) (is : Found) → AreAllRecorded asked a b recorded apart → AreStale asked a b list recorded apart stale → RecordsFound asked.once list recorded apart stale is
+    answerable : (recorded : List Row) (is : Found) → AreAllRecorded asked a b recorded apart → AreStale asked a b list recorded apart stale → RecordsFound list recorded apart stale is
         → IsAnswerable asked input a b list recorded apart stale is
     answerable recorded is all are_stale records = record { list_is = is_list; can_ask = can; all_recorded = all; are_stale = are_stale; records = records }
 
-    by_left : (recorded left : List Row) (causes : List PlainRecorded) (fails : List PlainEntry) (lines : ℕ) (is_some : Bool) (exit : Exit) (is : Found) → AreAllRecorded asked a b recorded apart → AreStale asked a b list recorded apart stale
-        → RecordsFound asked.once list recorded apart stale is → left_of list recorded ≡ left → failing asked.stale stale ≡ fails
-        → lines ≡ counted (length (left_of list recorded)) → is_some ≡ is_any recorded → causes ≡ once_of (map (kept asked.once) (left_of list recorded)) → exit ≡ exit_of lines (length fails)
+    by_left : (recorded left : List Row) (causes : List ℕ) (fails : List PlainEntry) (lines : ℕ) (is_some : Bool) (exit : Exit) (is : Found) → AreAllRecorded asked a b recorded apart → AreStale asked a b list recorded apart stale
+        → RecordsFound list recorded apart stale is → left_of list recorded ≡ left → failing asked.stale stale ≡ fails
+        → lines ≡ counted (length (left_of list recorded)) → is_some ≡ is_any recorded → AreWritten asked (left_of list recorded) causes → exit ≡ exit_of lines (length fails)
         → IsListed asked input a b (text_shown asked (left_of list recorded) ++ end_text asked lines is_some causes fails) exit is
     by_left [] [] causes [] count is_some exit is all are_stale records none no_fails counts some causes_are ends =
         let places = asked_places a (names_of asked) in
@@ -167,10 +168,13 @@ module _ (asked : Asked) (input : Input) (a b : Dictionary) (list : List PlainEn
           subst (AreRecorded (sides_in asked a b) asked.messages asked.meaning (asked_places a (names_of asked)) all.recorded) apart_is
           (subst (λ (ps : List ℕ). AreRecorded (sides_in asked a b) asked.messages asked.meaning ps all.recorded all.apart) places_are all.are_recorded)
 
-      kept_causes : (is : Found) (f : Finds seen unused_ones stale_ones is) → map plain_recorded f.causes.items ≡ once_of (map (kept asked.once) (left_of list all.recorded))
-      kept_causes is f = f.causes_are all.forgets (tolds (map (kept asked.once) (left_of list all.recorded))) all.place all.visits all.are_seen.are_kept.causes
+      text_of_causes : (causes : List ℕ) → IsTextOfCauses asked seen causes → AreWritten asked (left_of list all.recorded) causes
+      text_of_causes causes is =
+          let left = left_of list all.recorded in
+          is all.forgets (tolds left) all.place all.visits all.are_seen.are_kept.causes
+          ∙ ap (λ (fs : List FirstLine). causes_written asked (map (cause_among (tolds left)) fs)) all.are_seen.are_kept.firsts
 
-      finds_report : (is : Found) → Finds seen unused_ones stale_ones is → RecordsFound asked.once list all.recorded apart stale is
+      finds_report : (is : Found) → Finds seen unused_ones stale_ones is → RecordsFound list all.recorded apart stale is
       finds_report is f = record {
         unused = unused_ones;
         stale_ones = stale_ones;
@@ -183,18 +187,19 @@ module _ (asked : Asked) (input : Input) (a b : Dictionary) (list : List PlainEn
         stale_are = stale_is;
         lines_are = all.are_seen.judged.lines_are;
         accepted_are = all.are_seen.judged.accepted_are;
-        causes_are = kept_causes is f;
+        causes_are = f.causes_are all.forgets (tolds (left_of list all.recorded)) all.place all.visits all.are_seen.are_kept.causes;
         meanings_are = f.meanings_are all.forgets (tolds (left_of list all.apart)) all.place all.visits all.are_seen.are_kept.meanings ∙ ap (λ (xs : List Row). once_of (left_of list xs)) apart_is;
       }
 
-      abbrev pub whole_text : (is : Found) → Finds seen unused_ones stale_ones is → List ℕ
-      whole_text is f = text_shown asked (left_of list all.recorded) ++ end_text asked seen.lines seen.is_some (map plain_recorded f.causes.items) (fails_of asked stale_ones)
+      abbrev pub whole_text : List ℕ → List ℕ
+      whole_text causes = text_shown asked (left_of list all.recorded) ++ end_text asked seen.lines seen.is_some causes (fails_of asked stale_ones)
 
-      listed_so : (is : Found) (f : Finds seen unused_ones stale_ones is) (exit : Exit) → exit ≡ exit_of seen.lines (length (fails_of asked stale_ones)) → IsListed asked input a b (whole_text is f) exit is
-      listed_so is f exit ends =
+      listed_so : (causes : List ℕ) → IsTextOfCauses asked seen causes → (is : Found) → Finds seen unused_ones stale_ones is → (exit : Exit) → exit ≡ exit_of seen.lines (length (fails_of asked stale_ones))
+          → IsListed asked input a b (whole_text causes) exit is
+      listed_so causes written_so is f exit ends =
           let judged = all.are_seen.judged in
-          by_left all.recorded (left_of list all.recorded) (map plain_recorded f.causes.items) (fails_of asked stale_ones) seen.lines seen.is_some exit is all_recorded are_stale (finds_report is f) refl
-          (ap (failing asked.stale) (sym stale_is)) judged.lines_are judged.is_some_is (kept_causes is f) ends
+          by_left all.recorded (left_of list all.recorded) causes (fails_of asked stale_ones) seen.lines seen.is_some exit is all_recorded are_stale (finds_report is f) refl
+          (ap (failing asked.stale) (sym stale_is)) judged.lines_are judged.is_some_is (text_of_causes causes written_so) ends
 
       begun_whole : (is_once : Bool) → asked.once ≡ is_once → IsBegun asked input a b (cond is_once [] (written asked (left_of list all.recorded)))
       begun_whole true e = nothing_yet refl
@@ -204,10 +209,11 @@ module _ (asked : Asked) (input : Input) (a b : Dictionary) (list : List PlainEn
 
       -- where all lines were put, and it is known what stands behind them
       pub all_answered : (new : Option (List ℕ)) (r : Result Listed RunFault) → Ends asked seen unused_ones stale_ones mid new r → Answers asked input a b old new r
-      all_answered new (Ok listed) (f, ends, put) =
-          (whole_text listed.found f, listed_so listed.found f listed.exit ends, Appends-trans old mid new (text_shown asked (left_of list all.recorded)) _ all.is_put put)
-      all_answered new (Err Device) (is, f, front) =
-          (whole_text is f, inr (exit_of seen.lines (length (fails_of asked stale_ones)), (is, listed_so is f (exit_of seen.lines (length (fails_of asked stale_ones))) refl)), front_after old mid new (text_shown asked (left_of list all.recorded)) _ all.is_put front)
+      all_answered new (Ok listed) (causes, written_so, f, ends, put) =
+          (whole_text causes, listed_so causes written_so listed.found f listed.exit ends, Appends-trans old mid new (text_shown asked (left_of list all.recorded)) _ all.is_put put)
+      all_answered new (Err Device) (is, causes, written_so, f, front) =
+          let exit = exit_of seen.lines (length (fails_of asked stale_ones)) in
+          (whole_text causes, inr (exit, (is, listed_so causes written_so is f exit refl)), front_after old mid new (text_shown asked (left_of list all.recorded)) _ all.is_put front)
       all_answered new (Err NoMemory) same =
           (text_shown asked (left_of list all.recorded), begun_whole asked.once refl, subst (λ (o : Option (List ℕ)). Appends old o (text_shown asked (left_of list all.recorded))) (sym same) all.is_put)
 

@@ -17,40 +17,14 @@ use Rattle.dia_run.specs.Texts.{line}
 use Rattle.dia_upgrades.specs.declared.asked.Asked.{Asked}
 use Rattle.dia_upgrades.specs.declared.seen.Seen.{Seen}
 use Rattle.dia_upgrades.specs.Outcome.{accepted_of, counted}
-use Rattle.dia_upgrades.specs.Recorded.{IsAfter, has_message, recorded_text, written}
+use Rattle.dia_upgrades.specs.Recorded.{IsAfter, has_message, written}
 use Rattle.dia_upgrades.specs.Forms.{line_in}
-use Rattle.dia_upgrades.specs.UnderWay.{AreJudged, Sees, SeesApart, is_any, lines_after, text_shown}
+use Rattle.dia_upgrades.specs.UnderWay.{AreJudged, Sees, SeesApart, firsts_in, is_any, lines_after, plain_first, text_shown}
 use Rattle.dia_upgrades.proofs.Puts.{front_of_more}
 use Rattle.dia_upgrades.proofs.Rows.{seen_after, seen_before}
-use Rattle.dia_upgrades.specs.Rows.{AreCauses, HasSeen, Row, digits_line, is_accepted, is_command, kept, left_of}
+use Rattle.dia_upgrades.specs.Rows.{AreCauses, HasSeen, Row, digits_line, is_accepted, is_command, left_of}
 
 -- ---- texts
-
--- the text of one line more
-pub text_more : (xs : List PlainRecorded) (x : PlainRecorded) → recorded_text (xs ++ x ∷ []) ≡ recorded_text xs ++ (line x.words ++ x.message)
-text_more [] x = append-nil (line x.words ++ x.message)
-text_more (y ∷ xs) x =
-    ap (λ (t : List ℕ). (line y.words ++ y.message) ++ t) (text_more xs x) ∙ sym (append_assoc (line y.words ++ y.message) (recorded_text xs) (line x.words ++ x.message))
-
--- the text of the lines up to one, one line more
-pub text_next : (lines : List Recorded) (i : ℕ) (t : Recorded) → i < length lines → t ≡ get_or lines i t
-    → recorded_text (map plain_recorded (take (i + 1) lines)) ≡ recorded_text (map plain_recorded (take i lines)) ++ (line (string_bytes t.words) ++ string_bytes t.message)
-text_next lines i t less is =
-    ap (λ (ts : List Recorded). recorded_text (map plain_recorded ts)) (take_more lines i t less ∙ ap (λ (x : Recorded). take i lines ++ x ∷ []) (sym is))
-    ∙ ap recorded_text (map-append plain_recorded (take i lines) (t ∷ [])) ∙ text_more (map plain_recorded (take i lines)) (plain_recorded t)
-
--- all of a text begins with that of some lines
-text_both : (xs ys : List PlainRecorded) → recorded_text (xs ++ ys) ≡ recorded_text xs ++ recorded_text ys
-text_both xs ys = flat_map-append (λ (t : PlainRecorded). line t.words ++ t.message) xs ys
-
-pub front_of_lines : (old new : Option (List ℕ)) (lines : List Recorded) (i : ℕ) (t : Recorded) → i < length lines → t ≡ get_or lines i t
-    → AppendsFront old new (recorded_text (map plain_recorded (take i lines)) ++ (line (string_bytes t.words) ++ string_bytes t.message)) → AppendsFront old new (recorded_text (map plain_recorded lines))
-front_of_lines old new lines i t less is front =
-    let rest = recorded_text (map plain_recorded (drop (i + 1) lines)) in
-    let all : recorded_text (map plain_recorded (take (i + 1) lines)) ++ rest ≡ recorded_text (map plain_recorded lines) =
-    sym (text_both (map plain_recorded (take (i + 1) lines)) (map plain_recorded (drop (i + 1) lines))) ∙ ap recorded_text (sym (map-append plain_recorded (take (i + 1) lines) (drop (i + 1) lines)))
-    ∙ ap (λ (ts : List Recorded). recorded_text (map plain_recorded ts)) (take-append-drop (i + 1) lines) in
-    subst (AppendsFront old new) all (front_of_more old new (recorded_text (map plain_recorded (take (i + 1) lines))) rest (subst (AppendsFront old new) (sym (text_next lines i t less is)) front))
 
 -- where nothing is left, nothing is written
 pub nothing_shown : (asked : Asked) → text_shown asked [] ≡ []
@@ -143,14 +117,6 @@ left_none list place (t ∷ recorded) none =
     by false e true none more = more none
     by false e false none more = ap (λ (b : Bool). b || list_any (is_command place) (left_of list recorded)) e ∙ more none
 
-pub kept_none : (is_once : Bool) (place : ℕ) (recorded : List Row) → list_any (is_command place) recorded ≡ false → list_any (is_command place) (map (kept is_once) recorded) ≡ false
-kept_none is_once place recorded none = kept_any is_once place recorded ∙ none
-  where
-    kept_any : (b : Bool) (place : ℕ) (recorded : List Row) → list_any (is_command place) (map (kept b) recorded) ≡ list_any (is_command place) recorded
-    kept_any b place [] = refl
-    kept_any true place (t ∷ recorded) = ap (λ (c : Bool). is_command place t || c) (kept_any true place recorded)
-    kept_any false place (t ∷ recorded) = ap (λ (c : Bool). is_command place t || c) (kept_any false place recorded)
-
 -- ---- a line that comes
 
 module _ (list : List PlainEntry) (recorded apart : List Row) (t : Row) where
@@ -174,10 +140,13 @@ judged_so list old new recorded apart same lines accepted some are = record {
   is_some_is = some ∙ are.is_some_is;
 }
 
+same_firsts : (old new : Seen) → new.firsts ≡ old.firsts → map plain_first new.firsts.items ≡ map plain_first old.firsts.items
+same_firsts old new same = ap (λ f. map plain_first f.items) same
+
 module _ (asked : Asked) (place : ℕ) (old mid : Seen) (t : Row) (words : List ℕ) (known : Bool) (words_are : t.words ≡ words)
     (accepted : (list : List PlainEntry) (recorded apart : List Row) → AreJudged list old recorded apart → known ≡ list_any (accepts words) list)
     (judged : (list : List PlainEntry) (recorded apart : List Row) (x : Row) → x.words ≡ words → AreJudged list old recorded apart → AreJudged list mid (recorded ++ x ∷ []) apart)
-    (causes : mid.causes ≡ old.causes) (meanings : mid.meanings ≡ old.meanings) where
+    (causes : mid.causes ≡ old.causes) (meanings : mid.meanings ≡ old.meanings) (firsts : mid.firsts ≡ old.firsts) where
   is_known : (list : List PlainEntry) (recorded apart : List Row) → AreJudged list old recorded apart → is_accepted list t ≡ known
   is_known list recorded apart are = ap (λ (w : List ℕ). list_any (accepts w) list) words_are ∙ sym (accepted list recorded apart are)
 
@@ -189,9 +158,10 @@ module _ (asked : Asked) (place : ℕ) (old mid : Seen) (t : Row) (words : List 
         record {
           judged = judged list recorded apart t words_are are.judged;
           are_kept = record {
-            causes = subst (λ (c : Causes). AreCauses forgets c (map (kept asked.once) (left_of list (recorded ++ t ∷ []))) place visits) (sym causes)
-                (subst (λ (xs : List Row). AreCauses forgets old.causes (map (kept asked.once) xs) place visits) same are.are_kept.causes);
+            causes = subst (λ (c : Causes). AreCauses forgets c (left_of list (recorded ++ t ∷ [])) place visits) (sym causes)
+                (subst (λ (xs : List Row). AreCauses forgets old.causes xs place visits) same are.are_kept.causes);
             meanings = subst (λ (c : Causes). AreCauses forgets c (left_of list apart) place visits) (sym meanings) are.are_kept.meanings;
+            firsts = same_firsts old mid firsts ∙ are.are_kept.firsts ∙ ap (firsts_in asked) same;
           };
         },
         sym (ap (text_shown asked) (left_one list t true e) ∙ nothing_shown asked),
@@ -199,18 +169,20 @@ module _ (asked : Asked) (place : ℕ) (old mid : Seen) (t : Row) (words : List 
 
   -- or it is left
   pub sees_left : (new : Seen) (text : List ℕ) → known ≡ false → new.accepting ≡ mid.accepting → new.meanings ≡ mid.meanings → new.lines ≡ mid.lines → new.accepted ≡ mid.accepted → new.is_some ≡ mid.is_some
-      → ((forgets : Bool) (recorded : List Row) (visits : ℕ) → visits < 2 ^ 63 → AreCauses forgets mid.causes recorded place visits → AreCauses forgets new.causes (recorded ++ kept asked.once t ∷ []) place visits)
+      → ((forgets : Bool) (recorded : List Row) (visits : ℕ) → visits < 2 ^ 63 → AreCauses forgets mid.causes recorded place visits → AreCauses forgets new.causes (recorded ++ t ∷ []) place visits)
+      → ((forgets : Bool) (recorded : List Row) (visits : ℕ) → AreCauses forgets mid.causes recorded place visits → map plain_first mid.firsts.items ≡ firsts_in asked recorded
+      → map plain_first new.firsts.items ≡ firsts_in asked (recorded ++ t ∷ []))
       → text ≡ text_shown asked (t ∷ []) → Sees asked place old new t text
-  sees_left new text is_no same_list same_meanings same_lines same_accepted same_some added text_is = λ forgets list visits recorded apart small are.
+  sees_left new text is_no same_list same_meanings same_lines same_accepted same_some added stored text_is = λ forgets list visits recorded apart small are.
       let e = is_known list recorded apart are.judged ∙ is_no in
-      let more : map (kept asked.once) (left_of list recorded) ++ kept asked.once t ∷ [] ≡ map (kept asked.once) (left_of list (recorded ++ t ∷ [])) =
-      sym (map-append (kept asked.once) (left_of list recorded) (t ∷ [])) ∙ ap (map (kept asked.once)) (sym (left_more list recorded t false e)) in
-      let before = subst (λ (c : Causes). AreCauses forgets c (map (kept asked.once) (left_of list recorded)) place visits) (sym causes) are.are_kept.causes in (
+      let more : left_of list recorded ++ t ∷ [] ≡ left_of list (recorded ++ t ∷ []) = sym (left_more list recorded t false e) in
+      let before = subst (λ (c : Causes). AreCauses forgets c (left_of list recorded) place visits) (sym causes) are.are_kept.causes in (
         record {
           judged = judged_so list mid new (recorded ++ t ∷ []) apart same_list same_lines same_accepted same_some (judged list recorded apart t words_are are.judged);
           are_kept = record {
-            causes = subst (λ (xs : List Row). AreCauses forgets new.causes xs place visits) more (added forgets (map (kept asked.once) (left_of list recorded)) visits small before);
+            causes = subst (λ (xs : List Row). AreCauses forgets new.causes xs place visits) more (added forgets (left_of list recorded) visits small before);
             meanings = subst (λ (c : Causes). AreCauses forgets c (left_of list apart) place visits) (sym (same_meanings ∙ meanings)) are.are_kept.meanings;
+            firsts = stored forgets (left_of list recorded) visits before (same_firsts old mid firsts ∙ are.are_kept.firsts) ∙ ap (firsts_in asked) more;
           };
         },
         text_is ∙ ap (text_shown asked) (sym (left_one list t false e)),
@@ -221,7 +193,8 @@ module _ (asked : Asked) (place : ℕ) (old mid : Seen) (t : Row) (words : List 
 module _ (asked : Asked) (place : ℕ) (old new : Seen) (t : Row) (known : Bool)
     (accepted : (list : List PlainEntry) (recorded : List Row) → HasSeen old.accepting list recorded → known ≡ list_any (accepts t.words) list)
     (come : (list : List PlainEntry) (recorded : List Row) (x : Row) → x.words ≡ t.words → HasSeen old.accepting list recorded → HasSeen new.accepting list (recorded ++ x ∷ []))
-    (causes : new.causes ≡ old.causes) (lines : new.lines ≡ old.lines) (same : new.accepted ≡ old.accepted) (some : new.is_some ≡ old.is_some) where
+    (causes : new.causes ≡ old.causes) (lines : new.lines ≡ old.lines) (same : new.accepted ≡ old.accepted) (some : new.is_some ≡ old.is_some)
+    (firsts : new.firsts ≡ old.firsts) where
   judged_apart : (list : List PlainEntry) (recorded apart : List Row) → AreJudged list old recorded apart → AreJudged list new recorded (apart ++ t ∷ [])
   judged_apart list recorded apart are = record {
     accepting = seen_after new.accepting list recorded apart t (come list (recorded ++ apart) t refl are.accepting);
@@ -236,7 +209,8 @@ module _ (asked : Asked) (place : ℕ) (old new : Seen) (t : Row) (known : Bool)
       let e = sym (accepted list (recorded ++ apart) are.judged.accepting) in record {
         judged = judged_apart list recorded apart are.judged;
         are_kept = record {
-          causes = subst (λ (c : Causes). AreCauses forgets c (map (kept asked.once) (left_of list recorded)) place visits) (sym causes) are.are_kept.causes;
+          causes = subst (λ (c : Causes). AreCauses forgets c (left_of list recorded) place visits) (sym causes) are.are_kept.causes;
+          firsts = same_firsts old new firsts ∙ are.are_kept.firsts;
           meanings = subst (λ (xs : List Row). AreCauses forgets new.meanings xs place visits) (sym (left_more list apart t known e))
               (added forgets (left_of list apart) visits small are.are_kept.meanings);
         };

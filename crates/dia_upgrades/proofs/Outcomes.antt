@@ -57,7 +57,7 @@ list_or_not input list (lists.Limit n) (text, holds, utf8, none, is) (other, hel
 -- ---- how much is left
 
 module _ (asked : Asked) (input : Input) (a b : Dictionary) (text : List ℕ) (exit : Exit) (is : Found) (unused old : Vec Entry) (n known : ℕ) (causes meanings : Vec Recorded) where
-  same_lines : (list : List PlainEntry) (recorded apart : List Row) (stale : List PlainEntry) → is ≡ founds.Listed unused old n known causes meanings → RecordsFound asked.once list recorded apart stale is → n ≡ counted (length (left_of list recorded))
+  same_lines : (list : List PlainEntry) (recorded apart : List Row) (stale : List PlainEntry) → is ≡ founds.Listed unused old n known causes meanings → RecordsFound list recorded apart stale is → n ≡ counted (length (left_of list recorded))
   same_lines list recorded apart stale e f =
       let z : founds.Listed unused old n known causes meanings ≡ founds.Listed f.unused f.stale_ones f.lines f.accepted f.causes f.meanings = sym e ∙ f.is_listed in let same : n ≡ f.lines = cc in same ∙ f.lines_are
 

@@ -33,7 +33,7 @@ use Rattle.dia_upgrades.specs.Lists.{IsListText, IsNoListText, list_line}
 use Rattle.dia_upgrades.specs.Places.{asked_places}
 use Rattle.dia_upgrades.specs.Stale.{AreStale, failing, stale_text}
 use Rattle.dia_upgrades.specs.Recorded.{AreShortest, AreRecorded, answer_written, words_at}
-use Rattle.dia_upgrades.specs.Rows.{Row, is_accepted, kept, left_of, once_of, unused_of}
+use Rattle.dia_upgrades.specs.Rows.{Row, is_accepted, left_of, once_of, unused_of}
 
 -- ---- what is claimed
 
@@ -136,8 +136,8 @@ abbrev pub accepted_of : List PlainEntry → List Row → List Row
 accepted_of list recorded = filter (is_accepted list) recorded
 
 -- what was found has which entries of the list accept none of these, and which of them are stale, how many of the first are left and how many accepted, their causes,
--- with their messages where each cause has one line, and the causes of the meanings that aren't asked for and that the list doesn't accept
-pub record RecordsFound (is_once : Bool) (list : List PlainEntry) (recorded apart : List Row) (stale : List PlainEntry) (is : Found) : Type 0 where
+-- and the causes of the meanings that aren't asked for and that the list doesn't accept
+pub record RecordsFound (list : List PlainEntry) (recorded apart : List Row) (stale : List PlainEntry) (is : Found) : Type 0 where
   pub unused : Vec Entry
   pub stale_ones : Vec Entry
   pub lines : ℕ
@@ -149,7 +149,7 @@ pub record RecordsFound (is_once : Bool) (list : List PlainEntry) (recorded apar
   pub stale_are : map plain_entry stale_ones.items ≡ stale
   pub lines_are : lines ≡ counted (length (left_of list recorded))
   pub accepted_are : accepted ≡ counted (length (accepted_of list recorded))
-  pub causes_are : map plain_recorded causes.items ≡ once_of (map (kept is_once) (left_of list recorded))
+  pub causes_are : map plain_recorded causes.items ≡ once_of (left_of list recorded)
   pub meanings_are : map plain_recorded meanings.items ≡ once_of (left_of list apart)
 
 -- the inputs can be asked for, and the list, the lines and the stale entries are these
@@ -158,7 +158,7 @@ pub record IsAnswerable (asked : Asked) (input : Input) (a b : Dictionary) (list
   pub can_ask : CanAsk asked a
   pub all_recorded : AreAllRecorded asked a b recorded apart
   pub are_stale : AreStale asked a b list recorded apart stale
-  pub records : RecordsFound asked.once list recorded apart stale is
+  pub records : RecordsFound list recorded apart stale is
 
 -- `breaking` of two dictionaries and a list: what is written, how it ends, and what was found
 pub data IsListed (asked : Asked) (input : Input) (a b : Dictionary) (text : List ℕ) (exit : Exit) (is : Found) : Type 0 where

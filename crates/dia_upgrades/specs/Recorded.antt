@@ -2,7 +2,6 @@
 use Rattle.std.specs.Prelude.{◌≡◌, ℕ, ◌+◌, Bool, true, false, if◌then◌else◌, List, [], ◌∷◌, ◌++◌, length, codes, Option}
 use Rattle.std.specs.List.{flat_map}
 use Rattle.hex.specs.Hex.{encode_lower}
-use Rattle.dia_accepted.specs.Accepted.{PlainRecorded}
 use Rattle.dia_wire.specs.declared.Key.{Key}
 use Rattle.dia_terms.specs.declared.sends.Sends.{Sends}
 use Rattle.dia_book.specs.Dictionary.{Dictionary, groups}
@@ -29,7 +28,7 @@ use Rattle.dia_breaking.specs.Sides.{Sides, answer}
 use Rattle.dia_run.specs.Texts.{line}
 use Rattle.dia_upgrades.specs.declared.asked.Asked.{Asked}
 use Rattle.dia_upgrades.specs.Forms.{cause_in, line_in}
-use Rattle.dia_upgrades.specs.Rows.{Row, digits_line, once_of}
+use Rattle.dia_upgrades.specs.Rows.{Cause, Row, causes_of, digits_line}
 
 -- the list is one of the first, then one of the second, and so on
 abbrev pub AreParts : {X Y : Type 0} → (X → List Y → Type 0) → List X → List Y → Type 0
@@ -75,21 +74,17 @@ abbrev pub IsLineRecorded : ℕ → Bool → (Line → Says) → (Line → List 
 IsLineRecorded place messages says are line recorded =
     (digits : Option (List ℕ)) × IsAfter (are line) (has_message messages line.standing) (digits_line digits) × (recorded ≡ row_of place (says line) digits ∷ [])
 
--- the text of causes: each ends a line, and its message follows
-abbrev pub recorded_text : List PlainRecorded → List ℕ
-recorded_text recorded = flat_map (λ t. line t.words ++ t.message) recorded
-
 -- the lines in the form that is asked for
 abbrev pub written : Asked → List Row → List ℕ
 written asked recorded = flat_map (line_in asked.form) recorded
 
 -- the causes in this form
-abbrev pub causes_written : Asked → List PlainRecorded → List ℕ
+abbrev pub causes_written : Asked → List Cause → List ℕ
 causes_written asked causes = flat_map (cause_in asked.form) causes
 
 -- what is written of the lines that are left: these lines, or with `--once` one for each cause
 abbrev pub answer_written : Asked → List Row → List ℕ
-answer_written asked left = if asked.once then causes_written asked (once_of left) else written asked left
+answer_written asked left = if asked.once then causes_written asked (causes_of left) else written asked left
 
 -- ---- a command
 

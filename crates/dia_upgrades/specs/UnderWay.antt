@@ -3,7 +3,7 @@ use Rattle.std.specs.Prelude.{◌≡◌, ℕ, ◌⊎◌, ◌+◌, ◌<◌, ◌^�
 use Rattle.std.specs.Global.{Global, Vec}
 use Rattle.std.specs.declared.string.String.{String}
 use Rattle.std.specs.List.{list_any}
-use Rattle.std.specs.Option.{option_map}
+use Rattle.std.specs.Option.{option_map, option_map_or}
 use Rattle.std.specs.Io.KnownBytes.{Appends}
 use Rattle.dia_book.specs.Dictionary.{Dictionary}
 use Rattle.dia_book.specs.declared.book.Book.{Ghosts as Reads}
@@ -26,6 +26,7 @@ use Rattle.dia_accepted.specs.Words.{cause_text}
 use Rattle.dia_breaking.specs.declared.line.Breaks.{Breaks}
 use Rattle.dia_breaking.specs.declared.line.Line.{Line}
 use Rattle.dia_breaking.specs.declared.upgrade.Upgrade.{Upgrade}
+use Rattle.dia_breaking.specs.LineParts.{plain_parts}
 use Rattle.dia_breaking.specs.Messages.{IsLineMessage, Stock}
 use Rattle.dia_breaking.specs.Sides.{Sides}
 use Rattle.dia_breaking.specs.Upgrades.{other_length_of, sides_of, stock_of}
@@ -36,16 +37,16 @@ use Rattle.dia_upgrades.specs.declared.reporting.Found.{Found}
 use Rattle.dia_upgrades.specs.declared.reporting.Found.TheVariants as found
 use Rattle.dia_upgrades.specs.declared.reporting.Listed.{Listed}
 use Rattle.dia_upgrades.specs.declared.reporting.Reported.{Reported}
+use Rattle.dia_upgrades.specs.declared.seen.First.{First}
 use Rattle.dia_upgrades.specs.declared.seen.Seen.{Seen}
-use Rattle.dia_upgrades.specs.declared.shown.Shown.{Shown}
 use Rattle.dia_upgrades.specs.declared.lines.Listing.{Listing}
 use Rattle.dia_upgrades.specs.Begun.{IsBegun, IsBegunOrWhole, IsOutcomeBegun, IsOutcomeBegunOrWhole}
 use Rattle.dia_upgrades.specs.Forms.{said}
 use Rattle.dia_upgrades.specs.Outcome.{IsBreakingOutcome, IsListed, accepted_of, counted, nothing_for}
 use Rattle.dia_upgrades.specs.Report.{IsReport}
 use Rattle.dia_upgrades.specs.Stale.{failing, stale_text}
-use Rattle.dia_upgrades.specs.Recorded.{AreParts, AreRecorded, IsAfter, IsLineRecorded, IsRecordedOf, causes_written, says_of, written}
-use Rattle.dia_upgrades.specs.Rows.{AreCauses, HasSeen, Row, digits_line, kept, left_of}
+use Rattle.dia_upgrades.specs.Recorded.{AreParts, AreRecorded, IsAfter, IsLineRecorded, IsRecordedOf, Says, causes_written, row_of, says_of, written}
+use Rattle.dia_upgrades.specs.Rows.{AreCauses, FirstLine, HasSeen, Row, cause_among, digits_line, first_of, firsts_of, left_of}
 
 -- ---- what is put
 
@@ -77,10 +78,9 @@ plain_digits digits = option_map (λ d. string_bytes d) digits
 abbrev pub digits_text : Option (String Global) → List ℕ
 digits_text digits = digits_line (plain_digits digits)
 
--- the text of a line that is written now
-abbrev pub shown_text : Option Shown → List ℕ
-shown_text None = []
-shown_text (Some shown) = line (string_bytes shown.words) ++ digits_text shown.digits
+-- the text of a line that is written now, if it is
+abbrev pub shown_text : Option (String Global) → List ℕ
+shown_text shown = option_map_or (λ s. string_bytes s) shown []
 
 -- what is written of lines as they are found: with `--once` nothing
 abbrev pub text_shown : Asked → List Row → List ℕ
@@ -103,10 +103,18 @@ pub record AreJudged (list : List PlainEntry) (seen : Seen) (recorded apart : Li
   pub accepted_are : seen.accepted ≡ counted (length (accepted_of list recorded))
   pub is_some_is : seen.is_some ≡ is_any recorded
 
+abbrev pub plain_first : First → FirstLine
+plain_first first = record { words = string_bytes first.words; parts = plain_parts first.parts; digits = plain_digits first.digits }
+
+-- what is stored of the first line of each cause: only where each cause has one line
+abbrev pub firsts_in : Asked → List Row → List FirstLine
+firsts_in asked left = if asked.once then firsts_of left else []
+
 -- the causes of those that are left are stored
 pub record AreKept (asked : Asked) (forgets : Bool) (list : List PlainEntry) (place visits : ℕ) (seen : Seen) (recorded apart : List Row) : Type 0 where
-  pub causes : AreCauses forgets seen.causes (map (kept asked.once) (left_of list recorded)) place visits
+  pub causes : AreCauses forgets seen.causes (left_of list recorded) place visits
   pub meanings : AreCauses forgets seen.meanings (left_of list apart) place visits
+  pub firsts : map plain_first seen.firsts.items ≡ firsts_in asked (left_of list recorded)
 
 -- so these lines are known, the last ones of the command at this place
 pub record AreSeen (asked : Asked) (forgets : Bool) (list : List PlainEntry) (place visits : ℕ) (seen : Seen) (recorded apart : List Row) : Type 0 where
@@ -133,12 +141,17 @@ module _ {A B : Type 0} {a : Reads A} {b : Reads B} where
   IsRecordedIn up breaks place messages =
       IsLineRecorded place messages (says_of (sides_of up) (other_length_of up) breaks.command breaks.sites.items) (IsMessageIn up breaks)
 
--- the message that is stored with the cause of these words, of a line that is followed by one or not: nothing, if the cause is known
-pub record IsMessageFor (causes : Causes) (words : List ℕ) (are : List ℕ → Type 0) (has : Bool) (text : List ℕ) : Type 0 where
+-- where a line comes that says this, and that is followed by its message or not: it is stored, unless its cause is known
+pub record IsStored (causes : Causes) (says : Says) (are : List ℕ → Type 0) (has : Bool) (old new : List First) : Type 0 where
   pub digits : Option (List ℕ)
   pub is_after : IsAfter are has (digits_line digits)
-  pub is_kept : (forgets : Bool) (recorded : List PlainRecorded) (command visits : ℕ) → RecordedCauses forgets causes recorded command visits
-      → (digits_line digits ≡ text) ⊎ (list_any (has_cause (cause_text words)) recorded ≡ true)
+  pub is_stored : (forgets : Bool) (recorded : List PlainRecorded) (command visits : ℕ) → RecordedCauses forgets causes recorded command visits
+      → map plain_first new ≡ map plain_first old ++ (if list_any (has_cause (cause_text says.words)) recorded then [] else first_of (row_of 0 says digits) ∷ [])
+
+-- this is written of the causes of first lines, which so many commands have as were counted
+abbrev pub IsTextOfCauses : Asked → Seen → List ℕ → Type 0
+IsTextOfCauses asked seen text = (forgets : Bool) (recorded : List PlainRecorded) (command visits : ℕ) → RecordedCauses forgets seen.causes recorded command visits
+    → text ≡ causes_written asked (map (cause_among recorded) (map plain_first seen.firsts.items))
 
 -- ---- both
 
@@ -207,12 +220,11 @@ abbrev pub nothing_said : Form → Bool → Bool → ℕ → List ℕ
 nothing_said form meaning is_some failing = if failing == 0 then said form (nothing_for meaning is_some) else []
 
 -- what is written after all lines of what is left of them
-abbrev pub lines_end : Asked → ℕ → Bool → List PlainRecorded → ℕ → List ℕ
-lines_end asked lines is_some causes failing =
-    if lines == 0 then nothing_said asked.form asked.meaning is_some failing else (if asked.once then causes_written asked causes else [])
+abbrev pub lines_end : Asked → ℕ → Bool → List ℕ → ℕ → List ℕ
+lines_end asked lines is_some causes failing = if lines == 0 then nothing_said asked.form asked.meaning is_some failing else causes
 
 -- what is written after all lines, where these entries fail
-abbrev pub end_text : Asked → ℕ → Bool → List PlainRecorded → List PlainEntry → List ℕ
+abbrev pub end_text : Asked → ℕ → Bool → List ℕ → List PlainEntry → List ℕ
 end_text asked lines is_some causes fails = lines_end asked lines is_some causes (length fails) ++ stale_text asked.form fails
 
 abbrev pub exit_of : ℕ → ℕ → Exit
@@ -231,10 +243,10 @@ pub record Finds (seen : Seen) (unused stale : Vec Entry) (is : Found) : Type 0 
 
 -- what was found, how it ends, and what was written after all lines; or why not
 abbrev pub Ends : Asked → Seen → Vec Entry → Vec Entry → Option (List ℕ) → Option (List ℕ) → Result Listed RunFault → Type 0
-Ends asked seen unused stale old new (Ok listed) = (finds : Finds seen unused stale listed.found) × (listed.exit ≡ exit_of seen.lines (length (fails_of asked stale)))
-    × Appends old new (end_text asked seen.lines seen.is_some (map plain_recorded finds.causes.items) (fails_of asked stale))
-Ends asked seen unused stale old new (Err Device) = (is : Found) × (finds : Finds seen unused stale is)
-    × AppendsFront old new (end_text asked seen.lines seen.is_some (map plain_recorded finds.causes.items) (fails_of asked stale))
+Ends asked seen unused stale old new (Ok listed) = (causes : List ℕ) × IsTextOfCauses asked seen causes × Finds seen unused stale listed.found
+    × (listed.exit ≡ exit_of seen.lines (length (fails_of asked stale))) × Appends old new (end_text asked seen.lines seen.is_some causes (fails_of asked stale))
+Ends asked seen unused stale old new (Err Device) = (is : Found) × (causes : List ℕ) × IsTextOfCauses asked seen causes × Finds seen unused stale is
+    × AppendsFront old new (end_text asked seen.lines seen.is_some causes (fails_of asked stale))
 Ends asked seen unused stale old new (Err NoMemory) = new ≡ old
 
 -- ---- what is answered

@@ -5,12 +5,12 @@ use dia_terms::{Sends, Unknown};
 
 /// The form in which lines are written.
 #[derive(Clone, Copy)]
-pub enum Form<'a> {
+pub enum Form<'a, 's> {
     /// In words, each line followed by its message on a line of its own.
     Text,
-    /// As JSON: an object for each line, with the AVPs of the two dictionaries. What words report of the whole answer isn't
-    /// written.
-    Json(&'a Names),
+    /// As JSON: an object for each line, with the AVPs and the texts of the two dictionaries. What words report of the whole answer
+    /// isn't written.
+    Json(&'a Names<'s>),
 }
 
 /// What is done about stale entries of the list of accepted lines.
@@ -26,7 +26,7 @@ pub enum Stale {
 
 /// What `breaking` is to list.
 #[derive(Clone, Copy)]
-pub struct Asked<'a> {
+pub struct Asked<'a, 's> {
     /// What the side of the first dictionary sends.
     pub sends: Sends,
     /// What the side of the second does with AVPs that its dictionary doesn't know.
@@ -38,7 +38,7 @@ pub struct Asked<'a> {
     /// Whether AVPs that are read as another format are lines, too.
     pub meaning: bool,
     pub stale: Stale,
-    pub form: Form<'a>,
+    pub form: Form<'a, 's>,
     /// The commands of the first dictionary that are listed: all where none is named.
     pub names: &'a [String],
 }

@@ -32,7 +32,7 @@ use std::alloc::Global;
 /// they are written after all.
 pub fn breaking<S: Sink>(
     alloc: Global,
-    asked: Asked<'_>,
+    asked: Asked<'_, '_>,
     inputs: &Inputs,
     sink: &mut S,
 ) -> Result<Reported, RunFault>
@@ -65,7 +65,7 @@ pub fn breaking<S: Sink>(
 /// The same, in one clause.
 fn reported<S: Sink>(
     alloc: Global,
-    asked: Asked<'_>,
+    asked: Asked<'_, '_>,
     inputs: &Inputs,
     sink: &mut S,
 ) -> Result<Reported, RunFault>
@@ -94,7 +94,7 @@ fn read_both(alloc: Global, inputs: &Inputs) -> Result<BothBooks, Refused>
 /// Lists what breaks over dictionaries that were read.
 fn over_books<S: Sink>(
     alloc: Global,
-    asked: Asked<'_>,
+    asked: Asked<'_, '_>,
     inputs: &Inputs,
     books: BothBooks,
     sink: &mut S,

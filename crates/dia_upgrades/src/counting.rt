@@ -17,7 +17,7 @@ use std::alloc::{AllocError, Global};
 /// commands, or of a name.
 pub fn lines_left(
     alloc: Global,
-    asked: Asked<'_>,
+    asked: Asked<'_, '_>,
     input: &Input,
     books: &BothBooks,
 ) -> Result<Option<usize>, AllocError>

@@ -1,31 +1,32 @@
 //! What is written after all lines, and of inputs that are refused.
 
-ghost use Rattle.std.specs.Prelude.{◌≡◌, ◌↔◌, IfErr, IfOk, IsErr, IsTrue, List, ℕ, Option, Err, OnOk, ◌++◌, length, map, string_bytes, true};
+ghost use Rattle.std.specs.Prelude.{◌≡◌, ◌↔◌, Bool, IfErr, IfOk, IsErr, IsTrue, List, ℕ, Err, OnOk, ◌++◌, length, map, string_bytes, true};
 ghost use Rattle.std.specs.List.{flat_map};
 ghost use Rattle.std.specs.Io.KnownBytes.{Appends};
 ghost use Rattle.dia_io.specs.declared.RunFault.TheVariants.{Device, NoMemory};
 ghost use Rattle.dia_io.specs.Writing.{AppendsFront};
 ghost use Rattle.dia_run.specs.Texts.{line};
-ghost use Rattle.dia_accepted.specs.Accepted.{plain_entry, plain_recorded};
+ghost use Rattle.dia_accepted.specs.Accepted.{PlainRecorded, plain_entry};
+ghost use Rattle.dia_accepted.specs.Seen.{AreCauses};
 ghost use Rattle.dia_upgrades.specs.Outcome.{nothing_for};
 ghost use Rattle.dia_upgrades.specs.Stale.{failing, stale_line, stale_text};
-ghost use Rattle.dia_upgrades.specs.Forms.{cause_object_in, said};
-ghost use Rattle.dia_upgrades.specs.Recorded.{causes_written, recorded_text};
-ghost use Rattle.dia_upgrades.specs.UnderWay.{Ends, IsPut, end_text, exit_of, lines_end, nothing_said};
+ghost use Rattle.dia_upgrades.specs.Forms.{cause_in, said};
+ghost use Rattle.dia_upgrades.specs.Rows.{cause_among, cause_with};
+ghost use Rattle.dia_upgrades.specs.UnderWay.{Ends, end_text, exit_of, lines_end, nothing_said, plain_first};
 
 use crate::asked::{Asked, Form, Stale};
-use crate::pending::Pending;
 use crate::reporting::{Found, Listed};
-use crate::seen::Seen;
-use dia_accepted::{Entry, Recorded};
-use dia_breaking_json::{Names, cause_json};
+use crate::seen::{First, Seen};
+use crate::shown::{digits_in, in_words};
+use dia_accepted::{Causes, Entry, once_words};
+use dia_breaking_json::cause_object;
 use dia_io::{Exit, Failed, RunFault, Sink, put_all};
 use std::alloc::{AllocError, Global};
 
 /// Writes what follows all lines, and answers what was found.
 pub(crate) fn ended<S: Sink>(
     alloc: Global,
-    asked: Asked<'_>,
+    asked: Asked<'_, '_>,
     seen: &Seen<'_>,
     unused: Vec<Entry>,
     stale: Vec<Entry>,
@@ -37,6 +38,7 @@ pub(crate) fn ended<S: Sink>(
 {
     let causes = seen.causes.lines(alloc)?;
     let meanings = seen.meanings.lines(alloc)?;
+    let text = causes_text(alloc, asked.form, &seen.causes, seen.firsts.as_slice())?;
     let lines = seen.lines;
     let accepted = seen.accepted;
     put_ending(
@@ -44,7 +46,7 @@ pub(crate) fn ended<S: Sink>(
         asked,
         lines,
         seen.is_some,
-        causes.as_slice(),
+        text.as_str(),
         stale.as_slice(),
         sink,
     )?;
@@ -58,6 +60,60 @@ pub(crate) fn ended<S: Sink>(
         meanings,
     };
     Ok(Listed { exit, found })
+}
+
+/// What is written of the causes, of which these are the first lines.
+fn causes_text(
+    alloc: Global,
+    form: Form<'_, '_>,
+    causes: &Causes,
+    firsts: &[First<'_>],
+) -> Result<String, AllocError>
+    ensures { IfOk result (λ text. (forgets : Bool) (recorded : List PlainRecorded) (command visits : ℕ)
+        → AreCauses forgets causes.now recorded command visits
+        → string_bytes text ≡ flat_map (cause_in form.entry) (map (cause_among recorded) (map plain_first firsts.now))) }
+{
+    let mut text = String::new(alloc);
+    for first in firsts {
+        let commands = causes.count(first.words.as_str());
+        push_cause(alloc, &mut text, form, commands, first)?;
+    }
+    Ok(text)
+}
+
+/// Adds what is written of a cause that so many commands have.
+fn push_cause(
+    alloc: Global,
+    text: &mut String,
+    form: Form<'_, '_>,
+    commands: usize,
+    first: &First<'_>,
+) -> Result<(), AllocError>
+    ensures { OnOk result (string_bytes text.new ≡ string_bytes text.old ++ cause_in form.entry (cause_with commands (plain_first first.now))) }
+{
+    let cause = cause_in(alloc, form, commands, first)?;
+    text.push_str(cause.as_str())
+}
+
+fn cause_in(
+    alloc: Global,
+    form: Form<'_, '_>,
+    commands: usize,
+    first: &First<'_>,
+) -> Result<String, AllocError>
+    ensures { IfOk result (λ text. string_bytes text ≡ cause_in form.entry (cause_with commands (plain_first first.now))) }
+{
+    let words = once_words(alloc, commands, first.words.as_str())?;
+    let words = words.as_str();
+    match form {
+        Form::Text => in_words(alloc, words, &first.digits),
+        Form::Json(names) => {
+            let commands = commands as u64;
+            let digits = digits_in(&first.digits);
+            let object = cause_object(alloc, names, commands, &first.parts, words, digits)?;
+            format!(in alloc; "{object}\n")
+        }
+    }
 }
 
 fn exit_of(lines: usize, failing: usize) -> Exit
@@ -90,30 +146,30 @@ fn failing_count(stale: Stale, entries: &[Entry]) -> usize
 /// Writes what follows all lines, and then the stale entries that fail. Where memory is refused, nothing is written.
 fn put_ending<S: Sink>(
     alloc: Global,
-    asked: Asked<'_>,
+    asked: Asked<'_, '_>,
     lines: usize,
     is_some: bool,
-    causes: &[Recorded],
+    causes: &str,
     stale: &[Entry],
     sink: &mut S,
 ) -> Result<(), RunFault>
     requires { ¬ IsTrue (S.has_failed sink.old) }
     ensures put { OnOk result (Appends (S.written sink.old) (S.written sink.new)
-        (end_text asked.entry lines is_some (map plain_recorded causes.now) (failing asked.entry.stale (map plain_entry stale.now)))) }
+        (end_text asked.entry lines is_some causes.now (failing asked.entry.stale (map plain_entry stale.now)))) }
     ensures front { result ≡ Err Device → AppendsFront (S.written sink.old) (S.written sink.new)
-        (end_text asked.entry lines is_some (map plain_recorded causes.now) (failing asked.entry.stale (map plain_entry stale.now))) }
+        (end_text asked.entry lines is_some causes.now (failing asked.entry.stale (map plain_entry stale.now))) }
     ensures device { (result ≡ Err Device) ↔ IsTrue (S.has_failed sink.new) }
     ensures no_memory { result ≡ Err NoMemory → S.written sink.new ≡ S.written sink.old }
 {
     let text = stale_text(alloc, asked.form, failing(asked.stale, stale))?;
     let count = failing_count(asked.stale, stale);
-    put_end(alloc, asked, lines, is_some, causes, count, sink)?;
+    put_end(asked, lines, is_some, causes, count, sink)?;
     put_all(sink, text.as_bytes())?;
     Ok(())
 }
 
 /// What is written of the entries that fail.
-fn stale_text(alloc: Global, form: Form<'_>, fails: &[Entry]) -> Result<String, AllocError>
+fn stale_text(alloc: Global, form: Form<'_, '_>, fails: &[Entry]) -> Result<String, AllocError>
     ensures { IfOk result (λ text. string_bytes text ≡ stale_text form.entry (map plain_entry fails.now)) }
 {
     match form {
@@ -140,92 +196,31 @@ fn push_stale(text: &mut String, entry: &Entry) -> Result<(), AllocError>
     write!(text, "stale: {words}\n")
 }
 
-/// Writes that no line is left, unless entries fail; or the causes, where each has one line. Where memory is refused, nothing is
-/// written.
+/// Writes that no line is left, unless entries fail; or the causes. Where memory is refused, nothing is written.
 fn put_end<S: Sink>(
-    alloc: Global,
-    asked: Asked<'_>,
+    asked: Asked<'_, '_>,
     lines: usize,
     is_some: bool,
-    causes: &[Recorded],
+    causes: &str,
     failing: usize,
     sink: &mut S,
-) -> Result<(), RunFault>
+) -> Result<(), Failed>
     requires { ¬ IsTrue (S.has_failed sink.old) }
     ensures put { OnOk result (Appends (S.written sink.old) (S.written sink.new)
-        (lines_end asked.entry lines is_some (map plain_recorded causes.now) failing)) }
-    ensures front { result ≡ Err Device → AppendsFront (S.written sink.old) (S.written sink.new)
-        (lines_end asked.entry lines is_some (map plain_recorded causes.now) failing) }
-    ensures device { (result ≡ Err Device) ↔ IsTrue (S.has_failed sink.new) }
-    ensures no_memory { result ≡ Err NoMemory → S.written sink.new ≡ S.written sink.old }
+        (lines_end asked.entry lines is_some causes.now failing)) }
+    ensures front { AppendsFront (S.written sink.old) (S.written sink.new)
+        (lines_end asked.entry lines is_some causes.now failing) }
+    ensures failed { IsErr result ↔ IsTrue (S.has_failed sink.new) }
 {
     if lines == 0 {
         let text = nothing_said(asked.form, asked.meaning, is_some, failing);
-        put_all(sink, text.as_bytes())?;
-        return Ok(());
+        put_all(sink, text.as_bytes())
+    } else {
+        put_all(sink, causes.as_bytes())
     }
-    if asked.once {
-        return put_once(alloc, asked, causes, sink);
-    }
-    Ok(())
 }
 
-/// Writes the causes, of which each has one line.
-fn put_once<S: Sink>(
-    alloc: Global,
-    asked: Asked<'_>,
-    causes: &[Recorded],
-    sink: &mut S,
-) -> Result<(), RunFault>
-    requires sound { ¬ IsTrue (S.has_failed sink.old) }
-    requires once { asked.once ≡ true }
-    ensures put { OnOk result (Appends (S.written sink.old) (S.written sink.new)
-        (causes_written asked.entry (map plain_recorded causes.now))) }
-    ensures front { result ≡ Err Device → AppendsFront (S.written sink.old) (S.written sink.new)
-        (causes_written asked.entry (map plain_recorded causes.now)) }
-    ensures device { (result ≡ Err Device) ↔ IsTrue (S.has_failed sink.new) }
-    ensures no_memory { result ≡ Err NoMemory → S.written sink.new ≡ S.written sink.old }
-{
-    match asked.form {
-        Form::Text => put_causes(alloc, causes, sink)?,
-        Form::Json(names) => {
-            let text = causes_json(alloc, names, causes)?;
-            put_all(sink, text.as_bytes())?;
-        }
-    }
-    Ok(())
-}
-
-/// The objects of causes.
-fn causes_json(alloc: Global, names: &Names, causes: &[Recorded]) -> Result<String, AllocError>
-    ensures { IfOk result (λ text. string_bytes text ≡ flat_map (cause_object_in names.now) (map plain_recorded causes.now)) }
-{
-    let mut text = String::new(alloc);
-    for recorded in causes {
-        push_cause(alloc, &mut text, names, recorded)?;
-    }
-    Ok(text)
-}
-
-/// Adds the object of a cause, on a line.
-fn push_cause(
-    alloc: Global,
-    text: &mut String,
-    names: &Names,
-    recorded: &Recorded,
-) -> Result<(), AllocError>
-    ensures { OnOk result (string_bytes text.new ≡ string_bytes text.old ++ cause_object_in names.now (plain_recorded recorded.now)) }
-{
-    let object = cause_json(
-        alloc,
-        names,
-        recorded.words.as_str(),
-        recorded.message.as_str(),
-    )?;
-    write!(text, "{object}\n")
-}
-
-fn nothing_said(form: Form<'_>, meaning: bool, is_some: bool, failing: usize) -> &'static str
+fn nothing_said(form: Form<'_, '_>, meaning: bool, is_some: bool, failing: usize) -> &'static str
     ensures { result.now ≡ nothing_said form.entry meaning is_some failing }
 {
     if failing == 0 {
@@ -235,7 +230,7 @@ fn nothing_said(form: Form<'_>, meaning: bool, is_some: bool, failing: usize) ->
     }
 }
 
-fn nothing_text(form: Form<'_>, is_some: bool, meaning: bool) -> &'static str
+fn nothing_text(form: Form<'_, '_>, is_some: bool, meaning: bool) -> &'static str
     ensures { result.now ≡ said form.entry (nothing_for meaning is_some) }
 {
     match form {
@@ -253,42 +248,6 @@ fn nothing_left(is_some: bool, meaning: bool) -> &'static str
         (true, false) => "nothing else breaks\n",
         (true, true) => "nothing else differs\n",
     }
-}
-
-/// Writes a line for each cause, followed by its message, if it has one.
-fn put_causes<S: Sink>(alloc: Global, causes: &[Recorded], sink: &mut S) -> Result<(), Failed>
-    requires { ¬ IsTrue (S.has_failed sink.old) }
-    ensures put { OnOk result (Appends (S.written sink.old) (S.written sink.new) (recorded_text (map plain_recorded causes.now))) }
-    ensures front { AppendsFront (S.written sink.old) (S.written sink.new) (recorded_text (map plain_recorded causes.now)) }
-    ensures failed { IsErr result ↔ IsTrue (S.has_failed sink.new) }
-{
-    let mut pending = Pending::new(alloc);
-    for recorded in causes {
-        add_recorded(&mut pending, sink, recorded)?;
-    }
-    pending.put(sink)
-}
-
-/// Adds a line, and its message.
-fn add_recorded<S: Sink>(
-    pending: &mut Pending,
-    sink: &mut S,
-    recorded: &Recorded,
-) -> Result<(), Failed>
-    requires { ¬ IsTrue (S.has_failed sink.old) }
-    ensures added { OnOk result ((begun : Option (List ℕ)) (before : List ℕ)
-        → IsPut begun (S.written sink.old) pending.old before
-        → IsPut begun (S.written sink.new) pending.new
-        (before ++ (line (string_bytes recorded.now.words) ++ string_bytes recorded.now.message))) }
-    ensures front { IsErr result → (begun : Option (List ℕ)) (before : List ℕ)
-        → IsPut begun (S.written sink.old) pending.old before
-        → AppendsFront begun (S.written sink.new)
-        (before ++ (line (string_bytes recorded.now.words) ++ string_bytes recorded.now.message)) }
-    ensures failed { IsErr result ↔ IsTrue (S.has_failed sink.new) }
-{
-    pending.add(sink, recorded.words.as_bytes())?;
-    pending.add(sink, b"\n")?;
-    pending.add(sink, recorded.message.as_bytes())
 }
 
 /// Writes the text of a refusal.

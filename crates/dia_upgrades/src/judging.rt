@@ -33,7 +33,7 @@ use std::alloc::{AllocError, Global};
 /// lines, as [`breaking`](crate::breaking) does. The list is judged first, then the first dictionary's commands, then the names.
 pub fn breaking_of<A: Book, B: Book, S: Sink>(
     alloc: Global,
-    asked: Asked<'_>,
+    asked: Asked<'_, '_>,
     list: &Input,
     a: &A,
     b: &B,
@@ -59,7 +59,7 @@ pub fn breaking_of<A: Book, B: Book, S: Sink>(
 /// The same, in one clause.
 fn answered<A: Book, B: Book, S: Sink>(
     alloc: Global,
-    asked: Asked<'_>,
+    asked: Asked<'_, '_>,
     list: &Input,
     a: &A,
     b: &B,
@@ -82,7 +82,7 @@ fn answered<A: Book, B: Book, S: Sink>(
 /// What is written of two dictionaries, where this is the list of accepted lines.
 fn listed<A: Book, B: Book, S: Sink>(
     alloc: Global,
-    asked: Asked<'_>,
+    asked: Asked<'_, '_>,
     list: &[Entry],
     a: &A,
     b: &B,
@@ -114,7 +114,7 @@ fn has_no_commands<A: Book>(a: &A) -> bool
 /// What is written of the commands at these places.
 fn compared<A: Book, B: Book, S: Sink>(
     alloc: Global,
-    asked: Asked<'_>,
+    asked: Asked<'_, '_>,
     list: &[Entry],
     a: &A,
     b: &B,
@@ -135,7 +135,7 @@ fn compared<A: Book, B: Book, S: Sink>(
 /// The same, by what is known of both.
 fn compared_by<A: Book, B: Book, S: Sink>(
     alloc: Global,
-    asked: Asked<'_>,
+    asked: Asked<'_, '_>,
     list: &[Entry],
     a: &A,
     b: &B,
@@ -157,7 +157,7 @@ fn compared_by<A: Book, B: Book, S: Sink>(
     ended(alloc, asked, &listing.seen, unused, stale, sink)
 }
 
-fn no_list_text(alloc: Global, form: Form<'_>, bad: BadList) -> Result<String, AllocError>
+fn no_list_text(alloc: Global, form: Form<'_, '_>, bad: BadList) -> Result<String, AllocError>
     ensures { IfOk result (λ text. string_bytes text ≡ said form.entry (list_line bad)) }
 {
     match form {
@@ -166,7 +166,7 @@ fn no_list_text(alloc: Global, form: Form<'_>, bad: BadList) -> Result<String, A
     }
 }
 
-fn no_commands_text(form: Form<'_>) -> &'static str
+fn no_commands_text(form: Form<'_, '_>) -> &'static str
     ensures { result.now ≡ said form.entry no_commands_line }
 {
     match form {
@@ -175,7 +175,7 @@ fn no_commands_text(form: Form<'_>) -> &'static str
     }
 }
 
-fn no_command_text(alloc: Global, form: Form<'_>, name: &str) -> Result<String, AllocError>
+fn no_command_text(alloc: Global, form: Form<'_, '_>, name: &str) -> Result<String, AllocError>
     ensures { IfOk result (λ text. string_bytes text ≡ said form.entry (no_command_line name.now)) }
 {
     match form {

@@ -22,7 +22,7 @@ pub use asked::{Asked, Form, Stale};
 pub use command::breaking;
 pub use counting::lines_left;
 pub use dia_accepted::{Entry, MAX_LINES, MAX_LIST, Recorded};
-pub use dia_breaking_json::{Keys, Names};
+pub use dia_breaking_json::{Keys, Names, Spelt, Texts};
 pub use judging::breaking_of;
 pub use laws::{confirmed_texts_break, message_texts_are_one};
 pub use list::BadList;

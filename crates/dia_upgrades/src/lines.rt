@@ -41,9 +41,9 @@ pub(crate) struct Listing<'l> {
 pub(crate) fn put_lines<'l, A: Book, B: Book, S: Sink>(
     alloc: Global,
     sink: &mut S,
-    upgrade: &Upgrade<'_, A, B>,
+    upgrade: &'l Upgrade<'_, A, B>,
     places: &[usize],
-    asked: Asked<'_>,
+    asked: Asked<'_, '_>,
     list: &'l [Entry],
 ) -> Result<Box<Listing<'l>>, RunFault>
     requires sound { ¬ IsTrue (S.has_failed sink.old) }
@@ -103,13 +103,13 @@ fn put_rest<S: Sink>(
 }
 
 /// Puts the lines of the commands at these places.
-fn put_commands<A: Book, B: Book, S: Sink>(
+fn put_commands<'l, A: Book, B: Book, S: Sink>(
     alloc: Global,
-    listing: &mut Listing<'_>,
+    listing: &mut Listing<'l>,
     sink: &mut S,
-    upgrade: &Upgrade<'_, A, B>,
+    upgrade: &'l Upgrade<'_, A, B>,
     places: &[usize],
-    asked: Asked<'_>,
+    asked: Asked<'_, '_>,
     forgets: bool,
 ) -> Result<(), RunFault>
     requires sound { ¬ IsTrue (S.has_failed sink.old) }
@@ -133,13 +133,13 @@ fn put_commands<A: Book, B: Book, S: Sink>(
 }
 
 /// Puts the lines of a command of A, by its place among the commands.
-fn put_command<A: Book, B: Book, S: Sink>(
+fn put_command<'l, A: Book, B: Book, S: Sink>(
     alloc: Global,
-    listing: &mut Listing<'_>,
+    listing: &mut Listing<'l>,
     sink: &mut S,
-    upgrade: &Upgrade<'_, A, B>,
+    upgrade: &'l Upgrade<'_, A, B>,
     place: usize,
-    asked: Asked<'_>,
+    asked: Asked<'_, '_>,
 ) -> Result<(), RunFault>
     requires sound { ¬ IsTrue (S.has_failed sink.old) }
     requires place { place < length (sides_of upgrade.now).sender.commands }
@@ -162,15 +162,15 @@ fn put_command<A: Book, B: Book, S: Sink>(
 }
 
 /// Puts these lines of a command.
-fn put_each<A: Book, B: Book, S: Sink>(
+fn put_each<'l, A: Book, B: Book, S: Sink>(
     alloc: Global,
-    listing: &mut Listing<'_>,
+    listing: &mut Listing<'l>,
     sink: &mut S,
-    upgrade: &Upgrade<'_, A, B>,
+    upgrade: &'l Upgrade<'_, A, B>,
     breaks: &Breaks,
     lines: &[Line],
     place: usize,
-    asked: Asked<'_>,
+    asked: Asked<'_, '_>,
 ) -> Result<(), RunFault>
     requires { ¬ IsTrue (S.has_failed sink.old) }
     ensures all { OnOk result ((recorded : List Row)
@@ -188,15 +188,15 @@ fn put_each<A: Book, B: Book, S: Sink>(
 }
 
 /// Puts a line of a command, unless the list accepts it or each cause has one line.
-fn put_line<A: Book, B: Book, S: Sink>(
+fn put_line<'l, A: Book, B: Book, S: Sink>(
     alloc: Global,
-    listing: &mut Listing<'_>,
+    listing: &mut Listing<'l>,
     sink: &mut S,
-    upgrade: &Upgrade<'_, A, B>,
+    upgrade: &'l Upgrade<'_, A, B>,
     breaks: &Breaks,
     line: &Line,
     place: usize,
-    asked: Asked<'_>,
+    asked: Asked<'_, '_>,
 ) -> Result<(), RunFault>
     requires { ¬ IsTrue (S.has_failed sink.old) }
     ensures all { OnOk result ((t : Row)

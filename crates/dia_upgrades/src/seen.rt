@@ -4,7 +4,17 @@ ghost use Rattle.std.specs.Prelude.{◌≡◌};
 ghost use Rattle.dia_upgrades.specs.UnderWay.{lines_after};
 
 use dia_accepted::{Accepting, Causes, Entry};
+use dia_breaking::LineParts;
 use std::alloc::{AllocError, Global};
+
+/// The first line of a cause.
+#[derive(Drop)]
+pub(crate) struct First<'u> {
+    pub words: String,
+    pub parts: LineParts<'u>,
+    /// The digits of the message that follows it, if one does.
+    pub digits: Option<String>,
+}
 
 /// What is known of the lines so far.
 #[derive(Drop)]
@@ -12,6 +22,8 @@ pub(crate) struct Seen<'l> {
     pub accepting: Accepting<'l>,
     /// The causes of the lines that the list doesn't accept.
     pub causes: Causes,
+    /// Where each cause has one line, the first line of each of these.
+    pub firsts: Vec<First<'l>>,
     /// The causes of meanings that aren't asked for, and that the list doesn't accept.
     pub meanings: Causes,
     /// How many lines the list doesn't accept.
@@ -29,7 +41,7 @@ impl<'l> Seen<'l> {
     ghost use Rattle.dia_upgrades.specs.declared.asked.Asked.{Asked as AnyAsked};
     ghost use Rattle.dia_upgrades.specs.UnderWay.{AreJudged, AreSeen, SeesApart};
     ghost use Rattle.dia_upgrades.specs.Recorded.{Says, row_of};
-    ghost use Rattle.dia_upgrades.specs.Rows.{Row, is_command, kept};
+    ghost use Rattle.dia_upgrades.specs.Rows.{Row, is_command};
 
     /// No line is known.
     pub fn new(alloc: Global, list: &'l [Entry]) -> Result<Seen<'l>, AllocError>
@@ -39,6 +51,7 @@ impl<'l> Seen<'l> {
         Ok(Seen {
             accepting: Accepting::new(alloc, list)?,
             causes: Causes::new(alloc),
+            firsts: Vec::new(alloc),
             meanings: Causes::new(alloc),
             lines: 0,
             accepted: 0,
@@ -65,6 +78,7 @@ impl<'l> Seen<'l> {
             → AreJudged list self.old recorded apart → AreJudged list self.new (recorded ++ t ∷ []) apart) }
         ensures causes { OnOk result (self.new.causes ≡ self.old.causes) }
         ensures meanings { OnOk result (self.new.meanings ≡ self.old.meanings) }
+        ensures firsts { OnOk result (self.new.firsts ≡ self.old.firsts) }
     {
         let known = self.accepting.accepts(alloc, words)?;
         self.is_some = true;

@@ -1,35 +1,34 @@
 //! A line of a command: its words and its message.
 
 ghost use Rattle.std.specs.Prelude.{◌≡◌, ◌∷◌, ℕ, IfOk, OnOk, Some, [], string_bytes};
-ghost use Rattle.std.specs.Option.{option_map};
 ghost use Rattle.dia_breaking.specs.Orders.{IsInOrderOf};
 ghost use Rattle.dia_breaking.specs.Upgrades.{other_length_of, sides_of};
 ghost use Rattle.dia_upgrades.specs.Recorded.{AreShown, IsAfter, apart_of, has_message, message_line, place_of};
 ghost use Rattle.dia_upgrades.specs.Recorded.{Says, row_of, says_of};
-ghost use Rattle.dia_upgrades.specs.UnderWay.{IsMessageFor, IsMessageIn, IsRecordedIn, Sees, digits_text, plain_digits, shown_text};
+ghost use Rattle.dia_upgrades.specs.UnderWay.{IsMessageIn, IsRecordedIn, IsStored, Sees, digits_text, plain_digits, shown_text};
 ghost use Rattle.dia_upgrades.specs.Forms.{line_in};
 ghost use Rattle.dia_upgrades.specs.Rows.{Row};
 
 use crate::asked::{Asked, Form};
-use crate::seen::Seen;
-use crate::shown::Shown;
+use crate::seen::{First, Seen};
+use crate::shown::{digits_in, in_words};
 use dia_accepted::Causes;
 use dia_breaking::{Breaks, Line, Standing, Upgrade};
 use dia_breaking_json::line_object;
 use dia_dict::Book;
 use std::alloc::{AllocError, Global};
 
-/// Sees a line of a command, and answers what is written of it now: where the list accepts it, and where each cause is told once,
+/// Sees a line of a command, and answers what is written of it now: where the list accepts it, and where each cause is one line,
 /// nothing.
-pub(crate) fn see_line<A: Book, B: Book>(
+pub(crate) fn see_line<'u, A: Book, B: Book>(
     alloc: Global,
-    seen: &mut Seen<'_>,
-    upgrade: &Upgrade<'_, A, B>,
+    seen: &mut Seen<'u>,
+    upgrade: &'u Upgrade<'_, A, B>,
     breaks: &Breaks,
     line: &Line,
     place: usize,
-    asked: Asked<'_>,
-) -> Result<Option<Shown>, AllocError>
+    asked: Asked<'_, '_>,
+) -> Result<Option<String>, AllocError>
     ensures { IfOk result (λ shown. (t : Row)
         × IsRecordedIn upgrade.now breaks.now place asked.entry.messages line.now (t ∷ [])
         × Sees asked.entry place seen.old seen.new t (shown_text shown)) }
@@ -42,94 +41,81 @@ pub(crate) fn see_line<A: Book, B: Book>(
         return Ok(None);
     }
     let messages = asked.messages;
+    let none = String::new(alloc);
     if asked.once {
-        let message = message_for(
+        store_first(
             alloc,
             &seen.causes,
+            &mut seen.firsts,
             upgrade,
             breaks,
             line,
             messages,
             recorded,
         )?;
-        seen.causes.add(alloc, place, recorded, message)?;
+        seen.causes.add(alloc, place, recorded, none)?;
         return Ok(None);
     }
     let digits = digits_of(alloc, upgrade, breaks, line, messages)?;
-    let none = String::new(alloc);
     seen.causes.add(alloc, place, recorded, none)?;
-    let shown = in_form(alloc, asked, upgrade, breaks, line, words, digits)?;
+    let shown = in_form(alloc, asked, upgrade, breaks, line, recorded, &digits)?;
     Ok(Some(shown))
 }
 
 /// A line in the form that is asked for.
 fn in_form<A: Book, B: Book>(
     alloc: Global,
-    asked: Asked<'_>,
+    asked: Asked<'_, '_>,
     upgrade: &Upgrade<'_, A, B>,
     breaks: &Breaks,
     line: &Line,
-    words: String,
-    digits: Option<String>,
-) -> Result<Shown, AllocError>
+    words: &str,
+    digits: &Option<String>,
+) -> Result<String, AllocError>
     ensures { IfOk result (λ shown. (place : ℕ) (says : Says) → says ≡ says_of
         (sides_of upgrade.now) (other_length_of upgrade.now) breaks.now.command breaks.now.sites.items line.now
-        → says.words ≡ string_bytes words
-        → shown_text (Some shown) ≡ line_in asked.entry.form (row_of place says (plain_digits digits))) }
+        → says.words ≡ words.now
+        → string_bytes shown ≡ line_in asked.entry.form (row_of place says (plain_digits digits.now))) }
 {
     match asked.form {
-        Form::Text => Ok(Shown { words, digits }),
+        Form::Text => in_words(alloc, words, digits),
         Form::Json(names) => {
             let parts = upgrade.parts(alloc, breaks, line)?;
-            let object = line_object(alloc, names, &parts, words.as_str(), digits_in(&digits))?;
-            Ok(Shown {
-                words: object,
-                digits: None,
-            })
+            let object = line_object(alloc, names, &parts, words, digits_in(digits))?;
+            format!(in alloc; "{object}\n")
         }
     }
 }
 
-fn digits_in(digits: &Option<String>) -> Option<&str>
-    ensures { option_map (λ d. d.now) result ≡ plain_digits digits.now }
-{
-    match digits {
-        Some(digits) => Some(digits.as_str()),
-        None => None,
-    }
-}
-
-/// The message of a line that is stored for its cause: nothing where the cause is known.
-fn message_for<A: Book, B: Book>(
+/// Stores a line of a cause that isn't known yet, and its message, if messages are asked for.
+fn store_first<'u, A: Book, B: Book>(
     alloc: Global,
     causes: &Causes,
-    upgrade: &Upgrade<'_, A, B>,
+    firsts: &mut Vec<First<'u>>,
+    upgrade: &'u Upgrade<'_, A, B>,
     breaks: &Breaks,
     line: &Line,
     messages: bool,
     words: &str,
-) -> Result<String, AllocError>
-    ensures { IfOk result (λ text. IsMessageFor causes.now words.now (IsMessageIn upgrade.now breaks.now line.now)
-        (has_message messages line.now.standing) (string_bytes text)) }
+) -> Result<(), AllocError>
+    ensures { OnOk result ((says : Says) → says ≡ says_of
+        (sides_of upgrade.now) (other_length_of upgrade.now) breaks.now.command breaks.now.sites.items line.now
+        → says.words ≡ words.now
+        → IsStored causes.now says (IsMessageIn upgrade.now breaks.now line.now) (has_message messages line.now.standing)
+        firsts.old.items firsts.new.items) }
 {
     if causes.has(words) {
-        return Ok(String::new(alloc));
+        return Ok(());
     }
     let digits = digits_of(alloc, upgrade, breaks, line, messages)?;
-    text_of(alloc, &digits)
-}
-
-/// The digits of a message, on a line of their own.
-fn text_of(alloc: Global, digits: &Option<String>) -> Result<String, AllocError>
-    ensures { IfOk result (λ text. string_bytes text ≡ digits_text digits.now) }
-{
-    let mut text = String::new(alloc);
-    if let Some(digits) = digits {
-        text.push_str("  ")?;
-        text.push_str(digits.as_str())?;
-        text.push('\n')?;
-    }
-    Ok(text)
+    let parts = upgrade.parts(alloc, breaks, line)?;
+    let words = String::from_str(alloc, words)?;
+    firsts.push(First {
+        words,
+        parts,
+        digits,
+    })?;
+    Ok(())
 }
 
 /// The digits of the message of a line, where messages are asked for and it has one.

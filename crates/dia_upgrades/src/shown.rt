@@ -1,25 +1,21 @@
-//! A line that is written.
+//! What is written of a line.
 
-ghost use Rattle.std.specs.Prelude.{◌↔◌, ◌++◌, List, ℕ, Option, IsErr, IsTrue, OnOk};
+ghost use Rattle.std.specs.Prelude.{◌≡◌, ◌↔◌, ◌++◌, List, ℕ, Option, IfOk, IsErr, IsTrue, OnOk, string_bytes};
+ghost use Rattle.std.specs.Option.{option_map};
 ghost use Rattle.dia_io.specs.Writing.{AppendsFront};
-ghost use Rattle.dia_upgrades.specs.UnderWay.{IsPut, digits_text, shown_text};
+ghost use Rattle.dia_run.specs.Texts.{line};
+ghost use Rattle.dia_upgrades.specs.Rows.{digits_line};
+ghost use Rattle.dia_upgrades.specs.UnderWay.{IsPut, plain_digits, shown_text};
 
 use crate::pending::Pending;
 use dia_io::{Failed, Sink};
+use std::alloc::{AllocError, Global};
 
-/// A line that is written as it is found.
-#[derive(Drop)]
-pub(crate) struct Shown {
-    pub words: String,
-    /// The digits of the message that follows it, if one does.
-    pub digits: Option<String>,
-}
-
-/// Adds a line, if it is written, and its message.
+/// Adds the text of a line, if it is written.
 pub(crate) fn add_shown<S: Sink>(
     pending: &mut Pending,
     sink: &mut S,
-    shown: &Option<Shown>,
+    shown: &Option<String>,
 ) -> Result<(), Failed>
     requires { ¬ IsTrue (S.has_failed sink.old) }
     ensures added { OnOk result ((begun : Option (List ℕ)) (before : List ℕ)
@@ -30,33 +26,31 @@ pub(crate) fn add_shown<S: Sink>(
         → AppendsFront begun (S.written sink.new) (before ++ shown_text shown.now) }
     ensures failed { IsErr result ↔ IsTrue (S.has_failed sink.new) }
 {
-    let Some(shown) = shown else {
-        return Ok(());
-    };
-    pending.add(sink, shown.words.as_bytes())?;
-    pending.add(sink, b"\n")?;
-    add_digits(pending, sink, &shown.digits)
+    match shown {
+        Some(shown) => pending.add(sink, shown.as_bytes()),
+        None => Ok(()),
+    }
 }
 
-/// Adds the digits of a message, if there are some, on a line of their own.
-fn add_digits<S: Sink>(
-    pending: &mut Pending,
-    sink: &mut S,
+/// The words of a line, and its message, if it has one, on a line of its own.
+pub(crate) fn in_words(
+    alloc: Global,
+    words: &str,
     digits: &Option<String>,
-) -> Result<(), Failed>
-    requires { ¬ IsTrue (S.has_failed sink.old) }
-    ensures added { OnOk result ((begun : Option (List ℕ)) (before : List ℕ)
-        → IsPut begun (S.written sink.old) pending.old before
-        → IsPut begun (S.written sink.new) pending.new (before ++ digits_text digits.now)) }
-    ensures front { IsErr result → (begun : Option (List ℕ)) (before : List ℕ)
-        → IsPut begun (S.written sink.old) pending.old before
-        → AppendsFront begun (S.written sink.new) (before ++ digits_text digits.now) }
-    ensures failed { IsErr result ↔ IsTrue (S.has_failed sink.new) }
+) -> Result<String, AllocError>
+    ensures { IfOk result (λ text. string_bytes text ≡ line words.now ++ digits_line (plain_digits digits.now)) }
 {
-    let Some(digits) = digits else {
-        return Ok(());
-    };
-    pending.add(sink, b"  ")?;
-    pending.add(sink, digits.as_bytes())?;
-    pending.add(sink, b"\n")
+    match digits {
+        Some(digits) => format!(in alloc; "{words}\n  {digits}\n"),
+        None => format!(in alloc; "{words}\n"),
+    }
+}
+
+pub(crate) fn digits_in(digits: &Option<String>) -> Option<&str>
+    ensures { option_map (λ d. d.now) result ≡ plain_digits digits.now }
+{
+    match digits {
+        Some(digits) => Some(digits.as_str()),
+        None => None,
+    }
 }

@@ -23,7 +23,7 @@ use std::alloc::{AllocError, Global};
 /// lines of other policies are found, too.
 pub(crate) fn stale_of<A: Book, B: Book>(
     alloc: Global,
-    asked: Asked<'_>,
+    asked: Asked<'_, '_>,
     a: &A,
     b: &B,
     commands: &[usize],
@@ -44,7 +44,7 @@ pub(crate) fn stale_of<A: Book, B: Book>(
 /// Those of the entries that are about a command that is asked for, and accept no line of any policies.
 fn look_for<A: Book, B: Book>(
     alloc: Global,
-    asked: Asked<'_>,
+    asked: Asked<'_, '_>,
     a: &A,
     b: &B,
     commands: &[usize],
@@ -64,7 +64,7 @@ fn look_for<A: Book, B: Book>(
 /// Those of the entries that accept no line where A's side sends this.
 fn unused_by<A: Book, B: Book>(
     alloc: Global,
-    asked: Asked<'_>,
+    asked: Asked<'_, '_>,
     sends: Sends,
     a: &A,
     b: &B,
@@ -82,7 +82,7 @@ fn unused_by<A: Book, B: Book>(
 /// Those of the entries that accept no line of these policies. With the policies that are asked for they accept none.
 fn unused_with<A: Book, B: Book>(
     alloc: Global,
-    asked: Asked<'_>,
+    asked: Asked<'_, '_>,
     sends: Sends,
     unknown: Unknown,
     a: &A,
@@ -104,7 +104,7 @@ fn unused_with<A: Book, B: Book>(
     unused_over(alloc, asked, &upgrade, commands, list.as_slice())
 }
 
-fn asks_so(asked: Asked<'_>, sends: Sends, unknown: Unknown) -> bool
+fn asks_so(asked: Asked<'_, '_>, sends: Sends, unknown: Unknown) -> bool
     ensures { result ≡ true → (sends ≡ asked.entry.sends) × (unknown ≡ asked.entry.unknown) }
 {
     sends == asked.sends && unknown == asked.unknown
@@ -113,7 +113,7 @@ fn asks_so(asked: Asked<'_>, sends: Sends, unknown: Unknown) -> bool
 /// Those of the entries that accept no line of the commands at these places.
 fn unused_over<A: Book, B: Book>(
     alloc: Global,
-    asked: Asked<'_>,
+    asked: Asked<'_, '_>,
     upgrade: &Upgrade<'_, A, B>,
     commands: &[usize],
     list: &[Entry],

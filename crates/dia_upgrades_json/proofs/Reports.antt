@@ -28,7 +28,7 @@ use Rattle.dia_upgrades.specs.declared.reporting.Reported.{Reported}
 use Rattle.dia_upgrades.specs.Outcome.{AreRefused, IsSafeUpgrade, IsUnsafeUpgrade, bad_first, bad_second}
 use Rattle.dia_upgrades.proofs.Outcomes.{bad_is_refused, no_is_unsafe, yes_is_safe}
 use Rattle.dia_upgrades_json.specs.Begun.{begun, nothing}
-use Rattle.dia_upgrades_json.specs.Objects.{as_json}
+use Rattle.dia_upgrades_json.specs.Objects.{ArePlaced, AreSpelt, as_json, texts_of}
 use Rattle.dia_upgrades_json.specs.Outcome.{IsBreakingJson, IsJsonReport}
 use Rattle.dia_upgrades_json.specs.UnderWay.{Answers, RefusesFor, Reports}
 use Rattle.dia_upgrades_json.proofs.Forms.{refused_as_json, refused_in_words, safe_in_words, unsafe_in_words}
@@ -37,24 +37,27 @@ use Rattle.dia_refused_json.proofs.Recording.{dictionary_refused}
 module _ (meaning : IndexedBook → Dictionary) (asked : Asked) (inputs : Inputs) (old new : Option (List ℕ)) where
   -- ---- over dictionaries that were read
 
-  module _ (books : BothBooks) (are_read : AreReadFrom meaning inputs books) where
+  module _ (books : BothBooks) (are_read : AreReadFrom meaning inputs books) (are_placed : ArePlaced inputs books) where
     abbrev a : Dictionary
     a = meaning books.first.value.book
 
     abbrev b : Dictionary
     b = meaning books.second.value.book
 
-    pub listed_reports : (listed : Listed) (reported : Reported) → reported.exit ≡ listed.exit → reported.report ≡ reports.Read books listed.found → Answers asked inputs.table a b old new (Ok listed)
+    pub are_spelt : AreSpelt inputs (texts_of inputs books)
+    are_spelt = ((books.first.value.source, are_read.0.0, are_placed.0, refl), (books.second.value.source, are_read.1.0, are_placed.1, refl))
+
+    pub listed_reports : (listed : Listed) (reported : Reported) → reported.exit ≡ listed.exit → reported.report ≡ reports.Read books listed.found → Answers asked inputs a b (texts_of inputs books) old new (Ok listed)
         → Reports meaning asked inputs old new (Ok reported)
-    listed_reports listed reported exit report (text, is, put) = (
+    listed_reports listed reported exit report (text, is, same, put) = (
       text,
       subst (IsBreakingJson asked inputs text) (sym exit) (inl (a, b, are_read.0.1, are_read.1.1, (listed.found, is))),
       subst (λ (r : Report). IsJsonReport meaning asked inputs r text reported.exit) (sym report)
-          (subst (IsJsonReport meaning asked inputs (reports.Read books listed.found) text) (sym exit) (are_read, is)),
+          (subst (IsJsonReport meaning asked inputs (reports.Read books listed.found) text) (sym exit) (are_read, is, same)),
       put,
     )
 
-    pub fault_reports : (fault : RunFault) → Answers asked inputs.table a b old new (Err fault) → Reports meaning asked inputs old new (Err fault)
+    pub fault_reports : (fault : RunFault) → Answers asked inputs a b (texts_of inputs books) old new (Err fault) → Reports meaning asked inputs old new (Err fault)
     fault_reports Device (text, inl is, front) = (text, inl (begun a b are_read.0.1 are_read.1.1 is), front)
     fault_reports Device (text, inr (exit, is), front) = (text, inr (exit, inl (a, b, are_read.0.1, are_read.1.1, is)), front)
     fault_reports NoMemory (text, is, put) = (text, begun a b are_read.0.1 are_read.1.1 is, put)

@@ -23,7 +23,9 @@ use Rattle.dia_upgrades.specs.Begun.{IsBegun, IsBegunOrWhole}
 use Rattle.dia_upgrades.specs.Outcome.{IsListed, bad_list, lines, no_command, no_commands, nothing, nothing_else}
 use Rattle.dia_upgrades.proofs.Puts.{front_after}
 use Rattle.dia_upgrades_json.specs.Begun.{nothing_yet, some_objects}
-use Rattle.dia_upgrades_json.specs.Objects.{AreNamesOf, IsEnding, as_json}
+use Rattle.dia_upgrades_json.specs.Objects.{AreNamesOf, AreSpelt, IsEnding, as_json}
+use Rattle.dia_breaking_json.specs.Spots.{PlainTexts}
+use Rattle.dia_io.specs.declared.Inputs.{Inputs}
 use Rattle.dia_upgrades_json.specs.Outcome.{IsListedJson}
 use Rattle.dia_upgrades_json.specs.UnderWay.{Answers, Ends}
 
@@ -42,21 +44,23 @@ name_unknown asked input a b text exit is (no_command list name is_list some fir
     let (command, names) = All-contains (λ n. (c : PlainDefinition) × NamesCommand a n c) (names_of asked) name known (contains_in (names_of asked) name (in_at (names_of asked) first.place name first.is_name)) in
     first.unknown command names
 
-module _ (asked : Asked) (input : Input) (a b : Dictionary) where
+module _ (asked : Asked) (inputs : Inputs) (a b : Dictionary) (texts : PlainTexts) (are_spelt : AreSpelt inputs texts) where
   -- nothing is written where memory is refused before
-  pub none_answered : (put : Option (List ℕ)) → Answers asked input a b put put (Err NoMemory)
+  pub none_answered : (put : Option (List ℕ)) → Answers asked inputs a b texts put put (Err NoMemory)
   none_answered put = ([], nothing_yet refl, Appends-nil put)
 
-  module _ (names : Bor Names) (are_names : AreNamesOf a b names.now) (old new : Option (List ℕ)) where
+  module _ (names : Bor Names) (are_names : AreNamesOf a b texts names.now) (old new : Option (List ℕ)) where
     -- not all objects of lines were written
-    pub some_answered : (fault : RunFault) → (fault ≡ Device → (text : List ℕ) × IsBegunOrWhole (as_json asked names) input a b text × AppendsFront old new text)
-        → (fault ≡ NoMemory → (text : List ℕ) × IsBegun (as_json asked names) input a b text × Appends old new text) → Answers asked input a b old new (Err fault)
-    some_answered Device front none = let (text, is, put) = front refl in (text, inl (some_objects names are_names is), put)
-    some_answered NoMemory front none = let (text, is, put) = none refl in (text, some_objects names are_names (inl is), put)
+    pub some_answered : (fault : RunFault) → (fault ≡ Device → (text : List ℕ) × IsBegunOrWhole (as_json asked names) inputs.table a b text × AppendsFront old new text)
+        → (fault ≡ NoMemory → (text : List ℕ) × IsBegun (as_json asked names) inputs.table a b text × Appends old new text) → Answers asked inputs a b texts old new (Err fault)
+    some_answered Device front none = let (text, is, put) = front refl in (text, inl (some_objects texts are_spelt names are_names is), put)
+    some_answered NoMemory front none = let (text, is, put) = none refl in (text, some_objects texts are_spelt names are_names (inl is), put)
 
-    module _ (mid : Option (List ℕ)) (listed : Listed) (text : List ℕ) (is : IsListed (as_json asked names) input a b text listed.exit listed.found) (put : Appends old mid text) where
-      whole : (ending : List ℕ) → IsEnding asked.stale (names_of asked) input a listed.found ending → IsListedJson asked input a b (text ++ ending) listed.exit listed.found
+    module _ (mid : Option (List ℕ)) (listed : Listed) (text : List ℕ) (is : IsListed (as_json asked names) inputs.table a b text listed.exit listed.found) (put : Appends old mid text) where
+      whole : (ending : List ℕ) → IsEnding asked.stale (names_of asked) inputs.table a listed.found ending → IsListedJson asked inputs a b (text ++ ending) listed.exit listed.found
       whole ending is_ending = record {
+        texts = texts;
+        are_spelt = are_spelt;
         names = names;
         objects = text;
         ending = ending;
@@ -67,13 +71,10 @@ module _ (asked : Asked) (input : Input) (a b : Dictionary) where
       }
 
       -- all were written, and it is known what stands behind them
-      pub all_answered : (r : Result Listed RunFault) → Ends asked.stale (names_of asked) input a listed mid new r → Answers asked input a b old new r
-      all_answered (Ok ended) (same, ending, is_ending, more) = (
-        text ++ ending,
-        subst (λ (l : Listed). IsListedJson asked input a b (text ++ ending) l.exit l.found) (sym same) (whole ending is_ending),
-        Appends-trans old mid new text ending put more,
-      )
+      pub all_answered : (r : Result Listed RunFault) → Ends asked.stale (names_of asked) inputs.table a listed mid new r → Answers asked inputs a b texts old new r
+      all_answered (Ok ended) (same, ending, is_ending, more) =
+          subst (λ (l : Listed). Answers asked inputs a b texts old new (Ok l)) (sym same) (text ++ ending, whole ending is_ending, refl, Appends-trans old mid new text ending put more)
       all_answered (Err Device) (ending, is_ending, front) =
           (text ++ ending, inr (listed.exit, (listed.found, whole ending is_ending)), front_after old mid new text ending put front)
       all_answered (Err NoMemory) same =
-          (text, some_objects names are_names (inr (listed.exit, (listed.found, is))), subst (λ (o : Option (List ℕ)). Appends old o text) (sym same) put)
+          (text, some_objects texts are_spelt names are_names (inr (listed.exit, (listed.found, is))), subst (λ (o : Option (List ℕ)). Appends old o text) (sym same) put)

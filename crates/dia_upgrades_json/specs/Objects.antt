@@ -3,19 +3,25 @@ use Rattle.std.specs.Prelude.{◌≡◌, ℕ, Bool, if◌then◌else◌, List, [
 use Rattle.std.specs.Borrow.{Bor}
 use Rattle.std.specs.List.{flat_map}
 use Rattle.serde_json.specs.Written.{compact_text}
-use Rattle.dia_accepted.specs.Accepted.{PlainEntry, PlainRecorded, plain_entry}
+use Rattle.dia_accepted.specs.Accepted.{PlainEntry, plain_entry}
 use Rattle.dia_book.specs.Dictionary.{Dictionary}
 use Rattle.dia_breaking_json.specs.declared.Names.{Names}
 use Rattle.dia_breaking_json.specs.Fields.{Field, object_of, text_field}
 use Rattle.dia_breaking_json.specs.Keys.{key_in, key_named}
-use Rattle.dia_breaking_json.specs.LineObjects.{line_object}
-use Rattle.dia_breaking_json.specs.Lines.{cause_json, unsigned_field}
+use Rattle.dia_breaking_json.specs.LineObjects.{cause_object, line_object}
+use Rattle.dia_breaking_json.specs.Members.{unsigned_field}
+use Rattle.dia_breaking_json.specs.SpotTexts.{both_in, spelt}
+use Rattle.dia_breaking_json.specs.Spots.{PlainSpelt, PlainTexts, place_fields}
 use Rattle.dia_inclusion.specs.Proposed.{IsFirstUnknown}
 use Rattle.dia_explain_places.specs.Places.{column_at, line_at}
 use Rattle.dia_explain_places.specs.Tables.{line_from, start_of_line}
+use Rattle.dia_ccf.specs.declared.source.Source.{Source}
+use Rattle.dia_ccf.specs.Plain.{plain_source}
 use Rattle.dia_io.specs.declared.Input.{Input}
+use Rattle.dia_io.specs.declared.Inputs.{Inputs}
+use Rattle.dia_report.specs.declared.reporting.BothBooks.{BothBooks}
 use Rattle.dia_refused_json.specs.Refusals.{text_of}
-use Rattle.dia_run.specs.Texts.{line}
+use Rattle.dia_run.specs.Texts.{IsPlacedIn, IsSourceText, line}
 use Rattle.dia_upgrades.specs.declared.asked.Asked.{Asked}
 use Rattle.dia_upgrades.specs.declared.asked.Form.TheVariants.{Json}
 use Rattle.dia_upgrades.specs.declared.asked.Stale.{Stale}
@@ -23,15 +29,31 @@ use Rattle.dia_upgrades.specs.declared.list.BadList.{BadList}
 use Rattle.dia_upgrades.specs.declared.list.BadList.TheVariants.{TooLong, NotText, Syntax, Limit}
 use Rattle.dia_upgrades.specs.declared.reporting.Found.{Found}
 use Rattle.dia_upgrades.specs.declared.reporting.Found.TheVariants as found
-use Rattle.dia_upgrades.specs.Rows.{Row, once_of}
+use Rattle.dia_upgrades.specs.Rows.{Cause, Row, causes_of}
 use Rattle.dia_upgrades.specs.Stale.{failing}
 
 -- ---- lines
 
--- the look-ups by name are those of the two dictionaries
-pub record AreNamesOf (a b : Dictionary) (names : Names) : Type 0 where
+-- the look-ups by name are those of the two dictionaries, which have these texts
+pub record AreNamesOf (a b : Dictionary) (texts : PlainTexts) (names : Names) : Type 0 where
   pub first_are : (name : List ℕ) → key_in names.first name ≡ key_named a name
   pub second_are : (name : List ℕ) → key_in names.second name ≡ key_named b name
+  pub texts_are : both_in names.texts.value ≡ texts
+
+-- the text of the input says this, and has its parts at these offsets
+abbrev pub IsSpelt : Input → PlainSpelt → Type 0
+IsSpelt input s = (source : Source) × IsSourceText input (plain_source source) × IsPlacedIn input source × (s ≡ spelt (text_of input) source)
+
+abbrev pub AreSpelt : Inputs → PlainTexts → Type 0
+AreSpelt inputs texts = IsSpelt inputs.first texts.first × IsSpelt inputs.second texts.second
+
+-- of both dictionaries that were read, the parts have their offsets in the texts
+abbrev pub ArePlaced : Inputs → BothBooks → Type 0
+ArePlaced inputs books = IsPlacedIn inputs.first books.first.value.source × IsPlacedIn inputs.second books.second.value.source
+
+-- the texts of two dictionaries that were read
+abbrev pub texts_of : Inputs → BothBooks → PlainTexts
+texts_of inputs books = record { first = spelt (text_of inputs.first) books.first.value.source; second = spelt (text_of inputs.second) books.second.value.source }
 
 -- the same is asked, and lines are objects
 abbrev pub as_json : Asked → Bor Names → Asked
@@ -46,17 +68,17 @@ as_json asked names = record {
   names = asked.names;
 }
 
--- the object of a line over two dictionaries
-abbrev pub object_over : Dictionary → Dictionary → Row → List ℕ
-object_over a b row = line (line_object (key_named a) (key_named b) row.parts row.words row.digits)
+-- the object of a line over two dictionaries, which have these texts
+abbrev pub object_over : Dictionary → Dictionary → PlainTexts → Row → List ℕ
+object_over a b texts row = line (line_object (key_named a) (key_named b) texts row.parts row.words row.digits)
 
 -- that of a cause
-abbrev pub cause_over : Dictionary → Dictionary → PlainRecorded → List ℕ
-cause_over a b t = line (cause_json (key_named a) (key_named b) t.words t.message)
+abbrev pub cause_over : Dictionary → Dictionary → PlainTexts → Cause → List ℕ
+cause_over a b texts cause = line (cause_object (key_named a) (key_named b) texts cause.commands cause.parts cause.words cause.digits)
 
 -- those of these lines; with `--once` those of their causes
-abbrev pub objects_over : Dictionary → Dictionary → Bool → List Row → List ℕ
-objects_over a b once rows = if once then flat_map (cause_over a b) (once_of rows) else flat_map (object_over a b) rows
+abbrev pub objects_over : Dictionary → Dictionary → PlainTexts → Bool → List Row → List ℕ
+objects_over a b texts once rows = if once then flat_map (cause_over a b texts) (causes_of rows) else flat_map (object_over a b texts) rows
 
 -- ---- after them
 
@@ -85,10 +107,6 @@ list_kind TooLong = codes "too long"
 list_kind (NotText at) = codes "not text"
 list_kind (Syntax n at) = codes "syntax"
 list_kind (Limit n) = codes "limit"
-
--- a place of a text: its line and its column
-abbrev pub place_fields : List ℕ → ℕ → List Field
-place_fields text at = unsigned_field (codes "line") (line_at text at) ++ unsigned_field (codes "column") (column_at text at)
 
 -- an offset in a line: the number of the line, and the column
 abbrev pub line_fields : List ℕ → (n at : ℕ) → List Field

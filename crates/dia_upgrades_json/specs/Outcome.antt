@@ -5,7 +5,6 @@ use Rattle.dia_book.specs.Dictionary.{Dictionary}
 use Rattle.dia_breaking_json.specs.declared.Names.{Names}
 use Rattle.dia_dict.specs.declared.IndexedBook.{IndexedBook}
 use Rattle.dia_io.specs.declared.Exit.{Exit}
-use Rattle.dia_io.specs.declared.Input.{Input}
 use Rattle.dia_io.specs.declared.Inputs.{Inputs}
 use Rattle.dia_refused_json.specs.Recording.{RefusedDictionaries, RecordsBad}
 use Rattle.dia_report.specs.declared.refusing.Refused.TheVariants.{Bad}
@@ -17,30 +16,35 @@ use Rattle.dia_upgrades.specs.declared.reporting.Report.{Report}
 use Rattle.dia_upgrades.specs.declared.reporting.Report.TheVariants.{Refused, Read}
 use Rattle.dia_upgrades.specs.Asking.{names_of}
 use Rattle.dia_upgrades.specs.Outcome.{IsListed}
-use Rattle.dia_upgrades_json.specs.Objects.{AreNamesOf, IsEnding, as_json}
+use Rattle.dia_upgrades_json.specs.Objects.{AreNamesOf, AreSpelt, IsEnding, as_json, texts_of}
+use Rattle.dia_breaking_json.specs.Spots.{PlainTexts}
 
--- `breaking` of two dictionaries and a list: the objects in place of its lines, and the one after them
-pub record IsListedJson (asked : Asked) (input : Input) (a b : Dictionary) (text : List ℕ) (exit : Exit) (is : Found) : Type 0 where
+-- `breaking` of two dictionaries and the list of the inputs: the objects in place of its lines, with the places in the texts of the dictionaries, and the
+-- one after them
+pub record IsListedJson (asked : Asked) (inputs : Inputs) (a b : Dictionary) (text : List ℕ) (exit : Exit) (is : Found) : Type 0 where
+  pub texts : PlainTexts
+  pub are_spelt : AreSpelt inputs texts
   pub names : Bor Names
   pub objects : List ℕ
   pub ending : List ℕ
-  pub are_names : AreNamesOf a b names.now
-  pub listed : IsListed (as_json asked names) input a b objects exit is
-  pub is_ending : IsEnding asked.stale (names_of asked) input a is ending
+  pub are_names : AreNamesOf a b texts names.now
+  pub listed : IsListed (as_json asked names) inputs.table a b objects exit is
+  pub is_ending : IsEnding asked.stale (names_of asked) inputs.table a is ending
   pub text_is : text ≡ objects ++ ending
 
 -- the same, whatever was found
-abbrev pub IsAnyListedJson : Asked → Input → Dictionary → Dictionary → List ℕ → Exit → Type 0
-IsAnyListedJson asked input a b text exit = (is : Found) × IsListedJson asked input a b text exit is
+abbrev pub IsAnyListedJson : Asked → Inputs → Dictionary → Dictionary → List ℕ → Exit → Type 0
+IsAnyListedJson asked inputs a b text exit = (is : Found) × IsListedJson asked inputs a b text exit is
 
 -- `breaking` of the inputs: that of their dictionaries and their list, or the object of a dictionary that is refused
 abbrev pub IsBreakingJson : Asked → Inputs → List ℕ → Exit → Type 0
 IsBreakingJson asked inputs text exit =
-    ((a : Dictionary) × (b : Dictionary) × IsDictionaryText inputs.first a × IsDictionaryText inputs.second b × IsAnyListedJson asked inputs.table a b text exit)
+    ((a : Dictionary) × (b : Dictionary) × IsDictionaryText inputs.first a × IsDictionaryText inputs.second b × IsAnyListedJson asked inputs a b text exit)
     ⊎ RefusedDictionaries inputs text exit
 
--- the report has what the inputs say, and what was found, and this is what was written
+-- the report has what the inputs say, and what was found, and this is what was written, with the places of what the report has
 abbrev pub IsJsonReport : (IndexedBook → Dictionary) → Asked → Inputs → Report → List ℕ → Exit → Type 0
 IsJsonReport meaning asked inputs (Refused bad) text exit = RecordsBad inputs.first (Bad bad) text exit ⊎ RecordsBad inputs.second (Bad bad) text exit
 IsJsonReport meaning asked inputs (Read books is) text exit =
-    AreReadFrom meaning inputs books × IsListedJson asked inputs.table (meaning books.first.value.book) (meaning books.second.value.book) text exit is
+    AreReadFrom meaning inputs books × (listed : IsListedJson asked inputs (meaning books.first.value.book) (meaning books.second.value.book) text exit is)
+    × (listed.texts ≡ texts_of inputs books)

@@ -20,6 +20,7 @@ use Rattle.dia_upgrades.specs.declared.reporting.Reported.{Reported}
 use Rattle.dia_upgrades.specs.declared.reporting.Report.TheVariants as report
 use Rattle.dia_upgrades_json.specs.Begun.{IsJsonBegun, IsJsonBegunOrWhole, IsListedBegun, IsListedBegunOrWhole}
 use Rattle.dia_upgrades_json.specs.Objects.{IsEnding}
+use Rattle.dia_breaking_json.specs.Spots.{PlainTexts}
 use Rattle.dia_upgrades_json.specs.Outcome.{IsBreakingJson, IsJsonReport, IsListedJson}
 
 -- the object after those of lines is written, for what was found; or why not
@@ -28,11 +29,12 @@ Ends about names input a listed old new (Ok ended) = (ended ≡ listed) × (text
 Ends about names input a listed old new (Err Device) = (text : List ℕ) × IsEnding about names input a listed.found text × AppendsFront old new text
 Ends about names input a listed old new (Err NoMemory) = new ≡ old
 
--- a call over two dictionaries and a list
-abbrev pub Answers : Asked → Input → Dictionary → Dictionary → Option (List ℕ) → Option (List ℕ) → Result Listed RunFault → Type 0
-Answers asked input a b old new (Ok listed) = (text : List ℕ) × IsListedJson asked input a b text listed.exit listed.found × Appends old new text
-Answers asked input a b old new (Err Device) = (text : List ℕ) × IsListedBegunOrWhole asked input a b text × AppendsFront old new text
-Answers asked input a b old new (Err NoMemory) = (text : List ℕ) × IsListedBegun asked input a b text × Appends old new text
+-- a call over two dictionaries, of these texts, and the list of the inputs
+abbrev pub Answers : Asked → Inputs → Dictionary → Dictionary → PlainTexts → Option (List ℕ) → Option (List ℕ) → Result Listed RunFault → Type 0
+Answers asked inputs a b texts old new (Ok listed) =
+    (text : List ℕ) × (json : IsListedJson asked inputs a b text listed.exit listed.found) × (json.texts ≡ texts) × Appends old new text
+Answers asked inputs a b texts old new (Err Device) = (text : List ℕ) × IsListedBegunOrWhole asked inputs a b text × AppendsFront old new text
+Answers asked inputs a b texts old new (Err NoMemory) = (text : List ℕ) × IsListedBegun asked inputs a b text × Appends old new text
 
 -- the object of an input that is refused is written; or why not
 abbrev pub Refuses : Input → BadInput → Option (List ℕ) → Option (List ℕ) → Result Reported RunFault → Type 0

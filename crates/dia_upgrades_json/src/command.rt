@@ -7,6 +7,7 @@ ghost use Rattle.dia_io.specs.Writing.{AppendsFront};
 ghost use Rattle.dia_run.specs.Report.{AreReadFrom};
 ghost use Rattle.dia_upgrades.specs.Outcome.{AreRefused, IsSafeUpgrade, IsUnsafeUpgrade};
 ghost use Rattle.dia_upgrades_json.specs.Begun.{IsJsonBegun, IsJsonBegunOrWhole};
+ghost use Rattle.dia_upgrades_json.specs.Objects.{ArePlaced};
 ghost use Rattle.dia_upgrades_json.specs.Outcome.{IsBreakingJson, IsJsonReport};
 ghost use Rattle.dia_upgrades_json.specs.UnderWay.{Refuses, RefusesFor, Reports};
 
@@ -24,7 +25,7 @@ use std::alloc::Global;
 /// an object, too. It ends as without JSON, and answers the same report. The form that is asked for isn't looked at.
 pub fn breaking<S: Sink>(
     alloc: Global,
-    asked: Asked<'_>,
+    asked: Asked<'_, '_>,
     inputs: &Inputs,
     sink: &mut S,
 ) -> Result<Reported, RunFault>
@@ -54,7 +55,7 @@ pub fn breaking<S: Sink>(
 /// The same, in one clause.
 fn reported<S: Sink>(
     alloc: Global,
-    asked: Asked<'_>,
+    asked: Asked<'_, '_>,
     inputs: &Inputs,
     sink: &mut S,
 ) -> Result<Reported, RunFault>
@@ -78,17 +79,17 @@ fn reported<S: Sink>(
 /// Lists what breaks over dictionaries that were read.
 fn over_books<S: Sink>(
     alloc: Global,
-    asked: Asked<'_>,
+    asked: Asked<'_, '_>,
     inputs: &Inputs,
     books: BothBooks,
     sink: &mut S,
 ) -> Result<Reported, RunFault>
     requires { ¬ IsTrue (S.has_failed sink.old) }
-    ensures reports { AreReadFrom ⟦<IndexedBook as Book>⟧.meaning inputs.now books
+    ensures reports { AreReadFrom ⟦<IndexedBook as Book>⟧.meaning inputs.now books → ArePlaced inputs.now books
         → Reports ⟦<IndexedBook as Book>⟧.meaning asked.entry inputs.now (S.written sink.old) (S.written sink.new) result }
     ensures device { (result ≡ Err Device) ↔ IsTrue (S.has_failed sink.new) }
 {
-    let Listed { exit, found } = listed(alloc, asked, &inputs.table, &books, sink)?;
+    let Listed { exit, found } = listed(alloc, asked, inputs, &books, sink)?;
     let report = Report::Read { books, found };
     Ok(Reported { exit, report })
 }

@@ -2,14 +2,15 @@
 
 ghost use Rattle.std.specs.Prelude.{◌≡◌, ◌++◌, IfOk, List, OnOk, codes, map, string_bytes, ℕ};
 ghost use Rattle.dia_breaking_json.specs.Fields.{Adds, Field, fields_text};
-ghost use Rattle.dia_breaking_json.specs.Lines.{unsigned_field};
+ghost use Rattle.dia_breaking_json.specs.Members.{unsigned_field};
 ghost use Rattle.dia_inclusion.specs.Proposed.{IsFirstUnknown};
 ghost use Rattle.dia_upgrades.specs.Asking.{AreCommands};
 ghost use Rattle.dia_accepted.specs.Accepted.{plain_entry};
 ghost use Rattle.dia_upgrades.specs.Stale.{failing};
 ghost use Rattle.dia_upgrades_json.specs.Objects.{IsEnding, counts_fields, line_fields, list_fields, list_kind, no_command_fields};
 ghost use Rattle.dia_upgrades_json.specs.Objects.{stale_fields, stale_objects};
-ghost use Rattle.dia_upgrades_json.specs.Objects.{no_commands_fields, object_line, place_fields, refused_fields, where_fields};
+ghost use Rattle.dia_upgrades_json.specs.Objects.{no_commands_fields, object_line, refused_fields, where_fields};
+ghost use Rattle.dia_breaking_json.specs.Spots.{place_fields};
 
 use dia_breaking_json::{object_text, push_text, push_unsigned};
 use dia_dict::Book;

@@ -7,55 +7,80 @@ ghost use Rattle.dia_io.specs.Writing.{AppendsFront};
 ghost use Rattle.dia_upgrades.specs.Asking.{AreCommands, names_of};
 ghost use Rattle.dia_upgrades.specs.Begun.{IsBegun, IsBegunOrWhole};
 ghost use Rattle.dia_upgrades.specs.Outcome.{IsListed};
-ghost use Rattle.dia_upgrades_json.specs.Objects.{AreNamesOf, as_json};
+ghost use Rattle.dia_breaking_json.specs.SpotTexts.{both_in};
+ghost use Rattle.dia_upgrades_json.specs.Objects.{AreNamesOf, AreSpelt, as_json, texts_of};
 ghost use Rattle.dia_upgrades_json.specs.UnderWay.{Answers, Ends};
 
 use crate::ending::ending;
 use dia_dict::{Book, IndexedBook};
-use dia_io::{Input, RunFault, Sink, put_all};
+use dia_io::{Input, Inputs, RunFault, Sink, put_all};
+use dia_refused_json::text_of;
 use dia_report::BothBooks;
-use dia_upgrades::{Asked, Form, Found, Keys, Listed, Names, breaking_of};
+use dia_upgrades::{Asked, Form, Found, Keys, Listed, Names, Spelt, Texts, breaking_of};
 use std::alloc::{AllocError, Global};
 
-/// Writes the objects of two dictionaries that were read and the text of a list of accepted lines.
+/// Writes the objects of two dictionaries that were read from the inputs, and of the list of accepted lines.
 pub(crate) fn listed<S: Sink>(
     alloc: Global,
-    asked: Asked<'_>,
-    list: &Input,
+    asked: Asked<'_, '_>,
+    inputs: &Inputs,
     books: &BothBooks,
     sink: &mut S,
 ) -> Result<Listed, RunFault>
     requires { ¬ IsTrue (S.has_failed sink.old) }
-    ensures answers { Answers asked.entry list.now
+    ensures answers { AreSpelt inputs.now (texts_of inputs.now books.now) → Answers asked.entry inputs.now
         (⟦<IndexedBook as Book>⟧.meaning books.now.first.value.book)
         (⟦<IndexedBook as Book>⟧.meaning books.now.second.value.book)
-        (S.written sink.old) (S.written sink.new) result }
+        (texts_of inputs.now books.now) (S.written sink.old) (S.written sink.new) result }
     ensures device { (result ≡ Err Device) ↔ IsTrue (S.has_failed sink.new) }
 {
     let a = &books.first.book;
     let b = &books.second.book;
-    let names = names_in(alloc, books)?;
+    let list = &inputs.table;
+    let names = names_in(alloc, &*inputs, &*books)?;
     let listed = list_lines(alloc, asked, list, &names, a, b, sink)?;
     put_ending(alloc, asked, list, a, listed, sink)
 }
 
-/// The AVPs of two dictionaries by their names.
-fn names_in(alloc: Global, books: &BothBooks) -> Result<Names, AllocError>
+/// The AVPs of two dictionaries by their names, and their texts.
+fn names_in<'s>(
+    alloc: Global,
+    inputs: &'s Inputs,
+    books: &'s BothBooks,
+) -> Result<Names<'s>, AllocError>
     ensures { IfOk result (AreNamesOf
         (⟦<IndexedBook as Book>⟧.meaning books.now.first.value.book)
-        (⟦<IndexedBook as Book>⟧.meaning books.now.second.value.book)) }
+        (⟦<IndexedBook as Book>⟧.meaning books.now.second.value.book) (texts_of inputs.now books.now)) }
 {
+    let texts = texts_in(alloc, inputs, books)?;
     let first = Keys::new(alloc, &books.first.book)?;
     let second = Keys::new(alloc, &books.second.book)?;
-    Ok(Names { first, second })
+    Ok(Names {
+        first,
+        second,
+        texts,
+    })
+}
+
+/// The texts of two dictionaries, with the places of their parts.
+fn texts_in<'s>(
+    alloc: Global,
+    inputs: &'s Inputs,
+    books: &'s BothBooks,
+) -> Result<Box<Texts<'s>>, AllocError>
+    ensures { IfOk result (λ texts. both_in texts.value ≡ texts_of inputs.now books.now) }
+{
+    let first = Spelt::new(alloc, text_of(&inputs.first), &books.first.source)?;
+    let second = Spelt::new(alloc, text_of(&inputs.second), &books.second.source)?;
+    Ok(Box::new(alloc, Texts { first, second })?)
 }
 
 /// Writes the objects of lines, or of causes.
-fn list_lines<'a, A: Book, B: Book, S: Sink>(
+fn list_lines<'a, 's, A: Book, B: Book, S: Sink>(
     alloc: Global,
-    asked: Asked<'a>,
+    asked: Asked<'a, '_>,
     list: &Input,
-    names: &'a Names,
+    names: &'a Names<'s>,
     a: &A,
     b: &B,
     sink: &mut S,
@@ -73,8 +98,14 @@ fn list_lines<'a, A: Book, B: Book, S: Sink>(
         × Appends (S.written sink.old) (S.written sink.new) text }
 {
     let asked = Asked {
+        sends: asked.sends,
+        unknown: asked.unknown,
+        messages: asked.messages,
+        once: asked.once,
+        meaning: asked.meaning,
+        stale: asked.stale,
         form: Form::Json(names),
-        ..asked
+        names: asked.names,
     };
     breaking_of(alloc, asked, list, a, b, sink)
 }
@@ -82,7 +113,7 @@ fn list_lines<'a, A: Book, B: Book, S: Sink>(
 /// Writes the object after all others.
 fn put_ending<A: Book, S: Sink>(
     alloc: Global,
-    asked: Asked<'_>,
+    asked: Asked<'_, '_>,
     list: &Input,
     a: &A,
     listed: Listed,

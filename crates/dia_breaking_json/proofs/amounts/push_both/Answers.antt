@@ -1,6 +1,6 @@
 use Rattle.std.proofs.lemmas.Result.{on_ok_weaker}
 use Rattle.dia_breaking_json.specs.LineObjects.{most_field}
-use Rattle.dia_breaking_json.specs.Lines.{unsigned_field}
+use Rattle.dia_breaking_json.specs.Members.{unsigned_field}
 use Rattle.dia_breaking_json.proofs.Added.{both_added}
 use Rattle.dia_breaking_json.proofs.amounts.push_both.Goals as goal
 

@@ -3,6 +3,8 @@ use Rattle.std.specs.Option.{option_map}
 use Rattle.std.proofs.lemmas.Result.{IfOk-weaker}
 use Rattle.dia_breaking.specs.LineParts.{plain_parts}
 use Rattle.dia_breaking_json.specs.Keys.{key_in}
+use Rattle.dia_breaking_json.specs.SpotTexts.{both_in}
+use Rattle.dia_breaking_json.specs.Spots.{spot_fields}
 use Rattle.dia_breaking_json.specs.LineObjects.{fields_at, matter_fields, text_if, undecided_field}
 use Rattle.dia_breaking_json.specs.Fields.{text_field}
 use Rattle.dia_breaking_json.proofs.Added.{both_added, from_nothing}
@@ -22,7 +24,10 @@ returns c =
     let both = both_added undecided members _ _ _ c.in_ok-push_undecided.ensures placed in
     let three = both_added (undecided ++ members) matter _ _ _ both c.in_ok-push_matter.ensures in
     let four = both_added (undecided ++ members ++ matter) (text_if (codes "message") message) _ _ _ three c.in_ok-push_if.ensures in
-    let all = both_added (undecided ++ members ++ matter ++ text_if (codes "message") message) (text_field (codes "text") c.args.words.now) _ _ _ four c.in_ok-push_text.ensures in
-    let fields = fields_at members first second parts c.args.words.now message in
+    let texts = both_in c.args.names.now.texts.value in
+    let five = both_added (undecided ++ members ++ matter ++ text_if (codes "message") message) (spot_fields texts parts) _ _ _ four (rw c.deref.ensures at c.in_ok-push_spots.ensures) in
+    let all =
+    both_added (undecided ++ members ++ matter ++ text_if (codes "message") message ++ spot_fields texts parts) (text_field (codes "text") c.args.words.now) _ _ _ five c.in_ok-push_text.ensures in
+    let fields = fields_at members first second texts parts c.args.words.now message in
     is fields (c.as_str.ensures.value ∙ from_nothing _ _ fields c.new-fields.ensures.bytes all))
     c.object_text.ensures

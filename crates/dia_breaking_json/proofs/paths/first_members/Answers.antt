@@ -2,7 +2,7 @@ use Rattle.std.proofs.Common.{◌∙◌, ◌∷◌, [], codes}
 use Rattle.dia_breaking.specs.LineParts.{plain_path}
 use Rattle.dia_breaking_json.specs.Fields.{object_of}
 use Rattle.dia_breaking_json.specs.LineObjects.{first_fields, path_fields}
-use Rattle.dia_breaking_json.specs.Lines.{unsigned_field}
+use Rattle.dia_breaking_json.specs.Members.{unsigned_field}
 use Rattle.dia_breaking_json.proofs.Added.{both_added, from_nothing}
 use Rattle.dia_breaking_json.proofs.paths.first_members.Goals as goal
 

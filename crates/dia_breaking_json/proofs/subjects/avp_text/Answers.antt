@@ -1,7 +1,7 @@
 use Rattle.std.proofs.Common.{◌∙◌}
 use Rattle.std.proofs.lemmas.Result.{IfOk-weaker}
 use Rattle.dia_breaking_json.proofs.Added.{from_nothing}
-use Rattle.dia_breaking_json.specs.Lines.{avp_fields}
+use Rattle.dia_breaking_json.specs.Members.{avp_fields}
 use Rattle.dia_breaking_json.proofs.subjects.avp_text.Goals as goal
 
 pub returns : goal.returns

@@ -1,7 +1,7 @@
 use Rattle.std.proofs.Common.{◌∙◌}
 use Rattle.std.proofs.lemmas.Result.{IfOk-weaker}
 use Rattle.dia_breaking_json.proofs.Added.{from_nothing}
-use Rattle.dia_breaking_json.specs.Lines.{key_fields}
+use Rattle.dia_breaking_json.specs.Members.{key_fields}
 use Rattle.dia_breaking_json.proofs.subjects.key_text.Goals as goal
 
 pub returns : goal.returns

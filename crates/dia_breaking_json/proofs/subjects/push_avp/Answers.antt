@@ -3,7 +3,7 @@ use Rattle.std.proofs.lemmas.Result.{on_ok_weaker}
 use Rattle.serde_json.specs.Written.{compact_text}
 use Rattle.dia_breaking_json.specs.Fields.{object_of}
 use Rattle.dia_breaking_json.specs.Keys.{key_in}
-use Rattle.dia_breaking_json.specs.Lines.{avp_fields}
+use Rattle.dia_breaking_json.specs.Members.{avp_fields}
 use Rattle.dia_breaking_json.proofs.subjects.push_avp.Goals as goal
 
 pub returns : goal.returns

@@ -3,7 +3,7 @@ use Rattle.std.specs.Option.{option_or}
 use Rattle.std.proofs.lemmas.Result.{on_ok_weaker}
 use Rattle.dia_breaking_json.proofs.Added.{both_added}
 use Rattle.dia_breaking_json.specs.Fields.{fields_text, text_field}
-use Rattle.dia_breaking_json.specs.Lines.{known_fields, second_field}
+use Rattle.dia_breaking_json.specs.Members.{known_fields, second_field}
 use Rattle.dia_breaking_json.proofs.subjects.push_avp_fields.Goals as goal
 
 pub returns : goal.returns

@@ -1,7 +1,7 @@
 use Rattle.std.proofs.Common.{◌∙◌}
 use Rattle.std.proofs.lemmas.Result.{on_ok_weaker}
 use Rattle.dia_breaking_json.specs.Fields.{object_of}
-use Rattle.dia_breaking_json.specs.Lines.{key_fields}
+use Rattle.dia_breaking_json.specs.Members.{key_fields}
 use Rattle.dia_breaking_json.proofs.subjects.push_other.Goals as goal
 
 pub returns : goal.returns

@@ -2,7 +2,7 @@ use Rattle.std.proofs.Common.{ap, refl, ◌∙◌}
 use Rattle.std.proofs.lemmas.Result.{err_from_is_err_and}
 use Rattle.dia_upgrades.specs.declared.reporting.Found.{Found}
 use Rattle.dia_upgrades.specs.declared.reporting.Found.TheVariants.{Listed}
-use Rattle.dia_upgrades.specs.UnderWay.{Finds, exit_of}
+use Rattle.dia_upgrades.specs.UnderWay.{Finds, IsTextOfCauses, exit_of}
 use Rattle.dia_upgrades.proofs.Forms.{ends_fault}
 use Rattle.dia_upgrades.proofs.ending.ended.Goals as goal
 
@@ -18,8 +18,10 @@ returns-in_err-put_ending-clause-ends g c =
       causes_are = c.in_ok-causes.ensures;
       meanings_are = c.in_ok-meanings.ensures;
     } in
-    rw (p.1, p.2) (ends_fault c.args.asked seen c.args.unused c.args.stale (g.S.Sink.written c.args.sink.now) (g.S.Sink.written c.put_ending.new.sink) _ is finds c.put_ending.result c.in_err-put_ending.was
-    (λ e. rw (c.as_slice.ensures.value, c.as_slice-2.ensures.value) at (c.put_ending.ensures.front e)) c.put_ending.ensures.no_memory)
+    let written = rw c.as_slice.ensures.value at c.in_ok-text.ensures in
+    let text : IsTextOfCauses c.args.asked seen c.as_str.result.now = λ forgets recorded command visits are. c.as_str.ensures.value ∙ written forgets recorded command visits are in
+    rw (p.1, p.2) (ends_fault c.args.asked seen c.args.unused c.args.stale (g.S.Sink.written c.args.sink.now) (g.S.Sink.written c.put_ending.new.sink) _ is _ text finds c.put_ending.result c.in_err-put_ending.was
+    (λ e. rw c.as_slice-2.ensures.value at (c.put_ending.ensures.front e)) c.put_ending.ensures.no_memory)
 
 pub returns-clause-ends : goal.returns-clause-ends
 returns-clause-ends g c =
@@ -32,8 +34,12 @@ returns-clause-ends g c =
       causes_are = c.in_ok-causes.ensures;
       meanings_are = c.in_ok-meanings.ensures;
     } in
+    let written = rw c.as_slice.ensures.value at c.in_ok-text.ensures in
+    let text : IsTextOfCauses c.args.asked seen c.as_str.result.now = λ forgets recorded command visits are. c.as_str.ensures.value ∙ written forgets recorded command visits are in
     let count = rw c.as_slice-3.ensures.value at c.failing_count.ensures in (
+      c.as_str.result.now,
+      text,
       finds,
       c.exit_of-exit.ensures ∙ ap (λ n. exit_of seen.lines n) count,
-      rw (c.as_slice.ensures.value, c.as_slice-2.ensures.value) at c.in_ok-put_ending.ensures.put,
+      rw c.as_slice-2.ensures.value at c.in_ok-put_ending.ensures.put,
     )

@@ -1,15 +1,12 @@
 use Rattle.std.proofs.Common.{ap, subst, ◌∙◌}
-use Rattle.std.proofs.lemmas.Result.{err_from_is_err_and}
 use Rattle.dia_io.specs.Writing.{AppendsFront}
 use Rattle.dia_upgrades.specs.Stale.{stale_text}
 use Rattle.dia_upgrades.proofs.Puts.{front_after, front_of_more}
 use Rattle.dia_upgrades.proofs.ending.put_ending.Goals as goal
 
 pub returns-in_err-put_end-clause-front : goal.returns-in_err-put_end-clause-front
-returns-in_err-put_end-clause-front g c =
-    let p = err_from_is_err_and c.from_residual-in_err-put_end.result c.from_residual-in_err-put_end.ensures.1 in
-    rw (p.1, p.2)
-    (λ e. front_of_more (g.S.Sink.written c.args.sink.now) (g.S.Sink.written c.put_end.new.sink) _ _ (rw c.failing_count-count.ensures at (c.put_end.ensures.front (c.in_err-put_end.was ∙ e))))
+returns-in_err-put_end-clause-front g c = λ _.
+    front_of_more (g.S.Sink.written c.args.sink.now) (g.S.Sink.written c.put_end.new.sink) _ _ (rw c.failing_count-count.ensures at c.put_end.ensures.front)
 
 pub returns-in_err-put_all-clause-front : goal.returns-in_err-put_all-clause-front
 returns-in_err-put_all-clause-front g c = λ _.

@@ -15,3 +15,4 @@ returns-in-Err-read_dictionary-clause-reports g c =
 pub returns-clause-reports : goal.returns-clause-reports
 returns-clause-reports g c =
     c.over_books.ensures.reports ((c.in-Ok.ensures.source, c.in-Ok.ensures.book), (c.in-Ok-read_dictionary.ensures.source, c.in-Ok-read_dictionary.ensures.book))
+    (c.in-Ok.ensures.placed, c.in-Ok-read_dictionary.ensures.placed)

@@ -1,6 +1,6 @@
 use Rattle.std.proofs.Common.{◌∙◌, ◌++◌, codes}
 use Rattle.std.proofs.lemmas.Result.{IfOk-weaker}
-use Rattle.dia_breaking_json.specs.Lines.{unsigned_field}
+use Rattle.dia_breaking_json.specs.Members.{unsigned_field}
 use Rattle.dia_breaking_json.proofs.Added.{both_added, from_nothing}
 use Rattle.dia_upgrades_json.specs.Objects.{counts_fields}
 use Rattle.dia_upgrades_json.proofs.ending.counts_line.Goals as goal

@@ -13,7 +13,7 @@ returns-then-known c = λ asked says same.
     let before = c.args.self.now.meanings in
     let known = c.in_ok-known.ensures in
     sees_apart asked place c.args.self.now _ t c.in_ok-known.known (λ list rows seen. rw same (known.accepted list (tolds rows) seen))
-    (λ list rows x words seen. come_seen _ list rows x (known.come list (tolds rows) (recorded_of x) (words ∙ same) seen)) refl refl refl refl
+    (λ list rows x words seen. come_seen _ list rows x (known.come list (tolds rows) (recorded_of x) (words ∙ same) seen)) refl refl refl refl refl
     (λ forgets recorded visits small are. subst (λ (b : Bool). AreCauses forgets before (recorded ++ cond b [] (t ∷ [])) place visits) (sym c.if-known.true)
     (subst (λ (xs : List Row). AreCauses forgets before xs place visits) (sym (append-nil recorded)) are))
 
@@ -23,6 +23,6 @@ returns c = λ asked says same.
     let t = row_of place says None in
     let known = c.in_ok-known.ensures in
     sees_apart asked place c.args.self.now _ t c.in_ok-known.known (λ list rows seen. rw same (known.accepted list (tolds rows) seen))
-    (λ list rows x words seen. come_seen _ list rows x (known.come list (tolds rows) (recorded_of x) (words ∙ same) seen)) refl refl refl refl
+    (λ list rows x words seen. come_seen _ list rows x (known.come list (tolds rows) (recorded_of x) (words ∙ same) seen)) refl refl refl refl refl
     (λ forgets recorded visits small are. subst (λ (b : Bool). AreCauses forgets c.add.new.self (recorded ++ cond b [] (t ∷ [])) place visits) (sym c.if-known.false)
     (come_cause forgets c.add.new.self recorded t place visits (c.in_ok-add.ensures forgets (tolds recorded) (recorded_of t) visits small refl same (inl (sym c.new-none.ensures.bytes)) are)))
