@@ -52,7 +52,7 @@ enum {
     DIA_IS_CLOSED = 6,   /* the handle to be used is closed */
     DIA_BAD_ARGUMENT = 7, /* a number among the arguments has no meaning */
     DIA_OUTPUTS_LEFT = 8, /* outputs of the last event are left to be taken */
-    DIA_SPENT = 9         /* the stream was refused memory before: close it */
+    DIA_SPENT = 9         /* the stream was refused memory before: close it, or begin again */
 };
 
 #define DIA_MAX_NAME 128u     /* the most bytes of a name */
@@ -151,6 +151,82 @@ void dia_line_column(const uint8_t *text, size_t text_len, size_t at, size_t *li
  * DIA_MAX_NAME. Takes no memory. */
 dia_status dia_command_name(dia_dict *dict, uint32_t command, uint8_t *out, size_t out_len, size_t *count);
 dia_status dia_avp_name(dia_dict *dict, uint32_t code, uint32_t vendor, uint8_t *out, size_t out_len, size_t *count);
+
+/* ---- the commands and the AVPs of a dictionary ---- */
+
+/* The class of the messages of a command (RFC 6733 section 3). */
+enum {
+    DIA_CLASS_REQUEST = 0, /* R is set, and E is clear */
+    DIA_CLASS_ANSWER = 1,  /* both are clear */
+    DIA_CLASS_ERROR = 2    /* R is clear, and E is set: the error messages of all commands (section 7.2) */
+};
+
+/* What the P flag of its messages may be (RFC 6733 section 3). */
+enum {
+    DIA_PROXY_CLEAR = 0,
+    DIA_PROXY_SET = 1,
+    DIA_PROXY_EITHER = 2
+};
+
+/* What the M flag of an AVP may be (RFC 6733 section 4.1). */
+enum {
+    DIA_MANDATORY_ANY = 0,
+    DIA_MANDATORY_MUST = 1,
+    DIA_MANDATORY_MUST_NOT = 2
+};
+
+/* The data formats of docs/FORMATS.md, by the number that an AVP has. */
+enum {
+    DIA_F_UNKNOWN = 0, /* the dictionary does not have the AVP */
+    DIA_F_OCTET_STRING = 1,
+    DIA_F_INTEGER32 = 2,
+    DIA_F_INTEGER64 = 3,
+    DIA_F_UNSIGNED32 = 4,
+    DIA_F_UNSIGNED64 = 5,
+    DIA_F_FLOAT32 = 6,
+    DIA_F_FLOAT64 = 7,
+    DIA_F_GROUPED = 8,
+    DIA_F_ADDRESS = 9,
+    DIA_F_TIME = 10,
+    DIA_F_UTF8STRING = 11,
+    DIA_F_DIAMETER_IDENTITY = 12,
+    DIA_F_DIAMETER_URI = 13,
+    DIA_F_ENUMERATED = 14,
+    DIA_F_IP_FILTER_RULE = 15,
+    DIA_F_QOS_FILTER_RULE = 16
+};
+
+/* A command of a dictionary (RFC 6733 section 3.2). */
+typedef struct dia_command {
+    size_t name_count; /* how many bytes `name` has */
+    uint32_t command;  /* its number in verdicts, and for dia_command_name */
+    uint32_t code;     /* Command Code; 0 of DIA_CLASS_ERROR */
+    uint32_t kind;     /* DIA_CLASS_.. */
+    uint32_t proxy;    /* DIA_PROXY_.. */
+    uint32_t has_app;  /* 1; 0 where it is of all applications that no other command of its code and class names */
+    uint32_t app;      /* the Application-ID; 0 where has_app is 0 */
+    uint8_t name[DIA_MAX_NAME]; /* its name, and zeros after it */
+} dia_command;
+
+/* An AVP of a dictionary. */
+typedef struct dia_entry {
+    size_t name_count;  /* how many bytes `name` has */
+    uint32_t code;
+    uint32_t vendor;    /* Vendor-ID; 0 without one */
+    uint32_t format;    /* DIA_F_.., never DIA_F_UNKNOWN */
+    uint32_t mandatory; /* DIA_MANDATORY_.. */
+    uint8_t name[DIA_MAX_NAME]; /* its name, and zeros after it */
+} dia_entry;
+
+/* How many commands a dictionary has, and a command by its index, from 0, in the order of the dictionary. DIA_NONE: there are
+ * no more. Takes no memory. */
+dia_status dia_dict_commands(dia_dict *dict, size_t *count);
+dia_status dia_dict_command(dia_dict *dict, size_t index, dia_command *command);
+
+/* How many AVPs a dictionary has, and an AVP by its index, from 0: first those that are declared, in their order, and then the
+ * groups without a declaration. DIA_NONE: there are no more. Takes no memory. */
+dia_status dia_dict_avps(dia_dict *dict, size_t *count);
+dia_status dia_dict_avp(dia_dict *dict, size_t index, dia_entry *avp);
 
 /* ---- checks ---- */
 
@@ -257,27 +333,6 @@ dia_status dia_verdict_text(dia_dict *dict, const dia_verdict *verdict, uint8_t 
 
 /* ---- the AVPs of a message ---- */
 
-/* The data formats of docs/FORMATS.md, by the number that an AVP has. */
-enum {
-    DIA_F_UNKNOWN = 0, /* the dictionary does not have the AVP */
-    DIA_F_OCTET_STRING = 1,
-    DIA_F_INTEGER32 = 2,
-    DIA_F_INTEGER64 = 3,
-    DIA_F_UNSIGNED32 = 4,
-    DIA_F_UNSIGNED64 = 5,
-    DIA_F_FLOAT32 = 6,
-    DIA_F_FLOAT64 = 7,
-    DIA_F_GROUPED = 8,
-    DIA_F_ADDRESS = 9,
-    DIA_F_TIME = 10,
-    DIA_F_UTF8STRING = 11,
-    DIA_F_DIAMETER_IDENTITY = 12,
-    DIA_F_DIAMETER_URI = 13,
-    DIA_F_ENUMERATED = 14,
-    DIA_F_IP_FILTER_RULE = 15,
-    DIA_F_QOS_FILTER_RULE = 16
-};
-
 /* An AVP (RFC 6733 section 4.1). Offsets are in bytes from the first of the message. */
 typedef struct dia_avp {
     size_t place;       /* where it begins */
@@ -305,6 +360,19 @@ typedef struct dia_avp {
 dia_status dia_avps(dia_dict *dict, const uint8_t *message, size_t message_len, dia_avp *avps, size_t avp_room, size_t *count,
                     size_t *end, dia_verdict *verdict);
 
+/* Delivers those of the AVPs of a message that hold the byte at an offset, the outermost first: each but the last is a group that the
+ * dictionary has, and holds the next one. *count is the number of all. The first of them, as many as there is room for, are in
+ * `avps`; the rest of `avps` is as before. The bytes of the header are in no AVP, and padding and what begins no AVP are in the
+ * groups around them alone. The message need not be valid.
+ * Of a fault about an AVP, with its place as the offset, the last one is that AVP, whose `length` is how many bytes the fault
+ * covers, and those before it are the groups around it. Of DIA_R_AVP_LENGTH no AVP begins at the place, and all are groups around
+ * it. The place of DIA_R_MISSING is the end of the level: the groups that hold the byte before it are those around the end, of which
+ * the innermost may lack nothing.
+ * DIA_NO_ROOM: there are more than `avp_room`, and `avps` has the first of them. With `avp_room` 0 the AVPs are counted.
+ * DIA_REFUSED: as of dia_avps. *count is written on DIA_OK and DIA_NO_ROOM alone. Takes no memory. */
+dia_status dia_avps_at(dia_dict *dict, const uint8_t *message, size_t message_len, size_t offset, dia_avp *avps, size_t avp_room,
+                       size_t *count, dia_verdict *verdict);
+
 /* ---- messages that come in pieces ---- */
 
 /* A message that comes in pieces, and is checked while it comes. It holds its dictionary, whose handle may be closed, at most 20
@@ -326,7 +394,8 @@ dia_status dia_stream_open(dia_dict *dict, uint32_t unknown, uint32_t levels, di
 
 /* Takes the next piece of the message, as far as it belongs to it. It takes the whole message even after a fault; if the version
  * or the Message Length is wrong, only the 20 bytes of the header. The bytes that follow begin the next message.
- * DIA_NO_MEMORY: the stream is spent: close it; its message can be checked again only from its start. DIA_SPENT: it was before.
+ * DIA_NO_MEMORY: the stream is spent: close it, or begin again (dia_stream_again); its message can be checked again only from its
+ * start. DIA_SPENT: it was before.
  * *fed is written on DIA_OK alone. */
 dia_status dia_stream_feed(dia_stream *stream, const uint8_t *piece, size_t piece_len, dia_fed *fed);
 
@@ -337,6 +406,11 @@ dia_status dia_stream_levels(dia_stream *stream, size_t *levels);
 /* Says of all bytes that were taken what dia_check says of them, and closes the handle, on any status. Before the end of the
  * message it is DIA_TRUNCATED. DIA_SPENT: memory was refused before. Takes no memory. */
 dia_status dia_stream_finish(dia_stream *stream, dia_verdict *verdict);
+
+/* Says what dia_stream_finish says, and begins the next message in place of closing the handle: with the same dictionary, the
+ * same `unknown` and `levels`, and no byte taken. DIA_SPENT: memory was refused before, *verdict is not written, and the next
+ * message begins all the same. Takes no memory. */
+dia_status dia_stream_again(dia_stream *stream, dia_verdict *verdict);
 
 /* Closes the handle. Takes no memory. */
 void dia_stream_close(dia_stream *stream);
@@ -379,6 +453,16 @@ dia_status dia_text_view(dia_text *text, const uint8_t **bytes, size_t *count);
 
 /* Closes the handle. Takes no memory. */
 void dia_text_close(dia_text *text);
+
+/* Opens the closed handle `note` with what `diacmd check` writes on standard error for a message that is not valid: the place,
+ * what is wrong there, where the dictionary says otherwise, and a hint; for a text that is no dictionary, why it is none; and no
+ * bytes for a valid message. `text` is that of the dictionary, since a dia_dict holds no offsets of it. In the note its name is
+ * `dictionary`, and that of the message's hexadecimal digits, on one line, is `message`. No clause says what the note has: it is for
+ * people, and programs read the verdict.
+ * DIA_BAD_ARGUMENT: `unknown` is neither of its two values.
+ * It is in libdia.a, and in a shared object with dia_breaking, libdia-breaking. */
+dia_status dia_explain(const uint8_t *text, size_t text_len, uint32_t unknown, uint32_t levels, const uint8_t *message,
+                       size_t message_len, dia_text *note);
 
 /* ---- answers to requests that have a fault ---- */
 

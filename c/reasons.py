@@ -1,7 +1,7 @@
 #!/usr/bin/env python3
 """Writes the numbers of the reasons of `check` into dia.h, out of the definition that the contracts cite, and compares the other
 numbers of dia.h with their definitions: the version, the statuses, the kinds of a problem, and the states, the faults and the
-reasons of a connection, the forms of answers and the formats.
+reasons of a connection, the forms of answers, the formats, and the classes and flags of a dictionary.
 
     c/reasons.py [--check]
 
@@ -22,9 +22,11 @@ KINDS = re.compile(r"/\* Why a text is no dictionary: the kind of its first faul
 PEERS = (("DIA_STATE_", "PeerSteps.antt", r"^state_number state\.(\w+) = (\d+)$"), ("DIA_WHY_", "PeerSteps.antt", r"^why_number why\.(\w+) = (\d+)$"),
          ("DIA_TIMER_", "PeerTimers.antt", r"^timer_number timer\.(\w+) = (\d+)$"),
          ("DIA_BAD_", "Peers.antt", r"^fault_number fault\.(\w+) = (\d+)$"), ("DIA_FORM_", "Replies.antt", r"^form_number form\.(\w+) = (\d+)$"),
-         ("DIA_F_", "Avps.antt", r"^format_number name\.(\w+) = (\d+)$"))
-"""The numbers of a connection, of forms of answers and of formats: how their words begin, and the file and the lines of their
-definition."""
+         ("DIA_F_", "Avps.antt", r"^format_number name\.(\w+) = (\d+)$"), ("DIA_CLASS_", "DictParts.antt", r"^class_number class\.(\w+) = (\d+)$"),
+         ("DIA_PROXY_", "DictParts.antt", r"^proxy_number pxy\.(\w+) = (\d+)$"),
+         ("DIA_MANDATORY_", "DictParts.antt", r"^mandatory_number rule\.(\w+) = (\d+)$"))
+"""The numbers of a connection, of forms of answers, of formats, and of classes and flags: how their words begin, and the file and the
+lines of their definition."""
 OTHERS = ("ARGUMENT", "UNKNOWN")
 """What is none of these numbers: a status, and the number of no format."""
 OTHERWISE = {"LIMIT": "TOO_MANY_PARTS"}

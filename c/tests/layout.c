@@ -89,3 +89,21 @@ AT(dia_head, code, 8);
 AT(dia_head, app, 12);
 AT(dia_head, hop, 16);
 AT(dia_head, e2e, 20);
+
+_Static_assert(sizeof(dia_command) == 160, "dia_command");
+AT(dia_command, name_count, 0);
+AT(dia_command, command, 8);
+AT(dia_command, code, 12);
+AT(dia_command, kind, 16);
+AT(dia_command, proxy, 20);
+AT(dia_command, has_app, 24);
+AT(dia_command, app, 28);
+AT(dia_command, name, 32);
+
+_Static_assert(sizeof(dia_entry) == 152, "dia_entry");
+AT(dia_entry, name_count, 0);
+AT(dia_entry, code, 8);
+AT(dia_entry, vendor, 12);
+AT(dia_entry, format, 16);
+AT(dia_entry, mandatory, 20);
+AT(dia_entry, name, 24);

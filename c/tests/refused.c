@@ -157,6 +157,29 @@ static dia_status streams(void) {
     return status;
 }
 
+/* A stream that was refused memory begins again, and is as good as a new one. */
+static dia_status begins_again(void) {
+    dia_fed fed;
+    dia_status status = dia_stream_open(&dict, DIA_KEPT, DIA_ANY_LEVELS, &stream), again;
+    if (status != DIA_OK) {
+        return status;
+    }
+    status = dia_stream_feed(&stream, grouped, sizeof grouped, &fed);
+    again = dia_stream_again(&stream, &verdict);
+    EXPECT(again == (status == DIA_OK ? DIA_OK : DIA_SPENT));
+    if (status != DIA_OK) {
+        EXPECT(dia_stream_feed(&stream, watchdog, sizeof watchdog, &fed) == DIA_OK && fed.done == 1);
+        EXPECT(dia_stream_again(&stream, &verdict) == DIA_OK && verdict.outcome == DIA_VALID);
+        verdict = (dia_verdict){9, 9, 9, 9, 9, 9, 9, 9};
+    }
+    dia_stream_close(&stream);
+    return status;
+}
+
+static dia_status explains(void) {
+    return dia_explain((const uint8_t *)source, strlen(source), DIA_KEPT, DIA_ANY_LEVELS, watchdog, sizeof watchdog, &line);
+}
+
 static dia_status finds_faults(void) {
     size_t count;
     return dia_faults_open((const uint8_t *)wrong, strlen(wrong), &faults, &count);
@@ -238,6 +261,9 @@ static void take_no_memory(void) {
     const uint8_t *bytes = NULL;
     dia_head head;
     dia_fault fault;
+    dia_command command;
+    dia_entry entry;
+    dia_avp avps[2];
     dia_verdict told;
     long before = asked;
     EXPECT(dia_abi_version() == DIA_ABI_VERSION);
@@ -248,10 +274,14 @@ static void take_no_memory(void) {
     EXPECT(dia_command_name(&dict, verdict.command, name, sizeof name, &count) == DIA_OK);
     EXPECT(dia_message_length(watchdog, 20, &length, &verdict) == DIA_OK);
     EXPECT(dia_header(watchdog, 20, &head, &verdict) == DIA_OK && head.code == 280);
+    EXPECT(dia_dict_commands(&dict, &count) == DIA_OK && dia_dict_command(&dict, count - 1, &command) == DIA_OK);
+    EXPECT(dia_dict_avps(&dict, &count) == DIA_OK && dia_dict_avp(&dict, count - 1, &entry) == DIA_OK);
+    EXPECT(dia_avps_at(&dict, grouped, sizeof grouped, 28, avps, 2, &count, &told) == DIA_OK && count == 2);
     EXPECT(dia_text_length(&text, &count) == DIA_OK);
     EXPECT(dia_text_view(&text, &bytes, &count) == DIA_OK && bytes != NULL);
     EXPECT(dia_text_read(&text, 0, name, sizeof name, &count) == DIA_OK);
     EXPECT(dia_stream_levels(&stream, &count) == DIA_OK && count == 0);
+    EXPECT(dia_stream_again(&stream, &told) == DIA_OK && told.outcome == DIA_TRUNCATED);
     EXPECT(dia_stream_finish(&stream, &told) == DIA_OK && told.outcome == DIA_TRUNCATED);
     dia_stream_close(&stream);
     dia_dict_close(&dict);
@@ -293,6 +323,9 @@ int main(void) {
     refuse_each("breaking, of no command", finds_no_command, close_nothing, 3);
     dia_dict_close(&own);
     refuse_each("stream", streams, close_nothing, 3);
+    refuse_each("stream, again", begins_again, close_nothing, 3);
+    refuse_each("explain", explains, close_line, 10);
+    dia_text_close(&line);
     refuse_each("render", renders, close_nothing, 2);
     refuse_each("faults_open", finds_faults, close_faults, 4);
     refuse_each("peer_open", opens_peer, close_peer, 100);

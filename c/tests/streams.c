@@ -115,12 +115,40 @@ static void handles_are_asked(void) {
     EXPECT(stream.dia_private == NULL && stream.dia_state == 0);
 }
 
+/* Messages one after the other by one stream, after each verdict, which is that of dia_check. */
+static void streams_begin_again(void) {
+    static const struct {
+        const uint8_t *bytes;
+        size_t len, taken;
+    } messages[] = {{watchdog, sizeof watchdog, sizeof watchdog}, {watchdog, 30, 30}, {watchdog, 0, 0},
+                    {grouped, sizeof grouped, sizeof grouped}, {watchdog + 1, 40, 20}, {grouped, 51, 51},
+                    {watchdog, sizeof watchdog, sizeof watchdog}};
+    dia_stream stream = DIA_STREAM_INIT;
+    dia_dict own = DIA_DICT_INIT;
+    dia_fed fed;
+    dia_verdict verdict = {99, 99, 99, 99, 99, 99, 99, 99}, whole;
+    size_t levels = 99;
+    EXPECT(dia_stream_again(&stream, &verdict) == DIA_IS_CLOSED && verdict.outcome == 99);
+    EXPECT(dia_dict_open_base(&own) == DIA_OK);
+    EXPECT(dia_stream_open(&own, DIA_KEPT, 0, &stream) == DIA_OK);
+    dia_dict_close(&own);
+    for (size_t i = 0; i < sizeof messages / sizeof *messages; i++) {
+        EXPECT(dia_stream_feed(&stream, messages[i].bytes, messages[i].len, &fed) == DIA_OK && fed.taken == messages[i].taken);
+        EXPECT(dia_stream_again(&stream, &verdict) == DIA_OK && dia_stream_levels(&stream, &levels) == DIA_OK && levels == 0);
+        /* with the limit of the stream: no group may be open */
+        EXPECT(dia_check(&dict, DIA_KEPT, 0, messages[i].bytes, messages[i].taken, &whole) == DIA_OK);
+        EXPECT(memcmp(&verdict, &whole, sizeof whole) == 0);
+    }
+    EXPECT(dia_stream_finish(&stream, &verdict) == DIA_OK && verdict.outcome == DIA_TRUNCATED);
+}
+
 int main(void) {
     EXPECT(dia_dict_open_base(&dict) == DIA_OK);
     pieces_are_answered_as_a_whole();
     ends_are_told();
     levels_are_counted();
     handles_are_asked();
+    streams_begin_again();
     dia_dict_close(&dict);
     return tell_counts();
 }

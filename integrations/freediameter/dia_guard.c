@@ -1,5 +1,5 @@
 /* dia_guard.fdx: checks each message that freeDiameter 1.2 receives against a dictionary of libdia, and reports, drops or answers those
- * that have a fault. docs/LIBRARY.md says how it is made and configured:
+ * that have a fault. docs/INTEGRATIONS.md says how it is made and configured:
  *     LoadExtension = "/path/dia_guard.fdx" : "dictionary=FILE;action=log|drop|answer;valid=log"; */
 #include <dia.h>
 #include <freeDiameter/extension.h>

@@ -242,3 +242,51 @@ func BenchmarkCheck(b *testing.B) {
 		}
 	}
 }
+
+func TestParts(t *testing.T) {
+	d := made(t, usage+"{ Usage }\n%avp B 3 vendor 10415 Grouped must\nB ::= < AVP Header: 3 10415 > *[ Usage ]")
+	commands, err := d.Commands()
+	// the only group has the number 0
+	if err != nil || len(commands) != 1 || commands[0] != (Command{"Report", 1, 302, Request, ProxyClear, false, 0}) {
+		t.Error(commands, err)
+	}
+	entries, err := d.Entries()
+	if err != nil || len(entries) != 2 || entries[0] != (Entry{"Usage", 9002, 0, 4, MandatoryAny}) ||
+		entries[1] != (Entry{"B", 3, 10415, 8, MandatoryMust}) {
+		t.Error(entries, err)
+	}
+	d.Close()
+	if _, err := d.Commands(); err != ErrClosed {
+		t.Error(err)
+	}
+	if _, err := d.Entries(); err != ErrClosed {
+		t.Error(err)
+	}
+}
+
+func TestAVPsAt(t *testing.T) {
+	d := made(t, "%avp A 1 OctetString any\nB ::= < AVP Header: 2 > *[ A ]")
+	// B at 20 has two A of 8 bytes, at 28 and 36
+	message := unhex("0100002c8000012e000000000000000000000000" + "0000000200000018" + "0000000100000008" + "0000000100000008")
+	found, err := d.AVPsAt(message, 40)
+	if err != nil || len(found) != 2 || found[0].Place != 20 || found[0].Name != "B" || found[1].Place != 36 || found[1].Depth != 1 {
+		t.Error(found, err)
+	}
+	if found, err := d.AVPsAt(message, 19); err != nil || len(found) != 0 {
+		t.Error(found, err)
+	}
+	if _, err := d.AVPsAt(message[1:], 20); err != ErrMessage {
+		t.Error(err)
+	}
+}
+
+func TestExplain(t *testing.T) {
+	text := []byte(usage + "{ Usage }")
+	note, err := Explain(text, twice, Kept)
+	if err != nil || !bytes.Contains([]byte(note), []byte("byte 32: ")) {
+		t.Error(note, err)
+	}
+	if note, err := Explain(text, twice[:20], Unknown(2)); err != ErrArgument {
+		t.Error(note, err)
+	}
+}

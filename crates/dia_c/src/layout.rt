@@ -1,8 +1,8 @@
 //! The sizes that `c/tests/layout.c` has, too.
 
 use dia_c_calls::{
-    DictHandle, FaultsHandle, Fed, MessageAvp, MessageHead, PeerAddress, PeerApp, PeerHandle,
-    PeerNumbers, Problem, RecordedFault, StreamHandle, TextHandle, Verdict,
+    DictAvp, DictCommand, DictHandle, FaultsHandle, Fed, MessageAvp, MessageHead, PeerAddress,
+    PeerApp, PeerHandle, PeerNumbers, Problem, RecordedFault, StreamHandle, TextHandle, Verdict,
 };
 
 const _: () = prove!(size_of::<DictHandle>() == 16);
@@ -32,3 +32,7 @@ const _: () = prove!(size_of::<Fed>() == 16);
 const _: () = prove!(size_of::<MessageAvp>() == 192);
 
 const _: () = prove!(size_of::<MessageHead>() == 24);
+
+const _: () = prove!(size_of::<DictCommand>() == 160);
+
+const _: () = prove!(size_of::<DictAvp>() == 152);

@@ -9,7 +9,9 @@ mod avp_calls;
 mod batches;
 mod checks;
 mod comparisons;
+mod dict_parts;
 mod dictionaries;
+mod explanations;
 mod fault_lists;
 mod heads;
 mod layout;
@@ -23,14 +25,16 @@ mod texts;
 mod upgrades;
 mod words;
 
-pub use avp_calls::dia_avps;
+pub use avp_calls::{dia_avps, dia_avps_at};
 pub use batches::dia_check_many;
 pub use checks::{dia_check, dia_check_json, dia_message_length};
 pub use comparisons::{dia_compare, dia_table_place};
+pub use dict_parts::{dia_dict_avp, dia_dict_avps, dia_dict_command, dia_dict_commands};
 pub use dictionaries::{
     dia_avp_name, dia_command_name, dia_dict_close, dia_dict_open, dia_dict_open_base,
     dia_dict_share,
 };
+pub use explanations::dia_explain;
 pub use fault_lists::{dia_faults_close, dia_faults_get, dia_faults_open, dia_line_column};
 pub use heads::dia_header;
 pub use listings::dia_show;
@@ -41,7 +45,8 @@ pub use peers::{
 };
 pub use replies::dia_answer;
 pub use streams::{
-    dia_stream_close, dia_stream_feed, dia_stream_finish, dia_stream_levels, dia_stream_open,
+    dia_stream_again, dia_stream_close, dia_stream_feed, dia_stream_finish, dia_stream_levels,
+    dia_stream_open,
 };
 pub use text_views::dia_text_view;
 pub use texts::{dia_render, dia_text_close, dia_text_length, dia_text_read};

@@ -1,8 +1,9 @@
 //! Messages that come in pieces: opened, fed, asked, finished, closed.
 
 ghost use Rattle.std.specs.Prelude.{◌⊎◌, ◌≡◌, ◌≢◌, ◌↔◌, [], None, IfSome, IsSome};
-ghost use Rattle.dia_c_calls.specs.Held.{Denotes, dict_in};
+ghost use Rattle.dia_c_calls.specs.Held.{Denotes, IsCheckedBy, dict_in};
 ghost use Rattle.dia_c_calls.specs.Streams.{HasFed, HasFinished, HasLevels, IsKept, IsSpent, OpensIn, DenotesNone};
+ghost use Rattle.dia_c_calls.specs.Streams.{BeginsAgain, IsCheckedAlike};
 ghost use Rattle.dia_c_calls.specs.Verdicts.{IsUnknownPolicy, limit_of, policy_of};
 
 use dia_c_calls::{
@@ -24,6 +25,8 @@ pub extern "C" fn dia_stream_open(
     ensures kept_dict { handle.new.slot.seal.held ≡ handle.old.slot.seal.held }
     ensures done { result ≡ DONE → IfSome (dict_in handle.old.slot.seal.held)
         (λ d. Denotes stream.new.slot.seal.held d (policy_of unknown) (limit_of levels) []) }
+    ensures checked_by { result ≡ DONE → IfSome (dict_in handle.old.slot.seal.held)
+        (λ d. IsCheckedBy stream.new.slot.seal.held d (policy_of unknown) (limit_of levels)) }
     ensures kept { result ≢ DONE → stream.new.slot.seal.held ≡ stream.old.slot.seal.held }
     ensures was_closed { result ≢ IS_OPEN → result ≢ BAD_ARGUMENT → stream.old.slot.seal.held ≡ None }
     ensures was_open { result ≡ IS_OPEN → IsSome stream.old.slot.seal.held }
@@ -50,6 +53,7 @@ pub extern "C" fn dia_stream_feed(
     ensures goes_on { result ≡ DONE → ¬ IsSpent stream.new.slot.seal.held }
     ensures refused { (result ≡ NO_MEMORY) ⊎ (result ≡ SPENT) → IsSpent stream.new.slot.seal.held }
     ensures nothing { result ≡ SPENT → DenotesNone stream.old.slot.seal.held }
+    ensures alike { IsCheckedAlike stream.old.slot.seal.held stream.new.slot.seal.held }
     ensures is_open { result ≢ IS_CLOSED → IsSome stream.new.slot.seal.held }
     ensures only { result ≢ DONE → fed.new ≡ fed.old }
     ensures closed { result ≡ IS_CLOSED → (stream.old.slot.seal.held ≡ None) × (stream.new.slot.seal.held ≡ None) }
@@ -68,6 +72,7 @@ pub extern "C" fn dia_stream_levels(
     ensures ends { (result ≡ DONE) ⊎ (result ≡ IS_CLOSED) }
     ensures done { result ≡ DONE → HasLevels stream.old.slot.seal.held levels.new }
     ensures kept { IsKept stream.old.slot.seal.held stream.new.slot.seal.held }
+    ensures alike { IsCheckedAlike stream.old.slot.seal.held stream.new.slot.seal.held }
     ensures spent { IsSpent stream.new.slot.seal.held ↔ IsSpent stream.old.slot.seal.held }
     ensures only { result ≡ IS_CLOSED → levels.new ≡ levels.old }
     ensures closed { result ≡ IS_CLOSED → (stream.old.slot.seal.held ≡ None) × (stream.new.slot.seal.held ≡ None) }
@@ -93,6 +98,27 @@ pub extern "C" fn dia_stream_finish(
     ensures was_open { result ≢ IS_CLOSED → IsSome stream.old.slot.seal.held }
 {
     dia_c_calls::stream_finish(alloc, stream, verdict)
+}
+
+/// What `diacmd check` says of the bytes that came; and begins the next message, which is checked by the same.
+#[unsafe(no_mangle)]
+pub extern "C" fn dia_stream_again(
+    alloc: Global,
+    stream: &mut StreamHandle,
+    verdict: &mut Verdict,
+) -> u32
+    ensures ends { (result ≡ DONE) ⊎ (result ≡ IS_CLOSED) ⊎ (result ≡ SPENT) }
+    ensures done { result ≡ DONE → HasFinished stream.old.slot.seal.held verdict.new }
+    ensures begins { BeginsAgain stream.old.slot.seal.held stream.new.slot.seal.held }
+    ensures spent { IsSpent stream.old.slot.seal.held → result ≡ SPENT }
+    ensures nothing { result ≡ SPENT → DenotesNone stream.old.slot.seal.held }
+    ensures goes_on { ¬ IsSpent stream.new.slot.seal.held }
+    ensures is_open { result ≢ IS_CLOSED → IsSome stream.new.slot.seal.held }
+    ensures only { result ≢ DONE → verdict.new ≡ verdict.old }
+    ensures closed { result ≡ IS_CLOSED → (stream.old.slot.seal.held ≡ None) × (stream.new.slot.seal.held ≡ None) }
+    ensures was_open { result ≢ IS_CLOSED → IsSome stream.old.slot.seal.held }
+{
+    dia_c_calls::stream_again(alloc, stream, verdict)
 }
 
 /// Lets the message go, if the handle has one.

@@ -2,10 +2,12 @@ pub mod AllFound
 pub mod AsBox
 pub mod ManyMessages
 pub mod ComparedHandles
+pub mod DictParts
 pub mod FedStreams
 pub mod HeldDicts
 pub mod ListedAvps
 pub mod Next
+pub mod PathsToBytes
 pub mod PeerCalls
 pub mod NamesInArrays
 pub mod NoTables

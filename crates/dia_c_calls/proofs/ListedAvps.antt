@@ -16,7 +16,7 @@ use Rattle.dia_c_calls.specs.Avps.{AreFirst, AreLevelListed, AreListed, avp_reco
 
 -- ---- an array
 
-none_first : (old : List MessageAvp) → AreFirst [] old old
+pub none_first : (old : List MessageAvp) → AreFirst [] old old
 none_first old = ap (λ (t : List MessageAvp). t ++ old) (sym (take_all (length old) [] (omega arith)))
 
 length-first : (avps old new : List MessageAvp) → AreFirst avps old new → length new ≡ length old
@@ -40,7 +40,7 @@ put_past avps old now a past first =
     ∙ ap (λ (t : List MessageAvp). take (length old) avps ++ t) (sym (drop_all (length (avps ++ a ∷ [])) old (omega (arith, past, length_push avps a))))
     ∙ ap (λ (t : List MessageAvp). t ++ drop (length (avps ++ a ∷ [])) old) (sym (take-append-le (length old) avps (a ∷ []) past))
 
-one_more_first : (avps old now : List MessageAvp) (a : MessageAvp) (count : ℕ) → count ≡ length avps → AreFirst avps old now → AreFirst (avps ++ a ∷ []) old (set now count a)
+pub one_more_first : (avps old now : List MessageAvp) (a : MessageAvp) (count : ℕ) → count ≡ length avps → AreFirst avps old now → AreFirst (avps ++ a ∷ []) old (set now count a)
 one_more_first avps old now a count many first =
     subst (λ (n : ℕ). AreFirst (avps ++ a ∷ []) old (set now n a)) (sym many)
     (elim (cases_lt (length avps) (length old)) [
@@ -137,14 +137,14 @@ bytes_left rs = sum_by (λ r. length r.bytes.now) rs
 abbrev pub left_to_read : List ℕ → List Rest → ℕ
 left_to_read rest outer = 2 * (length rest + bytes_left outer) + length outer
 
-length-level : (v : PlainAvp) (level rest : List ℕ) → BeginsWith v level rest → length level ≡ padded_length v + length rest
+pub length-level : (v : PlainAvp) (level rest : List ℕ) → BeginsWith v level rest → length level ≡ padded_length v + length rest
 length-level v level rest (front, s, parts) = ap length parts ∙ length-append front rest ∙ ap (λ (n : ℕ). n + length rest) (opened v front [] s).front_length
 
 -- an AVP is no longer than the level
 pub room : (v : PlainAvp) (level rest : List ℕ) → BeginsWith v level rest → avp_length v ≤ length level
 room v level rest begins = omega (arith, length-level v level rest begins, rounded-le (avp_length v))
 
-shorter : (v : PlainAvp) (level rest : List ℕ) → BeginsWith v level rest → length rest + length v.bytes < length level
+pub shorter : (v : PlainAvp) (level rest : List ℕ) → BeginsWith v level rest → length rest + length v.bytes < length level
 shorter v level rest begins = omega (arith, length-level v level rest begins, rounded-le (avp_length v), at_least_8 v.vendor)
 
 pub less_after_avp : (v : PlainAvp) (level rest : List ℕ) (outer : List Rest) → BeginsWith v level rest → left_to_read rest outer < left_to_read level outer

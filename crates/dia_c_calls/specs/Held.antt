@@ -8,7 +8,7 @@ use Rattle.dia_terms.specs.declared.Levels.{Levels}
 use Rattle.dia_dict.specs.contracts.indexed_book.IndexedBookBook.TheImpl.{ghosts}
 use Rattle.dia_c_calls.specs.declared.held.Held.{Held}
 use Rattle.dia_c_calls.specs.declared.held.Held.TheVariants.{Dict, Text, Faults, Peer, Stream, Nothing}
-use Rattle.dia_c_calls.specs.Feedings.{FeedsFor}
+use Rattle.dia_c_calls.specs.Feedings.{ChecksBy, FeedsFor}
 use Rattle.dia_c_calls.specs.PlainFaults.{PlainFault, plain_fault}
 use Rattle.dia_c_calls.specs.PeerSteps.{PlainEnd, IsTaken, plain_end}
 use Rattle.dia_peer.specs.Outputs.{PlainOutput}
@@ -122,6 +122,16 @@ Denotes (Some (Faults faults)) d u most bytes = ⊥
 Denotes (Some (Peer peer)) d u most bytes = ⊥
 Denotes (Some (Stream feeding)) d u most bytes = FeedsFor feeding d u most bytes
 Denotes (Some Nothing) d u most bytes = ⊥
+
+-- the message that is held is checked against this dictionary, with this policy and this limit
+abbrev pub IsCheckedBy : Option Held → Dictionary → Unknown → Levels → Type 0
+IsCheckedBy None d u most = ⊥
+IsCheckedBy (Some (Dict owner room)) d u most = ⊥
+IsCheckedBy (Some (Text text)) d u most = ⊥
+IsCheckedBy (Some (Faults faults)) d u most = ⊥
+IsCheckedBy (Some (Peer peer)) d u most = ⊥
+IsCheckedBy (Some (Stream feeding)) d u most = ChecksBy feeding d u most
+IsCheckedBy (Some Nothing) d u most = ⊥
 
 -- the next output of the end was taken
 pub data Takes (old new : Option PlainEnd) (output : PlainOutput) : Type 0 where

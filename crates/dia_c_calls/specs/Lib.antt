@@ -2,10 +2,12 @@ pub mod AllFaults
 pub mod Avps
 pub mod Batches
 pub mod Comparisons
+pub mod DictParts
 pub mod Feedings
 pub mod Handles
 pub mod Heads
 pub mod Held
+pub mod HeldOffsets
 pub mod Listings
 pub mod Names
 pub mod Openings

@@ -1,5 +1,5 @@
 -- The verdict of a message that comes in pieces.
-use Rattle.std.specs.Prelude.{◌≡◌, ℕ, ◌++◌, List, drop, length, take, if◌then◌else◌, Option, None, Some, Result}
+use Rattle.std.specs.Prelude.{◌≡◌, ℕ, ◌++◌, List, [], drop, length, take, if◌then◌else◌, Option, None, Some, Result}
 use Rattle.dia_book.specs.Dictionary.{Dictionary}
 use Rattle.dia_terms.specs.declared.Unknown.{Unknown}
 use Rattle.dia_terms.specs.declared.Levels.{Levels}
@@ -13,7 +13,7 @@ use Rattle.dia_c_calls.specs.declared.held.Held.{Held}
 use Rattle.dia_c_calls.specs.declared.held.Held.TheVariants.{Dict, Text, Faults, Peer, Stream, Nothing}
 use Rattle.dia_c_calls.specs.declared.streams.Fed.{Fed}
 use Rattle.dia_c_calls.specs.declared.verdict.Verdict.{Verdict}
-use Rattle.dia_c_calls.specs.Held.{Denotes}
+use Rattle.dia_c_calls.specs.Held.{Denotes, IsCheckedBy}
 use Rattle.dia_c_calls.specs.Verdicts.{IsVerdict}
 
 -- whatever message is held: this holds of its dictionary, its policy, its limit, and its bytes so far
@@ -43,6 +43,14 @@ HasLevels held n = OfMessage held (λ d u most bytes. CountsLevels d u most byte
 -- it denotes what it denoted
 abbrev pub IsKept : Option Held → Option Held → Type 0
 IsKept old new = OfMessage old (λ d u most bytes. Denotes new d u most bytes)
+
+-- a message is checked by what checked the one before it
+abbrev pub IsCheckedAlike : Option Held → Option Held → Type 0
+IsCheckedAlike old new = (d : Dictionary) (u : Unknown) (most : Levels) → IsCheckedBy old d u most → IsCheckedBy new d u most
+
+-- nothing came yet of the message, which is checked by what checked the one before it
+abbrev pub BeginsAgain : Option Held → Option Held → Type 0
+BeginsAgain old new = (d : Dictionary) (u : Unknown) (most : Levels) → IsCheckedBy old d u most → Denotes new d u most []
 
 -- it is a message to which memory was refused
 abbrev pub IsSpent : Option Held → Type 0

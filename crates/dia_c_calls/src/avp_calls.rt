@@ -3,9 +3,11 @@
 ghost use Rattle.std.specs.Prelude.{◌⊎◌, ◌≡◌, ◌≢◌, ◌≤◌, ◌<◌, IfSome, IsSome, None, length};
 ghost use Rattle.dia_c_calls.specs.Avps.{AreListed};
 ghost use Rattle.dia_c_calls.specs.Held.{dict_in};
+ghost use Rattle.dia_c_calls.specs.HeldOffsets.{AreFoundAt};
 ghost use Rattle.dia_c_calls.specs.Verdicts.{IsNoMessage};
 
 use crate::avp_list::list_avps;
+use crate::avp_path::list_path;
 use crate::avp_records::MessageAvp;
 use crate::handle::{DictHandle, owner_in};
 use crate::listing::Unshown;
@@ -55,5 +57,46 @@ pub fn avps(
             }
             Unshown::NoMemory => NO_MEMORY,
         },
+    }
+}
+
+/// The AVPs of a message that hold the byte at an offset, the outermost first: the groups around an AVP, and the AVP.
+pub fn avps_at(
+    alloc: Global,
+    handle: &mut DictHandle,
+    message: &[u8],
+    offset: usize,
+    avps: &mut [MessageAvp],
+    count: &mut usize,
+    verdict: &mut Verdict,
+) -> u32
+    ensures ends { (result ≡ DONE) ⊎ (result ≡ REFUSED) ⊎ (result ≡ NO_ROOM) ⊎ (result ≡ IS_CLOSED) }
+    ensures kept { handle.new.slot.seal.held ≡ handle.old.slot.seal.held }
+    ensures found { (result ≡ DONE) ⊎ (result ≡ NO_ROOM) → IfSome (dict_in handle.old.slot.seal.held)
+        (λ d. AreFoundAt d message.now offset avps.old avps.new count.new) }
+    ensures refused { result ≡ REFUSED → IsNoMessage message.now verdict.new }
+    ensures fits { result ≡ DONE → count.new ≤ length avps.old }
+    ensures room { result ≡ NO_ROOM → length avps.old < count.new }
+    ensures untouched { (result ≡ REFUSED) ⊎ (result ≡ IS_CLOSED) → avps.new ≡ avps.old }
+    ensures only_count { (result ≡ REFUSED) ⊎ (result ≡ IS_CLOSED) → count.new ≡ count.old }
+    ensures only { result ≢ REFUSED → verdict.new ≡ verdict.old }
+    ensures closed { result ≡ IS_CLOSED → handle.old.slot.seal.held ≡ None }
+    ensures dict_is_open { result ≢ IS_CLOSED → IsSome (dict_in handle.old.slot.seal.held) }
+{
+    let Some(held) = handle.take(alloc) else {
+        return IS_CLOSED;
+    };
+    let room = avps.len();
+    let answer = list_path(&**owner_in(&held), message, offset, avps);
+    handle.put(held);
+    match answer {
+        Ok(found) => {
+            *count = found;
+            if found > room { NO_ROOM } else { DONE }
+        }
+        Err(recorded) => {
+            *verdict = recorded;
+            REFUSED
+        }
     }
 }

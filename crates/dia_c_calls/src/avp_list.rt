@@ -88,7 +88,7 @@ fn list_level<B: Book>(
 }
 
 /// Records an AVP at an index, if there is room for it, and answers whether it is a group that the dictionary has.
-fn list_avp<B: Book>(
+pub fn list_avp<B: Book>(
     book: &B,
     place: usize,
     depth: usize,

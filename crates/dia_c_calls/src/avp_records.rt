@@ -84,7 +84,7 @@ fn number_of(known: Option<Known<'_>>) -> u32
     }
 }
 
-fn format_number(format: FormatName) -> u32
+pub fn format_number(format: FormatName) -> u32
     ensures { result ≡ format_number format }
 {
     match format {

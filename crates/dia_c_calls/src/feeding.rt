@@ -18,19 +18,27 @@ use std::sync::Arc;
 #[derive(Drop)]
 pub struct Feeding {
     owner: Arc<IndexedBook>,
+    unknown: Unknown,
+    levels: Levels,
     paused: Paused,
     ghost fits: { ∥ IsPausedFor (⟦<IndexedBook as Book>⟧.meaning owner.value) paused ∥₁ },
 }
 
 impl Feeding {
-    ghost use Rattle.dia_c_calls.specs.Feedings.{FeedsFor};
+    ghost use Rattle.dia_c_calls.specs.Feedings.{ChecksBy, FeedsFor};
 
     /// A message of which nothing came.
     pub fn new(alloc: Global, owner: Arc<IndexedBook>, unknown: Unknown, levels: Levels) -> Feeding
-        ensures { FeedsFor result (⟦<IndexedBook as Book>⟧.meaning owner.value) unknown levels [] }
+        ensures begins { FeedsFor result (⟦<IndexedBook as Book>⟧.meaning owner.value) unknown levels [] }
+        ensures goes_on { ¬ WasSpent result.paused }
     {
         let paused = begun(alloc, &*owner, unknown, levels);
-        Feeding { owner, paused }
+        Feeding {
+            owner,
+            unknown,
+            levels,
+            paused,
+        }
     }
 
     /// The same with more bytes, and what was done with them.
@@ -47,10 +55,22 @@ impl Feeding {
         ensures spent { (result.1 ≡ Err StreamFault.Spent) ↔ WasSpent self.paused }
         ensures goes_on { OnOk result.1 (¬ WasSpent result.0.paused) }
         ensures err { OnErr result.1 (WasSpent result.0.paused) }
+        ensures alike { (d : Dictionary) (u : AnyPolicy) (most : AnyLevels) → ChecksBy self d u most → ChecksBy result.0 d u most }
     {
-        let Feeding { owner, paused } = self;
+        let Feeding {
+            owner,
+            unknown,
+            levels,
+            paused,
+        } = self;
         let (paused, answer) = fed_to(&*owner, paused, piece);
-        (Feeding { owner, paused }, answer)
+        let after = Feeding {
+            owner,
+            unknown,
+            levels,
+            paused,
+        };
+        (after, answer)
     }
 
     /// The same, and how many levels are open.
@@ -60,10 +80,22 @@ impl Feeding {
         ensures kept { (d : Dictionary) (u : AnyPolicy) (most : AnyLevels) (bytes : List ℕ)
             → FeedsFor self d u most bytes → FeedsFor result.0 d u most bytes }
         ensures spent { WasSpent result.0.paused ↔ WasSpent self.paused }
+        ensures alike { (d : Dictionary) (u : AnyPolicy) (most : AnyLevels) → ChecksBy self d u most → ChecksBy result.0 d u most }
     {
-        let Feeding { owner, paused } = self;
-        let (paused, levels) = levels_of(&*owner, paused);
-        (Feeding { owner, paused }, levels)
+        let Feeding {
+            owner,
+            unknown,
+            levels,
+            paused,
+        } = self;
+        let (paused, count) = levels_of(&*owner, paused);
+        let after = Feeding {
+            owner,
+            unknown,
+            levels,
+            paused,
+        };
+        (after, count)
     }
 
     /// What `check` answers of the bytes that came.
@@ -73,14 +105,34 @@ impl Feeding {
         ensures spent { WasSpent self.paused → result ≡ Err Refusal.Spent }
         ensures memory { result ≢ Err Refusal.NoMemory }
     {
-        let Feeding { owner, paused } = self;
+        let Feeding { owner, paused, .. } = self;
         finish_of(&*owner, paused)
+    }
+
+    /// A message of which nothing came, checked by the same, and what `check` answers of the bytes that came before.
+    pub fn again(self, alloc: Global) -> (Feeding, Result<Selected, Refusal>)
+        ensures begins { (d : Dictionary) (u : AnyPolicy) (most : AnyLevels) → ChecksBy self d u most → FeedsFor result.0 d u most [] }
+        ensures goes_on { ¬ WasSpent result.0.paused }
+        ensures answer { (d : Dictionary) (u : AnyPolicy) (most : AnyLevels) (bytes : List ℕ)
+            → FeedsFor self d u most bytes → IsAnswer d u most bytes result.1 }
+        ensures spent { WasSpent self.paused → result.1 ≡ Err Refusal.Spent }
+        ensures memory { result.1 ≢ Err Refusal.NoMemory }
+    {
+        let Feeding {
+            owner,
+            unknown,
+            levels,
+            paused,
+        } = self;
+        let answer = finish_of(&*owner, paused);
+        (Feeding::new(alloc, owner, unknown, levels), answer)
     }
 }
 
 fn begun<B: Book>(alloc: Global, book: &B, unknown: Unknown, levels: Levels) -> Paused
     ensures paused { HasPaused result (B.meaning book.now) unknown levels [] }
     ensures fits { ∥ IsPausedFor (B.meaning book.now) result ∥₁ }
+    ensures goes_on { ¬ WasSpent result }
 {
     Stream::new(alloc, book, unknown, levels).pause()
 }

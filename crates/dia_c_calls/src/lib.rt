@@ -4,13 +4,18 @@
 
 mod avp_calls;
 mod avp_list;
+mod avp_path;
 mod avp_records;
 mod batch;
 mod batches;
 mod checks;
 mod comparison;
 mod comparisons;
+mod dict_parts;
+mod dict_records;
 mod dictionaries;
+mod explaining;
+mod explanations;
 mod fault_lists;
 mod feeding;
 mod findings;
@@ -44,12 +49,15 @@ mod verdict_words;
 mod wanted;
 mod words;
 
-pub use avp_calls::avps;
+pub use avp_calls::{avps, avps_at};
 pub use avp_records::MessageAvp;
 pub use batches::check_many;
 pub use checks::{check, check_json, message_length};
 pub use comparisons::{compare, table_place};
+pub use dict_parts::{dict_avp, dict_avps, dict_command, dict_commands};
+pub use dict_records::{DictAvp, DictCommand};
 pub use dictionaries::{avp_name, command_name, dict_close, dict_open, dict_open_base, dict_share};
+pub use explanations::explain;
 pub use fault_lists::{faults_close, faults_get, faults_open, line_column};
 pub use handle::{DictHandle, FaultsHandle, PeerHandle, StreamHandle, TextHandle};
 pub use heads::{MessageHead, header};
@@ -67,7 +75,9 @@ pub use status::{
     BAD_ARGUMENT, DONE, IS_CLOSED, IS_OPEN, NO_MEMORY, NO_ROOM, NONE, OUTPUTS_LEFT, REFUSED, SPENT,
     status_numbers,
 };
-pub use streams::{Fed, stream_close, stream_feed, stream_finish, stream_levels, stream_open};
+pub use streams::{
+    Fed, stream_again, stream_close, stream_feed, stream_finish, stream_levels, stream_open,
+};
 pub use text_views::text_view;
 pub use texts::{render, text_close, text_length, text_read};
 pub use upgrades::breaking;

@@ -1,9 +1,9 @@
 //! Messages that come in pieces: opened, fed, asked, finished, closed.
 
 ghost use Rattle.std.specs.Prelude.{◌⊎◌, ◌≡◌, ◌≢◌, ◌↔◌, [], None, IfOk, IfSome, IsSome, Some};
-ghost use Rattle.dia_c_calls.specs.Held.{MayBeStream, Denotes, dict_in};
+ghost use Rattle.dia_c_calls.specs.Held.{MayBeStream, Denotes, IsCheckedBy, dict_in};
 ghost use Rattle.dia_c_calls.specs.Streams.{HasFed, HasFinished, HasLevels, IsKept, IsSpent, OpensIn, DenotesNone};
-ghost use Rattle.dia_c_calls.specs.Streams.{fed_of};
+ghost use Rattle.dia_c_calls.specs.Streams.{BeginsAgain, IsCheckedAlike, fed_of};
 ghost use Rattle.dia_c_calls.specs.Verdicts.{IsUnknownPolicy, limit_of, policy_of};
 
 use crate::feeding::Feeding;
@@ -39,6 +39,8 @@ pub fn stream_open(
     ensures kept_dict { handle.new.slot.seal.held ≡ handle.old.slot.seal.held }
     ensures done { result ≡ DONE → IfSome (dict_in handle.old.slot.seal.held)
         (λ d. Denotes stream.new.slot.seal.held d (policy_of unknown) (limit_of levels) []) }
+    ensures checked_by { result ≡ DONE → IfSome (dict_in handle.old.slot.seal.held)
+        (λ d. IsCheckedBy stream.new.slot.seal.held d (policy_of unknown) (limit_of levels)) }
     ensures kept { result ≢ DONE → stream.new.slot.seal.held ≡ stream.old.slot.seal.held }
     ensures was_closed { result ≢ IS_OPEN → result ≢ BAD_ARGUMENT → stream.old.slot.seal.held ≡ None }
     ensures was_open { result ≡ IS_OPEN → IsSome stream.old.slot.seal.held }
@@ -77,6 +79,8 @@ fn begun(
 ) -> Result<Box<Held>, AllocError>
     ensures occurs { IfOk result (λ held. Denotes (Some held.value)
         (⟦<IndexedBook as Book>⟧.meaning owner.now.value) unknown levels []) }
+    ensures checked_by { IfOk result (λ held. IsCheckedBy (Some held.value)
+        (⟦<IndexedBook as Book>⟧.meaning owner.now.value) unknown levels) }
     ensures is_stream { IfOk result (λ held. ∥ MayBeStream (Some held.value) ∥₁) }
 {
     let other = Arc::try_clone(owner)?;
@@ -93,6 +97,7 @@ pub fn stream_feed(alloc: Global, stream: &mut StreamHandle, piece: &[u8], fed: 
     ensures goes_on { result ≡ DONE → ¬ IsSpent stream.new.slot.seal.held }
     ensures refused { (result ≡ NO_MEMORY) ⊎ (result ≡ SPENT) → IsSpent stream.new.slot.seal.held }
     ensures nothing { result ≡ SPENT → DenotesNone stream.old.slot.seal.held }
+    ensures alike { IsCheckedAlike stream.old.slot.seal.held stream.new.slot.seal.held }
     ensures is_open { result ≢ IS_CLOSED → IsSome stream.new.slot.seal.held }
     ensures only { result ≢ DONE → fed.new ≡ fed.old }
     ensures closed { result ≡ IS_CLOSED → (stream.old.slot.seal.held ≡ None) × (stream.new.slot.seal.held ≡ None) }
@@ -130,6 +135,7 @@ pub fn stream_levels(alloc: Global, stream: &mut StreamHandle, levels: &mut usiz
     ensures ends { (result ≡ DONE) ⊎ (result ≡ IS_CLOSED) }
     ensures done { result ≡ DONE → HasLevels stream.old.slot.seal.held levels.new }
     ensures kept { IsKept stream.old.slot.seal.held stream.new.slot.seal.held }
+    ensures alike { IsCheckedAlike stream.old.slot.seal.held stream.new.slot.seal.held }
     ensures spent { IsSpent stream.new.slot.seal.held ↔ IsSpent stream.old.slot.seal.held }
     ensures only { result ≡ IS_CLOSED → levels.new ≡ levels.old }
     ensures closed { result ≡ IS_CLOSED → (stream.old.slot.seal.held ≡ None) × (stream.new.slot.seal.held ≡ None) }
@@ -160,6 +166,35 @@ pub fn stream_finish(alloc: Global, stream: &mut StreamHandle, verdict: &mut Ver
         return IS_CLOSED;
     };
     match verdict_of(feeding_in(&mut held).finished()) {
+        Ok(recorded) => {
+            *verdict = recorded;
+            DONE
+        }
+        Err(Unrecorded::Spent) => SPENT,
+        Err(Unrecorded::NoMemory) => unreachable!(),
+    }
+}
+
+/// What `diacmd check` says of the bytes that came; and begins the next message, which is checked by the same.
+pub fn stream_again(alloc: Global, stream: &mut StreamHandle, verdict: &mut Verdict) -> u32
+    ensures ends { (result ≡ DONE) ⊎ (result ≡ IS_CLOSED) ⊎ (result ≡ SPENT) }
+    ensures done { result ≡ DONE → HasFinished stream.old.slot.seal.held verdict.new }
+    ensures begins { BeginsAgain stream.old.slot.seal.held stream.new.slot.seal.held }
+    ensures spent { IsSpent stream.old.slot.seal.held → result ≡ SPENT }
+    ensures nothing { result ≡ SPENT → DenotesNone stream.old.slot.seal.held }
+    ensures goes_on { ¬ IsSpent stream.new.slot.seal.held }
+    ensures is_open { result ≢ IS_CLOSED → IsSome stream.new.slot.seal.held }
+    ensures only { result ≢ DONE → verdict.new ≡ verdict.old }
+    ensures closed { result ≡ IS_CLOSED → (stream.old.slot.seal.held ≡ None) × (stream.new.slot.seal.held ≡ None) }
+    ensures was_open { result ≢ IS_CLOSED → IsSome stream.old.slot.seal.held }
+{
+    let Some(mut held) = stream.take(alloc) else {
+        return IS_CLOSED;
+    };
+    let (feeding, answer) = feeding_in(&mut held).again(alloc);
+    Box::replace(&mut held, Held::Stream(feeding));
+    stream.put(held);
+    match verdict_of(answer) {
         Ok(recorded) => {
             *verdict = recorded;
             DONE

@@ -90,6 +90,24 @@ class Checks(unittest.TestCase):
         with self.assertRaises(ValueError):
             book.avps(report(1)[:-1])
 
+    def test_avps_at(self):
+        book = Dictionary("%avp A 1 OctetString any\nB ::= < AVP Header: 2 > *[ A ]")
+        # B at 20 has two A of 8 bytes, at 28 and 36
+        message = bytes.fromhex("0100002c8000012e" + "00" * 12 + "0000000200000018" + "0000000100000008" * 2)
+        self.assertEqual([(avp.offset, avp.depth, avp.name) for avp in book.avps_at(message, 40)], [(20, 0, "B"), (36, 1, "A")])
+        self.assertEqual([avp.length for avp in book.avps_at(message, 20)], [24])
+        self.assertEqual(book.avps_at(message, 19), [])
+        for wrong in (-1, 1 << 64):
+            with self.assertRaises(ValueError):
+                book.avps_at(message, wrong)
+        with self.assertRaises(ValueError):
+            book.avps_at(message[:-1], 20)
+
+    def test_explained(self):
+        self.assertIn("byte 44: ", wittalen.explain(USAGE, report(1, 2, 3)))
+        self.assertEqual(wittalen.explain(USAGE, report(1, 2)), "")
+        self.assertIn("dictionary:1:", wittalen.explain("%avp A", report(1)))
+
     def test_types(self):
         book = Dictionary(USAGE)
         self.assertTrue(book.check(bytearray(report(1))) and book.check(memoryview(report(1))))
@@ -112,6 +130,15 @@ class Checks(unittest.TestCase):
                     found.append(str(stream.finish()))
                     stream = book.stream()
         self.assertEqual(found, ["valid Report", "fault 5009 at 44 too-many Usage"])
+
+    def test_stream_again(self):
+        stream = Dictionary(USAGE).stream(levels=0)
+        for message, line in ((report(1), "valid Report"), (report(1, 2, 3), "fault 5009 at 44 too-many Usage")) * 2:
+            self.assertEqual((stream.feed(message + b"\1"), stream.done), (b"\1", True))
+            self.assertEqual((str(stream.again()), stream.done), (line, False))
+        self.assertEqual(str(stream.finish()), "truncated")
+        with self.assertRaises(ValueError):
+            stream.again()
 
     def test_split(self):
         self.assertEqual([len(message) for message in wittalen.split(report(1) + report(1, 2, 3) + b"\1\0")], [32, 56, 2])
@@ -171,6 +198,26 @@ class Dictionaries(unittest.TestCase):
             first.write_text("%avp Usage 9002 Unsigned32 any ; a comment")
             second.write_text("<Report> ::= < Diameter Header: 302, REQ > { Usage }")
             self.assertTrue(Dictionary.open(first, second).check(report(1)))
+
+    def test_parts(self):
+        book = Dictionary(USAGE + "\n%avp B 3 vendor 10415 Grouped must\nB ::= < AVP Header: 3 10415 > *[ Usage ]")
+        self.assertEqual(
+            book.commands(), [wittalen.Command("Report", 302, wittalen.Class.REQUEST, wittalen.Flag.CLEAR, None)]
+        )
+        self.assertEqual(
+            book.entries(),
+            [
+                wittalen.Entry("Usage", 9002, 0, "Unsigned32", wittalen.Flag.EITHER),
+                wittalen.Entry("B", 3, 10415, "Grouped", wittalen.Flag.SET),
+            ],
+        )
+        errors = [command for command in Dictionary().commands() if command.kind is wittalen.Class.ERROR]
+        # RFC 6733 section 7.2
+        self.assertEqual(errors, [wittalen.Command("answer-message", None, wittalen.Class.ERROR, wittalen.Flag.EITHER, None)])
+        book.close()
+        for ask in (book.commands, book.entries):
+            with self.assertRaises(ValueError):
+                ask()
 
     def test_many_faults(self):
         faults = wittalen.faults("".join(f"%avp A {number} Time any ; \u00e4\n" for number in range(16_000)))
@@ -305,7 +352,7 @@ class Numbers(unittest.TestCase):
     def test_enums(self):
         firsts = {
             Outcome: "DIA_VALID", Sends: "DIA_SENDS_ANY", Role: "DIA_INITIATOR", State: "DIA_STATE_IDLE", Why: "DIA_WHY_INVALID",
-            Timer: "DIA_TIMER_OFF",
+            Timer: "DIA_TIMER_OFF", wittalen.Class: "DIA_CLASS_REQUEST", wittalen.Flag: "DIA_PROXY_CLEAR",
         }  # fmt: skip
         for enum, first in firsts.items():
             self.assertEqual({member.name: member.value for member in enum}, self.numbers(first))

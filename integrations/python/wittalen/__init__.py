@@ -9,14 +9,15 @@
 Several threads may use one object where Python has its global lock; of a Peer, one at a time."""
 
 from .dictionaries import (
-    Answer, Avp, Dictionary, DictionaryError, Fault, Form, Outcome, Stream, Verdict, faults, message_length, render, split,
+    Answer, Avp, Class, Command, Dictionary, DictionaryError, Entry, Fault, Flag, Form, Outcome, Stream, Verdict, explain, faults,
+    message_length, render, split,
 )  # fmt: skip
 from .peers import RELAY, Application, Cause, Output, Peer, Role, State, Timer, Why
 from .upgrades import Comparison, InputError, Sends, Upgrade, breaking, compare
 
 __all__ = [
-    "RELAY", "Answer", "Application", "Avp", "Cause", "Comparison", "Dictionary", "DictionaryError", "Fault", "Form",
-    "InputError", "Outcome", "Output",
-    "Peer", "Role", "Sends", "State", "Stream", "Timer", "Upgrade", "Verdict", "Why", "breaking", "compare", "faults",
+    "RELAY", "Answer", "Application", "Avp", "Cause", "Class", "Command", "Comparison", "Dictionary", "DictionaryError", "Entry",
+    "Fault", "Flag", "Form", "InputError", "Outcome", "Output",
+    "Peer", "Role", "Sends", "State", "Stream", "Timer", "Upgrade", "Verdict", "Why", "breaking", "compare", "explain", "faults",
     "message_length", "render", "split",
 ]  # fmt: skip

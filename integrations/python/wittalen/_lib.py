@@ -62,6 +62,22 @@ class RawAvp(c.Structure):
     )
 
 
+class RawCommand(c.Structure):
+    _fields_ = (
+        [("name_count", c.c_size_t)]
+        + [(name, c.c_uint32) for name in ("command", "code", "kind", "proxy", "has_app", "app")]
+        + [("name", c.c_uint8 * MAX_NAME)]
+    )
+
+
+class RawEntry(c.Structure):
+    _fields_ = (
+        [("name_count", c.c_size_t)]
+        + [(name, c.c_uint32) for name in ("code", "vendor", "format", "mandatory")]
+        + [("name", c.c_uint8 * MAX_NAME)]
+    )
+
+
 H, U, S, B = c.POINTER(Handle), c.c_uint32, c.c_size_t, c.c_char_p
 NUMBER, SIZE, PROBLEM, VERDICT = c.POINTER(U), c.POINTER(S), c.POINTER(Problem), c.POINTER(RawVerdict)
 CALLS: dict[str, tuple[Any, ...]] = {
@@ -74,6 +90,10 @@ CALLS: dict[str, tuple[Any, ...]] = {
     "faults_get": (H, S, c.POINTER(RawFault)),
     "faults_close": (H,),
     "line_column": (B, S, S, SIZE, SIZE),
+    "dict_commands": (H, SIZE),
+    "dict_command": (H, S, c.POINTER(RawCommand)),
+    "dict_avps": (H, SIZE),
+    "dict_avp": (H, S, c.POINTER(RawEntry)),
     "command_name": (H, U, B, S, SIZE),
     "avp_name": (H, U, U, B, S, SIZE),
     "check": (H, U, U, B, S, VERDICT),
@@ -82,9 +102,11 @@ CALLS: dict[str, tuple[Any, ...]] = {
     "message_length": (B, S, NUMBER, VERDICT),
     "answer": (H, U, U, B, S, B, S, B, S, H, NUMBER, VERDICT),
     "avps": (H, B, S, c.POINTER(RawAvp), S, SIZE, SIZE, VERDICT),
+    "avps_at": (H, B, S, S, c.POINTER(RawAvp), S, SIZE, VERDICT),
     "stream_open": (H, U, U, H),
     "stream_feed": (H, B, S, c.POINTER(Fed)),
     "stream_finish": (H, VERDICT),
+    "stream_again": (H, VERDICT),
     "stream_close": (H,),
     "render": (B, S, H, PROBLEM),
     "show": (H, B, S, H, NUMBER, VERDICT),
@@ -102,7 +124,10 @@ CALLS: dict[str, tuple[Any, ...]] = {
     "peer_timer": (U, U, U, NUMBER),
     "peer_close": (H,),
 }
-CALLS_OF_BREAKING: dict[str, tuple[Any, ...]] = {"breaking": (H, H, U, U, U, B, S, B, S, H, NUMBER, PROBLEM)}
+CALLS_OF_BREAKING: dict[str, tuple[Any, ...]] = {
+    "breaking": (H, H, U, U, U, B, S, B, S, H, NUMBER, PROBLEM),
+    "explain": (B, S, U, U, B, S, H),
+}
 
 
 def path_of(name: str) -> str:

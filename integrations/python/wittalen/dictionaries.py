@@ -93,6 +93,41 @@ class Avp:
     data: bytes
 
 
+class Class(IntEnum):
+    """The class of the messages of a command (RFC 6733 section 3)."""
+
+    REQUEST, ANSWER, ERROR = range(3)
+
+
+class Flag(IntEnum):
+    """What a flag may be."""
+
+    CLEAR, SET, EITHER = range(3)
+
+
+@dataclass(frozen=True)
+class Command:
+    """A command of a dictionary (RFC 6733 section 3.2). `proxiable` is what its P flag may be. `code` is None for the error messages of
+    all commands, and `application` where it is of all that no other command of its code and class names."""
+
+    name: str
+    code: Optional[int]
+    kind: Class
+    proxiable: Flag
+    application: Optional[int]
+
+
+@dataclass(frozen=True)
+class Entry:
+    """An AVP of a dictionary. Without a Vendor-ID `vendor` is 0. `mandatory` is what its M flag may be."""
+
+    name: str
+    code: int
+    vendor: int
+    format: str
+    mandatory: Flag
+
+
 @dataclass(frozen=True)
 class Fault:
     """A fault of a dictionary's text. Lines and columns count from 1; they are None where the whole text is at fault."""
@@ -155,6 +190,26 @@ class Dictionary(Owner):
         require(lib.dia_dict_share(self._handle, other._handle))
         return other
 
+    def commands(self) -> list[Command]:
+        """The commands, in the dictionary's order."""
+        count, raw = c.c_size_t(), _lib.RawCommand()
+        require(lib.dia_dict_commands(self._handle, count))
+        found = []
+        for index in range(count.value):
+            require(lib.dia_dict_command(self._handle, index, raw))
+            found.append(command_of(raw))
+        return found
+
+    def entries(self) -> list[Entry]:
+        """The AVPs that the dictionary has: those that are declared, in their order, and then groups without a declaration."""
+        count, raw = c.c_size_t(), _lib.RawEntry()
+        require(lib.dia_dict_avps(self._handle, count))
+        found = []
+        for index in range(count.value):
+            require(lib.dia_dict_avp(self._handle, index, raw))
+            found.append(entry_of(raw))
+        return found
+
     def check(self, message: bytes, *, refuse_unknown: bool = False, levels: Optional[int] = None) -> Verdict:
         """Checks one message. With `refuse_unknown` an AVP that the dictionary doesn't have is a fault, also with the M bit
         clear; `levels` is how many grouped AVPs may be open in one another (None: any number)."""
@@ -212,6 +267,23 @@ class Dictionary(Owner):
         require(status)
         return [avp_of(avp, data) for avp in found[: count.value]]
 
+    def avps_at(self, message: bytes, offset: int) -> list[Avp]:
+        """The AVPs that hold the byte at an offset, the outermost first: of a fault's offset the groups around its AVP, and this AVP.
+        Raises ValueError as `avps`."""
+        count, raw, data, room = c.c_size_t(), RawVerdict(), octets(message), 16
+        if not 0 <= offset < 1 << 64:
+            raise ValueError(f"offset: {offset} isn't one")
+        while True:
+            found = (_lib.RawAvp * room)()
+            status = lib.dia_avps_at(self._handle, data, len(data), offset, found, room, count, raw)
+            if status != _lib.NO_ROOM:
+                break
+            room = count.value
+        if status == _lib.REFUSED:
+            raise ValueError(str(self._verdict(raw)))
+        require(status)
+        return [avp_of(avp, data) for avp in found[: count.value]]
+
     def show(self, message: bytes) -> str:
         """The lines that `diacmd show` writes, with the dictionary's names. Raises ValueError where the bytes have no message's
         header and length."""
@@ -250,7 +322,8 @@ class Dictionary(Owner):
 
 
 class Stream(Owner):
-    """One message that comes in pieces. `done` is whether it takes no more bytes. The dictionary may be closed meanwhile."""
+    """A message that comes in pieces, and after `again` the next one. `done` is whether it takes no more bytes. The dictionary may be
+    closed meanwhile."""
 
     _closing = "dia_stream_close"
 
@@ -270,6 +343,12 @@ class Stream(Owner):
         """The verdict on all bytes that came. It closes the stream."""
         raw = RawVerdict()
         require(lib.dia_stream_finish(self._handle, raw))
+        return self._dictionary._verdict(raw)
+
+    def again(self) -> Verdict:
+        """The verdict on all bytes that came. The stream stays open for the next message, also after MemoryError."""
+        raw, self.done = RawVerdict(), False
+        require(lib.dia_stream_again(self._handle, raw))
         return self._dictionary._verdict(raw)
 
 
@@ -299,6 +378,17 @@ def render(text: Union[str, bytes]) -> str:
     return rendered.read()
 
 
+def explain(
+    text: Union[str, bytes], message: bytes, *, refuse_unknown: bool = False, levels: Optional[int] = None
+) -> str:
+    """What `diacmd check` writes on standard error for a message, with the dictionary of this text: for people. It is empty for a valid
+    message. The options are those of `check`."""
+    data, octets_of, note = text_octets(text), octets(message), Text()
+    policy = bool(refuse_unknown), levels_of(levels)
+    require(_lib.lib_breaking().dia_explain(data, len(data), *policy, octets_of, len(octets_of), note._handle))
+    return note.read()
+
+
 def message_length(header: bytes) -> Optional[int]:
     """How many bytes the message has that begins with these, at least 20 (RFC 6733 section 3); None where no message begins so."""
     length, data = c.c_uint32(), octets(header)
@@ -326,6 +416,21 @@ def avp_of(raw: _lib.RawAvp, data: bytes) -> Avp:
     format_of = FORMATS[raw.format - 1] if raw.format else None
     octets_of = data[raw.data_place : raw.data_place + raw.data_length]
     return Avp(raw.place, raw.depth, raw.length, raw.code, raw.vendor, raw.flags, name, format_of, octets_of)
+
+
+def name_in(raw: Union[_lib.RawCommand, _lib.RawEntry]) -> str:
+    return bytes(raw.name[: raw.name_count]).decode()
+
+
+def command_of(raw: _lib.RawCommand) -> Command:
+    kind = Class(raw.kind)
+    code, application = None if kind is Class.ERROR else raw.code, raw.app if raw.has_app else None
+    return Command(name_in(raw), code, kind, Flag(raw.proxy), application)
+
+
+def entry_of(raw: _lib.RawEntry) -> Entry:
+    flags = (Flag.EITHER, Flag.SET, Flag.CLEAR)
+    return Entry(name_in(raw), raw.code, raw.vendor, FORMATS[raw.format - 1], flags[raw.mandatory])
 
 
 def kind_of(number: int) -> str:
