@@ -72,6 +72,7 @@ module _ (asked : Asked) (inputs : Inputs) (a b : Dictionary) (texts : PlainText
 
       -- all were written, and it is known what stands behind them
       pub all_answered : (r : Result Listed RunFault) → Ends asked.stale (names_of asked) inputs.table a listed mid new r → Answers asked inputs a b texts old new r
+      unfolding whole
       all_answered (Ok ended) (same, ending, is_ending, more) =
           subst (λ (l : Listed). Answers asked inputs a b texts old new (Ok l)) (sym same) (text ++ ending, whole ending is_ending, refl, Appends-trans old mid new text ending put more)
       all_answered (Err Device) (ending, is_ending, front) =
