@@ -85,7 +85,7 @@ def is_told(command, said):
     if "junit" in command:
         suite = ElementTree.fromstring(said)
         return suite.get("errors") == "1" and len(suite.findall("testcase/error")) == 1
-    return said.startswith("::error::") if "annotations" in command else True
+    return any(line.startswith("::error::") for line in said.splitlines()) if "annotations" in command else True
 
 
 def fails(command, room, title, report):
