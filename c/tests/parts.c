@@ -71,9 +71,9 @@ static void entries_are_delivered(void) {
         EXPECT(avp.mandatory == wanted[i].mandatory);
     }
     dia_dict_close(&dict);
-    /* Vendor-Id is the first of the text, must (RFC 6733 section 4.5), and no dictionary at all has none */
+    /* User-Name is the first AVP of the base dictionary (code 1, RFC 6733 section 8.14); an empty dictionary has none */
     EXPECT(dia_dict_open_base(&dict) == DIA_OK && dia_dict_avp(&dict, 0, &avp) == DIA_OK);
-    EXPECT(avp.code == 266 && avp.mandatory == DIA_MANDATORY_MUST && is_named(avp.name, avp.name_count, "Vendor-Id"));
+    EXPECT(avp.code == 1 && avp.mandatory == DIA_MANDATORY_ANY && is_named(avp.name, avp.name_count, "User-Name"));
     dia_dict_close(&dict);
     EXPECT(dia_dict_open(NULL, 0, &dict, &problem) == DIA_OK && dia_dict_avps(&dict, &count) == DIA_OK && count == 0);
     EXPECT(dia_dict_commands(&dict, &count) == DIA_OK && count == 0);
