@@ -59,6 +59,7 @@ use Rattle.dia_peer.specs.Messages.{
   Refusal,
   Dwa,
   Dpa,
+  WatchdogError,
   Other,
   avp,
   avp32,
@@ -119,9 +120,8 @@ is_request b ids vs (Cea ids' result apps) g x = absurd (good_request b 257 257 
 is_request b ids vs (Refusal ids') g x = absurd (good_request b 257 257 false true ids ids' vs x.0 g x.1)
 is_request b ids vs (Dwa ids') g x = absurd (omega (arith, good_code b 257 280 true false false false ids ids' vs x.0 g x.1))
 is_request b ids vs (Dpa ids') g x = absurd (omega (arith, good_code b 257 282 true false false false ids ids' vs x.0 g x.1))
-is_request b ids vs Other g (code, ids', ws, is, k) =
-    let same = good_code b 257 code true false false true ids ids' vs ws g k in
-    absurd (⊎_elim (λ l. omega (arith, same, l)) (λ r. omega (arith, same, r)) is)
+is_request b ids vs (WatchdogError ids') g x = absurd (omega (arith, good_code b 257 280 true false false true ids ids' vs x.0 g x.1))
+is_request b ids vs Other g (ids', ws, k) = absurd (omega (arith, good_code b 257 282 true false false true ids ids' vs ws g k))
 
 -- ---- the result of a CEA
 

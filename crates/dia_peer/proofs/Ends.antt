@@ -13,11 +13,12 @@ use Rattle.dia_peer.specs.declared.event.State.TheVariants.{Open}
 use Rattle.dia_peer.specs.Core.{PlainConfig, IsConfig, PlainCore, PlainTaken, Pair, pair_of, common_by, common_of, relays}
 use Rattle.dia_peer.specs.Messages.{Received, Cer, Cea, cea, IsGood, IsReceived}
 use Rattle.dia_peer.specs.Table.{Happening, Starts, Gets, Ticks, Stops, Breaks, Deed, Sends, Closes, Outcome, nothing, same_bytes, repeated, only_responder, happens_in, happens, without_next}
-use Rattle.dia_peer.specs.World.{End, World, Event, Start, Tick, Stop, Lose, TakeIds, Deliver, AreBytes, AreSpelled, Goes, HappensAt, Happens, Run, start, AreShared, IsCommon, HoldsShared, HoldSame, IsPastOpen, RepeatsAnswer, Agrees}
+use Rattle.dia_peer.specs.Life.{heard, noticed, hears, lives}
+use Rattle.dia_peer.specs.World.{End, World, Event, Start, Tick, Stop, Lose, TakeIds, Hear, Deliver, AreBytes, AreSpelled, Goes, HappensAt, Happens, Run, start, AreShared, IsCommon, HoldsShared, HoldSame, IsPastOpen, RepeatsAnswer, Agrees}
 use Rattle.dia_peer.proofs.Sets.{IsIn, to_in, of_in, in_cases, in_left, in_right, eq_self}
 use Rattle.dia_peer.proofs.Commons.{relays_same, common_is, common_turns}
 use Rattle.dia_peer.proofs.SpelledMessages.{one_writing}
-use Rattle.dia_peer.proofs.Moves.{Suits, may_later, AllMay, Opened, stays, by_answer, by_request, Moves, moves}
+use Rattle.dia_peer.proofs.Moves.{Suits, may_later, AllMay, Opened, stays, by_answer, by_request, Moves, lived}
 use Rattle.dia_peer.proofs.Delivered.{IsSentBy, is_request, received_cer, received_cea}
 
 abbrev Numbers : PlainConfig → Type 0
@@ -50,23 +51,23 @@ sent_now role c state (Sends s ∷ deeds) messages (b, rest, e, are, message, mo
     by (inl same) later = record { m = s; may = may.0; are_bytes = subst AreBytes same are; message = subst (MessageWithZeros s.header s.avps) same message }
     by (inr k) later = later k
 
-moved : (role : Role) (c : PlainConfig) (manner : Manner) (old : End) (h : Happening) → IsEnd role c manner old → Moves old.core h (happens old.core h)
-moved role c manner old h e = moves old.core h (subst (λ r. Suits r old.core.state) (sym e.role_is) e.suits)
+moved : (role : Role) (c : PlainConfig) (manner : Manner) (old : End) (h : Happening) → IsEnd role c manner old → Moves old.core h (lives old.core h)
+moved role c manner old h e = lived old.core h (subst (λ r. Suits r old.core.state) (sym e.role_is) e.suits)
 
-end_goes : (role : Role) (c : PlainConfig) (manner : Manner) (old : End) (h : Happening) (messages : List (List ℕ)) → IsEnd role c manner old → AreSpelled (happens old.core h).deeds messages
-    → IsEnd role c manner (record { core = (happens old.core h).core; sent = old.sent ++ messages })
+end_goes : (role : Role) (c : PlainConfig) (manner : Manner) (old : End) (h : Happening) (messages : List (List ℕ)) → IsEnd role c manner old → AreSpelled (lives old.core h).deeds messages
+    → IsEnd role c manner (record { core = (lives old.core h).core; sent = old.sent ++ messages })
 end_goes role c manner old h messages e is =
     let m = moved role c manner old h e in
-    let may : AllMay role c (happens old.core h).core.state (happens old.core h).deeds =
-    subst (λ r. AllMay r c (happens old.core h).core.state (happens old.core h).deeds) e.role_is
-    (subst (λ k. AllMay old.core.role k (happens old.core h).core.state (happens old.core h).deeds) e.config m.sends) in
+    let may : AllMay role c (lives old.core h).core.state (lives old.core h).deeds =
+    subst (λ r. AllMay r c (lives old.core h).core.state (lives old.core h).deeds) e.role_is
+    (subst (λ k. AllMay old.core.role k (lives old.core h).core.state (lives old.core h).deeds) e.config m.sends) in
     record {
       config = m.config ∙ e.config;
       role_is = m.role ∙ e.role_is;
       manner_is = m.manner ∙ e.manner_is;
-      suits = subst (λ r. Suits r (happens old.core h).core.state) e.role_is m.suits;
-      sent = λ bytes k. ⊎_elim (λ l. sent_later role c old.core.state (happens old.core h).core.state bytes m.past (e.sent bytes l))
-          (λ r. sent_now role c (happens old.core h).core.state (happens old.core h).deeds messages is may bytes r) (in_cases old.sent messages bytes k);
+      suits = subst (λ r. Suits r (lives old.core h).core.state) e.role_is m.suits;
+      sent = λ bytes k. ⊎_elim (λ l. sent_later role c old.core.state (lives old.core h).core.state bytes m.past (e.sent bytes l))
+          (λ r. sent_now role c (lives old.core h).core.state (lives old.core h).deeds messages is may bytes r) (in_cases old.sent messages bytes k);
     }
 
 -- ---- what comes was sent
@@ -91,11 +92,15 @@ record Went (old other new : End) : Type 0 where
   h : Happening
   messages : List (List ℕ)
   from : IsFrom other h
-  spelled : AreSpelled (happens old.core h).deeds messages
-  is : new ≡ record { core = (happens old.core h).core; sent = old.sent ++ messages }
+  spelled : AreSpelled (lives old.core h).deeds messages
+  is : new ≡ record { core = (lives old.core h).core; sent = old.sent ++ messages }
 
-abbrev taken_from : End → End
-taken_from old = record { core = without_next old.core; sent = old.sent }
+-- identifiers of an end are taken, or it hears of the other
+abbrev beside : End → Ids → Bool → End
+beside old next suspect = record { core = record old.core { next = next; suspect = suspect }; sent = old.sent }
+
+abbrev IsBeside : End → End → Type 0
+IsBeside old new = (next : Ids) × (suspect : Bool) × (new ≡ beside old next suspect)
 
 by_itself : (old other new : End) (h : Happening) → what_of h ≡ None → Goes old h new → Went old other new
 by_itself old other new h none g = record { h = h; messages = g.0; from = λ what e. absurd (none-some what (sym none ∙ ap what_of e)); spelled = g.1; is = g.2 }
@@ -109,13 +114,14 @@ delivered old other new k bytes what at received g = record {
   is = g.2;
 }
 
--- an event at an end, or identifiers of it are taken
-went : (old other : End) (e : Event) (new : End) → HappensAt old other e new → Went old other new ⊎ (new ≡ taken_from old)
+-- an event at an end, or a call beside the table
+went : (old other : End) (e : Event) (new : End) → HappensAt old other e new → Went old other new ⊎ IsBeside old new
 went old other Start new g = inl (by_itself old other new Starts refl g)
 went old other Tick new g = inl (by_itself old other new Ticks refl g)
 went old other (Stop cause) new g = inl (by_itself old other new (Stops cause) refl g)
 went old other Lose new g = inl (by_itself old other new Breaks refl g)
-went old other TakeIds new e = inr e
+went old other TakeIds new e = inr ((without_next old.core).next, old.core.suspect, e)
+went old other Hear new e = inr (old.core.next, false, e)
 went old other (Deliver k) new (bytes, what, at, received, g) = inl (delivered old other new k bytes what at received g)
 
 -- ---- both ends
@@ -158,7 +164,7 @@ roles_differ : (r : Role) → r ≡ Initiator → r ≡ Responder → ⊥
 roles_differ r e f = let g : Initiator ≡ Responder = sym e ∙ f in absurd cc
 
 abbrev made : End → Happening → List (List ℕ) → End
-made old h messages = record { core = (happens old.core h).core; sent = old.sent ++ messages }
+made old h messages = record { core = (lives old.core h).core; sent = old.sent ++ messages }
 
 module _ (a : PlainConfig) (m : Manner) (b : PlainConfig) (n : Manner) (an : Numbers a) (bn : Numbers b) where
   begins : Holds a m b n (start a m b n)
@@ -170,8 +176,8 @@ module _ (a : PlainConfig) (m : Manner) (b : PlainConfig) (n : Manner) (an : Num
   }
 
   -- the initiator opens by a CEA of a responder that has opened
-  initiator_opens : (w : World) (h : Happening) → Holds a m b n w → IsFrom w.responder h → Opened w.initiator.core h (happens w.initiator.core h)
-      → IsShared m a b (happens w.initiator.core h).core.common × (0 < length (happens w.initiator.core h).core.common) × IsPastOpen w.responder.core.state
+  initiator_opens : (w : World) (h : Happening) → Holds a m b n w → IsFrom w.responder h → Opened w.initiator.core h (lives w.initiator.core h)
+      → IsShared m a b (lives w.initiator.core h).core.common × (0 < length (lives w.initiator.core h).core.common) × IsPastOpen w.responder.core.state
   initiator_opens w h hold from (stays e common taken) =
       subst (λ (x : List Pair). IsShared m a b x × (0 < length x) × IsPastOpen w.responder.core.state) (sym common) (hold.i_open e)
   initiator_opens w h hold from (by_request ids bytes apps role is common some taken deeds) = absurd (roles_differ w.initiator.core.role hold.i.role_is role)
@@ -182,9 +188,9 @@ module _ (a : PlainConfig) (m : Manner) (b : PlainConfig) (n : Manner) (an : Num
       (shared_common m a b apps _ says.2 (sym config ∙ common), some, says.1)
 
   -- the responder opens by a CER of the initiator, and answers it
-  responder_opens : (w : World) (h : Happening) (messages : List (List ℕ)) → Holds a m b n w → IsFrom w.initiator h → AreSpelled (happens w.responder.core h).deeds messages
-      → Opened w.responder.core h (happens w.responder.core h)
-      → IsShared n a b (happens w.responder.core h).core.common × (0 < length (happens w.responder.core h).core.common) × Took b (made w.responder h messages)
+  responder_opens : (w : World) (h : Happening) (messages : List (List ℕ)) → Holds a m b n w → IsFrom w.initiator h → AreSpelled (lives w.responder.core h).deeds messages
+      → Opened w.responder.core h (lives w.responder.core h)
+      → IsShared n a b (lives w.responder.core h).core.common × (0 < length (lives w.responder.core h).core.common) × Took b (made w.responder h messages)
   responder_opens w h messages hold from spelled (stays e common taken) =
       let old = hold.r_open e in let t = old.2 in (
         subst (IsShared n a b) (sym common) old.0,
@@ -207,7 +213,7 @@ module _ (a : PlainConfig) (m : Manner) (b : PlainConfig) (n : Manner) (an : Num
       let says = received_cer a an bytes Initiator w.initiator.core.state ids same apps (hold.i.sent bytes at) received in
       let config : common_of w.responder.core.manner w.responder.core.config apps ≡ common_of n b apps = λ i. common_of (hold.r.manner_is i) (hold.r.config i) apps in
       let (answer, rest, is_sent, are_bytes, message, none) = subst (λ (d : List Deed). AreSpelled d messages) deeds spelled in (
-        turned n a b (happens w.responder.core h).core.common (shared_common n b a apps _ says.1 (sym config ∙ common)),
+        turned n a b (lives w.responder.core h).core.common (shared_common n b a apps _ says.1 (sym config ∙ common)),
         some,
         record {
           taken = record { bytes = same; ids = ids };
@@ -222,7 +228,7 @@ module _ (a : PlainConfig) (m : Manner) (b : PlainConfig) (n : Manner) (an : Num
         },
       )
 
-  initiator_goes : (w : World) (h : Happening) (messages : List (List ℕ)) → Holds a m b n w → IsFrom w.responder h → AreSpelled (happens w.initiator.core h).deeds messages
+  initiator_goes : (w : World) (h : Happening) (messages : List (List ℕ)) → Holds a m b n w → IsFrom w.responder h → AreSpelled (lives w.initiator.core h).deeds messages
       → Holds a m b n (record { initiator = made w.initiator h messages; responder = w.responder })
   initiator_goes w h messages hold from spelled = record {
     i = end_goes Initiator a m w.initiator h messages hold.i spelled;
@@ -231,7 +237,7 @@ module _ (a : PlainConfig) (m : Manner) (b : PlainConfig) (n : Manner) (an : Num
     r_open = hold.r_open;
   }
 
-  responder_goes : (w : World) (h : Happening) (messages : List (List ℕ)) → Holds a m b n w → IsFrom w.initiator h → AreSpelled (happens w.responder.core h).deeds messages
+  responder_goes : (w : World) (h : Happening) (messages : List (List ℕ)) → Holds a m b n w → IsFrom w.initiator h → AreSpelled (lives w.responder.core h).deeds messages
       → Holds a m b n (record { initiator = w.initiator; responder = made w.responder h messages })
   responder_goes w h messages hold from spelled = record {
     i = hold.i;
@@ -240,12 +246,12 @@ module _ (a : PlainConfig) (m : Manner) (b : PlainConfig) (n : Manner) (an : Num
     r_open = λ e. responder_opens w h messages hold from spelled ((moved Responder b n w.responder h hold.r).opened e);
   }
 
-  -- whose identifiers are taken has sent the same, in the same state
-  end_taken : (role : Role) (c : PlainConfig) (manner : Manner) (e : End) → IsEnd role c manner e → IsEnd role c manner (taken_from e)
-  end_taken role c manner e h = record { config = h.config; role_is = h.role_is; manner_is = h.manner_is; suits = h.suits; sent = h.sent }
+  -- beside the table an end has sent the same, in the same state
+  end_beside : (role : Role) (c : PlainConfig) (manner : Manner) (e : End) (next : Ids) (suspect : Bool) → IsEnd role c manner e → IsEnd role c manner (beside e next suspect)
+  end_beside role c manner e next suspect h = record { config = h.config; role_is = h.role_is; manner_is = h.manner_is; suits = h.suits; sent = h.sent }
 
-  took_taken : (e : End) → Took b e → Took b (taken_from e)
-  took_taken e t = record {
+  took_beside : (e : End) (next : Ids) (suspect : Bool) → Took b e → Took b (beside e next suspect)
+  took_beside e next suspect t = record {
     taken = t.taken;
     is_taken = t.is_taken;
     answer = t.answer;
@@ -257,28 +263,30 @@ module _ (a : PlainConfig) (m : Manner) (b : PlainConfig) (n : Manner) (an : Num
     good = t.good;
   }
 
-  initiator_taken : (w : World) → Holds a m b n w → Holds a m b n (record { initiator = taken_from w.initiator; responder = w.responder })
-  initiator_taken w hold = record { i = end_taken Initiator a m w.initiator hold.i; r = hold.r; i_open = hold.i_open; r_open = hold.r_open }
+  initiator_beside : (w : World) (next : Ids) (suspect : Bool) → Holds a m b n w → Holds a m b n (record { initiator = beside w.initiator next suspect; responder = w.responder })
+  initiator_beside w next suspect hold = record { i = end_beside Initiator a m w.initiator next suspect hold.i; r = hold.r; i_open = hold.i_open; r_open = hold.r_open }
 
-  responder_taken : (w : World) → Holds a m b n w → Holds a m b n (record { initiator = w.initiator; responder = taken_from w.responder })
-  responder_taken w hold = record {
+  responder_beside : (w : World) (next : Ids) (suspect : Bool) → Holds a m b n w → Holds a m b n (record { initiator = w.initiator; responder = beside w.responder next suspect })
+  responder_beside w next suspect hold = record {
     i = hold.i;
-    r = end_taken Responder b n w.responder hold.r;
+    r = end_beside Responder b n w.responder next suspect hold.r;
     i_open = hold.i_open;
-    r_open = λ e. (let o = hold.r_open e in (o.0, o.1, took_taken w.responder o.2));
+    r_open = λ e. (let o = hold.r_open e in (o.0, o.1, took_beside w.responder next suspect o.2));
   }
 
-  initiator_at : (w : World) (new : End) → Holds a m b n w → Went w.initiator w.responder new ⊎ (new ≡ taken_from w.initiator)
+  initiator_at : (w : World) (new : End) → Holds a m b n w → Went w.initiator w.responder new ⊎ IsBeside w.initiator new
       → Holds a m b n (record { initiator = new; responder = w.responder })
   initiator_at w new hold (inl g) =
       subst (λ (x : End). Holds a m b n (record { initiator = x; responder = w.responder })) (sym g.is) (initiator_goes w g.h g.messages hold g.from g.spelled)
-  initiator_at w new hold (inr is) = subst (λ (x : End). Holds a m b n (record { initiator = x; responder = w.responder })) (sym is) (initiator_taken w hold)
+  initiator_at w new hold (inr (next, suspect, is)) =
+      subst (λ (x : End). Holds a m b n (record { initiator = x; responder = w.responder })) (sym is) (initiator_beside w next suspect hold)
 
-  responder_at : (w : World) (new : End) → Holds a m b n w → Went w.responder w.initiator new ⊎ (new ≡ taken_from w.responder)
+  responder_at : (w : World) (new : End) → Holds a m b n w → Went w.responder w.initiator new ⊎ IsBeside w.responder new
       → Holds a m b n (record { initiator = w.initiator; responder = new })
   responder_at w new hold (inl g) =
       subst (λ (x : End). Holds a m b n (record { initiator = w.initiator; responder = x })) (sym g.is) (responder_goes w g.h g.messages hold g.from g.spelled)
-  responder_at w new hold (inr is) = subst (λ (x : End). Holds a m b n (record { initiator = w.initiator; responder = x })) (sym is) (responder_taken w hold)
+  responder_at w new hold (inr (next, suspect, is)) =
+      subst (λ (x : End). Holds a m b n (record { initiator = w.initiator; responder = x })) (sym is) (responder_beside w next suspect hold)
 
   goes : (w : World) (role : Role) (e : Event) (v : World) → Holds a m b n w → Happens w role e v → Holds a m b n v
   goes w Initiator e v hold (at, same) =
@@ -305,12 +313,22 @@ abbrev says_again : PlainCore → PlainTaken → Outcome
 says_again c taken = record { core = c; deeds = Sends (cea c.config taken.ids 2001) ∷ [] }
 
 again_is : (c : PlainCore) (taken : PlainTaken) (ids : Ids) (apps : List Pair) → c.state ≡ Open → c.role ≡ Responder → c.taken ≡ Some taken
-    → happens c (Gets (Cer ids taken.bytes apps)) ≡ record { core = c; deeds = Sends (cea c.config taken.ids 2001) ∷ [] }
+    → happens c (Gets (Cer ids taken.bytes apps)) ≡ says_again c taken
 again_is c taken ids apps open_now role is =
     ap (λ (s : State). happens_in s c (Gets (Cer ids taken.bytes apps))) open_now
     ∙ ap (λ (r : Role). only_responder r (repeated c taken.bytes c.taken) (nothing c)) role
     ∙ ap (λ (t : Option PlainTaken). repeated c taken.bytes t) is
     ∙ ap (λ (t : Bool). cond t (says_again c taken) (nothing c)) (bytes_self taken.bytes)
+
+again_by : (life : Bool) (c : PlainCore) (taken : PlainTaken) (ids : Ids) (apps : List Pair)
+    → cond life (hears c (Cer ids taken.bytes apps) (says_again c taken)) (says_again c taken) ≡ record { core = cond life (heard c) c; deeds = Sends (cea c.config taken.ids 2001) ∷ [] }
+again_by true c taken ids apps = refl
+again_by false c taken ids apps = refl
+
+again_lives : (c : PlainCore) (taken : PlainTaken) (ids : Ids) (apps : List Pair) → c.state ≡ Open → c.role ≡ Responder → c.taken ≡ Some taken
+    → lives c (Gets (Cer ids taken.bytes apps)) ≡ record { core = noticed c; deeds = Sends (cea c.config taken.ids 2001) ∷ [] }
+again_lives c taken ids apps open_now role is =
+    ap (λ (o : Outcome). cond c.manner.life (hears c (Cer ids taken.bytes apps) o) o) (again_is c taken ids apps open_now role is) ∙ again_by c.manner.life c taken ids apps
 
 repeats : (b : PlainConfig) (n : Manner) (e : End) → IsEnd Responder b n e → e.core.state ≡ Open → Took b e → RepeatsAnswer e
 repeats b n e is_end open_now t = record {
@@ -321,12 +339,12 @@ repeats b n e is_end open_now t = record {
   again = λ what new received g. once what new received g.0 g.1 g.2;
 }
   where
-    once : (what : Received) (new : End) → IsReceived t.taken.bytes what → (messages : List (List ℕ)) → AreSpelled (happens e.core (Gets what)).deeds messages
-        → new ≡ record { core = (happens e.core (Gets what)).core; sent = e.sent ++ messages } → new ≡ record { core = e.core; sent = e.sent ++ t.answer ∷ [] }
+    once : (what : Received) (new : End) → IsReceived t.taken.bytes what → (messages : List (List ℕ)) → AreSpelled (lives e.core (Gets what)).deeds messages
+        → new ≡ record { core = (lives e.core (Gets what)).core; sent = e.sent ++ messages } → new ≡ record { core = noticed e.core; sent = e.sent ++ t.answer ∷ [] }
     once what new received messages spelled is =
         let (ids, apps, is_cer) = is_request t.taken.bytes t.ids t.avps what t.good received in
-        let out : happens e.core (Gets what) ≡ record { core = e.core; deeds = Sends (cea e.core.config t.taken.ids 2001) ∷ [] } =
-        ap (λ (x : Received). happens e.core (Gets x)) is_cer ∙ again_is e.core t.taken ids apps open_now is_end.role_is t.is_taken in
+        let out : lives e.core (Gets what) ≡ record { core = noticed e.core; deeds = Sends (cea e.core.config t.taken.ids 2001) ∷ [] } =
+        ap (λ (x : Received). lives e.core (Gets x)) is_cer ∙ again_lives e.core t.taken ids apps open_now is_end.role_is t.is_taken in
         let (bytes, rest, is_sent, are_bytes, message, none) = subst (λ (o : Outcome). AreSpelled o.deeds messages) out spelled in
         let same : bytes ≡ t.answer = one_writing (cea b t.taken.ids 2001).header (cea b t.taken.ids 2001).avps bytes t.answer are_bytes t.are_bytes
         (subst (λ (c : PlainConfig). MessageWithZeros (cea c t.taken.ids 2001).header (cea c t.taken.ids 2001).avps bytes) is_end.config message) t.message in

@@ -22,3 +22,5 @@ pub mod ResultCode
 pub mod KeptApplications
 pub mod OneResult
 pub mod OneStep
+pub mod Watchdogs
+pub mod ByManner

@@ -1,5 +1,5 @@
-use Rattle.std.proofs.Common.{◌≡◌, ◌≢◌, ℕ, ◌<◌, true, false, cond, List, [], ◌∷◌, length, Option, Some, None, inl, inr, refl, sym, ap, subst, ◌∙◌, arith}
-use Rattle.std.specs.Prelude.{◌==◌, ⊤}
+use Rattle.std.proofs.Common.{◌≡◌, ◌≢◌, ℕ, ◌<◌, Bool, true, false, cond, List, [], ◌∷◌, length, Option, Some, None, inl, inr, refl, sym, ap, subst, ◌∙◌, arith}
+use Rattle.std.specs.Prelude.{◌==◌, ◌&&◌, not, ⊤}
 use Rattle.std.proofs.lemmas.Bool.{cond_both}
 use Rattle.dia_peer.specs.declared.kept_requests.Ids.{Ids}
 use Rattle.dia_peer.specs.declared.config.Role.{Role}
@@ -38,6 +38,7 @@ use Rattle.dia_peer.specs.Table.{
   happens_in,
   happens,
 }
+use Rattle.dia_peer.specs.Life.{is_open, suspects, hears, lives, ends_wait}
 use Rattle.dia_peer.specs.World.{IsPastOpen}
 use Rattle.dia_peer.proofs.Sets.{eq_same}
 
@@ -109,8 +110,8 @@ is_responder : (r : Role) → Suits r WaitCer → r ≡ Responder
 is_responder Initiator h = absurd h
 is_responder Responder h = refl
 
-is_open : IsPastOpen Open
-is_open = inl refl
+past_open : IsPastOpen Open
+past_open = inl refl
 
 is_end : IsPastOpen WaitDpa
 is_end = inr (inl refl)
@@ -162,7 +163,7 @@ m_opens : (c : PlainCore) (h : Happening) (ids : Ids) (apps : List Pair) (found 
     → Moves c h (opens c found)
 m_opens c h ids apps None r e is = m_closes c h why.Invalid
 m_opens c h ids apps (Some []) r e is = m_closes c h why.NoCommon
-m_opens c h ids apps (Some (p ∷ ps)) r e is = record { config = refl; role = refl; manner = refl; suits = suits_open c.role; past = λ x. is_open; sends = tt; opened = λ o. by_answer ids apps r e is (omega arith) }
+m_opens c h ids apps (Some (p ∷ ps)) r e is = record { config = refl; role = refl; manner = refl; suits = suits_open c.role; past = λ x. past_open; sends = tt; opened = λ o. by_answer ids apps r e is (omega arith) }
 
 m_answered : (c : PlainCore) (h : Happening) (ids : Ids) (result : ℕ) (apps : List Pair) → c.role ≡ Initiator → h ≡ Gets (Cea ids result apps) → Moves c h (answered c result apps)
 m_answered c h ids result apps r e =
@@ -179,8 +180,8 @@ m_accepts c h ids bytes apps (Some (p ∷ ps)) r e is = record {
   role = refl;
   manner = refl;
   suits = suits_open c.role;
-  past = λ x. is_open;
-  sends = (accepts_it ids r is_open refl, tt);
+  past = λ x. past_open;
+  sends = (accepts_it ids r past_open refl, tt);
   opened = λ o. by_request ids bytes apps r e is (omega arith) refl refl;
 }
 
@@ -188,7 +189,7 @@ m_repeated : (c : PlainCore) (h : Happening) (bytes : List ℕ) (taken : Option 
 m_repeated c h bytes None r e s = m_nothing c h s
 m_repeated c h bytes (Some taken) r e s =
     cond_both (same_bytes bytes taken.bytes) (record { core = c; deeds = Sends (cea c.config taken.ids 2001) ∷ [] }) (nothing c) (Moves c h)
-    (λ t. m_says c h (cea c.config taken.ids 2001) s (accepts_it taken.ids r (subst IsPastOpen (sym e) is_open) refl)) (λ f. m_nothing c h s)
+    (λ t. m_says c h (cea c.config taken.ids 2001) s (accepts_it taken.ids r (subst IsPastOpen (sym e) past_open) refl)) (λ f. m_nothing c h s)
 
 m_only : (r : Role) (c : PlainCore) (h : Happening) (bytes : List ℕ) → c.role ≡ r → c.state ≡ Open → Suits c.role c.state → Moves c h (only_responder r (repeated c bytes c.taken) (nothing c))
 m_only Initiator c h bytes r e s = m_nothing c h s
@@ -244,5 +245,34 @@ moves_in WaitDpa c (Gets (Dpa ids)) e s =
 moves_in WaitDpa c Ticks e s = m_closes c _ why.Timeout
 moves_in state c h e s = m_nothing c h s
 
-pub moves : (c : PlainCore) (h : Happening) → Suits c.role c.state → Moves c h (happens c h)
+moves : (c : PlainCore) (h : Happening) → Suits c.role c.state → Moves c h (happens c h)
 moves c h s = moves_in c.state c h refl s
+
+-- ---- by the manner
+
+abbrev noted : Outcome → Bool → Bool → Outcome
+noted o waits suspect = record { core = record o.core { waits = waits; suspect = suspect }; deeds = o.deeds }
+
+still : (c : PlainCore) (h : Happening) (o : Outcome) (waits suspect : Bool) → Opened c h o → Opened c h (noted o waits suspect)
+still c h o waits suspect (stays e common taken) = stays e common taken
+still c h o waits suspect (by_answer ids apps role is common some) = by_answer ids apps role is common some
+still c h o waits suspect (by_request ids bytes apps role is common some taken deeds) = by_request ids bytes apps role is common some taken deeds
+
+m_noted : (c : PlainCore) (h : Happening) (o : Outcome) (waits suspect : Bool) → Moves c h o → Moves c h (noted o waits suspect)
+m_noted c h o waits suspect m = record { config = m.config; role = m.role; manner = m.manner; suits = m.suits; past = m.past; sends = m.sends; opened = λ e. still c h o waits suspect (m.opened e) }
+
+m_suspects : (c : PlainCore) (o : Outcome) → Suits c.role c.state → Moves c Ticks o → Moves c Ticks (suspects c o)
+m_suspects c o s m =
+    cond_both (is_open c.state && c.waits && not c.suspect) (record { core = record c { suspect = true }; deeds = [] }) o (Moves c Ticks)
+    (λ t. m_noted c Ticks (nothing c) c.waits true (m_nothing c Ticks s)) (λ f. m)
+
+pub lived : (c : PlainCore) (h : Happening) → Suits c.role c.state → Moves c h (lives c h)
+lived c Starts s = moves c Starts s
+lived c (Gets what) s =
+    let o = happens c (Gets what) in let m = moves c (Gets what) s in
+    cond_both c.manner.life (hears c what o) o (Moves c (Gets what)) (λ t. m_noted c (Gets what) o (cond (ends_wait c what) false o.core.waits) false m) (λ f. m)
+lived c Ticks s =
+    let o = happens c Ticks in let m = moves c Ticks s in
+    cond_both c.manner.life (suspects c o) o (Moves c Ticks) (λ t. m_suspects c o s m) (λ f. m)
+lived c (Stops cause) s = moves c (Stops cause) s
+lived c Breaks s = moves c Breaks s

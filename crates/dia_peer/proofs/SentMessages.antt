@@ -1,6 +1,6 @@
 -- A step sends our messages and no others, so what it sends is valid.
 use Rattle.std.proofs.Common.{ℕ, Bool, true, false, cond, List, [], ◌∷◌, Option, Some, None}
-use Rattle.std.specs.Prelude.{◌==◌, ⊤, All}
+use Rattle.std.specs.Prelude.{◌==◌, ◌&&◌, not, ⊤, All}
 use Rattle.std.specs.List.{AllByRecursion}
 use Rattle.std.proofs.lemmas.List.Elements.{All-from_recursion}
 use Rattle.dia_peer.specs.declared.event.Event.{Event}
@@ -15,7 +15,8 @@ use Rattle.dia_peer.specs.declared.kept_requests.Ids.{Ids}
 use Rattle.dia_peer.specs.Core.{PlainConfig, PlainCore, PlainTaken, Pair, IsConfig, common_of}
 use Rattle.dia_peer.specs.Messages.{Cer, Dwr, Dpr, Cea, Refusal, Dwa, Dpa, cea, dwr, after, IsOurs, is_cer, is_cea, is_dwr, is_dwa, is_dpr, is_dpa}
 use Rattle.dia_peer.specs.Machine.{AreOutputs, IsSound, IsStep}
-use Rattle.dia_peer.specs.Table.{Happening, Starts, Gets, Ticks, Stops, Deed, Sends, Closes, Outcome, nothing, closes, same_bytes, same_ids, starts, opens, answered, accepts, repeated, only_responder, ticks_open, happens_in, happens}
+use Rattle.dia_peer.specs.Table.{Happening, Starts, Gets, Ticks, Stops, Breaks, Deed, Sends, Closes, Outcome, nothing, closes, same_bytes, same_ids, starts, opens, answered, accepts, repeated, only_responder, ticks_open, happens_in, happens}
+use Rattle.dia_peer.specs.Life.{is_open, suspects, hears, lives}
 use Rattle.dia_peer.proofs.OurMessages.{ours_are_valid}
 
 -- each message that is sent is one of the configuration's
@@ -81,6 +82,15 @@ in_state WaitDpa c (Gets (Dpr ids)) = (is_dpa ids, tt)
 in_state WaitDpa c (Gets (Dpa ids)) = either c (same_ids ids c.last_dpr) (closes c [] why.Stopped) (nothing c) tt tt
 in_state state c h = tt
 
+by_manner : (c : PlainCore) (h : Happening) → SendsOurs c (lives c h)
+by_manner c Starts = in_state c.state c Starts
+by_manner c (Gets what) = let o = happens c (Gets what) in let ours = in_state c.state c (Gets what) in either c c.manner.life (hears c what o) o ours ours
+by_manner c Ticks =
+    let o = happens c Ticks in let ours = in_state c.state c Ticks in
+    either c c.manner.life (suspects c o) o (either c (is_open c.state && c.waits && not c.suspect) (record { core = record c { suspect = true }; deeds = [] }) o tt ours) ours
+by_manner c (Stops cause) = in_state c.state c (Stops cause)
+by_manner c Breaks = in_state c.state c Breaks
+
 sound : (c : PlainConfig) → IsConfig c → (deeds : List Deed) (outputs : List Output) → AreOurs c deeds → AreOutputs deeds outputs → AllByRecursion IsSound outputs
 sound c ok [] [] ours are = tt
 sound c ok (Sends m ∷ deeds) (output.Send bytes ∷ outputs) (one, ours) (is, are) = (ours_are_valid c m _ ok one is.message, sound c ok deeds outputs ours are)
@@ -91,4 +101,4 @@ sound c ok [] (o ∷ outputs) ours are = absurd are
 sound c ok (d ∷ deeds) [] ours are = absurd are
 
 pub step_is_sound : (old : PlainCore) (e : Event) (outputs : List Output) (new : PlainCore) → IsConfig old.config → IsStep old e outputs new → All IsSound outputs
-step_is_sound old e outputs new ok (h, happening, same, are) = All-from_recursion IsSound outputs (sound old.config ok (happens old h).deeds outputs (in_state old.state old h) are)
+step_is_sound old e outputs new ok (h, happening, same, are) = All-from_recursion IsSound outputs (sound old.config ok (lives old h).deeds outputs (by_manner old h) are)

@@ -92,7 +92,7 @@ pub record IsConfig (c : PlainConfig) : Type 0 where
 
 -- no manner beyond those of two nodes that talk to each other
 abbrev pub plain : Manner
-plain = record { relays = false }
+plain = record { relays = false; life = false }
 
 -- the application of relays (RFC 6733 section 2.4) is for those of that manner
 abbrev pub MayHold : Manner → List App → Type 0
@@ -185,4 +185,5 @@ pub record PlainCore : Type 0 where
   pub last_dwr : Option Ids
   pub last_dpr : Option Ids
   pub waits : Bool
+  pub suspect : Bool
   pub taken : Option PlainTaken

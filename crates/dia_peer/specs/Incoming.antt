@@ -13,7 +13,7 @@ use Rattle.dia_peer.specs.declared.named_apps.NamedApps.{NamedApps}
 use Rattle.dia_peer.specs.declared.incoming.Incoming.{Incoming}
 use Rattle.dia_peer.specs.declared.incoming.Incoming.TheVariants as incoming
 use Rattle.dia_peer.specs.Core.{Pair, pairs_of}
-use Rattle.dia_peer.specs.Messages.{Received, Unreadable, Foreign, Invalid, Cer, Dwr, Dpr, Cea, Refusal, Dwa, Dpa, Other}
+use Rattle.dia_peer.specs.Messages.{Received, Unreadable, Foreign, Invalid, Cer, Dwr, Dpr, Cea, Refusal, Dwa, Dpa, WatchdogError, Other}
 
 abbrev pub pick : {X : Type 0} → X → X → Kind → X
 pick auth acct Auth = auth
@@ -83,4 +83,5 @@ received_of bytes (incoming.Cea ids result named) = Cea ids result (pairs_named 
 received_of bytes (incoming.Refusal ids) = Refusal ids
 received_of bytes (incoming.Dwa ids) = Dwa ids
 received_of bytes (incoming.Dpa ids) = Dpa ids
+received_of bytes (incoming.WatchdogError ids) = WatchdogError ids
 received_of bytes incoming.Other = Other

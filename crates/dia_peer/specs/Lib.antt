@@ -1,6 +1,7 @@
 pub mod Core
 pub mod Messages
 pub mod Table
+pub mod Life
 pub mod World
 pub mod Machine
 pub mod Drafts

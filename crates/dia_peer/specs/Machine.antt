@@ -1,5 +1,5 @@
 -- What one step of a core does, and why a configuration is refused.
-use Rattle.std.specs.Prelude.{◌≡◌, ◌<◌, ◌≤◌, ◌⊎◌, List, [], ◌∷◌, length, ⊤}
+use Rattle.std.specs.Prelude.{◌≡◌, false, ◌<◌, ◌≤◌, ◌⊎◌, List, [], ◌∷◌, length, ⊤}
 use Rattle.dia_wire.specs.Wire.{MessageWithZeros}
 use Rattle.dia_dict.specs.Base.{base}
 use Rattle.dia_check.specs.declared.Unknown.TheVariants.{Kept}
@@ -16,6 +16,7 @@ use Rattle.dia_peer.specs.declared.event.Output.TheVariants as output
 use Rattle.dia_peer.specs.Core.{PlainConfig, PlainCore, IsIdentity, AreApps, MayHold, IsAccepted}
 use Rattle.dia_peer.specs.Messages.{Received, IsReceived}
 use Rattle.dia_peer.specs.Table.{Happening, Starts, Gets, Ticks, Stops, Breaks, Deed, Sends, Closes, Outcome, happens}
+use Rattle.dia_peer.specs.Life.{lives}
 
 abbrev pub IsHappening : Event → Happening → Type 0
 IsHappening event.Start h = h ≡ Starts
@@ -44,8 +45,16 @@ IsSound (output.Send bytes) = IsValid base Kept Any bytes.items
 IsSound (output.Close why) = ⊤
 
 -- one line of the table
+abbrev pub IsTableStep : PlainCore → Event → List Output → PlainCore → Type 0
+IsTableStep old e outputs new = (h : Happening) × IsHappening e h × (new ≡ (happens old h).core) × AreOutputs (happens old h).deeds outputs
+
+-- no manner, or that of relays
+abbrev pub IsPlain : Manner → Type 0
+IsPlain manner = manner.life ≡ false
+
+-- one step: a line of the table, by the core's manner
 abbrev pub IsStep : PlainCore → Event → List Output → PlainCore → Type 0
-IsStep old e outputs new = (h : Happening) × IsHappening e h × (new ≡ (happens old h).core) × AreOutputs (happens old h).deeds outputs
+IsStep old e outputs new = (h : Happening) × IsHappening e h × (new ≡ (lives old h).core) × AreOutputs (lives old h).deeds outputs
 
 -- the first thing that is wrong with a configuration for a core of this manner
 abbrev pub IsRefusedAs : Manner → PlainConfig → ConfigFault → Type 0

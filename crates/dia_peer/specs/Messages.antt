@@ -157,6 +157,8 @@ pub data Received : Type 0 where
   Refusal : (ids : Ids) → Received
   Dwa : (ids : Ids) → Received
   Dpa : (ids : Ids) → Received
+  -- error answers of the other two codes
+  WatchdogError : (ids : Ids) → Received
   Other : Received
 
 abbrev pub IsOurCode : ℕ → Type 0
@@ -183,7 +185,8 @@ IsReceived bytes (Cea ids result apps) = (avps : List PlainAvp) × IsGood bytes 
 IsReceived bytes (Refusal ids) = (avps : List PlainAvp) × IsGood bytes CAPABILITIES_EXCHANGE false true ids avps
 IsReceived bytes (Dwa ids) = (avps : List PlainAvp) × IsGood bytes DEVICE_WATCHDOG false false ids avps
 IsReceived bytes (Dpa ids) = (avps : List PlainAvp) × IsGood bytes DISCONNECT_PEER false false ids avps
-IsReceived bytes Other = (code : ℕ) × (ids : Ids) × (avps : List PlainAvp) × ((code ≡ DEVICE_WATCHDOG) ⊎ (code ≡ DISCONNECT_PEER)) × IsGood bytes code false true ids avps
+IsReceived bytes (WatchdogError ids) = (avps : List PlainAvp) × IsGood bytes DEVICE_WATCHDOG false true ids avps
+IsReceived bytes Other = (ids : Ids) × (avps : List PlainAvp) × IsGood bytes DISCONNECT_PEER false true ids avps
 
 -- these are the bytes of the message
 abbrev pub IsSent : Sent → List ℕ → Type 0

@@ -12,7 +12,8 @@ use Rattle.dia_peer.specs.declared.config.Kind.TheVariants.{Auth}
 use Rattle.dia_peer.specs.declared.config.Manner.{Manner}
 use Rattle.dia_peer.specs.Core.{PlainConfig, PlainCore, PlainTaken, Pair, pair, pair_of, relays}
 use Rattle.dia_peer.specs.Messages.{Received, IsReceived}
-use Rattle.dia_peer.specs.Table.{Happening, Starts, Gets, Ticks, Stops, Breaks, Deed, Sends, Closes, happens, without_next}
+use Rattle.dia_peer.specs.Table.{Happening, Starts, Gets, Ticks, Stops, Breaks, Deed, Sends, Closes, without_next}
+use Rattle.dia_peer.specs.Life.{lives, heard, noticed}
 
 -- the core of a configuration before its first event
 abbrev pub idle : PlainConfig → Role → Manner → PlainCore
@@ -28,6 +29,7 @@ idle config role manner = record {
   last_dpr =
       None;
   waits = false;
+  suspect = false;
   taken = None;
 }
 
@@ -47,6 +49,7 @@ pub data Event : Type 0 where
   Stop : (cause : Cause) → Event
   Lose : Event
   TakeIds : Event
+  Hear : Event
   Deliver : (k : ℕ) → Event
 
 -- each is a byte
@@ -61,7 +64,7 @@ AreSpelled (Sends m ∷ deeds) messages = (bytes : List ℕ) × (rest : List (Li
 
 -- what happens at an end, and what it then has sent
 abbrev pub Goes : End → Happening → End → Type 0
-Goes old h new = (messages : List (List ℕ)) × AreSpelled (happens old.core h).deeds messages × (new ≡ record { core = (happens old.core h).core; sent = old.sent ++ messages })
+Goes old h new = (messages : List (List ℕ)) × AreSpelled (lives old.core h).deeds messages × (new ≡ record { core = (lives old.core h).core; sent = old.sent ++ messages })
 
 abbrev pub HappensAt : End → End → Event → End → Type 0
 HappensAt old other Start new = Goes old Starts new
@@ -69,6 +72,7 @@ HappensAt old other Tick new = Goes old Ticks new
 HappensAt old other (Stop cause) new = Goes old (Stops cause) new
 HappensAt old other Lose new = Goes old Breaks new
 HappensAt old other TakeIds new = new ≡ record { core = without_next old.core; sent = old.sent }
+HappensAt old other Hear new = new ≡ record { core = heard old.core; sent = old.sent }
 HappensAt old other (Deliver k) new = (bytes : List ℕ) × (what : Received) × (slice_get other.sent k ≡ Some bytes) × IsReceived bytes what × Goes old (Gets what) new
 
 abbrev pub Happens : World → Role → Event → World → Type 0
@@ -106,13 +110,13 @@ HoldsShared manner a b core = core.state ≡ Open → AreShared manner a b core.
 abbrev pub HoldSame : Manner → Manner → World → Type 0
 HoldSame m n w = w.initiator.core.state ≡ Open → w.responder.core.state ≡ Open → m ≡ n → (p : Pair) → Contains w.initiator.core.common p ↔ Contains w.responder.core.common p
 
--- the CER that opened the responder gets, when it comes again, the CEA that was sent, byte for byte, and changes nothing in the core
+-- the CER that opened the responder gets, when it comes again, the CEA that was sent, byte for byte, and changes nothing in the core, but that with `life` it isn't suspect
 pub record RepeatsAnswer (responder : End) : Type 0 where
   pub taken : PlainTaken
   pub is_taken : responder.core.taken ≡ Some taken
   pub answer : List ℕ
   pub sent : Contains responder.sent answer
-  pub again : (what : Received) (new : End) → IsReceived taken.bytes what → Goes responder (Gets what) new → new ≡ record { core = responder.core; sent = responder.sent ++ answer ∷ [] }
+  pub again : (what : Received) (new : End) → IsReceived taken.bytes what → Goes responder (Gets what) new → new ≡ record { core = noticed responder.core; sent = responder.sent ++ answer ∷ [] }
 
 pub record Agrees (a : PlainConfig) (m : Manner) (b : PlainConfig) (n : Manner) (w : World) : Type 0 where
   pub initiator : HoldsShared m a b w.initiator.core

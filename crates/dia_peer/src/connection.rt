@@ -5,6 +5,7 @@ ghost use Rattle.dia_peer.specs.Messages.{after};
 ghost use Rattle.dia_peer.specs.Table.{without_next};
 ghost use Rattle.dia_peer.specs.World.{idle};
 
+mod life;
 mod on_message;
 
 use crate::codes::RELAY;
@@ -30,6 +31,8 @@ pub struct Core {
     last_dpr: Option<Ids>,
     /// A DWR waits for its answer.
     waits: bool,
+    /// A watchdog waited at a `Tick`, and nothing was heard since.
+    suspect: bool,
     taken: Option<Taken>,
 }
 
@@ -50,6 +53,7 @@ impl Model for Core {
       last_dwr = c.last_dwr;
       last_dpr = c.last_dpr;
       waits = c.waits;
+      suspect = c.suspect;
       taken = option_map taken_of c.taken;
     } };
 }
@@ -77,7 +81,11 @@ impl Core {
             × (core ≡ idle (plain_config config) role plain)) }
         ensures err { IfErr result (IsRefusedAs plain (plain_config config)) }
     {
-        Core::with(alloc, config, role, Manner { relays: false })
+        let manner = Manner {
+            relays: false,
+            life: false,
+        };
+        Core::with(alloc, config, role, manner)
     }
 
     /// A core of a manner before its first event. All else is as in `new`.
@@ -106,6 +114,7 @@ impl Core {
             last_dwr: None,
             last_dpr: None,
             waits: false,
+            suspect: false,
             taken: None,
         })
     }
@@ -166,9 +175,9 @@ impl Core {
             Event::Start => self.starts(),
             Event::Bytes(bytes) => {
                 let what = self.node.received(bytes)?;
-                self.gets(bytes, what)
+                self.takes(bytes, what)
             }
-            Event::Tick => self.ticks(),
+            Event::Tick => self.waits_on(),
             Event::Stop(cause) => self.stops(cause),
             Event::Lost => Ok(self.breaks()),
         }

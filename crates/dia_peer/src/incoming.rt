@@ -26,6 +26,8 @@ pub(crate) enum Incoming {
     Refusal(Ids),
     Dwa(Ids),
     Dpa(Ids),
-    /// An error message of one of the other command codes.
+    /// An error message of the command code 280.
+    WatchdogError(Ids),
+    /// An error message of the command code 282.
     Other,
 }

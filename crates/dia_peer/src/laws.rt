@@ -1,6 +1,6 @@
 //! What holds of every connection.
 
-ghost use Rattle.std.specs.Prelude.{◌≡◌, ℕ, List, map, All, false};
+ghost use Rattle.std.specs.Prelude.{◌≡◌, ◌↔◌, ℕ, IsTrue, List, map, All, false};
 ghost use Rattle.dia_wire.specs.Wire.{IsMessage};
 ghost use Rattle.dia_dict.specs.Base.{base};
 ghost use Rattle.dia_check.specs.declared.Unknown.TheVariants.{Kept};
@@ -9,8 +9,10 @@ ghost use Rattle.dia_valid.specs.Valid.{IsValid};
 ghost use Rattle.dia_peer.specs.Core.{PlainConfig, PlainCore, IsConfig, Pair, Sent};
 ghost use Rattle.dia_peer.specs.Core.{pair_of, is_relay, plain, common_of};
 ghost use Rattle.dia_peer.specs.Messages.{IsOurs};
-ghost use Rattle.dia_peer.specs.World.{World, Event as AnyEvent, Run, start, Agrees};
-ghost use Rattle.dia_peer.specs.Machine.{IsStep};
+ghost use Rattle.dia_peer.specs.World.{World, Event as AnyEvent, Run, start, idle, Agrees};
+ghost use Rattle.dia_peer.specs.Life.{Act, ClosesInSilence};
+ghost use Rattle.dia_peer.specs.Machine.{IsPlain, IsStep, IsTableStep};
+ghost use Rattle.dia_peer.specs.Table.{Happening};
 ghost use Rattle.dia_peer.specs.Outputs.{plain_output, SendsBytes};
 ghost use Rattle.dia_peer.specs.declared.config.Manner.{Manner as AnyManner};
 ghost use Rattle.dia_peer.specs.declared.config.Role.{Role as AnyRole};
@@ -38,6 +40,19 @@ pub fn without_relays()
 pub fn our_messages_are_valid()
     ensures { (c : PlainConfig) (m : Sent) (bytes : List ℕ) → IsConfig c → IsOurs c m
         → IsMessage m.header m.avps bytes → IsValid base Kept Any bytes }
+{}
+
+/// With the manner `life`, a watchdog closes a connection only at a `Tick` after another one, both while it waits for its
+/// answer, and nothing is heard of the other end between these: no bytes came, and `heard` wasn't called.
+pub fn silence()
+    ensures { (c : PlainConfig) (role : AnyRole) (manner : AnyManner) (all : List Act) (h : Happening)
+        → IsTrue manner.life → ClosesInSilence (idle c role manner) all h }
+{}
+
+/// Without a manner but that of relays each step is a line of the table, and no other.
+pub fn plain()
+    ensures { (old new : PlainCore) (e : CoreEvent) (outputs : List CoreOutput) → IsPlain old.manner
+        → IsStep old e outputs new ↔ IsTableStep old e outputs new }
 {}
 
 /// A step has one outcome: a core and an event have one core afterwards and one list of what is done, the bytes of

@@ -48,5 +48,5 @@ mod timing;
 pub use config::{App, Config, ConfigFault, Ip, Kind, Manner, Role};
 pub use connection::Core;
 pub use event::{Cause, Event, Output, State, Why};
-pub use laws::{agreement, one_step, our_messages_are_valid, without_relays};
+pub use laws::{agreement, one_step, our_messages_are_valid, plain, silence, without_relays};
 pub use timing::{TimerAction, quiet_ms, timer};

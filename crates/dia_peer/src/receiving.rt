@@ -124,11 +124,14 @@ fn error(header: &Header) -> Incoming
         → ¬ HasR header.now.flags → HasE header.now.flags → IsValid base Kept Any bytes
         → IsReceived bytes (received_of bytes result) }
 {
+    let ids = ids_of(header);
     if header.code == CAPABILITIES_EXCHANGE {
-        Incoming::Refusal(ids_of(header))
-    } else {
-        Incoming::Other
+        return Incoming::Refusal(ids);
     }
+    if header.code == DEVICE_WATCHDOG {
+        return Incoming::WatchdogError(ids);
+    }
+    Incoming::Other
 }
 
 fn ids_of(header: &Header) -> Ids

@@ -8,6 +8,8 @@ mod connections;
 mod drawing;
 mod example;
 mod faults;
+mod manner_steps;
+mod manners;
 mod names;
 mod relays;
 mod schedules;
@@ -37,7 +39,10 @@ fn end(rt: &(impl AllocGlobal + Abort), config: Config, role: Role) -> Box<Core>
 
 /// An end that relays.
 fn relay(rt: &(impl AllocGlobal + Abort), config: Config, role: Role) -> Box<Core> {
-    let manner = Manner { relays: true };
+    let manner = Manner {
+        relays: true,
+        life: false,
+    };
     let core = Core::with(rt.alloc(), config, role, manner).expect(rt, "an end");
     Box::new(rt.alloc(), core).ok().expect(rt, "memory")
 }

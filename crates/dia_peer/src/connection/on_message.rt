@@ -222,7 +222,7 @@ impl Core {
 }
 
 /// Whether these are the identifiers of the last request.
-fn same_ids(ids: Ids, last: Option<Ids>) -> bool
+pub(super) fn same_ids(ids: Ids, last: Option<Ids>) -> bool
     ensures { result ≡ same_ids ids last }
 {
     match last {

@@ -128,7 +128,7 @@ fn done(rt: &(impl AllocGlobal + Abort), names: &Names, core: &mut Core, call: &
     recorded(rt.alloc(), core, outputs.as_slice()).expect(rt, "memory")
 }
 
-fn cause_of(word: &str) -> Cause {
+pub(super) fn cause_of(word: &str) -> Cause {
     match word {
         "Rebooting" => Cause::Rebooting,
         "Busy" => Cause::Busy,
@@ -152,9 +152,12 @@ pub(super) fn common(alloc: Global, core: &Core) -> Result<String, AllocError> {
 }
 
 /// The state of an end after an event, and what it did, as text.
-fn recorded(alloc: Global, core: &Core, outputs: &[Output]) -> Result<String, AllocError> {
+pub(super) fn recorded(alloc: Global, core: &Core, outputs: &[Output]) -> Result<String, AllocError> {
     let state = core.state();
     let mut text = format!(in alloc; "{state:?}")?;
+    if core.suspect() {
+        text.push_str(" suspect")?;
+    }
     for output in outputs {
         match output {
             Output::Send(bytes) => push_sent(&mut text, bytes.as_slice())?,

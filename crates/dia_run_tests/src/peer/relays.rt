@@ -95,7 +95,11 @@ fn recorded(rt: &(impl AllocGlobal + Abort), core: &Core) -> String {
 fn one_manner_allows_the_application(rt: HostRuntime) {
     for relays in [false, true] {
         let config = config_of(&rt, "auth:4294967295", Role::Initiator);
-        let found = Core::with(rt.alloc(), config, Role::Initiator, Manner { relays }).err();
+        let manner = Manner {
+            relays,
+            life: false,
+        };
+        let found = Core::with(rt.alloc(), config, Role::Initiator, manner).err();
         let refused = found == Some(ConfigFault::Application);
         assert!(&rt; refused == !relays);
     }

@@ -1,0 +1,79 @@
+//! Connections of each manner, with bytes: a row is what happens at a core, or a new core. `manners` has the meaning of the words.
+
+/// The steps.
+pub(super) const STEPS: &str = r"
+# AVPs of `host.invalid`, and messages: of it, and of `a.b`, which it gets.
+let HOST = 0000010840000014686f73742e696e76616c6964
+let REALM = 000001284000000f696e76616c696400
+let RELAY = 000001024000000cffffffff
+let OWN_CER = 0100006c80000101 000000000000001000000020 $HOST $REALM $IP $VENDOR $P $AUTH4
+let CER4 = 0100006080000101 000000000000000100000002 $OH $OR $IP $VENDOR $P $AUTH4
+let OWN_CEA = 0100007800000101 000000000000000100000002 $SUCCESS $HOST $REALM $IP $VENDOR $P $AUTH4
+let CEA4 = 0100006c00000101 000000000000001000000020 $SUCCESS $OH $OR $IP $VENDOR $P $AUTH4
+let DWR17 = 0100003880000118 000000000000001100000021 $HOST $REALM
+let DWR18 = 0100003880000118 000000000000001200000022 $HOST $REALM
+let EMPTY_DWR = 0100001480000118 000000000000000100000002
+
+# An invalid DWR, without manner.
+core none | Responder | auth:4 => Idle
+start => WaitCer
+comes $CER4 => Open send $OWN_CEA
+comes 0100002080000118 000000000000000100000002 $OR => Closed close Invalid
+
+# Silence.
+core life | Initiator | auth:4 => Idle
+start => WaitCea send $OWN_CER
+comes $CEA4 => Open
+tick => Open send $DWR17
+tick => Open suspect
+heard => Open
+tick => Open suspect
+comes 01000014c0000110 000000040000000100000002 => Open
+tick => Open suspect
+tick => Closed close Watchdog
+
+# Silence, without manner.
+core none | Initiator | auth:4 => Idle
+start => WaitCea send $OWN_CER
+comes $CEA4 => Open
+tick => Open send $DWR17
+heard => Open
+tick => Closed close Watchdog
+
+# An error message answers the DWR.
+core life | Initiator | auth:4 => Idle
+start => WaitCea send $OWN_CER
+comes $CEA4 => Open
+tick => Open send $DWR17
+tick => Open suspect
+comes 0100003820000118 000000000000001100000021 $OH $OR 0000010c4000000c00000bbc => Open
+tick => Open send $DWR18
+
+# A DWA with 5012.
+core life | Initiator | auth:4 => Idle
+start => WaitCea send $OWN_CER
+comes $CEA4 => Open
+tick => Open send $DWR17
+tick => Open suspect
+comes 0100003800000118 000000000000001100000021 0000010c4000000c00001394 $OH $OR => Open
+tick => Open send $DWR18
+
+# Identifiers.
+core none | Initiator | auth:4 => Idle
+start => WaitCea send $OWN_CER
+comes $CEA4 => Open
+ids => 17 33
+tick => Open send $DWR18
+ids => 19 35
+
+# A relay.
+core relays | Responder | auth:4294967295 => Idle
+start => WaitCer
+comes $CER4 => Open send 0100007800000101 000000000000000100000002 $SUCCESS $HOST $REALM $IP $VENDOR $P $RELAY
+common => Auth 4
+
+# Its peer has 4294967295, no manner here.
+core none | Responder | auth:4 => Idle
+start => WaitCer
+comes 0100006080000101 000000000000000100000002 $OH $OR $IP $VENDOR $P $RELAY => Closed send 0100007800000101 000000000000000100000002 $NO_COMMON $HOST $REALM $IP $VENDOR $P $AUTH4 close NoCommon
+";
